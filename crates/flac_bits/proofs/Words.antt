@@ -1,0 +1,180 @@
+-- Bits held in a word.
+use Rattle.std.proofs.Common.{◌≡◌, ℕ, zero, suc, ◌+◌, ◌-◌, ◌*◌, ◌/◌, ◌%◌, ◌^◌, ◌<◌, ◌≤◌, Bool, true, false, nat_eq, List, [], ◌∷◌, ◌++◌, length, replicate, bit_and, bit_or, refl, sym, ap, ◌∙◌, arith}
+use Rattle.std.specs.Int.{bit_at}
+use Rattle.std.proofs.lemmas.Nat.{pow_pos, pow-add, shl-shr, shr-shr, shr_split, mod-pow-add, field_of, shl_below, shr_below, shl_whole, shr_high, mod_low, leading_length, or_shr, or_lt, le_or_r, mod_below, mul-add-lt, mul-mod_first}
+use Rattle.std.proofs.lemmas.Nat.Bits.{shr_and_one, bit_at-suc, bit_at-zero}
+use Rattle.std.specs.Int.Bits.{or_zero_r}
+use Rattle.std.specs.Int.{w64, leading_zeros}
+use Rattle.std.proofs.lemmas.Nat.{leading_top, pow_below, le-div}
+use Rattle.std.proofs.Math.Nat.{pow-suc}
+use Rattle.std.proofs.Common.{append_assoc}
+use Rattle.flac_bits.specs.Bits.{unsigned}
+use Rattle.flac_bits.specs.Meaning.{unary_bits}
+use Rattle.flac_bits.proofs.Laws.{unsigned_low}
+
+pub length-unsigned : (n v : ℕ) → length (unsigned n v) ≡ n
+length-unsigned zero v = refl
+length-unsigned (suc n) v = omega (arith, length-unsigned n v)
+
+bit_above : (x m n : ℕ) → bit_at x (n + m) ≡ bit_at (x / 2 ^ m) n
+bit_above x m n =
+    let k : n + m ≡ m + n = omega arith in
+    rw k (sym (shr_and_one x (m + n)) ∙ ap (λ y. bit_and y 1) (sym (shr-shr x m n)) ∙ shr_and_one (x / 2 ^ m) n)
+
+-- a number's bits are its high ones and its low ones
+pub split : (n m x : ℕ) → unsigned (n + m) x ≡ unsigned n (x / 2 ^ m) ++ unsigned m x
+split zero m x = let k : 0 + m ≡ m = omega arith in rw k refl
+split (suc n) m x =
+    let k : suc n + m ≡ suc (n + m) = omega arith in
+    rw (k, bit_above x m n) (ap (λ bs. nat_eq (bit_at (x / 2 ^ m) n) 1 ∷ bs) (split n m x))
+
+pub unsigned-mod : (m x : ℕ) → unsigned m (x % 2 ^ m) ≡ unsigned m x
+unsigned-mod m x = sym (unsigned_low m (x / 2 ^ m) m (x % 2 ^ m) (omega arith)) ∙ ap (unsigned m) (shr_split x m)
+
+-- what stands at the top after a shift to the left
+shifted_top : (w n m s : ℕ) → n + m + s ≡ 64 → w * 2 ^ n % 2 ^ 64 / 2 ^ (s + n) ≡ w / 2 ^ s % 2 ^ m
+shifted_top w n m s e =
+    let whole : 64 ≡ m + (s + n) = omega arith in
+    let order : s + n ≡ n + s = omega arith in
+    ap (λ k. w * 2 ^ n % 2 ^ k / 2 ^ (s + n)) whole ∙ field_of (w * 2 ^ n) m (s + n)
+    ∙ ap (λ k. w * 2 ^ n / 2 ^ k % 2 ^ m) order ∙ ap (λ k. k % 2 ^ m) (sym (shr-shr (w * 2 ^ n) n s) ∙ ap (λ k. k / 2 ^ s) (shl-shr w n))
+
+-- the first bits are taken
+pub taken : (w n c : ℕ) → n ≤ c → c ≤ 63 → unsigned c (w / 2 ^ (64 - c)) ≡ unsigned n (w / 2 ^ 1 / 2 ^ (63 - n)) ++ unsigned (c - n) (w * 2 ^ n % 2 ^ 64 / 2 ^ (64 - (c - n)))
+taken w n c le lt =
+    let m = c - n in
+    let s = 64 - c in
+    let sum : n + m ≡ c = omega arith in
+    let high : w / 2 ^ s / 2 ^ m ≡ w / 2 ^ 1 / 2 ^ (63 - n) =
+    let a : s + m ≡ 1 + (63 - n) = omega arith in
+    shr-shr w s m ∙ ap (λ k. w / 2 ^ k) a ∙ sym (shr-shr w 1 (63 - n)) in
+    let low : unsigned m (w / 2 ^ s) ≡ unsigned m (w * 2 ^ n % 2 ^ 64 / 2 ^ (64 - m)) =
+    let a : 64 - m ≡ s + n = omega arith in
+    sym (unsigned-mod m (w / 2 ^ s)) ∙ ap (unsigned m) (sym (shifted_top w n m s (omega arith))) ∙ ap (λ k. unsigned m (w * 2 ^ n % 2 ^ 64 / 2 ^ k)) (sym a) in
+    ap (λ k. unsigned k (w / 2 ^ s)) (sym sum) ∙ split n m (w / 2 ^ s) ∙ ap (λ v. unsigned n v ++ unsigned m (w / 2 ^ s)) high ∙ ap (λ bs. unsigned n (w / 2 ^ 1 / 2 ^ (63 - n)) ++ bs) low
+
+pub taken_small : (w n : ℕ) → w < 2 ^ 64 → n ≤ 63 → w / 2 ^ 1 / 2 ^ (63 - n) < 2 ^ n
+taken_small w n lt le =
+    let a : 64 ≡ n + (1 + (63 - n)) = omega arith in
+    let b : w < 2 ^ (n + (1 + (63 - n))) = rw (← a) lt in
+    rw (shr-shr w 1 (63 - n)) (shr_below w n (1 + (63 - n)) b)
+
+clean_part : (w s : ℕ) → w % 2 ^ s ≡ 0 → w / 2 ^ s * 2 ^ s ≡ w
+clean_part w s e = let h = shr_split w s in omega (arith, h, e)
+
+-- the word stays clean below the bits
+pub taken_clean : (w n c : ℕ) → n ≤ c → c ≤ 63 → w % 2 ^ (64 - c) ≡ 0 → w * 2 ^ n % 2 ^ 64 % 2 ^ (64 - (c - n)) ≡ 0
+taken_clean w n c le lt e =
+    let k = 64 - (c - n) in
+    let h = w / 2 ^ (64 - c) in
+    let a : 64 ≡ (c - n) + k = omega arith in
+    let b : k ≡ (64 - c) + n = omega arith in
+    let is : w * 2 ^ n ≡ h * 2 ^ k + 0 = ap (λ v. v * 2 ^ n) (sym (clean_part w (64 - c) e)) ∙ (let p : 2 ^ ((64 - c) + n) ≡ 2 ^ (64 - c) * 2 ^ n = pow-add 2 (64 - c) n in rw (b, p) (grind arith)) in
+    let inner : w * 2 ^ n % 2 ^ 64 % 2 ^ k ≡ (w * 2 ^ n) % 2 ^ k =
+    ap (λ j. w * 2 ^ n % 2 ^ j % 2 ^ k) a ∙ ap (λ j. j % 2 ^ k) (mod-pow-add (w * 2 ^ n) (c - n) k) ∙ mod_low (w * 2 ^ n / 2 ^ k % 2 ^ (c - n)) k (w * 2 ^ n % 2 ^ k) (mod_below (w * 2 ^ n) (2 ^ k) (pow_pos k)) in
+    inner ∙ ap (λ j. j % 2 ^ k) is ∙ mod_low h k 0 (pow_pos k)
+
+-- four bytes more, as one number: what the word is then
+put_is : (w x c : ℕ) → c < 32 → x < 2 ^ 32 → w % 2 ^ (64 - c) ≡ 0 → w + x * 2 ^ (32 - c) % 2 ^ 64 ≡ (w / 2 ^ (64 - c) * 2 ^ 32 + x) * 2 ^ (32 - c)
+put_is w x c lt fits e =
+    let h = w / 2 ^ (64 - c) in
+    let a : 64 - c ≡ 32 + (32 - c) = omega arith in
+    let p : 2 ^ (32 + (32 - c)) ≡ 2 ^ 32 * 2 ^ (32 - c) = pow-add 2 32 (32 - c) in
+    let is : w ≡ h * (2 ^ 32 * 2 ^ (32 - c)) = sym (clean_part w (64 - c) e) ∙ ap (λ k. h * 2 ^ k) a ∙ ap (λ k. h * k) p in
+    let whole : x * 2 ^ (32 - c) % 2 ^ 64 ≡ x * 2 ^ (32 - c) = shl_whole x 32 (32 - c) 64 fits (omega arith) in
+    let q = 2 ^ (32 - c) in
+    let t = 2 ^ 32 in
+    let sum : (j u : ℕ) → h * (u * j) + x * j ≡ (h * u + x) * j = λ j u. grind arith in
+    ap (λ k. w + k) whole ∙ ap (λ k. k + x * 2 ^ (32 - c)) is ∙ sum (2 ^ (32 - c)) (2 ^ 32)
+
+below_top : (w c : ℕ) → w < 2 ^ 64 → c ≤ 64 → w / 2 ^ (64 - c) < 2 ^ c
+below_top w c lt le =
+    let a : 64 ≡ c + (64 - c) = omega arith in
+    let b : w < 2 ^ (c + (64 - c)) = rw (← a) lt in
+    shr_below w c (64 - c) b
+
+joined_below : (h x c : ℕ) → h < 2 ^ c → x < 2 ^ 32 → h * 2 ^ 32 + x < 2 ^ (c + 32)
+joined_below h x c a b =
+    let p : 2 ^ (c + 32) ≡ 2 ^ c * 2 ^ 32 = pow-add 2 c 32 in
+    rw p (grind (arith, mul-add-lt h (2 ^ 32) x (2 ^ c) a b))
+
+pub put_fits : (w x c : ℕ) → c < 32 → x < 2 ^ 32 → w < 2 ^ 64 → w % 2 ^ (64 - c) ≡ 0 → w + x * 2 ^ (32 - c) % 2 ^ 64 < 2 ^ 64
+put_fits w x c lt fits wide e =
+    let h = w / 2 ^ (64 - c) in
+    let sum : c + 32 + (32 - c) ≡ 64 = omega arith in
+    let below : (h * 2 ^ 32 + x) * 2 ^ (32 - c) < 2 ^ (c + 32 + (32 - c)) = shl_below (h * 2 ^ 32 + x) (c + 32) (32 - c) (joined_below h x c (below_top w c wide (omega arith)) fits) in
+    rw (put_is w x c lt fits e) (rw sum at below)
+
+pub put_clean : (w x c : ℕ) → c < 32 → x < 2 ^ 32 → w % 2 ^ (64 - c) ≡ 0 → (w + x * 2 ^ (32 - c) % 2 ^ 64) % 2 ^ (64 - (c + 32)) ≡ 0
+put_clean w x c lt fits e =
+    let a : 64 - (c + 32) ≡ 32 - c = omega arith in
+    let h = w / 2 ^ (64 - c) in
+    let z : (h * 2 ^ 32 + x) * 2 ^ (32 - c) ≡ (h * 2 ^ 32 + x) * 2 ^ (32 - c) + 0 = omega arith in
+    rw (put_is w x c lt fits e, a, z) (mod_low (h * 2 ^ 32 + x) (32 - c) 0 (pow_pos (32 - c)))
+
+pub put_bits : (w x c : ℕ) → c < 32 → x < 2 ^ 32 → w % 2 ^ (64 - c) ≡ 0
+    → unsigned (c + 32) ((w + x * 2 ^ (32 - c) % 2 ^ 64) / 2 ^ (64 - (c + 32))) ≡ unsigned c (w / 2 ^ (64 - c)) ++ unsigned 32 x
+put_bits w x c lt fits e =
+    let a : 64 - (c + 32) ≡ 32 - c = omega arith in
+    let h = w / 2 ^ (64 - c) in
+    rw (put_is w x c lt fits e, a, shl-shr (h * 2 ^ 32 + x) (32 - c))
+    (split c 32 (h * 2 ^ 32 + x) ∙ ap (λ k. unsigned c k ++ unsigned 32 (h * 2 ^ 32 + x)) (shr_high h 32 x fits) ∙ ap (λ bs. unsigned c h ++ bs) (unsigned_low 32 h 32 x (omega arith)))
+
+-- one is zeros and a one
+one_bits : (z : ℕ) → unsigned (suc z) 1 ≡ unary_bits z
+one_bits zero = refl
+one_bits (suc z) =
+    let top : bit_at 1 (suc z) ≡ 0 = bit_at-suc 1 z ∙ bit_at-zero z in
+    rw top (ap (λ bs. false ∷ bs) (one_bits z))
+
+-- what stands above the first one is zeros
+top_one : (w z c : ℕ) → w < 2 ^ 64 → c ≤ 63 → z ≡ leading_zeros w64 (bit_or w 1) → z < c → w / 2 ^ 1 / 2 ^ (63 - (z + 1)) ≡ 1
+top_one w z c wide le is lt =
+    let a = bit_or w 1 in
+    let pos : 0 < a = omega (arith, le_or_r w 1) in
+    let top = leading_top 64 a pos (or_lt 64 w 1 wide (omega arith)) in
+    let j = top.0 in
+    let je : j ≡ 63 - z = omega (arith, top.1, is) in
+    let one : a / 2 ^ j ≡ 1 =
+    let low : 1 ≤ a / 2 ^ j = le-div 1 a (2 ^ j) (pow_pos j) (omega (arith, top.2)) in
+    let wide' : a < 2 ^ (1 + j) = let e : 1 + j ≡ suc j = omega arith in rw e (top.3) in
+    let high : a / 2 ^ j < 2 ^ 1 = shr_below a 1 j wide' in
+    omega (arith, low, high) in
+    let small : 1 / 2 ^ j ≡ 0 =
+    let b : 1 < 2 ^ (0 + j) = let e : 0 + j ≡ j = omega arith in rw e (pow_below 0 j (omega arith)) in
+    let b' : 1 / 2 ^ j < 2 ^ 0 = shr_below 1 0 j b in
+    omega (arith, b') in
+    let same : a / 2 ^ j ≡ w / 2 ^ j = or_shr w 1 j ∙ ap (λ k. bit_or (w / 2 ^ j) k) small ∙ or_zero_r (w / 2 ^ j) in
+    let s : 1 + (63 - (z + 1)) ≡ j = omega arith in
+    shr-shr w 1 (63 - (z + 1)) ∙ ap (λ k. w / 2 ^ k) s ∙ sym same ∙ one
+
+pub zeros_taken : (w z c : ℕ) → w < 2 ^ 64 → c ≤ 63 → z ≡ leading_zeros w64 (bit_or w 1) → z < c
+    → unsigned c (w / 2 ^ (64 - c)) ≡ unary_bits z ++ unsigned (c - (z + 1)) (w * 2 ^ (z + 1) % 2 ^ 64 / 2 ^ (64 - (c - (z + 1))))
+zeros_taken w z c wide le is lt =
+    let e : z + 1 ≡ suc z = omega arith in
+    taken w (z + 1) c (omega arith) le ∙ ap (λ v. unsigned (z + 1) v ++ unsigned (c - (z + 1)) (w * 2 ^ (z + 1) % 2 ^ 64 / 2 ^ (64 - (c - (z + 1))))) (top_one w z c wide le is lt)
+    ∙ ap (λ v. unsigned v 1 ++ unsigned (c - (z + 1)) (w * 2 ^ (z + 1) % 2 ^ 64 / 2 ^ (64 - (c - (z + 1))))) e ∙ ap (λ bs. bs ++ unsigned (c - (z + 1)) (w * 2 ^ (z + 1) % 2 ^ 64 / 2 ^ (64 - (c - (z + 1))))) (one_bits z)
+
+-- one byte at the top
+pub of_byte_bits : (b : ℕ) → b < 2 ^ 8 → unsigned 8 (b * 2 ^ 56 % 2 ^ 64 / 2 ^ 56) ≡ unsigned 8 b
+of_byte_bits b fits = ap (λ k. unsigned 8 (k / 2 ^ 56)) (shl_whole b 8 56 64 fits (omega arith)) ∙ ap (unsigned 8) (shl-shr b 56)
+
+-- zeros, a one and k bits are taken at once
+pub rice_taken : (w z k c : ℕ) → w < 2 ^ 64 → c ≤ 63 → z ≡ leading_zeros w64 (bit_or w 1) → z + 1 + k ≤ c
+    → unsigned c (w / 2 ^ (64 - c)) ≡ (unary_bits z ++ unsigned k (w * 2 ^ (z + 1) % 2 ^ 64 / 2 ^ 1 / 2 ^ (63 - k))) ++ unsigned (c - (z + 1 + k)) (w * 2 ^ (z + 1 + k) % 2 ^ 64 / 2 ^ (64 - (c - (z + 1 + k))))
+rice_taken w z k c wide le is fits =
+    let d = c - (z + 1) in
+    let x = w * 2 ^ (z + 1) % 2 ^ 64 in
+    let n : d - k ≡ c - (z + 1 + k) = omega (arith, fits) in
+    let twice : x * 2 ^ k % 2 ^ 64 ≡ w * 2 ^ (z + 1 + k) % 2 ^ 64 =
+    let p : 2 ^ (z + 1 + k) ≡ 2 ^ (z + 1) * 2 ^ k = pow-add 2 (z + 1) k in
+    let assoc : (a b : ℕ) → w * a * b ≡ w * (a * b) = λ a b. grind arith in
+    mul-mod_first (w * 2 ^ (z + 1)) (2 ^ k) (2 ^ 64) ∙ ap (λ v. v % 2 ^ 64) (assoc (2 ^ (z + 1)) (2 ^ k) ∙ ap (λ v. w * v) (sym p)) in
+    let low = unsigned k (x / 2 ^ 1 / 2 ^ (63 - k)) in
+    zeros_taken w z c wide le is (omega (arith, fits)) ∙ ap (λ bs. unary_bits z ++ bs) (taken x k d (omega (arith, fits)) (omega (arith, le)))
+    ∙ ap (λ v. unary_bits z ++ (low ++ unsigned (d - k) (v / 2 ^ (64 - (d - k))))) twice
+    ∙ ap (λ j. unary_bits z ++ (low ++ unsigned j (w * 2 ^ (z + 1 + k) % 2 ^ 64 / 2 ^ (64 - j)))) n
+    ∙ sym (append_assoc (unary_bits z) low (unsigned (c - (z + 1 + k)) (w * 2 ^ (z + 1 + k) % 2 ^ 64 / 2 ^ (64 - (c - (z + 1 + k))))))
+
+pub shifted_small : (w n : ℕ) → w * 2 ^ n % 2 ^ 64 < 2 ^ 64
+shifted_small w n = mod_below (w * 2 ^ n) (2 ^ 64) (pow_pos 64)

@@ -1,0 +1,9 @@
+use Rattle.std.proofs.Common.{arith}
+use Rattle.flac_bits.proofs.Numbers.{six_more}
+use Rattle.flac_bits.proofs.number.continued.Goals as goal
+
+pub overflow_mul-value : goal.overflow_mul-value
+overflow_mul-value g c = omega (arith, six_more c.loop-i.i c.args.count c.loop-i.value c.loop-i-test.true c.requires.few c.loop-i.invariant.0)
+
+pub overflow_add-value : goal.overflow_add-value
+overflow_add-value g c = omega (arith, six_more c.loop-i.i c.args.count c.loop-i.value c.loop-i-test.true c.requires.few c.loop-i.invariant.0)

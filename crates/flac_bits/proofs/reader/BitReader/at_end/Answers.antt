@@ -1,0 +1,27 @@
+use Rattle.std.proofs.Common.{◌≡◌, ◌≤◌, ◌++◌, ◌∷◌, [], ℕ, List, Bool, true, false, not, length, Ok, sym, ap, ◌∙◌, arith, refl}
+use Rattle.flac_bits.specs.Bits.{bits_of, is_nil}
+use Rattle.flac_bits.specs.State.{State, Cursor, Behind, short_of, with_short}
+use Rattle.flac_bits.proofs.Fields.{cursor_of}
+use Rattle.flac_bits.proofs.reader.BitReader.at_end.Goals as goal
+use Rattle.flac_bits.proofs.reader.BitReader.at_end.Goals.{in-Ok, in-Err}
+
+over_is : (more : Bool) (w xs ys old : List Bool) → (more ≡ true → 1 ≤ length w) → (more ≡ false → old ≡ []) → (w ++ xs) ++ ys ≡ old → not more ≡ is_nil old
+over_is true [] xs ys old some none same = absurd (omega (arith, some refl))
+over_is true (b ∷ w) xs ys old some none same = rw (← same) refl
+over_is false w xs ys old some none same = rw (none refl) refl
+
+pub returns-clause-over : goal.returns-clause-over
+returns-clause-over g c = elim c.match-fill.branch [
+  | in-Ok w ↦ rw w.result-is (λ known.
+      let told = ap (λ (s : State). s.known) c.self.view_is ∙ known in
+      let cursor_is = ap (λ (s : State). s.cursor) c.self.view_is in
+      let ok = w.in-Ok.ensures.ok in
+      let left = ok.4 told in
+      let same : cursor_of (short_of ((g.R.Source.behind c.fill.new.source).fails)) c.fill.new.held (bits_of (g.R.Source.coming c.fill.new.source)) ≡ c.args.self.now.cursor =
+      rw (left, c.fill.ensures.mark, c.fill.ensures.foretold told ok.1) cursor_is in (
+        same,
+        over_is w.in-Ok.more c.fill.new.held.word (bits_of c.fill.new.held.bytes) (bits_of (g.R.Source.coming c.fill.new.source)) c.args.self.now.cursor.left
+            (λ e. w.in-Ok.ensures.more (ap Ok e)) (λ e. ap (λ (s : Cursor). s.left) (sym cursor_is) ∙ (w.in-Ok.ensures.over (ap Ok e) told).0) (left ∙ ap (λ (s : Cursor). s.left) cursor_is),
+      ))
+  | in-Err w ↦ rw w.result-is tt
+]

@@ -1,0 +1,38 @@
+-- The spelling of a coded number: the shortest of its forms.
+use Rattle.std.specs.Prelude.{◌≡◌, ℕ, zero, suc, ◌+◌, ◌*◌, ◌/◌, ◌%◌, ◌^◌, ◌<◌, Bool, cond, nat_lt, List, [], ◌++◌, Ok, ◌↔◌}
+use Rattle.flac_bits.specs.Bits.{unsigned}
+use Rattle.flac_bits.specs.State.{Mark, Cursor, past}
+use Rattle.flac_bits.specs.Layout.{run}
+use Rattle.flac_bits.specs.Meaning.{Spells}
+use Rattle.flac_bits.specs.Number.{number}
+
+-- six bits in each of the bytes behind the lead byte, under the bits 10
+unfoldable pub six_bits : ℕ → ℕ → List Bool
+six_bits zero v = []
+six_bits (suc n) v = unsigned 8 (128 + v / 64 ^ n % 64) ++ six_bits n v
+
+-- the lead byte, which says how many bytes follow and has the highest bits, and these
+abbrev pub in_bytes : ℕ → ℕ → ℕ → List Bool
+in_bytes lead n v = unsigned 8 (lead + v / 64 ^ n) ++ six_bits n v
+
+unfoldable pub number_spelling : ℕ → List Bool
+number_spelling v =
+    cond (nat_lt v (2 ^ 7)) (unsigned 8 v)
+    (cond (nat_lt v (2 ^ 11)) (in_bytes 0xC0 1 v)
+    (cond (nat_lt v (2 ^ 16)) (in_bytes 0xE0 2 v)
+    (cond (nat_lt v (2 ^ 21)) (in_bytes 0xF0 3 v)
+    (cond (nat_lt v (2 ^ 26)) (in_bytes 0xF8 4 v)
+    (cond (nat_lt v (2 ^ 31)) (in_bytes 0xFC 5 v) (in_bytes 0xFE 6 v))))))
+
+-- at most 31 bits, or 36 where these are allowed
+abbrev pub IsNumber : ℕ → ℕ → Type 0
+IsNumber max_bits v = v < cond (nat_lt 31 max_bits) (2 ^ 36) (2 ^ 31)
+
+-- bits spell just the numbers of so many bits, each in one way
+abbrev pub NumbersAreSpelled : Type 0
+NumbersAreSpelled = (max_bits v : ℕ) (m : Mark) (text : List Bool) → Spells (number max_bits) m text v ↔ (IsNumber max_bits v × (text ≡ number_spelling v))
+
+-- what is written is read again, whatever follows
+abbrev pub NumbersAreReadAgain : Type 0
+NumbersAreReadAgain = (max_bits v : ℕ) (m : Mark) (rest : List Bool) → IsNumber max_bits v
+    → run (number max_bits) (record { left = number_spelling v ++ rest; mark = m }) ≡ Ok (v, record { left = rest; mark = past (number_spelling v) m })

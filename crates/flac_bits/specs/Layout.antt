@@ -1,0 +1,92 @@
+-- A layout: which fields follow one another, and what is refused at which of their ends.
+use Rattle.std.specs.Prelude.{nat_eq, ℕ, zero, suc, ◌+◌, ◌*◌, Bool, true, false, cond, List, [], ◌∷◌, Option, Some, None, Result, Ok, Err, ⊤}
+use Rattle.flac_bits.specs.Bits.{bit_value}
+use Rattle.flac_bits.specs.State.{Mark, Cursor, step, with_short}
+use Rattle.flac_bits.specs.declared.why.Why.{Why}
+use Rattle.flac_bits.specs.declared.why.Why.TheVariants.{Truncated}
+
+-- why a read fails. The reason stands in a record, so that a proof that splits a result into its cases leaves it whole.
+pub record Reason : Type 0 where
+  pub why : Why
+
+abbrev pub because : Why → Reason
+because why = record { why = why }
+
+-- a rule that may be broken, and the reason that this gives
+pub record Rule : Type 0 where
+  pub broken : Bool
+  pub why : Why
+
+pub data Layout : Type 0 → Type 1 where
+  -- nothing more: the value
+  done : {A : Type 0} → A → Layout A
+  -- one layout behind another, which its value may choose
+  bind : {A B : Type 0} → Layout A → (A → Layout B) → Layout B
+  -- a number of so many bits
+  bits : ℕ → Layout ℕ
+  -- zeros and a one, and how many zeros; nothing where one passes the limit, which is then the last that was read
+  unary : ℕ → Layout (Option ℕ)
+  -- rules that are judged at the end of the field before: the first that is broken is refused
+  judge : List Rule → Layout ⊤
+  -- the reason stands at the end of the field before
+  refuse : {A : Type 0} → Why → Layout A
+  -- what is known of the bits behind, as the remainder since the checks began; not why bits run short
+  mark : Layout Mark
+
+infixl 10 ◌>>=◌
+abbrev pub ◌>>=◌ : {A B : Type 0} → Layout A → (A → Layout B) → Layout B
+l >>= f = bind l f
+
+-- the remainder of what was read since the checks began
+abbrev pub check8 : Layout ℕ
+check8 = mark >>= λ m. done m.check8
+
+-- the bits up to the next whole byte, and whether they are zeros
+abbrev pub align : Layout Bool
+align = mark >>= λ m. bits m.unread >>= λ v. done (nat_eq v 0)
+
+-- the layout that a test chooses
+abbrev pub choose : {A : Type 0} → Bool → Layout A → Layout A → Layout A
+choose true l r = l
+choose false l r = r
+
+-- ---- what reading a layout gives: the value and where it ends, or the reason
+
+unfoldable pub next_bit : Cursor → Result (Bool × Cursor) Reason
+next_bit c = elim c.left [ [] ↦ Err (because c.mark.short) | b ∷ rest ↦ Ok (b, record { left = rest; mark = step b c.mark }) ]
+
+abbrev pub and_then : {A B : Type 0} → Result (A × Cursor) Reason → (A → Cursor → Result (B × Cursor) Reason) → Result (B × Cursor) Reason
+and_then (Ok x) f = f x.0 x.1
+and_then (Err e) f = Err e
+
+-- n more bits behind those of the number that was read so far
+unfoldable pub number_from : ℕ → ℕ → Cursor → Result (ℕ × Cursor) Reason
+number_from zero value c = Ok (value, c)
+number_from (suc n) value c = and_then (next_bit c) (λ b d. number_from n (2 * value + bit_value b) d)
+
+-- the next n bits as a number
+unfoldable pub number_at : ℕ → Cursor → Result (ℕ × Cursor) Reason
+number_at n c = number_from n 0 c
+
+-- room for so many more zeros
+unfoldable pub zeros_from : ℕ → ℕ → Cursor → Result (Option ℕ × Cursor) Reason
+zeros_from zero count c = and_then (next_bit c) (λ b d. cond b (Ok (Some count, d)) (Ok (None, d)))
+zeros_from (suc room) count c = and_then (next_bit c) (λ b d. cond b (Ok (Some count, d)) (zeros_from room (count + 1) d))
+
+-- the zeros before the next one, at most so many
+unfoldable pub zeros_at : ℕ → Cursor → Result (Option ℕ × Cursor) Reason
+zeros_at limit c = zeros_from limit 0 c
+
+-- the reason of the first broken rule, or what comes behind the rules
+abbrev pub unless_broken : {X : Type 0} → List Rule → Result X Reason → Result X Reason
+unless_broken [] read = read
+unless_broken (rule ∷ rules) read = cond rule.broken (Err (because rule.why)) (unless_broken rules read)
+
+abbrev pub run : {A : Type 0} → Layout A → Cursor → Result (A × Cursor) Reason
+run (done x) c = Ok (x, c)
+run (bind l f) c = and_then (run l c) (λ x d. run (f x) d)
+run (bits n) c = number_at n c
+run (unary limit) c = zeros_at limit c
+run (judge rules) c = unless_broken rules (Ok (tt, c))
+run (refuse why) c = Err (because why)
+run mark c = Ok (with_short Truncated c.mark, c)

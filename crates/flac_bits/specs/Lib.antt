@@ -1,0 +1,15 @@
+pub mod Bits
+pub mod State
+pub mod Layout
+pub mod Reading
+pub mod Number
+pub mod Meaning
+pub mod Check
+pub mod Lists
+pub mod Written
+pub mod Store
+pub mod Rice
+pub mod Forms
+pub mod Coded
+pub mod Items
+pub mod Signed

@@ -1,0 +1,50 @@
+-- What a reading call does.
+use Rattle.std.specs.Prelude.{◌≡◌, ◌<◌, ◌≤◌, Bool, true, List, ◌++◌, Result, Ok, Err, IfOk, IfErr, IsOkAnd, IsErrAnd, ◌⊎◌}
+use Rattle.flac_bits.specs.State.{Cursor, State}
+use Rattle.flac_bits.specs.Layout.{Layout, Reason, because, run}
+use Rattle.flac_bits.specs.Meaning.{Spells, Shows, IsCut}
+use Rattle.flac_bits.specs.declared.why.Why.{Why}
+use Rattle.flac_bits.specs.declared.why.Why.TheVariants.{Memory, Read}
+
+-- Errors of the source are counted: a call that answers a value met none, and one that answers Read met one.
+-- What stands behind the bytes to come stays, and the references that the source goes through.
+abbrev pub Counts : {X : Type 0} → State → State → Result X Why → Type 0
+Counts old new (Ok x) = (old.known ≡ true → new.known ≡ true) × (new.errors ≡ old.errors) × (new.raised ≡ old.raised) × (old.known ≡ true → new.behind ≡ old.behind) × (new.names ≡ old.names)
+Counts old new (Err e) = (old.errors ≤ new.errors) × (old.known ≡ true → new.errors ≡ old.errors → new.behind ≡ old.behind) × (old.known ≡ true → e ≡ Read → old.raised < new.raised) × (new.names ≡ old.names)
+
+-- what was returned, seen by view, and where the reader stands then, is what is read
+abbrev pub Answers : {X Y : Type 0} → (X → Y) → Result (Y × Cursor) Reason → Cursor → Result X Why → Type 0
+Answers view read at (Ok x) = read ≡ Ok (view x, at)
+Answers view read at (Err e) = read ≡ Err (because e)
+
+-- so it is where the source tells its bytes and did not fail in the call
+abbrev pub Gives : {X Y : Type 0} → (X → Y) → Result (Y × Cursor) Reason → State → State → Result X Why → Type 0
+Gives view read old new result = old.known ≡ true → new.errors ≡ old.errors → Answers view read new.cursor result
+
+abbrev pub Reads : {X Y : Type 0} → (X → Y) → Layout Y → State → State → Result X Why → Type 0
+Reads view layout old new result = Gives view (run layout old.cursor) old new result
+
+-- the same where no growth was refused
+abbrev pub ReadsInRoom : {X Y : Type 0} → (X → Y) → Layout Y → State → State → Result X Why → Type 0
+ReadsInRoom view layout old new result = (result ≡ Err Memory → ⊥) → Reads view layout old new result
+
+-- what was returned is told by the meaning of the layout alone: a value is the one that the front of the input spells,
+-- a reason is one that a front of the input shows, or the input ends inside
+pub record Decodes {X Y : Type 0} (view : X → Y) (layout : Layout Y) (old : Cursor) (left : List Bool) (result : Result X Why) : Type 0 where
+  pub found : IfOk result (λ x. (text : List Bool) × (old.left ≡ text ++ left) × Spells layout old.mark text (view x))
+  pub only : (text rest : List Bool) (y : Y) → old.left ≡ text ++ rest → Spells layout old.mark text y → IsOkAnd result (λ x. (view x ≡ y) × (left ≡ rest))
+  pub fault : IfErr result (λ e. ((front : List Bool) × (rest : List Bool) × (old.left ≡ front ++ rest) × Shows layout old.mark front e) ⊎ ((e ≡ old.mark.short) × IsCut layout old.mark old.left))
+  pub shown : (front rest : List Bool) (why : Why) → old.left ≡ front ++ rest → Shows layout old.mark front why → IsErrAnd result (λ e. e ≡ why)
+  pub cut : IsCut layout old.mark old.left → IsErrAnd result (λ e. e ≡ old.mark.short)
+
+abbrev pub Means : {X Y : Type 0} → (X → Y) → Layout Y → State → State → Result X Why → Type 0
+Means view layout old new result = old.known ≡ true → new.errors ≡ old.errors → Decodes view layout old.cursor new.cursor.left result
+
+-- a loop has read without a refusal so far, and what it has still to read gives what the whole gives
+pub record Goes {Y : Type 0} (old now : State) (rest whole : Result Y Reason) : Type 0 where
+  pub known : old.known ≡ true → now.known ≡ true
+  pub errors : now.errors ≡ old.errors
+  pub raised : now.raised ≡ old.raised
+  pub behind : old.known ≡ true → now.behind ≡ old.behind
+  pub names : now.names ≡ old.names
+  pub reads : old.known ≡ true → rest ≡ whole

@@ -1,0 +1,26 @@
+-- Values under a Rice code (RFC 9639, sections 9.2.7.2 and 9.2.7.3).
+use Rattle.std.specs.Prelude.{ℕ, ℤ, pos, negsuc, ◌+◌, ◌-◌, ◌*◌, ◌/◌, ◌%◌, ◌^◌, Option, Some, None, cond, nat_eq, nat_lt}
+use Rattle.flac_bits.specs.Layout.{Layout, done, bits, unary, refuse, ◌>>=◌, choose}
+use Rattle.flac_bits.specs.declared.why.Why.TheVariants.{ResidualRange}
+
+abbrev pub within : Option ℕ → Layout ℕ
+within (Some q) = done q
+within None = refuse ResidualRange
+
+-- zeros and a one, and the lowest k bits
+unfoldable pub rice : ℕ → ℕ → Layout ℕ
+rice k limit = do
+  zeros ← unary limit
+  quotient ← within zeros
+  low ← bits k
+  done (quotient * 2 ^ k + low)
+
+-- the number that was folded: 2r stands for r, and 2r + 1 for -r - 1
+abbrev pub unfolded : ℕ → ℤ
+unfolded f = cond (nat_eq (f % 2) 0) (pos (f / 2)) (negsuc (f / 2))
+
+-- A residual value. It lies strictly between -2^31 and 2^31, so its folded number is at most 2^32 - 2.
+unfoldable pub rice_value : ℕ → Layout ℤ
+rice_value k = do
+  folded ← rice k ((2 ^ 32 - 2) / 2 ^ k)
+  choose (nat_lt (2 ^ 32 - 2) folded) (refuse ResidualRange) (done (unfolded folded))

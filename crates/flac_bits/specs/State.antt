@@ -1,0 +1,93 @@
+-- What a bit reader stands at.
+use Rattle.std.specs.Prelude.{ℕ, ◌+◌, ◌-◌, ◌*◌, ◌%◌, ◌^◌, min, Bool, true, false, cond, nat_eq, List, [], ◌∷◌, bit_xor, Option, Some, None}
+use Rattle.std.specs.Int.{bit_at}
+use Rattle.std.specs.Borrow.{GName}
+use Rattle.flac_bits.specs.declared.why.Why.{Why}
+use Rattle.flac_bits.specs.declared.why.Why.TheVariants.{Read, Truncated}
+
+-- the remainder by x^w + g after one more bit
+abbrev pub feed : ℕ → ℕ → ℕ → Bool → ℕ
+feed w g check true = cond (nat_eq (bit_at check (w - 1)) 1) (2 * check % 2 ^ w) (bit_xor (2 * check % 2 ^ w) g)
+feed w g check false = cond (nat_eq (bit_at check (w - 1)) 1) (bit_xor (2 * check % 2 ^ w) g) (2 * check % 2 ^ w)
+
+-- What a reader knows of the bits behind it: how many bits of the byte that was begun are still to come, how many bytes
+-- were begun (a count that stops at 2^64 - 1), and the remainder of the bits since the checks began.
+pub record Mark : Type 0 where
+  pub unread : ℕ
+  pub bytes : ℕ
+  pub check8 : ℕ
+  pub check16 : ℕ
+  -- the reason where a field needs more bits than are left: the input ends, or what may be read of it
+  pub short : Why
+
+-- behind one more bit, of the byte that was begun or of the next
+abbrev pub step : Bool → Mark → Mark
+step b m = record {
+  unread = cond (nat_eq m.unread 0) 7 (m.unread - 1);
+  bytes = cond (nat_eq m.unread 0) (min (m.bytes + 1) (2 ^ 64 - 1)) m.bytes;
+  check8 = feed 8 7 m.check8 b;
+  check16 = feed 16 32773 m.check16 b;
+  short = m.short;
+}
+
+-- behind these bits
+abbrev pub past : List Bool → Mark → Mark
+past [] m = m
+past (b ∷ bs) m = past bs (step b m)
+
+-- the bits still to come, and what is known of those behind
+pub record Cursor : Type 0 where
+  pub left : List Bool
+  pub mark : Mark
+
+-- What stands behind the bytes to come. A source may be one part of several, as a packet of an Ogg stream is; then the
+-- parts behind it are told by pieces: how long each is, and their bytes joined.
+pub record Behind : Type 0 where
+  -- the error that comes in place of the end: a place and a reason of the source's own
+  pub fails : Option (ℕ × Why)
+  -- the part is not whole
+  pub cut : Bool
+  pub pieces : List ℕ
+  pub bytes : List ℕ
+  -- the error behind these, in place of the end of all parts
+  pub stop : Option (ℕ × Why)
+  -- the bits past a fence, which are not read
+  pub fenced : List Bool
+
+-- behind these bytes is the end
+abbrev pub the_end : Behind
+the_end = record { fails = None; cut = false; pieces = []; bytes = []; stop = None; fenced = [] }
+
+-- the reason where a field needs more than is left: the input ends, or the error that is foretold comes
+abbrev pub short_of : Option (ℕ × Why) → Why
+short_of None = Truncated
+short_of (Some f) = Read
+
+-- a mark whose bits run short for another reason
+abbrev pub with_short : Why → Mark → Mark
+with_short why m = record m { short = why }
+
+-- a mark at which the checks begin anew, as they do at a whole byte
+abbrev pub fresh : Mark → Mark
+fresh m = cond (nat_eq m.unread 0) (record m { check8 = 0; check16 = 0 }) m
+
+-- what a reader stands at
+pub record State : Type 0 where
+  -- the source tells its bytes
+  pub known : Bool
+  -- errors that it answered and that nothing foretold
+  pub errors : ℕ
+  -- errors that it answered, foretold or not
+  pub raised : ℕ
+  -- what stands behind the bytes to come
+  pub behind : Behind
+  -- the most bits that can still come
+  pub most : ℕ
+  -- the references that the source goes through
+  pub names : List GName
+  -- where the reader stands in the bytes that are told
+  pub cursor : Cursor
+
+-- the same where the checks begin anew
+abbrev pub started : State → State
+started s = record s { cursor = record s.cursor { mark = fresh s.cursor.mark } }

@@ -1,0 +1,229 @@
+//! Bytes that were pulled, and the bits of them that are held in a word.
+
+ghost use Rattle.std.specs.Prelude.{◌≡◌, ◌<◌, ◌≤◌, ◌+◌, ◌-◌, ◌*◌, ◌/◌, ◌%◌, ◌^◌, ◌++◌, ◌∷◌, [], ℕ, List, Bool, true, false, length, take, drop, replicate, min, IfSome, IfOk, IfErr, OnOk, Some, None, Ok, is_some};
+ghost use Rattle.flac_bits.specs.declared.why.Why.TheVariants.{Truncated};
+ghost use Rattle.flac_bits.specs.Bits.{unsigned, bits_of};
+ghost use Rattle.flac_bits.specs.Meaning.{unary_bits};
+ghost use Rattle.flac_bits.specs.State.{past};
+ghost use Rattle.flac_bits.specs.Store.{Store, passed, Takes, HoldsSame, four_at};
+
+use crate::source::Source;
+use crate::sums::{bits_checked8, bits_checked16, checked8, checked16};
+use crate::why::Why;
+use crate::word::Word;
+use std::marker::Model;
+
+/// How many bytes are pulled at once.
+pub const HOLD: usize = 4096;
+
+/// An array of bytes, of which some are taken, and a word with the bits that come first.
+#[derive(Drop)]
+pub struct Held {
+    word: Word,
+    bytes: [u8; HOLD],
+    place: usize,
+    end: usize,
+    before: u64,
+    from: usize,
+    check8: u8,
+    check16: u16,
+}
+
+impl Model for Held {
+    ghost Value = { Store };
+
+    ghost view = { λ h. record {
+      word = h.word;
+      bytes = drop h.place (take h.end h.bytes);
+      mark = past (passed (drop h.from (take h.place h.bytes)) h.word) (record {
+        unread = 0;
+        bytes = min (h.before + h.from) (2 ^ 64 - 1);
+        check8 = h.check8;
+        check16 = h.check16;
+        short = Truncated;
+      });
+    } };
+
+    ghost invariant = { λ h. (h.from ≤ h.place) × (h.place ≤ h.end) × (h.end ≤ 4096)
+        × (passed (drop h.from (take h.place h.bytes)) h.word ++ h.word ≡ bits_of (drop h.from (take h.place h.bytes)))
+        × (length h.bytes ≡ 4096) };
+}
+
+/// Four bytes as a number, the first of them highest.
+#[inline(always)]
+fn four_bytes(bytes: &[u8], place: usize) -> u32
+    requires { place + 4 ≤ length bytes.now }
+    ensures { unsigned 32 result ≡ bits_of (four_at bytes.now place) }
+{
+    u32::from_be_bytes([
+        bytes[place],
+        bytes[place + 1],
+        bytes[place + 2],
+        bytes[place + 3],
+    ])
+}
+
+impl Held {
+    pub fn new() -> Held
+        ensures { result ≡ record { word = []; bytes = []; mark = record { unread = 0; bytes = 0; check8 = 0; check16 = 0; short = Truncated } } }
+    {
+        Held {
+            word: Word::empty(),
+            bytes: [0; HOLD],
+            place: 0,
+            end: 0,
+            before: 0,
+            from: 0,
+            check8: 0,
+            check16: 0,
+        }
+    }
+
+    /// How many bits the word has.
+    #[inline(always)]
+    pub fn ready(&self) -> u32
+        ensures { (result ≡ length self.now.word) × (result ≤ 63) }
+    {
+        self.word.count()
+    }
+
+    #[inline(always)]
+    pub fn take(&mut self, n: u32) -> u64
+        requires { n ≤ length self.old.word }
+        ensures { Takes (unsigned n result) self.old self.new × (result < 2 ^ n) }
+    {
+        self.word.take(n)
+    }
+
+    /// Zeros and a one, where the word has them and the zeros are within the limit.
+    #[inline(always)]
+    pub fn unary(&mut self, limit: u64) -> Option<u64>
+        ensures some { IfSome result (λ q. (q ≤ limit) × Takes (unary_bits q) self.old self.new) }
+        ensures none { result ≡ None → self.new ≡ self.old }
+    {
+        self.word.unary(limit)
+    }
+
+    /// Zeros, a one and k bits, where the word has them and the zeros are within the limit.
+    #[inline(always)]
+    pub fn rice(&mut self, k: u32, limit: u64) -> Option<u64>
+        requires k { k ≤ 30 }
+        requires limit { limit < 2 ^ 32 }
+        ensures some { IfSome result (λ v. (q : ℕ) × (low : ℕ) × (q ≤ limit) × (low < 2 ^ k) × (v ≡ q * 2 ^ k + low) × Takes (unary_bits q ++ unsigned k low) self.old self.new) }
+        ensures none { result ≡ None → self.new ≡ self.old }
+    {
+        self.word.rice(k, limit)
+    }
+
+    /// Four bytes more in the word, where it has room for them.
+    #[inline(always)]
+    pub fn top_up(&mut self)
+        ensures { HoldsSame self.old self.new }
+    {
+        let place = self.place;
+        if self.word.count() < 32 && self.end - place >= 4 {
+            self.word.put(four_bytes(&self.bytes, place));
+            self.place = place + 4;
+        }
+    }
+
+    /// A byte in the word, which is empty; false where no byte is held.
+    #[inline(never)]
+    pub fn begin_byte(&mut self) -> bool
+        requires { self.old.word ≡ [] }
+        ensures more { result ≡ true → HoldsSame self.old self.new × (length self.new.word ≡ 8) }
+        ensures none { result ≡ false → (self.new ≡ self.old) × (self.old.bytes ≡ []) }
+    {
+        if self.place == self.end {
+            return false;
+        }
+        let byte = self.bytes[self.place];
+        self.word = Word::of_byte(byte);
+        self.place += 1;
+        true
+    }
+
+    /// Bytes of the source, where all that were held are taken; false at the end.
+    #[inline(never)]
+    pub fn pull<R: Source>(&mut self, source: &mut R) -> Result<bool, Why>
+        requires { (self.old.word ≡ []) × (self.old.bytes ≡ []) }
+        ensures names { R.names source.new ≡ R.names source.old }
+        ensures mark { self.new.mark ≡ self.old.mark }
+        ensures word { self.new.word ≡ [] }
+        ensures ok { IfOk result (λ _. (R.known source.old ≡ true → R.known source.new ≡ true) × (R.errors source.new ≡ R.errors source.old) × (R.raised source.new ≡ R.raised source.old)
+            × (R.most source.new + length self.new.bytes ≤ R.most source.old)
+            × (R.known source.old ≡ true → R.coming source.old ≡ self.new.bytes ++ R.coming source.new)) }
+        ensures more { result ≡ Ok true → 0 < length self.new.bytes }
+        ensures over { result ≡ Ok false → R.known source.old ≡ true → (R.coming source.old ≡ []) × ((R.behind source.old).fails ≡ None) }
+        ensures kept { R.errors source.old ≤ R.errors source.new }
+        ensures foretold { R.known source.old ≡ true → R.errors source.new ≡ R.errors source.old → R.behind source.new ≡ R.behind source.old }
+        ensures err { IfErr result (λ e. (e ≡ Why.Read)
+            × (R.known source.old ≡ true → R.errors source.new ≡ R.errors source.old → (R.coming source.old ≡ []) × (is_some ((R.behind source.old).fails) ≡ true))
+            × (R.known source.old ≡ true → R.raised source.old < R.raised source.new)) }
+    {
+        self.check8 = checked8(self.check8, &self.bytes[self.from..self.end]);
+        self.check16 = checked16(self.check16, &self.bytes[self.from..self.end]);
+        self.before = self.before.saturating_add(self.end as u64);
+        self.from = 0;
+        self.place = 0;
+        self.end = 0;
+        match source.pull(&mut self.bytes) {
+            Ok(0) => Ok(false),
+            Ok(n) => {
+                self.end = n;
+                Ok(true)
+            }
+            Err(_) => Err(Why::Read),
+        }
+    }
+
+    /// How many bits of the byte that was begun are still to come.
+    #[inline(always)]
+    pub fn unread(&self) -> u32
+        ensures { (result ≡ self.now.mark.unread) × (result < 8) }
+    {
+        self.word.count() % 8
+    }
+
+    pub fn bytes_taken(&self) -> u64
+        ensures { result ≡ self.now.mark.bytes }
+    {
+        self.before
+            .saturating_add((self.place - self.word.count() as usize / 8) as u64)
+    }
+
+    pub fn check8(&self) -> u8
+        ensures { result ≡ self.now.mark.check8 }
+    {
+        let count = self.word.count();
+        let whole = self.place - (count as usize + 7) / 8;
+        let check = checked8(self.check8, &self.bytes[self.from..whole]);
+        let rest = count % 8;
+        if rest == 0 {
+            return check;
+        }
+        bits_checked8(check, self.bytes[whole] >> rest, 8 - rest)
+    }
+
+    pub fn check16(&self) -> u16
+        ensures { result ≡ self.now.mark.check16 }
+    {
+        let count = self.word.count();
+        let whole = self.place - (count as usize + 7) / 8;
+        let check = checked16(self.check16, &self.bytes[self.from..whole]);
+        let rest = count % 8;
+        if rest == 0 {
+            return check;
+        }
+        bits_checked16(check, self.bytes[whole] >> rest, 8 - rest)
+    }
+
+    pub fn start_checks(&mut self)
+        requires { self.old.mark.unread ≡ 0 }
+        ensures { self.new ≡ record self.old { mark = record self.old.mark { check8 = 0; check16 = 0 } } }
+    {
+        self.from = self.place - self.word.count() as usize / 8;
+        self.check8 = 0;
+        self.check16 = 0;
+    }
+}

@@ -1,0 +1,26 @@
+//! Bits of a stream of bytes.
+#![tactic(auto)]
+
+mod bytes;
+mod coded;
+mod counted;
+mod held;
+mod number;
+mod promises;
+mod reader;
+mod source;
+mod sums;
+mod why;
+mod word;
+mod writer;
+
+pub use bytes::read_bytes;
+pub use coded::write_number;
+pub use counted::Counted;
+pub use number::read_number;
+pub use promises::numbers_are_spelled;
+pub use reader::BitReader;
+pub use source::{Memory, Source};
+pub use why::Why;
+pub use word::Word;
+pub use writer::{BitWriter, Target};

@@ -1,0 +1,71 @@
+//! The coded number.
+
+ghost use Rattle.std.specs.Prelude.{◌≡◌, ◌≤◌, ◌<◌, ◌^◌, IfSome};
+ghost use Rattle.flac_bits.specs.Number.{lead_form, continued, number};
+ghost use Rattle.flac_bits.specs.Reading.{Counts, Reads, Means};
+
+use crate::reader::BitReader;
+use crate::source::Source;
+use crate::why::Why;
+
+#[tactic(auto, unfolding(crate::specs::Number::lead_form))]
+fn lead_form(max_bits: u32, lead: u64) -> Option<(u32, u64, u64)>
+    ensures form { result ≡ lead_form max_bits lead }
+    ensures small { IfSome result (λ form. (form.0 ≤ 6) × (form.1 < 2 ^ 5)) }
+{
+    match lead {
+        0xC0..=0xDF => Some((1, lead - 0xC0, 1 << 7)),
+        0xE0..=0xEF => Some((2, lead - 0xE0, 1 << 11)),
+        0xF0..=0xF7 => Some((3, lead - 0xF0, 1 << 16)),
+        0xF8..=0xFB => Some((4, lead - 0xF8, 1 << 21)),
+        0xFC..=0xFD => Some((5, lead - 0xFC, 1 << 26)),
+        0xFE if max_bits > 31 => Some((6, 0, 1 << 31)),
+        _ => None,
+    }
+}
+
+#[tactic(auto, unfolding(crate::specs::Number::continued), using(crate::proofs::Numbers::continued_more))]
+fn continued<R: Source>(bits: &mut BitReader<R>, count: u32, high: u64) -> Result<u64, Why>
+    requires few { count ≤ 6 }
+    requires small { high < 2 ^ 5 }
+    ensures counts { Counts bits.old bits.new result }
+    ensures reads { Reads (λ v. v) (continued count high) bits.old bits.new result }
+{
+    let mut value = high;
+    for i in 0..count {
+        let byte = bits.take(8)?;
+        if byte / 64 != 2 {
+            return Err(Why::BadNumber);
+        }
+        value = 64 * value + byte % 64;
+    }
+    Ok(value)
+}
+
+/// The coded number of at most so many bits that comes next.
+pub fn read_number<R: Source>(bits: &mut BitReader<R>, max_bits: u32) -> Result<u64, Why>
+    ensures counts { Counts bits.old bits.new result }
+    ensures reads { Reads (λ v. v) (number max_bits) bits.old bits.new result }
+    ensures means { Means (λ v. v) (number max_bits) bits.old bits.new result }
+{
+    number_here(bits, max_bits)
+}
+
+#[tactic(auto, unfolding(crate::specs::Number::number))]
+fn number_here<R: Source>(bits: &mut BitReader<R>, max_bits: u32) -> Result<u64, Why>
+    ensures counts { Counts bits.old bits.new result }
+    ensures reads { Reads (λ v. v) (number max_bits) bits.old bits.new result }
+{
+    let lead = bits.take(8)?;
+    if lead < 128 {
+        return Ok(lead);
+    }
+    let Some((count, high, least)) = lead_form(max_bits, lead) else {
+        return Err(Why::BadNumber);
+    };
+    let value = continued(bits, count, high)?;
+    if value < least {
+        return Err(Why::BadNumber);
+    }
+    Ok(value)
+}

@@ -1,0 +1,320 @@
+//! Bits out of a source of bytes.
+
+ghost use Rattle.std.specs.Prelude.{◌≡◌, ◌<◌, ◌≤◌, ◌+◌, ◌^◌, ◌-◌, ◌++◌, ◌∷◌, [], ℕ, true, IfOk, IfErr, OnOk, ◌*◌, length, IfSome, None, Some, Ok, ◌↔◌, false, is_some};
+ghost use Rattle.flac_bits.specs.declared.why.Why.TheVariants.{Truncated};
+ghost use Rattle.flac_bits.specs.Bits.{is_nil};
+ghost use Rattle.flac_bits.specs.Bits.{unsigned, bits_of, bit_value};
+ghost use Rattle.flac_bits.specs.State.{State, Cursor, short_of, with_short, started};
+ghost use Rattle.flac_bits.specs.Layout.{next_bit, number_at, zeros_at, align as to_byte, run};
+ghost use Rattle.flac_bits.specs.Rice.{rice};
+ghost use Rattle.flac_bits.specs.Reading.{Counts, Gives, Reads};
+
+use crate::held::Held;
+use crate::source::Source;
+use crate::why::Why;
+use std::marker::Model;
+
+/// Reads a source bit by bit, the highest bit of a byte first.
+#[derive(Drop)]
+pub struct BitReader<R: Source> {
+    source: R,
+    held: Held,
+}
+
+impl<R: Source> Model for BitReader<R> {
+    ghost Value = { State };
+
+    ghost view = { λ r. record {
+      known = R.known r.source;
+      errors = R.errors r.source;
+      raised = R.raised r.source;
+      behind = R.behind r.source;
+      most = 8 * R.most r.source + length (r.held.word ++ bits_of r.held.bytes);
+      names = R.names r.source;
+      cursor = record {
+        left = (r.held.word ++ bits_of r.held.bytes) ++ bits_of (R.coming r.source);
+        mark = with_short (short_of ((R.behind r.source).fails)) r.held.mark;
+      };
+    } };
+}
+
+/// A bit in the word at least; false where none is left.
+fn fill<R: Source>(held: &mut Held, source: &mut R) -> Result<bool, Why>
+    ensures names { R.names source.new ≡ R.names source.old }
+    ensures mark { held.new.mark ≡ held.old.mark }
+    ensures ok { IfOk result (λ _. (R.known source.old ≡ true → R.known source.new ≡ true) × (R.errors source.new ≡ R.errors source.old) × (R.raised source.new ≡ R.raised source.old)
+        × (8 * R.most source.new + length (held.new.word ++ bits_of held.new.bytes) ≤ 8 * R.most source.old + length (held.old.word ++ bits_of held.old.bytes))
+        × (R.known source.old ≡ true → (held.new.word ++ bits_of held.new.bytes) ++ bits_of (R.coming source.new) ≡ (held.old.word ++ bits_of held.old.bytes) ++ bits_of (R.coming source.old))) }
+    ensures more { result ≡ Ok true → 1 ≤ length held.new.word }
+    ensures over { result ≡ Ok false → R.known source.old ≡ true
+        → ((held.old.word ++ bits_of held.old.bytes) ++ bits_of (R.coming source.old) ≡ []) × ((R.behind source.old).fails ≡ None) }
+    ensures kept { R.errors source.old ≤ R.errors source.new }
+    ensures foretold { R.known source.old ≡ true → R.errors source.new ≡ R.errors source.old → R.behind source.new ≡ R.behind source.old }
+    ensures err { IfErr result (λ e. (e ≡ Why.Read)
+        × (R.known source.old ≡ true → R.errors source.new ≡ R.errors source.old
+        → ((held.old.word ++ bits_of held.old.bytes) ++ bits_of (R.coming source.old) ≡ []) × (is_some ((R.behind source.old).fails) ≡ true))
+        × (R.known source.old ≡ true → R.raised source.old < R.raised source.new)) }
+{
+    if held.ready() > 0 {
+        return Ok(true);
+    }
+    if held.begin_byte() {
+        return Ok(true);
+    }
+    match held.pull(source) {
+        Ok(more) => {
+            let _begun = held.begin_byte();
+            Ok(more)
+        }
+        Err(why) => Err(why),
+    }
+}
+
+impl<R: Source> BitReader<R> {
+    pub fn new(source: R) -> BitReader<R>
+        ensures { result ≡ record {
+          known = R.known source;
+          errors = R.errors source;
+          raised = R.raised source;
+          behind = R.behind source;
+          most = 8 * R.most source;
+          names = R.names source;
+          cursor = record { left = bits_of (R.coming source); mark = record { unread = 0; bytes = 0; check8 = 0; check16 = 0; short = short_of ((R.behind source).fails) } };
+        } }
+    {
+        BitReader {
+            source,
+            held: Held::new(),
+        }
+    }
+
+    /// The next n bits, where the word has them.
+    #[inline(always)]
+    fn ready(&mut self, n: u32) -> Option<u64>
+        ensures some { IfSome result (λ v. (v < 2 ^ n) × (self.new.most + n ≡ self.old.most) × (self.new.known ≡ self.old.known) × (self.new.errors ≡ self.old.errors) × (self.new.raised ≡ self.old.raised) × (self.new.behind ≡ self.old.behind) × (self.new.names ≡ self.old.names)
+            × (number_at n self.old.cursor ≡ Ok (v, self.new.cursor))) }
+        ensures none { result ≡ None → self.new ≡ self.old }
+    {
+        if n <= self.held.ready() {
+            Some(self.held.take(n))
+        } else {
+            None
+        }
+    }
+
+    #[inline(always)]
+    fn top_up(&mut self)
+        ensures { self.new ≡ self.old }
+    {
+        self.held.top_up();
+    }
+
+    fn bit(&mut self) -> Result<bool, Why>
+        ensures spends { OnOk result (self.new.most + 1 ≤ self.old.most) }
+        ensures counts { Counts self.old self.new result }
+        ensures reads { Gives (λ b. b) (next_bit self.old.cursor) self.old self.new result }
+    {
+        match fill(&mut self.held, &mut self.source) {
+            Ok(true) => Ok(self.held.take(1) == 1),
+            Ok(false) => Err(Why::Truncated),
+            Err(why) => Err(why),
+        }
+    }
+
+    /// The next n bits, one by one.
+    #[inline(never)]
+    #[tactic(auto, unfolding(crate::specs::Layout::number_at, crate::specs::Layout::number_from), using(crate::proofs::Loops::number_more))]
+    fn take_slow(&mut self, n: u32) -> Result<u64, Why>
+        requires { n ≤ 64 }
+        ensures small { IfOk result (λ v. v < 2 ^ n) }
+        ensures spends { OnOk result (self.new.most + n ≤ self.old.most) }
+        ensures counts { Counts self.old self.new result }
+        ensures reads { Gives (λ v. v) (number_at n self.old.cursor) self.old self.new result }
+    {
+        let mut value = 0u64;
+        for i in 0..n {
+            let bit = self.bit()?;
+            value = 2 * value + u64::from(bit);
+        }
+        Ok(value)
+    }
+
+    /// The next n bits as a number.
+    #[inline(always)]
+    pub fn take(&mut self, n: u32) -> Result<u64, Why>
+        requires { n ≤ 64 }
+        ensures small { IfOk result (λ v. v < 2 ^ n) }
+        ensures spends { OnOk result (self.new.most + n ≤ self.old.most) }
+        ensures counts { Counts self.old self.new result }
+        ensures reads { Gives (λ v. v) (number_at n self.old.cursor) self.old self.new result }
+    {
+        if let Some(value) = self.ready(n) {
+            return Ok(value);
+        }
+        self.take_more(n)
+    }
+
+    #[inline(never)]
+    fn take_more(&mut self, n: u32) -> Result<u64, Why>
+        requires { n ≤ 64 }
+        ensures small { IfOk result (λ v. v < 2 ^ n) }
+        ensures spends { OnOk result (self.new.most + n ≤ self.old.most) }
+        ensures counts { Counts self.old self.new result }
+        ensures reads { Gives (λ v. v) (number_at n self.old.cursor) self.old self.new result }
+    {
+        self.top_up();
+        if let Some(value) = self.ready(n) {
+            return Ok(value);
+        }
+        self.take_slow(n)
+    }
+
+    /// Zeros and a one, where the word has them.
+    #[inline(always)]
+    fn ready_unary(&mut self, limit: u64) -> Option<u64>
+        ensures some { IfSome result (λ q. (q ≤ limit) × (self.new.known ≡ self.old.known) × (self.new.errors ≡ self.old.errors) × (self.new.raised ≡ self.old.raised) × (self.new.behind ≡ self.old.behind) × (self.new.names ≡ self.old.names)
+            × (zeros_at limit self.old.cursor ≡ Ok (Some q, self.new.cursor))) }
+        ensures none { result ≡ None → self.new ≡ self.old }
+    {
+        self.held.unary(limit)
+    }
+
+    #[inline(never)]
+    #[tactic(auto, unfolding(crate::specs::Layout::zeros_at, crate::specs::Layout::zeros_from), using(crate::proofs::Loops::zeros_more, crate::proofs::Loops::zeros_last))]
+    fn unary_slow(&mut self, limit: u64) -> Result<Option<u64>, Why>
+        ensures within { IfOk result (λ o. IfSome o (λ q. q ≤ limit)) }
+        ensures counts { Counts self.old self.new result }
+        ensures reads { Gives (λ v. v) (zeros_at limit self.old.cursor) self.old self.new result }
+    {
+        for zeros in 0..limit {
+            if self.bit()? {
+                return Ok(Some(zeros));
+            }
+        }
+        if self.bit()? {
+            return Ok(Some(limit));
+        }
+        Ok(None)
+    }
+
+    /// How many zeros stand before the next one; `None` at a zero past the limit.
+    #[inline(always)]
+    pub fn unary(&mut self, limit: u64) -> Result<Option<u64>, Why>
+        ensures within { IfOk result (λ o. IfSome o (λ q. q ≤ limit)) }
+        ensures counts { Counts self.old self.new result }
+        ensures reads { Gives (λ v. v) (zeros_at limit self.old.cursor) self.old self.new result }
+    {
+        self.top_up();
+        if let Some(zeros) = self.ready_unary(limit) {
+            return Ok(Some(zeros));
+        }
+        self.unary_slow(limit)
+    }
+
+    /// One value of a Rice code, where the word has it.
+    #[inline(always)]
+    fn ready_rice(&mut self, k: u32, limit: u64) -> Option<u64>
+        requires k { k ≤ 30 }
+        requires limit { limit < 2 ^ 32 }
+        ensures some { IfSome result (λ v. (self.new.known ≡ self.old.known) × (self.new.errors ≡ self.old.errors) × (self.new.raised ≡ self.old.raised) × (self.new.behind ≡ self.old.behind) × (self.new.names ≡ self.old.names)
+            × (run (rice k limit) self.old.cursor ≡ Ok (v, self.new.cursor))) }
+        ensures none { result ≡ None → self.new ≡ self.old }
+    {
+        self.held.rice(k, limit)
+    }
+
+    #[inline(never)]
+    #[tactic(auto, unfolding(crate::specs::Rice::rice), using(crate::proofs::Rices::joined))]
+    fn rice_slow(&mut self, k: u32, limit: u64) -> Result<u64, Why>
+        requires k { k ≤ 30 }
+        requires limit { limit < 2 ^ 32 }
+        ensures counts { Counts self.old self.new result }
+        ensures reads { Reads (λ v. v) (rice k limit) self.old self.new result }
+    {
+        let Some(zeros) = self.unary(limit)? else {
+            return Err(Why::ResidualRange);
+        };
+        let low = self.take(k)?;
+        Ok((zeros << k) + low)
+    }
+
+    /// One value of a Rice code: zeros and a one, and the lowest k bits.
+    #[inline(always)]
+    pub fn rice_value(&mut self, k: u32, limit: u64) -> Result<u64, Why>
+        requires k { k ≤ 30 }
+        requires limit { limit < 2 ^ 32 }
+        ensures counts { Counts self.old self.new result }
+        ensures reads { Reads (λ v. v) (rice k limit) self.old self.new result }
+    {
+        self.top_up();
+        if let Some(value) = self.ready_rice(k, limit) {
+            return Ok(value);
+        }
+        self.rice_slow(k, limit)
+    }
+
+    /// Whether no bit is left.
+    pub fn at_end(&mut self) -> Result<bool, Why>
+        ensures spends { OnOk result (self.new.most ≤ self.old.most) }
+        ensures counts { Counts self.old self.new result }
+        ensures over { IfOk result (λ over. self.old.known ≡ true → (self.new.cursor ≡ self.old.cursor) × (over ≡ is_nil self.old.cursor.left)) }
+        ensures read { IfErr result (λ e. e ≡ Why.Read) }
+    {
+        match fill(&mut self.held, &mut self.source) {
+            Ok(more) => Ok(!more),
+            Err(why) => Err(why),
+        }
+    }
+
+    /// The source, without the bytes that were pulled and not read.
+    pub fn into_source(self) -> R
+        ensures known { R.known result ≡ true → self.known ≡ true }
+        ensures told { self.known ≡ true → R.known result ≡ true }
+        ensures errors { R.errors result ≡ self.errors }
+        ensures raised { R.raised result ≡ self.raised }
+        ensures behind { R.behind result ≡ self.behind }
+        ensures names { R.names result ≡ self.names }
+    {
+        let BitReader { source, held: _ } = self;
+        source
+    }
+
+    /// How many bytes were begun.
+    pub fn bytes_taken(&self) -> u64
+        ensures { result ≡ self.now.cursor.mark.bytes }
+    {
+        self.held.bytes_taken()
+    }
+
+    /// The remainder of the bits since the checks began.
+    pub fn check8(&self) -> u8
+        ensures { result ≡ self.now.cursor.mark.check8 }
+    {
+        self.held.check8()
+    }
+
+    pub fn check16(&self) -> u16
+        ensures { result ≡ self.now.cursor.mark.check16 }
+    {
+        self.held.check16()
+    }
+
+    /// Begins the checks anew where the reader stands at a whole byte; elsewhere nothing changes.
+    pub fn start_checks(&mut self)
+        ensures { self.new ≡ started self.old }
+    {
+        if self.held.unread() == 0 {
+            self.held.start_checks();
+        }
+    }
+
+    /// The bits up to the next whole byte, and whether they are zeros.
+    pub fn align(&mut self) -> Result<bool, Why>
+        ensures counts { Counts self.old self.new result }
+        ensures reads { Reads (λ b. b) to_byte self.old self.new result }
+    {
+        let unread = self.held.unread();
+        let bits = self.take(unread)?;
+        Ok(bits == 0)
+    }
+}

@@ -1,0 +1,102 @@
+//! Where bytes come from.
+
+ghost use Rattle.std.specs.Prelude.{◌≡◌, ◌<◌, ◌≤◌, ◌+◌, ℕ, Bool, true, List, [], ◌∷◌, ◌++◌, length, take, IsTrue, IfOk, OnOk, OnErr, is_some, None};
+ghost use Rattle.flac_bits.specs.State.{Behind, the_end};
+ghost use Rattle.std.specs.Io.{ReadsAtMost};
+ghost use Rattle.std.specs.Borrow.{GName};
+
+use std::io;
+use std::io::Read;
+
+/// Bytes that come in pieces.
+pub trait Source {
+    /// Whether the bytes still to come are known, and which they are.
+    ghost known: { Self → Bool };
+
+    ghost coming: { Self → List ℕ };
+
+    /// What stands behind the bytes to come: the end, or an error in its place, and further parts.
+    ghost behind: { Self → Behind };
+
+    /// How many errors were answered that nothing foretold. Where the count can rise no more, the bytes count as unknown.
+    ghost errors: { Self → ℕ };
+
+    /// How many errors were answered, foretold or not.
+    ghost raised: { Self → ℕ };
+
+    /// How many bytes can come at most.
+    ghost most: { Self → ℕ };
+
+    /// The references that it goes through.
+    ghost names: { Self → List GName };
+
+    /// Gives some of the bytes to come. Where there is room, none are given at the end alone.
+    fn pull(&mut self, buf: &mut [u8]) -> io::Result<usize>
+        ensures names { names self.new ≡ names self.old }
+        ensures bound { ReadsAtMost result buf.new }
+        ensures known { OnOk result (known self.old ≡ true → known self.new ≡ true) }
+        ensures bytes { IfOk result (λ n. known self.old ≡ true → coming self.old ≡ take n buf.new ++ coming self.new) }
+        ensures end { IfOk result (λ n. n ≡ 0 → 0 < length buf.new → known self.old ≡ true → (coming self.old ≡ []) × ((behind self.old).fails ≡ None)) }
+        ensures most { IfOk result (λ n. most self.new + n ≤ most self.old) }
+        ensures counted { OnOk result ((errors self.new ≡ errors self.old) × (raised self.new ≡ raised self.old)) }
+        ensures kept { errors self.old ≤ errors self.new }
+        ensures failed { OnErr result (known self.old ≡ true → errors self.new ≡ errors self.old → (coming self.old ≡ []) × (is_some ((behind self.old).fails) ≡ true)) }
+        ensures foretold { known self.old ≡ true → errors self.new ≡ errors self.old → behind self.new ≡ behind self.old }
+        ensures rises { OnErr result (known self.old ≡ true → raised self.old < raised self.new) };
+}
+
+impl<S: Source> Source for &mut S {
+    ghost known = { λ s. S.known s.now };
+
+    ghost coming = { λ s. S.coming s.now };
+
+    ghost behind = { λ s. S.behind s.now };
+
+    ghost errors = { λ s. S.errors s.now };
+
+    ghost raised = { λ s. S.raised s.now };
+
+    ghost most = { λ s. S.most s.now };
+
+    ghost names = { λ s. s.ghost_name ∷ S.names s.now };
+
+    fn pull(&mut self, buf: &mut [u8]) -> io::Result<usize> {
+        (**self).pull(buf)
+    }
+}
+
+/// Bytes in memory.
+#[derive(Drop)]
+pub struct Memory<'a> {
+    bytes: &'a [u8],
+}
+
+impl<'a> Memory<'a> {
+    pub fn new(bytes: &'a [u8]) -> Memory<'a> {
+        Memory { bytes }
+    }
+}
+
+impl Source for Memory<'_> {
+    ghost known = { λ s. true };
+
+    ghost coming = { λ s. s.bytes.now };
+
+    ghost behind = { λ _. the_end };
+
+    ghost errors = { λ _. 0 };
+
+    ghost raised = { λ _. 0 };
+
+    ghost most = { λ s. length s.bytes.now };
+
+    ghost names = { λ _. [] };
+
+    fn pull(&mut self, buf: &mut [u8]) -> io::Result<usize> {
+        let bytes = self.bytes;
+        let n = bytes.len().min(buf.len());
+        buf[..n].copy_from_slice(&bytes[..n]);
+        self.bytes = &bytes[n..];
+        Ok(n)
+    }
+}

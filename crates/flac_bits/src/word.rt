@@ -1,0 +1,107 @@
+//! Bits held in a word.
+
+ghost use Rattle.std.specs.Prelude.{◌≡◌, ◌<◌, ◌≤◌, ◌+◌, ◌-◌, ◌*◌, ◌/◌, ◌%◌, ◌^◌, ◌++◌, ◌∷◌, [], ℕ, List, Bool, true, false, length, replicate, IfSome, Some, None};
+ghost use Rattle.flac_bits.specs.Bits.{unsigned};
+ghost use Rattle.flac_bits.specs.Meaning.{unary_bits};
+
+use std::marker::Model;
+
+/// At most 63 bits, the first of them highest in the word, and zeros below them.
+#[derive(Drop)]
+pub struct Word {
+    word: u64,
+    count: u32,
+}
+
+impl Model for Word {
+    ghost Value = { List Bool };
+
+    ghost view = { λ w. unsigned w.count (w.word / 2 ^ (64 - w.count)) };
+
+    ghost invariant = { λ w. (w.count ≤ 63) × (w.word % 2 ^ (64 - w.count) ≡ 0) };
+}
+
+impl Word {
+    pub fn empty() -> Word
+        ensures { result ≡ [] }
+    {
+        Word { word: 0, count: 0 }
+    }
+
+    /// How many bits are held.
+    #[inline(always)]
+    pub fn count(&self) -> u32
+        ensures { (result ≡ length self.now) × (result ≤ 63) }
+    {
+        self.count
+    }
+
+    /// The first n bits as a number.
+    #[inline(always)]
+    pub fn take(&mut self, n: u32) -> u64
+        requires { n ≤ length self.old }
+        ensures { (self.old ≡ unsigned n result ++ self.new) × (result < 2 ^ n) }
+    {
+        let value = self.word >> 1 >> (63 - n);
+        self.word <<= n;
+        self.count -= n;
+        value
+    }
+
+    /// Holds one byte.
+    #[inline(always)]
+    pub fn of_byte(byte: u8) -> Word
+        ensures { result ≡ unsigned 8 byte }
+    {
+        Word {
+            word: u64::from(byte) << 56,
+            count: 8,
+        }
+    }
+
+    /// Puts 32 bits behind those held.
+    #[inline(always)]
+    pub fn put(&mut self, value: u32)
+        requires { length self.old < 32 }
+        ensures { self.new ≡ self.old ++ unsigned 32 value }
+    {
+        self.word += u64::from(value) << (32 - self.count);
+        self.count += 32;
+    }
+
+    /// Takes zeros and a one, where they are held and the zeros are within the limit.
+    #[inline(always)]
+    pub fn unary(&mut self, limit: u64) -> Option<u64>
+        ensures some { IfSome result (λ q. (q ≤ limit) × (self.old ≡ unary_bits q ++ self.new)) }
+        ensures none { result ≡ None → self.new ≡ self.old }
+    {
+        let zeros = (self.word | 1).leading_zeros();
+        if zeros < self.count && u64::from(zeros) <= limit {
+            self.word <<= zeros + 1;
+            self.count -= zeros + 1;
+            Some(u64::from(zeros))
+        } else {
+            None
+        }
+    }
+
+    /// Zeros, a one and k bits, where all are held and the zeros are within the limit.
+    #[inline(always)]
+    pub fn rice(&mut self, k: u32, limit: u64) -> Option<u64>
+        requires k { k ≤ 30 }
+        requires limit { limit < 2 ^ 32 }
+        ensures some { IfSome result (λ v. (q : ℕ) × (low : ℕ) × (q ≤ limit) × (low < 2 ^ k) × (v ≡ q * 2 ^ k + low) × (self.old ≡ (unary_bits q ++ unsigned k low) ++ self.new)) }
+        ensures none { result ≡ None → self.new ≡ self.old }
+    {
+        let zeros = (self.word | 1).leading_zeros();
+        let used = zeros + 1 + k;
+        if used <= self.count && u64::from(zeros) <= limit {
+            let low = (self.word << (zeros + 1)) >> 1 >> (63 - k);
+            self.word <<= used;
+            self.count -= used;
+            Some((u64::from(zeros) << k) + low)
+        } else {
+            None
+        }
+    }
+}
