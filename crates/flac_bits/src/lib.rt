@@ -8,6 +8,7 @@ mod held;
 mod number;
 mod promises;
 mod reader;
+mod signed;
 mod source;
 mod sums;
 mod why;
