@@ -15,4 +15,5 @@ pub mod Partly
 pub mod Tables
 pub mod Ties
 pub mod CodedTie
+pub mod Fences
 pub mod Items

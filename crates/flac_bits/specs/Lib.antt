@@ -11,5 +11,6 @@ pub mod Store
 pub mod Rice
 pub mod Forms
 pub mod Coded
+pub mod Fence
 pub mod Items
 pub mod Signed
