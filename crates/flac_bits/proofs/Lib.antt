@@ -17,3 +17,4 @@ pub mod Ties
 pub mod CodedTie
 pub mod Fences
 pub mod Items
+pub mod Handing

@@ -13,4 +13,5 @@ pub mod Forms
 pub mod Coded
 pub mod Fence
 pub mod Items
+pub mod Handing
 pub mod Signed
