@@ -1,13 +1,13 @@
 -- One item after another is read and handed to a receiver.
-use Rattle.std.proofs.Common.{◌≡◌, ◌≢◌, ◌<◌, ℕ, Bool, true, List, [], ◌∷◌, ◌++◌, Option, Some, None, refl, sym, ap, subst, ◌∙◌, append_assoc, arith}
+use Rattle.std.proofs.Common.{◌≡◌, ◌≢◌, ◌<◌, ◌≤◌, ℕ, Bool, true, List, [], ◌∷◌, ◌++◌, Option, Some, None, refl, sym, ap, subst, ◌∙◌, append_assoc, arith}
 use Rattle.std.proofs.lemmas.List.{append-nil}
 use Rattle.flac_bits.specs.State.{Mark, Cursor, State, past, fresh}
 use Rattle.flac_bits.specs.Meaning.{Spells}
 use Rattle.flac_bits.specs.Fence.{InRoom}
 use Rattle.flac_bits.specs.Items.{Grammar, after, Joined, mark_behind, Stream, StopsAt, Refused, item, over, refused, step_at, NeedsBits}
-use Rattle.flac_bits.specs.Handing.{TakesAll, Hands, Decides, OneReading}
+use Rattle.flac_bits.specs.Handing.{IsCalm, TakesAll, Hands, Decides, OneReading}
 use Rattle.flac_bits.specs.declared.why.Why.{Why}
-use Rattle.flac_bits.specs.declared.why.Why.TheVariants.{Memory, Sink}
+use Rattle.flac_bits.specs.declared.why.Why.TheVariants.{Memory, Read, Sink}
 use Rattle.flac_bits.proofs.Laws.{at_}
 use Rattle.flac_bits.proofs.Items.{step_spelled, step_over, step_stops, one_way, stream_steps, refused_steps}
 
@@ -45,6 +45,9 @@ pub record Far {S I P K : Type 0} (g : Grammar S I P) (takes : K → I → K →
 pub record SoFar {S I P K : Type 0} (g : Grammar S I P) (takes : K → I → K → Type 0) (errors : K → ℕ) (first state : S) (old now : State) (sink taken : K) : Type 0 where
   pub known : old.known ≡ true → now.known ≡ true
   pub errors_are : now.errors ≡ old.errors
+  pub raised : now.raised ≡ old.raised
+  pub behind : old.known ≡ true → now.behind ≡ old.behind
+  pub names : now.names ≡ old.names
   pub received : errors taken ≡ errors sink
   pub far : old.known ≡ true → Far g takes first state old.cursor now.cursor sink taken
 
@@ -52,6 +55,9 @@ pub starts : {S I P K : Type 0} (g : Grammar S I P) (takes : K → I → K → T
 starts g takes errors first old sink = record {
   known = λ known. known;
   errors_are = refl;
+  raised = refl;
+  behind = λ known. refl;
+  names = refl;
   received = refl;
   far = λ known. record { items = []; text = []; stands = refl; spelled = refl; state_is = refl; mark_is = refl; took = refl };
 }
@@ -73,13 +79,24 @@ far_more g takes first state old now d sink mid new x far step took =
       took = TakesAll-append takes sink far.items mid x new far.took took;
     }
 
+-- what a call that answered a value left of the source: the clause Counts at Ok
+abbrev pub Went : State → State → Type 0
+Went old new = (old.known ≡ true → new.known ≡ true) × (new.errors ≡ old.errors) × (new.raised ≡ old.raised) × (old.known ≡ true → new.behind ≡ old.behind) × (new.names ≡ old.names)
+
+-- and one that answered a reason: the clause Counts at Err
+abbrev pub Broke : State → State → Why → Type 0
+Broke old new why = (old.errors ≤ new.errors) × (old.known ≡ true → new.errors ≡ old.errors → new.behind ≡ old.behind) × (old.known ≡ true → why ≡ Read → old.raised < new.raised) × (new.names ≡ old.names)
+
 -- an item was read and taken
 pub one_more : {S I P K : Type 0} (g : Grammar S I P) (takes : K → I → K → Type 0) (errors : K → ℕ) (first state next : S) (old now d : State) (sink mid new : K) (x : I)
-    → SoFar g takes errors first state old now sink mid → (now.known ≡ true → d.known ≡ true) → d.errors ≡ now.errors → (now.known ≡ true → step_at g state now.cursor ≡ item x d.cursor)
-    → errors new ≡ errors mid → takes mid x new → next ≡ g.next state x → SoFar g takes errors first next old d sink new
-one_more g takes errors first state next old now d sink mid new x so_far known counted step received took noted = record {
-  known = λ k. known (so_far.known k);
-  errors_are = counted ∙ so_far.errors_are;
+    → SoFar g takes errors first state old now sink mid → Went now d → (now.known ≡ true → step_at g state now.cursor ≡ item x d.cursor) → errors new ≡ errors mid → takes mid x new → next ≡ g.next state x
+    → SoFar g takes errors first next old d sink new
+one_more g takes errors first state next old now d sink mid new x so_far went step received took noted = record {
+  known = λ k. went.0 (so_far.known k);
+  errors_are = went.1 ∙ so_far.errors_are;
+  raised = went.2 ∙ so_far.raised;
+  behind = λ k. went.3 (so_far.known k) ∙ so_far.behind k;
+  names = went.4 ∙ so_far.names;
   received = received ∙ so_far.received;
   far = λ k. subst (λ s. Far g takes first s old.cursor d.cursor sink new) (sym noted) (far_more g takes first state old.cursor now.cursor d.cursor sink mid new x (so_far.far k) (step (so_far.known k)) took);
 }
@@ -149,6 +166,13 @@ all_refused g takes errors first state old now calm sink taken at why so_far ste
       failed = λ rose. absurd (omega (arith, rose, so_far.received));
     }
 
+-- the same from the clause of the call that read
+pub step_refused : {S I P K : Type 0} (g : Grammar S I P) (takes : K → I → K → Type 0) (errors : K → ℕ) (first state : S) (old now end : State) (sink taken : K) (at : P) (why : Why)
+    → SoFar g takes errors first state old now sink taken → (now.known ≡ true → end.errors ≡ now.errors → end.raised ≡ now.raised → why ≢ Memory → step_at g state now.cursor ≡ refused at why) → old.known ≡ true
+    → Hands g takes errors first old.cursor.mark old.cursor.left (IsCalm old end) sink taken (Some (at, why))
+step_refused g takes errors first state old now end sink taken at why so_far step known =
+    all_refused g takes errors first state old now (IsCalm old end) sink taken at why so_far (λ k calm. step k (calm.0 ∙ sym so_far.errors_are) (calm.1 ∙ sym so_far.raised)) known
+
 -- it was stopped by want of memory, or by an error of the source
 pub stopped : {S I P K : Type 0} (g : Grammar S I P) (takes : K → I → K → Type 0) (errors : K → ℕ) (first state : S) (old now : State) (calm : Type 0) (sink taken : K) (at : P) (why : Why)
     → SoFar g takes errors first state old now sink taken → (calm → why ≢ Memory → ⊥) → old.known ≡ true → Hands g takes errors first old.cursor.mark old.cursor.left calm sink taken (Some (at, why))
@@ -170,6 +194,31 @@ sink_failed g takes errors first state old now calm sink mid new at why so_far r
         (far.items, far.text, now.cursor.left, mid, far.stands, far.spelled, place ∙ ap (λ s. g.place s) far.state_is, far.took),
       );
     }
+
+-- ---- what the whole did to the source
+
+pub went : {S I P K : Type 0} (g : Grammar S I P) (takes : K → I → K → Type 0) (errors : K → ℕ) (first state : S) (old now d : State) (sink taken : K) → SoFar g takes errors first state old now sink taken → Went now d → Went old d
+went g takes errors first state old now d sink taken so_far more =
+    (λ k. more.0 (so_far.known k), more.1 ∙ so_far.errors_are, more.2 ∙ so_far.raised, λ k. more.3 (so_far.known k) ∙ so_far.behind k, more.4 ∙ so_far.names)
+
+pub broke : {S I P K : Type 0} (g : Grammar S I P) (takes : K → I → K → Type 0) (errors : K → ℕ) (first state : S) (old now d : State) (sink taken : K) (why : Why)
+    → SoFar g takes errors first state old now sink taken → Broke now d why → Broke old d why
+broke g takes errors first state old now d sink taken why so_far more = (
+  omega (arith, more.0, so_far.errors_are),
+  λ k same. more.1 (so_far.known k) (same ∙ sym so_far.errors_are) ∙ so_far.behind k,
+  λ k is. omega (arith, more.2 (so_far.known k) is, so_far.raised),
+  more.3 ∙ so_far.names,
+)
+
+-- the receiver failed behind a call that answered a value
+pub broke_at_sink : {S I P K : Type 0} (g : Grammar S I P) (takes : K → I → K → Type 0) (errors : K → ℕ) (first state : S) (old now d : State) (sink taken : K) (why : Why)
+    → SoFar g takes errors first state old now sink taken → Went now d → why ≡ Sink → Broke old d why
+broke_at_sink g takes errors first state old now d sink taken why so_far more is =
+    let all = went g takes errors first state old now d sink taken so_far more in
+    (omega (arith, all.1), λ k same. all.3 k, λ k e. absurd (no_sink (sym is ∙ e)), all.4)
+  where
+    no_sink : Sink ≡ Read → ⊥
+    no_sink e = absurd cc
 
 -- ---- an input has one answer
 

@@ -12,15 +12,24 @@ abbrev pub outcome_of : {X E P : Type 0} → (E → P × Why) → Result X E →
 outcome_of told (Ok x) = None
 outcome_of told (Err e) = Some (told e)
 
+-- the same without the place
+abbrev pub reason_of : {X E P : Type 0} → (E → P × Why) → Result X E → Result X Why
+reason_of told (Ok x) = Ok x
+reason_of told (Err e) = Err (told e).1
+
 -- the answer, seen by view, is what the step gives, but where memory is wanting
 abbrev pub StepIs : {X E I P : Type 0} → (X → I) → (E → P × Why) → Step I P → Cursor → Result (Option X) E → Type 0
 StepIs view told step at (Ok None) = step ≡ over
 StepIs view told step at (Ok (Some x)) = step ≡ item (view x) at
 StepIs view told step at (Err e) = (told e).1 ≢ Memory → step ≡ refused (told e).0 (told e).1
 
--- so it is where the source tells its bytes and did not fail in the call
+-- so it is where the source tells its bytes and answered no error in the call, foretold or not
 abbrev pub StepsTo : {X E I P : Type 0} → (X → I) → (E → P × Why) → Step I P → State → State → Result (Option X) E → Type 0
-StepsTo view told step old new result = old.known ≡ true → new.errors ≡ old.errors → StepIs view told step new.cursor result
+StepsTo view told step old new result = old.known ≡ true → new.errors ≡ old.errors → new.raised ≡ old.raised → StepIs view told step new.cursor result
+
+-- the source answered no error
+abbrev pub IsCalm : State → State → Type 0
+IsCalm old new = (new.errors ≡ old.errors) × (new.raised ≡ old.raised)
 
 -- ---- a whole reading
 
