@@ -19,3 +19,4 @@ pub mod Fences
 pub mod Items
 pub mod Signs
 pub mod Handing
+pub mod ItemSpellings
