@@ -17,3 +17,5 @@ pub mod Ties
 pub mod CodedTie
 pub mod Items
 pub mod Signs
+pub mod Back
+pub mod Copied
