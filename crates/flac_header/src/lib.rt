@@ -1,0 +1,10 @@
+//! The header of a FLAC frame (RFC 9639, section 9.1): its value, reading and writing it, and the rules of the streamable subset.
+#![tactic(auto)]
+
+mod frame_header;
+mod read;
+mod subset;
+
+pub use frame_header::FrameHeader;
+pub use read::read_header;
+pub use subset::{Profile, subset_allows};
