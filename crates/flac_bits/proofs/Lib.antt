@@ -18,5 +18,7 @@ pub mod CodedTie
 pub mod Fences
 pub mod Items
 pub mod Signs
+pub mod Back
+pub mod Copied
 pub mod Handing
 pub mod ItemSpellings
