@@ -15,4 +15,7 @@ pub mod Partly
 pub mod Tables
 pub mod Ties
 pub mod CodedTie
+pub mod Fences
 pub mod Items
+pub mod Signs
+pub mod Handing
