@@ -8,9 +8,11 @@ use Rattle.flac_bits.specs.Number.{number}
 use Rattle.flac_bits.specs.Coded.{number_spelling, IsNumber}
 use Rattle.flac_bits.specs.Forms.{Ties, joined}
 use Rattle.flac_bits.proofs.CodedTie.{number_tie}
+use Rattle.flac_bits.specs.Meaning.{Spells}
+use Rattle.flac_bits.proofs.Meaning.{again}
 use Rattle.flac_bits.proofs.Ties.{tie, each_tied, some_tied}
 use Rattle.flac_header.specs.Header.{Header, header, IsHeader, IsSize, IsRate, size_field, rate_field, number_bits}
-use Rattle.flac_header.specs.Spelling.{header_parts, header_front, header_spelling, size_spelling, rate_spelling}
+use Rattle.flac_header.specs.Spelling.{header_parts, header_front, header_spelling, HeadersAreSpelled, HeadersAreReadAgain, size_spelling, rate_spelling}
 use Rattle.flac_header.proofs.Checked.{before, pasts, parts_check, with_check, check_small}
 use Rattle.flac_header.proofs.Fields.{size_tie, rate_tie}
 
@@ -83,3 +85,9 @@ header_tie m z = tie header m IsHeader header_spelling
       (some_tied (rate_field x.rate_code) _ (IsRate x.rate_code) (rate_spelling x.rate_code) _ x.rate (rate_tie x.rate_code _ v.rate_code) v.rate
       (check, check_small (header_front x), ((no_other check _ (sym (parts_check (header_parts x) m z)), tt),
       (with_check (header_parts x) m check z (sym (parts_check (header_parts x) m z)), rw (bit_one x.variable) refl)))))))))))))))))))
+
+pub headers_spelled : HeadersAreSpelled
+headers_spelled h m text z = (λ s. (header_tie m z).only text h s, λ k. subst (λ (t : List Bool). Spells header m t h) (sym k.1) ((header_tie m z).each h k.0))
+
+pub headers_again : HeadersAreReadAgain
+headers_again h m rest z v = again header m (header_spelling h) rest h ((header_tie m z).each h v)
