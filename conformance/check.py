@@ -17,6 +17,7 @@ import model
 import program
 import reference
 import vectors
+import vectors_ogg
 from program import NotYet, Wrong, expect
 
 FOLDER = os.environ.get("CORPUS", "/tmp/flac-corpus")
@@ -81,6 +82,37 @@ def model_case(data, bench):
     vector_case(data, model.answer(data), bench)
 
 
+def list_before_fault(data, bench):
+    """`list` prints the blocks before a fault, and the fault is that of `test`."""
+    path, reader = bench.put(data), model.reader_of(data)
+    status, out, err = program.ask("list", path)
+    expect(out.decode("ascii").splitlines(), model.listing(reader))
+    expect(program.fault_of(path, status, err) if status or err else reader.result(), reader.result())
+    os.remove(path)
+
+
+def decode_before_fault(data, bench):
+    """`decode` writes no sample of the frame that is refused or of later ones."""
+    path, out, reader = bench.put(data), bench.path(".raw"), model.reader_of(data)
+    status, _, err = program.ask("decode", path, out)
+    expect(program.fault_of(path, status, err) if status or err else reader.result(), reader.result())
+    found, due = read(out), b"".join(reader.raw)
+    if not due.startswith(found) or (status == 0 and found != due):
+        raise Wrong(f"'decode' writes {found[:40].hex()}, the model {due[:40].hex()}")
+    os.remove(path)
+    os.remove(out)
+
+
+def lax_case(entry, bench):
+    """Outside the subset a file is read where that is asked for."""
+    out = bench.path(".raw")
+    expect(program.succeeds("test", "--lax", entry.path).decode(),
+           f"frames {len(reference.frame_places(entry.path))} samples {entry.length}\n")
+    program.succeeds("decode", "--lax", entry.path, out)
+    if read(out) != read(entry.raw):
+        raise Wrong("decoded samples differ from those that were encoded")
+
+
 def difference_case(name, data, due, bench):
     path = bench.put(data)
     if not reference.accepts(path):
@@ -125,6 +157,7 @@ def corpus_cases(made, bench):
         yield f"{entry.group}: list", name, lambda e=entry: list_case(e)
     for entry in made.lax:
         yield "outside the subset", os.path.basename(entry.path), lambda e=entry: outside_case(e)
+        yield "outside the subset, --lax", os.path.basename(entry.path), lambda e=entry: lax_case(e, bench)
     for entry in made.old_variable:
         data = read(entry.path)
         places = [offset for offset, _, _ in reference.frame_places(entry.path)]
@@ -155,11 +188,13 @@ def vector_cases(quick, bench):
     known = {name: (data, due) for name, data, due in vectors.all_vectors()}
     for name, (data, due) in known.items():
         yield "vectors", name, lambda d=data, a=due: vector_case(d, a, bench)
+        yield "vectors, list", name, lambda d=data: list_before_fault(d, bench)
+        yield "vectors, decode", name, lambda d=data: decode_before_fault(d, bench)
     for name in differences.CASES:
         data, due = known[name]
         yield "known differences", name, lambda n=name, d=data, a=due: difference_case(n, d, a, bench)
-    for name, data, due in () if quick else vectors.large_vectors():
-        yield "vectors", name, lambda d=data, a=due: vector_case(d, a, bench)
+    for name, data, due in () if quick else [*vectors.large_vectors(), *vectors_ogg.large_vectors()]:
+        yield "vectors, large", name, lambda d=data, a=due: vector_case(d, a, bench)
 
 
 def damage_cases(made, quick, bench):

@@ -111,7 +111,7 @@ def fault_case(samples, words, due, bench):
 
 def retag_case(entry, bench):
     """New comments stand behind STREAMINFO, the other blocks and every byte of the frames stay."""
-    out, comments = bench.path(), [b"TITLE=x", b"EMPTY=", "NAME=\u00e9".encode()]
+    out, comments = bench.path(), [b"TITLE=x", b"EMPTY=", "NAME=\u00e9".encode(), b"NO_TEXT=\xff\xfe"]
     if program.succeeds("retag", entry.path, out, *[os.fsdecode(comment) for comment in comments]):
         raise Wrong("'retag' prints something")
     before, after = (model.Metadata(read(path)) for path in (entry.path, out))
@@ -162,7 +162,7 @@ def cases(made, quick, bench):
     taken = [sound for sound in made.sounds if has_code(sound.rate)] + made.real
     for index, sound in enumerate(taken):
         raw = made.path(sound.name + ".raw")
-        blocks = [4096] if quick else [4096, (16, 192, 1000, 4608, 256)[index % 5]]
+        blocks = [4096] if quick else [4096, 16384 if sound.rate > 48000 else (16, 192, 1000, 4608, 256)[index % 5]]
         for block in blocks:
             yield "encode", f"{sound.name}, block {block}", lambda s=sound, r=raw, b=block: plain_case(s, r, bench, b)
         if not quick or index % 3 == 0:

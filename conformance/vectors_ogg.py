@@ -139,6 +139,12 @@ def packet_fault_vectors():
     yield "ogg-fault-before-bad-page", start + page(1, bad[:255], ended=False) + page(2, b"\0", flags=5, wrong=1), "block 1: 10 SeekOrder"
 
 
+def large_vectors():
+    pages = [page(0, mapping(INFO), flags=2), page(1, EMPTY_COMMENT)]
+    pages += [page(number) for number in range(2, 100002)]
+    yield "ogg-100000-empty-pages", b"".join(pages + [page(100002, FRAME, flags=4)]), "frames 1 samples 1"
+
+
 def all_vectors():
     for source in (good_vectors, page_fault_vectors, packet_fault_vectors):
         yield from source()
