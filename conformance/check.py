@@ -8,6 +8,7 @@ import tempfile
 import time
 from concurrent.futures import ThreadPoolExecutor
 
+import command_line
 import corpus
 import damage
 import differences
@@ -18,32 +19,10 @@ import program
 import reference
 import vectors
 import vectors_ogg
-from program import NotYet, Wrong, expect
+from program import Bench, NotYet, Wrong, expect, read
 
 FOLDER = os.environ.get("CORPUS", "/tmp/flac-corpus")
 JOBS = int(os.environ.get("JOBS", os.cpu_count() or 1))
-
-
-def read(path):
-    with open(path, "rb") as file:
-        return file.read()
-
-
-class Bench:
-    """A folder for files that one run makes and throws away."""
-
-    def __init__(self, folder):
-        self.folder, self.count = folder, 0
-
-    def path(self, suffix=".flac"):
-        self.count += 1
-        return os.path.join(self.folder, f"{self.count}{suffix}")
-
-    def put(self, data, suffix=None):
-        path = self.path(suffix or (".oga" if data[:1] == b"O" else ".flac"))
-        with open(path, "wb") as file:
-            file.write(data)
-        return path
 
 
 def test_case(entry):
@@ -254,42 +233,10 @@ def spliced_case(first, other, bench):
     vector_case(first[:heads[0]] + other[heads[1]:], "end: 29 Md5Mismatch", bench)
 
 
-def line_cases(bench):
-    """The command line: files that are not there, refused words."""
-    def line(words, status, due):
-        found, _, err = program.call(*words)
-        if found != status or (due is not None and err != due.encode()):
-            raise Wrong(f"status {found}, {err[:200]!r}; due is status {status}, {due!r}")
-
-    def later(words, status, due):
-        """As `line`, for a command that may not be there yet: its whole line is then refused with another text."""
-        found, _, err = program.call(*words)
-        if found == 2 and err != due.encode():
-            raise NotYet(words[0])
-        line(words, status, due)
-
-    good, absent = bench.put(vectors.ROW_1), "/nonexistent/a.flac"
-    encode = ["--rate", "44100", "--channels", "2", "--bits", "16"]
-    yield "no words", lambda: line([], 2, None)
-    yield "no such command", lambda: line(["listen"], 2, None)
-    yield "no file given", lambda: line(["test"], 2, None)
-    yield "a word too many", lambda: line(["test", good, good], 2, None)
-    yield "help", lambda: line(["--help"], 0, "")
-    yield "no such file", lambda: line(["test", absent], 1, f"flac: {absent}: cannot be opened\n")
-    yield "no such folder for OUT", lambda: line(["decode", good, absent], 1, f"flac: {absent}: cannot be created\n")
-    yield "encode without rate", lambda: line(["encode", good, bench.path(), *encode[2:]], 2, None)
-    yield "encode with a word for a rate", lambda: line(["encode", good, bench.path(), "--rate", "x", *encode[2:]], 2, None)
-    yield "comment without =", lambda: later(["encode", good, bench.path(), *encode, "TITLE"], 2, "flac: command: comment without =\n")
-    yield "retag without =", lambda: later(["retag", good, bench.path(), "TITLE"], 2, "flac: command: comment without =\n")
-    yield "Ogg and seek table", lambda: later(["encode", good, bench.path(), *encode, "--ogg", "--seek-every", "5"], 2,
-                                              "flac: command: --ogg with --seek-every\n")
-    yield "list, no such file", lambda: later(["list", absent], 1, f"flac: {absent}: cannot be opened\n")
-
-
 def all_cases(made, quick, bench):
     yield from vector_cases(quick, bench)
     yield from corpus_cases(made, bench)
-    for name, call in line_cases(bench):
+    for name, call in command_line.cases(bench):
         yield "command line", name, call
     yield from encoding.cases(made, quick, bench)
     yield from damage_cases(made, quick, bench)

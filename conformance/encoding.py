@@ -5,18 +5,12 @@ import corpus
 import model
 import program
 import reference
-import sounds
 import vectors
-from program import NotYet, Wrong, expect
+from program import NotYet, Wrong, expect, read
 
 LEAST = ["-l", "0", "-b", "4096", "-m", "-r", "8", "-e"]
 """The reference's settings for fixed predictors: its frames are in the family of which the program writes the least."""
 RATE_CODES = {88200, 176400, 192000, 8000, 16000, 22050, 24000, 32000, 44100, 48000, 96000}
-
-
-def read(path):
-    with open(path, "rb") as file:
-        return file.read()
 
 
 def has_code(rate):

@@ -1,4 +1,5 @@
 """Calls of the program under test, and the lines in which it tells faults."""
+import itertools
 import os
 import re
 import subprocess
@@ -80,3 +81,24 @@ def expect(found, due):
 def short(value):
     text = str(value)
     return text if len(text) <= 300 else text[:300] + " .."
+
+
+def read(path):
+    with open(path, "rb") as file:
+        return file.read()
+
+
+class Bench:
+    """A folder for files that one run makes and throws away."""
+
+    def __init__(self, folder):
+        self.folder, self.numbers = folder, itertools.count()
+
+    def path(self, suffix=".flac"):
+        return os.path.join(self.folder, f"{next(self.numbers)}{suffix}")
+
+    def put(self, data, suffix=None):
+        path = self.path(suffix or (".oga" if data[:1] == b"O" else ".flac"))
+        with open(path, "wb") as file:
+            file.write(data)
+        return path
