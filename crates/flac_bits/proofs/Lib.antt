@@ -16,3 +16,4 @@ pub mod Tables
 pub mod Ties
 pub mod CodedTie
 pub mod Items
+pub mod Signs

@@ -13,3 +13,4 @@ pub mod Forms
 pub mod Coded
 pub mod Items
 pub mod Signed
+pub mod Sending

@@ -6,10 +6,14 @@ ghost use Rattle.flac_bits.specs.Bits.{is_nil};
 ghost use Rattle.flac_bits.specs.Bits.{unsigned, bits_of, bit_value};
 ghost use Rattle.flac_bits.specs.State.{State, Cursor, short_of, with_short, started};
 ghost use Rattle.flac_bits.specs.Layout.{next_bit, number_at, zeros_at, align as to_byte, run};
-ghost use Rattle.flac_bits.specs.Rice.{rice};
+ghost use Rattle.std.specs.Prelude.{All};
+ghost use Rattle.flac_bits.specs.Lists.{list_of};
+ghost use Rattle.flac_bits.specs.Rice.{rice, rice_value, IsResidual};
+ghost use Rattle.flac_bits.specs.Signed.{signed_field, FitsBits};
 ghost use Rattle.flac_bits.specs.Reading.{Counts, Gives, Reads};
 
 use crate::held::Held;
+use crate::signed::{MOST_FOLDED, to_signed, unfolded};
 use crate::source::Source;
 use crate::why::Why;
 use std::marker::Model;
@@ -172,7 +176,7 @@ impl<R: Source> BitReader<R> {
     /// Zeros and a one, where the word has them.
     #[inline(always)]
     fn ready_unary(&mut self, limit: u64) -> Option<u64>
-        ensures some { IfSome result (λ q. (q ≤ limit) × (self.new.known ≡ self.old.known) × (self.new.errors ≡ self.old.errors) × (self.new.raised ≡ self.old.raised) × (self.new.behind ≡ self.old.behind) × (self.new.names ≡ self.old.names)
+        ensures some { IfSome result (λ q. (q ≤ limit) × (self.new.most ≤ self.old.most) × (self.new.known ≡ self.old.known) × (self.new.errors ≡ self.old.errors) × (self.new.raised ≡ self.old.raised) × (self.new.behind ≡ self.old.behind) × (self.new.names ≡ self.old.names)
             × (zeros_at limit self.old.cursor ≡ Ok (Some q, self.new.cursor))) }
         ensures none { result ≡ None → self.new ≡ self.old }
     {
@@ -183,6 +187,7 @@ impl<R: Source> BitReader<R> {
     #[tactic(auto, unfolding(crate::specs::Layout::zeros_at, crate::specs::Layout::zeros_from), using(crate::proofs::Loops::zeros_more, crate::proofs::Loops::zeros_last))]
     fn unary_slow(&mut self, limit: u64) -> Result<Option<u64>, Why>
         ensures within { IfOk result (λ o. IfSome o (λ q. q ≤ limit)) }
+        ensures spends { OnOk result (self.new.most ≤ self.old.most) }
         ensures counts { Counts self.old self.new result }
         ensures reads { Gives (λ v. v) (zeros_at limit self.old.cursor) self.old self.new result }
     {
@@ -201,6 +206,7 @@ impl<R: Source> BitReader<R> {
     #[inline(always)]
     pub fn unary(&mut self, limit: u64) -> Result<Option<u64>, Why>
         ensures within { IfOk result (λ o. IfSome o (λ q. q ≤ limit)) }
+        ensures spends { OnOk result (self.new.most ≤ self.old.most) }
         ensures counts { Counts self.old self.new result }
         ensures reads { Gives (λ v. v) (zeros_at limit self.old.cursor) self.old self.new result }
     {
@@ -216,7 +222,7 @@ impl<R: Source> BitReader<R> {
     fn ready_rice(&mut self, k: u32, limit: u64) -> Option<u64>
         requires k { k ≤ 30 }
         requires limit { limit < 2 ^ 32 }
-        ensures some { IfSome result (λ v. (self.new.known ≡ self.old.known) × (self.new.errors ≡ self.old.errors) × (self.new.raised ≡ self.old.raised) × (self.new.behind ≡ self.old.behind) × (self.new.names ≡ self.old.names)
+        ensures some { IfSome result (λ v. (self.new.most ≤ self.old.most) × (self.new.known ≡ self.old.known) × (self.new.errors ≡ self.old.errors) × (self.new.raised ≡ self.old.raised) × (self.new.behind ≡ self.old.behind) × (self.new.names ≡ self.old.names)
             × (run (rice k limit) self.old.cursor ≡ Ok (v, self.new.cursor))) }
         ensures none { result ≡ None → self.new ≡ self.old }
     {
@@ -224,10 +230,12 @@ impl<R: Source> BitReader<R> {
     }
 
     #[inline(never)]
+    #[cold]
     #[tactic(auto, unfolding(crate::specs::Rice::rice), using(crate::proofs::Rices::joined))]
     fn rice_slow(&mut self, k: u32, limit: u64) -> Result<u64, Why>
         requires k { k ≤ 30 }
         requires limit { limit < 2 ^ 32 }
+        ensures spends { OnOk result (self.new.most ≤ self.old.most) }
         ensures counts { Counts self.old self.new result }
         ensures reads { Reads (λ v. v) (rice k limit) self.old self.new result }
     {
@@ -238,11 +246,12 @@ impl<R: Source> BitReader<R> {
         Ok((zeros << k) + low)
     }
 
-    /// One value of a Rice code: zeros and a one, and the lowest k bits.
+    /// A folded value of a Rice code: zeros and a one, and the lowest k bits.
     #[inline(always)]
-    pub fn rice_value(&mut self, k: u32, limit: u64) -> Result<u64, Why>
+    fn folded_value(&mut self, k: u32, limit: u64) -> Result<u64, Why>
         requires k { k ≤ 30 }
         requires limit { limit < 2 ^ 32 }
+        ensures spends { OnOk result (self.new.most ≤ self.old.most) }
         ensures counts { Counts self.old self.new result }
         ensures reads { Reads (λ v. v) (rice k limit) self.old self.new result }
     {
@@ -251,6 +260,73 @@ impl<R: Source> BitReader<R> {
             return Ok(value);
         }
         self.rice_slow(k, limit)
+    }
+
+    /// A residual value under the Rice parameter k (RFC 9639, section 9.2.7.3).
+    #[inline(always)]
+    #[tactic(auto, unfolding(crate::specs::Rice::rice_value))]
+    fn rice_value(&mut self, k: u32) -> Result<i64, Why>
+        requires { k ≤ 30 }
+        ensures fits { IfOk result IsResidual }
+        ensures spends { OnOk result (self.new.most ≤ self.old.most) }
+        ensures counts { Counts self.old self.new result }
+        ensures reads { Reads (λ v. v) (rice_value k) self.old self.new result }
+    {
+        let folded = self.folded_value(k, MOST_FOLDED >> k)?;
+        if folded > MOST_FOLDED {
+            return Err(Why::ResidualRange);
+        }
+        Ok(unfolded(folded))
+    }
+
+    /// Fills the places with the residual values that come next under the Rice parameter k (RFC 9639, section 9.2.7.3).
+    ///
+    /// # Errors
+    ///
+    /// `ResidualRange` where a value does not lie strictly between -2^31 and 2^31.
+    #[tactic(auto, using(crate::proofs::Lists::list_more, crate::proofs::Lists::list_end, crate::proofs::Lists::list_start))]
+    pub fn rice_partition(&mut self, k: u32, values: &mut [i64]) -> Result<(), Why>
+        requires { k ≤ 30 }
+        ensures fits { OnOk result (All IsResidual values.new) }
+        ensures spends { OnOk result (self.new.most ≤ self.old.most) }
+        ensures counts { Counts self.old self.new result }
+        ensures reads { Reads (λ _. values.new) (list_of (length values.old) (rice_value k)) self.old self.new result }
+    {
+        for i in 0..values.len() {
+            values[i] = self.rice_value(k)?;
+        }
+        Ok(())
+    }
+
+    /// The next n bits as a signed number in two's complement, 1 to 64 of them.
+    #[inline(always)]
+    #[tactic(auto, unfolding(crate::specs::Signed::signed_field))]
+    pub fn take_signed(&mut self, n: u32) -> Result<i64, Why>
+        requires some { 1 ≤ n }
+        requires few { n ≤ 64 }
+        ensures fits { IfOk result (FitsBits n) }
+        ensures spends { OnOk result (self.new.most + n ≤ self.old.most) }
+        ensures counts { Counts self.old self.new result }
+        ensures reads { Reads (λ v. v) (signed_field n) self.old self.new result }
+    {
+        let value = self.take(n)?;
+        Ok(to_signed(value, n))
+    }
+
+    /// Fills the places with the signed numbers of n bits that come next, 1 to 64 bits each.
+    #[tactic(auto, using(crate::proofs::Lists::list_more, crate::proofs::Lists::list_end, crate::proofs::Lists::list_start))]
+    pub fn signed_partition(&mut self, n: u32, values: &mut [i64]) -> Result<(), Why>
+        requires some { 1 ≤ n }
+        requires few { n ≤ 64 }
+        ensures fits { OnOk result (All (FitsBits n) values.new) }
+        ensures spends { OnOk result (self.new.most ≤ self.old.most) }
+        ensures counts { Counts self.old self.new result }
+        ensures reads { Reads (λ _. values.new) (list_of (length values.old) (signed_field n)) self.old self.new result }
+    {
+        for i in 0..values.len() {
+            values[i] = self.take_signed(n)?;
+        }
+        Ok(())
     }
 
     /// Whether no bit is left.

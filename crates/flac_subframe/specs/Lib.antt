@@ -1,0 +1,4 @@
+pub mod Numbers
+pub mod Prediction
+pub mod Fields
+pub mod Subframe
