@@ -4,8 +4,9 @@ ghost use Rattle.std.specs.Prelude.{◌≡◌, ◌≤◌, ◌<◌, ◌+◌, ◌/
 ghost use Rattle.flac_bits.specs.Coded.{number_spelling, in_bytes, six_bits};
 ghost use Rattle.flac_bits.specs.Written.{Writes};
 
+use crate::target::Target;
 use crate::why::Why;
-use crate::writer::{BitWriter, Target};
+use crate::writer::BitWriter;
 
 /// The lead byte without the number's own bits, and how many bytes follow it.
 fn form_of(value: u64) -> (u64, u32)

@@ -4,26 +4,9 @@ ghost use Rattle.std.specs.Prelude.{◌≡◌, ◌<◌, ◌≤◌, ◌+◌, ◌*
 ghost use Rattle.flac_bits.specs.Bits.{unsigned, bits_of, bit_value};
 ghost use Rattle.flac_bits.specs.Written.{Written, Writes};
 
+use crate::target::Target;
 use crate::why::Why;
-use std::io;
 use std::marker::Model;
-
-/// Where bytes go.
-pub trait Target {
-    ghost known: { Self → Bool };
-
-    ghost sent: { Self → List ℕ };
-
-    ghost errors: { Self → ℕ };
-
-    fn send(&mut self, bytes: &[u8]) -> io::Result<usize>
-        ensures count { IfOk result (λ n. n ≤ length bytes.now) }
-        ensures some { IfOk result (λ n. 0 < length bytes.now → 0 < n) }
-        ensures known { OnOk result (known self.old ≡ true → known self.new ≡ true) }
-        ensures bytes { IfOk result (λ n. known self.old ≡ true → sent self.new ≡ sent self.old ++ take n bytes.now) }
-        ensures counted { OnOk result (errors self.new ≡ errors self.old) }
-        ensures failed { OnErr result (known self.old ≡ true → errors self.old < errors self.new) };
-}
 
 /// Writes bit by bit, the highest bit of a byte first.
 #[derive(Drop)]
@@ -52,7 +35,7 @@ fn send_byte<W: Target>(target: &mut W, byte: u8) -> Result<(), Why>
 {
     match target.send(&[byte]) {
         Ok(_) => Ok(()),
-        Err(_) => Err(Why::Read),
+        Err(_) => Err(Why::Write),
     }
 }
 
