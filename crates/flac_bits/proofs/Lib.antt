@@ -5,7 +5,9 @@ pub mod Meaning
 pub mod CountedBytes
 pub mod Check
 pub mod Lists
+pub mod Digits
 pub mod Writing
+pub mod Standings
 pub mod Words
 pub mod Holding
 pub mod Marks
@@ -16,3 +18,5 @@ pub mod Tables
 pub mod Ties
 pub mod CodedTie
 pub mod Items
+pub mod Appending
+pub mod Putting

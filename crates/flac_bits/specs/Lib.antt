@@ -14,3 +14,5 @@ pub mod Coded
 pub mod Items
 pub mod Signed
 pub mod Sending
+pub mod Unsent
+pub mod Standing

@@ -1,69 +1,87 @@
 //! Bits into a target of bytes.
 
-ghost use Rattle.std.specs.Prelude.{◌≡◌, ◌<◌, ◌≤◌, ◌+◌, ◌*◌, ◌^◌, ◌++◌, ◌∷◌, [], ℕ, Bool, List, true, length, take, IfOk, OnOk, OnErr};
-ghost use Rattle.flac_bits.specs.Bits.{unsigned, bits_of, bit_value};
-ghost use Rattle.flac_bits.specs.Written.{Written, Writes};
+ghost use Rattle.std.specs.Prelude.{◌≡◌, ◌<◌, ◌≤◌, ◌+◌, ◌-◌, ◌*◌, ◌/◌, ◌%◌, ◌^◌, ◌++◌, [], true, length, IfOk, OnOk, IfErr};
+ghost use Rattle.flac_bits.specs.Bits.{unsigned, bits_of};
+ghost use Rattle.flac_bits.specs.Meaning.{unary_bits};
+ghost use Rattle.flac_bits.specs.Signed.{signed};
+ghost use Rattle.flac_bits.specs.Standing.{standing};
+ghost use Rattle.flac_bits.specs.Written.{Written, Writes, Starts};
+ghost use Rattle.flac_bits.specs.declared.why.Why.TheVariants.{Truncated};
 
 use crate::target::Target;
+use crate::unsent::Unsent;
 use crate::why::Why;
 use std::marker::Model;
 
-/// Writes bit by bit, the highest bit of a byte first.
+/// Writes bit by bit into a target, the highest bit of a byte first.
+///
+/// Bytes are held and sent many at a time; [`BitWriter::finish`] sends what is held. After an error the target
+/// was sent a beginning of the bits that were to be written, and nothing more should be written.
 #[derive(Drop)]
 pub struct BitWriter<W: Target> {
     target: W,
-    byte: u8,
-    held: u8,
+    held: Unsent,
 }
 
 impl<W: Target> Model for BitWriter<W> {
     ghost Value = { Written };
 
-    ghost view = { λ w. record {
-      known = W.known w.target;
-      errors = W.errors w.target;
-      bits = bits_of (W.sent w.target) ++ unsigned w.held w.byte;
-    } };
-
-    ghost invariant = { λ w. (w.held < 8) × (w.byte < 2 ^ w.held) };
+    ghost view = { λ w. standing W.Target w.target w.held };
 }
 
-fn send_byte<W: Target>(target: &mut W, byte: u8) -> Result<(), Why>
-    ensures ok { OnOk result ((W.known target.old ≡ true → W.known target.new ≡ true) × (W.errors target.new ≡ W.errors target.old)
-        × (W.known target.old ≡ true → W.sent target.new ≡ W.sent target.old ++ byte ∷ [])) }
-    ensures err { OnErr result (W.known target.old ≡ true → W.errors target.old < W.errors target.new) }
+/// Room for one more word.
+#[inline(never)]
+fn make_room<W: Target>(held: &mut Unsent, target: &mut W) -> Result<(), Why>
+    ensures room { OnOk result (length held.new.bytes + 8 ≤ 4096) }
+    ensures rest { held.new.rest ≡ held.old.rest }
+    ensures writes { Writes [] (standing W.Target target.old held.old) (standing W.Target target.new held.new) result }
 {
-    match target.send(&[byte]) {
-        Ok(_) => Ok(()),
-        Err(_) => Err(Why::Write),
+    if held.has_room() {
+        return Ok(());
     }
+    held.send_to(target)
+}
+
+/// The n bits of a number, which fill a word.
+#[inline(never)]
+fn put_more<W: Target>(held: &mut Unsent, target: &mut W, n: u32, value: u64) -> Result<(), Why>
+    requires enough { 64 ≤ length held.old.rest + n }
+    requires few { n ≤ 64 }
+    requires fits { value < 2 ^ n }
+    ensures { Writes (unsigned n value) (standing W.Target target.old held.old) (standing W.Target target.new held.new) result }
+{
+    make_room(held, target)?;
+    held.fill(n, value);
+    Ok(())
 }
 
 impl<W: Target> BitWriter<W> {
-    fn put_bit(&mut self, bit: bool) -> Result<(), Why>
-        ensures { Writes (bit ∷ []) self.old self.new result }
+    pub fn new(target: W) -> BitWriter<W>
+        ensures { result ≡ record {
+          known = W.known target;
+          errors = W.errors target;
+          names = W.names target;
+          sent = W.sent target;
+          bits = bits_of (W.sent target);
+          mark = record { unread = 0; bytes = 0; check8 = 0; check16 = 0; short = Truncated };
+        } }
     {
-        let byte = self.byte * 2 + u8::from(bit);
-        if self.held == 7 {
-            send_byte(&mut self.target, byte)?;
-            self.byte = 0;
-            self.held = 0;
-        } else {
-            self.byte = byte;
-            self.held += 1;
+        BitWriter {
+            target,
+            held: Unsent::new(),
         }
-        Ok(())
     }
 
-    /// Writes the number in n bits.
+    /// Writes the n bits of a number.
+    #[inline(always)]
     pub fn put(&mut self, n: u32, value: u64) -> Result<(), Why>
         requires small { n ≤ 64 }
         requires fits { value < 2 ^ n }
         ensures { Writes (unsigned n value) self.old self.new result }
     {
-        for i in 0..n {
-            self.put_bit((value >> (n - 1 - i)) & 1 == 1)?;
+        if self.held.put(n, value) {
+            return Ok(());
         }
-        Ok(())
+        put_more(&mut self.held, &mut self.target, n, value)
     }
 }
