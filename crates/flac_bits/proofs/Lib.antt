@@ -8,6 +8,7 @@ pub mod Lists
 pub mod Digits
 pub mod Writing
 pub mod Standings
+pub mod Codes
 pub mod Words
 pub mod Holding
 pub mod Marks

@@ -1,7 +1,8 @@
 -- Where a writer stands behind what it sent and put.
-use Rattle.std.proofs.Common.{◌≡◌, ℕ, ◌<◌, ◌≤◌, true, Bool, List, [], ◌++◌, Result, Ok, Err, IfErr, refl, sym, ap, ◌∙◌, append_assoc}
+use Rattle.std.proofs.Common.{◌≡◌, ℕ, ◌<◌, ◌≤◌, true, Bool, List, [], ◌++◌, Result, Ok, Err, IfErr, OnOk, refl, sym, ap, ◌∙◌, append_assoc}
 use Rattle.std.proofs.lemmas.List.{append-nil}
 use Rattle.flac_bits.specs.Bits.{bits_of}
+use Rattle.flac_bits.specs.State.{Mark}
 use Rattle.flac_bits.specs.Unsent.{Unsent, Puts, KeepsBits}
 use Rattle.flac_bits.specs.Sending.{Sends}
 use Rattle.flac_bits.specs.Standing.{standing}
@@ -49,3 +50,17 @@ module _ {S : Type 0} (g : target.Ghosts S) where
     mark = p.1;
     bits = λ _. ap (λ bs. bits_of (g.sent t) ++ bs) p.0 ∙ sym (append_assoc (bits_of (g.sent t)) (bits_of held.bytes ++ held.rest) text);
   }
+
+  -- the same bits are held
+  pub kept_writes : (t : S) (held held' : Unsent) → KeepsBits held held' → Adds [] (standing g t held) (standing g t held')
+  kept_writes t held held' k = put_writes t [] held held' (k.0 ∙ sym (append-nil (bits_of held.bytes ++ held.rest)), k.1)
+
+  -- all bits were sent
+  pub whole_sent : {X : Type 0} {old mid : S} {held mid_held : Unsent} (new : S) (last : Unsent) (result : Result X Why) → Adds [] (standing g old held) (standing g mid mid_held) → KeepsBits mid_held last
+      → (last.mark.unread ≡ 0 → last.rest ≡ []) → Sends g last.bytes mid new result → OnOk result (g.known old ≡ true → held.mark.unread ≡ 0 → bits_of (g.sent new) ≡ bits_of (g.sent old) ++ (bits_of held.bytes ++ held.rest))
+  whole_sent {mid = mid} {held = held} new last (Ok x) a k none s = λ known zero.
+    let rest : last.rest ≡ [] = none (ap (λ (m : Mark). m.unread) (k.1 ∙ a.mark) ∙ zero) in
+    ap bits_of (s.sent (a.known known)) ∙ bits_of-append (g.sent mid) last.bytes
+    ∙ ap (λ bs. bits_of (g.sent mid) ++ bs) (sym (append-nil (bits_of last.bytes)) ∙ ap (λ r. bits_of last.bytes ++ r) (sym rest) ∙ k.0)
+    ∙ a.bits known ∙ append-nil _
+  whole_sent new last (Err e) a k none s = tt
