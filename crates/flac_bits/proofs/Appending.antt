@@ -13,7 +13,7 @@ pub low_mod : (c m w : ℕ) → c ≤ m → unsigned c (w % 2 ^ m) ≡ unsigned 
 low_mod c m w le = sym (unsigned_low c (w / 2 ^ m) m (w % 2 ^ m) le) ∙ ap (unsigned c) (shr_split w m)
 
 -- what a shift in 64 bits keeps
-shl_kept : (w n m : ℕ) → m + n ≡ 64 → w * 2 ^ n % 2 ^ 64 ≡ (w % 2 ^ m) * 2 ^ n
+pub shl_kept : (w n m : ℕ) → m + n ≡ 64 → w * 2 ^ n % 2 ^ 64 ≡ (w % 2 ^ m) * 2 ^ n
 shl_kept w n m e =
     let z : w * 2 ^ n ≡ w * 2 ^ n + 0 = omega arith in
     let none : w * 2 ^ n % 2 ^ n ≡ 0 = ap (λ k. k % 2 ^ n) z ∙ mod_low w n 0 (pow_pos n) in

@@ -1,12 +1,15 @@
 -- Numbers under a unary and a Rice code, and signed numbers.
 use Rattle.std.proofs.Common.{◌≡◌, ℕ, ℤ, pos, negsuc, zero, suc, ◌+◌, ◌-◌, ◌*◌, ◌/◌, ◌%◌, ◌^◌, ◌<◌, ◌≤◌, Bool, true, false, List, [], ◌∷◌, ◌++◌, length, drop, get_or, replicate, refl, sym, ap, ◌∙◌, arith, append_assoc}
-use Rattle.std.proofs.lemmas.Nat.{pow_pos, pow_below, pow-add, shl_whole, shl-shr, shr_high, mod_low, mod_below, mul-add-lt}
+use Rattle.std.proofs.lemmas.Nat.{pow_pos, pow_below, pow-add, shl_whole, shr_below, shr_split, shl-shr, shr_high, mod_low, mod_below, mul-add-lt}
 use Rattle.std.proofs.Math.Seq.{drop-cons}
+use Rattle.std.specs.Int.{w64, cast_unsigned}
+use Rattle.std.specs.Int.RustNames.{FitsSigned}
 use Rattle.flac_bits.specs.Bits.{unsigned, bits_of}
 use Rattle.flac_bits.specs.Meaning.{unary_bits}
 use Rattle.flac_bits.specs.Signed.{modulo}
 use Rattle.flac_bits.proofs.Laws.{unsigned_low}
 use Rattle.flac_bits.proofs.Words.{split, one_bits, unsigned-mod}
+use Rattle.flac_bits.proofs.Appending.{shl_kept}
 
 abbrev whole : ℕ
 whole = 18446744073709551616
@@ -65,3 +68,25 @@ one_fits n = pow_below 0 (n + 1) (omega arith)
 -- one byte more
 pub byte_step : (bytes : List ℕ) (i : ℕ) → i < length bytes → bits_of (drop i bytes) ≡ unsigned 8 (get_or bytes i 0) ++ bits_of (drop (i + 1) bytes)
 byte_step bytes i lt = let e : suc i ≡ i + 1 = omega arith in ap bits_of (drop-cons bytes i 0 lt) ∙ ap (λ k. unsigned 8 (get_or bytes i 0) ++ bits_of (drop k bytes)) e
+
+-- the lowest bits of a negative number
+below_zero : (n m a : ℕ) → n + m ≡ 64 → a < 2 ^ 64 → (2 ^ 64 - suc a) % 2 ^ n ≡ 2 ^ n - 1 - a % 2 ^ n
+below_zero n m a e lt =
+    let p : 2 ^ 64 ≡ 2 ^ m * 2 ^ n = (let k : 64 ≡ m + n = omega (arith, e) in ap (λ j. 2 ^ j) k) ∙ pow-add 2 m n in
+    let q = a / 2 ^ n in
+    let r = a % 2 ^ n in
+    let h : q < 2 ^ m = shr_below a m n (let k : m + n ≡ 64 = omega (arith, e) in rw k lt) in
+    let is : q * 2 ^ n + r ≡ a = shr_split a n in
+    let small : r < 2 ^ n = mod_below a (2 ^ n) (pow_pos n) in
+    let d = 2 ^ m - 1 - q in
+    let top : 2 ^ m ≡ d + 1 + q = omega (arith, h) in
+    let spread : (x y z : ℕ) → (x + 1 + y) * z ≡ x * z + z + y * z = λ x y z. grind arith in
+    let all : 2 ^ m * 2 ^ n ≡ d * 2 ^ n + 2 ^ n + q * 2 ^ n = ap (λ k. k * 2 ^ n) top ∙ spread d q (2 ^ n) in
+    let split : 2 ^ 64 - suc a ≡ d * 2 ^ n + (2 ^ n - 1 - r) = ap (λ k. k - suc a) (p ∙ all) ∙ omega (arith, is, small) in
+    ap (λ k. k % 2 ^ n) split ∙ mod_low d n (2 ^ n - 1 - r) (omega (arith, small))
+
+pub lowest : (n m : ℕ) (z : ℤ) → n + m ≡ 64 → FitsSigned w64 z → cast_unsigned w64 z * 2 ^ m % 2 ^ 64 / 2 ^ m ≡ modulo n z
+lowest n m (pos a) e f = ap (λ k. k / 2 ^ m) (shl_kept a m n e) ∙ shl-shr (a % 2 ^ n) m
+lowest n m (negsuc a) e f =
+    let lt : a < 2 ^ 63 = f.sfits in
+    ap (λ k. k / 2 ^ m) (shl_kept (2 ^ 64 - suc a) m n e) ∙ shl-shr ((2 ^ 64 - suc a) % 2 ^ n) m ∙ below_zero n m a e (omega (arith, lt))

@@ -56,11 +56,11 @@ module _ {S : Type 0} (g : target.Ghosts S) where
   kept_writes t held held' k = put_writes t [] held held' (k.0 ∙ sym (append-nil (bits_of held.bytes ++ held.rest)), k.1)
 
   -- all bits were sent
-  pub whole_sent : {X : Type 0} {old mid : S} {held mid_held : Unsent} (new : S) (last : Unsent) (result : Result X Why) → Adds [] (standing g old held) (standing g mid mid_held) → KeepsBits mid_held last
+  pub whole_sent : {X : Type 0} {mid : S} (old new : S) (held mid_held last : Unsent) (result : Result X Why) → Adds [] (standing g old held) (standing g mid mid_held) → KeepsBits mid_held last
       → (last.mark.unread ≡ 0 → last.rest ≡ []) → Sends g last.bytes mid new result → OnOk result (g.known old ≡ true → held.mark.unread ≡ 0 → bits_of (g.sent new) ≡ bits_of (g.sent old) ++ (bits_of held.bytes ++ held.rest))
-  whole_sent {mid = mid} {held = held} new last (Ok x) a k none s = λ known zero.
+  whole_sent {mid = mid} old new held mid_held last (Ok x) a k none s = λ known zero.
     let rest : last.rest ≡ [] = none (ap (λ (m : Mark). m.unread) (k.1 ∙ a.mark) ∙ zero) in
     ap bits_of (s.sent (a.known known)) ∙ bits_of-append (g.sent mid) last.bytes
     ∙ ap (λ bs. bits_of (g.sent mid) ++ bs) (sym (append-nil (bits_of last.bytes)) ∙ ap (λ r. bits_of last.bytes ++ r) (sym rest) ∙ k.0)
     ∙ a.bits known ∙ append-nil _
-  whole_sent new last (Err e) a k none s = tt
+  whole_sent old new held mid_held last (Err e) a k none s = tt
