@@ -18,6 +18,12 @@ pub mod Partly
 pub mod Tables
 pub mod Ties
 pub mod CodedTie
+pub mod Fences
 pub mod Items
 pub mod Appending
 pub mod Putting
+pub mod Signs
+pub mod Back
+pub mod Copied
+pub mod Handing
+pub mod ItemSpellings

@@ -1,5 +1,6 @@
 -- The bytes of a coded number.
-use Rattle.std.proofs.Common.{◌≡◌, ℕ, zero, suc, ◌+◌, ◌-◌, ◌*◌, ◌/◌, ◌%◌, ◌^◌, ◌<◌, ◌≤◌, nat_eq, refl, arith}
+use Rattle.std.proofs.Common.{◌≡◌, ℕ, zero, suc, ◌+◌, ◌-◌, ◌*◌, ◌/◌, ◌%◌, ◌^◌, ◌<◌, ◌≤◌, nat_eq, refl, sym, ap, ◌∙◌, arith}
+use Rattle.std.proofs.Math.Nat.{pow-suc, mul_assoc}
 use Rattle.flac_bits.specs.Layout.{refuse, choose, run, and_then, number_at}
 use Rattle.flac_bits.specs.Number.{continued}
 use Rattle.flac_bits.specs.State.{Cursor}
@@ -21,3 +22,14 @@ six_more (suc (suc (suc zero))) count value a b h = omega arith
 six_more (suc (suc (suc (suc zero)))) count value a b h = omega arith
 six_more (suc (suc (suc (suc (suc zero))))) count value a b h = omega arith
 six_more (suc (suc (suc (suc (suc (suc i)))))) count value a b h = absurd (omega arith)
+
+-- six bits more of a number
+pub group_more : (h i value byte : ℕ) → value < h * 64 ^ i → 64 * value + byte % 64 < h * 64 ^ (i + 1)
+group_more h i value byte lt =
+    let e : i + 1 ≡ suc i = omega arith in
+    let p : h * 64 ^ suc i ≡ h * 64 ^ i * 64 = ap (λ k. h * k) (pow-suc 64 i) ∙ sym (mul_assoc h (64 ^ i) 64) in
+    let low : byte % 64 < 64 = omega arith in
+    rw e (rw p (below (h * 64 ^ i) value (byte % 64) lt low))
+  where
+    below : (x value low : ℕ) → value < x → low < 64 → 64 * value + low < x * 64
+    below x value low lt small = omega arith

@@ -1,5 +1,5 @@
 -- Values under a Rice code (RFC 9639, sections 9.2.7.2 and 9.2.7.3).
-use Rattle.std.specs.Prelude.{ℕ, ℤ, pos, negsuc, ◌+◌, ◌-◌, ◌*◌, ◌/◌, ◌%◌, ◌^◌, Option, Some, None, cond, nat_eq, nat_lt}
+use Rattle.std.specs.Prelude.{ℕ, ℤ, pos, negsuc, neg_ℤ, ◌<ℤ◌, ◌+◌, ◌-◌, ◌*◌, ◌/◌, ◌%◌, ◌^◌, Option, Some, None, cond, nat_eq, nat_lt}
 use Rattle.flac_bits.specs.Layout.{Layout, done, bits, unary, refuse, ◌>>=◌, choose}
 use Rattle.flac_bits.specs.declared.why.Why.TheVariants.{ResidualRange}
 
@@ -24,3 +24,8 @@ unfoldable pub rice_value : ℕ → Layout ℤ
 rice_value k = do
   folded ← rice k ((2 ^ 32 - 2) / 2 ^ k)
   choose (nat_lt (2 ^ 32 - 2) folded) (refuse ResidualRange) (done (unfolded folded))
+
+-- a residual value lies strictly between -2^31 and 2^31
+pub record IsResidual (z : ℤ) : Type 0 where
+  pub low : neg_ℤ (pos (2 ^ 31)) <ℤ z
+  pub high : z <ℤ pos (2 ^ 31)

@@ -1,5 +1,5 @@
 -- Signed numbers in two's complement (RFC 9639, section 5).
-use Rattle.std.specs.Prelude.{ℕ, ℤ, pos, negsuc, ◌-◌, ◌%◌, ◌^◌, Bool, cond, nat_lt, List}
+use Rattle.std.specs.Prelude.{ℕ, ℤ, pos, negsuc, neg_ℤ, ◌≤ℤ◌, ◌<ℤ◌, ◌-◌, ◌%◌, ◌^◌, Bool, cond, nat_lt, List}
 use Rattle.flac_bits.specs.Bits.{unsigned}
 use Rattle.flac_bits.specs.Layout.{Layout, done, bits, ◌>>=◌}
 
@@ -21,3 +21,8 @@ unfoldable pub signed_field : ℕ → Layout ℤ
 signed_field n = do
   v ← bits n
   done (to_signed n v)
+
+-- z is a two's complement number of n bits
+pub record FitsBits (n : ℕ) (z : ℤ) : Type 0 where
+  pub low : neg_ℤ (pos (2 ^ (n - 1))) ≤ℤ z
+  pub high : z <ℤ pos (2 ^ (n - 1))

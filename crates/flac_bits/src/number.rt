@@ -1,6 +1,7 @@
 //! The coded number.
 
-ghost use Rattle.std.specs.Prelude.{◌≡◌, ◌≤◌, ◌<◌, ◌^◌, IfSome};
+ghost use Rattle.std.specs.Prelude.{◌≡◌, ◌≤◌, ◌<◌, ◌^◌, ◌+◌, ◌*◌, cond, nat_lt, IfOk, OnOk, IfSome};
+ghost use Rattle.flac_bits.specs.Coded.{IsNumber};
 ghost use Rattle.flac_bits.specs.Number.{lead_form, continued, number};
 ghost use Rattle.flac_bits.specs.Reading.{Counts, Reads, Means};
 
@@ -12,6 +13,7 @@ use crate::why::Why;
 fn lead_form(max_bits: u32, lead: u64) -> Option<(u32, u64, u64)>
     ensures form { result ≡ lead_form max_bits lead }
     ensures small { IfSome result (λ form. (form.0 ≤ 6) × (form.1 < 2 ^ 5)) }
+    ensures room { IfSome result (λ form. (form.1 + 1) * 64 ^ form.0 ≤ cond (nat_lt 31 max_bits) (2 ^ 36) (2 ^ 31)) }
 {
     match lead {
         0xC0..=0xDF => Some((1, lead - 0xC0, 1 << 7)),
@@ -24,10 +26,12 @@ fn lead_form(max_bits: u32, lead: u64) -> Option<(u32, u64, u64)>
     }
 }
 
-#[tactic(auto, unfolding(crate::specs::Number::continued), using(crate::proofs::Numbers::continued_more))]
+#[tactic(auto, unfolding(crate::specs::Number::continued), using(crate::proofs::Numbers::continued_more, crate::proofs::Numbers::group_more))]
 fn continued<R: Source>(bits: &mut BitReader<R>, count: u32, high: u64) -> Result<u64, Why>
     requires few { count ≤ 6 }
     requires small { high < 2 ^ 5 }
+    ensures spends { OnOk result (bits.new.most ≤ bits.old.most) }
+    ensures room { IfOk result (λ v. v < (high + 1) * 64 ^ count) }
     ensures counts { Counts bits.old bits.new result }
     ensures reads { Reads (λ v. v) (continued count high) bits.old bits.new result }
 {
@@ -44,6 +48,8 @@ fn continued<R: Source>(bits: &mut BitReader<R>, count: u32, high: u64) -> Resul
 
 /// The coded number of at most so many bits that comes next.
 pub fn read_number<R: Source>(bits: &mut BitReader<R>, max_bits: u32) -> Result<u64, Why>
+    ensures fits { IfOk result (λ v. IsNumber max_bits v) }
+    ensures spends { OnOk result (bits.new.most + 8 ≤ bits.old.most) }
     ensures counts { Counts bits.old bits.new result }
     ensures reads { Reads (λ v. v) (number max_bits) bits.old bits.new result }
     ensures means { Means (λ v. v) (number max_bits) bits.old bits.new result }
@@ -53,6 +59,8 @@ pub fn read_number<R: Source>(bits: &mut BitReader<R>, max_bits: u32) -> Result<
 
 #[tactic(auto, unfolding(crate::specs::Number::number))]
 fn number_here<R: Source>(bits: &mut BitReader<R>, max_bits: u32) -> Result<u64, Why>
+    ensures fits { IfOk result (λ v. IsNumber max_bits v) }
+    ensures spends { OnOk result (bits.new.most + 8 ≤ bits.old.most) }
     ensures counts { Counts bits.old bits.new result }
     ensures reads { Reads (λ v. v) (number max_bits) bits.old bits.new result }
 {

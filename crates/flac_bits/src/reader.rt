@@ -1,15 +1,19 @@
 //! Bits out of a source of bytes.
 
-ghost use Rattle.std.specs.Prelude.{◌≡◌, ◌<◌, ◌≤◌, ◌+◌, ◌^◌, ◌-◌, ◌++◌, ◌∷◌, [], ℕ, true, IfOk, IfErr, OnOk, ◌*◌, length, IfSome, None, Some, Ok, ◌↔◌, false, is_some};
+ghost use Rattle.std.specs.Prelude.{◌≡◌, ◌<◌, ◌≤◌, ◌+◌, ◌^◌, ◌-◌, ◌++◌, ◌∷◌, [], ℕ, true, IfOk, IfErr, OnOk, ◌*◌, length, take, IfSome, None, Some, Ok, ◌↔◌, false, is_some};
 ghost use Rattle.flac_bits.specs.declared.why.Why.TheVariants.{Truncated};
 ghost use Rattle.flac_bits.specs.Bits.{is_nil};
 ghost use Rattle.flac_bits.specs.Bits.{unsigned, bits_of, bit_value};
-ghost use Rattle.flac_bits.specs.State.{State, Cursor, short_of, with_short, started};
+ghost use Rattle.flac_bits.specs.State.{State, Cursor, short_of, with_short, started, Consumes};
 ghost use Rattle.flac_bits.specs.Layout.{next_bit, number_at, zeros_at, align as to_byte, run};
-ghost use Rattle.flac_bits.specs.Rice.{rice};
+ghost use Rattle.std.specs.Prelude.{All};
+ghost use Rattle.flac_bits.specs.Lists.{list_of};
+ghost use Rattle.flac_bits.specs.Rice.{rice, rice_value, IsResidual};
+ghost use Rattle.flac_bits.specs.Signed.{signed_field, FitsBits};
 ghost use Rattle.flac_bits.specs.Reading.{Counts, Gives, Reads};
 
 use crate::held::Held;
+use crate::signed::{MOST_FOLDED, to_signed, unfolded};
 use crate::source::Source;
 use crate::why::Why;
 use std::marker::Model;
@@ -68,6 +72,32 @@ fn fill<R: Source>(held: &mut Held, source: &mut R) -> Result<bool, Why>
         }
         Err(why) => Err(why),
     }
+}
+
+/// Whole bytes in the array and none in the word, which stands at a whole byte; false where none is left.
+fn refill<R: Source>(held: &mut Held, source: &mut R) -> Result<bool, Why>
+    requires { held.old.mark.unread ≡ 0 }
+    ensures names { R.names source.new ≡ R.names source.old }
+    ensures mark { held.new.mark ≡ held.old.mark }
+    ensures ok { IfOk result (λ _. (R.known source.old ≡ true → R.known source.new ≡ true) × (R.errors source.new ≡ R.errors source.old) × (R.raised source.new ≡ R.raised source.old)
+        × (8 * R.most source.new + length (held.new.word ++ bits_of held.new.bytes) ≤ 8 * R.most source.old + length (held.old.word ++ bits_of held.old.bytes))
+        × (R.known source.old ≡ true → (held.new.word ++ bits_of held.new.bytes) ++ bits_of (R.coming source.new) ≡ (held.old.word ++ bits_of held.old.bytes) ++ bits_of (R.coming source.old))) }
+    ensures more { result ≡ Ok true → 0 < length held.new.bytes }
+    ensures word { held.new.word ≡ [] }
+    ensures over { result ≡ Ok false → R.known source.old ≡ true
+        → ((held.old.word ++ bits_of held.old.bytes) ++ bits_of (R.coming source.old) ≡ []) × ((R.behind source.old).fails ≡ None) }
+    ensures kept { R.errors source.old ≤ R.errors source.new }
+    ensures foretold { R.known source.old ≡ true → R.errors source.new ≡ R.errors source.old → R.behind source.new ≡ R.behind source.old }
+    ensures err { IfErr result (λ e. (e ≡ Why.Read)
+        × (R.known source.old ≡ true → R.errors source.new ≡ R.errors source.old
+        → ((held.old.word ++ bits_of held.old.bytes) ++ bits_of (R.coming source.old) ≡ []) × (is_some ((R.behind source.old).fails) ≡ true))
+        × (R.known source.old ≡ true → R.raised source.old < R.raised source.new)) }
+{
+    held.put_back();
+    if !held.is_drained() {
+        return Ok(true);
+    }
+    held.pull(source)
 }
 
 impl<R: Source> BitReader<R> {
@@ -172,7 +202,7 @@ impl<R: Source> BitReader<R> {
     /// Zeros and a one, where the word has them.
     #[inline(always)]
     fn ready_unary(&mut self, limit: u64) -> Option<u64>
-        ensures some { IfSome result (λ q. (q ≤ limit) × (self.new.known ≡ self.old.known) × (self.new.errors ≡ self.old.errors) × (self.new.raised ≡ self.old.raised) × (self.new.behind ≡ self.old.behind) × (self.new.names ≡ self.old.names)
+        ensures some { IfSome result (λ q. (q ≤ limit) × (self.new.most ≤ self.old.most) × (self.new.known ≡ self.old.known) × (self.new.errors ≡ self.old.errors) × (self.new.raised ≡ self.old.raised) × (self.new.behind ≡ self.old.behind) × (self.new.names ≡ self.old.names)
             × (zeros_at limit self.old.cursor ≡ Ok (Some q, self.new.cursor))) }
         ensures none { result ≡ None → self.new ≡ self.old }
     {
@@ -183,6 +213,7 @@ impl<R: Source> BitReader<R> {
     #[tactic(auto, unfolding(crate::specs::Layout::zeros_at, crate::specs::Layout::zeros_from), using(crate::proofs::Loops::zeros_more, crate::proofs::Loops::zeros_last))]
     fn unary_slow(&mut self, limit: u64) -> Result<Option<u64>, Why>
         ensures within { IfOk result (λ o. IfSome o (λ q. q ≤ limit)) }
+        ensures spends { OnOk result (self.new.most ≤ self.old.most) }
         ensures counts { Counts self.old self.new result }
         ensures reads { Gives (λ v. v) (zeros_at limit self.old.cursor) self.old self.new result }
     {
@@ -201,6 +232,7 @@ impl<R: Source> BitReader<R> {
     #[inline(always)]
     pub fn unary(&mut self, limit: u64) -> Result<Option<u64>, Why>
         ensures within { IfOk result (λ o. IfSome o (λ q. q ≤ limit)) }
+        ensures spends { OnOk result (self.new.most ≤ self.old.most) }
         ensures counts { Counts self.old self.new result }
         ensures reads { Gives (λ v. v) (zeros_at limit self.old.cursor) self.old self.new result }
     {
@@ -216,7 +248,7 @@ impl<R: Source> BitReader<R> {
     fn ready_rice(&mut self, k: u32, limit: u64) -> Option<u64>
         requires k { k ≤ 30 }
         requires limit { limit < 2 ^ 32 }
-        ensures some { IfSome result (λ v. (self.new.known ≡ self.old.known) × (self.new.errors ≡ self.old.errors) × (self.new.raised ≡ self.old.raised) × (self.new.behind ≡ self.old.behind) × (self.new.names ≡ self.old.names)
+        ensures some { IfSome result (λ v. (self.new.most ≤ self.old.most) × (self.new.known ≡ self.old.known) × (self.new.errors ≡ self.old.errors) × (self.new.raised ≡ self.old.raised) × (self.new.behind ≡ self.old.behind) × (self.new.names ≡ self.old.names)
             × (run (rice k limit) self.old.cursor ≡ Ok (v, self.new.cursor))) }
         ensures none { result ≡ None → self.new ≡ self.old }
     {
@@ -224,10 +256,12 @@ impl<R: Source> BitReader<R> {
     }
 
     #[inline(never)]
+    #[cold]
     #[tactic(auto, unfolding(crate::specs::Rice::rice), using(crate::proofs::Rices::joined))]
     fn rice_slow(&mut self, k: u32, limit: u64) -> Result<u64, Why>
         requires k { k ≤ 30 }
         requires limit { limit < 2 ^ 32 }
+        ensures spends { OnOk result (self.new.most ≤ self.old.most) }
         ensures counts { Counts self.old self.new result }
         ensures reads { Reads (λ v. v) (rice k limit) self.old self.new result }
     {
@@ -238,11 +272,12 @@ impl<R: Source> BitReader<R> {
         Ok((zeros << k) + low)
     }
 
-    /// One value of a Rice code: zeros and a one, and the lowest k bits.
+    /// A folded value of a Rice code: zeros and a one, and the lowest k bits.
     #[inline(always)]
-    pub fn rice_value(&mut self, k: u32, limit: u64) -> Result<u64, Why>
+    fn folded_value(&mut self, k: u32, limit: u64) -> Result<u64, Why>
         requires k { k ≤ 30 }
         requires limit { limit < 2 ^ 32 }
+        ensures spends { OnOk result (self.new.most ≤ self.old.most) }
         ensures counts { Counts self.old self.new result }
         ensures reads { Reads (λ v. v) (rice k limit) self.old self.new result }
     {
@@ -251,6 +286,132 @@ impl<R: Source> BitReader<R> {
             return Ok(value);
         }
         self.rice_slow(k, limit)
+    }
+
+    /// A residual value under the Rice parameter k (RFC 9639, section 9.2.7.3).
+    #[inline(always)]
+    #[tactic(auto, unfolding(crate::specs::Rice::rice_value))]
+    fn rice_value(&mut self, k: u32) -> Result<i64, Why>
+        requires { k ≤ 30 }
+        ensures fits { IfOk result IsResidual }
+        ensures spends { OnOk result (self.new.most ≤ self.old.most) }
+        ensures counts { Counts self.old self.new result }
+        ensures reads { Reads (λ v. v) (rice_value k) self.old self.new result }
+    {
+        let folded = self.folded_value(k, MOST_FOLDED >> k)?;
+        if folded > MOST_FOLDED {
+            return Err(Why::ResidualRange);
+        }
+        Ok(unfolded(folded))
+    }
+
+    /// Fills the places with the residual values that come next under the Rice parameter k (RFC 9639, section 9.2.7.3).
+    ///
+    /// # Errors
+    ///
+    /// `ResidualRange` where a value does not lie strictly between -2^31 and 2^31.
+    #[tactic(auto, using(crate::proofs::Lists::list_more, crate::proofs::Lists::list_end, crate::proofs::Lists::list_start))]
+    pub fn rice_partition(&mut self, k: u32, values: &mut [i64]) -> Result<(), Why>
+        requires { k ≤ 30 }
+        ensures fits { OnOk result (All IsResidual values.new) }
+        ensures spends { OnOk result (self.new.most ≤ self.old.most) }
+        ensures counts { Counts self.old self.new result }
+        ensures reads { Reads (λ _. values.new) (list_of (length values.old) (rice_value k)) self.old self.new result }
+    {
+        for i in 0..values.len() {
+            values[i] = self.rice_value(k)?;
+        }
+        Ok(())
+    }
+
+    /// The next n bits as a signed number in two's complement, 1 to 64 of them.
+    #[inline(always)]
+    #[tactic(auto, unfolding(crate::specs::Signed::signed_field))]
+    pub fn take_signed(&mut self, n: u32) -> Result<i64, Why>
+        requires some { 1 ≤ n }
+        requires few { n ≤ 64 }
+        ensures fits { IfOk result (FitsBits n) }
+        ensures spends { OnOk result (self.new.most + n ≤ self.old.most) }
+        ensures counts { Counts self.old self.new result }
+        ensures reads { Reads (λ v. v) (signed_field n) self.old self.new result }
+    {
+        let value = self.take(n)?;
+        Ok(to_signed(value, n))
+    }
+
+    /// Fills the places with the signed numbers of n bits that come next, 1 to 64 bits each.
+    #[tactic(auto, using(crate::proofs::Lists::list_more, crate::proofs::Lists::list_end, crate::proofs::Lists::list_start))]
+    pub fn signed_partition(&mut self, n: u32, values: &mut [i64]) -> Result<(), Why>
+        requires some { 1 ≤ n }
+        requires few { n ≤ 64 }
+        ensures fits { OnOk result (All (FitsBits n) values.new) }
+        ensures spends { OnOk result (self.new.most ≤ self.old.most) }
+        ensures counts { Counts self.old self.new result }
+        ensures reads { Reads (λ _. values.new) (list_of (length values.old) (signed_field n)) self.old self.new result }
+    {
+        for i in 0..values.len() {
+            values[i] = self.take_signed(n)?;
+        }
+        Ok(())
+    }
+
+    /// Some of the bytes that come next: one at least where there is room for it, and none where none is left.
+    fn some_bytes(&mut self, out: &mut [u8]) -> Result<usize, Why>
+        requires { self.old.cursor.mark.unread ≡ 0 }
+        ensures bound { IfOk result (λ n. n ≤ length out.new) }
+        ensures spends { IfOk result (λ n. self.new.most + 8 * n ≤ self.old.most) }
+        ensures whole { OnOk result (self.new.cursor.mark.unread ≡ 0) }
+        ensures counts { Counts self.old self.new result }
+        ensures taken { IfOk result (λ n. self.old.known ≡ true → Consumes (bits_of (take n out.new)) self.old.cursor self.new.cursor) }
+        ensures over { result ≡ Ok 0 → 0 < length out.new → self.old.known ≡ true → (self.old.cursor.left ≡ []) × (self.old.cursor.mark.short ≡ Why.Read → ⊥) }
+        ensures cut { IfErr result (λ e. (e ≡ Why.Read) × (self.old.known ≡ true → self.new.errors ≡ self.old.errors → (self.old.cursor.left ≡ []) × (self.old.cursor.mark.short ≡ Why.Read))) }
+    {
+        match refill(&mut self.held, &mut self.source) {
+            Ok(true) => Ok(self.held.copy(out)),
+            Ok(false) => Ok(0),
+            Err(why) => Err(why),
+        }
+    }
+
+    /// Fills the places with the bytes that come next, and answers how many: all of them, or fewer where the bits end before.
+    /// The reader stands at a whole byte (see [`BitReader::unread`]).
+    ///
+    /// # Errors
+    ///
+    /// `Read` where the source answers an error.
+    pub fn take_bytes(&mut self, out: &mut [u8]) -> Result<usize, Why>
+        requires { self.old.cursor.mark.unread ≡ 0 }
+        ensures bound { IfOk result (λ n. n ≤ length out.new) }
+        ensures spends { IfOk result (λ n. self.new.most + 8 * n ≤ self.old.most) }
+        ensures whole { OnOk result (self.new.cursor.mark.unread ≡ 0) }
+        ensures counts { Counts self.old self.new result }
+        ensures taken { IfOk result (λ n. self.old.known ≡ true → Consumes (bits_of (take n out.new)) self.old.cursor self.new.cursor) }
+        ensures over { IfOk result (λ n. n < length out.new → self.old.known ≡ true → (self.new.cursor.left ≡ []) × (self.new.cursor.mark.short ≡ Why.Read → ⊥)) }
+        ensures cut { IfErr result (λ e. (e ≡ Why.Read) × (self.old.known ≡ true → self.new.errors ≡ self.old.errors → (length self.old.cursor.left < 8 * length out.new) × (self.old.cursor.mark.short ≡ Why.Read))) }
+    {
+        let mut done = 0;
+        while done < out.len() {
+            match self.some_bytes(&mut out[done..]) {
+                Ok(0) => return Ok(done),
+                Ok(n) => done += n,
+                Err(why) => return Err(why),
+            }
+        }
+        Ok(done)
+    }
+
+    /// The reason where a field needs more bits than are left, and no error of the source is the reason.
+    pub fn short(&self) -> Why
+        ensures { self.now.known ≡ true → self.now.cursor.left ≡ [] → (self.now.cursor.mark.short ≡ Why.Read → ⊥) → result ≡ self.now.cursor.mark.short }
+    {
+        self.held.short()
+    }
+
+    /// How many bits of the byte that was begun are still to come, 0 at a whole byte.
+    pub fn unread(&self) -> u32
+        ensures { (result ≡ self.now.cursor.mark.unread) × (result < 8) }
+    {
+        self.held.unread()
     }
 
     /// Whether no bit is left.

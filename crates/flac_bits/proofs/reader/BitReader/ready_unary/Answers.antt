@@ -10,10 +10,11 @@ use Rattle.flac_bits.proofs.Words.{length-unsigned}
 use Rattle.flac_bits.proofs.Fields.{cursor_of, taken_read, taken_spends, unary_read, left_is, bit_read, bit_none}
 use Rattle.flac_bits.proofs.reader.BitReader.ready_unary.Goals as goal
 
-found : (limit : ℕ) (why : Why) (o : Option ℕ) (old new : Store) (rest : List Bool) (k l : Bool) (e f r s : ℕ) (x y : Behind) (m n : List GName) (at : Cursor) → k ≡ l → e ≡ f → r ≡ s → x ≡ y → m ≡ n → cursor_of why old rest ≡ at
-    → IfSome o (λ q. (q ≤ limit) × Takes (unary_bits q) old new) → IfSome o (λ q. (q ≤ limit) × (k ≡ l) × (e ≡ f) × (r ≡ s) × (x ≡ y) × (m ≡ n) × (zeros_at limit at ≡ Ok (Some q, cursor_of why new rest)))
-found limit why None old new rest k l e f r s x y m n at kl ef rs xy mn is some = tt
-found limit why (Some q) old new rest k l e f r s x y m n at kl ef rs xy mn is some = (some.0, kl, ef, rs, xy, mn, rw (← is) (unary_read limit q why old new rest some.0 some.1))
+found : (limit : ℕ) (why : Why) (o : Option ℕ) (old new : Store) (rest : List Bool) (k l : Bool) (e f r s most : ℕ) (x y : Behind) (m n : List GName) (at : Cursor) → k ≡ l → e ≡ f → r ≡ s → x ≡ y → m ≡ n → cursor_of why old rest ≡ at
+    → IfSome o (λ q. (q ≤ limit) × Takes (unary_bits q) old new)
+    → IfSome o (λ q. (q ≤ limit) × (most + length (new.word ++ bits_of new.bytes) ≤ most + length (old.word ++ bits_of old.bytes)) × (k ≡ l) × (e ≡ f) × (r ≡ s) × (x ≡ y) × (m ≡ n) × (zeros_at limit at ≡ Ok (Some q, cursor_of why new rest)))
+found limit why None old new rest k l e f r s most x y m n at kl ef rs xy mn is some = tt
+found limit why (Some q) old new rest k l e f r s most x y m n at kl ef rs xy mn is some = (some.0, omega (arith, taken_spends (unary_bits q) old new some.1), kl, ef, rs, xy, mn, rw (← is) (unary_read limit q why old new rest some.0 some.1))
 
 pub returns-clause-some : goal.returns-clause-some
 returns-clause-some g c =
@@ -21,4 +22,4 @@ returns-clause-some g c =
     let errors_is = ap (λ (s : State). s.errors) c.self.view_is in
     let most_is = ap (λ (s : State). s.most) c.self.view_is in
     let cursor_is : cursor_of (short_of ((g.R.Source.behind c.self.inside.source).fails)) c.self.inside.held (bits_of (g.R.Source.coming c.self.inside.source)) ≡ c.args.self.now.cursor = ap (λ (s : State). s.cursor) c.self.view_is in
-    found c.args.limit (short_of ((g.R.Source.behind c.self.inside.source).fails)) c.unary.result c.self.inside.held c.unary.new.self (bits_of (g.R.Source.coming c.self.inside.source)) _ _ _ _ _ _ _ _ _ _ _ known_is errors_is (ap (λ (s : State). s.raised) c.self.view_is) (ap (λ (s : State). s.behind) c.self.view_is) (ap (λ (s : State). s.names) c.self.view_is) cursor_is c.unary.ensures.some
+    rw (← most_is) (found c.args.limit (short_of ((g.R.Source.behind c.self.inside.source).fails)) c.unary.result c.self.inside.held c.unary.new.self (bits_of (g.R.Source.coming c.self.inside.source)) _ _ _ _ _ _ _ _ _ _ _ _ known_is errors_is (ap (λ (s : State). s.raised) c.self.view_is) (ap (λ (s : State). s.behind) c.self.view_is) (ap (λ (s : State). s.names) c.self.view_is) cursor_is c.unary.ensures.some)

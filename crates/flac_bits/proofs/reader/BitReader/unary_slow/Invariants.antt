@@ -1,7 +1,10 @@
-use Rattle.std.proofs.Common.{◌-◌}
+use Rattle.std.proofs.Common.{◌-◌, ◌≤◌}
 use Rattle.flac_bits.specs.Layout.{zeros_from}
 use Rattle.flac_bits.specs.Reading.{Goes}
 use Rattle.flac_bits.proofs.reader.BitReader.unary_slow.Given as goal
 
 abbrev pub invariant-loop-zeros : goal.invariant-loop-zeros
-invariant-loop-zeros g l = Goes l.initial.self l.self (zeros_from (l.limit - l.zeros) l.zeros l.self.cursor) (zeros_from l.limit 0 l.initial.self.cursor)
+invariant-loop-zeros g l = record {
+  goes : Goes l.initial.self l.self (zeros_from (l.limit - l.zeros) l.zeros l.self.cursor) (zeros_from l.limit 0 l.initial.self.cursor);
+  spent : l.self.most ≤ l.initial.self.most;
+}

@@ -1,0 +1,50 @@
+use Rattle.std.proofs.Common.{◌≡◌, ℕ, ◌+◌, ◌-◌, List, [], ◌∷◌, ◌++◌, length, take, refl, sym, ap, arith, Result, Ok, ◌∙◌, ℤ, pos, below_more}
+use Rattle.std.proofs.lemmas.List.{take_all, get_or-set_same, get_or-set_other}
+use Rattle.std.proofs.lemmas.List.Elements.{All-from_get_or}
+use Rattle.std.proofs.lemmas.Grind.{take-set_at}
+use Rattle.flac_bits.specs.State.{Cursor}
+use Rattle.flac_bits.specs.Layout.{run, and_then, Reason}
+use Rattle.flac_bits.specs.Lists.{list_of, behind}
+use Rattle.flac_bits.specs.Signed.{signed_field}
+use Rattle.flac_bits.specs.Signed.{FitsBits}
+use Rattle.flac_bits.proofs.Loops.{goes_on}
+use Rattle.flac_bits.proofs.Lists.{list_more, list_end, list_start}
+use Rattle.flac_bits.proofs.Signs.{signed_kept}
+use Rattle.flac_bits.proofs.reader.BitReader.signed_partition.Goals as goal
+
+pub loop-i-preserved : goal.loop-i-preserved
+loop-i-preserved g c =
+    let n = length c.args.values.now in
+    let i = c.loop-i.i in
+    let field = signed_field c.args.n in
+    let more : ℤ → Cursor → _ = λ v d. and_then (run (list_of (n - (i + 1)) field) d) (behind (take i c.loop-i.values ++ v ∷ [])) in
+    let v = c.in_ok-values.field-0 in
+    let same = signed_kept c.args.n v c.requires.some c.requires.few c.in_ok-values.ensures.fits in
+    let last = get_or-set_same c.loop-i.values i v (pos 0) (omega (arith, c.loop-i.auto.values, c.loop-i-test.true)) in
+    rw same (record {
+      goes = goes_on c.args.self.now c.loop-i.self c.take_signed.new.self (run field c.loop-i.self.cursor) v more _ _ _
+          c.loop-i.invariant.goes (list_more n i field c.loop-i.self.cursor (take i c.loop-i.values) c.loop-i-test.true)
+          (ap (λ front. and_then (run (list_of (n - (i + 1)) field) c.take_signed.new.self.cursor) (behind front)) (sym (take-set_at c.loop-i.values i (i + 1) v refl (omega (arith, c.loop-i.auto.values, c.loop-i-test.true)))))
+          c.in_ok-values.ensures.counts c.in_ok-values.ensures.reads;
+      fits = below_more _ i (λ j h. rw (get_or-set_other c.loop-i.values i j v (pos 0) (λ e. omega arith)) (c.loop-i.invariant.fits j h)) (rw last c.in_ok-values.ensures.fits);
+      spent = omega (arith, c.in_ok-values.ensures.spends);
+    })
+
+pub loop-i-init : goal.loop-i-init
+loop-i-init g c =
+    let n = length c.args.values.now in
+    let e : n - 0 ≡ n = omega arith in
+    record {
+      goes = record { known = λ h. h; errors = refl; raised = refl; behind = λ _. refl; names = refl; reads = λ _. rw e (list_start _) };
+      fits = λ j h. absurd (omega arith);
+      spent = omega arith;
+    }
+
+pub returns-clause-fits : goal.returns-clause-fits
+returns-clause-fits g c = All-from_get_or (FitsBits c.args.n) c.loop-i.values (pos 0) (λ j h. c.loop-i.invariant.fits j (omega (arith, c.loop-i.auto.values, c.loop-i-test.false)))
+
+abbrev okay : List ℤ × Cursor → Result (List ℤ × Cursor) Reason
+okay y = Ok y
+
+pub returns-clause-reads : goal.returns-clause-reads
+returns-clause-reads g c = λ known same. sym (c.loop-i.invariant.goes.reads known) ∙ list_end (length c.args.values.now) c.loop-i.i (signed_field c.args.n) c.loop-i.self.cursor (take c.loop-i.i c.loop-i.values) c.loop-i-test.false ∙ ap (λ front. okay (front, c.loop-i.self.cursor)) (take_all c.loop-i.i c.loop-i.values (omega (arith, c.loop-i.auto.values, c.loop-i-test.false)))

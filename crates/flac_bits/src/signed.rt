@@ -1,0 +1,35 @@
+//! Signed numbers out of unsigned ones.
+
+ghost use Rattle.std.specs.Prelude.{◌≡◌, ◌<◌, ◌≤◌, ◌^◌, ◌-◌, ◌+◌, ◌*◌, ◌/◌};
+ghost use Rattle.flac_bits.specs.Rice.{unfolded as unfolded_value, IsResidual};
+ghost use Rattle.flac_bits.specs.Signed.{to_signed as signed_value, FitsBits};
+
+/// The greatest folded number of a residual value (RFC 9639, section 9.2.7.3).
+pub const MOST_FOLDED: u64 = 0xFFFF_FFFE;
+
+/// The value that was folded: 2r stands for r, and 2r + 1 for -r - 1.
+#[inline(always)]
+pub fn unfolded(folded: u64) -> i64
+    requires { folded ≤ 0xFFFF_FFFE }
+    ensures value { result ≡ unfolded_value folded }
+    ensures fits { IsResidual result }
+{
+    let half = (folded >> 1) as i64;
+    if folded % 2 == 0 { half } else { -1 - half }
+}
+
+/// The number that n bits are in two's complement.
+#[inline(always)]
+pub fn to_signed(value: u64, n: u32) -> i64
+    requires some { 1 ≤ n }
+    requires few { n ≤ 64 }
+    requires small { value < 2 ^ n }
+    ensures value { result ≡ signed_value n value }
+    ensures fits { FitsBits n result }
+{
+    if value < 1u64 << (n - 1) {
+        value as i64
+    } else {
+        -1 - ((u64::MAX >> (64 - n)) - value) as i64
+    }
+}

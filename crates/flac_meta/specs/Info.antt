@@ -1,0 +1,53 @@
+-- STREAMINFO: what a stream says of itself (RFC 9639, section 8.2).
+use Rattle.std.specs.Prelude.{ℕ, ◌+◌, ◌<◌, ◌≤◌, ◌^◌, Bool, ◌||◌, List, [], ◌∷◌, nat_eq, nat_lt}
+use Rattle.flac_bits.specs.Layout.{Layout, done, judge, ◌>>=◌, bits}
+use Rattle.flac_bits.specs.Lists.{list_of}
+use Rattle.flac_bits.specs.declared.why.Why.TheVariants.{BadStreamInfo}
+
+-- Least and greatest block size in samples; least and greatest frame size in bytes, 0 where it is unknown; rate in Hz;
+-- channels; bits a sample; samples of each channel, 0 where they are unknown; the MD5 of all samples, zeros where it is unknown.
+pub record Info : Type 0 where
+  pub least_block : ℕ
+  pub greatest_block : ℕ
+  pub least_frame : ℕ
+  pub greatest_frame : ℕ
+  pub rate : ℕ
+  pub channels : ℕ
+  pub depth : ℕ
+  pub total : ℕ
+  pub digest : List ℕ
+
+-- the rules, and that each number fits its field
+pub record KeepsRules (i : Info) : Type 0 where
+  pub least_block : 16 ≤ i.least_block
+  pub blocks : i.least_block ≤ i.greatest_block
+  pub greatest_block : i.greatest_block < 2 ^ 16
+  pub least_frame : i.least_frame < 2 ^ 24
+  pub greatest_frame : i.greatest_frame < 2 ^ 24
+  pub least_rate : 1 ≤ i.rate
+  pub rate : i.rate < 2 ^ 20
+  pub least_channels : 1 ≤ i.channels
+  pub channels : i.channels ≤ 8
+  pub least_depth : 4 ≤ i.depth
+  pub depth : i.depth ≤ 32
+  pub total : i.total < 2 ^ 36
+
+-- a value that is out of its range, though it fits its field
+abbrev pub is_bad : Info → Bool
+is_bad i = nat_lt i.least_block 16 || nat_lt i.greatest_block i.least_block || nat_eq i.rate 0 || nat_lt i.depth 4
+
+-- the fields in their order; channels and depth are stored less one
+unfoldable pub stream_info : Layout Info
+stream_info = do
+  least_block ← bits 16
+  greatest_block ← bits 16
+  least_frame ← bits 24
+  greatest_frame ← bits 24
+  rate ← bits 20
+  channels ← bits 3
+  depth ← bits 5
+  total ← bits 36
+  digest ← list_of 16 (bits 8)
+  let info : Info = record { least_block = least_block; greatest_block = greatest_block; least_frame = least_frame; greatest_frame = greatest_frame; rate = rate; channels = channels + 1; depth = depth + 1; total = total; digest = digest }
+  _ ← judge (record { broken = is_bad info; why = BadStreamInfo } ∷ [])
+  done info

@@ -1,0 +1,4 @@
+pub mod Info
+pub mod Header
+pub mod Block
+pub mod Padding

@@ -1,0 +1,38 @@
+//! Bytes of a known number.
+
+ghost use Rattle.std.specs.Prelude.{OnOk, ◌<◌, ◌≤◌, ◌*◌, ◌^◌, length};
+ghost use Rattle.flac_bits.specs.Layout.{bits as number};
+ghost use Rattle.flac_bits.specs.Lists.{list_of};
+ghost use Rattle.flac_bits.specs.Reading.{Counts, Reads};
+ghost use Rattle.flac_meta.specs.Padding.{skipped};
+
+use flac_bits::{BitReader, Source, Why};
+
+/// Fills the places with the bytes that come next.
+#[tactic(auto, using(flac_bits::proofs::Lists::list_more, flac_bits::proofs::Lists::list_end, flac_bits::proofs::Lists::list_start))]
+pub fn read_exact<R: Source>(bits: &mut BitReader<R>, out: &mut [u8]) -> Result<(), Why>
+    ensures spends { OnOk result (bits.new.most ≤ bits.old.most) }
+    ensures counts { Counts bits.old bits.new result }
+    ensures reads { Reads (λ _. out.new) (list_of (length out.old) (number 8)) bits.old bits.new result }
+{
+    for i in 0..out.len() {
+        out[i] = bits.take(8)? as u8;
+    }
+    Ok(())
+}
+
+/// Passes over so many bytes.
+#[tactic(auto, using(crate::proofs::Skips::skip_more, crate::proofs::Skips::skip_last))]
+pub fn skip_bytes<R: Source>(bits: &mut BitReader<R>, length: u32) -> Result<(), Why>
+    requires { length < 2 ^ 24 }
+    ensures spends { OnOk result (bits.new.most ≤ bits.old.most) }
+    ensures counts { Counts bits.old bits.new result }
+    ensures reads { Reads (λ _. tt) (skipped (8 * length)) bits.old bits.new result }
+{
+    for i in 0..length / 8 {
+        let _i = i;
+        let _word = bits.take(64)?;
+    }
+    let _rest = bits.take(8 * (length % 8))?;
+    Ok(())
+}

@@ -1,0 +1,25 @@
+//! Metadata blocks of a FLAC stream (RFC 9639, section 8).
+#![tactic(auto)]
+
+mod block;
+mod comments;
+mod cue_sheet;
+mod exact;
+mod header;
+mod lists;
+mod picture;
+mod read_info;
+mod reading;
+mod seek_table;
+mod seen;
+mod stream_info;
+
+pub use block::Block;
+pub use comments::Comments;
+pub use cue_sheet::{CueIndex, CueIndices, CueSheet, CueTrack, CueTracks};
+pub use lists::{Bytes, Texts};
+pub use picture::Picture;
+pub use reading::read_block;
+pub use seek_table::{SeekPoint, SeekTable};
+pub use seen::Seen;
+pub use stream_info::StreamInfo;

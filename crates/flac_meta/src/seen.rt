@@ -1,0 +1,40 @@
+//! Which blocks came already.
+
+ghost use Rattle.std.specs.Prelude.{◌≡◌};
+ghost use Rattle.flac_meta.specs.Header.{nothing_seen};
+ghost use Rattle.flac_meta.specs.Block.{seen_after};
+
+use crate::block::Block;
+
+/// Which kinds of block came already.
+#[derive(Clone, Copy, Debug, PartialEq, Eq)]
+pub struct Seen {
+    pub(crate) stream_info: bool,
+    pub(crate) seek_table: bool,
+    pub(crate) comments: bool,
+}
+
+impl Seen {
+    /// No block came: the next one has to be STREAMINFO.
+    pub fn new() -> Seen
+        ensures { result ≡ nothing_seen }
+    {
+        Seen {
+            stream_info: false,
+            seek_table: false,
+            comments: false,
+        }
+    }
+
+    /// Notes that this block came.
+    pub(crate) fn note(&mut self, block: &Block)
+        ensures { self.new ≡ seen_after self.old block.now }
+    {
+        match block {
+            Block::StreamInfo(_) => self.stream_info = true,
+            Block::SeekTable(_) => self.seek_table = true,
+            Block::VorbisComment(_) => self.comments = true,
+            _ => {}
+        }
+    }
+}

@@ -1,0 +1,201 @@
+//! What a stream says of itself.
+
+ghost use Rattle.std.specs.Prelude.{◌≡◌, IfOk, IfErr};
+ghost use Rattle.flac_meta.specs.Info.{Info, KeepsRules};
+
+use flac_bits::Why;
+use std::marker::Model;
+
+/// STREAMINFO: what a stream says of itself (RFC 9639, section 8.2). A value always keeps the rules of its fields.
+#[derive(Clone, Copy, Debug, PartialEq, Eq)]
+pub struct StreamInfo {
+    pub(crate) least_block: u16,
+    pub(crate) greatest_block: u16,
+    pub(crate) least_frame: u32,
+    pub(crate) greatest_frame: u32,
+    pub(crate) rate: u32,
+    pub(crate) channels: u8,
+    pub(crate) depth: u8,
+    pub(crate) total: u64,
+    pub(crate) digest: [u8; 16],
+}
+
+impl Model for StreamInfo {
+    ghost use Rattle.flac_meta.specs.Info.{Info, KeepsRules};
+
+    ghost Value = { Info };
+
+    ghost view = { λ s. record {
+      least_block = s.least_block;
+      greatest_block = s.greatest_block;
+      least_frame = s.least_frame;
+      greatest_frame = s.greatest_frame;
+      rate = s.rate;
+      channels = s.channels;
+      depth = s.depth;
+      total = s.total;
+      digest = s.digest;
+    } };
+
+    ghost invariant = { λ s. KeepsRules (record {
+      least_block = s.least_block;
+      greatest_block = s.greatest_block;
+      least_frame = s.least_frame;
+      greatest_frame = s.greatest_frame;
+      rate = s.rate;
+      channels = s.channels;
+      depth = s.depth;
+      total = s.total;
+      digest = s.digest;
+    }) };
+
+    ghost inverse = { λ i. record {
+      least_block = i.least_block;
+      greatest_block = i.greatest_block;
+      least_frame = i.least_frame;
+      greatest_frame = i.greatest_frame;
+      rate = i.rate;
+      channels = i.channels;
+      depth = i.depth;
+      total = i.total;
+      digest = i.digest;
+    } };
+}
+
+impl StreamInfo {
+    /// The value of these fields, in the order in which they stand: block sizes in samples, 16 to 65535, the least at most
+    /// the greatest; frame sizes in bytes, below 2^24, 0 where unknown; rate in Hz, 1 to 1048575; 1 to 8 channels; 4 to 32
+    /// bits a sample; samples of each channel, below 2^36, 0 where unknown; the MD5 of the samples, zeros where unknown.
+    /// Refuses [`Why::BadStreamInfo`] where one of these does not hold.
+    pub fn new(
+        least_block: u16,
+        greatest_block: u16,
+        least_frame: u32,
+        greatest_frame: u32,
+        rate: u32,
+        channels: u8,
+        depth: u8,
+        total: u64,
+        digest: [u8; 16],
+    ) -> Result<StreamInfo, Why>
+        ensures value { IfOk result (λ i. i ≡ record {
+          least_block = least_block;
+          greatest_block = greatest_block;
+          least_frame = least_frame;
+          greatest_frame = greatest_frame;
+          rate = rate;
+          channels = channels;
+          depth = depth;
+          total = total;
+          digest = digest;
+        }) }
+        ensures refused { IfErr result (λ e. (e ≡ Why.BadStreamInfo) × (KeepsRules (record {
+          least_block = least_block;
+          greatest_block = greatest_block;
+          least_frame = least_frame;
+          greatest_frame = greatest_frame;
+          rate = rate;
+          channels = channels;
+          depth = depth;
+          total = total;
+          digest = digest;
+        }) → ⊥)) }
+    {
+        let sizes_fit = least_block >= 16
+            && least_block <= greatest_block
+            && least_frame < 1 << 24
+            && greatest_frame < 1 << 24;
+        let rate_fits = rate >= 1 && rate < 1 << 20;
+        let samples_fit = channels >= 1
+            && channels <= 8
+            && depth >= 4
+            && depth <= 32
+            && total < 1 << 36;
+        if !(sizes_fit && rate_fits && samples_fit) {
+            return Err(Why::BadStreamInfo);
+        }
+        Ok(StreamInfo {
+            least_block,
+            greatest_block,
+            least_frame,
+            greatest_frame,
+            rate,
+            channels,
+            depth,
+            total,
+            digest,
+        })
+    }
+
+    /// The least block size in samples.
+    pub fn least_block(&self) -> u16
+        ensures value { result ≡ self.now.least_block }
+        ensures rules { KeepsRules self.now }
+    {
+        self.least_block
+    }
+
+    /// The greatest block size in samples.
+    pub fn greatest_block(&self) -> u16
+        ensures value { result ≡ self.now.greatest_block }
+        ensures rules { KeepsRules self.now }
+    {
+        self.greatest_block
+    }
+
+    /// The least frame size in bytes, 0 where it is unknown.
+    pub fn least_frame(&self) -> u32
+        ensures value { result ≡ self.now.least_frame }
+        ensures rules { KeepsRules self.now }
+    {
+        self.least_frame
+    }
+
+    /// The greatest frame size in bytes, 0 where it is unknown.
+    pub fn greatest_frame(&self) -> u32
+        ensures value { result ≡ self.now.greatest_frame }
+        ensures rules { KeepsRules self.now }
+    {
+        self.greatest_frame
+    }
+
+    /// The sample rate in Hz.
+    pub fn rate(&self) -> u32
+        ensures value { result ≡ self.now.rate }
+        ensures rules { KeepsRules self.now }
+    {
+        self.rate
+    }
+
+    /// How many channels there are, 1 to 8.
+    pub fn channels(&self) -> u8
+        ensures value { result ≡ self.now.channels }
+        ensures rules { KeepsRules self.now }
+    {
+        self.channels
+    }
+
+    /// Bits a sample, 4 to 32.
+    pub fn depth(&self) -> u8
+        ensures value { result ≡ self.now.depth }
+        ensures rules { KeepsRules self.now }
+    {
+        self.depth
+    }
+
+    /// Samples of each channel, 0 where they are unknown.
+    pub fn total(&self) -> u64
+        ensures value { result ≡ self.now.total }
+        ensures rules { KeepsRules self.now }
+    {
+        self.total
+    }
+
+    /// The MD5 of all samples, zeros where it is unknown.
+    pub fn digest(&self) -> [u8; 16]
+        ensures value { result ≡ self.now.digest }
+        ensures rules { KeepsRules self.now }
+    {
+        self.digest
+    }
+}

@@ -1,0 +1,8 @@
+pub mod Bounds
+pub mod Restoring
+pub mod Scaling
+pub mod Zeros
+pub mod Steps
+pub mod Filling
+pub mod Parts
+pub mod Samples

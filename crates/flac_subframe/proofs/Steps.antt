@@ -1,0 +1,18 @@
+-- Readings that follow one another.
+use Rattle.std.proofs.Common.{◌≡◌, ℕ, List, [], ◌∷◌, Result, Ok, Err, refl}
+use Rattle.flac_bits.specs.State.{Cursor, State}
+use Rattle.flac_bits.specs.Layout.{and_then, Reason}
+use Rattle.flac_bits.specs.Reading.{Goes}
+
+-- a loop that has read nothing yet
+pub starts : {Y : Type 0} (old : State) (rest whole : Result Y Reason) → rest ≡ whole → Goes old old rest whole
+starts old rest whole e = record { known = λ h. h; errors = refl; raised = refl; behind = λ h. refl; names = refl; reads = λ h. e }
+
+-- one reading after another, in the other grouping
+pub and_then_and_then : {A B C : Type 0} (r : Result (A × Cursor) Reason) (f : A → Cursor → Result (B × Cursor) Reason) (g : B → Cursor → Result (C × Cursor) Reason) → and_then (and_then r f) g ≡ and_then r (λ x d. and_then (f x d) g)
+and_then_and_then (Ok x) f g = refl
+and_then_and_then (Err e) f g = refl
+
+pub same_then : {A B : Type 0} (r : Result (A × Cursor) Reason) (f g : A → Cursor → Result (B × Cursor) Reason) → ((x : A) (d : Cursor) → f x d ≡ g x d) → and_then r f ≡ and_then r g
+same_then (Ok x) f g h = h x.0 x.1
+same_then (Err e) f g h = refl

@@ -1,0 +1,22 @@
+-- Signed numbers of a given number of bits, and a list of them read at an index.
+use Rattle.std.specs.Prelude.{ℕ, ℤ, pos, negsuc, neg_ℤ, ◌-◌, ◌^◌, ◌-ℤ◌, ◌≤ℤ◌, Bool, true, false, cond, nat_lt, List, [], ◌∷◌, slice_index_or}
+use Rattle.std.proofs.Common.{◌<ℤ◌}
+use Rattle.flac_bits.specs.Layout.{Layout, done, bits, ◌>>=◌}
+
+-- z is a two's complement number of n bits
+pub record FitsBits (n : ℕ) (z : ℤ) : Type 0 where
+  pub low : neg_ℤ (pos (2 ^ (n - 1))) ≤ℤ z
+  pub high : z <ℤ pos (2 ^ (n - 1))
+
+-- the same as a test
+abbrev pub fits : ℕ → ℤ → Bool
+fits n (pos a) = nat_lt a (2 ^ (n - 1))
+fits n (negsuc a) = nat_lt a (2 ^ (n - 1))
+
+abbrev pub all_fit : ℕ → List ℤ → Bool
+all_fit n [] = true
+all_fit n (z ∷ zs) = cond (fits n z) (all_fit n zs) false
+
+-- the sample at an index, 0 past the end
+abbrev pub sample_at : List ℤ → ℕ → ℤ
+sample_at s i = slice_index_or s i (pos 0)

@@ -1,0 +1,24 @@
+//! Signed numbers of a given number of bits.
+
+ghost use Rattle.std.specs.Prelude.{◌≡◌, ◌≤◌, ◌^◌, ◌↔◌, pos, IsTrue};
+ghost use Rattle.flac_subframe.specs.Numbers.{FitsBits};
+
+/// Whether a number has a two's complement form of so many bits.
+#[inline(always)]
+pub fn fits_bits(number: i64, bits: u32) -> bool
+    requires positive { 1 ≤ bits }
+    requires small { bits ≤ 63 }
+    ensures { IsTrue result ↔ FitsBits bits number }
+{
+    let limit = 1i64 << (bits - 1);
+    -limit <= number && number < limit
+}
+
+/// Two to the power of so much.
+#[inline(always)]
+pub fn power_of_two(exponent: u32) -> i64
+    requires { exponent ≤ 33 }
+    ensures { result ≡ pos (2 ^ exponent) }
+{
+    1 << exponent
+}
