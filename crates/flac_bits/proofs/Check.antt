@@ -103,6 +103,9 @@ unfolding fed
 past-check16 [] m = refl
 past-check16 (b ∷ bs) m = past-check16 bs (step b m)
 
+pub fed_from_zero : (w g : ℕ) (bs : List Bool) → fed w g 0 bs ≡ remainder w g bs
+fed_from_zero w g bs = fed_is w g 0 bs ∙ ap (λ k. bit_xor k (remainder w g bs)) (times-zero w g (length bs)) ∙ xor_zero_l (remainder w g bs)
+
 -- the check of bits that were read since the checks began
 pub check8_is : (bs : List Bool) (m : Mark) → m.check8 ≡ 0 → (past bs m).check8 ≡ remainder 8 7 bs
 check8_is bs m z = past-check8 bs m ∙ ap (λ k. fed 8 7 k bs) z ∙ fed_is 8 7 0 bs ∙ ap (λ k. bit_xor k (remainder 8 7 bs)) (times-zero 8 7 (length bs)) ∙ xor_zero_l (remainder 8 7 bs)

@@ -1,14 +1,16 @@
 -- Streams of items: what a step gives is what the grammar means, and no input has two readings.
-use Rattle.std.proofs.Common.{◌≡◌, ◌&&◌, Bool, true, false, cond, List, [], ◌∷◌, ◌++◌, Option, Some, None, Result, Ok, Err, refl, sym, ap, subst, ◌∙◌, append_assoc, inl, inr, ◌⊎◌}
+use Rattle.std.proofs.Common.{◌≡◌, ◌<◌, length, arith, ◌&&◌, Bool, true, false, cond, List, [], ◌∷◌, ◌++◌, Option, Some, None, Result, Ok, Err, refl, sym, ap, subst, ◌∙◌, append_assoc, inl, inr, ◌⊎◌}
 use Rattle.std.proofs.lemmas.List.{append-nil}
 use Rattle.flac_bits.specs.Bits.{is_nil}
-use Rattle.flac_bits.specs.State.{Mark, Cursor, past}
-use Rattle.flac_bits.specs.Layout.{Layout, Rule, Reason, because, run}
-use Rattle.flac_bits.specs.Meaning.{Spells, Shows, IsCut, AllKept, BreaksFirst}
-use Rattle.flac_bits.specs.Items.{Grammar, after, Joined, Stream, StopsAt, Refused, Step, item, over, refused, stepped, judged, step_at, NeedsBits}
+use Rattle.flac_bits.specs.State.{Mark, Cursor, past, fresh}
+use Rattle.flac_bits.specs.Layout.{Layout, Rule, Reason, because}
+use Rattle.flac_bits.specs.Meaning.{Spells, IsCut, AllKept, BreaksFirst}
+use Rattle.flac_bits.specs.Fence.{InRoom, read_in}
+use Rattle.flac_bits.specs.Items.{Grammar, after, Joined, mark_behind, Stream, StopsAt, Refused, Step, item, over, refused, stepped, judged, step_at, NeedsBits}
 use Rattle.flac_bits.specs.declared.why.Why.{Why}
-use Rattle.flac_bits.proofs.Laws.{at_, past-append}
-use Rattle.flac_bits.proofs.Meaning.{again, shown, cut_short, takes, refuses, differ}
+use Rattle.flac_bits.proofs.Laws.{at_}
+use Rattle.flac_bits.proofs.Meaning.{again, cut_short, differ}
+use Rattle.flac_bits.proofs.Fences.{again_in, stops_in, takes_in, refuses_in}
 
 is_nil_is : (xs : List Bool) → is_nil xs ≡ true → xs ≡ []
 is_nil_is [] e = refl
@@ -87,16 +89,24 @@ judged_no_item {I = I} {P = P} at (rule ∷ rules) x d e = go (λ f. judged_no_i
 
 -- ---- what the meaning says of a step
 
+-- what needs a bit is not spelled by none
+spelled_by_none : {A : Type 0} (l : Layout A) (m : Mark) (front rest : List Bool) (x : A) → Spells l m front x → IsCut l m [] → front ++ rest ≡ [] → ⊥
+spelled_by_none l m [] rest x s cut e = differ (x, at_ [] m) (because m.short) (sym (again l m [] [] x s) ∙ cut_short l [] m cut)
+spelled_by_none l m (b ∷ bs) rest x s cut e = absurd cc
+
+pub spelled_some : {A : Type 0} (l : Layout A) (m : Mark) (front : List Bool) (x : A) → Spells l m front x → IsCut l m [] → 0 < length front
+spelled_some l m [] x s cut = absurd (spelled_by_none l m [] [] x s cut refl)
+spelled_some l m (b ∷ bs) x s cut = omega arith
+
 -- what is spelled is the next step
 pub spelled_step : {S I P : Type 0} (g : Grammar S I P) (needs : NeedsBits g) (s : S) (m : Mark) (front rest : List Bool) (x : I)
-    → Spells (g.layout s) m front x → step_at g s (at_ (front ++ rest) m) ≡ item x (at_ rest (past front m))
-spelled_step g needs s m front rest x spelled =
-    let ran : run (g.layout s) (at_ (front ++ rest) m) ≡ Ok (x, at_ rest (past front m)) = again (g.layout s) m front rest x spelled in
+    → Spells (g.layout s) (fresh m) front x → InRoom (g.room s) (fresh m) front → step_at g s (at_ (front ++ rest) m) ≡ item x (at_ rest (past front (fresh m)))
+spelled_step g needs s m front rest x spelled fits =
+    let ran : read_in (g.room s) (g.layout s) (at_ (front ++ rest) (fresh m)) ≡ Ok (x, at_ rest (past front (fresh m))) = again_in (g.room s) (g.layout s) (fresh m) front rest x spelled fits in
     elim (either_way (g.may_end s && is_nil (front ++ rest))) [
       | inl e ↦
           let parts = both (g.may_end s) (is_nil (front ++ rest)) e in
-          let none : front ++ rest ≡ [] = is_nil_is (front ++ rest) parts.1 in
-          absurd (differ (x, at_ rest (past front m)) (because m.short) (sym ran ∙ ap (λ t. run (g.layout s) (at_ t m)) none ∙ cut_short (g.layout s) [] m (needs s m parts.0)))
+          absurd (spelled_by_none (g.layout s) (fresh m) front rest x spelled (needs s (fresh m) parts.0) (is_nil_is (front ++ rest) parts.1))
       | inr e ↦ rw (e, ran) refl
     ]
 
@@ -104,33 +114,30 @@ pub over_step : {S I P : Type 0} (g : Grammar S I P) (s : S) (m : Mark) → g.ma
 over_step g s m e kept = rw e (kept_judged g.end_place (g.at_end s) kept)
 
 pub stops_step : {S I P : Type 0} (g : Grammar S I P) (s : S) (m : Mark) (left : List Bool) (at : P) (why : Why) → StopsAt g s m left at why → step_at g s (at_ left m) ≡ refused at why
-stops_step g s m left at why (inl (e, place, inl (front, rest, split, shows))) =
-    let ran : run (g.layout s) (at_ left m) ≡ Err (because why) = ap (λ t. run (g.layout s) (at_ t m)) split ∙ shown (g.layout s) m front rest why shows in
+stops_step g s m left at why (inl (e, place, stops)) =
+    let ran : read_in (g.room s) (g.layout s) (at_ left (fresh m)) ≡ Err (because why) = stops_in (g.room s) (g.layout s) (fresh m) left why stops in
     rw (e, ran, place) refl
-stops_step g s m left at why (inl (e, place, inr (short, cut))) =
-    let ran : run (g.layout s) (at_ left m) ≡ Err (because m.short) = cut_short (g.layout s) left m cut in
-    rw (e, ran, place, short) refl
 stops_step g s m left at why (inr (e, place, first)) = rw (e, place) (first_judged g.end_place (g.at_end s) why first)
 
 -- ---- and what a step says of the meaning
 
 pub step_spelled : {S I P : Type 0} (g : Grammar S I P) (s : S) (m : Mark) (left : List Bool) (x : I) (d : Cursor) → step_at g s (at_ left m) ≡ item x d
-    → (text : List Bool) × (left ≡ text ++ d.left) × Spells (g.layout s) m text x × (d.mark ≡ past text m)
-step_spelled {I = I} {P = P} g s m left x d e = go (g.may_end s && is_nil left) (run (g.layout s) (at_ left m)) refl e
+    → (text : List Bool) × (left ≡ text ++ d.left) × Spells (g.layout s) (fresh m) text x × InRoom (g.room s) (fresh m) text × (d.mark ≡ past text (fresh m))
+step_spelled {I = I} {P = P} g s m left x d e = go (g.may_end s && is_nil left) (read_in (g.room s) (g.layout s) (at_ left (fresh m))) refl e
   where
-    go : (b : Bool) (r : Result (I × Cursor) Reason) → run (g.layout s) (at_ left m) ≡ r → cond b (judged g.end_place (g.at_end s)) (stepped (g.place s) r) ≡ item x d
-        → (text : List Bool) × (left ≡ text ++ d.left) × Spells (g.layout s) m text x × (d.mark ≡ past text m)
+    go : (b : Bool) (r : Result (I × Cursor) Reason) → read_in (g.room s) (g.layout s) (at_ left (fresh m)) ≡ r → cond b (judged g.end_place (g.at_end s)) (stepped (g.place s) r) ≡ item x d
+        → (text : List Bool) × (left ≡ text ++ d.left) × Spells (g.layout s) (fresh m) text x × InRoom (g.room s) (fresh m) text × (d.mark ≡ past text (fresh m))
     go true r is e = absurd (judged_no_item g.end_place (g.at_end s) x d e)
     go false (Ok y) is e =
         let same = same_item {P = P} y.0 x y.1 d e in
-        takes (g.layout s) left m x d (is ∙ ap (λ z. okay (z, y.1)) same.0 ∙ ap (λ k. okay (x, k)) same.1)
+        takes_in (g.room s) (g.layout s) left (fresh m) x d (is ∙ ap (λ z. okay (z, y.1)) same.0 ∙ ap (λ k. okay (x, k)) same.1)
       where
         okay : I × Cursor → Result (I × Cursor) Reason
         okay z = Ok z
     go false (Err r) is e = absurd (refusal_is_no_item x d (g.place s) r.why e)
 
 pub step_over : {S I P : Type 0} (g : Grammar S I P) (s : S) (m : Mark) (left : List Bool) → step_at g s (at_ left m) ≡ over → (g.may_end s ≡ true) × (left ≡ []) × AllKept (g.at_end s)
-step_over {I = I} {P = P} g s m left e = go (g.may_end s && is_nil left) refl (run (g.layout s) (at_ left m)) e
+step_over {I = I} {P = P} g s m left e = go (g.may_end s && is_nil left) refl (read_in (g.room s) (g.layout s) (at_ left (fresh m))) e
   where
     go : (b : Bool) → (g.may_end s && is_nil left) ≡ b → (r : Result (I × Cursor) Reason) → cond b (judged g.end_place (g.at_end s)) (stepped (g.place s) r) ≡ over → (g.may_end s ≡ true) × (left ≡ []) × AllKept (g.at_end s)
     go true b r e = let parts = both (g.may_end s) (is_nil left) b in (parts.0, is_nil_is left parts.1, judged_over {I = I} g.end_place (g.at_end s) e)
@@ -138,14 +145,14 @@ step_over {I = I} {P = P} g s m left e = go (g.may_end s && is_nil left) refl (r
     go false b (Err r) e = absurd (over_is_no_refusal {I = I} (g.place s) r.why (sym e))
 
 pub step_stops : {S I P : Type 0} (g : Grammar S I P) (s : S) (m : Mark) (left : List Bool) (at : P) (why : Why) → step_at g s (at_ left m) ≡ refused at why → StopsAt g s m left at why
-step_stops {I = I} {P = P} g s m left at why e = go (g.may_end s && is_nil left) refl (run (g.layout s) (at_ left m)) refl e
+step_stops {I = I} {P = P} g s m left at why e = go (g.may_end s && is_nil left) refl (read_in (g.room s) (g.layout s) (at_ left (fresh m))) refl e
   where
-    go : (b : Bool) → (g.may_end s && is_nil left) ≡ b → (r : Result (I × Cursor) Reason) → run (g.layout s) (at_ left m) ≡ r → cond b (judged g.end_place (g.at_end s)) (stepped (g.place s) r) ≡ refused at why → StopsAt g s m left at why
+    go : (b : Bool) → (g.may_end s && is_nil left) ≡ b → (r : Result (I × Cursor) Reason) → read_in (g.room s) (g.layout s) (at_ left (fresh m)) ≡ r → cond b (judged g.end_place (g.at_end s)) (stepped (g.place s) r) ≡ refused at why → StopsAt g s m left at why
     go true b r is e = let j = judged_refused {I = I} g.end_place at (g.at_end s) why e in inr (b, j.0, j.1)
     go false b (Ok y) is e = absurd (refusal_is_no_item y.0 y.1 at why (sym e))
     go false b (Err r) is e =
         let same = same_refusal {I = I} (g.place s) at r.why why e in
-        inl (b, sym same.0, refuses (g.layout s) left m why (is ∙ ap (λ w. failed (because w)) same.1))
+        inl (b, sym same.0, refuses_in (g.room s) (g.layout s) left (fresh m) why (is ∙ ap (λ w. failed (because w)) same.1))
       where
         failed : Reason → Result (I × Cursor) Reason
         failed k = Err k
@@ -187,18 +194,20 @@ one_way {S = S} {P = P} g s c (x ∷ xs) (y ∷ ys) e f p q =
     (ap (λ z. z ∷ xs) same.0 ∙ ap (λ zs. y ∷ zs) rest.0, rest.1)
 
 -- items that are spelled, and then the end, are steps
-joined_steps : {S I P : Type 0} (g : Grammar S I P) (needs : NeedsBits g) (s : S) (m : Mark) (xs : List I) (front left : List Bool) (e : Option (P × Why))
-    → Joined g s m xs front → step_at g (after g s xs) (at_ left (past front m)) ≡ final e → Steps g s (at_ (front ++ left) m) xs e
-joined_steps g needs s m [] front left e j h = rw j (rw j at h)
-joined_steps g needs s m (x ∷ xs) front left e (part, rest, split, spelled, others) h =
-    let behind : past front m ≡ past rest (past part m) = ap (λ t. past t m) split ∙ past-append part rest m in
-    let whole : front ++ left ≡ part ++ (rest ++ left) = ap (λ t. t ++ left) split ∙ append_assoc part rest left in
-    let h' = subst (λ k. step_at g (after g (g.next s x) xs) (at_ left k) ≡ final e) behind h in
-    (at_ (rest ++ left) (past part m), ap (λ t. step_at g s (at_ t m)) whole ∙ spelled_step g needs s m part (rest ++ left) x spelled, joined_steps g needs (g.next s x) (past part m) xs rest left e others h')
+joined_steps : {S I P : Type 0} (g : Grammar S I P) (needs : NeedsBits g) (s : S) (m : Mark) (xs : List I) (front left : List Bool) (e : Option (P × Why)) (j : Joined g s m xs front)
+    → step_at g (after g s xs) (at_ left (mark_behind g s m xs front j)) ≡ final e → Steps g s (at_ (front ++ left) m) xs e
+joined_steps g needs s m [] front left e j h = rw j h
+joined_steps g needs s m (x ∷ xs) front left e (part, rest, split, spelled, fits, others) h =
+    let whole : front ++ left ≡ part ++ (rest ++ left) = ap (λ t. t ++ left) split ∙ append_assoc part rest left in (
+      at_ (rest ++ left) (past part (fresh m)),
+      ap (λ t. step_at g s (at_ t m)) whole ∙ spelled_step g needs s m part (rest ++ left) x spelled fits,
+      joined_steps g needs (g.next s x) (past part (fresh m)) xs rest left e others h,
+    )
 
 pub stream_steps : {S I P : Type 0} (g : Grammar S I P) (needs : NeedsBits g) (s : S) (m : Mark) (xs : List I) (text : List Bool) → Stream g s m xs text → Steps g s (at_ text m) xs None
-stream_steps g needs s m xs text w = subst (λ t. Steps g s (at_ t m) xs None) (append-nil text) (joined_steps g needs s m xs text [] None w.spelled (over_step g (after g s xs) (past text m) w.ends w.kept))
+stream_steps g needs s m xs text w =
+    subst (λ t. Steps g s (at_ t m) xs None) (append-nil text) (joined_steps g needs s m xs text [] None w.spelled (over_step g (after g s xs) (mark_behind g s m xs text w.spelled) w.ends w.kept))
 
 pub refused_steps : {S I P : Type 0} (g : Grammar S I P) (needs : NeedsBits g) (s : S) (m : Mark) (xs : List I) (text : List Bool) (at : P) (why : Why) → Refused g s m xs text at why → Steps g s (at_ text m) xs (Some (at, why))
 refused_steps g needs s m xs text at why r = subst (λ t. Steps g s (at_ t m) xs (Some (at, why))) (sym r.stands)
-    (joined_steps g needs s m xs r.front r.left (Some (at, why)) r.spelled (stops_step g (after g s xs) (past r.front m) r.left at why r.stops))
+    (joined_steps g needs s m xs r.front r.left (Some (at, why)) r.spelled (stops_step g (after g s xs) (mark_behind g s m xs r.front r.spelled) r.left at why r.stops))

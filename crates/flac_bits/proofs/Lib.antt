@@ -15,5 +15,10 @@ pub mod Partly
 pub mod Tables
 pub mod Ties
 pub mod CodedTie
+pub mod Fences
 pub mod Items
 pub mod Signs
+pub mod Back
+pub mod Copied
+pub mod Handing
+pub mod ItemSpellings

@@ -171,7 +171,7 @@ cut_short mark left m s = absurd s
 pair_is : {A : Type 0} (p q : A × Cursor) → read p ≡ read q → p ≡ q
 pair_is p q e = cc
 
-is_ok_of : {A : Type 0} (x y : A) (c d : Cursor) → read (x, c) ≡ read (y, d) → (x ≡ y) × (c ≡ d)
+pub is_ok_of : {A : Type 0} (x y : A) (c d : Cursor) → read (x, c) ≡ read (y, d) → (x ≡ y) × (c ≡ d)
 is_ok_of {A = A} x y c d e = let same = pair_is (x, c) (y, d) e in (ap (λ (p : A × Cursor). p.0) same, ap (λ (p : A × Cursor). p.1) same)
 
 reason_is : {A : Type 0} (v w : Reason) → failed_by {A = A} v ≡ failed_by w → v ≡ w

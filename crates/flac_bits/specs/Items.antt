@@ -1,14 +1,17 @@
 -- Items one after another, each spelled by its layout in the state that the items before it left.
-use Rattle.std.specs.Prelude.{◌≡◌, ◌&&◌, Bool, true, false, cond, List, [], ◌∷◌, ◌++◌, Result, Ok, Err, ◌⊎◌}
+use Rattle.std.specs.Prelude.{◌≡◌, ◌↔◌, ◌≤◌, ◌*◌, ◌%◌, ◌&&◌, ℕ, length, ⊤, Some, None, Bool, true, false, cond, List, [], ◌∷◌, ◌++◌, Option, Result, Ok, Err, ◌⊎◌}
 use Rattle.flac_bits.specs.Bits.{is_nil}
-use Rattle.flac_bits.specs.State.{Mark, Cursor, past}
-use Rattle.flac_bits.specs.Layout.{Layout, Rule, Reason, run}
-use Rattle.flac_bits.specs.Meaning.{Spells, Shows, IsCut, AllKept, BreaksFirst}
+use Rattle.flac_bits.specs.State.{Mark, Cursor, past, fresh}
+use Rattle.flac_bits.specs.Layout.{Layout, Rule, Reason}
+use Rattle.flac_bits.specs.Meaning.{Spells, IsCut, AllKept, BreaksFirst}
+use Rattle.flac_bits.specs.Forms.{Ties}
+use Rattle.flac_bits.specs.Fence.{InRoom, StopsIn, read_in}
 use Rattle.flac_bits.specs.declared.why.Why.{Why}
 
--- which layout the next item has, what it leaves, where the input may end, and which rules are judged there
+-- which layout the next item has, how many bytes it may have at most (None: there is no bound), what it leaves, where the input may end, and which rules are judged there
 pub record Grammar (S I P : Type 0) : Type 1 where
   pub layout : S → Layout I
+  pub room : S → Option ℕ
   pub next : S → I → S
   pub may_end : S → Bool
   pub at_end : S → List Rule
@@ -20,10 +23,16 @@ abbrev pub after : {S I P : Type 0} → Grammar S I P → S → List I → S
 after g s [] = s
 after g s (x ∷ xs) = after g (g.next s x) xs
 
--- the bits are these items, spelled one after another
+-- the bits are these items, spelled one after another, each within its room; at each the checks begin anew
 abbrev pub Joined : {S I P : Type 0} → Grammar S I P → S → Mark → List I → List Bool → Type 0
 Joined g s m [] text = text ≡ []
-Joined g s m (x ∷ xs) text = (front : List Bool) × (rest : List Bool) × (text ≡ front ++ rest) × Spells (g.layout s) m front x × Joined g (g.next s x) (past front m) xs rest
+Joined g s m (x ∷ xs) text =
+    (front : List Bool) × (rest : List Bool) × (text ≡ front ++ rest) × Spells (g.layout s) (fresh m) front x × InRoom (g.room s) (fresh m) front × Joined g (g.next s x) (past front (fresh m)) xs rest
+
+-- what is known of the bits behind these items
+abbrev pub mark_behind : {S I P : Type 0} (g : Grammar S I P) (s : S) (m : Mark) (items : List I) (text : List Bool) → Joined g s m items text → Mark
+mark_behind g s m [] text j = m
+mark_behind g s m (x ∷ xs) text j = mark_behind g (g.next s x) (past j.0 (fresh m)) xs j.1 j.5
 
 -- the whole input is these items, may end behind them, and keeps the rules that are judged there
 pub record Stream {S I P : Type 0} (g : Grammar S I P) (s : S) (m : Mark) (items : List I) (text : List Bool) : Type 0 where
@@ -31,10 +40,10 @@ pub record Stream {S I P : Type 0} (g : Grammar S I P) (s : S) (m : Mark) (items
   pub ends : g.may_end (after g s items) ≡ true
   pub kept : AllKept (g.at_end (after g s items))
 
--- no further item is there: a front of what is left is good fields of it, at whose end a rule is broken, or what is left ends inside; or it is over, and a rule of the end is broken
+-- no further item is there: it is not spelled within its room; or the input is over, and a rule of the end is broken
 abbrev pub StopsAt : {S I P : Type 0} → Grammar S I P → S → Mark → List Bool → P → Why → Type 0
 StopsAt g s m left at why =
-    (((g.may_end s && is_nil left) ≡ false) × (at ≡ g.place s) × (((front : List Bool) × (rest : List Bool) × (left ≡ front ++ rest) × Shows (g.layout s) m front why) ⊎ ((why ≡ m.short) × IsCut (g.layout s) m left)))
+    (((g.may_end s && is_nil left) ≡ false) × (at ≡ g.place s) × StopsIn (g.room s) (g.layout s) (fresh m) left why)
     ⊎ (((g.may_end s && is_nil left) ≡ true) × (at ≡ g.end_place) × BreaksFirst (g.at_end s) why)
 
 -- behind these good items the input is refused, at this place and for this reason
@@ -43,7 +52,7 @@ pub record Refused {S I P : Type 0} (g : Grammar S I P) (s : S) (m : Mark) (item
   pub left : List Bool
   pub stands : text ≡ front ++ left
   pub spelled : Joined g s m items front
-  pub stops : StopsAt g (after g s items) (past front m) left at why
+  pub stops : StopsAt g (after g s items) (mark_behind g s m items front spelled) left at why
 
 -- ---- what one step of a reading gives
 
@@ -61,8 +70,35 @@ judged at [] = over
 judged at (rule ∷ rules) = cond rule.broken (refused at rule.why) (judged at rules)
 
 abbrev pub step_at : {S I P : Type 0} → Grammar S I P → S → Cursor → Step I P
-step_at g s c = cond (g.may_end s && is_nil c.left) (judged g.end_place (g.at_end s)) (stepped (g.place s) (run (g.layout s) c))
+step_at g s c = cond (g.may_end s && is_nil c.left) (judged g.end_place (g.at_end s)) (stepped (g.place s) (read_in (g.room s) (g.layout s) (record c { mark = fresh c.mark })))
 
 -- where it may end, an item needs at least one bit
 abbrev pub NeedsBits : {S I P : Type 0} → Grammar S I P → Type 0
 NeedsBits {S = S} g = (s : S) (m : Mark) → g.may_end s ≡ true → IsCut (g.layout s) m []
+
+-- ---- the items' spellings
+
+-- a spelling, which begins at a whole byte, has no more bytes than it may have
+abbrev pub FitsRoom : Option ℕ → List Bool → Type 0
+FitsRoom None text = ⊤
+FitsRoom (Some n) text = length text ≤ 8 * n
+
+-- each item is valid behind those before it, and its spelling fits its room
+abbrev pub AllValid : {S I P : Type 0} → Grammar S I P → (S → I → Type 0) → (S → I → List Bool) → S → List I → Type 0
+AllValid g valid spelling s [] = ⊤
+AllValid g valid spelling s (x ∷ xs) = valid s x × FitsRoom (g.room s) (spelling s x) × AllValid g valid spelling (g.next s x) xs
+
+-- the spellings of these items, joined
+abbrev pub all_spelled : {S I P : Type 0} → Grammar S I P → (S → I → List Bool) → S → List I → List Bool
+all_spelled g spelling s [] = []
+all_spelled g spelling s (x ∷ xs) = spelling s x ++ all_spelled g spelling (g.next s x) xs
+
+-- at a whole byte where the checks begin, the layouts spell just the valid items, each in one way and in whole bytes
+pub record TiesItems {S I P : Type 0} (g : Grammar S I P) (valid : S → I → Type 0) (spelling : S → I → List Bool) : Type 0 where
+  pub ties : (s : S) (m : Mark) → m.unread ≡ 0 → m.check8 ≡ 0 → m.check16 ≡ 0 → Ties (g.layout s) m (valid s) (spelling s)
+  pub whole : (s : S) (x : I) → valid s x → length (spelling s x) % 8 ≡ 0
+
+-- so items one after another are just the valid ones, and their bits the spellings joined
+abbrev pub JoinsSpellings : {S I P : Type 0} → Grammar S I P → (S → I → Type 0) → (S → I → List Bool) → Type 0
+JoinsSpellings {S = S} {I = I} g valid spelling =
+    (s : S) (m : Mark) (items : List I) (text : List Bool) → m.unread ≡ 0 → Joined g s m items text ↔ (AllValid g valid spelling s items × (text ≡ all_spelled g spelling s items))

@@ -11,6 +11,8 @@ pub mod Store
 pub mod Rice
 pub mod Forms
 pub mod Coded
+pub mod Fence
 pub mod Items
+pub mod Handing
 pub mod Signed
 pub mod Sending

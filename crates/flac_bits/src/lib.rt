@@ -25,6 +25,7 @@ pub use promises::numbers_are_spelled;
 pub use reader::BitReader;
 pub use send::send_all;
 pub use source::{Memory, Source};
+pub use sums::{crc8, crc16};
 pub use target::{Collected, Target};
 pub use why::Why;
 pub use word::Word;

@@ -6,7 +6,7 @@ ghost use Rattle.flac_subframe.specs.Numbers.{FitsBits};
 ghost use Rattle.flac_subframe.specs.Subframe.{is_reserved, content_samples, wasted_bits, header, scaled, subframe_samples};
 ghost use Rattle.flac_bits.specs.Layout.{bind, done, zeros_at};
 
-use crate::fields::{read_signed, take_signed};
+use crate::fields::{read_signed, read_zeros, take_signed};
 use crate::limits::Limits;
 use crate::numbers::power_of_two;
 use flac_bits::{BitReader, Source, Why};
@@ -23,25 +23,6 @@ fn is_reserved(kind: u64) -> bool
     ensures { result ≡ is_reserved kind }
 {
     (1 < kind && kind < 8) || (12 < kind && kind < 32)
-}
-
-/// How many zeros stand before the next one; `None` at a zero past the limit.
-#[tactic(auto, unfolding(flac_bits::specs::Layout::zeros_at), using(crate::proofs::Zeros::zeros_turn, crate::proofs::Zeros::zeros_final))]
-fn read_zeros<R: Source>(bits: &mut BitReader<R>, limit: u32) -> Result<Option<u32>, Why>
-    ensures within { IfOk result (λ o. IfSome o (λ q. q ≤ limit)) }
-    ensures spends { OnOk result (bits.new.most ≤ bits.old.most) }
-    ensures counts { Counts bits.old bits.new result }
-    ensures reads { Gives (λ v. v) (zeros_at limit bits.old.cursor) bits.old bits.new result }
-{
-    for zeros in 0..limit {
-        if bits.take(1)? == 1 {
-            return Ok(Some(zeros));
-        }
-    }
-    if bits.take(1)? == 1 {
-        return Ok(Some(limit));
-    }
-    Ok(None)
 }
 
 /// How many bits are wasted (RFC 9639, section 9.2.2).

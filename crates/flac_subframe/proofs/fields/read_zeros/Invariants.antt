@@ -1,7 +1,7 @@
 use Rattle.std.proofs.Common.{◌-◌, ◌≤◌}
 use Rattle.flac_bits.specs.Layout.{zeros_from}
 use Rattle.flac_bits.specs.Reading.{Goes}
-use Rattle.flac_subframe.proofs.subframe.read_zeros.Given as goal
+use Rattle.flac_subframe.proofs.fields.read_zeros.Given as goal
 
 abbrev pub invariant-loop-zeros : goal.invariant-loop-zeros
 invariant-loop-zeros g l = record {

@@ -1,0 +1,74 @@
+-- What a call hands to a receiver, which reads a stream item by item.
+use Rattle.std.specs.Prelude.{◌≡◌, ◌≢◌, ◌<◌, ℕ, Bool, true, List, [], ◌∷◌, ◌++◌, Option, Some, None, Result, Ok, Err, ◌⊎◌}
+use Rattle.flac_bits.specs.State.{Mark, Cursor, State}
+use Rattle.flac_bits.specs.Items.{Grammar, after, Joined, Stream, Refused, Step, item, over, refused}
+use Rattle.flac_bits.specs.declared.why.Why.{Why}
+use Rattle.flac_bits.specs.declared.why.Why.TheVariants.{Memory, Sink}
+
+-- ---- one step
+
+-- nothing, or where and why a call refused, as told tells it of its error
+abbrev pub outcome_of : {X E P : Type 0} → (E → P × Why) → Result X E → Option (P × Why)
+outcome_of told (Ok x) = None
+outcome_of told (Err e) = Some (told e)
+
+-- the same without the place
+abbrev pub reason_of : {X E P : Type 0} → (E → P × Why) → Result X E → Result X Why
+reason_of told (Ok x) = Ok x
+reason_of told (Err e) = Err (told e).1
+
+-- the answer, seen by view, is what the step gives, but where memory is wanting
+abbrev pub StepIs : {X E I P : Type 0} → (X → I) → (E → P × Why) → Step I P → Cursor → Result (Option X) E → Type 0
+StepIs view told step at (Ok None) = step ≡ over
+StepIs view told step at (Ok (Some x)) = step ≡ item (view x) at
+StepIs view told step at (Err e) = (told e).1 ≢ Memory → step ≡ refused (told e).0 (told e).1
+
+-- so it is where the source tells its bytes and answered no error in the call, foretold or not
+abbrev pub StepsTo : {X E I P : Type 0} → (X → I) → (E → P × Why) → Step I P → State → State → Result (Option X) E → Type 0
+StepsTo view told step old new result = old.known ≡ true → new.errors ≡ old.errors → new.raised ≡ old.raised → StepIs view told step new.cursor result
+
+-- the source answered no error
+abbrev pub IsCalm : State → State → Type 0
+IsCalm old new = (new.errors ≡ old.errors) × (new.raised ≡ old.raised)
+
+-- ---- a whole reading
+
+-- a receiver that takes these items, one after another, goes on from old to new
+abbrev pub TakesAll : {K I : Type 0} → (K → I → K → Type 0) → K → List I → K → Type 0
+TakesAll takes old [] new = old ≡ new
+TakesAll {K} takes old (x ∷ xs) new = (mid : K) × takes old x mid × TakesAll takes mid xs new
+
+-- what was answered, and what the receiver took; errors counts those that it answered, and calm says that the source answered none
+pub record Hands {S I P K : Type 0} (g : Grammar S I P) (takes : K → I → K → Type 0) (errors : K → ℕ) (s : S) (mark : Mark) (text : List Bool) (calm : Type 0) (old new : K) (outcome : Option (P × Why)) : Type 0 where
+  -- over only where the input is a stream, of which the receiver took just the items
+  pub done : calm → outcome ≡ None → (items : List I) × Stream g s mark items text × TakesAll takes old items new
+  -- refused only as the input is, behind just the items that the receiver took
+  pub refused : calm → (at : P) (why : Why) → outcome ≡ Some (at, why) → why ≢ Memory → errors new ≡ errors old → (items : List I) × Refused g s mark items text at why × TakesAll takes old items new
+  -- whatever ended it: the receiver took items that are spelled whole, one after another, from the start, and where it did not fail it stands behind them
+  pub begun : (items : List I) × (front : List Bool) × (left : List Bool) × (mid : K) × (text ≡ front ++ left) × Joined g s mark items front × TakesAll takes old items mid × (errors new ≡ errors old → mid ≡ new)
+  -- where the receiver failed, that is told at the place of the item that it did not take, and it had taken just the items before
+  pub failed : errors old < errors new → (at : P) × (outcome ≡ Some (at, Sink)) × ((items : List I) × (front : List Bool) × (left : List Bool) × (mid : K) × (text ≡ front ++ left) × Joined g s mark items front
+      × (at ≡ g.place (after g s items)) × TakesAll takes old items mid)
+
+-- and which answer an input has
+pub record Decides {S I P : Type 0} (g : Grammar S I P) (s : S) (mark : Mark) (text : List Bool) (outcome : Option (P × Why)) : Type 0 where
+  -- a stream is not refused, but for want of memory
+  pub accepted : (items : List I) → Stream g s mark items text → (at : P) (why : Why) → outcome ≡ Some (at, why) → why ≢ Memory → ⊥
+  -- an input that is to be refused is refused
+  pub is_refused : (items : List I) (at : P) (why : Why) → Refused g s mark items text at why → outcome ≢ None
+  -- at just its place and for just its reason
+  pub shown : (items : List I) (at : P) (why : Why) → Refused g s mark items text at why → (to : P) (w : Why) → outcome ≡ Some (to, w) → w ≢ Memory → (to ≡ at) × (w ≡ why)
+
+-- no input has two readings: it is one stream, or is refused in one way
+pub record ReadsOnce {S I P : Type 0} (g : Grammar S I P) (s : S) (mark : Mark) (text : List Bool) : Type 0 where
+  pub streams : (xs ys : List I) → Stream g s mark xs text → Stream g s mark ys text → xs ≡ ys
+  pub either : (xs ys : List I) (at : P) (why : Why) → Stream g s mark xs text → Refused g s mark ys text at why → ⊥
+  pub refusals : (xs ys : List I) (at to : P) (v w : Why) → Refused g s mark xs text at v → Refused g s mark ys text to w → (xs ≡ ys) × (at ≡ to) × (v ≡ w)
+
+abbrev pub OneReading : {S I P : Type 0} → Grammar S I P → Type 0
+OneReading {S = S} g = (s : S) (mark : Mark) (text : List Bool) → ReadsOnce g s mark text
+
+-- and each input has one
+abbrev pub SomeReading : {S I P : Type 0} → Grammar S I P → Type 0
+SomeReading {S = S} {I = I} {P = P} g =
+    (s : S) (mark : Mark) (text : List Bool) → ((items : List I) × Stream g s mark items text) ⊎ ((items : List I) × (at : P) × (why : Why) × Refused g s mark items text at why)

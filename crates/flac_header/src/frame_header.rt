@@ -1,0 +1,99 @@
+//! The value of a frame header.
+
+ghost use Rattle.std.specs.Prelude.{◌≡◌, ◌≤◌};
+ghost use Rattle.flac_header.specs.Header.{channels_of, depth_of};
+
+use std::marker::Model;
+
+/// The header of a frame, with the codes that were chosen. Size, rate and number are always such as the codes may stand for.
+#[derive(Clone, Copy, Debug, PartialEq, Eq)]
+pub struct FrameHeader {
+    pub(crate) variable: bool,
+    pub(crate) size_code: u8,
+    pub(crate) size: u32,
+    pub(crate) rate_code: u8,
+    pub(crate) rate: u32,
+    pub(crate) channel_code: u8,
+    pub(crate) depth_code: u8,
+    pub(crate) number: u64,
+}
+
+impl Model for FrameHeader {
+    ghost use Rattle.flac_header.specs.Header.{Header, IsHeader};
+
+    ghost Value = { Header };
+
+    ghost view = { λ h. record { variable = h.variable; size_code = h.size_code; size = h.size; rate_code = h.rate_code; rate = h.rate; channel_code = h.channel_code; depth_code = h.depth_code; number = h.number } };
+
+    ghost invariant = { λ h. IsHeader (record { variable = h.variable; size_code = h.size_code; size = h.size; rate_code = h.rate_code; rate = h.rate; channel_code = h.channel_code; depth_code = h.depth_code; number = h.number }) };
+
+    ghost inverse = { λ h. record { variable = h.variable; size_code = h.size_code; size = h.size; rate_code = h.rate_code; rate = h.rate; channel_code = h.channel_code; depth_code = h.depth_code; number = h.number } };
+}
+
+impl FrameHeader {
+    /// Whether the number is that of the first sample; else it counts the frames (RFC 9639, section 9.1).
+    pub fn variable(&self) -> bool
+        ensures { result ≡ self.now.variable }
+    {
+        self.variable
+    }
+
+    /// Samples a channel, 1 to 65535 (section 9.1.1).
+    pub fn block_size(&self) -> u32
+        ensures size { result ≡ self.now.size }
+        ensures least { 1 ≤ result }
+        ensures greatest { result ≤ 65535 }
+    {
+        self.size
+    }
+
+    /// Samples a second, 0 where STREAMINFO tells the rate (section 9.1.2).
+    pub fn rate(&self) -> u32
+        ensures { result ≡ self.now.rate }
+    {
+        self.rate
+    }
+
+    /// How many channels, 1 to 8 (section 9.1.3).
+    pub fn channels(&self) -> u32
+        ensures channels { result ≡ channels_of self.now.channel_code }
+        ensures least { 1 ≤ result }
+        ensures greatest { result ≤ 8 }
+    {
+        match self.channel_code {
+            code @ 0..=7 => code as u32 + 1,
+            _ => 2,
+        }
+    }
+
+    /// The channel code, 0 to 10: 8 is left and side, 9 side and right, 10 mid and side (section 9.1.3).
+    pub fn channel_code(&self) -> u8
+        ensures code { result ≡ self.now.channel_code }
+        ensures greatest { result ≤ 10 }
+    {
+        self.channel_code
+    }
+
+    /// Bits of a sample, 0 where STREAMINFO tells the depth (section 9.1.4).
+    pub fn depth(&self) -> u32
+        ensures depth { result ≡ depth_of self.now.depth_code }
+        ensures greatest { result ≤ 32 }
+    {
+        match self.depth_code {
+            1 => 8,
+            2 => 12,
+            4 => 16,
+            5 => 20,
+            6 => 24,
+            7 => 32,
+            _ => 0,
+        }
+    }
+
+    /// The number of the frame or of its first sample, below 2^36 (section 9.1.5).
+    pub fn number(&self) -> u64
+        ensures { result ≡ self.now.number }
+    {
+        self.number
+    }
+}

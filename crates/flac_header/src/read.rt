@@ -1,0 +1,126 @@
+//! Reads the header of a frame.
+
+ghost use Rattle.std.specs.Prelude.{◌≡◌, ◌<◌, ◌≤◌, ◌+◌, ◌^◌, IfOk, OnOk};
+ghost use Rattle.flac_bits.specs.Reading.{Counts, Reads, Means};
+ghost use Rattle.flac_bits.specs.State.{started};
+ghost use Rattle.flac_header.specs.Header.{size_field, rate_field, header, IsSize, IsRate};
+
+use crate::frame_header::FrameHeader;
+use flac_bits::{BitReader, Source, Why, read_number};
+
+/// The block size by its code and, where this asks for it, by what stands here (RFC 9639, section 9.1.6).
+#[tactic(auto, unfolding(crate::specs::Header::size_field))]
+fn read_size<R: Source>(bits: &mut BitReader<R>, code: u8) -> Result<u32, Why>
+    requires chosen { 0 < code }
+    requires small { code < 16 }
+    ensures fits { IfOk result (λ v. IsSize code v) }
+    ensures spends { OnOk result (bits.new.most ≤ bits.old.most) }
+    ensures counts { Counts bits.old bits.new result }
+    ensures reads { Reads (λ v. v) (size_field code) bits.old bits.new result }
+{
+    let size = match code {
+        1 => 192,
+        2..=5 => 144 << code,
+        6 => bits.take(8)? as u32 + 1,
+        7 => {
+            let less_one = bits.take(16)? as u32;
+            if less_one == 65535 {
+                return Err(Why::ReservedCode);
+            }
+            less_one + 1
+        }
+        _ => 1 << code,
+    };
+    Ok(size)
+}
+
+/// The rate by its code and, where this asks for it, by what stands here (RFC 9639, section 9.1.7).
+#[tactic(auto, unfolding(crate::specs::Header::rate_field))]
+fn read_rate<R: Source>(bits: &mut BitReader<R>, code: u8) -> Result<u32, Why>
+    requires { code < 15 }
+    ensures fits { IfOk result (λ v. IsRate code v) }
+    ensures spends { OnOk result (bits.new.most ≤ bits.old.most) }
+    ensures counts { Counts bits.old bits.new result }
+    ensures reads { Reads (λ v. v) (rate_field code) bits.old bits.new result }
+{
+    let rate = match code {
+        0 => 0,
+        1 => 88200,
+        2 => 176400,
+        3 => 192000,
+        4 => 8000,
+        5 => 16000,
+        6 => 22050,
+        7 => 24000,
+        8 => 32000,
+        9 => 44100,
+        10 => 48000,
+        11 => 96000,
+        12 => bits.take(8)? as u32 * 1000,
+        13 => bits.take(16)? as u32,
+        _ => bits.take(16)? as u32 * 10,
+    };
+    Ok(rate)
+}
+
+/// The header from its first bit on, the checks having begun there.
+#[tactic(auto, unfolding(crate::specs::Header::header))]
+fn read_fields<R: Source>(bits: &mut BitReader<R>) -> Result<FrameHeader, Why>
+    ensures spends { OnOk result (bits.new.most + 40 ≤ bits.old.most) }
+    ensures counts { Counts bits.old bits.new result }
+    ensures reads { Reads (λ h. h) header bits.old bits.new result }
+{
+    if bits.take(15)? != 0x7FFC {
+        return Err(Why::BadSync);
+    }
+    let variable = bits.take(1)? == 1;
+    let size_code = bits.take(4)? as u8;
+    if size_code == 0 {
+        return Err(Why::ReservedCode);
+    }
+    let rate_code = bits.take(4)? as u8;
+    if rate_code == 15 {
+        return Err(Why::ReservedCode);
+    }
+    let channel_code = bits.take(4)? as u8;
+    if channel_code > 10 {
+        return Err(Why::ReservedCode);
+    }
+    let depth_code = bits.take(3)? as u8;
+    if depth_code == 3 {
+        return Err(Why::ReservedCode);
+    }
+    if bits.take(1)? != 0 {
+        return Err(Why::ReservedCode);
+    }
+    let number = read_number(bits, if variable { 36 } else { 31 })?;
+    let size = read_size(bits, size_code)?;
+    let rate = read_rate(bits, rate_code)?;
+    let check = bits.check8();
+    if bits.take(8)? != u64::from(check) {
+        return Err(Why::HeaderCheck);
+    }
+    Ok(FrameHeader {
+        variable,
+        size_code,
+        size,
+        rate_code,
+        rate,
+        channel_code,
+        depth_code,
+        number,
+    })
+}
+
+/// Reads the header of the frame that begins here, at a whole byte, and begins the checks there (RFC 9639, section 9.1).
+///
+/// Refuses `BadSync`, `ReservedCode`, `BadNumber` and `HeaderCheck`, each at the end of the field that shows it.
+pub fn read_header<R: Source>(bits: &mut BitReader<R>) -> Result<FrameHeader, Why>
+    ensures spends { OnOk result (bits.new.most + 40 ≤ bits.old.most) }
+    ensures counts { Counts bits.old bits.new result }
+    ensures reads { Reads (λ h. h) header (started bits.old) bits.new result }
+    ensures means { Means (λ h. h) header (started bits.old) bits.new result }
+{
+    bits.start_checks();
+    read_fields(bits)
+}
