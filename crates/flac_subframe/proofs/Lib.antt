@@ -1,7 +1,6 @@
 pub mod Bounds
 pub mod Restoring
 pub mod Scaling
-pub mod Zeros
 pub mod Steps
 pub mod Filling
 pub mod Parts
