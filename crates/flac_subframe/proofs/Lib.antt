@@ -7,3 +7,4 @@ pub mod Parts
 pub mod Samples
 pub mod Unique
 pub mod Predicted
+pub mod Whole
