@@ -9,7 +9,8 @@ use Rattle.flac_bits.specs.Lists.{list_of, behind}
 use Rattle.flac_bits.specs.Reading.{Goes}
 use Rattle.flac_bits.proofs.Loops.{goes_on}
 use Rattle.flac_bits.proofs.Lists.{list_more, list_end, list_start}
-use Rattle.flac_subframe.specs.Numbers.{FitsBits, sample_at}
+use Rattle.flac_bits.specs.Signed.{FitsBits}
+use Rattle.flac_subframe.specs.Numbers.{sample_at}
 use Rattle.flac_subframe.proofs.Steps.{starts}
 
 -- the first i of n places are filled with what was read, of numbers of so many bits

@@ -8,7 +8,8 @@ use Rattle.flac_bits.specs.State.{Cursor, State}
 use Rattle.flac_bits.specs.Layout.{Layout, run, and_then, bind, done, Reason}
 use Rattle.flac_bits.specs.Reading.{Goes}
 use Rattle.flac_bits.proofs.Loops.{goes_on}
-use Rattle.flac_subframe.specs.Numbers.{FitsBits, sample_at}
+use Rattle.flac_bits.specs.Signed.{FitsBits}
+use Rattle.flac_subframe.specs.Numbers.{sample_at}
 use Rattle.flac_subframe.specs.Residual.{Partition, partition, partitions, all_values}
 use Rattle.flac_subframe.proofs.Steps.{starts, and_then_and_then, same_then}
 

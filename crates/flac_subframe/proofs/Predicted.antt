@@ -4,13 +4,13 @@ use borrow.Rule.Slice.PartMut.{put_mid, mid_of, same_len_mid}
 use Rattle.std.proofs.lemmas.List.{take_all, length-append, length-take, length-drop}
 use Rattle.std.proofs.Math.Seq.{take-append_seam}
 use Rattle.std.proofs.lemmas.Slice.{take-put_mid}
-use Rattle.flac_subframe.specs.Numbers.{FitsBits}
+use Rattle.flac_bits.specs.Signed.{FitsBits}
 use Rattle.flac_subframe.specs.Prediction.{Restored}
 use Rattle.flac_subframe.proofs.Unique.{restored_fits}
 use Rattle.flac_bits.specs.State.{Cursor}
 use Rattle.flac_bits.specs.Layout.{Layout, run, and_then, bind, done, Reason}
 use Rattle.flac_bits.specs.Lists.{list_of}
-use Rattle.flac_subframe.specs.Fields.{signed_field}
+use Rattle.flac_bits.specs.Signed.{signed_field}
 use Rattle.flac_subframe.specs.Numbers.{all_fit}
 use Rattle.flac_subframe.specs.Prediction.{fixed_coefficients, restored}
 use Rattle.flac_subframe.specs.Residual.{Residual, residual_header, residual, residual_values, partitions, all_values}

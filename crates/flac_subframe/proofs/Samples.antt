@@ -1,10 +1,12 @@
 -- Samples that are computed from a form that was read.
-use Rattle.std.proofs.Common.{◌≡◌, ℕ, ◌-◌, List, [], ◌∷◌, Bool, true, false, cond, Option, Some, None, Result, Ok, Err, refl, sym, ap, ◌∙◌, ℤ, All, arith, nat_lt, ◌<◌, ◌^◌, pos, negsuc, ◌≤◌, length, replicate}
+use Rattle.std.proofs.Common.{◌≡◌, ℕ, zero, suc, ◌-◌, List, [], ◌∷◌, Bool, true, false, cond, Option, Some, None, Result, Ok, Err, refl, sym, ap, ◌∙◌, ℤ, All, arith, nat_lt, ◌<◌, ◌^◌, pos, negsuc, ◌≤◌, length, replicate}
 use Rattle.flac_bits.specs.State.{Cursor}
-use Rattle.flac_bits.specs.Layout.{Layout, run, and_then, bind, done, Reason}
+use Rattle.flac_bits.specs.Lists.{list_of}
+use Rattle.flac_bits.specs.Layout.{number_at, number_from, Layout, run, and_then, bind, done, Reason}
 use Rattle.flac_subframe.specs.declared.limits.Limits.{Limits}
-use Rattle.flac_subframe.specs.Numbers.{FitsBits, sample_at, fits, all_fit}
-use Rattle.flac_subframe.specs.Fields.{signed_field}
+use Rattle.flac_bits.specs.Signed.{FitsBits}
+use Rattle.flac_subframe.specs.Numbers.{sample_at, fits, all_fit}
+use Rattle.flac_bits.specs.Signed.{signed_field}
 use Rattle.flac_subframe.specs.Subframe.{Content, Constant, Verbatim, Form, Header, header, content, constant, subframe, samples_of, scaled, fitting, restored_samples, content_samples, subframe_samples}
 use Rattle.flac_subframe.proofs.Steps.{and_then_and_then, same_then}
 use Rattle.std.proofs.lemmas.Int.{ints}
@@ -46,3 +48,9 @@ unfolding constant
 constant_read depth block c d v fit reads =
     let e : fitting depth block (Constant v) ≡ Some (replicate block v) = fitting_is depth block (Constant v) (All-replicate (FitsBits depth) block v fit) in
     rw (reads, e) refl
+
+-- numbers of no bits
+pub no_bits : (n : ℕ) (c : Cursor) → run (list_of n (signed_field 0)) c ≡ Ok (replicate n (pos 0), c)
+unfolding list_of signed_field number_at number_from
+no_bits zero c = refl
+no_bits (suc n) c = rw (no_bits n c) refl

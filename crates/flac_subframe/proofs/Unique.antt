@@ -6,7 +6,8 @@ use Rattle.std.proofs.lemmas.List.{length-append, get_or_append_left, ext_get_or
 use Rattle.std.proofs.Math.Seq.{get_or-append_seam}
 use Rattle.std.proofs.lemmas.List.Elements.{All-from_get_or, All-nil, All-cons}
 use Rattle.std.proofs.lemmas.Bool.{cases_lt, lt-ltb, ltb-true, false≢true}
-use Rattle.flac_subframe.specs.Numbers.{FitsBits, sample_at, fits, all_fit}
+use Rattle.flac_bits.specs.Signed.{FitsBits}
+use Rattle.flac_subframe.specs.Numbers.{sample_at, fits, all_fit}
 use Rattle.flac_subframe.specs.Prediction.{prediction, weighted, Restored, first_restored, restored}
 use Rattle.flac_subframe.proofs.Restoring.{weighted_agrees}
 use Rattle.flac_subframe.proofs.Samples.{all_fit_is}

@@ -4,7 +4,7 @@ use Rattle.flac_bits.specs.Layout.{Layout, done, bits, judge, choose, ◌>>=◌}
 use Rattle.flac_bits.specs.Lists.{list_of}
 use Rattle.flac_bits.specs.Rice.{rice_value}
 use Rattle.flac_bits.specs.declared.why.Why.TheVariants.{NotSubset, BadPartition}
-use Rattle.flac_subframe.specs.Fields.{signed_field}
+use Rattle.flac_bits.specs.Signed.{signed_field}
 
 -- a Rice parameter, or how many bits each value has that is not coded (section 9.2.7.1)
 pub data Coding : Type 0 where

@@ -8,7 +8,7 @@ use Rattle.flac_subframe.specs.declared.limits.Limits.{Limits}
 use Rattle.flac_subframe.specs.Numbers.{all_fit}
 use Rattle.flac_subframe.specs.Prediction.{fixed_coefficients, restored}
 use Rattle.flac_subframe.specs.Residual.{Residual, residual, residual_values}
-use Rattle.flac_subframe.specs.Fields.{signed_field, some_or}
+use Rattle.flac_bits.specs.Signed.{signed_field}
 
 -- A linear predictor: the precision of its coefficients in bits, the shift, and the coefficients, the one for the nearest sample first (section 9.2.6).
 pub record Predictor : Type 0 where
@@ -81,10 +81,15 @@ content kind depth block limit =
     (choose (nat_eq kind 1) (verbatim depth block)
     (choose (nat_lt kind 32) (fixed depth block limit (predictor_order kind)) (linear depth block limit (predictor_order kind))))
 
+-- one more, or the reason where there is none
+abbrev pub one_more : Option ℕ → Layout ℕ
+one_more (Some zeros) = done (zeros + 1)
+one_more None = refuse BadSubframe
+
 -- How many bits are wasted: none, or one more than the zeros before a one; one bit of the depth at least is left (section 9.2.2).
 unfoldable pub wasted_bits : ℕ → ℕ → Layout ℕ
 wasted_bits flag depth =
-    choose (nat_eq flag 0) (done 0) (unary (depth - 2) >>= λ zeros. some_or BadSubframe zeros >>= λ k. done (k + 1))
+    choose (nat_eq flag 0) (done 0) (unary (depth - 2) >>= λ zeros. one_more zeros)
 
 -- What the header of a subframe says: the type, and how many bits are wasted.
 pub record Header : Type 0 where

@@ -5,61 +5,14 @@ ghost use Rattle.flac_bits.specs.Layout.{bind, done, zeros_at};
 ghost use Rattle.flac_bits.specs.Lists.{list_of};
 ghost use Rattle.flac_bits.specs.Rice.{rice_value, unfolded};
 ghost use Rattle.flac_bits.specs.Reading.{Counts, Gives, Reads};
-ghost use Rattle.flac_subframe.specs.Numbers.{FitsBits};
+ghost use Rattle.flac_bits.specs.Signed.{FitsBits};
 ghost use Rattle.flac_subframe.specs.Residual.{partition, partitions, residual_header, residual, all_values, residual_values, can_halve};
 
-use crate::fields::{read_signed, read_zeros};
+use crate::numbers::repeat;
 use flac_bits::{BitReader, Source, Why};
 
-/// The number that was folded.
-#[inline(always)]
-fn unfold(folded: u64) -> i64
-    requires { folded ≤ 2 ^ 32 - 2 }
-    ensures value { result ≡ unfolded folded }
-    ensures fits { FitsBits 32 result }
-{
-    let half = (folded >> 1) as i64;
-    if folded % 2 == 0 { half } else { -half - 1 }
-}
-
-/// A value under a Rice parameter.
-#[inline(always)]
-#[tactic(auto, unfolding(flac_bits::specs::Rice::rice_value, flac_bits::specs::Rice::rice), using(flac_bits::proofs::Rices::joined))]
-fn take_rice<R: Source>(bits: &mut BitReader<R>, parameter: u32) -> Result<i64, Why>
-    requires { parameter ≤ 30 }
-    ensures fits { IfOk result (FitsBits 32) }
-    ensures spends { OnOk result (bits.new.most ≤ bits.old.most) }
-    ensures counts { Counts bits.old bits.new result }
-    ensures reads { Reads (λ z. z) (rice_value parameter) bits.old bits.new result }
-{
-    let Some(zeros) = read_zeros(bits, 0xFFFF_FFFE >> parameter)? else {
-        return Err(Why::ResidualRange);
-    };
-    let low = bits.take(parameter)?;
-    let folded = (u64::from(zeros) << parameter) + low;
-    if folded > 0xFFFF_FFFE {
-        return Err(Why::ResidualRange);
-    }
-    Ok(unfold(folded))
-}
-
-/// Fills the places with the values under a Rice parameter that come next.
-#[tactic(auto, using(flac_bits::proofs::Lists::list_more))]
-fn read_rice<R: Source>(bits: &mut BitReader<R>, parameter: u32, out: &mut [i64]) -> Result<(), Why>
-    requires { parameter ≤ 30 }
-    ensures fits { OnOk result (All (FitsBits 32) out.new) }
-    ensures spends { OnOk result (bits.new.most ≤ bits.old.most) }
-    ensures counts { Counts bits.old bits.new result }
-    ensures reads { Reads (λ _. out.new) (list_of (length out.old) (rice_value parameter)) bits.old bits.new result }
-{
-    for i in 0..out.len() {
-        out[i] = take_rice(bits, parameter)?;
-    }
-    Ok(())
-}
-
 /// Fills the places with the values of one partition.
-#[tactic(auto, unfolding(crate::specs::Residual::partition, crate::specs::Residual::escaped, crate::specs::Residual::coded), using(crate::proofs::Bounds::all_fit_32))]
+#[tactic(auto, unfolding(crate::specs::Residual::partition, crate::specs::Residual::escaped, crate::specs::Residual::coded), using(crate::proofs::Bounds::all_fit_32, crate::proofs::Bounds::residuals_fit, crate::proofs::Samples::no_bits))]
 fn read_partition<R: Source>(
     bits: &mut BitReader<R>,
     parameter_bits: u32,
@@ -74,10 +27,14 @@ fn read_partition<R: Source>(
     let parameter = bits.take(parameter_bits)? as u32;
     if parameter == (1 << parameter_bits) - 1 {
         let width = bits.take(5)? as u32;
-        read_signed(bits, width, out)?;
+        if width == 0 {
+            repeat(0, out);
+            return Ok(());
+        }
+        bits.signed_partition(width, out)?;
         return Ok(());
     }
-    read_rice(bits, parameter, out)?;
+    bits.rice_partition(parameter, out)?;
     Ok(())
 }
 

@@ -2,13 +2,13 @@
 
 ghost use Rattle.std.specs.Prelude.{◌≡◌, ◌≤◌, ◌<◌, ◌+◌, ◌-◌, OnOk, IfOk, IfSome, length, cond, Some, None, All, IsTrue, map, replicate, ℤ, pos, ◌*ℤ◌, ◌^◌};
 ghost use Rattle.flac_bits.specs.Reading.{Counts, Gives, Reads, Means};
-ghost use Rattle.flac_subframe.specs.Numbers.{FitsBits};
+ghost use Rattle.flac_bits.specs.Signed.{FitsBits};
 ghost use Rattle.flac_subframe.specs.Subframe.{is_reserved, predictor_order, constant, verbatim, fixed, predictor, linear, fitting, content_samples, wasted_bits, header, scaled, subframe_samples};
 ghost use Rattle.flac_bits.specs.Layout.{bind, done, zeros_at};
 
-use crate::fields::{read_coefficients, read_signed, read_zeros, take_signed};
+use crate::fields::read_coefficients;
 use crate::limits::Limits;
-use crate::numbers::power_of_two;
+use crate::numbers::{power_of_two, repeat};
 use crate::predictors::fixed_coefficients;
 use crate::residual::read_residual;
 use crate::restoration::restore;
@@ -43,10 +43,10 @@ fn read_wasted<R: Source>(bits: &mut BitReader<R>, flag: u64, depth: u32) -> Res
     if flag == 0 {
         return Ok(0);
     }
-    let Some(zeros) = read_zeros(bits, depth - 2)? else {
+    let Some(zeros) = bits.unary(u64::from(depth - 2))? else {
         return Err(Why::BadSubframe);
     };
-    Ok(zeros + 1)
+    Ok(zeros as u32 + 1)
 }
 
 /// The order of a type's predictor (RFC 9639, section 9.2.1).
@@ -93,15 +93,6 @@ fn read_header<R: Source>(
     Ok(Header { kind, wasted })
 }
 
-/// Fills the places with one sample.
-fn repeat(sample: i64, samples: &mut [i64])
-    ensures { samples.new ≡ replicate (length samples.old) sample }
-{
-    for place in samples.iter_mut() {
-        *place = sample;
-    }
-}
-
 /// One sample for all (RFC 9639, section 9.2.3).
 #[tactic(auto, unfolding(crate::specs::Subframe::constant))]
 fn read_constant<R: Source>(
@@ -116,7 +107,7 @@ fn read_constant<R: Source>(
     ensures reads { Reads (λ fits. cond fits (Some samples.new) None)
         (bind (constant depth) (λ c. done (fitting depth (length samples.old) c))) bits.old bits.new result }
 {
-    let sample = take_signed(bits, depth)?;
+    let sample = bits.take_signed(depth)?;
     repeat(sample, samples);
     Ok(true)
 }
@@ -135,7 +126,7 @@ fn read_verbatim<R: Source>(
     ensures reads { Reads (λ fits. cond fits (Some samples.new) None)
         (bind (verbatim depth (length samples.old)) (λ c. done (fitting depth (length samples.old) c))) bits.old bits.new result }
 {
-    read_signed(bits, depth, samples)?;
+    bits.signed_partition(depth, samples)?;
     Ok(true)
 }
 
@@ -159,7 +150,7 @@ fn read_fixed<R: Source>(
         (bind (fixed depth (length samples.old) limit order) (λ c. done (fitting depth (length samples.old) c))) bits.old bits.new result }
 {
     let places = order as usize;
-    read_signed(bits, depth, &mut samples[..places])?;
+    bits.signed_partition(depth, &mut samples[..places])?;
     read_residual(bits, limit, places, &mut samples[places..])?;
     Ok(restore(fixed_coefficients(order), 0, depth, samples))
 }
@@ -208,7 +199,7 @@ fn read_linear_into<R: Source>(
         (bind (linear depth (length samples.old) limit (length coefficients.old)) (λ c. done (fitting depth (length samples.old) c))) bits.old bits.new result }
 {
     let order = coefficients.len();
-    read_signed(bits, depth, &mut samples[..order])?;
+    bits.signed_partition(depth, &mut samples[..order])?;
     let (_precision, shift) = read_predictor(bits, coefficients)?;
     read_residual(bits, limit, order, &mut samples[order..])?;
     Ok(restore(coefficients, shift, depth, samples))

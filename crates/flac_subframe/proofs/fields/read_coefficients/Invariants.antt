@@ -1,5 +1,5 @@
 use Rattle.std.proofs.Common.{length}
-use Rattle.flac_subframe.specs.Fields.{signed_field}
+use Rattle.flac_bits.specs.Signed.{signed_field}
 use Rattle.flac_subframe.proofs.Filling.{FilledTo}
 use Rattle.flac_subframe.proofs.fields.read_coefficients.Given as goal
 
