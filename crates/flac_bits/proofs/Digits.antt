@@ -14,4 +14,3 @@ number_rest n i value lt =
     let k : n - i ≡ suc (n - (i + 1)) = omega arith in
     let j : n - 1 - i ≡ n - (i + 1) = omega arith in
     ap (λ x. unsigned x value) k ∙ ap (λ d. nat_eq d 1 ∷ unsigned (n - (i + 1)) value) (sym (shr_and_one value (n - (i + 1)))) ∙ ap (λ x. nat_eq (bit_and (value / 2 ^ x) 1) 1 ∷ unsigned (n - (i + 1)) value) (sym j)
-

@@ -47,10 +47,11 @@ core xs more rest rest' text tie =
 pub putting : (xs ys more : List ℕ) (from : ℕ) (rest rest' text : List Bool) (start : Mark) (u : Unsent)
     → record { bytes = xs; rest = rest; mark = past (bits_of (drop from xs) ++ rest) start } ≡ u → ys ≡ xs ++ more → from ≤ length xs → bits_of more ++ rest' ≡ rest ++ text
     → (bits_of ys ++ rest' ≡ (bits_of u.bytes ++ u.rest) ++ text) × (past (bits_of (drop from ys) ++ rest') start ≡ past text u.mark)
-putting xs ys more from rest rest' text start u view is le tie =
-    (ap (λ zs. bits_of zs ++ rest') is ∙ core xs more rest rest' text tie ∙ ap (λ (v : Unsent). (bits_of v.bytes ++ v.rest) ++ text) view,
-      ap (λ zs. past (bits_of zs ++ rest') start) (ap (drop from) is ∙ drop-append-le from xs more le) ∙ ap (λ bs. past bs start) (core (drop from xs) more rest rest' text tie)
-      ∙ past-append (bits_of (drop from xs) ++ rest) text start ∙ ap (λ (v : Unsent). past text v.mark) view)
+putting xs ys more from rest rest' text start u view is le tie = (
+  ap (λ zs. bits_of zs ++ rest') is ∙ core xs more rest rest' text tie ∙ ap (λ (v : Unsent). (bits_of v.bytes ++ v.rest) ++ text) view,
+  ap (λ zs. past (bits_of zs ++ rest') start) (ap (drop from) is ∙ drop-append-le from xs more le) ∙ ap (λ bs. past bs start) (core (drop from xs) more rest rest' text tie)
+      ∙ past-append (bits_of (drop from xs) ++ rest) text start ∙ ap (λ (v : Unsent). past text v.mark) view,
+)
 
 -- no bytes more
 pub putting_rest : (xs : List ℕ) (from : ℕ) (rest rest' text : List Bool) (start : Mark) (u : Unsent)

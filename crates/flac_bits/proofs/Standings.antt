@@ -33,12 +33,12 @@ module _ {S : Type 0} (g : target.Ghosts S) where
     names = s.names;
     rises = s.rises;
     begun = λ known.
-      let b = s.begun known in
-      let bits = bits_of (g.sent old) ++ (bits_of held.bytes ++ held.rest) in
-      begins_at (bits_of (g.sent new)) (bits ++ []) (bits_of b.1 ++ held.rest)
-      (append-nil bits ∙ ap (λ xs. bits_of (g.sent old) ++ (bits_of xs ++ held.rest)) b.2
-          ∙ ap (λ bs. bits_of (g.sent old) ++ (bs ++ held.rest)) (bits_of-append b.0 b.1) ∙ ap (λ bs. bits_of (g.sent old) ++ bs) (append_assoc (bits_of b.0) (bits_of b.1) held.rest)
-          ∙ sym (append_assoc (bits_of (g.sent old)) (bits_of b.0) (bits_of b.1 ++ held.rest)) ∙ ap (λ bs. bs ++ (bits_of b.1 ++ held.rest)) (sym (ap bits_of b.3 ∙ bits_of-append (g.sent old) b.0)));
+        let b = s.begun known in
+        let bits = bits_of (g.sent old) ++ (bits_of held.bytes ++ held.rest) in
+        begins_at (bits_of (g.sent new)) (bits ++ []) (bits_of b.1 ++ held.rest)
+        (append-nil bits ∙ ap (λ xs. bits_of (g.sent old) ++ (bits_of xs ++ held.rest)) b.2
+        ∙ ap (λ bs. bits_of (g.sent old) ++ (bs ++ held.rest)) (bits_of-append b.0 b.1) ∙ ap (λ bs. bits_of (g.sent old) ++ bs) (append_assoc (bits_of b.0) (bits_of b.1) held.rest)
+        ∙ sym (append_assoc (bits_of (g.sent old)) (bits_of b.0) (bits_of b.1 ++ held.rest)) ∙ ap (λ bs. bs ++ (bits_of b.1 ++ held.rest)) (sym (ap bits_of b.3 ∙ bits_of-append (g.sent old) b.0)));
   }
 
   -- bits were put behind those held
@@ -59,8 +59,8 @@ module _ {S : Type 0} (g : target.Ghosts S) where
   pub whole_sent : {X : Type 0} {mid : S} (old new : S) (held mid_held last : Unsent) (result : Result X Why) → Adds [] (standing g old held) (standing g mid mid_held) → KeepsBits mid_held last
       → (last.mark.unread ≡ 0 → last.rest ≡ []) → Sends g last.bytes mid new result → OnOk result (g.known old ≡ true → held.mark.unread ≡ 0 → bits_of (g.sent new) ≡ bits_of (g.sent old) ++ (bits_of held.bytes ++ held.rest))
   whole_sent {mid = mid} old new held mid_held last (Ok x) a k none s = λ known zero.
-    let rest : last.rest ≡ [] = none (ap (λ (m : Mark). m.unread) (k.1 ∙ a.mark) ∙ zero) in
-    ap bits_of (s.sent (a.known known)) ∙ bits_of-append (g.sent mid) last.bytes
-    ∙ ap (λ bs. bits_of (g.sent mid) ++ bs) (sym (append-nil (bits_of last.bytes)) ∙ ap (λ r. bits_of last.bytes ++ r) (sym rest) ∙ k.0)
-    ∙ a.bits known ∙ append-nil _
+      let rest : last.rest ≡ [] = none (ap (λ (m : Mark). m.unread) (k.1 ∙ a.mark) ∙ zero) in
+      ap bits_of (s.sent (a.known known)) ∙ bits_of-append (g.sent mid) last.bytes
+      ∙ ap (λ bs. bits_of (g.sent mid) ++ bs) (sym (append-nil (bits_of last.bytes)) ∙ ap (λ r. bits_of last.bytes ++ r) (sym rest) ∙ k.0)
+      ∙ a.bits known ∙ append-nil _
   whole_sent old new held mid_held last (Err e) a k none s = tt

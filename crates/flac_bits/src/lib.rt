@@ -9,8 +9,8 @@ mod number;
 mod promises;
 mod reader;
 mod rest;
-mod signed;
 mod send;
+mod signed;
 mod source;
 mod sums;
 mod target;
@@ -32,3 +32,6 @@ pub use target::{Collected, Target};
 pub use why::Why;
 pub use word::Word;
 pub use writer::BitWriter;
+
+#[cfg(test)]
+mod writer_tests;

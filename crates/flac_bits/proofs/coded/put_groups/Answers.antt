@@ -11,8 +11,8 @@ returns-in_err-put g c =
     let p = err_from_is_err_and c.from_residual.result c.from_residual.ensures.1 in
     let rest = six_bits (c.args.count - (c.loop-i.i + 1)) c.args.value in
     rw (p.1, p.2) (towards_fail (unsigned 8 (128 + c.without_groups-group.result % 64)) rest
-      (groups_rest c.args.count c.loop-i.i c.args.value c.loop-i-test.true ∙ ap (λ r. unsigned 8 (128 + r % 64) ++ rest) (sym c.without_groups-group.ensures))
-      c.loop-i.invariant c.in_err-put.ensures)
+    (groups_rest c.args.count c.loop-i.i c.args.value c.loop-i-test.true ∙ ap (λ r. unsigned 8 (128 + r % 64) ++ rest) (sym c.without_groups-group.ensures))
+    c.loop-i.invariant c.in_err-put.ensures)
 
 pub loop-i-preserved : goal.loop-i-preserved
 loop-i-preserved g c =
