@@ -32,7 +32,7 @@ module _ (l : Layout ℤ) (width : ℕ) (old : State) (n : ℕ) where
       let last = get_or-set_same out i v (pos 0) (omega (arith, long)) in
       rw same (record {
         goes = goes_on old now next (run l now.cursor) v more _ _ _ so.goes (list_more n i l now.cursor (take i out) lt)
-          (ap (λ front. and_then (run (list_of (n - (i + 1)) l) next.cursor) (behind front)) (sym (take-set_at out i (i + 1) v refl (omega (arith, long))))) counts reads;
+            (ap (λ front. and_then (run (list_of (n - (i + 1)) l) next.cursor) (behind front)) (sym (take-set_at out i (i + 1) v refl (omega (arith, long))))) counts reads;
         fits = below_more _ i (λ k h. rw (get_or-set_other out i k v (pos 0) (λ e. omega arith)) (so.fits k h)) (rw last fit);
         spent = omega (arith, so.spent);
       })

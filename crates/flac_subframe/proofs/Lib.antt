@@ -6,3 +6,5 @@ pub mod Steps
 pub mod Filling
 pub mod Parts
 pub mod Samples
+pub mod Unique
+pub mod Predicted

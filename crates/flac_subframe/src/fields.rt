@@ -39,7 +39,7 @@ fn signed(value: u64, n: u32) -> i64
 }
 
 /// Fills the places with the numbers of n bits that come next.
-#[tactic(auto, using(flac_bits::proofs::Lists::list_more, flac_bits::proofs::Lists::list_end, flac_bits::proofs::Lists::list_start))]
+#[tactic(auto, using(flac_bits::proofs::Lists::list_more))]
 pub fn read_signed<R: Source>(bits: &mut BitReader<R>, n: u32, out: &mut [i64]) -> Result<(), Why>
     requires { n ≤ 33 }
     ensures fits { OnOk result (All (FitsBits n) out.new) }
@@ -49,6 +49,26 @@ pub fn read_signed<R: Source>(bits: &mut BitReader<R>, n: u32, out: &mut [i64]) 
 {
     for i in 0..out.len() {
         out[i] = take_signed(bits, n)?;
+    }
+    Ok(())
+}
+
+/// Fills the places with the coefficients of a precision that come next.
+#[tactic(auto, using(flac_bits::proofs::Lists::list_more))]
+pub fn read_coefficients<R: Source>(
+    bits: &mut BitReader<R>,
+    precision: u32,
+    out: &mut [i32],
+) -> Result<(), Why>
+    requires { precision ≤ 15 }
+    ensures fits { OnOk result (All (FitsBits 15) out.new) }
+    ensures spends { OnOk result (bits.new.most ≤ bits.old.most) }
+    ensures counts { Counts bits.old bits.new result }
+    ensures reads { Reads (λ _. out.new) (list_of (length out.old) (signed_field precision)) bits.old bits.new result }
+{
+    for i in 0..out.len() {
+        let coefficient = take_signed(bits, precision)?;
+        out[i] = coefficient as i32;
     }
     Ok(())
 }
