@@ -1,6 +1,7 @@
 -- A metadata block (RFC 9639, section 8).
-use Rattle.std.specs.Prelude.{ℕ, ◌-◌, ◌*◌, ◌/◌, Bool, true, nat_eq, None}
-use Rattle.flac_bits.specs.Layout.{Layout, done, ◌>>=◌, bits, choose}
+use Rattle.std.specs.Prelude.{◌≡◌, ℕ, ◌-◌, ◌*◌, ◌/◌, ◌<◌, Bool, true, nat_eq, None, Result, Ok, Err}
+use Rattle.flac_bits.specs.State.{State, Cursor}
+use Rattle.flac_bits.specs.Layout.{Layout, done, ◌>>=◌, bits, choose, run}
 use Rattle.flac_bits.specs.Lists.{list_of}
 use Rattle.flac_meta.specs.Info.{stream_info}
 use Rattle.flac_meta.specs.Header.{block_header}
@@ -9,6 +10,9 @@ use Rattle.flac_meta.specs.SeekTable.{seek_points}
 use Rattle.flac_meta.specs.Comments.{comments}
 use Rattle.flac_meta.specs.CueSheet.{cue_sheet}
 use Rattle.flac_meta.specs.Picture.{picture}
+use Rattle.flac_bits.specs.declared.why.Why.{Why}
+use Rattle.flac_bits.specs.declared.why.Why.TheVariants.{Memory}
+use Rattle.flac_meta.specs.declared.header.BlockHeader.{BlockHeader}
 use Rattle.flac_meta.specs.declared.seen.Seen.{Seen}
 use Rattle.flac_meta.specs.declared.block.Block.{Block}
 use Rattle.flac_meta.specs.declared.block.Block.TheVariants as block_of
@@ -57,3 +61,8 @@ seen_after seen (block_of.StreamInfo info) = record seen { stream_info = true }
 seen_after seen (block_of.SeekTable points) = record seen { seek_table = true }
 seen_after seen (block_of.VorbisComment found) = record seen { comments = true }
 seen_after seen found = seen
+
+-- Memory is asked for only where a good header announces a kind that holds some: neither STREAMINFO nor padding.
+abbrev pub MemoryAsked : {X : Type 0} → Seen → State → State → Result X Why → Type 0
+MemoryAsked seen old new result = result ≡ Err Memory → old.known ≡ true → new.errors ≡ old.errors → (old.cursor.mark.short ≡ Memory → ⊥)
+    → (header : BlockHeader) × (behind : Cursor) × (run (block_header seen) old.cursor ≡ Ok (header, behind)) × (1 < header.kind)

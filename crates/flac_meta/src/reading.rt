@@ -5,7 +5,7 @@ ghost use Rattle.flac_bits.specs.State.{Cursor};
 ghost use Rattle.flac_bits.specs.Layout.{run};
 ghost use Rattle.flac_bits.specs.Reading.{Counts, ReadsInRoom, Means};
 ghost use Rattle.flac_meta.specs.Header.{block_header};
-ghost use Rattle.flac_meta.specs.Block.{application, content, block, seen_after};
+ghost use Rattle.flac_meta.specs.Block.{application, content, block, seen_after, MemoryAsked};
 ghost use Rattle.flac_meta.specs.declared.header.BlockHeader.{BlockHeader};
 
 use crate::block::Block;
@@ -50,6 +50,7 @@ fn read_content<R: Source>(
     ensures spends { OnOk result (bits.new.most ≤ bits.old.most) }
     ensures counts { Counts bits.old bits.new result }
     ensures reads { ReadsInRoom (λ b. b) (content kind length) bits.old bits.new result }
+    ensures spare { result ≡ Err Why.Memory → bits.old.known ≡ true → bits.new.errors ≡ bits.old.errors → (bits.old.cursor.mark.short ≡ Why.Memory → ⊥) → 1 < kind }
 {
     match kind {
         0 => Ok(Block::StreamInfo(read_stream_info(bits)?)),
@@ -78,6 +79,7 @@ fn next_block<R: Source>(
     ensures spends { OnOk result (bits.new.most + 32 ≤ bits.old.most) }
     ensures counts { Counts bits.old bits.new result }
     ensures reads { ReadsInRoom (λ x. x) (block seen.now) bits.old bits.new result }
+    ensures spare { MemoryAsked seen.now bits.old bits.new result }
 {
     let header = read_block_header(bits, seen)?;
     let body = read_content(alloc, bits, header.kind, header.length)?;
@@ -95,6 +97,7 @@ pub fn read_block<R: Source>(
     ensures counts { Counts bits.old bits.new result }
     ensures reads { ReadsInRoom (λ x. x) (block seen.old) bits.old bits.new result }
     ensures means { (result ≡ Err Why.Memory → ⊥) → Means (λ x. x) (block seen.old) bits.old bits.new result }
+    ensures spare { MemoryAsked seen.old bits.old bits.new result }
     ensures seen { IfOk result (λ x. seen.new ≡ seen_after seen.old x.1) }
     ensures unseen { OnErr result (seen.new ≡ seen.old) }
 {
