@@ -1,6 +1,6 @@
 -- Subframes that are read one after another into one array.
-use Rattle.std.proofs.Common.{◌≡◌, ℕ, zero, suc, ◌+◌, ◌-◌, ◌*◌, ◌<◌, ◌≤◌, ℤ, Bool, true, false, cond, ◌&&◌, List, [], ◌∷◌, ◌++◌, length, take, drop, Option, Some, None, Result, Ok, Err, refl, sym, ap, ◌∙◌, arith}
-use Rattle.std.proofs.lemmas.List.{take-append-le, drop-append-le, drop-take, take-take, take_all, length-drop, length-take-le}
+use Rattle.std.proofs.Common.{◌≡◌, ℕ, zero, suc, ◌+◌, ◌-◌, ◌*◌, ◌<◌, ◌≤◌, ℤ, Bool, true, false, cond, ◌&&◌, List, [], ◌∷◌, ◌++◌, length, take, drop, get_or, Option, Some, None, Result, Ok, Err, refl, sym, ap, ◌∙◌, arith}
+use Rattle.std.proofs.lemmas.List.{take-append-le, drop-append-le, drop-take, drop-drop, take-take, take_all, length-drop, length-take-le}
 use Rattle.std.proofs.lemmas.Slice.{take-put_mid}
 use borrow.Rule.Slice.PartMut.{put_mid}
 use Rattle.std.proofs.Math.Nat.{mul-le-mul_right}
@@ -95,3 +95,11 @@ both_false false now ok a b = a
 pub both_true : (fits now ok : Bool) → now ≡ fits → ok ≡ true → now ≡ (fits && ok)
 both_true true now ok a b = a ∙ sym b
 both_true false now ok a b = a
+
+pub chunks-at : {A : Type 0} (c n : ℕ) (xs : List A) (i : ℕ) → i < c → get_or (chunks c n xs) i [] ≡ take n (drop (i * n) xs)
+chunks-at zero n xs i h = absurd (omega arith)
+chunks-at (suc c) n xs zero h = let e : 0 * n ≡ 0 = omega arith in rw e refl
+chunks-at (suc c) n xs (suc i) h =
+    let lt : i < c = omega arith in
+    let e : suc i * n ≡ n + i * n = omega arith in
+    chunks-at c n (drop n xs) i lt ∙ (ap (take n) (drop-drop (i * n) n xs) ∙ ap (λ k. take n (drop k xs)) (sym e))

@@ -18,9 +18,12 @@ pub record Frame : Type 0 where
   pub channels : List (List ℤ)
 
 -- what a frame leaves for those behind it: frames are counted, or numbered by their first samples (section 9.1.5)
+abbrev pub left_by : Option Before → (variable : Bool) → (number size : ℕ) → Before
+left_by None variable number size = record { first_size = size; variable = variable; next = number + cond variable size 1; size = size }
+left_by (Some b) variable number size = record { first_size = b.first_size; variable = variable; next = number + cond variable size 1; size = size }
+
 abbrev pub after : Option Before → Frame → Before
-after None f = record { first_size = f.size; variable = f.variable; next = f.number + cond f.variable f.size 1; size = f.size }
-after (Some b) f = record { first_size = b.first_size; variable = f.variable; next = f.number + cond f.variable f.size 1; size = f.size }
+after before f = left_by before f.variable f.number f.size
 
 -- ---- what the end of a frame's header is judged by
 

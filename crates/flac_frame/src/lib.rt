@@ -2,10 +2,14 @@
 #![tactic(auto)]
 
 mod before;
+mod buffers;
 mod channels;
 mod end;
 mod fill;
 mod samples;
 mod start;
+mod view;
 
 pub use before::Before;
+pub use buffers::FrameBuffers;
+pub use view::FrameView;

@@ -1,6 +1,6 @@
 //! The header of a frame in its stream.
 
-ghost use Rattle.std.specs.Prelude.{◌≡◌, ◌≤◌, ◌+◌, IfOk, OnOk};
+ghost use Rattle.std.specs.Prelude.{◌≡◌, ◌≤◌, ◌<◌, ◌+◌, ◌^◌, IfOk, OnOk};
 ghost use Rattle.flac_bits.specs.Reading.{Counts, Reads};
 ghost use Rattle.flac_bits.specs.State.{started};
 ghost use Rattle.flac_header.specs.Header.{channels_of, greatest_block, IsHeader};
@@ -57,6 +57,7 @@ pub(crate) fn read_start<R: Source>(
     profile: Profile,
     before: &Option<Before>,
 ) -> Result<FrameHeader, Why>
+    ensures number { IfOk result (λ h. h.number < 2 ^ 36) }
     ensures channels { IfOk result (λ h. channels_of h.channel_code ≡ info.now.channels) }
     ensures size { IfOk result (λ h. (h.size ≤ info.now.greatest_block) × (h.size ≤ greatest_block info.now.rate)) }
     ensures spends { OnOk result (bits.new.most + 40 ≤ bits.old.most) }
