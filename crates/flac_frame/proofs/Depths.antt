@@ -7,8 +7,6 @@ use Rattle.std.proofs.lemmas.List.{take_more, take_more_set, take_all}
 use Rattle.std.proofs.Math.Nat.{pow-le-pow_right}
 use Rattle.flac_subframe.specs.Numbers.{fits, all_fit}
 
-
-
 -- the limit as the code computes it
 pub limit_is : (bits : ℕ) → 1 ≤ bits → bits ≤ 32 → to_z w64 (1 * 2 ^ (bits - 1) % 2 ^ 64) ≡ pos (2 ^ (bits - 1))
 limit_is bits low high =

@@ -44,7 +44,7 @@ chunks-more (suc c) n xs own long is =
 -- one subframe more is read
 pub subframes_more : (depth code block : ℕ) (limits : Limits) (got : Option (List (List ℤ))) (c n : ℕ) (at : Cursor) → c < n
     → run (subframes depth code block limits got c (n - c)) at
-      ≡ and_then (run (subframe_samples (depth + side_bit code c) block limits) at) (λ s d. run (subframes depth code block limits (with_channel got s) (c + 1) (n - (c + 1))) d)
+    ≡ and_then (run (subframe_samples (depth + side_bit code c) block limits) at) (λ s d. run (subframes depth code block limits (with_channel got s) (c + 1) (n - (c + 1))) d)
 unfolding subframes
 subframes_more depth code block limits got c n at lt =
     let k : n - c ≡ suc (n - (c + 1)) = omega arith in
@@ -83,10 +83,10 @@ turn old now next depth code block limits fits ok fits_now c n xs own whole goes
     let got : Option (List (List ℤ)) = cond fits (Some (chunks c block xs)) None in
     let within : c * block ≤ length xs = omega (arith, long, part_ends c n block lt) in
     let same : with_channel got (cond ok (Some own) None) ≡ cond fits_now (Some (chunks (c + 1) block (put_mid (c * block) (c * block + block - c * block) xs own))) None =
-      got_more fits ok (chunks c block xs) own ∙ rw (both, put_more c block xs own within is) refl in
+    got_more fits ok (chunks c block xs) own ∙ rw (both, put_more c block xs own within is) refl in
     goes_on old now next (run (subframe_samples (depth + side_bit code c) block limits) now.cursor) (cond ok (Some own) None)
-      (λ s d. run (subframes depth code block limits (with_channel got s) (c + 1) (n - (c + 1))) d) _ _ whole goes (subframes_more depth code block limits got c n now.cursor lt)
-      (ap (λ g. run (subframes depth code block limits g (c + 1) (n - (c + 1))) next.cursor) same) counts reads
+    (λ s d. run (subframes depth code block limits (with_channel got s) (c + 1) (n - (c + 1))) d) _ _ whole goes (subframes_more depth code block limits got c n now.cursor lt)
+    (ap (λ g. run (subframes depth code block limits g (c + 1) (n - (c + 1))) next.cursor) same) counts reads
 
 pub both_false : (fits now ok : Bool) → now ≡ false → ok ≡ false → now ≡ (fits && ok)
 both_false true now ok a b = a ∙ sym b

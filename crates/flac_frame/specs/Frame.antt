@@ -47,11 +47,11 @@ unfoldable pub stream_header : Info → Option Before → Layout Header
 stream_header info before = do
   h ← header
   _ ← judge (
-    record { broken = not (allowed h); why = NotSubset } ∷
-    record { broken = differs info h; why = HeaderMismatch } ∷
-    record { broken = breaks_sequence before h; why = Sequence } ∷
-    record { broken = breaks_size info before h; why = BlockSize } ∷
-    record { broken = nat_lt 7 h.channel_code; why = NotYet } ∷ [])
+      record { broken = not (allowed h); why = NotSubset } ∷
+      record { broken = differs info h; why = HeaderMismatch } ∷
+      record { broken = breaks_sequence before h; why = Sequence } ∷
+      record { broken = breaks_size info before h; why = BlockSize } ∷
+      record { broken = nat_lt 7 h.channel_code; why = NotYet } ∷ [])
   done h
 
 -- ---- the subframes

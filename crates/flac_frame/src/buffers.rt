@@ -1,11 +1,11 @@
 //! The arrays that frames are read into.
 
 ghost use Rattle.std.specs.Prelude.{◌≡◌, ◌≤◌, ◌<◌, ◌+◌, ◌*◌, length, min, Some, None, Err, OnOk, OnErr, IfOk, IfErr, ⊤, []};
-ghost use Rattle.flac_bits.specs.Reading.{Counts, Reads};
+ghost use Rattle.flac_bits.specs.Reading.{Counts, Reads, Means};
 ghost use Rattle.flac_bits.specs.State.{started};
 ghost use Rattle.flac_header.specs.Header.{greatest_block};
 ghost use Rattle.flac_frame.specs.Frame.{frame, after};
-ghost use Rattle.flac_frame.specs.Kept.{nothing};
+ghost use Rattle.flac_frame.specs.Kept.{nothing, Leaves};
 ghost use Rattle.flac_frame.specs.Lent.{frame_of};
 ghost use Rattle.std.specs.Borrow.{sem, follows_so};
 ghost use mathlib.Core.Option.{none};
@@ -86,8 +86,30 @@ impl FrameBuffers {
         })
     }
 
-    /// Reads the frame that begins here, at a whole byte, into the arrays. After a refusal they hold no frame.
+    /// Reads the frame that begins here, at a whole byte, into the arrays, and judges it by STREAMINFO and the frames before
+    /// (RFC 9639, section 9). After a refusal the arrays hold no frame, and what the frames before leave is unchanged.
+    ///
+    /// The buffers have room for the channels of STREAMINFO and for its greatest block size or the subset's, whichever is less.
     pub fn fill<R: Source>(
+        &mut self,
+        bits: &mut BitReader<R>,
+        info: &StreamInfo,
+        profile: Profile,
+    ) -> Result<(), Why>
+        requires channels { info.now.channels ≤ self.old.channels }
+        requires block { min info.now.greatest_block (greatest_block info.now.rate) ≤ self.old.max_block }
+        ensures room { (self.new.channels ≡ self.old.channels) × (self.new.max_block ≡ self.old.max_block) }
+        ensures before { OnOk result (self.new.before ≡ Some (after self.old.before self.new.held)) }
+        ensures refused { OnErr result ((self.new.before ≡ self.old.before) × (self.new.held ≡ nothing)) }
+        ensures spends { OnOk result (bits.new.most + 40 ≤ bits.old.most) }
+        ensures counts { Counts bits.old bits.new result }
+        ensures reads { Reads (λ _. self.new.held) (frame info.now self.old.before) (started bits.old) bits.new result }
+        ensures means { Means (λ _. self.new.held) (frame info.now self.old.before) (started bits.old) bits.new result }
+    {
+        self.read_in(bits, info, profile)
+    }
+
+    fn read_in<R: Source>(
         &mut self,
         bits: &mut BitReader<R>,
         info: &StreamInfo,
@@ -134,5 +156,23 @@ impl FrameBuffers {
             variable: self.variable,
             number: self.number,
         }
+    }
+
+    /// Reads the frame that begins here, as [`FrameBuffers::fill`] does, and lends it. After a refusal nothing is lent.
+    pub fn read_frame<R: Source>(
+        &mut self,
+        bits: &mut BitReader<R>,
+        info: &StreamInfo,
+        profile: Profile,
+    ) -> Result<FrameView<'_>, Why>
+        requires channels { info.now.channels ≤ self.old.channels }
+        requires block { min info.now.greatest_block (greatest_block info.now.rate) ≤ self.old.max_block }
+        ensures spends { OnOk result (bits.new.most + 40 ≤ bits.old.most) }
+        ensures counts { Counts bits.old bits.new result }
+        ensures reads { Reads frame_of (frame info.now self.old.before) (started bits.old) bits.new result }
+        ensures* after { sem 𝓛 (follows_so the_row the_row self.entry.ghost_name none (λ _ _. ⊤) (λ last. Leaves self.old last frame_of result)) }
+    {
+        self.fill(bits, info, profile)?;
+        Ok(self.view())
     }
 }

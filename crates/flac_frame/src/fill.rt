@@ -35,7 +35,15 @@ fn read_body<R: Source>(
     let depth = info.depth() as u32;
     let block = header.block_size();
     let limits = limits_of(info);
-    let fits = read_subframes(bits, depth, header.channel_code(), block, &limits, channels, wide)?;
+    let fits = read_subframes(
+        bits,
+        depth,
+        header.channel_code(),
+        block,
+        &limits,
+        channels,
+        wide,
+    )?;
     read_end(bits)?;
     if !fits {
         return Err(Why::SampleRange);

@@ -23,9 +23,9 @@ loop-channel-preserved g c =
     let long : length l.samples ≡ c.args.channels * c.args.block = omega (arith, l.auto.samples, c.requires.places) in
     let own : length c.read_subframe.new.samples ≡ c.args.block = omega (arith, c.read_subframe.auto.samples) in
     let next = turn c.args.bits.now l.bits c.read_subframe.new.bits c.args.depth c.args.code c.args.block c.args.limits.now l.fits c.in_ok-read_subframe.field-0 c.if-not-branch.fits l.channel c.args.channels l.samples c.read_subframe.new.samples
-      (run (subframes c.args.depth c.args.code c.args.block c.args.limits.now (Some []) 0 c.args.channels) c.args.bits.now.cursor) l.invariant.1 c.loop-channel-test.true long own in
+    (run (subframes c.args.depth c.args.code c.args.block c.args.limits.now (Some []) 0 c.args.channels) c.args.bits.now.cursor) l.invariant.1 c.loop-channel-test.true long own in
     let reads = rw c.side_bit.ensures.bit at c.in_ok-read_subframe.ensures.reads in
     elim c.if-not-branch.branch [
-      then-not-branch w ↦ (omega (arith, c.in_ok-read_subframe.ensures.spends, l.invariant.0), next (both_false l.fits c.if-not-branch.fits c.in_ok-read_subframe.field-0 w.fits-is w.if-not-branch.true) c.in_ok-read_subframe.ensures.counts reads)
-    | else-not-branch w ↦ (omega (arith, c.in_ok-read_subframe.ensures.spends, l.invariant.0), next (both_true l.fits c.if-not-branch.fits c.in_ok-read_subframe.field-0 w.fits-is w.if-not-branch.false) c.in_ok-read_subframe.ensures.counts reads)
+      | then-not-branch w ↦ (omega (arith, c.in_ok-read_subframe.ensures.spends, l.invariant.0), next (both_false l.fits c.if-not-branch.fits c.in_ok-read_subframe.field-0 w.fits-is w.if-not-branch.true) c.in_ok-read_subframe.ensures.counts reads)
+      | else-not-branch w ↦ (omega (arith, c.in_ok-read_subframe.ensures.spends, l.invariant.0), next (both_true l.fits c.if-not-branch.fits c.in_ok-read_subframe.field-0 w.fits-is w.if-not-branch.false) c.in_ok-read_subframe.ensures.counts reads)
     ]
