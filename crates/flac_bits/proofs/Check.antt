@@ -6,7 +6,7 @@ use Rattle.std.proofs.lemmas.Nat.{xor_comm, xor_mod, xor_block}
 use Rattle.std.proofs.lemmas.Nat.Bits.{bit_at-lt, bit_at_xor}
 use Rattle.std.proofs.lemmas.List.{take_more}
 use Rattle.flac_bits.specs.Bits.{unsigned, bits_of}
-use Rattle.flac_bits.proofs.Writing.{number_rest, bits_of-snoc}
+use Rattle.flac_bits.proofs.Digits.{number_rest, bits_of-snoc}
 use Rattle.flac_bits.specs.State.{Mark, feed, step, past}
 use Rattle.flac_bits.specs.Check.{shifted, power, remainder, fed}
 
@@ -102,6 +102,9 @@ pub past-check16 : (bs : List Bool) (m : Mark) → (past bs m).check16 ≡ fed 1
 unfolding fed
 past-check16 [] m = refl
 past-check16 (b ∷ bs) m = past-check16 bs (step b m)
+
+pub fed_from_zero : (w g : ℕ) (bs : List Bool) → fed w g 0 bs ≡ remainder w g bs
+fed_from_zero w g bs = fed_is w g 0 bs ∙ ap (λ k. bit_xor k (remainder w g bs)) (times-zero w g (length bs)) ∙ xor_zero_l (remainder w g bs)
 
 -- the check of bits that were read since the checks began
 pub check8_is : (bs : List Bool) (m : Mark) → m.check8 ≡ 0 → (past bs m).check8 ≡ remainder 8 7 bs

@@ -54,10 +54,10 @@ part_passed xs word a r e z pos =
     ap (take (8 * length xs - length word)) parts ∙ take_at front (unsigned r b ++ bits_of (drop (suc a) xs)) (8 * length xs - length word) k
 
 -- the same of the array
-begun_long : (bytes : List ℕ) (from place : ℕ) → from ≤ place → place ≤ length bytes → length (drop from (take place bytes)) ≡ place - from
+pub begun_long : (bytes : List ℕ) (from place : ℕ) → from ≤ place → place ≤ length bytes → length (drop from (take place bytes)) ≡ place - from
 begun_long bytes from place le lt = omega (arith, length-drop from (take place bytes), length-take place bytes)
 
-slice_is : (bytes : List ℕ) (from place whole : ℕ) → from ≤ whole → whole ≤ place → place ≤ length bytes → slice_range bytes from whole ≡ take (whole - from) (drop from (take place bytes))
+pub slice_is : (bytes : List ℕ) (from place whole : ℕ) → from ≤ whole → whole ≤ place → place ≤ length bytes → slice_range bytes from whole ≡ take (whole - from) (drop from (take place bytes))
 slice_is bytes from place whole le lt in_ =
     let ys = drop from bytes in
     let n : from + (place - from) ≡ place = omega arith in

@@ -6,7 +6,7 @@ use Rattle.std.proofs.lemmas.Nat.Bits.{shr_and_one, bit_at-suc, bit_at-zero}
 use Rattle.std.specs.Int.Bits.{or_zero_r}
 use Rattle.std.specs.Int.{w64, leading_zeros}
 use Rattle.std.proofs.lemmas.Nat.{leading_top, pow_below, le-div}
-use Rattle.std.proofs.Math.Nat.{pow-suc}
+use Rattle.std.proofs.Math.Nat.{pow-suc, mul-mod_left}
 use Rattle.std.proofs.Common.{append_assoc}
 use Rattle.flac_bits.specs.Bits.{unsigned}
 use Rattle.flac_bits.specs.Meaning.{unary_bits}
@@ -121,7 +121,7 @@ put_bits w x c lt fits e =
     (split c 32 (h * 2 ^ 32 + x) ∙ ap (λ k. unsigned c k ++ unsigned 32 (h * 2 ^ 32 + x)) (shr_high h 32 x fits) ∙ ap (λ bs. unsigned c h ++ bs) (unsigned_low 32 h 32 x (omega arith)))
 
 -- one is zeros and a one
-one_bits : (z : ℕ) → unsigned (suc z) 1 ≡ unary_bits z
+pub one_bits : (z : ℕ) → unsigned (suc z) 1 ≡ unary_bits z
 one_bits zero = refl
 one_bits (suc z) =
     let top : bit_at 1 (suc z) ≡ 0 = bit_at-suc 1 z ∙ bit_at-zero z in
@@ -178,3 +178,19 @@ rice_taken w z k c wide le is fits =
 
 pub shifted_small : (w n : ℕ) → w * 2 ^ n % 2 ^ 64 < 2 ^ 64
 shifted_small w n = mod_below (w * 2 ^ n) (2 ^ 64) (pow_pos 64)
+
+-- n bits at the top of the word
+pub at_top : (v n : ℕ) → n ≤ 63 → v < 2 ^ n → v * 2 ^ (63 - n) % 18446744073709551616 * 2 % 18446744073709551616 ≡ v * 2 ^ (64 - n)
+at_top v n le lt =
+    let k : n + (63 - n) ≡ 63 = omega (arith, le) in
+    let s : 64 - n ≡ suc (63 - n) = omega (arith, le) in
+    let first : v * 2 ^ (63 - n) % 2 ^ 64 ≡ v * 2 ^ (63 - n) = shl_whole v n (63 - n) 64 lt (omega (arith, le)) in
+    let twice : v * 2 ^ (63 - n) * 2 ≡ v * 2 ^ (64 - n) = rw (s, pow-suc) (grind arith) in
+    let whole : v * 2 ^ (64 - n) % 2 ^ 64 ≡ v * 2 ^ (64 - n) = shl_whole v n (64 - n) 64 lt (omega (arith, le)) in
+    ap (λ x. x * 2 % 2 ^ 64) first ∙ ap (λ x. x % 2 ^ 64) twice ∙ whole
+
+pub at_top_clean : (v n : ℕ) → n ≤ 63 → v < 2 ^ n → v * 2 ^ (63 - n) % 18446744073709551616 * 2 % 18446744073709551616 % 2 ^ (64 - n) ≡ 0
+at_top_clean v n le lt = rw (at_top v n le lt) (mul-mod_left v (2 ^ (64 - n)))
+
+pub at_top_bits : (v n : ℕ) → n ≤ 63 → v < 2 ^ n → unsigned n (v * 2 ^ (63 - n) % 18446744073709551616 * 2 % 18446744073709551616 / 2 ^ (64 - n)) ≡ unsigned n v
+at_top_bits v n le lt = rw (at_top v n le lt) (ap (unsigned n) (shl-shr v (64 - n)))

@@ -16,3 +16,5 @@ pub mod Items
 pub mod Handing
 pub mod Signed
 pub mod Sending
+pub mod Unsent
+pub mod Standing

@@ -1,5 +1,5 @@
 -- What a bit reader stands at.
-use Rattle.std.specs.Prelude.{ℕ, ◌+◌, ◌-◌, ◌*◌, ◌%◌, ◌^◌, min, Bool, true, false, cond, nat_eq, List, [], ◌∷◌, bit_xor, Option, Some, None}
+use Rattle.std.specs.Prelude.{ℕ, ◌≡◌, ◌++◌, ◌+◌, ◌-◌, ◌*◌, ◌%◌, ◌^◌, min, Bool, true, false, cond, nat_eq, List, [], ◌∷◌, bit_xor, Option, Some, None}
 use Rattle.std.specs.Int.{bit_at}
 use Rattle.std.specs.Borrow.{GName}
 use Rattle.flac_bits.specs.declared.why.Why.{Why}
@@ -39,6 +39,10 @@ past (b ∷ bs) m = past bs (step b m)
 pub record Cursor : Type 0 where
   pub left : List Bool
   pub mark : Mark
+
+-- these bits were read
+abbrev pub Consumes : List Bool → Cursor → Cursor → Type 0
+Consumes text old new = (old.left ≡ text ++ new.left) × (new.mark ≡ past text old.mark)
 
 -- What stands behind the bytes to come. A source may be one part of several, as a packet of an Ogg stream is; then the
 -- parts behind it are told by pieces: how long each is, and their bytes joined.

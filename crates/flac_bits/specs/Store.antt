@@ -17,6 +17,10 @@ passed begun word = take (8 * length begun - length word) (bits_of begun)
 abbrev pub Takes : List Bool → Store → Store → Type 0
 Takes text old new = (old.word ≡ text ++ new.word) × (new.bytes ≡ old.bytes) × (new.mark ≡ past text old.mark)
 
+-- these bits were taken, off the word or behind it
+abbrev pub Passes : List Bool → Store → Store → Type 0
+Passes text old new = (old.word ++ bits_of old.bytes ≡ text ++ (new.word ++ bits_of new.bytes)) × (new.mark ≡ past text old.mark)
+
 -- the same bits are held
 abbrev pub HoldsSame : Store → Store → Type 0
 HoldsSame old new = (new.word ++ bits_of new.bytes ≡ old.word ++ bits_of old.bytes) × (new.mark ≡ old.mark)

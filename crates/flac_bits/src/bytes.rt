@@ -1,6 +1,6 @@
 //! Bytes, one after another.
 
-ghost use Rattle.std.specs.Prelude.{length};
+ghost use Rattle.std.specs.Prelude.{◌≤◌, ◌+◌, ◌*◌, length, OnOk};
 ghost use Rattle.flac_bits.specs.Layout.{bits as number};
 ghost use Rattle.flac_bits.specs.Lists.{list_of};
 ghost use Rattle.flac_bits.specs.Reading.{Counts, Reads};
@@ -10,8 +10,34 @@ use crate::source::Source;
 use crate::why::Why;
 
 /// Fills the places with the bytes that come next.
-#[tactic(auto, using(crate::proofs::Lists::list_more, crate::proofs::Lists::list_end, crate::proofs::Lists::list_start))]
+///
+/// # Errors
+///
+/// Where fewer are left, the reason of the reader's end: `Truncated`, or `Read` where the source answers an error.
 pub fn read_bytes<R: Source>(bits: &mut BitReader<R>, out: &mut [u8]) -> Result<(), Why>
+    ensures spends { OnOk result (bits.new.most + 8 * length out.old ≤ bits.old.most) }
+    ensures counts { Counts bits.old bits.new result }
+    ensures reads { Reads (λ _. out.new) (list_of (length out.old) (number 8)) bits.old bits.new result }
+{
+    if bits.unread() > 0 {
+        return read_each(bits, out);
+    }
+    match bits.take_bytes(out) {
+        Ok(n) => {
+            if n < out.len() {
+                return Err(bits.short());
+            }
+            Ok(())
+        }
+        Err(why) => Err(why),
+    }
+}
+
+/// The same byte by byte, as it has to be within a byte.
+#[inline(never)]
+#[tactic(auto, using(crate::proofs::Lists::list_more, crate::proofs::Lists::list_end, crate::proofs::Lists::list_start))]
+fn read_each<R: Source>(bits: &mut BitReader<R>, out: &mut [u8]) -> Result<(), Why>
+    ensures spends { OnOk result (bits.new.most + 8 * length out.old ≤ bits.old.most) }
     ensures counts { Counts bits.old bits.new result }
     ensures reads { Reads (λ _. out.new) (list_of (length out.old) (number 8)) bits.old bits.new result }
 {

@@ -1,11 +1,11 @@
 //! Bytes that were pulled, and the bits of them that are held in a word.
 
-ghost use Rattle.std.specs.Prelude.{◌≡◌, ◌<◌, ◌≤◌, ◌+◌, ◌-◌, ◌*◌, ◌/◌, ◌%◌, ◌^◌, ◌++◌, ◌∷◌, [], ℕ, List, Bool, true, false, length, take, drop, replicate, min, IfSome, IfOk, IfErr, OnOk, Some, None, Ok, is_some};
+ghost use Rattle.std.specs.Prelude.{◌≡◌, ◌<◌, ◌≤◌, ◌+◌, ◌-◌, ◌*◌, ◌/◌, ◌%◌, ◌^◌, ◌++◌, ◌∷◌, [], ℕ, List, Bool, true, false, length, take, drop, replicate, min, IfSome, IfOk, IfErr, OnOk, Some, None, Ok, is_some, IsTrue, ◌↔◌};
 ghost use Rattle.flac_bits.specs.declared.why.Why.TheVariants.{Truncated};
 ghost use Rattle.flac_bits.specs.Bits.{unsigned, bits_of};
 ghost use Rattle.flac_bits.specs.Meaning.{unary_bits};
 ghost use Rattle.flac_bits.specs.State.{past};
-ghost use Rattle.flac_bits.specs.Store.{Store, passed, Takes, HoldsSame, four_at};
+ghost use Rattle.flac_bits.specs.Store.{Store, passed, Takes, Passes, HoldsSame, four_at};
 
 use crate::source::Source;
 use crate::sums::{bits_checked8, bits_checked16, checked8, checked16};
@@ -141,6 +141,46 @@ impl Held {
         self.word = Word::of_byte(byte);
         self.place += 1;
         true
+    }
+
+    /// Gives the whole bytes of the word back to the array.
+    #[inline(never)]
+    pub fn put_back(&mut self)
+        ensures same { HoldsSame self.old self.new }
+        ensures part { length self.new.word ≡ self.old.mark.unread }
+    {
+        let count = self.word.count();
+        self.place -= count as usize / 8;
+        self.word.keep(count % 8);
+    }
+
+    /// The reason where no byte is left, but for an error of the source.
+    pub fn short(&self) -> Why
+        ensures { result ≡ Why.Truncated }
+    {
+        Why::Truncated
+    }
+
+    /// Whether no byte is held behind the word.
+    #[inline(always)]
+    pub fn is_drained(&self) -> bool
+        ensures { IsTrue result ↔ (self.now.bytes ≡ []) }
+    {
+        self.place == self.end
+    }
+
+    /// Copies the bytes that come next, as many as are held and have a place.
+    pub fn copy(&mut self, out: &mut [u8]) -> usize
+        requires { self.old.word ≡ [] }
+        ensures bound { result ≤ length out.new }
+        ensures taken { Passes (bits_of (take result out.new)) self.old self.new }
+        ensures word { self.new.word ≡ [] }
+        ensures all { result < length out.new → self.new.bytes ≡ [] }
+    {
+        let n = out.len().min(self.end - self.place);
+        out[..n].copy_from_slice(&self.bytes[self.place..self.place + n]);
+        self.place += n;
+        n
     }
 
     /// Bytes of the source, where all that were held are taken; false at the end.

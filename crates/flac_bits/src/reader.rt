@@ -1,10 +1,10 @@
 //! Bits out of a source of bytes.
 
-ghost use Rattle.std.specs.Prelude.{◌≡◌, ◌<◌, ◌≤◌, ◌+◌, ◌^◌, ◌-◌, ◌++◌, ◌∷◌, [], ℕ, true, IfOk, IfErr, OnOk, ◌*◌, length, IfSome, None, Some, Ok, ◌↔◌, false, is_some};
+ghost use Rattle.std.specs.Prelude.{◌≡◌, ◌<◌, ◌≤◌, ◌+◌, ◌^◌, ◌-◌, ◌++◌, ◌∷◌, [], ℕ, true, IfOk, IfErr, OnOk, ◌*◌, length, take, IfSome, None, Some, Ok, ◌↔◌, false, is_some};
 ghost use Rattle.flac_bits.specs.declared.why.Why.TheVariants.{Truncated};
 ghost use Rattle.flac_bits.specs.Bits.{is_nil};
 ghost use Rattle.flac_bits.specs.Bits.{unsigned, bits_of, bit_value};
-ghost use Rattle.flac_bits.specs.State.{State, Cursor, short_of, with_short, started};
+ghost use Rattle.flac_bits.specs.State.{State, Cursor, short_of, with_short, started, Consumes};
 ghost use Rattle.flac_bits.specs.Layout.{next_bit, number_at, zeros_at, align as to_byte, run};
 ghost use Rattle.std.specs.Prelude.{All};
 ghost use Rattle.flac_bits.specs.Lists.{list_of};
@@ -72,6 +72,32 @@ fn fill<R: Source>(held: &mut Held, source: &mut R) -> Result<bool, Why>
         }
         Err(why) => Err(why),
     }
+}
+
+/// Whole bytes in the array and none in the word, which stands at a whole byte; false where none is left.
+fn refill<R: Source>(held: &mut Held, source: &mut R) -> Result<bool, Why>
+    requires { held.old.mark.unread ≡ 0 }
+    ensures names { R.names source.new ≡ R.names source.old }
+    ensures mark { held.new.mark ≡ held.old.mark }
+    ensures ok { IfOk result (λ _. (R.known source.old ≡ true → R.known source.new ≡ true) × (R.errors source.new ≡ R.errors source.old) × (R.raised source.new ≡ R.raised source.old)
+        × (8 * R.most source.new + length (held.new.word ++ bits_of held.new.bytes) ≤ 8 * R.most source.old + length (held.old.word ++ bits_of held.old.bytes))
+        × (R.known source.old ≡ true → (held.new.word ++ bits_of held.new.bytes) ++ bits_of (R.coming source.new) ≡ (held.old.word ++ bits_of held.old.bytes) ++ bits_of (R.coming source.old))) }
+    ensures more { result ≡ Ok true → 0 < length held.new.bytes }
+    ensures word { held.new.word ≡ [] }
+    ensures over { result ≡ Ok false → R.known source.old ≡ true
+        → ((held.old.word ++ bits_of held.old.bytes) ++ bits_of (R.coming source.old) ≡ []) × ((R.behind source.old).fails ≡ None) }
+    ensures kept { R.errors source.old ≤ R.errors source.new }
+    ensures foretold { R.known source.old ≡ true → R.errors source.new ≡ R.errors source.old → R.behind source.new ≡ R.behind source.old }
+    ensures err { IfErr result (λ e. (e ≡ Why.Read)
+        × (R.known source.old ≡ true → R.errors source.new ≡ R.errors source.old
+        → ((held.old.word ++ bits_of held.old.bytes) ++ bits_of (R.coming source.old) ≡ []) × (is_some ((R.behind source.old).fails) ≡ true))
+        × (R.known source.old ≡ true → R.raised source.old < R.raised source.new)) }
+{
+    held.put_back();
+    if !held.is_drained() {
+        return Ok(true);
+    }
+    held.pull(source)
 }
 
 impl<R: Source> BitReader<R> {
@@ -327,6 +353,65 @@ impl<R: Source> BitReader<R> {
             values[i] = self.take_signed(n)?;
         }
         Ok(())
+    }
+
+    /// Some of the bytes that come next: one at least where there is room for it, and none where none is left.
+    fn some_bytes(&mut self, out: &mut [u8]) -> Result<usize, Why>
+        requires { self.old.cursor.mark.unread ≡ 0 }
+        ensures bound { IfOk result (λ n. n ≤ length out.new) }
+        ensures spends { IfOk result (λ n. self.new.most + 8 * n ≤ self.old.most) }
+        ensures whole { OnOk result (self.new.cursor.mark.unread ≡ 0) }
+        ensures counts { Counts self.old self.new result }
+        ensures taken { IfOk result (λ n. self.old.known ≡ true → Consumes (bits_of (take n out.new)) self.old.cursor self.new.cursor) }
+        ensures over { result ≡ Ok 0 → 0 < length out.new → self.old.known ≡ true → (self.old.cursor.left ≡ []) × (self.old.cursor.mark.short ≡ Why.Read → ⊥) }
+        ensures cut { IfErr result (λ e. (e ≡ Why.Read) × (self.old.known ≡ true → self.new.errors ≡ self.old.errors → (self.old.cursor.left ≡ []) × (self.old.cursor.mark.short ≡ Why.Read))) }
+    {
+        match refill(&mut self.held, &mut self.source) {
+            Ok(true) => Ok(self.held.copy(out)),
+            Ok(false) => Ok(0),
+            Err(why) => Err(why),
+        }
+    }
+
+    /// Fills the places with the bytes that come next, and answers how many: all of them, or fewer where the bits end before.
+    /// The reader stands at a whole byte (see [`BitReader::unread`]).
+    ///
+    /// # Errors
+    ///
+    /// `Read` where the source answers an error.
+    pub fn take_bytes(&mut self, out: &mut [u8]) -> Result<usize, Why>
+        requires { self.old.cursor.mark.unread ≡ 0 }
+        ensures bound { IfOk result (λ n. n ≤ length out.new) }
+        ensures spends { IfOk result (λ n. self.new.most + 8 * n ≤ self.old.most) }
+        ensures whole { OnOk result (self.new.cursor.mark.unread ≡ 0) }
+        ensures counts { Counts self.old self.new result }
+        ensures taken { IfOk result (λ n. self.old.known ≡ true → Consumes (bits_of (take n out.new)) self.old.cursor self.new.cursor) }
+        ensures over { IfOk result (λ n. n < length out.new → self.old.known ≡ true → (self.new.cursor.left ≡ []) × (self.new.cursor.mark.short ≡ Why.Read → ⊥)) }
+        ensures cut { IfErr result (λ e. (e ≡ Why.Read) × (self.old.known ≡ true → self.new.errors ≡ self.old.errors → (length self.old.cursor.left < 8 * length out.new) × (self.old.cursor.mark.short ≡ Why.Read))) }
+    {
+        let mut done = 0;
+        while done < out.len() {
+            match self.some_bytes(&mut out[done..]) {
+                Ok(0) => return Ok(done),
+                Ok(n) => done += n,
+                Err(why) => return Err(why),
+            }
+        }
+        Ok(done)
+    }
+
+    /// The reason where a field needs more bits than are left, and no error of the source is the reason.
+    pub fn short(&self) -> Why
+        ensures { self.now.known ≡ true → self.now.cursor.left ≡ [] → (self.now.cursor.mark.short ≡ Why.Read → ⊥) → result ≡ self.now.cursor.mark.short }
+    {
+        self.held.short()
+    }
+
+    /// How many bits of the byte that was begun are still to come, 0 at a whole byte.
+    pub fn unread(&self) -> u32
+        ensures { (result ≡ self.now.cursor.mark.unread) × (result < 8) }
+    {
+        self.held.unread()
     }
 
     /// Whether no bit is left.

@@ -142,3 +142,19 @@ pub fn checked16(check: u16, bytes: &[u8]) -> u16
     }
     check
 }
+
+/// The CRC-8 of bytes, as a frame header has it (RFC 9639, section 9.1.8): generator x^8 + x^2 + x + 1, from 0.
+#[tactic(auto, using(crate::proofs::Check::fed_from_zero))]
+pub fn crc8(bytes: &[u8]) -> u8
+    ensures { result ≡ remainder 8 7 (bits_of bytes.now) }
+{
+    checked8(0, bytes)
+}
+
+/// The CRC-16 of bytes, as a frame has it (RFC 9639, section 9.3): generator x^16 + x^15 + x^2 + 1, from 0.
+#[tactic(auto, using(crate::proofs::Check::fed_from_zero))]
+pub fn crc16(bytes: &[u8]) -> u16
+    ensures { result ≡ remainder 16 32773 (bits_of bytes.now) }
+{
+    checked16(0, bytes)
+}

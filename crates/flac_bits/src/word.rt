@@ -48,6 +48,30 @@ impl Word {
         value
     }
 
+    /// Holds the lowest n bits of a value, which has no others.
+    #[inline(always)]
+    fn of_bits(value: u64, n: u32) -> Word
+        requires few { n ≤ 63 }
+        requires small { value < 2 ^ n }
+        ensures { result ≡ unsigned n value }
+    {
+        Word {
+            word: (value << (63 - n)) << 1,
+            count: n,
+        }
+    }
+
+    /// Keeps the first n bits alone.
+    #[inline(always)]
+    pub fn keep(&mut self, n: u32)
+        requires few { n ≤ 63 }
+        requires held { n ≤ length self.old }
+        ensures { (rest : List Bool) × (self.old ≡ self.new ++ rest) × (length self.new ≡ n) }
+    {
+        let value = self.take(n);
+        *self = Word::of_bits(value, n);
+    }
+
     /// Holds one byte.
     #[inline(always)]
     pub fn of_byte(byte: u8) -> Word

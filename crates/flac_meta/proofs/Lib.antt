@@ -1,1 +1,3 @@
 pub mod Skips
+pub mod Turns
+pub mod Zeros

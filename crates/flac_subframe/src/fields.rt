@@ -1,8 +1,9 @@
 //! Signed fields.
 
-ghost use Rattle.std.specs.Prelude.{◌≡◌, ◌≤◌, ◌<◌, ◌+◌, ◌^◌, OnOk, IfOk, length, All};
+ghost use Rattle.std.specs.Prelude.{◌≡◌, ◌≤◌, ◌<◌, ◌+◌, ◌^◌, OnOk, IfOk, IfSome, length, All};
+ghost use Rattle.flac_bits.specs.Layout.{zeros_at};
 ghost use Rattle.flac_bits.specs.Lists.{list_of};
-ghost use Rattle.flac_bits.specs.Reading.{Counts, Reads};
+ghost use Rattle.flac_bits.specs.Reading.{Counts, Gives, Reads};
 ghost use Rattle.flac_subframe.specs.Fields.{signed_field, to_signed};
 ghost use Rattle.flac_subframe.specs.Numbers.{FitsBits};
 
@@ -38,7 +39,7 @@ fn signed(value: u64, n: u32) -> i64
 }
 
 /// Fills the places with the numbers of n bits that come next.
-#[tactic(auto, using(flac_bits::proofs::Lists::list_more, flac_bits::proofs::Lists::list_end, flac_bits::proofs::Lists::list_start))]
+#[tactic(auto, using(flac_bits::proofs::Lists::list_more))]
 pub fn read_signed<R: Source>(bits: &mut BitReader<R>, n: u32, out: &mut [i64]) -> Result<(), Why>
     requires { n ≤ 33 }
     ensures fits { OnOk result (All (FitsBits n) out.new) }
@@ -50,4 +51,43 @@ pub fn read_signed<R: Source>(bits: &mut BitReader<R>, n: u32, out: &mut [i64]) 
         out[i] = take_signed(bits, n)?;
     }
     Ok(())
+}
+
+/// Fills the places with the coefficients of a precision that come next.
+#[tactic(auto, using(flac_bits::proofs::Lists::list_more))]
+pub fn read_coefficients<R: Source>(
+    bits: &mut BitReader<R>,
+    precision: u32,
+    out: &mut [i32],
+) -> Result<(), Why>
+    requires { precision ≤ 15 }
+    ensures fits { OnOk result (All (FitsBits 15) out.new) }
+    ensures spends { OnOk result (bits.new.most ≤ bits.old.most) }
+    ensures counts { Counts bits.old bits.new result }
+    ensures reads { Reads (λ _. out.new) (list_of (length out.old) (signed_field precision)) bits.old bits.new result }
+{
+    for i in 0..out.len() {
+        let coefficient = take_signed(bits, precision)?;
+        out[i] = coefficient as i32;
+    }
+    Ok(())
+}
+
+/// How many zeros stand before the next one; `None` at a zero past the limit.
+#[tactic(auto, unfolding(flac_bits::specs::Layout::zeros_at), using(crate::proofs::Zeros::zeros_turn, crate::proofs::Zeros::zeros_final))]
+pub fn read_zeros<R: Source>(bits: &mut BitReader<R>, limit: u32) -> Result<Option<u32>, Why>
+    ensures within { IfOk result (λ o. IfSome o (λ q. q ≤ limit)) }
+    ensures spends { OnOk result (bits.new.most ≤ bits.old.most) }
+    ensures counts { Counts bits.old bits.new result }
+    ensures reads { Gives (λ v. v) (zeros_at limit bits.old.cursor) bits.old bits.new result }
+{
+    for zeros in 0..limit {
+        if bits.take(1)? == 1 {
+            return Ok(Some(zeros));
+        }
+    }
+    if bits.take(1)? == 1 {
+        return Ok(Some(limit));
+    }
+    Ok(None)
 }

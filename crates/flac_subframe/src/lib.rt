@@ -5,6 +5,7 @@ mod fields;
 mod limits;
 mod numbers;
 mod predictors;
+mod residual;
 mod restoration;
 mod subframe;
 

@@ -1,25 +1,31 @@
-use Rattle.std.proofs.Common.{ℕ, ◌+◌, ◌-◌, List, [], ◌∷◌, ◌++◌, length, take, refl, sym, ap, arith, Result, Ok, ◌∙◌}
-use Rattle.std.proofs.lemmas.List.{take_all}
-use Rattle.std.proofs.lemmas.Grind.{take-set_at}
-use Rattle.flac_bits.specs.State.{Cursor}
-use Rattle.flac_bits.specs.Layout.{bits, run, and_then, number_at, Reason}
-use Rattle.flac_bits.specs.Lists.{list_of, behind}
-use Rattle.flac_bits.proofs.Loops.{goes_on}
-use Rattle.flac_bits.proofs.Lists.{list_more, list_end}
+use Rattle.std.proofs.Common.{◌≡◌, ◌<◌, ◌≤◌, ◌++◌, ℕ, List, Bool, [], length, take, get_or, Fits, w8, Err, subst, refl, sym, ap, ◌∙◌, arith}
+use Rattle.std.proofs.lemmas.List.{take_all, length-take}
+use Rattle.std.proofs.Math.Facts.{Fits-lt-pow}
+use Rattle.flac_bits.specs.Bits.{bits_of}
+use Rattle.flac_bits.specs.State.{Cursor, Consumes}
+use Rattle.flac_bits.specs.Layout.{because, Reason}
+use Rattle.flac_bits.specs.declared.why.Why.{Why}
+use Rattle.flac_bits.proofs.Copied.{exact, missing, bits_cut}
 use Rattle.flac_bits.proofs.bytes.read_bytes.Goals as goal
 
-pub loop-i-preserved : goal.loop-i-preserved
-loop-i-preserved g c =
-    let n = length c.args.out.now in
-    let i = c.loop-i.i in
-    let more : ℕ → Cursor → _ = λ v d. and_then (run (list_of (n - (i + 1)) (bits 8)) d) (behind (take i c.loop-i.out ++ v ∷ [])) in
-    goes_on c.args.bits.now c.loop-i.bits c.take.new.self (number_at 8 c.loop-i.bits.cursor) c.in_ok-out.field-0 more _ _ _
-    c.loop-i.invariant (list_more n i (bits 8) c.loop-i.bits.cursor (take i c.loop-i.out) c.loop-i-test.true)
-    (ap (λ front. and_then (run (list_of (n - (i + 1)) (bits 8)) c.take.new.self.cursor) (behind front)) (sym (take-set_at c.loop-i.out i (i + 1) c.in_ok-out.field-0 refl (omega (arith, c.loop-i.auto.out, c.loop-i-test.true)))))
-    c.in_ok-out.ensures.counts c.in_ok-out.ensures.reads
+pub returns-then-n-out-clause-reads : goal.returns-then-n-out-clause-reads
+returns-then-n-out-clause-reads g c = λ known same.
+    let got = c.in-Ok.ensures in
+    let n = c.in-Ok.n in
+    let lt = c.if-n-out.true in
+    let over = got.over (omega (arith, lt, c.take_bytes.auto.out)) known in
+    missing (take n c.take_bytes.new.out) (length c.args.out.now) c.short.result c.args.bits.now.cursor c.take_bytes.new.self.cursor (omega (arith, lt, length-take {A = ℕ} n c.take_bytes.new.out, c.take_bytes.auto.out))
+    over.0 (c.short.ensures (got.counts.0 known) over.0 over.1) (got.taken known)
 
-abbrev okay : List ℕ × Cursor → Result (List ℕ × Cursor) Reason
-okay y = Ok y
+pub returns-else-n-out-clause-reads : goal.returns-else-n-out-clause-reads
+returns-else-n-out-clause-reads g c = λ known same.
+    let got = c.in-Ok.ensures in
+    let xs = c.take_bytes.new.out in
+    let all : take c.in-Ok.n xs ≡ xs = take_all c.in-Ok.n xs (omega (arith, c.if-n-out.false, c.take_bytes.auto.out)) in
+    exact xs (length c.args.out.now) c.args.bits.now.cursor c.take_bytes.new.self.cursor c.take_bytes.auto.out (λ k lt. let f : Fits w8 (get_or xs k 0) = c.type_inv.out k in Fits-lt-pow f) (let P : List ℕ → Type 0 = λ ys. Consumes (bits_of ys) c.args.bits.now.cursor c.take_bytes.new.self.cursor in subst P all (got.taken known))
 
-pub returns-clause-reads : goal.returns-clause-reads
-returns-clause-reads g c = λ known same. sym (c.loop-i.invariant.reads known) ∙ list_end (length c.args.out.now) c.loop-i.i (bits 8) c.loop-i.bits.cursor (take c.loop-i.i c.loop-i.out) c.loop-i-test.false ∙ ap (λ front. okay (front, c.loop-i.bits.cursor)) (take_all c.loop-i.i c.loop-i.out (omega (arith, c.loop-i.auto.out, c.loop-i-test.false)))
+pub returns-in-Err-clause-reads : goal.returns-in-Err-clause-reads
+returns-in-Err-clause-reads g c = λ known same.
+    let cut = c.in-Err.ensures.cut in
+    let few = cut.1 known same in
+    bits_cut (length c.args.out.now) c.args.bits.now.cursor.left c.args.bits.now.cursor.mark (omega (arith, few.0, c.take_bytes.auto.out)) ∙ ap (λ (w : Why). Err (because w)) (few.1 ∙ sym cut.0)
