@@ -21,3 +21,5 @@ pub mod Signs
 pub mod Back
 pub mod Copied
 pub mod Handing
+pub mod Coming
+pub mod Standing

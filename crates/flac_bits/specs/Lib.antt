@@ -16,3 +16,4 @@ pub mod Items
 pub mod Handing
 pub mod Signed
 pub mod Sending
+pub mod Fencing
