@@ -27,3 +27,5 @@ pub mod Back
 pub mod Copied
 pub mod Handing
 pub mod ItemSpellings
+pub mod Coming
+pub mod Standing

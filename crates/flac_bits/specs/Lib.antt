@@ -18,3 +18,4 @@ pub mod Signed
 pub mod Sending
 pub mod Unsent
 pub mod Standing
+pub mod Fencing
