@@ -23,3 +23,4 @@ pub mod Copied
 pub mod Handing
 pub mod Coming
 pub mod Standing
+pub mod Fencing

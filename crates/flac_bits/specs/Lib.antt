@@ -17,3 +17,4 @@ pub mod Handing
 pub mod Signed
 pub mod Sending
 pub mod Fencing
+pub mod Reasons

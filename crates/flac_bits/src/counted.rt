@@ -16,7 +16,10 @@ pub struct Counted<T: Read> {
 }
 
 impl<T: Read> Counted<T> {
-    pub fn new(reader: T) -> Counted<T> {
+    /// The reader, with no error so far.
+    pub fn new(reader: T) -> Counted<T>
+        ensures { (result.reader ≡ reader) × (result.errors ≡ 0) × (result.room ≡ 2 ^ 64 - 1) }
+    {
         Counted {
             reader,
             errors: 0,

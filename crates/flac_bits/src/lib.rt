@@ -24,7 +24,7 @@ pub use number::read_number;
 pub use promises::numbers_are_spelled;
 pub use reader::BitReader;
 pub use send::send_all;
-pub use source::{Memory, Source};
+pub use source::{Memory, Pieces, Source};
 pub use sums::{crc8, crc16};
 pub use target::{Collected, Target};
 pub use why::Why;
