@@ -63,7 +63,7 @@ unfolding times
 times-xor w g zero a b = refl
 times-xor w g (suc n) a b = ap (times w g n) (shifted-xor w g a b) ∙ times-xor w g n (shifted w g a) (shifted w g b)
 
-times-zero : (w g n : ℕ) → times w g n 0 ≡ 0
+pub times-zero : (w g n : ℕ) → times w g n 0 ≡ 0
 unfolding times
 times-zero w g zero = refl
 times-zero w g (suc n) = ap (times w g n) (shifted-zero w g) ∙ times-zero w g n
@@ -73,7 +73,7 @@ unfolding times
 times-shifted w g zero c = refl
 times-shifted w g (suc n) c = times-shifted w g n (shifted w g c)
 
-times-power : (w g n : ℕ) → times w g n g ≡ power w g n
+pub times-power : (w g n : ℕ) → times w g n g ≡ power w g n
 unfolding times
 times-power w g zero = refl
 times-power w g (suc n) = times-shifted w g n g ∙ ap (shifted w g) (times-power w g n)

@@ -15,7 +15,6 @@ pub mod Marks
 pub mod Fields
 pub mod Rices
 pub mod Partly
-pub mod Tables
 pub mod Ties
 pub mod CodedTie
 pub mod Fences
@@ -29,3 +28,9 @@ pub mod Handing
 pub mod ItemSpellings
 pub mod Coming
 pub mod Standing
+pub mod Fencing
+pub mod Slicing
+pub mod Entries8
+pub mod Entries16
+pub mod Entries32
+pub mod Eights

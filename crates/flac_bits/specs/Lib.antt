@@ -19,3 +19,4 @@ pub mod Sending
 pub mod Unsent
 pub mod Standing
 pub mod Fencing
+pub mod Reasons

@@ -20,7 +20,10 @@ pub struct Counted<T> {
 }
 
 impl<T> Counted<T> {
-    pub fn new(device: T) -> Counted<T> {
+    /// The device, with no error so far.
+    pub fn new(device: T) -> Counted<T>
+        ensures { (result.device ≡ device) × (result.errors ≡ 0) × (result.room ≡ 2 ^ 64 - 1) }
+    {
         Counted {
             device,
             errors: 0,

@@ -291,6 +291,34 @@ impl Held {
         self.room = None;
     }
 
+    /// Puts a fence so many bytes behind the byte that was begun, in place of one that stands.
+    pub fn fence(&mut self, bytes: u64)
+        ensures mark { self.new.mark ≡ self.old.mark }
+        ensures part { length self.new.word ≡ self.old.mark.unread }
+        ensures held { (held : List ℕ) × (self.new.word ++ bits_of held ≡ self.old.word ++ bits_of (self.old.bytes ++ self.old.fence.hidden))
+            × (self.new.bytes ≡ take bytes held) × (self.new.fence ≡ record { room = Some (bytes - length held); hidden = drop bytes held }) }
+        ensures behind { (coming : List ℕ) → allowed self.old.fence.room coming ++ (self.old.fence.hidden ++ forbidden self.old.fence.room coming) ≡ self.old.fence.hidden ++ coming }
+    {
+        self.lift();
+        self.put_back();
+        self.close(bytes);
+    }
+
+    /// Lets only the next bytes of the array be read, and as many of the source that so many are read in all.
+    fn close(&mut self, bytes: u64)
+        requires { self.old.fence ≡ record { room = None; hidden = [] } }
+        ensures { (self.new.word ≡ self.old.word) × (self.new.mark ≡ self.old.mark) × (self.new.bytes ≡ take bytes self.old.bytes)
+            × (self.new.fence ≡ record { room = Some (bytes - length self.old.bytes); hidden = drop bytes self.old.bytes }) }
+    {
+        let held = (self.end - self.place) as u64;
+        if bytes < held {
+            self.end = self.place + bytes as usize;
+            self.room = Some(0);
+        } else {
+            self.room = Some(bytes - held);
+        }
+    }
+
     /// How many bits of the byte that was begun are still to come.
     #[inline(always)]
     pub fn unread(&self) -> u32

@@ -420,6 +420,21 @@ impl<R: Source> BitReader<R> {
         }
     }
 
+    /// Lets only so many bytes be read beyond the byte that was begun, in place of a fence that stands. A field that needs a byte past these
+    /// is refused by `FrameTooLong`, and the source is not asked for it; where the input ends before, the field is refused as without a fence.
+    pub fn fence(&mut self, bytes: u64)
+        ensures { self.new ≡ fence_at bytes self.old }
+    {
+        self.held.fence(bytes);
+    }
+
+    /// Takes the fence away.
+    pub fn lift(&mut self)
+        ensures { self.new ≡ lifted self.old }
+    {
+        self.held.lift();
+    }
+
     /// The source, without the bytes that were pulled and not read.
     pub fn into_source(self) -> R
         ensures known { R.known result ≡ true → self.known ≡ true }

@@ -72,7 +72,9 @@ pub struct Memory<'a> {
 }
 
 impl<'a> Memory<'a> {
-    pub fn new(bytes: &'a [u8]) -> Memory<'a> {
+    pub fn new(bytes: &'a [u8]) -> Memory<'a>
+        ensures { result.bytes.now ≡ bytes.now }
+    {
         Memory { bytes }
     }
 }
@@ -98,5 +100,44 @@ impl Source for Memory<'_> {
         buf[..n].copy_from_slice(&bytes[..n]);
         self.bytes = &bytes[n..];
         Ok(n)
+    }
+}
+
+/// A source that is asked for a few bytes at a time: the same bytes, whatever their number.
+#[derive(Drop)]
+pub struct Pieces<S: Source> {
+    source: S,
+    most: usize,
+    ghost some: { 1 ≤ most },
+}
+
+impl<S: Source> Pieces<S> {
+    /// The source, of which at most so many bytes are asked for at once, one or more.
+    pub fn new(source: S, most: usize) -> Pieces<S>
+        requires { 1 ≤ most }
+        ensures { result.source ≡ source }
+    {
+        Pieces { source, most }
+    }
+}
+
+impl<S: Source> Source for Pieces<S> {
+    ghost known = { λ s. S.known s.source };
+
+    ghost coming = { λ s. S.coming s.source };
+
+    ghost behind = { λ s. S.behind s.source };
+
+    ghost errors = { λ s. S.errors s.source };
+
+    ghost raised = { λ s. S.raised s.source };
+
+    ghost most = { λ s. S.most s.source };
+
+    ghost names = { λ s. S.names s.source };
+
+    fn pull(&mut self, buf: &mut [u8]) -> io::Result<usize> {
+        let most = self.most.min(buf.len());
+        self.source.pull(&mut buf[..most])
     }
 }

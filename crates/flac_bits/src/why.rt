@@ -2,6 +2,7 @@
 
 ghost use Rattle.std.specs.Prelude.{◌≡◌};
 ghost use Rattle.flac_bits.specs.declared.why.Why.TheVariants.{Memory};
+ghost use Rattle.flac_bits.specs.Reasons.{number_of};
 
 use std::alloc::{AllocError, AllocFailed};
 
@@ -92,7 +93,9 @@ pub enum Why {
 
 impl Why {
     /// The number of the reason: 1 to 39, and 49 for what is not served yet.
-    pub fn number(self) -> u8 {
+    pub fn number(self) -> u8
+        ensures { result ≡ number_of self }
+    {
         match self {
             Why::NotYet => 49,
             other => other as u8 + 1,

@@ -1,8 +1,9 @@
-use Rattle.std.proofs.Common.{rules, ◌<◌, ◌^◌, ◌%◌, ◌*◌, ◌/◌, sym, ap, ◌∙◌, arith, bit_xor}
-use Rattle.flac_bits.specs.Bits.{unsigned}
-use Rattle.flac_bits.specs.Check.{remainder}
-use Rattle.flac_bits.proofs.Tables.{byte8_step}
+use Rattle.std.proofs.Common.{ℕ, ◌<◌, ◌^◌, rules}
+use Rattle.flac_bits.proofs.Eights.{byte8}
 use Rattle.flac_bits.proofs.sums.byte_checked8.Goals as goal
 
 pub returns : goal.returns
-returns c = let fits : c.args.check < 256 = search rules in c.entry8.ensures ∙ sym (byte8_step c.args.check c.args.byte fits)
+returns c =
+    let fits : c.args.check < 2 ^ 8 = search rules in
+    let small : c.args.byte < 2 ^ 8 = search rules in
+    byte8 c.args.check c.args.byte fits small

@@ -1,8 +1,17 @@
-use Rattle.std.proofs.Common.{◌≡◌, ◌+◌, sym, ap, ◌∙◌, get_or}
-use Rattle.flac_bits.specs.Bits.{unsigned}
+use Rattle.std.proofs.Common.{◌≡◌, ◌+◌, ◌*◌, ◌≤◌, ◌/◌, sym, ap, ◌∙◌, length, arith}
+use Rattle.std.specs.List.{slice_range}
+use Rattle.flac_bits.specs.Bits.{bits_of}
 use Rattle.flac_bits.specs.Check.{fed}
-use Rattle.flac_bits.proofs.Check.{fed_byte}
+use Rattle.flac_bits.proofs.Eights.{fed_eight, fed_rest}
 use Rattle.flac_bits.proofs.sums.checked8.Goals as goal
 
 pub loop-i-preserved : goal.loop-i-preserved
-loop-i-preserved c = c.byte_checked8-check.ensures ∙ ap (λ k. fed 8 7 k (unsigned 8 (get_or c.args.bytes.now c.loop-i.i 0))) c.loop-i.invariant ∙ sym (fed_byte 8 7 c.args.check c.loop-i.i c.args.bytes.now c.loop-i-test.true)
+loop-i-preserved c =
+    let i = c.loop-i.i in
+    let bytes = c.args.bytes.now in
+    c.eight_checked8-check.ensures ∙ ap (λ k. fed 8 7 k (bits_of (slice_range bytes (8 * i) (8 * i + 8)))) c.loop-i.invariant ∙ sym (fed_eight 8 7 c.args.check i bytes (omega (arith, c.loop-i-test.true)))
+
+pub returns : goal.returns
+returns c =
+    let bytes = c.args.bytes.now in
+    c.each_checked8.ensures ∙ ap (λ k. fed 8 7 k (bits_of (slice_range bytes (8 * (length bytes / 8)) (length bytes)))) c.loop-i.invariant ∙ fed_rest 8 7 c.args.check c.loop-i.i bytes (omega (arith, c.loop-i-test.false, c.loop-i.auto.i-end))

@@ -1,0 +1,118 @@
+-- The remainder after eight bytes, and after one, by the tables.
+use Rattle.std.proofs.Common.{◌≡◌, ℕ, zero, suc, ◌+◌, ◌-◌, ◌*◌, ◌/◌, ◌%◌, ◌^◌, ◌<◌, ◌≤◌, List, [], ◌∷◌, ◌++◌, length, take, drop, get_or, bit_xor, refl, sym, ap, ◌∙◌, arith}
+use Rattle.std.specs.List.{slice_range}
+use Rattle.std.specs.Int.Bits.{xor_zero_l}
+use Rattle.std.proofs.lemmas.Nat.{xor_lt, shr_below}
+use Rattle.std.proofs.lemmas.List.{drop-take, take-append-drop, length-take, length-drop, take_all}
+use Rattle.std.proofs.Math.Seq.{take-add}
+use Rattle.flac_bits.specs.Bits.{unsigned, bits_of}
+use Rattle.flac_bits.specs.Check.{remainder, fed}
+use Rattle.flac_bits.proofs.Check.{times, fed-append}
+use Rattle.flac_bits.proofs.Words.{split, unsigned-mod}
+use Rattle.flac_bits.proofs.Holding.{bits_of-append}
+use Rattle.flac_bits.proofs.Slicing.{entry, eight_is, fed_mixed, times_is, byte_step}
+use Rattle.flac_bits.proofs.Entries8.{behind8_0, behind8_1, behind8_2, behind8_3, behind8_4, behind8_5, behind8_6, behind8_7, is8_0, is8_1, is8_2, is8_3, is8_4, is8_5, is8_6, is8_7}
+use Rattle.flac_bits.proofs.Entries16.{behind16_0, behind16_1, behind16_2, behind16_3, behind16_4, behind16_5, behind16_6, behind16_7, is16_0, is16_1, is16_2, is16_3, is16_4, is16_5, is16_6, is16_7}
+use Rattle.flac_bits.proofs.Entries32.{behind32_0, behind32_1, behind32_2, behind32_3, behind32_4, behind32_5, behind32_6, behind32_7, is32_0, is32_1, is32_2, is32_3, is32_4, is32_5, is32_6, is32_7}
+
+-- the loops over bytes
+pub fed_eight : (w g c i : ℕ) (bytes : List ℕ) → 8 * i + 8 ≤ length bytes → fed w g c (bits_of (take (8 * (i + 1)) bytes)) ≡ fed w g (fed w g c (bits_of (take (8 * i) bytes))) (bits_of (slice_range bytes (8 * i) (8 * i + 8)))
+fed_eight w g c i bytes le =
+    let k : 8 * (i + 1) ≡ 8 * i + 8 = omega arith in
+    let n : 8 * i + 8 - 8 * i ≡ 8 = omega arith in
+    ap (λ j. fed w g c (bits_of (take j bytes))) k ∙ ap (λ xs. fed w g c (bits_of xs)) (take-add (8 * i) 8 bytes) ∙ ap (fed w g c) (bits_of-append (take (8 * i) bytes) (take 8 (drop (8 * i) bytes)))
+    ∙ fed-append w g c (bits_of (take (8 * i) bytes)) (bits_of (take 8 (drop (8 * i) bytes))) ∙ ap (λ j. fed w g (fed w g c (bits_of (take (8 * i) bytes))) (bits_of (take j (drop (8 * i) bytes)))) (sym n)
+
+pub fed_rest : (w g c i : ℕ) (bytes : List ℕ) → i ≡ length bytes / 8 → fed w g (fed w g c (bits_of (take (8 * i) bytes))) (bits_of (slice_range bytes (8 * (length bytes / 8)) (length bytes))) ≡ fed w g c (bits_of bytes)
+fed_rest w g c i bytes e =
+    let k = 8 * i in
+    let all : take (length bytes - k) (drop k bytes) ≡ drop k bytes = take_all (length bytes - k) (drop k bytes) (omega (arith, length-drop k bytes)) in
+    rw (← e, all) (sym (fed-append w g c (bits_of (take k bytes)) (bits_of (drop k bytes))) ∙ ap (fed w g c) (sym (bits_of-append (take k bytes) (drop k bytes)) ∙ ap bits_of (take-append-drop k bytes)))
+
+-- eight numbers are a list of them
+eight_list : (xs : List ℕ) → length xs ≡ 8 → xs ≡ get_or xs 0 0 ∷ get_or xs 1 0 ∷ get_or xs 2 0 ∷ get_or xs 3 0 ∷ get_or xs 4 0 ∷ get_or xs 5 0 ∷ get_or xs 6 0 ∷ get_or xs 7 0 ∷ []
+eight_list [] e = absurd (omega (arith, e))
+eight_list (a ∷ []) e = absurd (omega (arith, e))
+eight_list (a ∷ b ∷ []) e = absurd (omega (arith, e))
+eight_list (a ∷ b ∷ c ∷ []) e = absurd (omega (arith, e))
+eight_list (a ∷ b ∷ c ∷ d ∷ []) e = absurd (omega (arith, e))
+eight_list (a ∷ b ∷ c ∷ d ∷ f ∷ []) e = absurd (omega (arith, e))
+eight_list (a ∷ b ∷ c ∷ d ∷ f ∷ g ∷ []) e = absurd (omega (arith, e))
+eight_list (a ∷ b ∷ c ∷ d ∷ f ∷ g ∷ h ∷ []) e = absurd (omega (arith, e))
+eight_list (a ∷ b ∷ c ∷ d ∷ f ∷ g ∷ h ∷ i ∷ []) e = refl
+eight_list (a ∷ b ∷ c ∷ d ∷ f ∷ g ∷ h ∷ i ∷ j ∷ xs) e = absurd (omega (arith, e))
+
+pub eight8 : (c : ℕ) (xs : List ℕ) → length xs ≡ 8 → c < 2 ^ 8 → ((k : ℕ) → get_or xs k 0 < 2 ^ 8)
+    → bit_xor (get_or behind8_7 (bit_xor (c) (get_or xs 0 0)) 0) (bit_xor (get_or behind8_6 (get_or xs 1 0) 0) (bit_xor (get_or behind8_5 (get_or xs 2 0) 0) (bit_xor (get_or behind8_4 (get_or xs 3 0) 0) (bit_xor (get_or behind8_3 (get_or xs 4 0) 0) (bit_xor (get_or behind8_2 (get_or xs 5 0) 0) (bit_xor (get_or behind8_1 (get_or xs 6 0) 0) (get_or behind8_0 (get_or xs 7 0) 0))))))) ≡ fed 8 7 c (bits_of xs)
+eight8 c xs long fits small =
+    let e = λ (j i : ℕ). entry 8 7 j i in
+    let at0 : get_or behind8_7 (bit_xor (c) (get_or xs 0 0)) 0 ≡ e 7 (bit_xor (c) (get_or xs 0 0)) = is8_7 (bit_xor (c) (get_or xs 0 0)) (xor_lt 8 (c) (get_or xs 0 0) (fits) (small 0)) in
+    let at1 : get_or behind8_6 (get_or xs 1 0) 0 ≡ e 6 (get_or xs 1 0) = is8_6 (get_or xs 1 0) (small 1) in
+    let at2 : get_or behind8_5 (get_or xs 2 0) 0 ≡ e 5 (get_or xs 2 0) = is8_5 (get_or xs 2 0) (small 2) in
+    let at3 : get_or behind8_4 (get_or xs 3 0) 0 ≡ e 4 (get_or xs 3 0) = is8_4 (get_or xs 3 0) (small 3) in
+    let at4 : get_or behind8_3 (get_or xs 4 0) 0 ≡ e 3 (get_or xs 4 0) = is8_3 (get_or xs 4 0) (small 4) in
+    let at5 : get_or behind8_2 (get_or xs 5 0) 0 ≡ e 2 (get_or xs 5 0) = is8_2 (get_or xs 5 0) (small 5) in
+    let at6 : get_or behind8_1 (get_or xs 6 0) 0 ≡ e 1 (get_or xs 6 0) = is8_1 (get_or xs 6 0) (small 6) in
+    let at7 : get_or behind8_0 (get_or xs 7 0) 0 ≡ e 0 (get_or xs 7 0) = is8_0 (get_or xs 7 0) (small 7) in
+    let held : times 8 7 8 c ≡ remainder 8 7 (bits_of ((c) ∷ [])) = times_is 8 7 8 c (omega arith) fits in
+    let sums : fed 8 7 c (bits_of xs) ≡ remainder 8 7 (bits_of ((bit_xor (c) (get_or xs 0 0)) ∷ (get_or xs 1 0) ∷ (get_or xs 2 0) ∷ (get_or xs 3 0) ∷ (get_or xs 4 0) ∷ (get_or xs 5 0) ∷ (get_or xs 6 0) ∷ (get_or xs 7 0) ∷ [])) =
+    ap (λ ys. fed 8 7 c (bits_of ys)) (eight_list xs long) ∙ fed_mixed 8 7 c ((c) ∷ []) (get_or xs 0 0 ∷ []) (get_or xs 1 0 ∷ get_or xs 2 0 ∷ get_or xs 3 0 ∷ get_or xs 4 0 ∷ get_or xs 5 0 ∷ get_or xs 6 0 ∷ get_or xs 7 0 ∷ []) refl refl held in
+    rw (at0, at1, at2, at3, at4, at5, at6, at7) (sym (eight_is 8 7 (bit_xor (c) (get_or xs 0 0)) (get_or xs 1 0) (get_or xs 2 0) (get_or xs 3 0) (get_or xs 4 0) (get_or xs 5 0) (get_or xs 6 0) (get_or xs 7 0))) ∙ sym sums
+
+pub byte8 : (c b : ℕ) → c < 2 ^ 8 → b < 2 ^ 8 → get_or behind8_0 (bit_xor c b) 0 ≡ fed 8 7 c (unsigned 8 b)
+unfolding times
+byte8 c b fits small =
+    let look = is8_0 (bit_xor c b) (xor_lt 8 c b fits small) in
+    let low : c % 2 ^ 0 * 2 ^ 8 ≡ 0 = omega arith in
+    let high : c / 2 ^ 0 ≡ c = omega arith in
+    look ∙ sym (xor_zero_l (remainder 8 7 (unsigned 8 (bit_xor c b)))) ∙ ap (λ k. bit_xor k (remainder 8 7 (unsigned 8 (bit_xor c b)))) (sym low) ∙ ap (λ k. bit_xor (c % 2 ^ 0 * 2 ^ 8) (remainder 8 7 (unsigned 8 (bit_xor k b)))) (sym high) ∙ sym (byte_step 0 7 c b fits)
+
+pub eight16 : (c : ℕ) (xs : List ℕ) → length xs ≡ 8 → c < 2 ^ 16 → ((k : ℕ) → get_or xs k 0 < 2 ^ 8)
+    → bit_xor (get_or behind16_7 (bit_xor (c / 256) (get_or xs 0 0)) 0) (bit_xor (get_or behind16_6 (bit_xor (c % 256) (get_or xs 1 0)) 0) (bit_xor (get_or behind16_5 (get_or xs 2 0) 0) (bit_xor (get_or behind16_4 (get_or xs 3 0) 0) (bit_xor (get_or behind16_3 (get_or xs 4 0) 0) (bit_xor (get_or behind16_2 (get_or xs 5 0) 0) (bit_xor (get_or behind16_1 (get_or xs 6 0) 0) (get_or behind16_0 (get_or xs 7 0) 0))))))) ≡ fed 16 32773 c (bits_of xs)
+eight16 c xs long fits small =
+    let e = λ (j i : ℕ). entry 16 32773 j i in
+    let at0 : get_or behind16_7 (bit_xor (c / 256) (get_or xs 0 0)) 0 ≡ e 7 (bit_xor (c / 256) (get_or xs 0 0)) = is16_7 (bit_xor (c / 256) (get_or xs 0 0)) (xor_lt 8 (c / 256) (get_or xs 0 0) (omega (arith, fits)) (small 0)) in
+    let at1 : get_or behind16_6 (bit_xor (c % 256) (get_or xs 1 0)) 0 ≡ e 6 (bit_xor (c % 256) (get_or xs 1 0)) = is16_6 (bit_xor (c % 256) (get_or xs 1 0)) (xor_lt 8 (c % 256) (get_or xs 1 0) (omega arith) (small 1)) in
+    let at2 : get_or behind16_5 (get_or xs 2 0) 0 ≡ e 5 (get_or xs 2 0) = is16_5 (get_or xs 2 0) (small 2) in
+    let at3 : get_or behind16_4 (get_or xs 3 0) 0 ≡ e 4 (get_or xs 3 0) = is16_4 (get_or xs 3 0) (small 3) in
+    let at4 : get_or behind16_3 (get_or xs 4 0) 0 ≡ e 3 (get_or xs 4 0) = is16_3 (get_or xs 4 0) (small 4) in
+    let at5 : get_or behind16_2 (get_or xs 5 0) 0 ≡ e 2 (get_or xs 5 0) = is16_2 (get_or xs 5 0) (small 5) in
+    let at6 : get_or behind16_1 (get_or xs 6 0) 0 ≡ e 1 (get_or xs 6 0) = is16_1 (get_or xs 6 0) (small 6) in
+    let at7 : get_or behind16_0 (get_or xs 7 0) 0 ≡ e 0 (get_or xs 7 0) = is16_0 (get_or xs 7 0) (small 7) in
+    let held : times 16 32773 16 c ≡ remainder 16 32773 (bits_of ((c / 256) ∷ (c % 256) ∷ [])) = times_is 16 32773 16 c (omega arith) fits ∙ ap (remainder 16 32773) (split 8 8 c ∙ ap (λ bs. unsigned 8 (c / 256) ++ bs) (sym (unsigned-mod 8 c))) in
+    let sums : fed 16 32773 c (bits_of xs) ≡ remainder 16 32773 (bits_of ((bit_xor (c / 256) (get_or xs 0 0)) ∷ (bit_xor (c % 256) (get_or xs 1 0)) ∷ (get_or xs 2 0) ∷ (get_or xs 3 0) ∷ (get_or xs 4 0) ∷ (get_or xs 5 0) ∷ (get_or xs 6 0) ∷ (get_or xs 7 0) ∷ [])) =
+    ap (λ ys. fed 16 32773 c (bits_of ys)) (eight_list xs long) ∙ fed_mixed 16 32773 c ((c / 256) ∷ (c % 256) ∷ []) (get_or xs 0 0 ∷ get_or xs 1 0 ∷ []) (get_or xs 2 0 ∷ get_or xs 3 0 ∷ get_or xs 4 0 ∷ get_or xs 5 0 ∷ get_or xs 6 0 ∷ get_or xs 7 0 ∷ []) refl refl held in
+    rw (at0, at1, at2, at3, at4, at5, at6, at7) (sym (eight_is 16 32773 (bit_xor (c / 256) (get_or xs 0 0)) (bit_xor (c % 256) (get_or xs 1 0)) (get_or xs 2 0) (get_or xs 3 0) (get_or xs 4 0) (get_or xs 5 0) (get_or xs 6 0) (get_or xs 7 0))) ∙ sym sums
+
+pub byte16 : (c b : ℕ) → c < 2 ^ 16 → b < 2 ^ 8 → bit_xor (c * 256 % 65536) (get_or behind16_0 (bit_xor (c / 256) b) 0) ≡ fed 16 32773 c (unsigned 8 b)
+unfolding times
+byte16 c b fits small =
+    let look = is16_0 (bit_xor (c / 256) b) (xor_lt 8 (c / 256) b (omega (arith, fits)) small) in
+    let low : c * 256 % 65536 ≡ c % 256 * 256 = omega arith in
+    ap (λ k. bit_xor k (get_or behind16_0 (bit_xor (c / 256) b) 0)) low ∙ ap (bit_xor (c % 256 * 256)) look ∙ sym (byte_step 8 32773 c b fits)
+
+pub eight32 : (c : ℕ) (xs : List ℕ) → length xs ≡ 8 → c < 2 ^ 32 → ((k : ℕ) → get_or xs k 0 < 2 ^ 8)
+    → bit_xor (get_or behind32_7 (bit_xor (c / 16777216) (get_or xs 0 0)) 0) (bit_xor (get_or behind32_6 (bit_xor (c / 65536 % 256) (get_or xs 1 0)) 0) (bit_xor (get_or behind32_5 (bit_xor (c / 256 % 256) (get_or xs 2 0)) 0) (bit_xor (get_or behind32_4 (bit_xor (c % 256) (get_or xs 3 0)) 0) (bit_xor (get_or behind32_3 (get_or xs 4 0) 0) (bit_xor (get_or behind32_2 (get_or xs 5 0) 0) (bit_xor (get_or behind32_1 (get_or xs 6 0) 0) (get_or behind32_0 (get_or xs 7 0) 0))))))) ≡ fed 32 79764919 c (bits_of xs)
+eight32 c xs long fits small =
+    let e = λ (j i : ℕ). entry 32 79764919 j i in
+    let at0 : get_or behind32_7 (bit_xor (c / 16777216) (get_or xs 0 0)) 0 ≡ e 7 (bit_xor (c / 16777216) (get_or xs 0 0)) = is32_7 (bit_xor (c / 16777216) (get_or xs 0 0)) (xor_lt 8 (c / 16777216) (get_or xs 0 0) (omega (arith, fits)) (small 0)) in
+    let at1 : get_or behind32_6 (bit_xor (c / 65536 % 256) (get_or xs 1 0)) 0 ≡ e 6 (bit_xor (c / 65536 % 256) (get_or xs 1 0)) = is32_6 (bit_xor (c / 65536 % 256) (get_or xs 1 0)) (xor_lt 8 (c / 65536 % 256) (get_or xs 1 0) (omega arith) (small 1)) in
+    let at2 : get_or behind32_5 (bit_xor (c / 256 % 256) (get_or xs 2 0)) 0 ≡ e 5 (bit_xor (c / 256 % 256) (get_or xs 2 0)) = is32_5 (bit_xor (c / 256 % 256) (get_or xs 2 0)) (xor_lt 8 (c / 256 % 256) (get_or xs 2 0) (omega arith) (small 2)) in
+    let at3 : get_or behind32_4 (bit_xor (c % 256) (get_or xs 3 0)) 0 ≡ e 4 (bit_xor (c % 256) (get_or xs 3 0)) = is32_4 (bit_xor (c % 256) (get_or xs 3 0)) (xor_lt 8 (c % 256) (get_or xs 3 0) (omega arith) (small 3)) in
+    let at4 : get_or behind32_3 (get_or xs 4 0) 0 ≡ e 3 (get_or xs 4 0) = is32_3 (get_or xs 4 0) (small 4) in
+    let at5 : get_or behind32_2 (get_or xs 5 0) 0 ≡ e 2 (get_or xs 5 0) = is32_2 (get_or xs 5 0) (small 5) in
+    let at6 : get_or behind32_1 (get_or xs 6 0) 0 ≡ e 1 (get_or xs 6 0) = is32_1 (get_or xs 6 0) (small 6) in
+    let at7 : get_or behind32_0 (get_or xs 7 0) 0 ≡ e 0 (get_or xs 7 0) = is32_0 (get_or xs 7 0) (small 7) in
+    let held : times 32 79764919 32 c ≡ remainder 32 79764919 (bits_of ((c / 16777216) ∷ (c / 65536 % 256) ∷ (c / 256 % 256) ∷ (c % 256) ∷ [])) = times_is 32 79764919 32 c (omega arith) fits
+        ∙ ap (remainder 32 79764919) (split 8 24 c ∙ ap (λ bs. unsigned 8 (c / 16777216) ++ bs) (split 8 16 c ∙ ap (λ bs. bs ++ unsigned 16 c) (sym (unsigned-mod 8 (c / 65536))) ∙ ap (λ bs. unsigned 8 (c / 65536 % 256) ++ bs) (split 8 8 c ∙ ap (λ bs. bs ++ unsigned 8 c) (sym (unsigned-mod 8 (c / 256))) ∙ ap (λ bs. unsigned 8 (c / 256 % 256) ++ bs) (sym (unsigned-mod 8 c))))) in
+    let sums : fed 32 79764919 c (bits_of xs) ≡ remainder 32 79764919 (bits_of ((bit_xor (c / 16777216) (get_or xs 0 0)) ∷ (bit_xor (c / 65536 % 256) (get_or xs 1 0)) ∷ (bit_xor (c / 256 % 256) (get_or xs 2 0)) ∷ (bit_xor (c % 256) (get_or xs 3 0)) ∷ (get_or xs 4 0) ∷ (get_or xs 5 0) ∷ (get_or xs 6 0) ∷ (get_or xs 7 0) ∷ [])) =
+    ap (λ ys. fed 32 79764919 c (bits_of ys)) (eight_list xs long) ∙ fed_mixed 32 79764919 c ((c / 16777216) ∷ (c / 65536 % 256) ∷ (c / 256 % 256) ∷ (c % 256) ∷ []) (get_or xs 0 0 ∷ get_or xs 1 0 ∷ get_or xs 2 0 ∷ get_or xs 3 0 ∷ []) (get_or xs 4 0 ∷ get_or xs 5 0 ∷ get_or xs 6 0 ∷ get_or xs 7 0 ∷ []) refl refl held in
+    rw (at0, at1, at2, at3, at4, at5, at6, at7) (sym (eight_is 32 79764919 (bit_xor (c / 16777216) (get_or xs 0 0)) (bit_xor (c / 65536 % 256) (get_or xs 1 0)) (bit_xor (c / 256 % 256) (get_or xs 2 0)) (bit_xor (c % 256) (get_or xs 3 0)) (get_or xs 4 0) (get_or xs 5 0) (get_or xs 6 0) (get_or xs 7 0))) ∙ sym sums
+
+pub byte32 : (c b : ℕ) → c < 2 ^ 32 → b < 2 ^ 8 → bit_xor (c * 256 % 4294967296) (get_or behind32_0 (bit_xor (c / 16777216) b) 0) ≡ fed 32 79764919 c (unsigned 8 b)
+unfolding times
+byte32 c b fits small =
+    let look = is32_0 (bit_xor (c / 16777216) b) (xor_lt 8 (c / 16777216) b (omega (arith, fits)) small) in
+    let low : c * 256 % 4294967296 ≡ c % 16777216 * 256 = omega arith in
+    ap (λ k. bit_xor k (get_or behind32_0 (bit_xor (c / 16777216) b) 0)) low ∙ ap (bit_xor (c % 16777216 * 256)) look ∙ sym (byte_step 24 79764919 c b fits)
+

@@ -1,6 +1,0 @@
-use Rattle.std.proofs.Common.{rules, ◌<◌, ◌^◌}
-use Rattle.flac_bits.proofs.Tables.{table8_is}
-use Rattle.flac_bits.proofs.sums.entry8.Goals as goal
-
-pub returns : goal.returns
-returns c = let fits : c.args.byte < 256 = search rules in table8_is c.args.byte fits
