@@ -8,3 +8,7 @@ pub mod Samples
 pub mod Unique
 pub mod Predicted
 pub mod Whole
+pub mod FieldTies
+pub mod RiceTies
+pub mod SubframeTie
+pub mod HeaderTie

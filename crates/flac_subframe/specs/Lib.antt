@@ -3,3 +3,4 @@ pub mod Prediction
 pub mod Residual
 pub mod Subframe
 pub mod Laws
+pub mod Spelling

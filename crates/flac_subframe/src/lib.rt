@@ -14,5 +14,5 @@ mod tests;
 
 pub use limits::Limits;
 pub use predictors::{predict_fixed, predict_linear};
-pub use promises::samples_are_restored;
+pub use promises::{samples_are_restored, subframes_are_read_again, subframes_are_spelled};
 pub use subframe::read_subframe;
