@@ -12,3 +12,7 @@ pub mod FieldTies
 pub mod RiceTies
 pub mod SubframeTie
 pub mod HeaderTie
+pub mod Digits
+pub mod Least
+pub mod CodingLeast
+pub mod Pricing

@@ -4,3 +4,5 @@ pub mod Residual
 pub mod Subframe
 pub mod Laws
 pub mod Spelling
+pub mod Least
+pub mod Cost

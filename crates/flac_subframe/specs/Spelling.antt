@@ -6,7 +6,9 @@ use Rattle.flac_bits.specs.Meaning.{unary_bits}
 use Rattle.flac_bits.specs.Rice.{IsResidual}
 use Rattle.flac_bits.specs.Signed.{signed, FitsBits}
 use Rattle.flac_subframe.specs.declared.limits.Limits.{Limits}
-use Rattle.flac_subframe.specs.Residual.{Coding, Rice, Escape, Partition, Residual, can_halve}
+use Rattle.flac_subframe.specs.declared.coding.Coding.{Coding}
+use Rattle.flac_subframe.specs.declared.coding.Coding.TheVariants.{Rice, Escape}
+use Rattle.flac_subframe.specs.Residual.{Partition, Residual, can_halve}
 use Rattle.flac_subframe.specs.Subframe.{Content, Constant, Verbatim, Fixed, Linear, Predictor, Form}
 
 -- 2r stands for r where r is not negative, else -2r - 1 (section 9.2.7.3).

@@ -1,7 +1,11 @@
 //! Subframes: the residual, the predictors, and the samples that they restore (RFC 9639, section 9.2).
 #![tactic(auto)]
 
+mod coding;
+mod cost;
 mod fields;
+mod folding;
+mod halving;
 mod limits;
 mod numbers;
 mod predictors;
