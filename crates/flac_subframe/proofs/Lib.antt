@@ -16,3 +16,7 @@ pub mod Digits
 pub mod Least
 pub mod CodingLeast
 pub mod Pricing
+pub mod Lengths
+pub mod Differences
+pub mod Bodies
+pub mod Best

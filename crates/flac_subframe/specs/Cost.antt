@@ -51,8 +51,8 @@ residual_cost order rs f =
 abbrev pub Partitioned : ℕ → ℕ → ℕ → ℕ → List ℤ → List Coding → Type 0
 Partitioned w first size n rs cs = (length cs ≡ n) × MayCodeEach w first size rs cs
 
-abbrev pub form_of : ResidualChoice → Codings
-form_of c = record { parameter_bits = c.parameter_bits; halvings = c.halvings; codings = c.codings.items }
+abbrev pub codings_of : ResidualChoice → Codings
+codings_of c = record { parameter_bits = c.parameter_bits; halvings = c.halvings; codings = c.codings.items }
 
 -- the forms of one method and partition order, and of one method
 abbrev pub HalvedTo : ℕ → ℕ → ℕ → ℕ → List ℤ → Codings → Type 0

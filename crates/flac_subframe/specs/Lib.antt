@@ -6,3 +6,5 @@ pub mod Laws
 pub mod Spelling
 pub mod Least
 pub mod Cost
+pub mod Bodies
+pub mod Chosen

@@ -4,7 +4,7 @@ ghost use Rattle.std.specs.Prelude.{◌≡◌, ◌<◌, ◌≤◌, ◌^◌, ◌+
 ghost use Rattle.flac_subframe.specs.Least.{IsLeast};
 ghost use Rattle.flac_bits.specs.Rice.{IsResidual};
 ghost use Rattle.flac_subframe.specs.Cost.{MayWrite, Codings};
-ghost use Rattle.flac_subframe.specs.Cost.{form_of, HalvedTo, ByMethod};
+ghost use Rattle.flac_subframe.specs.Cost.{codings_of, HalvedTo, ByMethod};
 ghost use Rattle.flac_subframe.specs.Cost.{residual_cost};
 
 use crate::coding::Coding;
@@ -43,8 +43,8 @@ pub fn least_halved(
     requires within { halvings ≤ most }
     requires even { (length values.now + order) % 2 ^ halvings ≡ 0 }
     requires room { order < (length values.now + order) / 2 ^ halvings }
-    ensures least { IsLeast (HalvedTo parameter_bits halvings most order values.now) (residual_cost order values.now) (form_of result) }
-    ensures bits { result.bits ≡ residual_cost order values.now (form_of result) }
+    ensures least { IsLeast (HalvedTo parameter_bits halvings most order values.now) (residual_cost order values.now) (codings_of result) }
+    ensures bits { result.bits ≡ residual_cost order values.now (codings_of result) }
     ensures small { result.bits ≤ 2 ^ 33 * 2 ^ 16 }
 {
     let size = (values.len() + order) >> halvings;
@@ -73,8 +73,8 @@ pub fn least_of_method(values: &[i64], order: usize, parameter_bits: u8, most: u
     requires method { (parameter_bits ≡ 4) ⊎ (parameter_bits ≡ 5) }
     requires room { 0 < length values.now }
     requires most { most ≤ 8 }
-    ensures least { IsLeast (ByMethod parameter_bits most order values.now) (residual_cost order values.now) (form_of result) }
-    ensures bits { result.bits ≡ residual_cost order values.now (form_of result) }
+    ensures least { IsLeast (ByMethod parameter_bits most order values.now) (residual_cost order values.now) (codings_of result) }
+    ensures bits { result.bits ≡ residual_cost order values.now (codings_of result) }
     ensures small { result.bits ≤ 2 ^ 33 * 2 ^ 16 }
 {
     let block = values.len() + order;
@@ -96,8 +96,8 @@ pub fn least_residual(values: &[i64], order: usize, most: u8) -> ResidualChoice
     requires range { All IsResidual values.now }
     requires room { 0 < length values.now }
     requires most { most ≤ 8 }
-    ensures least { IsLeast (MayWrite most order values.now) (residual_cost order values.now) (form_of result) }
-    ensures bits { result.bits ≡ residual_cost order values.now (form_of result) }
+    ensures least { IsLeast (MayWrite most order values.now) (residual_cost order values.now) (codings_of result) }
+    ensures bits { result.bits ≡ residual_cost order values.now (codings_of result) }
     ensures small { result.bits ≤ 2 ^ 33 * 2 ^ 16 }
 {
     let four = least_of_method(values, order, 4, most);

@@ -1,6 +1,7 @@
 //! Subframes: the residual, the predictors, and the samples that they restore (RFC 9639, section 9.2).
 #![tactic(auto)]
 
+mod choice;
 mod coding;
 mod cost;
 mod fields;
