@@ -20,3 +20,5 @@ pub mod Lengths
 pub mod Differences
 pub mod Bodies
 pub mod Best
+pub mod Powers
+pub mod WholeLeast

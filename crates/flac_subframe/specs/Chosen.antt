@@ -8,8 +8,8 @@ use Rattle.flac_subframe.specs.Cost.{MayWrite}
 use Rattle.flac_subframe.specs.Cost.{residual_cost}
 use Rattle.flac_subframe.specs.Cost.{codings_of}
 use Rattle.flac_subframe.specs.declared.choice.PricedChoice.{PricedChoice}
-use Rattle.flac_subframe.specs.declared.choice.Choice.{Choice}
-use Rattle.flac_subframe.specs.declared.choice.Choice.TheVariants.{Constant, Verbatim, Fixed}
+use Rattle.flac_subframe.specs.declared.choice.Kind.{Kind}
+use Rattle.flac_subframe.specs.declared.choice.Kind.TheVariants.{Constant, Verbatim, Fixed}
 use Rattle.flac_subframe.specs.Numbers.{sample_at}
 use Rattle.flac_subframe.specs.Bodies.{Chooses, fixed, coefficients_of, shift_of, Body, constant, verbatim, predicted, differences, StandsFor, spelled}
 
@@ -21,15 +21,15 @@ fixed_below n = map fixed (range_with_len 0 n)
 abbrev pub body_by : Chooses → ResidualChoice → List ℤ → Body
 body_by p r s = predicted p (take (length (coefficients_of p)) s) (codings_of r) (differences (coefficients_of p) (shift_of p) s)
 
-abbrev pub body_of : Choice → List ℤ → Body
+abbrev pub body_of : Kind → List ℤ → Body
 body_of Constant s = constant (sample_at s 0)
 body_of Verbatim s = verbatim s
 body_of (Fixed order residual) s = body_by (fixed order) residual s
 
 -- a priced choice is the least by the predictors of the list
 pub record IsBest (most bits : ℕ) (s : List ℤ) (predictors : List Chooses) (p : PricedChoice) : Type 0 where
-  pub least : IsLeast (λ b. StandsFor most predictors b s) (λ b. length (spelled bits b)) (body_of p.choice s)
-  pub priced : p.bits ≡ length (spelled bits (body_of p.choice s))
+  pub least : IsLeast (λ b. StandsFor most predictors b s) (λ b. length (spelled bits b)) (body_of p.kind s)
+  pub priced : p.bits ≡ length (spelled bits (body_of p.kind s))
   pub small : p.bits ≤ 2 ^ 60
 
 -- a residual is the least for what a predictor leaves

@@ -8,3 +8,5 @@ pub mod Least
 pub mod Cost
 pub mod Bodies
 pub mod Chosen
+pub mod Wasted
+pub mod Family

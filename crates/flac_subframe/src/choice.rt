@@ -12,7 +12,7 @@ use crate::predictors::{fixed_coefficients, predict_linear};
 
 /// How the samples of a subframe are written.
 #[derive(Drop)]
-pub enum Choice {
+pub enum Kind {
     Constant,
     Verbatim,
     Fixed {
@@ -24,7 +24,7 @@ pub enum Choice {
 /// A choice, and how many bits it takes.
 #[derive(Drop)]
 pub struct PricedChoice {
-    pub choice: Choice,
+    pub kind: Kind,
     pub bits: u64,
 }
 
@@ -120,7 +120,7 @@ fn better_fixed(
             let bits = u64::from(bits) * order as u64 + residual.bits;
             if bits < best.bits {
                 PricedChoice {
-                    choice: Choice::Fixed { order, residual },
+                    kind: Kind::Fixed { order, residual },
                     bits,
                 }
             } else {
@@ -141,12 +141,12 @@ pub fn plainest(samples: &[i64], bits: u32, most: u8) -> PricedChoice
     let width = u64::from(bits);
     if all_equal(samples) {
         PricedChoice {
-            choice: Choice::Constant,
+            kind: Kind::Constant,
             bits: width,
         }
     } else {
         PricedChoice {
-            choice: Choice::Verbatim,
+            kind: Kind::Verbatim,
             bits: width * samples.len() as u64,
         }
     }

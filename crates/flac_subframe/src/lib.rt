@@ -2,6 +2,7 @@
 #![tactic(auto)]
 
 mod choice;
+mod chosen;
 mod coding;
 mod cost;
 mod fields;
@@ -16,7 +17,9 @@ mod restoration;
 mod subframe;
 #[cfg(test)]
 mod tests;
+mod wasted;
 
+pub use chosen::{Choice, choose_into};
 pub use limits::Limits;
 pub use predictors::{predict_fixed, predict_linear};
 pub use promises::{samples_are_restored, subframes_are_read_again, subframes_are_spelled};
