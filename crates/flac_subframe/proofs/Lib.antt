@@ -8,3 +8,17 @@ pub mod Samples
 pub mod Unique
 pub mod Predicted
 pub mod Whole
+pub mod FieldTies
+pub mod RiceTies
+pub mod SubframeTie
+pub mod HeaderTie
+pub mod Digits
+pub mod Least
+pub mod CodingLeast
+pub mod Pricing
+pub mod Lengths
+pub mod Differences
+pub mod Bodies
+pub mod Best
+pub mod Powers
+pub mod WholeLeast

@@ -1,9 +1,14 @@
 -- What the samples of a form are, as equations, and the laws.
-use Rattle.std.specs.Prelude.{◌≡◌, ℕ, ◌<◌, ◌↔◌, ℤ, List, ◌++◌, length}
+use Rattle.std.specs.Prelude.{◌≡◌, ℕ, ◌<◌, ◌≤◌, ◌↔◌, Bool, ℤ, List, ◌++◌, length, Ok}
+use Rattle.flac_bits.specs.State.{Mark, past}
+use Rattle.flac_bits.specs.Layout.{run}
+use Rattle.flac_bits.specs.Meaning.{Spells}
+use Rattle.flac_subframe.specs.declared.limits.Limits.{Limits}
+use Rattle.flac_subframe.specs.Spelling.{subframe_spelling, IsSubframe}
 use Rattle.flac_subframe.specs.Numbers.{sample_at}
 use Rattle.flac_subframe.specs.Prediction.{fixed_coefficients, Restored}
 use Rattle.flac_subframe.specs.Residual.{residual_values}
-use Rattle.flac_subframe.specs.Subframe.{Content, Constant, Verbatim, Fixed, Linear, Predictor, restored_samples}
+use Rattle.flac_subframe.specs.Subframe.{Content, Constant, Verbatim, Fixed, Linear, Predictor, Form, subframe, restored_samples}
 
 -- s are the samples of a content in a block of a size, before the wasted bits are put back (RFC 9639, sections 9.2.3 to 9.2.6).
 abbrev pub RestoredBy : ℕ → Content → List ℤ → Type 0
@@ -22,3 +27,13 @@ HasWarmUp (Linear warm_up chosen rest) = length warm_up ≡ length chosen.coeffi
 -- the samples that a reading computes are just those that the equations give
 abbrev pub SamplesAreRestored : Type 0
 SamplesAreRestored = (block : ℕ) (c : Content) (s : List ℤ) → HasWarmUp c → RestoredBy block c s ↔ (s ≡ restored_samples block c)
+
+-- the layout spells just the valid forms, and each of them in one way
+abbrev pub SubframesAreSpelled : Type 0
+SubframesAreSpelled = (depth block : ℕ) (limits : Limits) (m : Mark) (text : List Bool) (f : Form) → 1 ≤ depth → 1 ≤ block → limits.linear ≤ 32
+    → Spells (subframe depth block limits) m text f ↔ (IsSubframe depth block limits f × (text ≡ subframe_spelling depth f))
+
+-- what is spelled is read again, whatever follows
+abbrev pub SubframesAreReadAgain : Type 0
+SubframesAreReadAgain = (depth block : ℕ) (limits : Limits) (m : Mark) (rest : List Bool) (f : Form) → 1 ≤ depth → 1 ≤ block → limits.linear ≤ 32 → IsSubframe depth block limits f
+    → run (subframe depth block limits) (record { left = subframe_spelling depth f ++ rest; mark = m }) ≡ Ok (f, record { left = rest; mark = past (subframe_spelling depth f) m })

@@ -3,3 +3,10 @@ pub mod Prediction
 pub mod Residual
 pub mod Subframe
 pub mod Laws
+pub mod Spelling
+pub mod Least
+pub mod Cost
+pub mod Bodies
+pub mod Chosen
+pub mod Wasted
+pub mod Family

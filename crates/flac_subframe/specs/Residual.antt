@@ -4,12 +4,9 @@ use Rattle.flac_bits.specs.Layout.{Layout, done, bits, judge, choose, ◌>>=◌}
 use Rattle.flac_bits.specs.Lists.{list_of}
 use Rattle.flac_bits.specs.Rice.{rice_value}
 use Rattle.flac_bits.specs.declared.why.Why.TheVariants.{NotSubset, BadPartition}
+use Rattle.flac_subframe.specs.declared.coding.Coding.{Coding}
+use Rattle.flac_subframe.specs.declared.coding.Coding.TheVariants.{Rice, Escape}
 use Rattle.flac_bits.specs.Signed.{signed_field}
-
--- a Rice parameter, or how many bits each value has that is not coded (section 9.2.7.1)
-pub data Coding : Type 0 where
-  Rice : ℕ → Coding
-  Escape : ℕ → Coding
 
 pub record Partition : Type 0 where
   pub coding : Coding

@@ -1,7 +1,13 @@
 //! Subframes: the residual, the predictors, and the samples that they restore (RFC 9639, section 9.2).
 #![tactic(auto)]
 
+mod choice;
+mod chosen;
+mod coding;
+mod cost;
 mod fields;
+mod folding;
+mod halving;
 mod limits;
 mod numbers;
 mod predictors;
@@ -11,8 +17,10 @@ mod restoration;
 mod subframe;
 #[cfg(test)]
 mod tests;
+mod wasted;
 
+pub use chosen::{Choice, choose_into};
 pub use limits::Limits;
 pub use predictors::{predict_fixed, predict_linear};
-pub use promises::samples_are_restored;
+pub use promises::{samples_are_restored, subframes_are_read_again, subframes_are_spelled};
 pub use subframe::read_subframe;

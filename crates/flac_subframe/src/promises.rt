@@ -1,8 +1,18 @@
 //! Laws of the definitions, each on a function that does nothing.
 
-ghost use Rattle.flac_subframe.specs.Laws.{SamplesAreRestored};
+ghost use Rattle.flac_subframe.specs.Laws.{SamplesAreRestored, SubframesAreSpelled, SubframesAreReadAgain};
 
 /// The samples of a form are the one list that its equations allow: each later sample is its prediction plus its residual value.
 pub fn samples_are_restored()
     ensures { SamplesAreRestored }
+{}
+
+/// The layout of a subframe spells just the forms that may be, each in one way.
+pub fn subframes_are_spelled()
+    ensures { SubframesAreSpelled }
+{}
+
+/// A form that is spelled is read again, whatever follows.
+pub fn subframes_are_read_again()
+    ensures { SubframesAreReadAgain }
 {}

@@ -1,0 +1,52 @@
+-- One predictor more.
+use Rattle.std.proofs.Common.{◌≡◌, ◌∙◌, refl, sym, ap, ℕ, ◌+◌, ◌*◌, ◌≤◌, ◌<◌, ◌^◌, arith, ℤ, List, [], ◌∷◌, ◌++◌, length, take, map, get_or}
+use Rattle.std.proofs.lemmas.List.{take_more, map-append}
+use Rattle.std.proofs.lemmas.List.FromFn.{map-range_with_len_more}
+use Rattle.flac_subframe.specs.declared.halving.ResidualChoice.{ResidualChoice}
+use Rattle.flac_subframe.specs.Cost.{codings_of}
+use Rattle.flac_subframe.specs.Cost.{Codings, MayWrite}
+use Rattle.flac_subframe.specs.Cost.{residual_cost}
+use Rattle.flac_subframe.specs.declared.choice.PricedChoice.{PricedChoice}
+use Rattle.flac_subframe.specs.Bodies.{fields_cost, Chooses, fixed, coefficients_of, shift_of, order_of, differences, spelled}
+use Rattle.flac_subframe.specs.Chosen.{IsBest, IsLeastOf, HasNone, body_of, body_by, fixed_below}
+use Rattle.flac_subframe.proofs.Bodies.{least_kept, least_taken, body_stands, body_costs, body_least, none_stands, residual_is, length-predicted, method_bits}
+
+module _ (most d : ℕ) (s : List ℤ) (ps : List Chooses) (p : Chooses) (best : PricedChoice) (so : IsBest most d s ps best) where
+  pub best_none : HasNone (coefficients_of p) (shift_of p) s → IsBest most d s (ps ++ p ∷ []) best
+  best_none none = record {
+    least = least_kept most d s ps p (body_of best.kind s) so.least (λ ws f rs stands. absurd (none_stands most d s ps p none ws f rs stands));
+    priced = so.priced;
+    small = so.small;
+  }
+
+  pub best_kept : (r : ResidualChoice) → IsLeastOf most (coefficients_of p) (shift_of p) s r → best.bits ≤ d * order_of p + fields_cost p + r.bits → IsBest most d s (ps ++ p ∷ []) best
+  best_kept r is less = record {
+    least = least_kept most d s ps p (body_of best.kind s) so.least (λ ws f rs stands. omega (arith, body_least most d s ps p r is ws f rs stands, body_costs most d s ps p r is, so.priced));
+    priced = so.priced;
+    small = so.small;
+  }
+
+  pub best_taken : (r : ResidualChoice) (new : PricedChoice) → IsLeastOf most (coefficients_of p) (shift_of p) s r → new.bits ≡ d * order_of p + fields_cost p + r.bits → new.bits < best.bits → body_of new.kind s ≡ body_by p r s → IsBest most d s (ps ++ p ∷ []) new
+  best_taken r new is bits less body = record {
+    least = rw body (least_taken most d s ps p (body_of best.kind s) (take (order_of p) s) (codings_of r) (differences (coefficients_of p) (shift_of p) s) so.least
+        (body_stands most d s ps p r is) (omega (arith, body_costs most d s ps p r is, so.priced)) (body_least most d s ps p r is));
+    priced = rw body (bits ∙ sym (body_costs most d s ps p r is));
+    small = omega (arith, so.small);
+  }
+
+module _ (most d : ℕ) (s : List ℤ) (ps : List Chooses) (p : Chooses) (best : PricedChoice) (so : IsBest most d s ps best) where
+  -- where no form of the predictor costs less
+  pub best_above : (n : ℕ) → best.bits ≤ d * order_of p + fields_cost p + n →
+      ((f : Codings) → MayWrite most (order_of p) (differences (coefficients_of p) (shift_of p) s) f → n ≤ residual_cost (order_of p) (differences (coefficients_of p) (shift_of p) s) f) →
+      IsBest most d s (ps ++ p ∷ []) best
+  best_above n less each = record {
+    least = least_kept most d s ps p (body_of best.kind s) so.least (λ ws f rs stands.
+        let e = residual_is (coefficients_of p) (shift_of p) s ws rs stands.long stands.restored in
+        let may : MayWrite most (order_of p) (differences (coefficients_of p) (shift_of p) s) f = rw e at stands.written in
+        rw (← so.priced, length-predicted d p ws f rs (method_bits f.parameter_bits stands.written.method) stands.long, stands.long, e) (omega (arith, each f may)));
+    priced = so.priced;
+    small = so.small;
+  }
+
+pub one_fixed_more : (order : ℕ) → fixed_below (order + 1) ≡ fixed_below order ++ fixed order ∷ []
+one_fixed_more order = map-range_with_len_more fixed 0 order order (omega arith)

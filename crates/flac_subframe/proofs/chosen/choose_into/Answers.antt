@@ -1,0 +1,16 @@
+use Rattle.std.proofs.Common.{◌≡◌, ◌∙◌, refl, sym, arith}
+use Rattle.flac_subframe.specs.Bodies.{content_of}
+use Rattle.flac_subframe.specs.Chosen.{body_of, fixed_below}
+use Rattle.flac_subframe.proofs.Powers.{shortened_is}
+use Rattle.flac_subframe.proofs.WholeLeast.{whole_least, length-subframe}
+use Rattle.flac_subframe.proofs.chosen.choose_into.Goals as goal
+
+pub returns-clause-least : goal.returns-clause-least
+returns-clause-least c =
+    let k = c.drop_wasted-wasted.result in let s = c.args.samples.now in let t = c.drop_wasted-wasted.new.shortened in let dropped = c.drop_wasted-wasted.ensures in
+    rw (shortened_is k s t dropped.shortened) (whole_least 8 c.args.depth k (fixed_below 5) s t (body_of c.choose_body-best.result.kind t) dropped.wasted dropped.shortened c.choose_body-best.ensures.least)
+
+pub returns-clause-bits : goal.returns-clause-bits
+returns-clause-bits c =
+    let k = c.drop_wasted-wasted.result in let s = c.args.samples.now in let t = c.drop_wasted-wasted.new.shortened in let dropped = c.drop_wasted-wasted.ensures in
+    rw (shortened_is k s t dropped.shortened, c.from.ensures, c.choose_body-best.ensures.priced) (sym (length-subframe c.args.depth (record { wasted = k; content = content_of (body_of c.choose_body-best.result.kind t) })))

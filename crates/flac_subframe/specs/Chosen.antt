@@ -1,0 +1,45 @@
+-- What a choice of the code stands for.
+use Rattle.std.specs.Prelude.{ℕ, ℤ, List, ◌++◌, take, length, map, ◌≡◌, ◌<◌, ◌≤◌, ◌^◌, ◌⊎◌, All}
+use Rattle.std.specs.List.{range_with_len}
+use Rattle.flac_subframe.specs.declared.halving.ResidualChoice.{ResidualChoice}
+use Rattle.flac_subframe.specs.Least.{IsLeast}
+use Rattle.flac_bits.specs.Rice.{IsResidual}
+use Rattle.flac_subframe.specs.Cost.{MayWrite}
+use Rattle.flac_subframe.specs.Cost.{residual_cost}
+use Rattle.flac_subframe.specs.Cost.{codings_of}
+use Rattle.flac_subframe.specs.declared.choice.PricedChoice.{PricedChoice}
+use Rattle.flac_subframe.specs.declared.choice.Kind.{Kind}
+use Rattle.flac_subframe.specs.declared.choice.Kind.TheVariants.{Constant, Verbatim, Fixed}
+use Rattle.flac_subframe.specs.Numbers.{sample_at}
+use Rattle.flac_subframe.specs.Bodies.{Chooses, fixed, coefficients_of, shift_of, Body, constant, verbatim, predicted, differences, StandsFor, spelled}
+
+-- the fixed predictors of the orders below n
+abbrev pub fixed_below : ℕ → List Chooses
+fixed_below n = map fixed (range_with_len 0 n)
+
+-- the body of a predictor
+abbrev pub body_by : Chooses → ResidualChoice → List ℤ → Body
+body_by p r s = predicted p (take (length (coefficients_of p)) s) (codings_of r) (differences (coefficients_of p) (shift_of p) s)
+
+abbrev pub body_of : Kind → List ℤ → Body
+body_of Constant s = constant (sample_at s 0)
+body_of Verbatim s = verbatim s
+body_of (Fixed order residual) s = body_by (fixed order) residual s
+
+-- a priced choice is the least by the predictors of the list
+pub record IsBest (most bits : ℕ) (s : List ℤ) (predictors : List Chooses) (p : PricedChoice) : Type 0 where
+  pub least : IsLeast (λ b. StandsFor most predictors b s) (λ b. length (spelled bits b)) (body_of p.kind s)
+  pub priced : p.bits ≡ length (spelled bits (body_of p.kind s))
+  pub small : p.bits ≤ 2 ^ 60
+
+-- a residual is the least for what a predictor leaves
+pub record IsLeastOf (most : ℕ) (cs : List ℤ) (shift : ℕ) (s : List ℤ) (r : ResidualChoice) : Type 0 where
+  pub room : length cs < length s
+  pub range : All IsResidual (differences cs shift s)
+  pub least : IsLeast (MayWrite most (length cs) (differences cs shift s)) (residual_cost (length cs) (differences cs shift s)) (codings_of r)
+  pub bits : r.bits ≡ residual_cost (length cs) (differences cs shift s) (codings_of r)
+  pub small : r.bits ≤ 2 ^ 49
+
+-- the predictor cannot be used: its order is too large, or it leaves a value out of range
+abbrev pub HasNone : List ℤ → ℕ → List ℤ → Type 0
+HasNone cs shift s = (length s ≤ length cs) ⊎ (All IsResidual (differences cs shift s) → ⊥)

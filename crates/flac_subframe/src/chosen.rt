@@ -1,0 +1,56 @@
+//! The least subframe for some samples.
+
+ghost use Rattle.std.specs.Prelude.{◌≡◌, ◌<◌, ◌≤◌, ◌^◌, length, All};
+ghost use Rattle.flac_bits.specs.Signed.{FitsBits};
+ghost use Rattle.flac_subframe.specs.Least.{IsLeast};
+ghost use Rattle.flac_subframe.specs.Chosen.{fixed_below};
+ghost use Rattle.flac_subframe.specs.Family.{Stands, form_of};
+ghost use Rattle.flac_subframe.specs.Spelling.{subframe_spelling};
+
+use crate::choice::{Kind, choose_body};
+use crate::wasted::drop_wasted;
+
+/// How a subframe is written: how many lowest bits are left out, how the rest is written, and how many bits it all takes.
+#[derive(Drop)]
+pub struct Choice {
+    wasted: u32,
+    kind: Kind,
+    bits: u64,
+}
+
+impl Choice {
+    /// How many bits the subframe takes.
+    pub fn bits(&self) -> u64
+        ensures { result ≡ self.now.bits }
+    {
+        self.bits
+    }
+}
+
+/// The greatest partition order that is tried, as the subset allows.
+pub const MOST_HALVINGS: u8 = 8;
+
+/// The subframe of the fewest bits for samples of a depth, worked out in places that are handed in, each as many as the samples at least.
+///
+/// The family is constant, verbatim, and the fixed predictors of order 0 to 4 with either coding method, partition orders up to 8 and every
+/// parameter and escape; the wasted bits are as many as all samples lack. Among equals the first of this order is chosen.
+pub fn choose_into(samples: &[i64], depth: u32, shortened: &mut [i64], values: &mut [i64]) -> Choice
+    requires some { 0 < length samples.now }
+    requires few { length samples.now ≤ 65535 }
+    requires depth { (1 ≤ depth) × (depth ≤ 33) }
+    requires fits { All (FitsBits depth) samples.now }
+    requires places { length samples.now ≤ length shortened.old }
+    requires values { length samples.now ≤ length values.old }
+    ensures least { IsLeast (λ f. Stands 8 (fixed_below 5) f samples.now) (λ f. length (subframe_spelling depth f)) (form_of result samples.now) }
+    ensures bits { result.bits ≡ length (subframe_spelling depth (form_of result samples.now)) }
+    ensures small { result.bits ≤ 2 ^ 61 }
+{
+    let places = &mut shortened[..samples.len()];
+    let wasted = drop_wasted(samples, depth, places);
+    let best = choose_body(places, depth - wasted, MOST_HALVINGS, values);
+    Choice {
+        wasted,
+        kind: best.kind,
+        bits: 8 + u64::from(wasted) + best.bits,
+    }
+}

@@ -1,0 +1,55 @@
+//! The lowest bits that all samples lack.
+
+ghost use Rattle.std.specs.Prelude.{◌≡◌, ◌<◌, ◌≤◌, ◌+ℤ◌, ℕ, length, All, IsTrue, map};
+ghost use Rattle.std.specs.Int.{int_shr};
+ghost use Rattle.flac_bits.specs.Signed.{FitsBits};
+ghost use Rattle.flac_subframe.specs.Numbers.{sample_at};
+ghost use Rattle.flac_subframe.specs.Wasted.{IsWasted, times_power};
+
+/// Whether each sample is twice a number.
+fn all_even(samples: &[i64]) -> bool
+    requires { All (FitsBits 33) samples.now }
+    ensures even { IsTrue result → (i : ℕ) → i < length samples.now → int_shr (sample_at samples.now i) 1 +ℤ int_shr (sample_at samples.now i) 1 ≡ sample_at samples.now i }
+    ensures odd { ((i : ℕ) → i < length samples.now → int_shr (sample_at samples.now i) 1 +ℤ int_shr (sample_at samples.now i) 1 ≡ sample_at samples.now i) → IsTrue result }
+{
+    for sample in samples {
+        let half = *sample >> 1;
+        if half + half != *sample {
+            return false;
+        }
+    }
+    true
+}
+
+/// Halves each sample, rounded down.
+fn halve(samples: &mut [i64])
+    requires { All (FitsBits 33) samples.old }
+    ensures long { length samples.new ≡ length samples.old }
+    ensures half { (i : ℕ) → i < length samples.old → sample_at samples.new i ≡ int_shr (sample_at samples.old i) 1 }
+    ensures fits { All (FitsBits 33) samples.new }
+{
+    for sample in samples.iter_mut() {
+        *sample = *sample >> 1;
+    }
+}
+
+/// How many low bits all samples lack, and the samples without them.
+pub fn drop_wasted(samples: &[i64], bits: u32, shortened: &mut [i64]) -> u32
+    requires positive { 1 ≤ bits }
+    requires bits { bits ≤ 33 }
+    requires fits { All (FitsBits bits) samples.now }
+    requires places { length shortened.old ≡ length samples.now }
+    ensures wasted { IsWasted result samples.now }
+    ensures some { result < bits }
+    ensures shortened { samples.now ≡ map (times_power result) shortened.new }
+    ensures fits { All (FitsBits 33) shortened.new }
+{
+    shortened.copy_from_slice(samples);
+    for wasted in 0..bits {
+        if !all_even(shortened) {
+            return wasted;
+        }
+        halve(shortened);
+    }
+    0
+}
