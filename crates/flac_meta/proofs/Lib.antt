@@ -2,3 +2,5 @@ pub mod Skips
 pub mod Turns
 pub mod Zeros
 pub mod Reasons
+pub mod Steps
+pub mod Lengths

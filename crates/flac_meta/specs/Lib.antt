@@ -7,3 +7,6 @@ pub mod Comments
 pub mod Picture
 pub mod CueSheet
 pub mod Block
+pub mod Spelling
+pub mod Listed
+pub mod Fielded

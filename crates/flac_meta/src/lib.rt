@@ -2,13 +2,18 @@
 #![tactic(auto)]
 
 mod block;
+mod block_length;
 mod comments;
 mod cue_sheet;
 mod exact;
+mod fielded;
 mod fields;
 mod header;
 mod lists;
 mod picture;
+mod put;
+mod put_cue_sheet;
+mod put_lists;
 mod read_cue_sheet;
 mod read_info;
 mod read_lists;

@@ -1,0 +1,21 @@
+//! Fields that are written.
+
+ghost use Rattle.std.specs.Prelude.{◌≡◌, ◌<◌, ◌≤◌, ◌^◌};
+ghost use Rattle.flac_bits.specs.Bits.{bit_value};
+
+/// A number and in how many bits it is written.
+#[derive(Clone, Copy, Debug, PartialEq, Eq)]
+pub struct Field {
+    pub bits: u32,
+    pub value: u64,
+    ghost few: { bits ≤ 64 },
+    ghost fits: { value < 2 ^ bits },
+}
+
+/// A flag as a number of one bit.
+pub fn flag(set: bool) -> u64
+    ensures value { result ≡ bit_value set }
+    ensures fits { result < 2 ^ 1 }
+{
+    if set { 1 } else { 0 }
+}
