@@ -12,7 +12,6 @@ mod rest;
 mod remainders16;
 mod remainders32;
 mod remainders8;
-mod signed;
 mod send;
 mod signed;
 mod source;

@@ -1,12 +1,12 @@
 -- A frame: its header, a subframe for each channel, and its check (RFC 9639, section 9).
 use Rattle.std.specs.Prelude.{ℕ, zero, suc, ◌+◌, ◌*◌, Bool, true, false, not, cond, ◌&&◌, ◌||◌, nat_eq, nat_lt, nat_le, ℤ, List, [], ◌∷◌, ◌++◌, take, drop, Option, Some, None, is_none, ⊤}
-use Rattle.flac_bits.specs.Layout.{Layout, done, bits, judge, mark, align, ◌>>=◌}
+use Rattle.flac_bits.specs.Layout.{Layout, done, bits, judge, refuse, mark, align, ◌>>=◌}
+use Rattle.flac_bits.specs.declared.why.Why.{Why}
 use Rattle.flac_bits.specs.declared.why.Why.TheVariants.{NotSubset, HeaderMismatch, Sequence, BlockSize, NotYet, NonzeroPadding, FrameCheck, SampleRange}
 use Rattle.flac_header.specs.Header.{Header, header, allowed, channels_of, depth_of}
 use Rattle.flac_meta.specs.Info.{Info}
 use Rattle.flac_subframe.specs.declared.limits.Limits.{Limits}
 use Rattle.flac_subframe.specs.Numbers.{all_fit}
-use Rattle.flac_subframe.specs.Fields.{some_or}
 use Rattle.flac_subframe.specs.Subframe.{subframe_samples}
 use Rattle.flac_frame.specs.declared.before.Before.{Before}
 
@@ -101,6 +101,11 @@ each_fits depth (channel ∷ channels) = cond (all_fit depth channel) (each_fits
 abbrev pub in_range : ℕ → Option (List (List ℤ)) → Option (List (List ℤ))
 in_range depth None = None
 in_range depth (Some channels) = cond (each_fits depth channels) (Some channels) None
+
+-- what there is, or the reason
+abbrev pub some_or : {A : Type 0} → Why → Option A → Layout A
+some_or why (Some x) = done x
+some_or why None = refuse why
 
 -- what follows a header: a subframe for each channel, the end, and the samples
 unfoldable pub frame_body : Info → Header → Layout Frame

@@ -1,3 +1,4 @@
 pub mod Checked
 pub mod Fields
 pub mod HeaderTie
+pub mod Writes

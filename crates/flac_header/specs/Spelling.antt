@@ -1,7 +1,8 @@
 -- How the header of a frame is spelled (RFC 9639, section 9.1).
 use Rattle.std.specs.Prelude.{◌≡◌, ℕ, ◌-◌, ◌/◌, Bool, cond, nat_eq, List, [], ◌∷◌, ◌++◌, Ok, ◌↔◌}
 use Rattle.flac_bits.specs.Bits.{unsigned, bit_value}
-use Rattle.flac_bits.specs.State.{Mark, past}
+use Rattle.flac_bits.specs.State.{Mark, past, fresh}
+use Rattle.flac_bits.specs.Written.{Written}
 use Rattle.flac_bits.specs.Layout.{run}
 use Rattle.flac_bits.specs.Meaning.{Spells}
 use Rattle.flac_bits.specs.Check.{remainder}
@@ -31,6 +32,10 @@ header_front h = joined (header_parts h)
 -- these, and CRC-8, the remainder by x^8 + x^2 + x + 1 (section 9.1.8)
 abbrev pub header_spelling : Header → List Bool
 header_spelling h = header_front h ++ unsigned 8 (remainder 8 7 (header_front h))
+
+-- a writer whose checks begin anew, as they do at a whole byte
+abbrev pub restarted : Written → Written
+restarted w = record w { mark = fresh w.mark }
 
 -- where the checks begin, bits spell just the headers, each of them in one way
 abbrev pub HeadersAreSpelled : Type 0

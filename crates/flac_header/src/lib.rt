@@ -1,12 +1,17 @@
 //! The header of a FLAC frame (RFC 9639, section 9.1): its value, reading and writing it, and the rules of the streamable subset.
 #![tactic(auto)]
 
+mod choice;
 mod frame_header;
 mod promises;
 mod read;
 mod subset;
+#[cfg(test)]
+mod tests;
+mod write;
 
 pub use frame_header::FrameHeader;
 pub use promises::headers_are_spelled;
 pub use read::read_header;
 pub use subset::{Profile, subset_allows};
+pub use write::write_header;

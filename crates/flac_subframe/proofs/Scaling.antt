@@ -5,6 +5,7 @@ use Rattle.std.proofs.lemmas.Int.{ints, unsigned_abs-mul, fits_signed_from_abs}
 use Rattle.std.proofs.lemmas.Nat.{mul-le, pow-add, pow_below}
 use Rattle.std.proofs.lemmas.List.{get_or-set_same, get_or-set_other, ext_get_or, get_or-map}
 use Rattle.std.proofs.lemmas.List.{length-map}
+use Rattle.std.proofs.lemmas.List.Elements.{All-map}
 use Rattle.flac_bits.specs.Signed.{FitsBits}
 use Rattle.flac_subframe.specs.Numbers.{sample_at}
 use Rattle.flac_subframe.proofs.Bounds.{abs_product, back, stored}
@@ -54,3 +55,10 @@ pub scaled_all : (w : ℕ) (r s : List ℤ) (i : ℕ) → length s ≡ length r 
 scaled_all w r s i long over so =
     ext_get_or (pos 0) s (map (times w) r) (long ∙ sym (length-map r (times w)))
     (λ k h. so.before k (omega arith) ∙ sym (get_or-map (times w) r k (pos 0) (pos 0) (omega arith)))
+
+in_34_bits : (z : ℤ) → unsigned_abs z ≤ 2 ^ 32 → FitsBits 34 z
+in_34_bits z h = record { low = omega (arith, ints, h); high = omega (arith, ints, h) }
+
+-- each product is small
+pub scaled_fit : (w : ℕ) (xs : List ℤ) → w < 33 → All (FitsBits (33 - w)) xs → All (FitsBits 34) (map (λ z. z *ℤ pos (2 ^ w)) xs)
+scaled_fit w xs few all = All-map (FitsBits 34) (times w) xs (λ k d within. in_34_bits _ (scaled_small w few _ (all k d within)))

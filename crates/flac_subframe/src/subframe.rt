@@ -291,6 +291,7 @@ pub fn read_subframe<R: Source>(
     requires block { (1 ≤ block) × (block ≤ 65535) }
     requires places { length samples.old ≡ block }
     requires limits { (limits.now.partition ≤ 15) × (limits.now.linear ≤ 32) }
+    ensures small { IfOk result (λ fits. IsTrue fits → All (FitsBits 34) samples.new) }
     ensures spends { OnOk result (bits.new.most + 8 ≤ bits.old.most) }
     ensures counts { Counts bits.old bits.new result }
     ensures reads { Reads (λ fits. cond fits (Some samples.new) None) (subframe_samples depth block limits.now) bits.old bits.new result }
@@ -310,6 +311,7 @@ fn read_here<R: Source>(
     requires block { (1 ≤ block) × (block ≤ 65535) }
     requires places { length samples.old ≡ block }
     requires limits { (limits.now.partition ≤ 15) × (limits.now.linear ≤ 32) }
+    ensures small { IfOk result (λ fits. IsTrue fits → All (FitsBits 34) samples.new) }
     ensures spends { OnOk result (bits.new.most + 8 ≤ bits.old.most) }
     ensures counts { Counts bits.old bits.new result }
     ensures reads { Reads (λ fits. cond fits (Some samples.new) None)

@@ -1,6 +1,13 @@
-use Rattle.std.proofs.Common.{arith, ◌-◌}
+use Rattle.std.proofs.Common.{arith, ◌-◌, All, subst, sym}
+use Rattle.flac_subframe.specs.Numbers.{FitsBits}
 use Rattle.flac_subframe.proofs.Bounds.{fits_up}
+use Rattle.flac_subframe.proofs.Scaling.{scaled_fit}
 use Rattle.flac_subframe.proofs.subframe.read_here.Goals as goal
 
 pub scale-requires-clause-small : goal.scale-requires-clause-small
 scale-requires-clause-small g c = λ k d within. fits_up (c.args.depth - c.in_ok-header.header.wasted) (33 - c.in_ok-header.header.wasted) _ (omega (arith, c.requires.depth.1)) (c.in_ok-fits.ensures.fits c.if-fits.true k d within)
+
+pub returns-then-fits-clause-small : goal.returns-then-fits-clause-small
+returns-then-fits-clause-small g c = λ yes.
+    subst (All (FitsBits 34)) (sym c.scale.ensures) (scaled_fit c.in_ok-header.header.wasted _ (omega (arith, c.in_ok-header.ensures.left, c.requires.depth.1))
+    (λ k d within. fits_up (c.args.depth - c.in_ok-header.header.wasted) (33 - c.in_ok-header.header.wasted) _ (omega (arith, c.requires.depth.1)) (c.in_ok-fits.ensures.fits c.if-fits.true k d within)))

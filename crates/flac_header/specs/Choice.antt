@@ -1,0 +1,36 @@
+-- The codes that a writer chooses for a block size, a rate and a depth.
+use Rattle.std.specs.Prelude.{ℕ, ◌*◌, ◌%◌, ◌^◌, ◌&&◌, ◌||◌, false, cond, nat_eq, nat_lt, nat_le, Option, Some, None}
+use Rattle.flac_header.specs.Header.{Header}
+
+-- the code that names the size where there is one, else 6 for up to 256 samples, else 7 (RFC 9639, section 9.1.1)
+unfoldable pub size_choice : ℕ → Option ℕ
+size_choice size =
+    cond (nat_eq size 192) (Some 1) (cond (nat_eq size 576) (Some 2) (cond (nat_eq size 1152) (Some 3) (cond (nat_eq size 2304) (Some 4) (cond (nat_eq size 4608) (Some 5)
+    (cond (nat_eq size 256) (Some 8) (cond (nat_eq size 512) (Some 9) (cond (nat_eq size 1024) (Some 10) (cond (nat_eq size 2048) (Some 11) (cond (nat_eq size 4096) (Some 12)
+    (cond (nat_eq size 8192) (Some 13) (cond (nat_eq size 16384) (Some 14) (cond (nat_eq size 32768) (Some 15)
+    (cond (nat_eq size 0) None (cond (nat_le size 256) (Some 6) (cond (nat_le size 65535) (Some 7) None)))))))))))))))
+
+-- the code that names the rate where there is one, else 12 for thousands up to 255000 Hz, else 13 up to 65535 Hz, else 14 for tens up to 655350 Hz (section 9.1.2)
+unfoldable pub rate_choice : ℕ → Option ℕ
+rate_choice rate =
+    cond (nat_eq rate 88200) (Some 1) (cond (nat_eq rate 176400) (Some 2) (cond (nat_eq rate 192000) (Some 3) (cond (nat_eq rate 8000) (Some 4) (cond (nat_eq rate 16000) (Some 5)
+    (cond (nat_eq rate 22050) (Some 6) (cond (nat_eq rate 24000) (Some 7) (cond (nat_eq rate 32000) (Some 8) (cond (nat_eq rate 44100) (Some 9) (cond (nat_eq rate 48000) (Some 10)
+    (cond (nat_eq rate 96000) (Some 11) (cond (nat_eq rate 0) None (cond (nat_eq (rate % 1000) 0 && nat_le rate 255000) (Some 12) (cond (nat_le rate 65535) (Some 13)
+    (cond (nat_eq (rate % 10) 0 && nat_le rate 655350) (Some 14) None))))))))))))))
+
+-- the code of a depth (section 9.1.4)
+unfoldable pub depth_choice : ℕ → Option ℕ
+depth_choice depth =
+    cond (nat_eq depth 8) (Some 1) (cond (nat_eq depth 12) (Some 2) (cond (nat_eq depth 16) (Some 4) (cond (nat_eq depth 20) (Some 5) (cond (nat_eq depth 24) (Some 6) (cond (nat_eq depth 32) (Some 7) None)))))
+
+abbrev pub with_codes : Option ℕ → Option ℕ → Option ℕ → (size rate channel_code number : ℕ) → Option Header
+with_codes (Some s) (Some r) (Some d) size rate channel_code number =
+    Some (record { variable = false; size_code = s; size = size; rate_code = r; rate = rate; channel_code = channel_code; depth_code = d; number = number })
+with_codes (Some s) (Some r) None size rate channel_code number = None
+with_codes (Some s) None d size rate channel_code number = None
+with_codes None r d size rate channel_code number = None
+
+-- the header of a counted frame under the chosen codes; nothing where one does not fit
+unfoldable pub chosen_header : (size rate channel_code depth number : ℕ) → Option Header
+chosen_header size rate channel_code depth number =
+    cond (nat_lt 10 channel_code || nat_le (2 ^ 31) number) None (with_codes (size_choice size) (rate_choice rate) (depth_choice depth) size rate channel_code number)

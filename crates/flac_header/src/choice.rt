@@ -1,0 +1,111 @@
+//! The codes that a writer chooses.
+
+ghost use Rattle.std.specs.Prelude.{◌≡◌, ◌≤◌, ◌<◌, IfSome, nat_eq, false};
+ghost use Rattle.flac_header.specs.Header.{IsSize, IsRate};
+ghost use Rattle.flac_header.specs.Choice.{size_choice, rate_choice, depth_choice, chosen_header};
+
+use crate::frame_header::FrameHeader;
+
+/// The code of a block size (RFC 9639, section 9.1.1).
+#[tactic(auto, unfolding(crate::specs::Choice::size_choice))]
+fn size_code(size: u32) -> Option<u8>
+    ensures code { result ≡ size_choice size }
+    ensures range { IfSome result (λ c. (1 ≤ c) × (c < 16)) }
+    ensures fits { IfSome result (λ c. IsSize c size) }
+{
+    match size {
+        192 => Some(1),
+        576 => Some(2),
+        1152 => Some(3),
+        2304 => Some(4),
+        4608 => Some(5),
+        256 => Some(8),
+        512 => Some(9),
+        1024 => Some(10),
+        2048 => Some(11),
+        4096 => Some(12),
+        8192 => Some(13),
+        16384 => Some(14),
+        32768 => Some(15),
+        0 => None,
+        1..=256 => Some(6),
+        257..=65535 => Some(7),
+        _ => None,
+    }
+}
+
+/// The code of a rate (RFC 9639, section 9.1.2).
+#[tactic(auto, unfolding(crate::specs::Choice::rate_choice))]
+fn rate_code(rate: u32) -> Option<u8>
+    ensures code { result ≡ rate_choice rate }
+    ensures range { IfSome result (λ c. c < 15) }
+    ensures fits { IfSome result (λ c. IsRate c rate) }
+{
+    match rate {
+        88200 => Some(1),
+        176400 => Some(2),
+        192000 => Some(3),
+        8000 => Some(4),
+        16000 => Some(5),
+        22050 => Some(6),
+        24000 => Some(7),
+        32000 => Some(8),
+        44100 => Some(9),
+        48000 => Some(10),
+        96000 => Some(11),
+        0 => None,
+        _ if rate % 1000 == 0 && rate <= 255000 => Some(12),
+        1..=65535 => Some(13),
+        _ if rate % 10 == 0 && rate <= 655350 => Some(14),
+        _ => None,
+    }
+}
+
+/// The code of a depth (RFC 9639, section 9.1.4).
+#[tactic(auto, unfolding(crate::specs::Choice::depth_choice))]
+fn depth_code(depth: u32) -> Option<u8>
+    ensures code { result ≡ depth_choice depth }
+    ensures range { IfSome result (λ c. (c < 8) × (nat_eq c 3 ≡ false)) }
+{
+    match depth {
+        8 => Some(1),
+        12 => Some(2),
+        16 => Some(4),
+        20 => Some(5),
+        24 => Some(6),
+        32 => Some(7),
+        _ => None,
+    }
+}
+
+impl FrameHeader {
+    /// The header of a counted frame: its block size, rate in Hz, channel code, depth in bits and number. A code that names
+    /// a size or a rate is taken before one that asks for a field. `None` where a value has no code, or the number is 2^31 or more.
+    #[tactic(auto, unfolding(crate::specs::Choice::chosen_header))]
+    pub fn chosen(
+        size: u32,
+        rate: u32,
+        channel_code: u8,
+        depth: u32,
+        number: u64,
+    ) -> Option<FrameHeader>
+        ensures { result ≡ chosen_header size rate channel_code depth number }
+    {
+        if channel_code > 10 || number >= 1 << 31 {
+            return None;
+        }
+        let size_code = size_code(size)?;
+        let rate_code = rate_code(rate)?;
+        let depth_code = depth_code(depth)?;
+        Some(FrameHeader {
+            variable: false,
+            size_code,
+            size,
+            rate_code,
+            rate,
+            channel_code,
+            depth_code,
+            number,
+        })
+    }
+}

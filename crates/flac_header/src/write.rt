@@ -1,0 +1,68 @@
+//! Writes the header of a frame.
+
+ghost use Rattle.std.specs.Prelude.{◌≡◌};
+ghost use Rattle.flac_bits.specs.Written.{Writes, WritesParts};
+ghost use Rattle.flac_header.specs.Header.{IsSize, IsRate};
+ghost use Rattle.flac_header.specs.Spelling.{size_spelling, rate_spelling, header_parts, header_spelling, restarted};
+
+use crate::frame_header::FrameHeader;
+use flac_bits::{BitWriter, Target, Why, write_number};
+
+/// The block size, where the code asks for it (RFC 9639, section 9.1.6).
+#[tactic(auto, unfolding(crate::specs::Spelling::size_spelling))]
+fn put_size<W: Target>(writer: &mut BitWriter<W>, code: u8, size: u32) -> Result<(), Why>
+    requires { IsSize code size }
+    ensures { Writes (size_spelling code size) writer.old writer.new result }
+{
+    match code {
+        6 => writer.put(8, (size - 1) as u64),
+        7 => writer.put(16, (size - 1) as u64),
+        _ => Ok(()),
+    }
+}
+
+/// The rate, where the code asks for it (RFC 9639, section 9.1.7).
+#[tactic(auto, unfolding(crate::specs::Spelling::rate_spelling))]
+fn put_rate<W: Target>(writer: &mut BitWriter<W>, code: u8, rate: u32) -> Result<(), Why>
+    requires { IsRate code rate }
+    ensures { Writes (rate_spelling code rate) writer.old writer.new result }
+{
+    match code {
+        12 => writer.put(8, (rate / 1000) as u64),
+        13 => writer.put(16, rate as u64),
+        14 => writer.put(16, (rate / 10) as u64),
+        _ => Ok(()),
+    }
+}
+
+/// All but the check.
+#[tactic(auto, unfolding(crate::specs::Spelling::header_parts))]
+fn put_fields<W: Target>(writer: &mut BitWriter<W>, header: &FrameHeader) -> Result<(), Why>
+    ensures { WritesParts (header_parts header.now) writer.old writer.new result }
+{
+    let strategy = u64::from(header.variable);
+    writer.put(15, 0x7FFC)?;
+    writer.put(1, strategy)?;
+    writer.put(4, header.size_code as u64)?;
+    writer.put(4, header.rate_code as u64)?;
+    writer.put(4, header.channel_code as u64)?;
+    writer.put(3, header.depth_code as u64)?;
+    writer.put(1, 0)?;
+    write_number(writer, header.number)?;
+    put_size(writer, header.size_code, header.size)?;
+    put_rate(writer, header.rate_code, header.rate)?;
+    Ok(())
+}
+
+/// Writes a header at a whole byte, and begins the checks there (RFC 9639, section 9.1).
+///
+/// Refuses [`Why::Write`] alone, where the target does.
+pub fn write_header<W: Target>(header: &FrameHeader, writer: &mut BitWriter<W>) -> Result<(), Why>
+    requires { writer.old.mark.unread ≡ 0 }
+    ensures { Writes (header_spelling header.now) (restarted writer.old) writer.new result }
+{
+    writer.start_checks()?;
+    put_fields(writer, header)?;
+    let check = writer.check8();
+    writer.put(8, check as u64)
+}
