@@ -1,8 +1,7 @@
 -- Bits behind those held in a word.
-use Rattle.std.proofs.Common.{◌≡◌, ℕ, zero, suc, ◌+◌, ◌-◌, ◌*◌, ◌/◌, ◌%◌, ◌^◌, ◌<◌, ◌≤◌, Bool, List, [], ◌∷◌, ◌++◌, length, refl, sym, ap, ◌∙◌, arith, append_assoc}
-use Rattle.std.specs.Int.{bytes_high_first, byte_at}
+use Rattle.std.proofs.Common.{◌≡◌, ℕ, ◌+◌, ◌-◌, ◌*◌, ◌/◌, ◌%◌, ◌^◌, ◌<◌, ◌≤◌, ◌++◌, sym, ap, ◌∙◌, arith, append_assoc}
 use Rattle.std.proofs.lemmas.Nat.{pow_pos, pow-add, shl-shr, shr_split, shr_high, shr_below, mod-pow-add, mod_low, mod_below, mul-add-lt, mul-mod_first}
-use Rattle.flac_bits.specs.Bits.{unsigned, bits_of}
+use Rattle.flac_bits.specs.Bits.{unsigned}
 use Rattle.flac_bits.specs.Check.{fed}
 use Rattle.flac_bits.proofs.Laws.{unsigned_low}
 use Rattle.flac_bits.proofs.Words.{split}

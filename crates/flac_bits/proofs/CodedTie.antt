@@ -1,11 +1,11 @@
 -- The layout of a coded number spells each number in its shortest form.
-use Rattle.std.proofs.Common.{◌≡◌, ℕ, zero, suc, ◌+◌, ◌-◌, ◌*◌, ◌/◌, ◌%◌, ◌^◌, ◌<◌, ◌≤◌, ◌&&◌, Bool, true, false, cond, nat_eq, nat_lt, List, [], ◌∷◌, ◌++◌, Option, Some, None, refl, sym, ap, subst, ◌∙◌, arith}
+use Rattle.std.proofs.Common.{◌≡◌, ℕ, zero, suc, ◌+◌, ◌-◌, ◌*◌, ◌/◌, ◌%◌, ◌^◌, ◌<◌, ◌≤◌, ◌&&◌, Bool, true, false, cond, nat_eq, nat_lt, List, [], ◌++◌, Option, Some, None, refl, sym, ap, subst, ◌∙◌, arith}
 use Rattle.std.proofs.lemmas.List.{append-nil}
 use Rattle.std.proofs.lemmas.Bool.Decides.{nat_tests}
 use Rattle.std.proofs.Math.Nat.{pow-suc, div-div-eq-div-mul}
 use Rattle.flac_bits.specs.Bits.{unsigned}
 use Rattle.flac_bits.specs.State.{Mark, past}
-use Rattle.flac_bits.specs.Layout.{Layout, done, bits, refuse, ◌>>=◌, choose}
+use Rattle.flac_bits.specs.Layout.{Layout, done, refuse, ◌>>=◌, choose}
 use Rattle.flac_bits.specs.Number.{lead_form, continued, some_or_bad, number}
 use Rattle.flac_bits.specs.Coded.{six_bits, in_bytes, number_spelling, IsNumber, NumbersAreSpelled, NumbersAreReadAgain}
 use Rattle.flac_bits.specs.Meaning.{Spells}

@@ -1,5 +1,5 @@
 -- Bits behind those that are held, and bytes that are sent.
-use Rattle.std.proofs.Common.{◌≡◌, ℕ, zero, suc, ◌+◌, ◌-◌, ◌*◌, ◌/◌, ◌%◌, ◌^◌, ◌<◌, ◌≤◌, Bool, List, [], ◌∷◌, ◌++◌, length, take, drop, min, refl, sym, ap, ◌∙◌, arith, append_assoc}
+use Rattle.std.proofs.Common.{◌≡◌, ℕ, zero, suc, ◌+◌, ◌-◌, ◌*◌, ◌/◌, ◌%◌, ◌^◌, ◌≤◌, Bool, List, [], ◌∷◌, ◌++◌, length, take, drop, min, refl, sym, ap, ◌∙◌, arith, append_assoc}
 use Rattle.std.specs.Int.{bytes_high_first, byte_at}
 use Rattle.std.specs.List.{slice_range}
 use Rattle.std.proofs.lemmas.List.{append-nil, drop-append-le, drop-take, length-take, length-drop, length-append}
@@ -8,13 +8,13 @@ use Rattle.std.proofs.lemmas.Nat.{pow-add}
 use Rattle.flac_bits.specs.Bits.{unsigned, bits_of}
 use Rattle.flac_bits.specs.Check.{fed}
 use Rattle.flac_bits.specs.State.{Mark, past}
-use Rattle.flac_bits.specs.Unsent.{Unsent, Puts, KeepsBits}
+use Rattle.flac_bits.specs.Unsent.{Unsent}
 use Rattle.flac_bits.specs.declared.why.Why.TheVariants.{Truncated}
 use Rattle.flac_bits.proofs.Laws.{past-append}
-use Rattle.flac_bits.proofs.Words.{split, length-unsigned}
+use Rattle.flac_bits.proofs.Words.{split}
 use Rattle.flac_bits.proofs.Holding.{length-bits_of, bits_of-append}
 use Rattle.flac_bits.proofs.Marks.{past-unread, past-bytes, past_whole}
-use Rattle.flac_bits.proofs.Check.{past-check8, past-check16, fed-append}
+use Rattle.flac_bits.proofs.Check.{fed-append}
 use Rattle.flac_bits.proofs.Appending.{low_mod}
 
 abbrev most : ℕ

@@ -1,12 +1,12 @@
 -- Where a writer stands behind what it sent and put.
-use Rattle.std.proofs.Common.{◌≡◌, ℕ, ◌<◌, ◌≤◌, true, Bool, List, [], ◌++◌, Result, Ok, Err, IfErr, OnOk, refl, sym, ap, ◌∙◌, append_assoc}
+use Rattle.std.proofs.Common.{◌≡◌, true, Bool, List, [], ◌++◌, Result, Ok, Err, IfErr, OnOk, refl, sym, ap, ◌∙◌, append_assoc}
 use Rattle.std.proofs.lemmas.List.{append-nil}
 use Rattle.flac_bits.specs.Bits.{bits_of}
 use Rattle.flac_bits.specs.State.{Mark}
 use Rattle.flac_bits.specs.Unsent.{Unsent, Puts, KeepsBits}
 use Rattle.flac_bits.specs.Sending.{Sends}
 use Rattle.flac_bits.specs.Standing.{standing}
-use Rattle.flac_bits.specs.Written.{Written, Adds, Writes, Fails}
+use Rattle.flac_bits.specs.Written.{Adds, Writes}
 use Rattle.flac_bits.specs.declared.why.Why.{Why}
 use Rattle.flac_bits.specs.declared.why.Why.TheVariants.{Write}
 use Rattle.flac_bits.specs.declared.target.Target as target

@@ -1,7 +1,7 @@
 -- The spelling of a coded number: the shortest of its forms.
-use Rattle.std.specs.Prelude.{◌≡◌, ℕ, zero, suc, ◌+◌, ◌*◌, ◌/◌, ◌%◌, ◌^◌, ◌<◌, Bool, cond, nat_lt, List, [], ◌++◌, Ok, ◌↔◌}
+use Rattle.std.specs.Prelude.{◌≡◌, ℕ, zero, suc, ◌+◌, ◌/◌, ◌%◌, ◌^◌, ◌<◌, Bool, cond, nat_lt, List, [], ◌++◌, Ok, ◌↔◌}
 use Rattle.flac_bits.specs.Bits.{unsigned}
-use Rattle.flac_bits.specs.State.{Mark, Cursor, past}
+use Rattle.flac_bits.specs.State.{Mark, past}
 use Rattle.flac_bits.specs.Layout.{run}
 use Rattle.flac_bits.specs.Meaning.{Spells}
 use Rattle.flac_bits.specs.Number.{number}

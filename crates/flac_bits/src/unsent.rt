@@ -181,6 +181,7 @@ impl Unsent {
     }
 
     /// Sends the whole bytes.
+    #[inline(never)]
     pub fn send_to<W: Target>(&mut self, target: &mut W) -> Result<(), Why>
         ensures sends { Sends W.Target self.old.bytes target.old target.new result }
         ensures kept { (self.new.rest ≡ self.old.rest) × (self.new.mark ≡ self.old.mark) }

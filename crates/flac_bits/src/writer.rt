@@ -30,7 +30,7 @@ impl<W: Target> Model for BitWriter<W> {
 }
 
 /// Room for one more word.
-#[inline(never)]
+#[inline(always)]
 fn make_room<W: Target>(held: &mut Unsent, target: &mut W) -> Result<(), Why>
     ensures room { OnOk result (length held.new.bytes + 8 ≤ 4096) }
     ensures rest { held.new.rest ≡ held.old.rest }

@@ -1,4 +1,4 @@
-use Rattle.std.proofs.Common.{◌≡◌, ◌-◌, ◌*◌, ◌%◌, ap, sym, ◌∙◌, arith}
+use Rattle.std.proofs.Common.{◌≡◌, ◌-◌, ◌*◌, ◌%◌, ap, ◌∙◌, arith}
 use Rattle.flac_bits.specs.Bits.{unsigned}
 use Rattle.flac_bits.specs.Check.{fed}
 use Rattle.flac_bits.proofs.Appending.{low_mod}

@@ -1,7 +1,7 @@
-use Rattle.std.proofs.Common.{rules, ◌≡◌, ◌<◌, ◌≤◌, ◌+◌, ◌-◌, ◌*◌, ◌/◌, ◌%◌, ◌^◌, ◌++◌, ◌∷◌, [], ℕ, List, Bool, length, sym, ap, ◌∙◌, arith, refl}
+use Rattle.std.proofs.Common.{rules, ◌-◌, ◌++◌, List, Bool, length, ap, ◌∙◌, arith}
 use Rattle.flac_bits.specs.Bits.{unsigned}
 use Rattle.flac_bits.proofs.Words.{length-unsigned}
-use Rattle.flac_bits.proofs.Appending.{put_fits, put_bits, fill_fits, fill_bits, first_byte}
+use Rattle.flac_bits.proofs.Appending.{fill_fits, fill_bits}
 use Rattle.flac_bits.proofs.rest.Rest.fill.Goals as goal
 
 pub overflow_sub-rest : goal.overflow_sub-rest

@@ -1,12 +1,7 @@
-use Rattle.std.proofs.Common.{rules, ◌≡◌, ◌<◌, ◌≤◌, ◌+◌, ◌-◌, ◌*◌, ◌/◌, ◌%◌, ◌^◌, ◌++◌, ◌∷◌, [], ℕ, List, Bool, length, take, drop, min, sym, ap, ◌∙◌, arith, refl}
-use Rattle.std.proofs.lemmas.List.{length-take, append-nil}
-use Rattle.std.proofs.lemmas.List.{take_more}
-use Rattle.std.specs.Int.{bytes_high_first}
-use Rattle.flac_bits.specs.Bits.{unsigned, bits_of}
-use Rattle.flac_bits.specs.State.{Mark, past}
+use Rattle.std.proofs.Common.{◌≡◌, ◌+◌, ◌-◌, ◌/◌, ◌^◌, length, take, min, ap, ◌∙◌, arith, refl}
+use Rattle.std.proofs.lemmas.List.{length-take}
 use Rattle.flac_bits.specs.Unsent.{Unsent}
-use Rattle.flac_bits.proofs.Check.{past-check8, past-check16}
-use Rattle.flac_bits.proofs.Putting.{number_bytes, putting, putting_rest, settled, unread_is, begun_is, checked_is, sent_mark}
+use Rattle.flac_bits.proofs.Putting.{begun_is}
 use Rattle.flac_bits.proofs.unsent.Unsent.bytes_begun.Goals as goal
 
 pub returns : goal.returns

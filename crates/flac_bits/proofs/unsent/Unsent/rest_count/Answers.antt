@@ -1,8 +1,6 @@
-use Rattle.std.proofs.Common.{rules, ◌≡◌, ◌<◌, ◌≤◌, ◌+◌, ◌-◌, ◌*◌, ◌/◌, ◌%◌, ◌^◌, ◌++◌, ◌∷◌, [], ℕ, List, Bool, length, take, drop, min, sym, ap, ◌∙◌, arith, refl}
-use Rattle.flac_bits.specs.Bits.{unsigned, bits_of}
-use Rattle.flac_bits.specs.State.{Mark, past}
+use Rattle.std.proofs.Common.{◌+◌, ◌%◌, length, sym, ap, ◌∙◌, arith, refl}
 use Rattle.flac_bits.specs.Unsent.{Unsent}
-use Rattle.flac_bits.proofs.Putting.{rest_unread, restarted}
+use Rattle.flac_bits.proofs.Putting.{rest_unread}
 use Rattle.flac_bits.proofs.unsent.Unsent.rest_count.Goals as goal
 
 pub returns-clause-unread : goal.returns-clause-unread

@@ -1,8 +1,5 @@
-use Rattle.std.proofs.Common.{rules, ◌≡◌, ◌<◌, ◌≤◌, ◌+◌, ◌-◌, ◌*◌, ◌/◌, ◌%◌, ◌^◌, ◌++◌, ◌∷◌, [], ℕ, List, Bool, length, take, drop, min, sym, ap, ◌∙◌, arith, refl}
-use Rattle.flac_bits.specs.Bits.{unsigned, bits_of}
-use Rattle.flac_bits.specs.State.{Mark, past}
-use Rattle.flac_bits.specs.Unsent.{Unsent}
-use Rattle.flac_bits.proofs.Putting.{rest_unread, restarted}
+use Rattle.std.proofs.Common.{arith}
+use Rattle.flac_bits.proofs.Putting.{restarted}
 use Rattle.flac_bits.proofs.unsent.Unsent.start_checks.Goals as goal
 
 pub returns : goal.returns
