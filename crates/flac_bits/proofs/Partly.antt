@@ -6,7 +6,7 @@ use Rattle.std.specs.List.{slice_range}
 use Rattle.flac_bits.specs.Bits.{unsigned, bits_of}
 use Rattle.flac_bits.specs.State.{Mark, past}
 use Rattle.flac_bits.specs.Check.{fed}
-use Rattle.flac_bits.specs.Store.{Store, passed}
+use Rattle.flac_bits.specs.Store.{Store, Fence, passed}
 use Rattle.flac_bits.specs.declared.why.Why.TheVariants.{Truncated}
 use Rattle.flac_bits.proofs.Check.{fed-append, past-check8, past-check16}
 use Rattle.flac_bits.proofs.Meaning.{past-short}
@@ -105,11 +105,11 @@ restart_tie xs word e = rw (restart_passed xs word e) e
 restart_mark : (m : Mark) (n : ℕ) → m.unread ≡ 0 → m.bytes ≡ n → m.short ≡ Truncated → record { unread = 0; bytes = n; check8 = 0; check16 = 0; short = Truncated } ≡ record m { check8 = 0; check16 = 0 }
 restart_mark m n a b c = rw (a, b, c) refl
 
-pub restarted : (bytes : List ℕ) (from place end before c8 c16 q : ℕ) (word : List Bool) (s : Store) → from ≤ place → place ≤ length bytes → Tie (drop from (take place bytes)) word → s.mark.unread ≡ 0 → q ≡ length word / 8
-    → record { word = word; bytes = drop place (take end bytes); mark = past (passed (drop from (take place bytes)) word) (record { unread = 0; bytes = min (before + from) most; check8 = c8; check16 = c16; short = Truncated }) } ≡ s
-    → record { word = word; bytes = drop place (take end bytes); mark = past (passed (drop (place - q) (take place bytes)) word) (record { unread = 0; bytes = min (before + (place - q)) most; check8 = 0; check16 = 0; short = Truncated }) }
+pub restarted : (bytes : List ℕ) (from place end before c8 c16 q : ℕ) (word : List Bool) (fence : Fence) (s : Store) → from ≤ place → place ≤ length bytes → Tie (drop from (take place bytes)) word → s.mark.unread ≡ 0 → q ≡ length word / 8
+    → record { word = word; bytes = drop place (take end bytes); mark = past (passed (drop from (take place bytes)) word) (record { unread = 0; bytes = min (before + from) most; check8 = c8; check16 = c16; short = Truncated }); fence = fence } ≡ s
+    → record { word = word; bytes = drop place (take end bytes); mark = past (passed (drop (place - q) (take place bytes)) word) (record { unread = 0; bytes = min (before + (place - q)) most; check8 = 0; check16 = 0; short = Truncated }); fence = fence }
     ≡ record s { mark = record s.mark { check8 = 0; check16 = 0 } }
-restarted bytes from place end before c8 c16 q word s le inside tie z e is =
+restarted bytes from place end before c8 c16 q word fence s le inside tie z e is =
     let xs = drop from (take place bytes) in
     let start : Mark = record { unread = 0; bytes = min (before + from) most; check8 = c8; check16 = c16; short = Truncated } in
     let mark_is : past (passed xs word) start ≡ s.mark = ap (λ (t : Store). t.mark) is in
@@ -122,4 +122,4 @@ restarted bytes from place end before c8 c16 q word s le inside tie z e is =
     let short : s.mark.short ≡ Truncated = sym (ap (λ (m : Mark). m.short) mark_is) ∙ past-short (passed xs word) start in
     let none = restart_passed (drop (place - q) (take place bytes)) word (restart_word bytes from place q word le inside tie whole e) in
     let marked = restart_mark s.mark (min (before + (place - q)) most) z count short in
-    rw (none, ← marked, ← ap (λ (t : Store). t.word) is, ← ap (λ (t : Store). t.bytes) is) refl
+    rw (none, ← marked, ← ap (λ (t : Store). t.word) is, ← ap (λ (t : Store). t.bytes) is, ← ap (λ (t : Store). t.fence) is) refl

@@ -16,3 +16,6 @@ pub mod Items
 pub mod Handing
 pub mod Signed
 pub mod Sending
+pub mod Unsent
+pub mod Standing
+pub mod Fencing

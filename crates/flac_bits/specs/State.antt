@@ -62,6 +62,10 @@ pub record Behind : Type 0 where
 abbrev pub the_end : Behind
 the_end = record { fails = None; cut = false; pieces = []; bytes = []; stop = None; fenced = [] }
 
+-- the same without a fence
+abbrev pub without_fence : Behind → Behind
+without_fence b = record b { fenced = [] }
+
 -- the reason where a field needs more than is left: the input ends, or the error that is foretold comes
 abbrev pub short_of : Option (ℕ × Why) → Why
 short_of None = Truncated

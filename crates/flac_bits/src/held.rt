@@ -5,7 +5,7 @@ ghost use Rattle.flac_bits.specs.declared.why.Why.TheVariants.{Truncated};
 ghost use Rattle.flac_bits.specs.Bits.{unsigned, bits_of};
 ghost use Rattle.flac_bits.specs.Meaning.{unary_bits};
 ghost use Rattle.flac_bits.specs.State.{past};
-ghost use Rattle.flac_bits.specs.Store.{Store, passed, Takes, Passes, HoldsSame, four_at};
+ghost use Rattle.flac_bits.specs.Store.{Store, passed, Takes, Passes, HoldsSame, four_at, allowed, forbidden, reached, seen as seen_bytes, room_behind as room_behind_bytes, hides_late, reason_of, Came};
 
 use crate::source::Source;
 use crate::sums::{bits_checked8, bits_checked16, checked8, checked16};
@@ -16,13 +16,16 @@ use std::marker::Model;
 /// How many bytes are pulled at once.
 pub const HOLD: usize = 4096;
 
-/// An array of bytes, of which some are taken, and a word with the bits that come first.
+/// An array of bytes, of which some are taken, and a word with the bits that come first. Bytes from `end` to `filled` stand past
+/// a fence; `room` says how many more may be pulled up to it.
 #[derive(Drop)]
 pub struct Held {
     word: Word,
     bytes: [u8; HOLD],
     place: usize,
     end: usize,
+    filled: usize,
+    room: Option<u64>,
     before: u64,
     from: usize,
     check8: u8,
@@ -42,11 +45,12 @@ impl Model for Held {
         check16 = h.check16;
         short = Truncated;
       });
+      fence = record { room = h.room; hidden = drop h.end (take h.filled h.bytes) };
     } };
 
     ghost invariant = { λ h. (h.from ≤ h.place) × (h.place ≤ h.end) × (h.end ≤ 4096)
         × (passed (drop h.from (take h.place h.bytes)) h.word ++ h.word ≡ bits_of (drop h.from (take h.place h.bytes)))
-        × (length h.bytes ≡ 4096) };
+        × (length h.bytes ≡ 4096) × (h.end ≤ h.filled) × (h.filled ≤ 4096) × (hides_late h.room h.end h.filled ≡ true) };
 }
 
 /// Four bytes as a number, the first of them highest.
@@ -63,15 +67,37 @@ fn four_bytes(bytes: &[u8], place: usize) -> u32
     ])
 }
 
+/// How many of n bytes stand before a fence.
+fn seen(room: Option<u64>, n: usize) -> usize
+    ensures { result ≡ seen_bytes room n }
+{
+    match room {
+        None => n,
+        Some(room) => room.min(n as u64) as usize,
+    }
+}
+
+/// Where the fence stands behind n bytes before it.
+fn room_behind(room: Option<u64>, n: usize) -> Option<u64>
+    ensures { result ≡ room_behind_bytes room n }
+{
+    match room {
+        None => None,
+        Some(room) => Some(room.saturating_sub(n as u64)),
+    }
+}
+
 impl Held {
     pub fn new() -> Held
-        ensures { result ≡ record { word = []; bytes = []; mark = record { unread = 0; bytes = 0; check8 = 0; check16 = 0; short = Truncated } } }
+        ensures { result ≡ record { word = []; bytes = []; mark = record { unread = 0; bytes = 0; check8 = 0; check16 = 0; short = Truncated }; fence = record { room = None; hidden = [] } } }
     {
         Held {
             word: Word::empty(),
             bytes: [0; HOLD],
             place: 0,
             end: 0,
+            filled: 0,
+            room: None,
             before: 0,
             from: 0,
             check8: 0,
@@ -154,11 +180,15 @@ impl Held {
         self.word.keep(count % 8);
     }
 
-    /// The reason where no byte is left, but for an error of the source.
+    /// The reason where no byte is left, but for an error of the source: the fence, or the end.
     pub fn short(&self) -> Why
-        ensures { result ≡ Why.Truncated }
+        ensures fence { self.now.fence.room ≡ Some 0 → result ≡ Why.FrameTooLong }
+        ensures over { (self.now.fence.room ≡ Some 0 → ⊥) → result ≡ Why.Truncated }
     {
-        Why::Truncated
+        match self.room {
+            Some(0) => Why::FrameTooLong,
+            _ => Why::Truncated,
+        }
     }
 
     /// Whether no byte is held behind the word.
@@ -183,7 +213,7 @@ impl Held {
         n
     }
 
-    /// Bytes of the source, where all that were held are taken; false at the end.
+    /// Bytes of the source, where all that were held are taken; false at the end, and at a fence.
     #[inline(never)]
     pub fn pull<R: Source>(&mut self, source: &mut R) -> Result<bool, Why>
         requires { (self.old.word ≡ []) × (self.old.bytes ≡ []) }
@@ -191,14 +221,43 @@ impl Held {
         ensures mark { self.new.mark ≡ self.old.mark }
         ensures word { self.new.word ≡ [] }
         ensures ok { IfOk result (λ _. (R.known source.old ≡ true → R.known source.new ≡ true) × (R.errors source.new ≡ R.errors source.old) × (R.raised source.new ≡ R.raised source.old)
-            × (R.most source.new + length self.new.bytes ≤ R.most source.old)
-            × (R.known source.old ≡ true → R.coming source.old ≡ self.new.bytes ++ R.coming source.new)) }
+            × (R.most source.new + length self.new.bytes + length self.new.fence.hidden ≤ R.most source.old + length self.old.fence.hidden)
+            × (R.known source.old ≡ true → Came self.old.fence (R.coming source.old) self.new.bytes self.new.fence (R.coming source.new))) }
         ensures more { result ≡ Ok true → 0 < length self.new.bytes }
-        ensures over { result ≡ Ok false → R.known source.old ≡ true → (R.coming source.old ≡ []) × ((R.behind source.old).fails ≡ None) }
+        ensures over { result ≡ Ok false → R.known source.old ≡ true
+            → (allowed self.old.fence.room (R.coming source.old) ≡ []) × (reason_of (reached self.old.fence.room (R.coming source.old)) (R.behind source.old) ≡ Why.Read → ⊥) }
         ensures kept { R.errors source.old ≤ R.errors source.new }
         ensures foretold { R.known source.old ≡ true → R.errors source.new ≡ R.errors source.old → R.behind source.new ≡ R.behind source.old }
         ensures err { IfErr result (λ e. (e ≡ Why.Read)
-            × (R.known source.old ≡ true → R.errors source.new ≡ R.errors source.old → (R.coming source.old ≡ []) × (is_some ((R.behind source.old).fails) ≡ true))
+            × (R.known source.old ≡ true → R.errors source.new ≡ R.errors source.old
+            → (allowed self.old.fence.room (R.coming source.old) ≡ []) × (reason_of (reached self.old.fence.room (R.coming source.old)) (R.behind source.old) ≡ Why.Read)
+            × (self.new.fence.hidden ++ forbidden self.new.fence.room (R.coming source.new) ≡ self.old.fence.hidden ++ forbidden self.old.fence.room (R.coming source.old)))
+            × (R.known source.old ≡ true → R.raised source.old < R.raised source.new)) }
+    {
+        match self.room {
+            Some(0) => Ok(false),
+            _ => self.pull_more(source),
+        }
+    }
+
+    fn pull_more<R: Source>(&mut self, source: &mut R) -> Result<bool, Why>
+        requires taken { (self.old.word ≡ []) × (self.old.bytes ≡ []) }
+        requires room { self.old.fence.room ≡ Some 0 → ⊥ }
+        ensures names { R.names source.new ≡ R.names source.old }
+        ensures mark { self.new.mark ≡ self.old.mark }
+        ensures word { self.new.word ≡ [] }
+        ensures ok { IfOk result (λ _. (R.known source.old ≡ true → R.known source.new ≡ true) × (R.errors source.new ≡ R.errors source.old) × (R.raised source.new ≡ R.raised source.old)
+            × (R.most source.new + length self.new.bytes + length self.new.fence.hidden ≤ R.most source.old + length self.old.fence.hidden)
+            × (R.known source.old ≡ true → Came self.old.fence (R.coming source.old) self.new.bytes self.new.fence (R.coming source.new))) }
+        ensures more { result ≡ Ok true → 0 < length self.new.bytes }
+        ensures over { result ≡ Ok false → R.known source.old ≡ true
+            → (allowed self.old.fence.room (R.coming source.old) ≡ []) × (reason_of (reached self.old.fence.room (R.coming source.old)) (R.behind source.old) ≡ Why.Read → ⊥) }
+        ensures kept { R.errors source.old ≤ R.errors source.new }
+        ensures foretold { R.known source.old ≡ true → R.errors source.new ≡ R.errors source.old → R.behind source.new ≡ R.behind source.old }
+        ensures err { IfErr result (λ e. (e ≡ Why.Read)
+            × (R.known source.old ≡ true → R.errors source.new ≡ R.errors source.old
+            → (allowed self.old.fence.room (R.coming source.old) ≡ []) × (reason_of (reached self.old.fence.room (R.coming source.old)) (R.behind source.old) ≡ Why.Read)
+            × (self.new.fence.hidden ++ forbidden self.new.fence.room (R.coming source.new) ≡ self.old.fence.hidden ++ forbidden self.old.fence.room (R.coming source.old)))
             × (R.known source.old ≡ true → R.raised source.old < R.raised source.new)) }
     {
         self.check8 = checked8(self.check8, &self.bytes[self.from..self.end]);
@@ -207,14 +266,29 @@ impl Held {
         self.from = 0;
         self.place = 0;
         self.end = 0;
+        self.filled = 0;
         match source.pull(&mut self.bytes) {
             Ok(0) => Ok(false),
             Ok(n) => {
-                self.end = n;
+                self.filled = n;
+                self.end = seen(self.room, n);
+                self.room = room_behind(self.room, self.end);
                 Ok(true)
             }
-            Err(_) => Err(Why::Read),
+            Err(_) => {
+                self.room = None;
+                Err(Why::Read)
+            }
         }
+    }
+
+    /// Takes the fence away.
+    pub fn lift(&mut self)
+        ensures held { (self.new.word ≡ self.old.word) × (self.new.bytes ≡ self.old.bytes ++ self.old.fence.hidden) × (self.new.mark ≡ self.old.mark) × (self.new.fence ≡ record { room = None; hidden = [] }) }
+        ensures behind { (coming : List ℕ) → allowed self.old.fence.room coming ++ (self.old.fence.hidden ++ forbidden self.old.fence.room coming) ≡ self.old.fence.hidden ++ coming }
+    {
+        self.end = self.filled;
+        self.room = None;
     }
 
     /// How many bits of the byte that was begun are still to come.

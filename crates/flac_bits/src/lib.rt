@@ -8,11 +8,13 @@ mod held;
 mod number;
 mod promises;
 mod reader;
-mod signed;
+mod rest;
 mod send;
+mod signed;
 mod source;
 mod sums;
 mod target;
+mod unsent;
 mod why;
 mod word;
 mod writer;
@@ -30,3 +32,6 @@ pub use target::{Collected, Target};
 pub use why::Why;
 pub use word::Word;
 pub use writer::BitWriter;
+
+#[cfg(test)]
+mod writer_tests;

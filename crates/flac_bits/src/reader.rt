@@ -4,7 +4,9 @@ ghost use Rattle.std.specs.Prelude.{◌≡◌, ◌<◌, ◌≤◌, ◌+◌, ◌^
 ghost use Rattle.flac_bits.specs.declared.why.Why.TheVariants.{Truncated};
 ghost use Rattle.flac_bits.specs.Bits.{is_nil};
 ghost use Rattle.flac_bits.specs.Bits.{unsigned, bits_of, bit_value};
-ghost use Rattle.flac_bits.specs.State.{State, Cursor, short_of, with_short, started, Consumes};
+ghost use Rattle.flac_bits.specs.State.{State, Cursor, short_of, with_short, started, Consumes, without_fence};
+ghost use Rattle.flac_bits.specs.Fencing.{fence_at, lifted};
+ghost use Rattle.flac_bits.specs.Store.{state_of, left_of, fenced_of, most_of, reason_of, reached, SameBits};
 ghost use Rattle.flac_bits.specs.Layout.{next_bit, number_at, zeros_at, align as to_byte, run};
 ghost use Rattle.std.specs.Prelude.{All};
 ghost use Rattle.flac_bits.specs.Lists.{list_of};
@@ -28,18 +30,7 @@ pub struct BitReader<R: Source> {
 impl<R: Source> Model for BitReader<R> {
     ghost Value = { State };
 
-    ghost view = { λ r. record {
-      known = R.known r.source;
-      errors = R.errors r.source;
-      raised = R.raised r.source;
-      behind = R.behind r.source;
-      most = 8 * R.most r.source + length (r.held.word ++ bits_of r.held.bytes);
-      names = R.names r.source;
-      cursor = record {
-        left = (r.held.word ++ bits_of r.held.bytes) ++ bits_of (R.coming r.source);
-        mark = with_short (short_of ((R.behind r.source).fails)) r.held.mark;
-      };
-    } };
+    ghost view = { λ r. state_of (R.known r.source) (R.errors r.source) (R.raised r.source) (R.most r.source) (R.behind r.source) (R.names r.source) (R.coming r.source) r.held };
 }
 
 /// A bit in the word at least; false where none is left.
@@ -47,16 +38,17 @@ fn fill<R: Source>(held: &mut Held, source: &mut R) -> Result<bool, Why>
     ensures names { R.names source.new ≡ R.names source.old }
     ensures mark { held.new.mark ≡ held.old.mark }
     ensures ok { IfOk result (λ _. (R.known source.old ≡ true → R.known source.new ≡ true) × (R.errors source.new ≡ R.errors source.old) × (R.raised source.new ≡ R.raised source.old)
-        × (8 * R.most source.new + length (held.new.word ++ bits_of held.new.bytes) ≤ 8 * R.most source.old + length (held.old.word ++ bits_of held.old.bytes))
-        × (R.known source.old ≡ true → (held.new.word ++ bits_of held.new.bytes) ++ bits_of (R.coming source.new) ≡ (held.old.word ++ bits_of held.old.bytes) ++ bits_of (R.coming source.old))) }
+        × (8 * R.most source.new + most_of held.new ≤ 8 * R.most source.old + most_of held.old)
+        × (R.known source.old ≡ true → SameBits held.old (R.coming source.old) held.new (R.coming source.new))) }
     ensures more { result ≡ Ok true → 1 ≤ length held.new.word }
     ensures over { result ≡ Ok false → R.known source.old ≡ true
-        → ((held.old.word ++ bits_of held.old.bytes) ++ bits_of (R.coming source.old) ≡ []) × ((R.behind source.old).fails ≡ None) }
+        → (left_of held.old (R.coming source.old) ≡ []) × (reason_of (reached held.old.fence.room (R.coming source.old)) (R.behind source.old) ≡ Why.Read → ⊥) }
     ensures kept { R.errors source.old ≤ R.errors source.new }
     ensures foretold { R.known source.old ≡ true → R.errors source.new ≡ R.errors source.old → R.behind source.new ≡ R.behind source.old }
     ensures err { IfErr result (λ e. (e ≡ Why.Read)
         × (R.known source.old ≡ true → R.errors source.new ≡ R.errors source.old
-        → ((held.old.word ++ bits_of held.old.bytes) ++ bits_of (R.coming source.old) ≡ []) × (is_some ((R.behind source.old).fails) ≡ true))
+        → (left_of held.old (R.coming source.old) ≡ []) × (reason_of (reached held.old.fence.room (R.coming source.old)) (R.behind source.old) ≡ Why.Read)
+        × (fenced_of held.new (R.coming source.new) ≡ fenced_of held.old (R.coming source.old)))
         × (R.known source.old ≡ true → R.raised source.old < R.raised source.new)) }
 {
     if held.ready() > 0 {
@@ -80,17 +72,18 @@ fn refill<R: Source>(held: &mut Held, source: &mut R) -> Result<bool, Why>
     ensures names { R.names source.new ≡ R.names source.old }
     ensures mark { held.new.mark ≡ held.old.mark }
     ensures ok { IfOk result (λ _. (R.known source.old ≡ true → R.known source.new ≡ true) × (R.errors source.new ≡ R.errors source.old) × (R.raised source.new ≡ R.raised source.old)
-        × (8 * R.most source.new + length (held.new.word ++ bits_of held.new.bytes) ≤ 8 * R.most source.old + length (held.old.word ++ bits_of held.old.bytes))
-        × (R.known source.old ≡ true → (held.new.word ++ bits_of held.new.bytes) ++ bits_of (R.coming source.new) ≡ (held.old.word ++ bits_of held.old.bytes) ++ bits_of (R.coming source.old))) }
+        × (8 * R.most source.new + most_of held.new ≤ 8 * R.most source.old + most_of held.old)
+        × (R.known source.old ≡ true → SameBits held.old (R.coming source.old) held.new (R.coming source.new))) }
     ensures more { result ≡ Ok true → 0 < length held.new.bytes }
     ensures word { held.new.word ≡ [] }
     ensures over { result ≡ Ok false → R.known source.old ≡ true
-        → ((held.old.word ++ bits_of held.old.bytes) ++ bits_of (R.coming source.old) ≡ []) × ((R.behind source.old).fails ≡ None) }
+        → (left_of held.old (R.coming source.old) ≡ []) × (reason_of (reached held.old.fence.room (R.coming source.old)) (R.behind source.old) ≡ Why.Read → ⊥) }
     ensures kept { R.errors source.old ≤ R.errors source.new }
     ensures foretold { R.known source.old ≡ true → R.errors source.new ≡ R.errors source.old → R.behind source.new ≡ R.behind source.old }
     ensures err { IfErr result (λ e. (e ≡ Why.Read)
         × (R.known source.old ≡ true → R.errors source.new ≡ R.errors source.old
-        → ((held.old.word ++ bits_of held.old.bytes) ++ bits_of (R.coming source.old) ≡ []) × (is_some ((R.behind source.old).fails) ≡ true))
+        → (left_of held.old (R.coming source.old) ≡ []) × (reason_of (reached held.old.fence.room (R.coming source.old)) (R.behind source.old) ≡ Why.Read)
+        × (fenced_of held.new (R.coming source.new) ≡ fenced_of held.old (R.coming source.old)))
         × (R.known source.old ≡ true → R.raised source.old < R.raised source.new)) }
 {
     held.put_back();
@@ -106,7 +99,7 @@ impl<R: Source> BitReader<R> {
           known = R.known source;
           errors = R.errors source;
           raised = R.raised source;
-          behind = R.behind source;
+          behind = without_fence (R.behind source);
           most = 8 * R.most source;
           names = R.names source;
           cursor = record { left = bits_of (R.coming source); mark = record { unread = 0; bytes = 0; check8 = 0; check16 = 0; short = short_of ((R.behind source).fails) } };
@@ -146,7 +139,7 @@ impl<R: Source> BitReader<R> {
     {
         match fill(&mut self.held, &mut self.source) {
             Ok(true) => Ok(self.held.take(1) == 1),
-            Ok(false) => Err(Why::Truncated),
+            Ok(false) => Err(self.held.short()),
             Err(why) => Err(why),
         }
     }
@@ -419,7 +412,7 @@ impl<R: Source> BitReader<R> {
         ensures spends { OnOk result (self.new.most ≤ self.old.most) }
         ensures counts { Counts self.old self.new result }
         ensures over { IfOk result (λ over. self.old.known ≡ true → (self.new.cursor ≡ self.old.cursor) × (over ≡ is_nil self.old.cursor.left)) }
-        ensures read { IfErr result (λ e. e ≡ Why.Read) }
+        ensures read { IfErr result (λ e. (e ≡ Why.Read) × (self.old.known ≡ true → self.new.errors ≡ self.old.errors → (self.old.cursor.left ≡ []) × (self.old.cursor.mark.short ≡ Why.Read))) }
     {
         match fill(&mut self.held, &mut self.source) {
             Ok(more) => Ok(!more),
@@ -433,7 +426,7 @@ impl<R: Source> BitReader<R> {
         ensures told { self.known ≡ true → R.known result ≡ true }
         ensures errors { R.errors result ≡ self.errors }
         ensures raised { R.raised result ≡ self.raised }
-        ensures behind { R.behind result ≡ self.behind }
+        ensures behind { without_fence (R.behind result) ≡ without_fence self.behind }
         ensures names { R.names result ≡ self.names }
     {
         let BitReader { source, held: _ } = self;
@@ -471,6 +464,7 @@ impl<R: Source> BitReader<R> {
 
     /// The bits up to the next whole byte, and whether they are zeros.
     pub fn align(&mut self) -> Result<bool, Why>
+        ensures spends { OnOk result (self.new.most ≤ self.old.most) }
         ensures counts { Counts self.old self.new result }
         ensures reads { Reads (λ b. b) to_byte self.old self.new result }
     {

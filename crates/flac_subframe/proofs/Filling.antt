@@ -9,7 +9,8 @@ use Rattle.flac_bits.specs.Lists.{list_of, behind}
 use Rattle.flac_bits.specs.Reading.{Goes}
 use Rattle.flac_bits.proofs.Loops.{goes_on}
 use Rattle.flac_bits.proofs.Lists.{list_more, list_end, list_start}
-use Rattle.flac_subframe.specs.Numbers.{FitsBits, sample_at}
+use Rattle.flac_bits.specs.Signed.{FitsBits}
+use Rattle.flac_subframe.specs.Numbers.{sample_at}
 use Rattle.flac_subframe.proofs.Steps.{starts}
 
 -- the first i of n places are filled with what was read, of numbers of so many bits
@@ -32,7 +33,7 @@ module _ (l : Layout ℤ) (width : ℕ) (old : State) (n : ℕ) where
       let last = get_or-set_same out i v (pos 0) (omega (arith, long)) in
       rw same (record {
         goes = goes_on old now next (run l now.cursor) v more _ _ _ so.goes (list_more n i l now.cursor (take i out) lt)
-          (ap (λ front. and_then (run (list_of (n - (i + 1)) l) next.cursor) (behind front)) (sym (take-set_at out i (i + 1) v refl (omega (arith, long))))) counts reads;
+            (ap (λ front. and_then (run (list_of (n - (i + 1)) l) next.cursor) (behind front)) (sym (take-set_at out i (i + 1) v refl (omega (arith, long))))) counts reads;
         fits = below_more _ i (λ k h. rw (get_or-set_other out i k v (pos 0) (λ e. omega arith)) (so.fits k h)) (rw last fit);
         spent = omega (arith, so.spent);
       })

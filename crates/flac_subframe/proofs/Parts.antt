@@ -8,7 +8,8 @@ use Rattle.flac_bits.specs.State.{Cursor, State}
 use Rattle.flac_bits.specs.Layout.{Layout, run, and_then, bind, done, Reason}
 use Rattle.flac_bits.specs.Reading.{Goes}
 use Rattle.flac_bits.proofs.Loops.{goes_on}
-use Rattle.flac_subframe.specs.Numbers.{FitsBits, sample_at}
+use Rattle.flac_bits.specs.Signed.{FitsBits}
+use Rattle.flac_subframe.specs.Numbers.{sample_at}
 use Rattle.flac_subframe.specs.Residual.{Partition, partition, partitions, all_values}
 use Rattle.flac_subframe.proofs.Steps.{starts, and_then_and_then, same_then}
 
@@ -106,8 +107,8 @@ module _ (w order size n : ℕ) (old : State) where
         let size_is : end + size - end ≡ size = omega arith in
         record {
           goes = goes_on old now next (run (one_partition w m) now.cursor) part more _ _ _ so.goes
-            (rw whole (parts_more w (end - start) size n i (take start out) now.cursor lt))
-            (rw (front, size_is) refl) counts reads;
+              (rw whole (parts_more w (end - start) size n i (take start out) now.cursor lt))
+              (rw (front, size_is) refl) counts reads;
           cuts = rw kept (cuts_more order size n (length out) start end i lt so.cuts);
           fits = rw front (All-append (FitsBits 32) (take start out) part so.fits fit);
           spent = omega (arith, so.spent);

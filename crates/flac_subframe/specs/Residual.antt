@@ -4,7 +4,7 @@ use Rattle.flac_bits.specs.Layout.{Layout, done, bits, judge, choose, ◌>>=◌}
 use Rattle.flac_bits.specs.Lists.{list_of}
 use Rattle.flac_bits.specs.Rice.{rice_value}
 use Rattle.flac_bits.specs.declared.why.Why.TheVariants.{NotSubset, BadPartition}
-use Rattle.flac_subframe.specs.Fields.{signed_field}
+use Rattle.flac_bits.specs.Signed.{signed_field}
 
 -- a Rice parameter, or how many bits each value has that is not coded (section 9.2.7.1)
 pub data Coding : Type 0 where
@@ -48,16 +48,22 @@ partitions parameter_bits first size (suc n) = do
 abbrev pub can_halve : ℕ → ℕ → ℕ → Bool
 can_halve block times order = nat_eq (block % 2 ^ times) 0 && nat_lt order (block / 2 ^ times)
 
--- The residual of a predictor of an order in a block, with a limit on the partition order: the method, 0 or 1, gives the bits of a
--- parameter, 4 or 5; the first partition lacks the values of the warm-up samples (section 9.2.7).
-unfoldable pub residual : ℕ → ℕ → ℕ → Layout Residual
-residual limit order block = do
+-- The coding method, 0 or 1, and the partition order, with a limit on it (section 9.2.7).
+unfoldable pub residual_header : ℕ → ℕ → ℕ → Layout (ℕ × ℕ)
+residual_header limit order block = do
   method ← bits 2
   _ ← judge (record { broken = nat_lt 1 method; why = BadPartition } ∷ [])
   times ← bits 4
   _ ← judge (record { broken = nat_lt limit times; why = NotSubset } ∷ record { broken = not (can_halve block times order); why = BadPartition } ∷ [])
-  parts ← partitions (4 + method) (block / 2 ^ times - order) (block / 2 ^ times) (2 ^ times)
-  done (record { method = method; order = times; partitions = parts })
+  done (method, times)
+
+-- The residual of a predictor of an order in a block: the method gives the bits of a parameter, 4 or 5; the first partition lacks the values of the
+-- warm-up samples (section 9.2.7).
+unfoldable pub residual : ℕ → ℕ → ℕ → Layout Residual
+residual limit order block = do
+  h ← residual_header limit order block
+  parts ← partitions (4 + h.0) (block / 2 ^ h.1 - order) (block / 2 ^ h.1) (2 ^ h.1)
+  done (record { method = h.0; order = h.1; partitions = parts })
 
 abbrev pub all_values : List Partition → List ℤ
 all_values parts = flat_map (λ p. p.values) parts

@@ -1,8 +1,7 @@
 use Rattle.std.proofs.Common.{◌≡◌, ◌++◌, ◌∷◌, ◌+◌, ◌*◌, ◌≤◌, ℕ, List, Bool, true, false, length, [], Result, Ok, Err, IfOk, sym, ap, ◌∙◌, arith, refl}
-use Rattle.flac_bits.specs.Bits.{bits_of}
 use Rattle.flac_bits.specs.Store.{Store, HoldsSame}
 use Rattle.flac_bits.specs.declared.why.Why.{Why}
-use Rattle.flac_bits.proofs.Holding.{length-bits_of, bits_of-append}
+use Rattle.flac_bits.proofs.Standing.{same_bits, then_same, came_bits, same_most, came_most}
 use Rattle.flac_bits.proofs.reader.refill.Goals as goal
 
 nothing : (w : List Bool) → length w ≡ 0 → w ≡ []
@@ -18,15 +17,11 @@ returns-clause-ok g c =
     let same = c.put_back.ensures.same in
     let empty : c.put_back.new.self.word ≡ [] = nothing _ (c.put_back.ensures.part ∙ c.requires) in
     let out : c.put_back.new.self.bytes ≡ [] = c.is_drained.ensures.0 c.if-not-is_drained.false in
-    let none : c.args.held.now.word ++ bits_of c.args.held.now.bytes ≡ [] = sym same.0 ∙ rw (empty, out) refl in
-    let held : c.pull.new.self.word ++ bits_of c.pull.new.self.bytes ≡ bits_of c.pull.new.self.bytes = ap (λ w. w ++ bits_of c.pull.new.self.bytes) c.pull.ensures.word in
-    let many = ap (λ (bs : List Bool). length bs) held ∙ length-bits_of c.pull.new.self.bytes in
     where_ok c.pull.result c.pull.ensures.ok (λ ok. (
       ok.0,
       ok.1,
       ok.2,
-      omega (arith, many, ok.3),
-      λ known.
-          ap (λ bs. bs ++ bits_of (g.R.Source.coming c.pull.new.source)) held ∙ sym (bits_of-append c.pull.new.self.bytes (g.R.Source.coming c.pull.new.source)) ∙ ap bits_of (sym (ok.4 known))
-          ∙ ap (λ bs. bs ++ bits_of (g.R.Source.coming c.args.source.now)) (sym none),
+      omega (arith, came_most c.put_back.new.self c.pull.new.self (g.R.Source.most c.args.source.now) (g.R.Source.most c.pull.new.source) empty out c.pull.ensures.word ok.3, same_most c.args.held.now c.put_back.new.self same),
+      λ known. then_same c.args.held.now c.put_back.new.self c.pull.new.self (g.R.Source.coming c.args.source.now) (g.R.Source.coming c.args.source.now) (g.R.Source.coming c.pull.new.source)
+          (same_bits c.args.held.now c.put_back.new.self (g.R.Source.coming c.args.source.now) same) (came_bits c.put_back.new.self c.pull.new.self _ _ empty out c.pull.ensures.word (ok.4 known)),
     ))

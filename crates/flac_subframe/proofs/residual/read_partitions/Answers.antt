@@ -21,7 +21,7 @@ returns-in_err-read_partition-clause-reads g c = λ known same.
     let within = cuts_within c.args.order c.args.size c.args.count (length c.loop-i.out) c.loop-i.start c.loop-i.end c.loop-i.i c.loop-i-test.true so.cuts in
     let fails = c.in_err-read_partition.ensures.reads (so.goes.known known) (same ∙ sym so.goes.errors) in
     let whole = parts_fail c.args.parameter_bits c.args.order c.args.size c.args.count c.args.bits.now c.loop-i.bits c.read_partition.new.bits c.loop-i.out c.read_partition.new.out c.loop-i.start c.loop-i.end c.loop-i.i
-        (length (mid_of c.loop-i.start (c.loop-i.end - c.loop-i.start) c.loop-i.out)) c.loop-i-test.true so (length_mid c.loop-i.start c.loop-i.end c.loop-i.out so.cuts.ordered within) _ fails known in
+    (length (mid_of c.loop-i.start (c.loop-i.end - c.loop-i.start) c.loop-i.out)) c.loop-i-test.true so (length_mid c.loop-i.start c.loop-i.end c.loop-i.out so.cuts.ordered within) _ fails known in
     grind (arith, whole)
 
 pub returns-clause-fits : goal.returns-clause-fits

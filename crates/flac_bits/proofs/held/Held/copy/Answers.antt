@@ -13,7 +13,7 @@ invariant_of-self c =
     let n = c.min-n.result in
     let none = ap (λ (s : Store). s.word) c.self.view_is ∙ c.requires in
     let within : c.self.inside.place + n ≤ c.self.inside.end = omega (arith, inv.1, c.min-n.ensures) in
-    (omega (arith, inv.0), within, inv.2, copied_tie c.self.inside.bytes c.self.inside.from c.self.inside.place c.self.inside.end n c.self.inside.word inv.0 within (omega (arith, inv.2, inv.4)) none, inv.4)
+    (omega (arith, inv.0), within, inv.2, copied_tie c.self.inside.bytes c.self.inside.from c.self.inside.place c.self.inside.end n c.self.inside.word inv.0 within (omega (arith, inv.2, inv.4)) none, inv.4, inv.5, inv.6, inv.7)
 
 pub returns-clause-taken : goal.returns-clause-taken
 returns-clause-taken c =
@@ -29,4 +29,5 @@ returns-clause-taken c =
     rw put (
       sym (ap (λ (s : Store). s.word ++ bits_of s.bytes) c.self.view_is) ∙ copied_left c.self.inside.bytes c.self.inside.from c.self.inside.place c.self.inside.end n c.self.inside.word inv.0 within inside none,
       copied_mark c.self.inside.bytes c.self.inside.from c.self.inside.place c.self.inside.end n c.self.inside.word inv.0 within inside none _ ∙ ap (λ (s : Store). past (bits_of ys) s.mark) c.self.view_is,
+      ap (λ (s : Store). s.fence) c.self.view_is,
     )

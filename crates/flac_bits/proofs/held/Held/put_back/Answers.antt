@@ -26,7 +26,7 @@ invariant_of-self c =
     let inside : c.self.inside.end ≤ length c.self.inside.bytes = omega (arith, inv.2, inv.4) in
     let long = whole_tail c.self.inside.word c.keep.new.self kept.0 c.count-count.result kept.1 kept.2 c.count-count.ensures.0 in
     let fits = back_fits c.self.inside.bytes c.self.inside.from c.self.inside.place c.self.inside.end q c.self.inside.word c.keep.new.self kept.0 inv.0 inv.1 inside kept.1 long inv.3 in
-    (omega (arith, fits), omega (arith, inv.1), inv.2, back_tie c.self.inside.bytes c.self.inside.from c.self.inside.place c.self.inside.end q c.self.inside.word c.keep.new.self kept.0 inv.0 inv.1 inside kept.1 long inv.3, inv.4)
+    (omega (arith, fits), omega (arith, inv.1), inv.2, back_tie c.self.inside.bytes c.self.inside.from c.self.inside.place c.self.inside.end q c.self.inside.word c.keep.new.self kept.0 inv.0 inv.1 inside kept.1 long inv.3, inv.4, inv.5, inv.6, inv.7)
 
 pub returns-clause-same : goal.returns-clause-same
 returns-clause-same c =
@@ -39,6 +39,7 @@ returns-clause-same c =
           ∙ ap (λ (s : Store). s.word ++ bits_of s.bytes) c.self.view_is,
       back_mark c.self.inside.bytes c.self.inside.from c.self.inside.place c.self.inside.end q c.self.inside.word c.keep.new.self kept.0 inv.0 inv.1 inside kept.1 long inv.3 _
           ∙ ap (λ (s : Store). s.mark) c.self.view_is,
+      ap (λ (s : Store). s.fence) c.self.view_is,
     )
 
 pub returns-clause-part : goal.returns-clause-part

@@ -14,7 +14,7 @@ invariant_of-self c =
     let inside : c.self.inside.end ≤ length c.self.inside.bytes = omega (arith, inv.2, c.self.told) in
     let put : c.put.new.self ≡ c.self.inside.word ++ unsigned 32 c.four_bytes.result = c.put.ensures in
     let put_is : c.put.new.self ≡ c.self.inside.word ++ bits_of (four_at c.self.inside.bytes c.self.inside.place) = put ∙ ap (λ bs. c.self.inside.word ++ bs) c.four_bytes.ensures in
-    (omega (arith, inv.0), room, inv.2, came_four _ _ _ _ _ inv.0 (omega (arith, room, inside)) put_is inv.3, inv.4)
+    (omega (arith, inv.0), room, inv.2, came_four _ _ _ _ _ inv.0 (omega (arith, room, inside)) put_is inv.3, inv.4, inv.5, inv.6, inv.7)
 
 pub returns-then-self-place-ge4 : goal.returns-then-self-place-ge4
 returns-then-self-place-ge4 c =
@@ -27,4 +27,4 @@ returns-then-self-place-ge4 c =
     let inside : c.self.inside.end ≤ length c.self.inside.bytes = omega (arith, inv.2, c.self.told) in
     let put : c.put.new.self ≡ c.self.inside.word ++ unsigned 32 c.four_bytes.result = c.put.ensures in
     let put_is : c.put.new.self ≡ c.self.inside.word ++ bits_of (four_at c.self.inside.bytes c.self.inside.place) = put ∙ ap (λ bs. c.self.inside.word ++ bs) c.four_bytes.ensures in
-    (came_four_left _ _ _ _ _ room inside put_is ∙ ap (λ bs. bs ++ bits_of (drop c.self.inside.place (take c.self.inside.end c.self.inside.bytes))) word_is ∙ ap (λ bs. c.args.self.now.word ++ bits_of bs) bytes_is, came_four_mark _ _ _ _ _ _ inv.0 (omega (arith, room, inside)) put_is inv.3 ∙ mark_is)
+    (came_four_left _ _ _ _ _ room inside put_is ∙ ap (λ bs. bs ++ bits_of (drop c.self.inside.place (take c.self.inside.end c.self.inside.bytes))) word_is ∙ ap (λ bs. c.args.self.now.word ++ bits_of bs) bytes_is, came_four_mark _ _ _ _ _ _ inv.0 (omega (arith, room, inside)) put_is inv.3 ∙ mark_is, ap (λ (s : Store). s.fence) c.self.view_is)

@@ -1,7 +1,16 @@
-use Rattle.std.proofs.Common.{◌≡◌, ◌≤◌, ◌++◌, ◌∷◌, [], ℕ, List, Bool, true, false, not, length, Ok, sym, ap, ◌∙◌, arith, refl}
+use Rattle.std.proofs.Common.{◌≡◌, ◌++◌, ◌+◌, ◌-◌, ◌*◌, ◌%◌, ◌<◌, ◌≤◌, ℕ, List, Bool, true, false, not, [], ◌∷◌, length, take, Option, Some, None, Ok, Err, sym, ap, ◌∙◌, arith, refl, append_assoc}
+use Rattle.std.proofs.lemmas.List.{length-append, length-take}
 use Rattle.flac_bits.specs.Bits.{bits_of, is_nil}
-use Rattle.flac_bits.specs.State.{State, Cursor, Behind, short_of, with_short}
-use Rattle.flac_bits.proofs.Fields.{cursor_of}
+use Rattle.flac_bits.specs.Store.{Store, Passes, Fence, allowed, reached, reason_of, left_of, most_of, SameBits}
+use Rattle.flac_bits.specs.State.{State, Mark, Cursor, Behind, past, with_short}
+use Rattle.flac_bits.specs.Layout.{because}
+use Rattle.flac_bits.specs.declared.why.Why.{Why}
+use Rattle.flac_bits.specs.declared.why.Why.TheVariants.{Read}
+use Rattle.flac_bits.proofs.Fields.{past-with_short, bit_read, bit_none}
+use Rattle.flac_bits.proofs.Holding.{length-bits_of}
+use Rattle.flac_bits.proofs.Marks.{past-unread}
+use Rattle.flac_bits.proofs.Standing.{short_is, no_bytes, same_reason, same_behind}
+use Rattle.std.proofs.lemmas.List.{append-nil}
 use Rattle.flac_bits.proofs.reader.BitReader.at_end.Goals as goal
 use Rattle.flac_bits.proofs.reader.BitReader.at_end.Goals.{in-Ok, in-Err}
 
@@ -16,12 +25,13 @@ returns-clause-over g c = elim c.match-fill.branch [
       let told = ap (λ (s : State). s.known) c.self.view_is ∙ known in
       let cursor_is = ap (λ (s : State). s.cursor) c.self.view_is in
       let ok = w.in-Ok.ensures.ok in
-      let left = ok.4 told in
-      let same : cursor_of (short_of ((g.R.Source.behind c.fill.new.source).fails)) c.fill.new.held (bits_of (g.R.Source.coming c.fill.new.source)) ≡ c.args.self.now.cursor =
-      rw (left, c.fill.ensures.mark, c.fill.ensures.foretold told ok.1) cursor_is in (
-        same,
-        over_is w.in-Ok.more c.fill.new.held.word (bits_of c.fill.new.held.bytes) (bits_of (g.R.Source.coming c.fill.new.source)) c.args.self.now.cursor.left
-            (λ e. w.in-Ok.ensures.more (ap Ok e)) (λ e. ap (λ (s : Cursor). s.left) (sym cursor_is) ∙ (w.in-Ok.ensures.over (ap Ok e) told).0) (left ∙ ap (λ (s : Cursor). s.left) cursor_is),
+      let bits = ok.4 told in
+      let ys = g.R.Source.coming c.fill.new.source in
+      let reason = same_reason c.self.inside.held c.fill.new.held (g.R.Source.coming c.self.inside.source) ys _ _ bits (c.fill.ensures.foretold told ok.1) in
+      (
+        rw (bits.left, c.fill.ensures.mark, reason) cursor_is,
+        over_is w.in-Ok.more c.fill.new.held.word (bits_of c.fill.new.held.bytes) (bits_of (allowed c.fill.new.held.fence.room ys)) c.args.self.now.cursor.left
+            (λ e. w.in-Ok.ensures.more (ap Ok e)) (λ e. ap (λ (s : Cursor). s.left) (sym cursor_is) ∙ (w.in-Ok.ensures.over (ap Ok e) told).0) (bits.left ∙ ap (λ (s : Cursor). s.left) cursor_is),
       ))
   | in-Err w ↦ rw w.result-is tt
 ]

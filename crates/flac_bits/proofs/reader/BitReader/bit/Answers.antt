@@ -1,16 +1,16 @@
-use Rattle.std.proofs.Common.{◌≡◌, ℕ, Option, Some, None, Ok, Err, Bool, true, sym, ap, ◌∙◌, refl}
-use Rattle.std.specs.Prelude.{is_some}
-use Rattle.flac_bits.specs.Bits.{bits_of}
-use Rattle.flac_bits.specs.State.{State, Behind, short_of}
+use Rattle.std.proofs.Common.{◌≡◌, ◌++◌, ◌+◌, ◌-◌, ◌*◌, ◌%◌, ◌<◌, ◌≤◌, ℕ, List, Bool, true, false, not, [], ◌∷◌, length, take, Option, Some, None, Ok, Err, sym, ap, ◌∙◌, arith, refl, append_assoc}
+use Rattle.std.proofs.lemmas.List.{length-append, length-take}
+use Rattle.flac_bits.specs.Bits.{bits_of, is_nil}
+use Rattle.flac_bits.specs.Store.{Store, Passes, Fence, allowed, reached, reason_of, left_of, most_of, SameBits}
+use Rattle.flac_bits.specs.State.{State, Mark, Cursor, Behind, past, with_short}
 use Rattle.flac_bits.specs.Layout.{because}
 use Rattle.flac_bits.specs.declared.why.Why.{Why}
 use Rattle.flac_bits.specs.declared.why.Why.TheVariants.{Read}
-use Rattle.flac_bits.proofs.Fields.{bit_read, bit_none}
+use Rattle.flac_bits.proofs.Fields.{past-with_short, bit_read, bit_none}
+use Rattle.flac_bits.proofs.Holding.{length-bits_of}
+use Rattle.flac_bits.proofs.Marks.{past-unread}
+use Rattle.flac_bits.proofs.Standing.{short_is, no_bytes, same_reason, same_behind}
 use Rattle.flac_bits.proofs.reader.BitReader.bit.Goals as goal
-
-read_short : (o : Option (ℕ × Why)) → is_some o ≡ true → short_of o ≡ Read
-read_short None e = absurd cc
-read_short (Some f) e = refl
 
 pub returns-in-Err-clause-reads : goal.returns-in-Err-clause-reads
 returns-in-Err-clause-reads g c = λ known same.
@@ -18,20 +18,31 @@ returns-in-Err-clause-reads g c = λ known same.
     let errors_is = ap (λ (s : State). s.errors) c.self.view_is in
     let err = c.in-Err.ensures.err in
     let failed = err.1 (known_is ∙ known) (same ∙ sym errors_is) in
-    bit_none c.args.self.now.cursor _ c.self.inside.held (bits_of (g.R.Source.coming c.self.inside.source)) (ap (λ (s : State). s.cursor) c.self.view_is) failed.0
-    ∙ ap (λ w. Err (because w)) (read_short ((g.R.Source.behind c.self.inside.source).fails) failed.1 ∙ sym err.0)
+    bit_none c.args.self.now.cursor _ c.self.inside.held (bits_of (allowed c.self.inside.held.fence.room (g.R.Source.coming c.self.inside.source))) (ap (λ (s : State). s.cursor) c.self.view_is) failed.0
+    ∙ ap (λ w. Err (because w)) (failed.1 ∙ sym err.0)
 
 pub returns-in-Ok-false-clause-reads : goal.returns-in-Ok-false-clause-reads
 returns-in-Ok-false-clause-reads g c = λ known same.
-    let known_is = ap (λ (s : State). s.known) c.self.view_is in
-    let over = c.in-Ok-false.ensures.over (ap Ok c.in-Ok-false.field-0-test) (known_is ∙ known) in
-    bit_none c.args.self.now.cursor _ c.self.inside.held (bits_of (g.R.Source.coming c.self.inside.source)) (ap (λ (s : State). s.cursor) c.self.view_is) over.0
-    ∙ ap (λ (o : Option (ℕ × Why)). Err (because (short_of o))) over.1
+    let told = ap (λ (s : State). s.known) c.self.view_is ∙ known in
+    let ys = g.R.Source.coming c.fill.new.source in
+    let room = c.fill.new.held.fence.room in
+    let ok = c.in-Ok-false.ensures.ok in
+    let bits = ok.4 told in
+    let over = c.in-Ok-false.ensures.over (ap Ok c.in-Ok-false.field-0-test) told in
+    let reason = same_reason c.self.inside.held c.fill.new.held (g.R.Source.coming c.self.inside.source) ys _ _ bits (c.in-Ok-false.ensures.foretold told ok.1) in
+    let none = no_bytes (allowed room ys) (c.fill.new.held.word ++ bits_of c.fill.new.held.bytes) (bits.left ∙ over.0) in
+    let short = short_is room ys (g.R.Source.behind c.fill.new.source) c.short.result c.short.ensures.fence c.short.ensures.over none (λ e. over.1 (sym reason ∙ e)) in
+    bit_none c.args.self.now.cursor _ c.self.inside.held (bits_of (allowed c.self.inside.held.fence.room (g.R.Source.coming c.self.inside.source))) (ap (λ (s : State). s.cursor) c.self.view_is) over.0
+    ∙ ap (λ w. Err (because w)) (sym (short ∙ reason))
 
 pub returns-in-Ok-true-clause-reads : goal.returns-in-Ok-true-clause-reads
 returns-in-Ok-true-clause-reads g c = λ known same.
-    let known_is = ap (λ (s : State). s.known) c.self.view_is in
-    let errors_is = ap (λ (s : State). s.errors) c.self.view_is in
-    let filled = c.in-Ok-true.ensures.ok in
-    bit_read c.take.result c.args.self.now.cursor _ _ c.self.inside.held c.fill.new.held c.take.new.self (bits_of (g.R.Source.coming c.fill.new.source)) (bits_of (g.R.Source.coming c.self.inside.source))
-    (ap (λ (b : Behind). short_of b.fails) (c.in-Ok-true.ensures.foretold (known_is ∙ known) filled.1)) c.take.ensures.1 (ap (λ (s : State). s.cursor) c.self.view_is) c.in-Ok-true.ensures.mark (filled.4 (known_is ∙ known)) c.take.ensures.0
+    let told = ap (λ (s : State). s.known) c.self.view_is ∙ known in
+    let xs = g.R.Source.coming c.self.inside.source in
+    let ys = g.R.Source.coming c.fill.new.source in
+    let ok = c.in-Ok-true.ensures.ok in
+    let bits = ok.4 told in
+    let reason = same_reason c.self.inside.held c.fill.new.held xs ys _ _ bits (c.in-Ok-true.ensures.foretold told ok.1) in
+    let takes = c.take.ensures.0 in
+    rw takes.3 (bit_read c.take.result c.args.self.now.cursor _ _ c.self.inside.held c.fill.new.held c.take.new.self (bits_of (allowed c.fill.new.held.fence.room ys)) (bits_of (allowed c.self.inside.held.fence.room xs))
+        reason c.take.ensures.1 (ap (λ (s : State). s.cursor) c.self.view_is) c.in-Ok-true.ensures.mark bits.left takes)

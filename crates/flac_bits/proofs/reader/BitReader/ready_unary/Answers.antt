@@ -1,25 +1,5 @@
-use Rattle.std.proofs.Common.{rules, ◌≡◌, ◌<◌, ◌≤◌, ◌+◌, ◌-◌, ◌*◌, ◌/◌, ◌%◌, ◌^◌, ◌++◌, ◌∷◌, [], ℕ, List, Bool, true, false, length, take, drop, get_or, min, Option, Some, None, Result, Ok, Err, IfSome, sym, ap, ◌∙◌, arith, refl, append_assoc}
-use Rattle.std.specs.Borrow.{GName}
-use Rattle.flac_bits.specs.Bits.{unsigned, bits_of}
-use Rattle.flac_bits.specs.Meaning.{unary_bits}
-use Rattle.flac_bits.specs.Layout.{number_at, zeros_at, next_bit}
-use Rattle.flac_bits.specs.Store.{Store, passed, Takes, HoldsSame, four_at}
-use Rattle.flac_bits.specs.State.{Mark, State, Cursor, past, short_of, Behind}
-use Rattle.flac_bits.specs.declared.why.Why.{Why}
-use Rattle.flac_bits.proofs.Words.{length-unsigned}
-use Rattle.flac_bits.proofs.Fields.{cursor_of, taken_read, taken_spends, unary_read, left_is, bit_read, bit_none}
+use Rattle.flac_bits.proofs.Standing.{zeros_took}
 use Rattle.flac_bits.proofs.reader.BitReader.ready_unary.Goals as goal
 
-found : (limit : ℕ) (why : Why) (o : Option ℕ) (old new : Store) (rest : List Bool) (k l : Bool) (e f r s most : ℕ) (x y : Behind) (m n : List GName) (at : Cursor) → k ≡ l → e ≡ f → r ≡ s → x ≡ y → m ≡ n → cursor_of why old rest ≡ at
-    → IfSome o (λ q. (q ≤ limit) × Takes (unary_bits q) old new)
-    → IfSome o (λ q. (q ≤ limit) × (most + length (new.word ++ bits_of new.bytes) ≤ most + length (old.word ++ bits_of old.bytes)) × (k ≡ l) × (e ≡ f) × (r ≡ s) × (x ≡ y) × (m ≡ n) × (zeros_at limit at ≡ Ok (Some q, cursor_of why new rest)))
-found limit why None old new rest k l e f r s most x y m n at kl ef rs xy mn is some = tt
-found limit why (Some q) old new rest k l e f r s most x y m n at kl ef rs xy mn is some = (some.0, omega (arith, taken_spends (unary_bits q) old new some.1), kl, ef, rs, xy, mn, rw (← is) (unary_read limit q why old new rest some.0 some.1))
-
 pub returns-clause-some : goal.returns-clause-some
-returns-clause-some g c =
-    let known_is = ap (λ (s : State). s.known) c.self.view_is in
-    let errors_is = ap (λ (s : State). s.errors) c.self.view_is in
-    let most_is = ap (λ (s : State). s.most) c.self.view_is in
-    let cursor_is : cursor_of (short_of ((g.R.Source.behind c.self.inside.source).fails)) c.self.inside.held (bits_of (g.R.Source.coming c.self.inside.source)) ≡ c.args.self.now.cursor = ap (λ (s : State). s.cursor) c.self.view_is in
-    rw (← most_is) (found c.args.limit (short_of ((g.R.Source.behind c.self.inside.source).fails)) c.unary.result c.self.inside.held c.unary.new.self (bits_of (g.R.Source.coming c.self.inside.source)) _ _ _ _ _ _ _ _ _ _ _ _ known_is errors_is (ap (λ (s : State). s.raised) c.self.view_is) (ap (λ (s : State). s.behind) c.self.view_is) (ap (λ (s : State). s.names) c.self.view_is) cursor_is c.unary.ensures.some)
+returns-clause-some g c = zeros_took (g.R.Source.known c.self.inside.source) (g.R.Source.errors c.self.inside.source) (g.R.Source.raised c.self.inside.source) (g.R.Source.most c.self.inside.source) (g.R.Source.behind c.self.inside.source) (g.R.Source.names c.self.inside.source) (g.R.Source.coming c.self.inside.source) c.self.inside.held c.unary.new.self c.args.self.now c.self.view_is c.args.limit c.unary.result c.unary.ensures.some

@@ -1,16 +1,21 @@
-use Rattle.std.proofs.Common.{◌≡◌, ◌++◌, ◌+◌, ◌-◌, ◌*◌, ◌%◌, ◌<◌, ◌≤◌, ℕ, List, Bool, [], length, take, Option, Some, None, Ok, sym, ap, ◌∙◌, arith, refl, append_assoc}
+use Rattle.std.proofs.Common.{◌≡◌, ◌++◌, ◌+◌, ◌-◌, ◌*◌, ◌%◌, ◌<◌, ◌≤◌, ℕ, List, Bool, true, false, not, [], ◌∷◌, length, take, Option, Some, None, Ok, Err, sym, ap, ◌∙◌, arith, refl, append_assoc}
 use Rattle.std.proofs.lemmas.List.{length-append, length-take}
-use Rattle.flac_bits.specs.Bits.{bits_of}
-use Rattle.flac_bits.specs.Store.{Store, Passes}
-use Rattle.flac_bits.specs.State.{State, Mark, Behind, past, short_of, with_short}
-use Rattle.flac_bits.proofs.Fields.{past-with_short}
+use Rattle.flac_bits.specs.Bits.{bits_of, is_nil}
+use Rattle.flac_bits.specs.Store.{Store, Passes, Fence, allowed, reached, reason_of, left_of, most_of, SameBits}
+use Rattle.flac_bits.specs.State.{State, Mark, Cursor, Behind, past, with_short}
+use Rattle.flac_bits.specs.Layout.{because}
+use Rattle.flac_bits.specs.declared.why.Why.{Why}
+use Rattle.flac_bits.specs.declared.why.Why.TheVariants.{Read}
+use Rattle.flac_bits.proofs.Fields.{past-with_short, bit_read, bit_none}
 use Rattle.flac_bits.proofs.Holding.{length-bits_of}
 use Rattle.flac_bits.proofs.Marks.{past-unread}
+use Rattle.flac_bits.proofs.Standing.{short_is, no_bytes, same_reason, same_behind}
 use Rattle.flac_bits.proofs.reader.BitReader.some_bytes.Goals as goal
 
 -- how many bits were taken
-spent : (n : ℕ) (xs : List ℕ) (old new : Store) → n ≤ length xs → Passes (bits_of (take n xs)) old new → length (old.word ++ bits_of old.bytes) ≡ 8 * n + length (new.word ++ bits_of new.bytes)
-spent n xs old new le passes = omega (arith, ap (λ (bs : List Bool). length bs) (passes.0), length-append (bits_of (take n xs)) (new.word ++ bits_of new.bytes), length-bits_of (take n xs), length-take n xs, le)
+spent : (n : ℕ) (xs : List ℕ) (old new : Store) → n ≤ length xs → Passes (bits_of (take n xs)) old new → most_of old ≡ 8 * n + most_of new
+spent n xs old new le passes =
+    omega (arith, ap (λ (bs : List Bool). length bs) (passes.0), length-append (bits_of (take n xs)) (new.word ++ bits_of new.bytes), length-bits_of (take n xs), length-take n xs, le, ap (λ (f : Fence). length f.hidden) (passes.2))
 
 pub returns-in-Ok-true-clause-spends : goal.returns-in-Ok-true-clause-spends
 returns-in-Ok-true-clause-spends g c =
@@ -26,15 +31,18 @@ pub returns-in-Ok-true-clause-taken : goal.returns-in-Ok-true-clause-taken
 returns-in-Ok-true-clause-taken g c = λ known.
     let told = ap (λ (s : State). s.known) c.self.view_is ∙ known in
     let ok = c.in-Ok-true.ensures.ok in
+    let bits = ok.4 told in
+    let ys = g.R.Source.coming c.refill.new.source in
     let text = bits_of (take c.copy.result c.copy.new.out) in
-    let rest = bits_of (g.R.Source.coming c.refill.new.source) in
-    let why = short_of ((g.R.Source.behind c.refill.new.source).fails) in
-    let left = ok.4 told ∙ ap (λ (s : State). s.cursor.left) c.self.view_is in
+    let rest = bits_of (allowed c.refill.new.held.fence.room ys) in
+    let why = reason_of (reached c.refill.new.held.fence.room ys) (g.R.Source.behind c.refill.new.source) in
+    let reason = same_reason c.self.inside.held c.refill.new.held (g.R.Source.coming c.self.inside.source) ys _ _ bits (c.in-Ok-true.ensures.foretold told ok.1) in
+    let left = bits.left ∙ ap (λ (s : State). s.cursor.left) c.self.view_is in
     let marked : with_short why c.refill.new.held.mark ≡ c.args.self.now.cursor.mark =
-    ap (λ (b : Behind). with_short (short_of b.fails) c.refill.new.held.mark) (c.in-Ok-true.ensures.foretold told ok.1) ∙ ap (λ m. with_short (short_of ((g.R.Source.behind c.self.inside.source).fails)) m) c.in-Ok-true.ensures.mark ∙ ap (λ (s : State). s.cursor.mark) c.self.view_is in (
+    ap (λ w. with_short w c.refill.new.held.mark) reason ∙ ap (with_short _) c.in-Ok-true.ensures.mark ∙ ap (λ (s : State). s.cursor.mark) c.self.view_is in
+    rw c.copy.ensures.taken.2 (
       sym left ∙ ap (λ bs. bs ++ rest) (c.copy.ensures.taken.0) ∙ append_assoc text (c.copy.new.self.word ++ bits_of c.copy.new.self.bytes) rest,
-      ap (with_short why) (c.copy.ensures.taken.1) ∙ sym (past-with_short text why c.refill.new.held.mark) ∙ ap (past text) marked,
-    )
+      ap (with_short why) (c.copy.ensures.taken.1) ∙ sym (past-with_short text why c.refill.new.held.mark) ∙ ap (past text) marked)
 
 pub returns-in-Ok-true-clause-over : goal.returns-in-Ok-true-clause-over
 returns-in-Ok-true-clause-over g c = λ zero room known.
@@ -42,4 +50,4 @@ returns-in-Ok-true-clause-over g c = λ zero room known.
     let out : c.copy.new.self.bytes ≡ [] = c.copy.ensures.all (omega (arith, n, room)) in
     let more : 0 < length c.refill.new.held.bytes = c.in-Ok-true.ensures.more (ap Ok c.in-Ok-true.field-0-test) in
     let long = spent c.copy.result c.copy.new.out c.refill.new.held c.copy.new.self c.copy.ensures.bound c.copy.ensures.taken in
-    absurd (omega (arith, n, more, long, length-append c.refill.new.held.word (bits_of c.refill.new.held.bytes), length-bits_of c.refill.new.held.bytes, ap (λ (bs : List Bool). length bs) c.copy.ensures.word, length-append c.copy.new.self.word (bits_of c.copy.new.self.bytes), length-bits_of c.copy.new.self.bytes, ap (λ (xs : List ℕ). length xs) out))
+    absurd (omega (arith, n, more, long, length-append c.refill.new.held.word (bits_of c.refill.new.held.bytes), length-bits_of c.refill.new.held.bytes, ap (λ (bs : List Bool). length bs) c.copy.ensures.word, length-append c.copy.new.self.word (bits_of c.copy.new.self.bytes), length-bits_of c.copy.new.self.bytes, ap (λ (xs : List ℕ). length xs) out, ap (λ (f : Fence). length f.hidden) (c.copy.ensures.taken.2)))

@@ -1,0 +1,97 @@
+-- What a reader stands at, by what it holds and the source behind it.
+use Rattle.std.proofs.Common.{◌≡◌, ℕ, zero, suc, ◌+◌, ◌-◌, ◌*◌, ◌^◌, ◌<◌, ◌≤◌, Bool, true, false, List, [], ◌∷◌, ◌++◌, length, Option, Some, None, Result, Ok, Err, IfSome, refl, sym, ap, ◌∙◌, arith, append_assoc}
+use Rattle.std.specs.Borrow.{GName}
+use Rattle.std.proofs.Math.Dec.{leb-zero}
+use Rattle.std.proofs.lemmas.Bool.Decides.{nat_tests}
+use Rattle.std.specs.Prelude.{nat_le}
+use Rattle.std.proofs.lemmas.List.{length-append}
+use Rattle.flac_bits.specs.Bits.{unsigned, bits_of}
+use Rattle.flac_bits.specs.State.{Mark, Cursor, State, Behind, past, with_short, short_of}
+use Rattle.flac_bits.specs.Layout.{number_at, zeros_at, run}
+use Rattle.flac_bits.specs.Meaning.{unary_bits}
+use Rattle.flac_bits.specs.Rice.{rice}
+use Rattle.flac_bits.specs.Store.{Store, Fence, Takes, HoldsSame, Passes, Came, SameBits, allowed, forbidden, reached, left_of, fenced_of, most_of, reason_of, state_of}
+use Rattle.flac_bits.specs.declared.why.Why.{Why}
+use Rattle.flac_bits.specs.declared.why.Why.TheVariants.{Read, Truncated, FrameTooLong}
+use Rattle.flac_bits.proofs.Words.{length-unsigned}
+use Rattle.flac_bits.proofs.Holding.{length-bits_of, bits_of-append}
+use Rattle.flac_bits.proofs.Fields.{taken_read, taken_spends, unary_read, rice_read}
+
+module _ (known : Bool) (errors raised most : ℕ) (behind : Behind) (names : List GName) (coming : List ℕ) (old new : Store) (s : State) (is : state_of known errors raised most behind names coming old ≡ s) where
+  abbrev t : State
+  t = state_of known errors raised most behind names coming new
+
+  pub number_took : (n v : ℕ) → Takes (unsigned n v) old new → v < 2 ^ n
+      → (v < 2 ^ n) × (t.most + n ≡ s.most) × (t.known ≡ s.known) × (t.errors ≡ s.errors) × (t.raised ≡ s.raised) × (t.behind ≡ s.behind) × (t.names ≡ s.names) × (number_at n s.cursor ≡ Ok (v, t.cursor))
+  number_took n v takes lt =
+      let spent = taken_spends (unsigned n v) old new takes in
+      rw (← is, takes.3) (lt, omega (arith, spent, length-unsigned n v), refl, refl, refl, refl, refl, taken_read n v _ old new _ lt takes)
+
+  pub zeros_took : (limit : ℕ) (o : Option ℕ) → IfSome o (λ q. (q ≤ limit) × Takes (unary_bits q) old new)
+      → IfSome o (λ q. (q ≤ limit) × (t.most ≤ s.most) × (t.known ≡ s.known) × (t.errors ≡ s.errors) × (t.raised ≡ s.raised) × (t.behind ≡ s.behind) × (t.names ≡ s.names) × (zeros_at limit s.cursor ≡ Ok (Some q, t.cursor)))
+  zeros_took limit None some = tt
+  zeros_took limit (Some q) (le, takes) =
+      let spent = taken_spends (unary_bits q) old new takes in
+      rw (← is, takes.3) (le, omega (arith, spent), refl, refl, refl, refl, refl, unary_read limit q _ old new _ le takes)
+
+  pub rice_took : (k limit : ℕ) (o : Option ℕ) → IfSome o (λ v. (q : ℕ) × (low : ℕ) × (q ≤ limit) × (low < 2 ^ k) × (v ≡ q * 2 ^ k + low) × Takes (unary_bits q ++ unsigned k low) old new)
+      → IfSome o (λ v. (t.most ≤ s.most) × (t.known ≡ s.known) × (t.errors ≡ s.errors) × (t.raised ≡ s.raised) × (t.behind ≡ s.behind) × (t.names ≡ s.names) × (run (rice k limit) s.cursor ≡ Ok (v, t.cursor)))
+  rice_took k limit None some = tt
+  rice_took k limit (Some v) (q, low, le, lt, e, takes) =
+      let spent = taken_spends (unary_bits q ++ unsigned k low) old new takes in
+      rw (← is, takes.3) (omega (arith, spent), refl, refl, refl, refl, refl, rice_read k limit q low v _ old new _ le lt e takes)
+
+  pub held_same : HoldsSame old new → t ≡ s
+  held_same same = rw (← is, same.0, same.1, same.2) refl
+
+-- ---- bits come
+
+pub same_bits : (old new : Store) (coming : List ℕ) → HoldsSame old new → SameBits old coming new coming
+same_bits old new coming same = rw same.2 (record { left = ap (λ bs. bs ++ bits_of (allowed old.fence.room coming)) (same.0); fenced = refl; reached = refl })
+
+pub then_same : (a b c : Store) (xs ys zs : List ℕ) → SameBits a xs b ys → SameBits b ys c zs → SameBits a xs c zs
+then_same a b c xs ys zs p q = record { left = q.left ∙ p.left; fenced = q.fenced ∙ p.fenced; reached = q.reached ∙ p.reached }
+
+pub came_bits : (old new : Store) (xs ys : List ℕ) → old.word ≡ [] → old.bytes ≡ [] → new.word ≡ [] → Came old.fence xs new.bytes new.fence ys → SameBits old xs new ys
+came_bits old new xs ys empty out none came = rw (empty, out, none) (record {
+  left = sym (bits_of-append new.bytes (allowed new.fence.room ys)) ∙ ap bits_of (sym came.left);
+  fenced = ap bits_of (sym came.fenced);
+  reached = came.reached;
+})
+
+pub same_most : (old new : Store) → HoldsSame old new → most_of new ≡ most_of old
+same_most old new same = rw (same.0, same.2) refl
+
+pub came_most : (old new : Store) (m n : ℕ) → old.word ≡ [] → old.bytes ≡ [] → new.word ≡ [] → n + length new.bytes + length new.fence.hidden ≤ m + length old.fence.hidden → 8 * n + most_of new ≤ 8 * m + most_of old
+came_most old new m n empty out none le = rw (empty, out, none) (omega (arith, le, length-bits_of new.bytes))
+
+-- the reason where no bit is left
+pub short_is : (room : Option ℕ) (coming : List ℕ) (behind : Behind) (why : Why) → (room ≡ Some 0 → why ≡ FrameTooLong) → ((room ≡ Some 0 → ⊥) → why ≡ Truncated) → allowed room coming ≡ []
+    → (reason_of (reached room coming) behind ≡ Read → ⊥) → why ≡ reason_of (reached room coming) behind
+short_is None coming behind why fence end none other = end (λ e. absurd cc) ∙ ended behind.fails other
+  where
+    ended : (o : Option (ℕ × Why)) → (short_of o ≡ Read → ⊥) → Truncated ≡ short_of o
+    ended None other = refl
+    ended (Some f) other = absurd (other refl)
+short_is (Some zero) coming behind why fence end none other = fence refl ∙ rw (leb-zero (length coming)) refl
+short_is (Some (suc n)) [] behind why fence end none other =
+    let z : nat_le (suc n) 0 ≡ false = grind (arith, nat_tests) in
+    rw z (end (λ e. absurd cc) ∙ ended behind.fails (rw z at other))
+  where
+    ended : (o : Option (ℕ × Why)) → (short_of o ≡ Read → ⊥) → Truncated ≡ short_of o
+    ended None other = refl
+    ended (Some f) other = absurd (other refl)
+short_is (Some (suc n)) (x ∷ coming) behind why fence end none other = absurd cc
+
+pub no_bytes : (xs : List ℕ) (bs : List Bool) → bs ++ bits_of xs ≡ [] → xs ≡ []
+no_bytes [] bs e = refl
+no_bytes (x ∷ xs) bs e = absurd (omega (arith, ap (λ (b : List Bool). length b) e, length-append bs (bits_of (x ∷ xs)), length-bits_of (x ∷ xs)))
+
+pub same_behind : (a b : Behind) (f h : List Bool) → a ≡ b → f ≡ h → record a { fenced = f } ≡ record b { fenced = h }
+same_behind a b f h e i = rw (e, i) refl
+
+pub fenced_same : (a b : Fence) (coming : List ℕ) → a ≡ b → bits_of (a.hidden ++ forbidden a.room coming) ≡ bits_of (b.hidden ++ forbidden b.room coming)
+fenced_same a b coming e = rw e refl
+
+pub same_reason : (old new : Store) (xs ys : List ℕ) (b b' : Behind) → SameBits old xs new ys → b' ≡ b → reason_of (reached new.fence.room ys) b' ≡ reason_of (reached old.fence.room xs) b
+same_reason old new xs ys b b' same e = rw (same.reached, e) refl

@@ -1,0 +1,54 @@
+use Rattle.std.proofs.Common.{rules, ◌≡◌, ◌<◌, ◌≤◌, ◌+◌, ◌-◌, ◌*◌, ◌/◌, ◌%◌, ◌^◌, ◌++◌, ◌∷◌, [], ℕ, List, Bool, true, false, length, take, drop, get_or, min, Option, Some, None, Result, Ok, Err, IfSome, sym, ap, ◌∙◌, arith, refl, append_assoc}
+use Rattle.flac_bits.specs.Bits.{unsigned, bits_of}
+use Rattle.flac_bits.specs.Meaning.{unary_bits}
+use Rattle.flac_bits.specs.Layout.{number_at, zeros_at, next_bit}
+use Rattle.flac_bits.specs.Store.{Store, Fence, passed, Takes, HoldsSame, four_at, seen, room_behind}
+use Rattle.flac_bits.specs.State.{Mark, State, Cursor, past}
+use Rattle.flac_bits.proofs.Marks.{pulled_mark}
+use Rattle.flac_bits.proofs.Meaning.{past-short}
+use Rattle.flac_bits.proofs.Words.{length-unsigned}
+use Rattle.flac_bits.proofs.Fields.{cursor_of, taken_read, taken_spends, unary_read, left_is, bit_read, bit_none}
+use Rattle.std.proofs.lemmas.List.{length-take, length-drop}
+use Rattle.flac_bits.proofs.Coming.{came_is, hidden_none, seen_fits}
+use Rattle.flac_bits.proofs.held.Held.pull_more.Goals as goal
+
+pub returns-in-Ok-eq0-clause-mark : goal.returns-in-Ok-eq0-clause-mark
+returns-in-Ok-eq0-clause-mark g c =
+    let inv = c.self.invariant in
+    let none = ap (λ (s : Store). s.word) c.self.view_is ∙ c.requires.taken.0 in
+    let out = ap (λ (s : Store). s.bytes) c.self.view_is ∙ c.requires.taken.1 in
+    pulled_mark c.self.inside.bytes c.self.inside.from c.self.inside.place c.self.inside.end c.self.inside.before c.self.inside.check8 c.self.inside.check16 _ _ _ c.self.inside.word _ inv.0 inv.1 (omega (arith, inv.2, c.self.told)) none out c.checked8-self-inside.ensures c.checked16-self-inside.ensures c.saturating_add-self-inside.ensures (ap (λ (s : Store). s.mark) c.self.view_is)
+
+pub returns-in-Ok-clause-mark : goal.returns-in-Ok-clause-mark
+returns-in-Ok-clause-mark g c =
+    let inv = c.self.invariant in
+    let none = ap (λ (s : Store). s.word) c.self.view_is ∙ c.requires.taken.0 in
+    let out = ap (λ (s : Store). s.bytes) c.self.view_is ∙ c.requires.taken.1 in
+    pulled_mark c.self.inside.bytes c.self.inside.from c.self.inside.place c.self.inside.end c.self.inside.before c.self.inside.check8 c.self.inside.check16 _ _ _ c.self.inside.word _ inv.0 inv.1 (omega (arith, inv.2, c.self.told)) none out c.checked8-self-inside.ensures c.checked16-self-inside.ensures c.saturating_add-self-inside.ensures (ap (λ (s : Store). s.mark) c.self.view_is)
+
+pub returns-in-Err-clause-mark : goal.returns-in-Err-clause-mark
+returns-in-Err-clause-mark g c =
+    let inv = c.self.invariant in
+    let none = ap (λ (s : Store). s.word) c.self.view_is ∙ c.requires.taken.0 in
+    let out = ap (λ (s : Store). s.bytes) c.self.view_is ∙ c.requires.taken.1 in
+    pulled_mark c.self.inside.bytes c.self.inside.from c.self.inside.place c.self.inside.end c.self.inside.before c.self.inside.check8 c.self.inside.check16 _ _ _ c.self.inside.word _ inv.0 inv.1 (omega (arith, inv.2, c.self.told)) none out c.checked8-self-inside.ensures c.checked16-self-inside.ensures c.saturating_add-self-inside.ensures (ap (λ (s : Store). s.mark) c.self.view_is)
+
+pub returns-in-Ok-clause-ok : goal.returns-in-Ok-clause-ok
+returns-in-Ok-clause-ok g c =
+    let inv = c.self.invariant in
+    let got = c.in-Ok.ensures in
+    let n = c.in-Ok.n in
+    let buf = c.pull.new.buf in
+    let room = c.self.inside.room in
+    let fence_is : record { room = room; hidden = drop c.self.inside.end (take c.self.inside.filled c.self.inside.bytes) } ≡ c.args.self.now.fence = ap (λ (s : Store). s.fence) c.self.view_is in
+    let more : room ≡ Some 0 → ⊥ = λ e. c.requires.room (sym (ap (λ (f : Fence). f.room) fence_is) ∙ e) in
+    let none = hidden_none room c.self.inside.end c.self.inside.filled c.self.inside.bytes more inv.7 (omega (arith, inv.6, inv.4)) in
+    let open_fence : record { room = room; hidden = [] } ≡ c.args.self.now.fence = ap (λ xs. record { room = room; hidden = xs }) (sym none) ∙ fence_is in
+    let seen_is = c.seen-self-inside.ensures in
+    let few = seen_fits room n in (
+      got.known,
+      got.counted.0,
+      got.counted.1,
+      rw (← open_fence, seen_is) (omega (arith, got.most, length-take (seen room n) buf, length-drop (seen room n) (take n buf), length-take n buf, few, got.bound.0)),
+      λ known. rw (← open_fence, c.room_behind-self-inside.ensures, seen_is) (came_is room n buf (g.R.Source.coming c.pull.new.self) (g.R.Source.coming c.args.source.now) got.bound.0 (got.bytes known)),
+    )
