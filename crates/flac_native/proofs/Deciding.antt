@@ -6,7 +6,8 @@ use Rattle.flac_bits.specs.Items.{NeedsBits, Grammar}
 use Rattle.flac_bits.specs.Handing.{OneReading, Hands}
 use Rattle.flac_bits.specs.declared.why.Why.{Why}
 use Rattle.flac_bits.proofs.Handing.{one_reading}
-use Rattle.flac_frame.specs.Frame.{frame}
+use Rattle.flac_frame.specs.Frame.{frame, stream_header}
+use Rattle.flac_header.specs.Header.{header}
 use Rattle.flac_meta.specs.Info.{Info}
 use Rattle.flac_native.specs.Stream.{Stand, grammar, layout, layout_in, frame_behind, may_end_in}
 use Rattle.flac_native.specs.declared.phase.Phase.{Phase}
@@ -16,14 +17,14 @@ two : false ≡ true → ⊥
 two e = absurd cc
 
 pub needs_bits : NeedsBits grammar
-unfolding layout frame_behind frame
+unfolding layout frame_behind frame stream_header header
 needs_bits p m e = go p.stand.phase p.stand.info e
   where
     go : (phase : Phase) (info : Option Info) → may_end_in phase info ≡ true → IsCut (layout_in phase (record p.stand { info = info })) m []
     go Opening info e = absurd (two e)
     go Blocks info e = absurd (two e)
     go Frames None e = absurd (two e)
-    go Frames (Some i) e = inl (inl (omega arith))
+    go Frames (Some i) e = inl (inl (inl (inl (omega arith))))
 
 pub one_answer : OneReading grammar
 one_answer = one_reading grammar needs_bits

@@ -16,6 +16,7 @@ use crate::part::Part;
 use crate::sink::{Sink, SinkFault};
 use crate::track::Track;
 use flac_bits::{BitReader, Source, Why};
+use flac_header::Profile;
 use std::alloc::Global;
 
 /// Hands the part that was read last to the sink.
@@ -72,7 +73,7 @@ pub(crate) fn hand_out<R: Source, S: Sink>(reader: &mut BitReader<R>, track: &mu
 }
 
 /// Decodes a native stream, and hands its blocks and frames to the sink, one after another (RFC 9639, section 6).
-pub fn decode<R: Source, S: Sink>(alloc: Global, source: &mut R, sink: &mut S) -> Result<(), Fault>
+pub fn decode<R: Source, S: Sink>(alloc: Global, source: &mut R, profile: Profile, sink: &mut S) -> Result<(), Fault>
     // Ok only where the bytes are a stream, of which the sink took just the items; refused only as the bytes are, behind just
     // the items before; and whatever ended it, the sink took items that are spelled whole, from the start.
     ensures hands { R.known source.old ≡ true →
@@ -86,7 +87,7 @@ pub fn decode<R: Source, S: Sink>(alloc: Global, source: &mut R, sink: &mut S) -
     ensures names { S.names sink.new ≡ S.names sink.old }
 {
     let mut reader = BitReader::new(source);
-    let mut track = Track::opening(alloc);
+    let mut track = Track::opening(alloc, profile);
     let outcome = hand_out(&mut reader, &mut track, sink);
     let _source = reader.into_source();
     outcome

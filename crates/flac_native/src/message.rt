@@ -2,7 +2,7 @@
 
 ghost use Rattle.std.specs.Prelude.{◌≡◌, ◌≤◌, ◌<◌, ◌+◌, ◌++◌, length, take, List, ℕ, slice_index_or, pos};
 ghost use Rattle.flac_native.specs.Message.{sample_bytes, row_bytes, rows_bytes};
-ghost use Rattle.flac_frame.specs.View.{frame_of};
+ghost use Rattle.flac_frame.specs.Lent.{frame_of};
 ghost use Rattle.md5.specs.Md5.{Holds};
 
 use flac_frame::FrameView;

@@ -2,7 +2,7 @@
 
 ghost use Rattle.std.specs.Prelude.{◌≡◌, ◌<◌, ℕ, List, OnOk, OnErr};
 ghost use Rattle.std.specs.Borrow.{GName};
-ghost use Rattle.flac_frame.specs.View.{frame_of};
+ghost use Rattle.flac_frame.specs.Lent.{frame_of};
 ghost use Rattle.flac_native.specs.Item.{Item, metadata, frame as frame_item};
 
 use flac_frame::FrameView;

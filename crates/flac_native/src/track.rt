@@ -5,7 +5,7 @@ ghost use Rattle.flac_bits.specs.Reading.{Counts, Reads, ReadsInRoom};
 ghost use Rattle.flac_bits.specs.State.{started};
 ghost use Rattle.flac_meta.specs.Block.{block as block_layout, seen_after};
 ghost use Rattle.flac_meta.specs.Header.{nothing_seen};
-ghost use Rattle.flac_frame.specs.View.{frame_of};
+ghost use Rattle.flac_frame.specs.Lent.{frame_of};
 ghost use Rattle.flac_native.specs.Stream.{Progress, block as block_piece, framed, phase_behind, raised, info_after, before_behind, stand_after, message_in, frame_behind, next, opening};
 ghost use Rattle.flac_native.specs.Track.{IsAt, stand_of, info_in, before_in, shown};
 ghost use Rattle.md5.specs.Md5.{Holds};
@@ -14,7 +14,7 @@ use crate::format::Format;
 use crate::message::feed;
 use crate::phase::Phase;
 use flac_bits::{BitReader, Source, Why};
-use flac_frame::FrameView;
+use flac_header::Profile;
 use flac_meta::{Block, Seen, read_block};
 use md5::{Digest, Md5};
 use std::alloc::Global;
@@ -23,6 +23,7 @@ use std::alloc::Global;
 #[derive(Drop)]
 pub struct Track {
     pub(crate) alloc: Global,
+    pub(crate) profile: Profile,
     pub(crate) phase: Phase,
     pub(crate) index: u64,
     pub(crate) seen: Seen,
@@ -35,11 +36,12 @@ pub struct Track {
 
 impl Track {
     /// Before the first part of a stream.
-    pub(crate) fn opening(alloc: Global) -> Track
+    pub(crate) fn opening(alloc: Global, profile: Profile) -> Track
         ensures { IsAt result opening }
     {
         Track {
             alloc,
+            profile,
             phase: Phase::Opening,
             index: 0,
             seen: Seen::new(),
@@ -92,7 +94,7 @@ impl Track {
     /// Reads the next frame into the buffers, and notes it.
     #[tactic(auto, unfolding(crate::specs::Stream::frame_behind))]
     pub(crate) fn next_frame<R: Source>(&mut self, bits: &mut BitReader<R>) -> Result<(), Why>
-        ensures spends { OnOk result (bits.new.most + 72 ≤ bits.old.most) }
+        ensures spends { OnOk result (bits.new.most + 40 ≤ bits.old.most) }
         ensures counts { Counts bits.old bits.new result }
         ensures reads { Reads (λ _. shown self.new) (frame_behind (info_in self.old.format) (before_in self.old.format)) (started bits.old) bits.new result }
         ensures stand { OnOk result (stand_of self.new ≡ stand_after (stand_of self.old) (framed (shown self.new))) }
@@ -103,7 +105,7 @@ impl Track {
         let Some(format) = &mut self.format else {
             return Err(Why::NotStreamInfoFirst);
         };
-        format.fill(bits)?;
+        format.fill(bits, self.profile)?;
         let view = format.view();
         let width = (usize::from(format.info.depth()) + 7) / 8;
         feed(&mut self.hasher, &view, width);

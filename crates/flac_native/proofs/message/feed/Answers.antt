@@ -2,7 +2,7 @@ use Rattle.std.proofs.Common.{◌≤◌, ◌≡◌, ◌+◌, ◌++◌, [], take,
 use Rattle.std.proofs.lemmas.List.{append-nil}
 use Rattle.md5.specs.Md5.{Holds}
 use Rattle.flac_native.specs.Message.{row_bytes, rows_bytes}
-use Rattle.flac_frame.specs.View.{frame_of}
+use Rattle.flac_frame.specs.Lent.{frame_of}
 use Rattle.flac_native.proofs.Messages.{rows_more}
 use Rattle.flac_native.proofs.message.feed.Goals as goal
 use Rattle.flac_native.proofs.message.feed.Goals.{then-at-gt-CHUNK, else-at-gt-CHUNK}

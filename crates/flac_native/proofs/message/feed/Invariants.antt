@@ -1,6 +1,6 @@
 use Rattle.std.proofs.Common.{◌≡◌, ◌≤◌, ◌+◌, ◌++◌, take, ℕ, List}
 use Rattle.flac_native.specs.Message.{rows_bytes}
-use Rattle.flac_frame.specs.View.{frame_of}
+use Rattle.flac_frame.specs.Lent.{frame_of}
 use Rattle.md5.specs.Md5.{Holds}
 use Rattle.flac_native.proofs.message.feed.Given as goal
 

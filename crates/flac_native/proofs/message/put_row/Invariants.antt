@@ -1,6 +1,6 @@
 use Rattle.std.proofs.Common.{◌≡◌, ◌≤◌, ◌+◌, ◌*◌, ◌++◌, take}
 use Rattle.flac_native.specs.Message.{row_bytes}
-use Rattle.flac_frame.specs.View.{frame_of}
+use Rattle.flac_frame.specs.Lent.{frame_of}
 use Rattle.flac_native.proofs.message.put_row.Given as goal
 
 abbrev pub invariant-loop-i : goal.invariant-loop-i
