@@ -1,0 +1,26 @@
+-- Samples that are written one after another.
+use Rattle.std.proofs.Common.{◌≡◌, ℕ, zero, suc, ℤ, pos, ◌+◌, ◌-◌, ◌<◌, ◌≤◌, List, [], ◌∷◌, ◌++◌, length, take, refl, sym, ap, ◌∙◌, append_assoc, arith}
+use Rattle.std.proofs.lemmas.List.{append-nil}
+use Rattle.std.specs.Prelude.{slice_index_or}
+use Rattle.flac_native.specs.Message.{sample_bytes, row_bytes, rows_bytes}
+
+-- the samples of one more channel
+pub row_more : (width : ℕ) (channels : List (List ℤ)) (i c : ℕ) → c < length channels
+    → row_bytes width (take (c + 1) channels) i ≡ row_bytes width (take c channels) i ++ sample_bytes width (slice_index_or (slice_index_or channels c []) i (pos 0))
+unfolding row_bytes
+row_more width [] i c lt = absurd (omega (arith, lt))
+row_more width (x ∷ xs) i zero lt = append-nil (sample_bytes width (slice_index_or x i (pos 0)))
+row_more width (x ∷ xs) i (suc c) lt =
+    let more = row_more width xs i c (omega (arith, lt)) in
+    let e : suc c + 1 ≡ suc (c + 1) = omega arith in
+    rw e (ap (λ r. sample_bytes width (slice_index_or x i (pos 0)) ++ r) more ∙ sym (append_assoc (sample_bytes width (slice_index_or x i (pos 0))) (row_bytes width (take c xs) i) _))
+
+-- the samples at one more index
+pub rows_more : (width : ℕ) (channels : List (List ℤ)) (n i : ℕ) → rows_bytes width channels (n + 1) i ≡ rows_bytes width channels n i ++ row_bytes width channels (i + n)
+unfolding rows_bytes
+rows_more width channels zero i = append-nil (row_bytes width channels i) ∙ ap (λ k. row_bytes width channels k) (let e : i ≡ i + 0 = omega arith in e)
+rows_more width channels (suc n) i =
+    let more = rows_more width channels n (i + 1) in
+    let e : i + 1 + n ≡ i + suc n = omega arith in
+    let s : suc n + 1 ≡ suc (n + 1) = omega arith in
+    rw s (ap (λ r. row_bytes width channels i ++ r) (more ∙ ap (λ k. rows_bytes width channels n (i + 1) ++ row_bytes width channels k) e) ∙ sym (append_assoc (row_bytes width channels i) (rows_bytes width channels n (i + 1)) (row_bytes width channels (i + suc n))))

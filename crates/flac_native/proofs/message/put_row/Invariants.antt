@@ -1,0 +1,10 @@
+use Rattle.std.proofs.Common.{◌≡◌, ◌≤◌, ◌+◌, ◌*◌, ◌++◌, take}
+use Rattle.flac_native.specs.Message.{row_bytes}
+use Rattle.flac_frame.specs.Lent.{frame_of}
+use Rattle.flac_native.proofs.message.put_row.Given as goal
+
+abbrev pub invariant-loop-i : goal.invariant-loop-i
+invariant-loop-i l = record {
+  end : l.place ≤ l.at + 4 * l.i;
+  bytes : take l.place l.out ≡ take l.at l.initial.out ++ row_bytes l.width (take l.i (frame_of l.view).channels) l.index;
+}

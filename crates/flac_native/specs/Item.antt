@@ -1,0 +1,15 @@
+-- What is handed out of a stream: blocks and frames, not the marker.
+use Rattle.std.specs.Prelude.{◌≡◌, ℕ, Bool}
+use Rattle.flac_bits.specs.declared.why.Why.{Why}
+use Rattle.flac_meta.specs.declared.block.Block.{Block}
+use Rattle.flac_frame.specs.Frame.{Frame}
+use Rattle.flac_native.specs.declared.fault.Place.{Place}
+use Rattle.flac_native.specs.declared.fault.Fault.{Fault}
+
+pub data Item : Type 0 where
+  metadata : Block → Item
+  frame : Frame → Item
+
+-- where and why a call refused
+abbrev pub told : Fault → Place × Why
+told f = (f.at, f.why)

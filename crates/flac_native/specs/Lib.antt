@@ -1,0 +1,6 @@
+pub mod Message
+pub mod Stream
+pub mod Track
+pub mod Item
+pub mod Decoding
+pub mod Ends

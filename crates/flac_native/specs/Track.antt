@@ -1,0 +1,51 @@
+-- What a track keeps of the parts so far.
+use Rattle.std.specs.Prelude.{◌≡◌, ℕ, min, Bool, false, List, [], Option, Some, None}
+use Rattle.flac_meta.specs.Info.{Info}
+use Rattle.flac_meta.specs.declared.block.Block.{Block}
+use Rattle.flac_frame.specs.Frame.{Frame}
+use Rattle.flac_frame.specs.declared.before.Before.{Before}
+use Rattle.flac_native.specs.Stream.{Piece, marked, block, framed, Stand, Progress}
+use Rattle.flac_native.specs.declared.format.Format.{Format}
+use Rattle.flac_native.specs.declared.track.Track.{Track}
+use Rattle.flac_native.specs.declared.part.Part.{Part}
+use Rattle.flac_native.specs.declared.part.Part.TheVariants as part
+use Rattle.md5.specs.Md5.{Holds}
+
+abbrev pub info_in : Option Format → Option Info
+info_in None = None
+info_in (Some f) = Some f.info
+
+abbrev pub before_in : Option Format → Option Before
+before_in None = None
+before_in (Some f) = f.buffers.before
+
+-- which part comes next
+abbrev pub stand_of : Track → Stand
+stand_of t = record { phase = t.phase; index = t.index; seen = t.seen; info = info_in t.format; before = before_in t.format }
+
+abbrev pub no_frame : Frame
+no_frame = record { number = 0; variable = false; size = 0; channels = [] }
+
+-- the frame that was read last
+abbrev pub shown_in : Option Format → Frame
+shown_in None = no_frame
+shown_in (Some f) = f.buffers.held
+
+abbrev pub shown : Track → Frame
+shown t = shown_in t.format
+
+abbrev pub block_in : Bool → Option Block → Piece
+block_in last None = marked
+block_in last (Some b) = block last b
+
+-- the part that was read last
+abbrev pub piece_of : Track → Part → Piece
+piece_of t part.Marker = marked
+piece_of t part.Block = block_in t.last t.block
+piece_of t part.Frame = framed (shown t)
+
+-- The track has come so far: the count of samples stops at 2^64 - 1, and the digest has taken the message.
+pub record IsAt (t : Track) (p : Progress) : Type 0 where
+  pub stand : stand_of t ≡ p.stand
+  pub samples : t.samples ≡ min p.samples 18446744073709551615
+  pub digest : Holds t.hasher p.message

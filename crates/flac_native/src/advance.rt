@@ -1,0 +1,117 @@
+//! One part of a stream after another.
+
+ghost use Rattle.std.specs.Prelude.{◌≡◌, ◌≤◌, ◌+◌, ◌++◌, ◌&&◌, ℕ, List, min, true, is_some, OnOk, IfOk, IfErr, IfSome, MatchOption};
+ghost use Rattle.flac_bits.specs.Bits.{is_nil};
+ghost use Rattle.flac_bits.specs.State.{started};
+ghost use Rattle.flac_bits.specs.Meaning.{AllKept, BreaksFirst};
+ghost use Rattle.flac_bits.specs.Reading.{Counts, Reads, ReadsInRoom};
+ghost use Rattle.flac_bits.specs.Items.{step_at};
+ghost use Rattle.flac_bits.specs.Handing.{StepsTo, reason_of};
+ghost use Rattle.flac_native.specs.Stream.{marker, layout, Progress, grammar, may_end_in, place_in, next, stand_after, samples_in, message_in, end_rules};
+ghost use Rattle.flac_native.specs.Track.{IsAt, piece_of, stand_of, info_in};
+ghost use Rattle.flac_native.specs.Item.{told};
+ghost use Rattle.flac_native.specs.Ends.{EndsBy};
+ghost use Rattle.md5.specs.Md5.{Holds};
+
+use crate::fault::{Fault, Place};
+use crate::part::Part;
+use crate::phase::Phase;
+use crate::track::Track;
+use flac_bits::{BitReader, Source, Why};
+
+/// Reads the four bytes `fLaC`.
+#[tactic(auto, unfolding(crate::specs::Stream::marker))]
+fn read_marker<R: Source>(reader: &mut BitReader<R>) -> Result<(), Why>
+    ensures spends { OnOk result (reader.new.most + 32 ≤ reader.old.most) }
+    ensures counts { Counts reader.old reader.new result }
+    ensures reads { Reads (λ u. u) marker reader.old reader.new result }
+{
+    if reader.take(32)? != 0x664C6143 {
+        return Err(Why::BadMarker);
+    }
+    Ok(())
+}
+
+/// Reads the next part, and keeps it in the track.
+#[tactic(auto, unfolding(crate::specs::Stream::layout))]
+fn read_part<R: Source>(reader: &mut BitReader<R>, track: &mut Track) -> Result<Part, Why>
+    ensures spends { OnOk result (reader.new.most + 32 ≤ reader.old.most) }
+    ensures counts { Counts reader.old reader.new result }
+    ensures reads { ReadsInRoom (λ part. piece_of track.new part) (layout (stand_of track.old)) (started reader.old) reader.new result }
+    ensures stand { IfOk result (λ part. stand_of track.new ≡ stand_after (stand_of track.old) (piece_of track.new part)) }
+    ensures samples { IfOk result (λ part. track.new.samples ≡ min (track.old.samples + samples_in (piece_of track.new part)) 18446744073709551615) }
+    ensures made { IfOk result (λ part. part ≡ Part.Frame → is_some track.new.format ≡ true) }
+    ensures digest { IfOk result (λ part. (m : List ℕ) → Holds track.old.hasher m → Holds track.new.hasher (m ++ message_in (info_in track.old.format) (piece_of track.new part))) }
+{
+    let _samples = track.samples;
+    match track.phase {
+        Phase::Opening => {
+            reader.start_checks();
+            read_marker(reader)?;
+            track.phase = Phase::Blocks;
+            Ok(Part::Marker)
+        }
+        Phase::Blocks => {
+            reader.start_checks();
+            let (last, block) = track.next_block(reader)?;
+            track.last = last;
+            track.block = Some(block);
+            Ok(Part::Block)
+        }
+        Phase::Frames => {
+            track.next_frame(reader)?;
+            Ok(Part::Frame)
+        }
+    }
+}
+
+/// Whether the stream ends here: behind the blocks, and no bit is left.
+fn ends_here<R: Source>(reader: &mut BitReader<R>, track: &Track) -> Result<bool, Why>
+    ensures spends { OnOk result (reader.new.most ≤ reader.old.most) }
+    ensures counts { Counts reader.old reader.new result }
+    ensures over { IfOk result (λ over. reader.old.known ≡ true → (reader.new.cursor ≡ reader.old.cursor) × (over ≡ (may_end_in track.now.phase (info_in track.now.format) && is_nil reader.old.cursor.left))) }
+    ensures failed { IfErr result (λ e. e ≡ Why.Read) }
+{
+    match track.phase {
+        Phase::Frames => match &track.format {
+            Some(_) => reader.at_end(),
+            None => Ok(false),
+        },
+        Phase::Opening => Ok(false),
+        Phase::Blocks => Ok(false),
+    }
+}
+
+/// Where the next part stands.
+pub(crate) fn place_of(track: &Track) -> Place
+    ensures { result ≡ place_in track.now.phase track.now.index }
+{
+    match track.phase {
+        Phase::Opening => Place::Marker,
+        Phase::Blocks => Place::Block(track.index),
+        Phase::Frames => Place::Frame(track.index),
+    }
+}
+
+/// Reads the next part, and keeps it in the track; nothing where the stream is over. Where it refuses, the fault is told
+/// with its place, and the track is of no use any more.
+pub(crate) fn advance<R: Source>(reader: &mut BitReader<R>, track: &mut Track) -> Result<Option<Part>, Fault>
+    ensures spends { IfOk result (λ o. MatchOption o (reader.new.most ≤ reader.old.most) (λ _. reader.new.most + 32 ≤ reader.old.most)) }
+    ensures counts { Counts reader.old reader.new (reason_of told result) }
+    ensures steps { (p : Progress) → IsAt track.old p → StepsTo (λ part. piece_of track.new part) told (step_at grammar p reader.old.cursor) reader.old reader.new result }
+    ensures made { IfOk result (λ o. IfSome o (λ part. part ≡ Part.Frame → is_some track.new.format ≡ true)) }
+    ensures next { IfOk result (λ o. IfSome o (λ part. (p : Progress) → IsAt track.old p → IsAt track.new (next p (piece_of track.new part)))) }
+{
+    let at = place_of(track);
+    match ends_here(reader, track) {
+        Ok(false) => match read_part(reader, track) {
+            Ok(part) => Ok(Some(part)),
+            Err(why) => Err(Fault { at, why }),
+        },
+        Ok(true) => match track.close() {
+            Ok(()) => Ok(None),
+            Err(why) => Err(Fault { at: Place::End, why }),
+        },
+        Err(why) => Err(Fault { at, why }),
+    }
+}

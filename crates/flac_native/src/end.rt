@@ -1,0 +1,63 @@
+//! What STREAMINFO states of all samples, judged where the stream ends.
+
+ghost use Rattle.std.specs.Prelude.{◌≡◌, ◌≢◌, ℕ, List, IfErr, min};
+ghost use Rattle.flac_native.specs.Stream.{is_unknown, end_rules};
+ghost use Rattle.std.specs.Str.{bytes_eq};
+ghost use Rattle.flac_native.specs.Ends.{EndsBy};
+ghost use Rattle.flac_native.specs.Track.{info_in};
+ghost use Rattle.md5.specs.Md5.{Holds};
+
+use crate::track::Track;
+use flac_bits::Why;
+use flac_meta::StreamInfo;
+use md5::{Digest, Md5};
+use std::mem;
+
+/// Whether a digest is not stated.
+fn is_unknown(digest: &[u8]) -> bool
+    ensures { result ≡ is_unknown digest.now }
+{
+    digest.iter().all(|byte| *byte == 0)
+}
+
+/// Whether two digests are the same.
+fn same_bytes(one: &[u8], other: &[u8]) -> bool
+    ensures { result ≡ bytes_eq one.now other.now }
+{
+    one == other
+}
+
+/// Judges the stated total and the stated digest.
+#[tactic(auto, unfolding(crate::specs::Stream::end_rules))]
+fn judge(info: &StreamInfo, samples: u64, hasher: Md5) -> Result<(), Why>
+    ensures judged { (count : ℕ) (message : List ℕ) → samples ≡ min count 18446744073709551615 → Holds hasher message → EndsBy (end_rules (Some info.now) count message) result }
+    ensures quiet { IfErr result (λ e. e ≢ Why.Read) }
+{
+    if info.total() != 0 && info.total() != samples {
+        return Err(Why::TotalMismatch);
+    }
+    let stated = info.digest();
+    let digest = hasher.finalize();
+    if !is_unknown(&stated) && !same_bytes(&stated, &digest) {
+        return Err(Why::Md5Mismatch);
+    }
+    Ok(())
+}
+
+impl Track {
+    ghost use Rattle.flac_native.specs.Stream.{Progress};
+    ghost use Rattle.flac_native.specs.Track.{IsAt};
+
+    #[tactic(auto, unfolding(crate::specs::Stream::end_rules))]
+    /// Judges what STREAMINFO states of all samples, behind the last frame. The digest begins anew.
+    pub(crate) fn close(&mut self) -> Result<(), Why>
+        ensures judged { (p : Progress) → IsAt self.old p → EndsBy (end_rules p.stand.info p.samples p.message) result }
+        ensures quiet { IfErr result (λ e. e ≢ Why.Read) }
+    {
+        let Some(format) = &self.format else {
+            return Ok(());
+        };
+        let hasher = mem::replace(&mut self.hasher, Md5::new());
+        judge(&format.info, self.samples, hasher)
+    }
+}

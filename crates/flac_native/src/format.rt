@@ -1,0 +1,55 @@
+//! STREAMINFO, and the buffers for its frames.
+
+ghost use Rattle.std.specs.Prelude.{◌≡◌, ◌≤◌, ◌+◌, OnOk, IfOk, IfErr, Some, None, min};
+ghost use Rattle.flac_header.specs.Header.{greatest_block};
+
+use flac_bits::{BitReader, Source, Why};
+use flac_frame::{FrameBuffers, FrameView};
+use flac_header::Profile;
+use flac_meta::StreamInfo;
+use std::alloc::Global;
+
+/// STREAMINFO, and the buffers for its frames.
+#[derive(Drop)]
+pub(crate) struct Format {
+    pub(crate) info: StreamInfo,
+    pub(crate) buffers: FrameBuffers,
+    ghost channels: { info.channels ≤ buffers.channels },
+    ghost block: { min info.greatest_block (greatest_block info.rate) ≤ buffers.max_block },
+}
+
+impl Format {
+    ghost use Rattle.flac_bits.specs.Reading.{Counts, Reads};
+    ghost use Rattle.flac_bits.specs.State.{started};
+    ghost use Rattle.flac_frame.specs.Frame.{frame, after};
+    ghost use Rattle.flac_frame.specs.Lent.{frame_of};
+
+    /// Makes the buffers. Refuses `Memory` alone.
+    pub(crate) fn new(alloc: Global, info: StreamInfo) -> Result<Format, Why>
+        ensures ok { IfOk result (λ f. (f.info ≡ info) × (f.buffers.before ≡ None)) }
+        ensures err { IfErr result (λ e. e ≡ Why.Memory) }
+    {
+        let profile = if info.rate() <= 48000 { 4608 } else { 16384 };
+        let block = u32::from(info.greatest_block()).min(profile);
+        let buffers = FrameBuffers::new(alloc, u32::from(info.channels()), block)?;
+        Ok(Format { info, buffers })
+    }
+
+    /// Reads the next frame into the buffers.
+    pub(crate) fn fill<R: Source>(&mut self, bits: &mut BitReader<R>, profile: Profile) -> Result<(), Why>
+        ensures spends { OnOk result (bits.new.most + 40 ≤ bits.old.most) }
+        ensures counts { Counts bits.old bits.new result }
+        ensures reads { Reads (λ _. self.new.buffers.held) (frame self.old.info self.old.buffers.before) (started bits.old) bits.new result }
+        ensures before { OnOk result (self.new.buffers.before ≡ Some (after self.old.buffers.before self.new.buffers.held)) }
+        ensures info { self.new.info ≡ self.old.info }
+    {
+        self.buffers.fill(bits, &self.info, profile)
+    }
+
+    /// The frame that was read last.
+    pub(crate) fn view(&self) -> FrameView<'_>
+        ensures { frame_of result ≡ self.now.buffers.held }
+    {
+        self.buffers.view()
+    }
+}

@@ -1,0 +1,26 @@
+//! Streams of FLAC: a marker, metadata blocks and frames, one after another (RFC 9639, section 6).
+#![tactic(auto)]
+
+mod advance;
+mod decoding;
+mod end;
+mod fault;
+mod format;
+mod laws;
+mod message;
+mod part;
+mod phase;
+mod sink;
+mod track;
+
+pub use decoding::decode;
+pub use fault::{Fault, Place};
+pub use laws::only_one_way;
+pub use message::put_row;
+pub use sink::{Sink, SinkFault};
+pub use track::Track;
+
+pub use flac_bits::{Source, Why};
+pub use flac_frame::FrameView;
+pub use flac_header::Profile;
+pub use flac_meta::{Block, StreamInfo};
