@@ -1,7 +1,11 @@
 //! What the program is asked for.
 
-use std::borrow::CowStr;
+ghost use Rattle.std.specs.Prelude.{◌≡◌, ◌≤◌, option_map};
+ghost use Rattle.flac_cli.specs.Asks.{input_of, output_of};
+
 use std::alloc::Global;
+use std::borrow::CowStr;
+use std::io::ErrorKind;
 
 /// A job: one variant a command, with the command's words.
 #[derive(Clone, Copy, Debug, PartialEq, Eq)]
@@ -10,21 +14,27 @@ pub enum Job<'a> {
     Test { input: &'a str },
     /// Decodes the stream, and writes its samples.
     Decode { input: &'a str, output: &'a str },
+    /// Decodes the stream, and lists its metadata.
+    List { input: &'a str },
 }
 
 impl<'a> Job<'a> {
     /// The path of the file that is read.
-    pub fn input(&self) -> &'a str {
+    pub fn input(&self) -> &'a str
+        ensures { result.now ≡ input_of self.now }
+    {
         match self {
-            Job::Test { input } => input,
+            Job::Test { input } | Job::List { input } => input,
             Job::Decode { input, .. } => input,
         }
     }
 
     /// The path of the file that is written, where there is one.
-    pub fn output(&self) -> Option<&'a str> {
+    pub fn output(&self) -> Option<&'a str>
+        ensures { option_map (λ path. path.now) result ≡ output_of self.now }
+    {
         match self {
-            Job::Test { .. } => None,
+            Job::Test { .. } | Job::List { .. } => None,
             Job::Decode { output, .. } => Some(output),
         }
     }
@@ -37,4 +47,29 @@ impl<'a> Job<'a> {
 pub struct LineFault {
     pub text: CowStr<'static, Global>,
     pub status: u8,
+}
+
+impl LineFault {
+    /// Want of memory in reading the words.
+    pub fn no_memory() -> LineFault
+        ensures { result.status ≡ 1 }
+    {
+        LineFault {
+            text: CowStr::Borrowed("flac: command: 2 Memory\n"),
+            status: 1,
+        }
+    }
+
+    /// The words could not be read: memory was wanting, or a word is not text.
+    pub fn reading(kind: ErrorKind) -> LineFault
+        ensures { result.status ≤ 2 }
+    {
+        if kind == ErrorKind::OutOfMemory {
+            return LineFault::no_memory();
+        }
+        LineFault {
+            text: CowStr::Borrowed("flac: command: a word is not text\n"),
+            status: 2,
+        }
+    }
 }

@@ -1,32 +1,82 @@
-//! The program `flac`: tests, decodes, lists and writes FLAC streams (RFC 9639).
+//! The program `flac`: tests, decodes and lists FLAC streams (RFC 9639).
 #![tactic(auto)]
 
+mod counts;
+mod failures;
+mod frames;
 mod jobs;
 mod lines;
+mod list;
+mod listing;
+mod runs;
+mod samples;
+#[cfg(test)]
+mod tests;
+mod texts;
 mod words;
 
+use crate::jobs::{Job, LineFault};
+use crate::runs::run;
 use crate::words::job;
+use flac_bits::Counted;
+use std::fs::File;
 use std::io;
 use std::process::ExitCode;
 
 fn main(rt: HostRuntime) -> io::Result<ExitCode> {
-    let Ok(words) = std::env::args(&rt) else {
-        eprintln!(rt; "flac: command: not text")?;
-        return Ok(ExitCode::from(2));
+    let given = match given_words(&rt) {
+        Ok(given) => given,
+        Err(fault) => return tell(&rt, &fault),
     };
-    let Ok(words) = words.collect::<Vec<String>>(rt.alloc()) else {
-        eprintln!(rt; "flac: command: 2 Memory")?;
-        return Ok(ExitCode::from(1));
-    };
-    match job(rt.alloc(), words.as_slice()) {
-        Ok(_job) => Ok(ExitCode::from(0)),
-        Err(fault) => {
-            if fault.status == 0 {
-                rt.print(&fault.text)?;
-            } else {
-                rt.eprint(&fault.text)?;
-            }
-            Ok(ExitCode::from(fault.status))
-        }
+    match job(rt.alloc(), given.as_slice()) {
+        Ok(job) => Ok(ExitCode::from(perform(&rt, &job))),
+        Err(fault) => tell(&rt, &fault),
     }
+}
+
+/// The words of the command line, the program's name first.
+///
+/// # Errors
+/// A word that is not text, or want of memory.
+fn given_words(rt: &HostRuntime) -> Result<Vec<String>, LineFault> {
+    let given = std::env::args(rt).map_err(|error| LineFault::reading(error.kind()))?;
+    given
+        .collect(rt.alloc())
+        .map_err(|_| LineFault::no_memory())
+}
+
+/// Prints what stands in place of a job, and answers its status.
+///
+/// # Errors
+/// The help cannot be printed.
+fn tell(rt: &HostRuntime, fault: &LineFault) -> io::Result<ExitCode> {
+    if fault.status == 0 {
+        rt.print(&fault.text)?;
+    } else {
+        let _ = rt.eprint(&fault.text);
+    }
+    Ok(ExitCode::from(fault.status))
+}
+
+/// Opens the job's files, and does it. Answers the status.
+fn perform(rt: &HostRuntime, job: &Job<'_>) -> u8 {
+    let alloc = rt.alloc();
+    let input = job.input();
+    let Ok(file) = File::open(rt, input) else {
+        let _ = eprintln!(rt; "flac: {input}: cannot be opened");
+        return 1;
+    };
+    let mut source = Counted::new(file);
+    let mut out = Counted::new(rt.stdout());
+    let mut err = Counted::new(rt.stderr());
+    let Some(path) = job.output() else {
+        let mut nothing = Counted::new(io::sink());
+        return run(alloc, job, &mut source, &mut nothing, &mut out, &mut err);
+    };
+    let Ok(file) = File::create(rt, path) else {
+        let _ = eprintln!(rt; "flac: {path}: cannot be created");
+        return 1;
+    };
+    let mut target = Counted::new(file);
+    run(alloc, job, &mut source, &mut target, &mut out, &mut err)
 }

@@ -8,8 +8,6 @@ use clap::{Arg, Command};
 use std::alloc::{AllocError, Global};
 use std::borrow::CowStr;
 
-const NO_MEMORY: &str = "flac: command: 2 Memory\n";
-
 /// Reads the words, of which the first is the program's name.
 ///
 /// # Errors
@@ -20,7 +18,7 @@ pub fn job<'a>(alloc: Global, words: &'a [String]) -> Result<Job<'a>, LineFault>
     match parsed(alloc, words) {
         Ok(Some(job)) => Ok(job),
         Ok(None) => Err(LineFault {
-            text: CowStr::Borrowed("flac: command: no command\n"),
+            text: CowStr::Borrowed("flac: command: a word is missing\n"),
             status: 2,
         }),
         Err(error) => Err(refused(alloc, &error)),
@@ -39,10 +37,7 @@ fn refused(alloc: Global, error: &clap::Error) -> LineFault
             };
         }
     }
-    LineFault {
-        text: CowStr::Borrowed(NO_MEMORY),
-        status: 1,
-    }
+    LineFault::no_memory()
 }
 
 fn parsed<'a>(alloc: Global, words: &'a [String]) -> Result<Option<Job<'a>>, clap::Error> {
@@ -56,6 +51,9 @@ fn parsed<'a>(alloc: Global, words: &'a [String]) -> Result<Option<Job<'a>>, cla
     if name == "test" {
         return Ok(Some(Job::Test { input }));
     }
+    if name == "list" {
+        return Ok(Some(Job::List { input }));
+    }
     let Some(output) = given.get_str("OUT") else {
         return Ok(None);
     };
@@ -68,13 +66,12 @@ fn command<'a>(alloc: Global) -> Result<Command<'a>, AllocError> {
         .about("Tests and decodes FLAC streams (RFC 9639)")
         .subcommand_required(true)
         .subcommand(test_command(alloc)?)?
-        .subcommand(decode_command(alloc)?)
+        .subcommand(decode_command(alloc)?)?
+        .subcommand(list_command(alloc)?)
 }
 
 fn test_command<'a>(alloc: Global) -> Result<Command<'a>, AllocError> {
-    let input = Arg::new(alloc, "IN")
-        .required(true)
-        .help("The stream");
+    let input = Arg::new(alloc, "IN").required(true).help("The stream");
     Command::new(alloc, "test")
         .about("Decodes a stream, and prints how many frames and samples it has")
         .after_help("Example: flac test song.flac\n  frames 2584 samples 10584000")
@@ -82,15 +79,23 @@ fn test_command<'a>(alloc: Global) -> Result<Command<'a>, AllocError> {
 }
 
 fn decode_command<'a>(alloc: Global) -> Result<Command<'a>, AllocError> {
-    let input = Arg::new(alloc, "IN")
-        .required(true)
-        .help("The stream");
+    let input = Arg::new(alloc, "IN").required(true).help("The stream");
     let output = Arg::new(alloc, "OUT")
         .required(true)
         .help("The file that the samples are written to");
     Command::new(alloc, "decode")
-        .about("Decodes a stream to raw samples: interleaved, signed little-endian, whole bytes a sample")
+        .about(
+            "Decodes a stream to raw samples: interleaved, signed little-endian, whole bytes a sample",
+        )
         .after_help("Example: flac decode song.flac song.raw")
         .arg(input)?
         .arg(output)
+}
+
+fn list_command<'a>(alloc: Global) -> Result<Command<'a>, AllocError> {
+    let input = Arg::new(alloc, "IN").required(true).help("The stream");
+    Command::new(alloc, "list")
+        .about("Decodes a stream, and lists its metadata blocks")
+        .after_help("Example: flac list song.flac")
+        .arg(input)
 }

@@ -1,0 +1,10 @@
+-- What an answer of a decoding says.
+use Rattle.std.proofs.Common.{◌≡◌, None, Ok, Err, OnOk, Result, refl}
+use Rattle.flac_native.specs.Item.{told}
+use Rattle.flac_native.specs.declared.fault.Fault.{Fault}
+use Rattle.flac_bits.specs.Handing.{outcome_of}
+
+-- What holds where nothing was refused holds at Ok.
+pub at_ok : {A X : Type 0} (r : Result A Fault) → (outcome_of told r ≡ None → X) → OnOk r X
+at_ok (Ok a) h = h refl
+at_ok (Err e) h = tt

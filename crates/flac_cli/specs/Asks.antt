@@ -1,0 +1,20 @@
+-- What a job asks for.
+use Rattle.std.specs.Prelude.{ℕ, List, Option, Some, None}
+use Rattle.flac_cli.specs.declared.jobs.Job.{Job}
+use Rattle.flac_cli.specs.declared.jobs.Job.TheVariants as job
+
+-- the job is a decoding
+abbrev pub AsksDecode : Job → Type 0
+AsksDecode (job.Decode input output) = Unit {0}
+AsksDecode other = ⊥
+
+-- the path of the file that is read
+abbrev pub input_of : Job → List ℕ
+input_of (job.Test input) = input.now
+input_of (job.Decode input output) = input.now
+input_of (job.List input) = input.now
+
+-- the path of the file that is written, where there is one
+abbrev pub output_of : Job → Option (List ℕ)
+output_of (job.Decode input output) = Some output.now
+output_of other = None

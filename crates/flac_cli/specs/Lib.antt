@@ -1,0 +1,4 @@
+pub mod Asks
+pub mod Samples
+pub mod Streams
+pub mod Taking

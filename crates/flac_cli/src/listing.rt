@@ -1,0 +1,51 @@
+//! A sink that lists metadata.
+
+ghost use Rattle.std.specs.Prelude.{[], ⊤};
+
+use crate::failures::Failures;
+use crate::lines::Lines;
+use crate::list::write_block;
+use flac_bits::Target;
+use flac_frame::FrameView;
+use flac_meta::Block;
+use flac_native::{Sink, SinkFault};
+
+/// Writes the lines of each block, those of one block at once.
+#[derive(Drop)]
+pub(crate) struct Listing<W: Target> {
+    pub(crate) lines: Lines<W>,
+    /// The index of the next block.
+    pub(crate) index: u64,
+    pub(crate) failures: Failures,
+}
+
+impl<W: Target> Listing<W> {
+    pub(crate) fn new(target: W) -> Listing<W> {
+        Listing {
+            lines: Lines::new(target),
+            index: 0,
+            failures: Failures { count: 0 },
+        }
+    }
+}
+
+impl<W: Target> Sink for Listing<W> {
+    ghost takes = { λ _ _ _. ⊤ };
+
+    ghost errors = { λ s. s.failures.count };
+
+    ghost names = { λ _. [] };
+
+    fn block(&mut self, block: &Block) -> Result<(), SinkFault> {
+        let written = write_block(&mut self.lines, self.index, block).is_ok();
+        if !written || self.lines.send().is_err() {
+            return self.failures.fail();
+        }
+        self.index = self.index.saturating_add(1);
+        Ok(())
+    }
+
+    fn frame(&mut self, _frame: &FrameView<'_>) -> Result<(), SinkFault> {
+        Ok(())
+    }
+}

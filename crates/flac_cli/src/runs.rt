@@ -1,0 +1,125 @@
+//! What the program does for a job.
+
+ghost use Rattle.std.specs.Prelude.{◌≡◌, ◌++◌, true, List, OnOk};
+ghost use Rattle.flac_native.specs.Stream.{Piece};
+ghost use Rattle.flac_cli.specs.Streams.{IsStream, Tells};
+ghost use Rattle.flac_cli.specs.Asks.{AsksDecode};
+ghost use Rattle.flac_cli.specs.Samples.{all_samples};
+
+use crate::counts::Counts;
+use crate::jobs::Job;
+use crate::lines::{Lines, tell_fault, tell_reason};
+use crate::listing::Listing;
+use crate::samples::SampleWriter;
+use flac_bits::{Source, Target, Why};
+use flac_native::{Fault, Profile, decode};
+use std::alloc::Global;
+use std::fmt::Write;
+
+/// Decodes a stream into a writer of samples.
+fn decode_into<R: Source, W: Target>(
+    alloc: Global,
+    source: &mut R,
+    sink: &mut SampleWriter<W>,
+) -> Result<(), Fault>
+    requires { sink.old.failures.count ≡ 0 }
+    ensures stream { Tells R.Source source.old source.new → OnOk result ((parts : List Piece) × IsStream parts (R.coming source.old) (R.behind source.old)) }
+    ensures written { Tells R.Source source.old source.new → W.known sink.old.target ≡ true → OnOk result ((parts : List Piece) × IsStream parts (R.coming source.old) (R.behind source.old) × (W.sent sink.new.target ≡ W.sent sink.old.target ++ all_samples sink.old.depth parts)) }
+    ensures names { W.names sink.new.target ≡ W.names sink.old.target }
+{
+    decode(alloc, source, Profile::Subset, sink)
+}
+
+/// Decodes a stream, and writes its samples.
+fn decode_samples<R: Source, W: Target>(
+    alloc: Global,
+    source: &mut R,
+    target: &mut W,
+) -> Result<(), Fault>
+    ensures stream { Tells R.Source source.old source.new → OnOk result ((parts : List Piece) × IsStream parts (R.coming source.old) (R.behind source.old)) }
+    ensures written { Tells R.Source source.old source.new → W.known target.old ≡ true → OnOk result ((parts : List Piece) × IsStream parts (R.coming source.old) (R.behind source.old) × (W.sent target.new ≡ W.sent target.old ++ all_samples 0 parts)) }
+{
+    let mut sink = SampleWriter::new(target);
+    decode_into(alloc, source, &mut sink)
+}
+
+/// Decodes a stream, and counts its frames and samples.
+fn count<R: Source>(alloc: Global, source: &mut R) -> Result<Counts, Fault>
+    ensures { Tells R.Source source.old source.new → OnOk result ((parts : List Piece) × IsStream parts (R.coming source.old) (R.behind source.old)) }
+{
+    let mut counts = Counts {
+        frames: 0,
+        samples: 0,
+    };
+    decode(alloc, source, Profile::Subset, &mut counts)?;
+    Ok(counts)
+}
+
+/// Decodes a stream, and lists its metadata.
+fn list<R: Source, O: Target>(alloc: Global, source: &mut R, out: &mut O) -> Result<(), Fault>
+    ensures { Tells R.Source source.old source.new → OnOk result ((parts : List Piece) × IsStream parts (R.coming source.old) (R.behind source.old)) }
+{
+    let mut listing = Listing::new(out);
+    decode(alloc, source, Profile::Subset, &mut listing)
+}
+
+/// Writes the line of counts.
+fn write_counts<O: Target>(out: &mut O, counts: &Counts) -> Result<(), Why> {
+    let mut lines = Lines::new(out);
+    let (frames, samples) = (counts.frames, counts.samples);
+    if writeln!(lines, "frames {frames} samples {samples}").is_err() {
+        return Err(Why::Write);
+    }
+    lines.send()
+}
+
+/// Writes the line of a fault, and answers the status 1. The path is that of the file at fault.
+fn refuse<E: Target>(err: &mut E, job: &Job<'_>, fault: Fault) -> u8
+    ensures { result ≡ 1 }
+{
+    let written = matches!(fault.why, Why::Sink | Why::Write);
+    let path = match job.output() {
+        Some(output) if written => output,
+        _ => job.input(),
+    };
+    tell_fault(err, path, fault);
+    1
+}
+
+/// Does a job over its devices, and answers the status: 0 where it is done; 1 where it is refused, and then the fault's line
+/// was written to `err`. `target` is the file that the job writes, where there is one.
+pub fn run<R: Source, W: Target, O: Target, E: Target>(
+    alloc: Global,
+    job: &Job<'_>,
+    source: &mut R,
+    target: &mut W,
+    out: &mut O,
+    err: &mut E,
+) -> u8
+    // It is done only where the input is a stream.
+    ensures stream { result ≡ 0 → Tells R.Source source.old source.new → (parts : List Piece) × IsStream parts (R.coming source.old) (R.behind source.old) }
+    // A decoding has then added to the file just the samples of its frames.
+    ensures decoded { AsksDecode job.now → result ≡ 0 → Tells R.Source source.old source.new → W.known target.old ≡ true →
+        (parts : List Piece) × IsStream parts (R.coming source.old) (R.behind source.old) × (W.sent target.new ≡ W.sent target.old ++ all_samples 0 parts) }
+{
+    match job {
+        Job::Test { input } => match count(alloc, source) {
+            Ok(counts) => match write_counts(out, &counts) {
+                Ok(()) => 0,
+                Err(why) => {
+                    tell_reason(err, input, why);
+                    1
+                }
+            },
+            Err(fault) => refuse(err, job, fault),
+        },
+        Job::Decode { .. } => match decode_samples(alloc, source, target) {
+            Ok(()) => 0,
+            Err(fault) => refuse(err, job, fault),
+        },
+        Job::List { .. } => match list(alloc, source, out) {
+            Ok(()) => 0,
+            Err(fault) => refuse(err, job, fault),
+        },
+    }
+}

@@ -1,0 +1,65 @@
+//! A sink that writes raw samples.
+
+ghost use Rattle.std.specs.Prelude.{◌≡◌, ◌≤◌, ◌<◌, ◌++◌, true};
+ghost use Rattle.flac_cli.specs.Taking.{depth_behind, samples_in};
+
+use crate::failures::Failures;
+use crate::frames::send_frame;
+use flac_bits::Target;
+use flac_frame::FrameView;
+use flac_meta::Block;
+use flac_native::{Sink, SinkFault};
+
+/// Writes the samples of each frame: interleaved, signed little-endian, each sign-extended to whole bytes. It holds no
+/// bytes between frames.
+#[derive(Drop)]
+pub(crate) struct SampleWriter<W: Target> {
+    pub(crate) target: W,
+    /// Bits a sample, as STREAMINFO told them; 0 before it.
+    pub(crate) depth: u8,
+    pub(crate) failures: Failures,
+    ghost range: { depth ≤ 32 },
+}
+
+impl<W: Target> SampleWriter<W> {
+    pub(crate) fn new(target: W) -> SampleWriter<W>
+        ensures target { result.target ≡ target }
+        ensures depth { result.depth ≡ 0 }
+        ensures failures { result.failures.count ≡ 0 }
+    {
+        SampleWriter {
+            target,
+            depth: 0,
+            failures: Failures { count: 0 },
+        }
+    }
+}
+
+impl<W: Target> Sink for SampleWriter<W> {
+    // It takes an item where it can still count a failure.
+    ghost takes = { λ old item new. old.failures.count < 18446744073709551615 → record {
+      can : new.failures.count < 18446744073709551615;
+      known : W.known old.target ≡ true → W.known new.target ≡ true;
+      depth : new.depth ≡ depth_behind old.depth item;
+      sent : W.known old.target ≡ true → W.sent new.target ≡ W.sent old.target ++ samples_in old.depth item;
+    } };
+
+    ghost errors = { λ s. s.failures.count };
+
+    ghost names = { λ s. W.names s.target };
+
+    fn block(&mut self, block: &Block) -> Result<(), SinkFault> {
+        if let Block::StreamInfo(info) = block {
+            self.depth = info.depth();
+        }
+        Ok(())
+    }
+
+    fn frame(&mut self, frame: &FrameView<'_>) -> Result<(), SinkFault> {
+        let width = (usize::from(self.depth) + 7) / 8;
+        match send_frame(frame, width, &mut self.target) {
+            Ok(()) => Ok(()),
+            Err(_) => self.failures.fail(),
+        }
+    }
+}
