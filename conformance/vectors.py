@@ -2,7 +2,7 @@
 """Small streams built by hand, each with the answer that the format and the profile give it.
 
 usage: vectors.py        asks the model for each and prints where it answers otherwise
-       vectors.py DIR    writes them into DIR, as NAME.flac
+       vectors.py DIR    writes them into DIR, as NAME.flac or NAME.oga
 """
 import hashlib
 import os
@@ -300,6 +300,13 @@ def subframe_vectors():
     yield "mid-side-odd", stream(frame(odd, channel_code=10), info=sixteens(channels=2)), "frames 1 samples 16"
 
 
+def foreign_vectors():
+    """Tags of another format around a good stream."""
+    good = stream(RAMP, info=sixteens(total=16))
+    yield "tag-before", b"ID3\3\0\0\0\0\0\12" + bytes(10) + good, "marker: 4 BadMarker"
+    yield "tag-after", good + b"TAG" + bytes(125), "frame 1: 12 BadSync"
+
+
 def large_vectors():
     """A frame that does not end: its first value's quotient is a run of zeros past the limit of a frame."""
     head = stream(ZEROS[:8], info=sixteens())
@@ -310,20 +317,24 @@ def large_vectors():
 
 
 def all_vectors():
-    for source in (metadata_vectors, row_1_vectors, header_vectors, sequence_vectors, subframe_vectors):
+    for source in (metadata_vectors, row_1_vectors, header_vectors, sequence_vectors, subframe_vectors,
+                   foreign_vectors):
         yield from source()
+    import vectors_ogg
+    yield from vectors_ogg.all_vectors()
 
 
 SWEPT = ("row-1", "ramp", "zeros", "alternating", "left-side")
+SWEPT_OGG = ("ogg", "ogg-one-page")
 
 
 def main(words):
     failed = 0
     for name, data, answer in all_vectors():
         if words:
-            with open(os.path.join(words[0], f"{name}.flac"), "wb") as file:
+            with open(os.path.join(words[0], name + (".oga" if data[:1] == b"O" else ".flac")), "wb") as file:
                 file.write(data)
-        found = model.Reader(data).result()
+        found = model.answer(data)
         if found != answer:
             failed += 1
             print(f"{name}: the model answers '{found}', due is '{answer}'")

@@ -6,7 +6,7 @@ use Rattle.std.proofs.lemmas.Nat.{xor_comm, xor_mod, xor_block}
 use Rattle.std.proofs.lemmas.Nat.Bits.{bit_at-lt, bit_at_xor}
 use Rattle.std.proofs.lemmas.List.{take_more}
 use Rattle.flac_bits.specs.Bits.{unsigned, bits_of}
-use Rattle.flac_bits.proofs.Writing.{number_rest, bits_of-snoc}
+use Rattle.flac_bits.proofs.Digits.{number_rest, bits_of-snoc}
 use Rattle.flac_bits.specs.State.{Mark, feed, step, past}
 use Rattle.flac_bits.specs.Check.{shifted, power, remainder, fed}
 

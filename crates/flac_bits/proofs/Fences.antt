@@ -1,12 +1,13 @@
 -- What is read behind a fence is what the layout means, within the room.
-use Rattle.std.proofs.Common.{◌≡◌, ℕ, ◌+◌, ◌-◌, ◌*◌, ◌<◌, ◌≤◌, Bool, true, false, cond, nat_eq, nat_le, List, [], ◌∷◌, ◌++◌, length, take, drop, Option, Some, None, Result, Ok, Err, refl, sym, ap, subst, ◌∙◌, append_assoc, arith, inl, inr, ◌⊎◌}
+use Rattle.std.proofs.Common.{◌≡◌, ℕ, ◌+◌, ◌-◌, ◌*◌, ◌<◌, ◌≤◌, Bool, true, false, cond, nat_le, List, ◌++◌, length, take, drop, Option, Some, None, Result, Ok, Err, refl, sym, ap, subst, ◌∙◌, append_assoc, arith, inl, inr, ◌⊎◌}
 use Rattle.std.proofs.lemmas.List.{take-append-drop, length-take-le, take_all, length-append}
 use Rattle.std.proofs.lemmas.Bool.Decides.{nat_tests}
 use Rattle.std.proofs.Math.Seq.{take-append-add, drop-append-add, take-append_seam}
-use Rattle.flac_bits.specs.State.{Mark, Cursor, past, step, with_short, fresh}
-use Rattle.flac_bits.specs.Layout.{Layout, done, bind, bits, unary, judge, refuse, mark, Reason, because, run}
+use Rattle.flac_bits.specs.State.{Mark, Cursor, past, with_short}
+use Rattle.flac_bits.specs.Layout.{Layout, done, bind, bits, unary, judge, refuse, mark, because, run}
 use Rattle.flac_bits.specs.Meaning.{Spells, Shows, IsCut}
-use Rattle.flac_bits.specs.Fence.{InRoom, LeavesRoom, FillsRoom, StopsIn, fenced, unfenced, read_in}
+use Rattle.flac_bits.specs.Reading.{Answers}
+use Rattle.flac_bits.specs.Fence.{InRoom, StopsIn, fenced, unfenced, read_in}
 use Rattle.flac_bits.specs.declared.why.Why.{Why}
 use Rattle.flac_bits.specs.declared.why.Why.TheVariants.{FrameTooLong}
 use Rattle.flac_bits.proofs.Laws.{at_}
@@ -185,3 +186,9 @@ refuses_in room l left m why e = elim (reading_in room l left m) [
       absurd (differ (y, at_ rest (past text m)) (because why) (sym ran ∙ e))
   | inr (w, stops) ↦ subst (λ v. StopsIn room l m left v) (why_is w why (sym (stops_in room l m left w stops) ∙ e)) stops
 ]
+
+-- ---- a call that reads behind a fence, which is lifted then
+
+pub answers_in : {X Y : Type 0} (view : X → Y) (n : ℕ) (l : Layout Y) (c d e : Cursor) (result : Result X Why) → Answers view (run l (fenced n c)) d result → e ≡ unfenced n c d → Answers view (read_in (Some n) l c) e result
+answers_in view n l c d e (Ok x) answers is = rw (answers, is) refl
+answers_in view n l c d e (Err why) answers is = rw answers refl

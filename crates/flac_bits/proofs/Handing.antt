@@ -1,15 +1,15 @@
 -- One item after another is read and handed to a receiver.
-use Rattle.std.proofs.Common.{◌≡◌, ◌≢◌, ◌<◌, ◌≤◌, ℕ, Bool, true, List, [], ◌∷◌, ◌++◌, Option, Some, None, refl, sym, ap, subst, ◌∙◌, append_assoc, arith}
-use Rattle.std.proofs.lemmas.List.{append-nil}
+use Rattle.std.proofs.Common.{◌≡◌, ◌≢◌, ◌<◌, ◌≤◌, ℕ, zero, suc, Bool, true, List, [], ◌∷◌, ◌++◌, length, ◌⊎◌, inl, inr, Option, Some, None, refl, sym, ap, subst, ◌∙◌, append_assoc, arith}
+use Rattle.std.proofs.lemmas.List.{append-nil, length-append}
 use Rattle.flac_bits.specs.State.{Mark, Cursor, State, past, fresh}
-use Rattle.flac_bits.specs.Meaning.{Spells}
+use Rattle.flac_bits.specs.Meaning.{Spells, IsCut}
 use Rattle.flac_bits.specs.Fence.{InRoom}
-use Rattle.flac_bits.specs.Items.{Grammar, after, Joined, mark_behind, Stream, StopsAt, Refused, item, over, refused, step_at, NeedsBits}
-use Rattle.flac_bits.specs.Handing.{IsCalm, TakesAll, Hands, Decides, OneReading}
+use Rattle.flac_bits.specs.Items.{Grammar, after, Joined, mark_behind, Stream, StopsAt, Refused, Step, item, over, refused, step_at, NeedsBits}
+use Rattle.flac_bits.specs.Handing.{IsCalm, TakesAll, Hands, Decides, OneReading, SomeReading}
 use Rattle.flac_bits.specs.declared.why.Why.{Why}
 use Rattle.flac_bits.specs.declared.why.Why.TheVariants.{Memory, Read, Sink}
 use Rattle.flac_bits.proofs.Laws.{at_}
-use Rattle.flac_bits.proofs.Items.{step_spelled, step_over, step_stops, one_way, stream_steps, refused_steps}
+use Rattle.flac_bits.proofs.Items.{spelled_some, step_spelled, step_over, step_stops, one_way, stream_steps, refused_steps}
 
 -- ---- one item more
 
@@ -246,3 +246,42 @@ decides g needs takes errors s m text calm old new outcome h quiet same = record
       let one = (one_reading g needs s m text).refusals r.0 items to at w why r.1 refused in
       (one.1, one.2);
 }
+
+-- ---- and each input has an answer
+
+-- behind an item a reading of what is left is a reading of the whole
+read_on : {S I P : Type 0} (g : Grammar S I P) (s : S) (m : Mark) (x : I) (left front rest : List Bool) → left ≡ front ++ rest → Spells (g.layout s) (fresh m) front x → InRoom (g.room s) (fresh m) front
+    → ((items : List I) × Stream g (g.next s x) (past front (fresh m)) items rest) ⊎ ((items : List I) × (at : P) × (why : Why) × Refused g (g.next s x) (past front (fresh m)) items rest at why)
+    → ((items : List I) × Stream g s m items left) ⊎ ((items : List I) × (at : P) × (why : Why) × Refused g s m items left at why)
+read_on g s m x left front rest split spelled fits (inl (items, w)) = inl (x ∷ items, record { spelled = (front, rest, split, spelled, fits, w.spelled); ends = w.ends; kept = w.kept })
+read_on g s m x left front rest split spelled fits (inr (items, at, why, r)) = inr (
+  x ∷ items,
+  at,
+  why,
+  record {
+    front = front ++ r.front;
+    left = r.left;
+    stands = split ∙ ap (λ k. front ++ k) r.stands ∙ sym (append_assoc front r.front r.left);
+    spelled = (front, r.front, refl, spelled, fits, r.spelled);
+    stops = r.stops;
+  },
+)
+
+read_all : {S I P : Type 0} (g : Grammar S I P) → ((s : S) (m : Mark) → IsCut (g.layout s) m []) → (n : ℕ) (s : S) (m : Mark) (left : List Bool) → length left < n
+    → ((items : List I) × Stream g s m items left) ⊎ ((items : List I) × (at : P) × (why : Why) × Refused g s m items left at why)
+read_all g needs zero s m left lt = absurd (omega arith)
+read_all {S = S} {I = I} {P = P} g needs (suc n) s m left lt = go (λ t k rest h. read_all g needs n t k rest h) (step_at g s (at_ left m)) refl
+  where
+    go : ((t : S) (k : Mark) (rest : List Bool) → length rest < n → ((items : List I) × Stream g t k items rest) ⊎ ((items : List I) × (at : P) × (why : Why) × Refused g t k items rest at why))
+        → (step : Step I P) → step_at g s (at_ left m) ≡ step → ((items : List I) × Stream g s m items left) ⊎ ((items : List I) × (at : P) × (why : Why) × Refused g s m items left at why)
+    go more (item x d) e =
+        let t = step_spelled g s m left x d e in
+        let some = spelled_some (g.layout s) (fresh m) t.0 x t.2 (needs s (fresh m)) in
+        let shorter : length d.left < n = omega (arith, lt, some, ap (λ (k : List Bool). length k) t.1, length-append t.0 d.left) in
+        read_on g s m x left t.0 d.left t.1 t.2 t.3 (more (g.next s x) (past t.0 (fresh m)) d.left shorter)
+    go more over e = let t = step_over g s m left e in inl ([], record { spelled = t.1; ends = t.0; kept = t.2 })
+    go more (refused at why) e = inr ([], at, why, record { front = []; left = left; stands = refl; spelled = refl; stops = step_stops g s m left at why e })
+
+-- where each item needs a bit, each input is a stream or refused
+pub some_reading : {S I P : Type 0} (g : Grammar S I P) → ((s : S) (m : Mark) → IsCut (g.layout s) m []) → SomeReading g
+some_reading g needs s m text = read_all g needs (suc (length text)) s m text (omega arith)

@@ -1,11 +1,11 @@
 -- Streams of items: what a step gives is what the grammar means, and no input has two readings.
-use Rattle.std.proofs.Common.{◌≡◌, ◌&&◌, Bool, true, false, cond, List, [], ◌∷◌, ◌++◌, Option, Some, None, Result, Ok, Err, refl, sym, ap, subst, ◌∙◌, append_assoc, inl, inr, ◌⊎◌}
+use Rattle.std.proofs.Common.{◌≡◌, ◌<◌, length, arith, ◌&&◌, Bool, true, false, cond, List, [], ◌∷◌, ◌++◌, Option, Some, None, Result, Ok, Err, refl, sym, ap, subst, ◌∙◌, append_assoc, inl, inr, ◌⊎◌}
 use Rattle.std.proofs.lemmas.List.{append-nil}
 use Rattle.flac_bits.specs.Bits.{is_nil}
 use Rattle.flac_bits.specs.State.{Mark, Cursor, past, fresh}
-use Rattle.flac_bits.specs.Layout.{Layout, Rule, Reason, because, run}
+use Rattle.flac_bits.specs.Layout.{Layout, Rule, Reason, because}
 use Rattle.flac_bits.specs.Meaning.{Spells, IsCut, AllKept, BreaksFirst}
-use Rattle.flac_bits.specs.Fence.{InRoom, StopsIn, read_in}
+use Rattle.flac_bits.specs.Fence.{InRoom, read_in}
 use Rattle.flac_bits.specs.Items.{Grammar, after, Joined, mark_behind, Stream, StopsAt, Refused, Step, item, over, refused, stepped, judged, step_at, NeedsBits}
 use Rattle.flac_bits.specs.declared.why.Why.{Why}
 use Rattle.flac_bits.proofs.Laws.{at_}
@@ -93,6 +93,10 @@ judged_no_item {I = I} {P = P} at (rule ∷ rules) x d e = go (λ f. judged_no_i
 spelled_by_none : {A : Type 0} (l : Layout A) (m : Mark) (front rest : List Bool) (x : A) → Spells l m front x → IsCut l m [] → front ++ rest ≡ [] → ⊥
 spelled_by_none l m [] rest x s cut e = differ (x, at_ [] m) (because m.short) (sym (again l m [] [] x s) ∙ cut_short l [] m cut)
 spelled_by_none l m (b ∷ bs) rest x s cut e = absurd cc
+
+pub spelled_some : {A : Type 0} (l : Layout A) (m : Mark) (front : List Bool) (x : A) → Spells l m front x → IsCut l m [] → 0 < length front
+spelled_some l m [] x s cut = absurd (spelled_by_none l m [] [] x s cut refl)
+spelled_some l m (b ∷ bs) x s cut = omega arith
 
 -- what is spelled is the next step
 pub spelled_step : {S I P : Type 0} (g : Grammar S I P) (needs : NeedsBits g) (s : S) (m : Mark) (front rest : List Bool) (x : I)

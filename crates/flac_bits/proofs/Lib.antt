@@ -5,7 +5,10 @@ pub mod Meaning
 pub mod CountedBytes
 pub mod Check
 pub mod Lists
+pub mod Digits
 pub mod Writing
+pub mod Standings
+pub mod Codes
 pub mod Words
 pub mod Holding
 pub mod Marks
@@ -16,10 +19,13 @@ pub mod Ties
 pub mod CodedTie
 pub mod Fences
 pub mod Items
+pub mod Appending
+pub mod Putting
 pub mod Signs
 pub mod Back
 pub mod Copied
 pub mod Handing
+pub mod ItemSpellings
 pub mod Coming
 pub mod Standing
 pub mod Fencing

@@ -121,7 +121,7 @@ put_bits w x c lt fits e =
     (split c 32 (h * 2 ^ 32 + x) ∙ ap (λ k. unsigned c k ++ unsigned 32 (h * 2 ^ 32 + x)) (shr_high h 32 x fits) ∙ ap (λ bs. unsigned c h ++ bs) (unsigned_low 32 h 32 x (omega arith)))
 
 -- one is zeros and a one
-one_bits : (z : ℕ) → unsigned (suc z) 1 ≡ unary_bits z
+pub one_bits : (z : ℕ) → unsigned (suc z) 1 ≡ unary_bits z
 one_bits zero = refl
 one_bits (suc z) =
     let top : bit_at 1 (suc z) ≡ 0 = bit_at-suc 1 z ∙ bit_at-zero z in

@@ -1,78 +1,160 @@
--- One more bit is written.
-use Rattle.std.proofs.Common.{◌≡◌, ℕ, zero, suc, ◌+◌, ◌-◌, ◌*◌, ◌/◌, ◌%◌, ◌^◌, ◌<◌, Bool, true, false, nat_eq, List, [], ◌∷◌, ◌++◌, bit_and, refl, sym, ap, ◌∙◌, arith, append_assoc}
-use Rattle.std.specs.Int.{bit_at}
+-- What was written, one piece after another.
+use Rattle.std.proofs.Common.{◌≡◌, ℕ, zero, suc, ◌+◌, ◌-◌, ◌*◌, ◌/◌, ◌%◌, ◌^◌, ◌<◌, ◌≤◌, Bool, true, false, nat_eq, List, [], ◌∷◌, ◌++◌, length, take, bit_and, Result, Ok, Err, refl, sym, ap, ◌∙◌, arith, append_assoc}
 use Rattle.std.proofs.lemmas.List.{append-nil}
-use Rattle.std.proofs.lemmas.Nat.Bits.{bit_at_lowest, bit_at-suc, shr_and_one}
-use Rattle.std.proofs.Common.{Result, Ok, Err}
-use Rattle.flac_bits.specs.Bits.{unsigned, bits_of, bit_value}
+use Rattle.flac_bits.specs.Bits.{bits_of}
 use Rattle.flac_bits.specs.Forms.{joined}
-use Rattle.flac_bits.specs.Written.{Written, Writes, WritesParts, behind_parts}
+use Rattle.flac_bits.specs.State.{Mark, past}
+use Rattle.flac_bits.specs.Written.{Written, Adds, Writes, Wrote, WritesParts, Fails, begins, behind_parts, past_parts}
 use Rattle.flac_bits.specs.declared.why.Why.{Why}
+use Rattle.flac_bits.proofs.Laws.{past-append}
 
-half : (v : ℕ) (b : Bool) → (v * 2 + bit_value b) / 2 ≡ v
-half v true = omega arith
-half v false = omega arith
+-- ---- beginnings
 
-low : (v : ℕ) (b : Bool) → nat_eq ((v * 2 + bit_value b) % 2) 1 ≡ b
-low v true = let e : (v * 2 + 1) % 2 ≡ 1 = omega arith in rw e refl
-low v false = let e : (v * 2 + 0) % 2 ≡ 0 = omega arith in rw e refl
+pub begins_itself : (front rest : List Bool) → begins front (front ++ rest) ≡ true
+unfolding begins
+begins_itself [] rest = refl
+begins_itself (true ∷ front) rest = begins_itself front rest
+begins_itself (false ∷ front) rest = begins_itself front rest
 
-pub unsigned-snoc : (n v : ℕ) (b : Bool) → unsigned (suc n) (v * 2 + bit_value b) ≡ unsigned n v ++ b ∷ []
-unsigned-snoc zero v b = ap (λ d. nat_eq d 1 ∷ []) (bit_at_lowest (v * 2 + bit_value b)) ∙ ap (λ c. c ∷ []) (low v b)
-unsigned-snoc (suc n) v b =
-    let top : bit_at (v * 2 + bit_value b) (suc n) ≡ bit_at v n = bit_at-suc (v * 2 + bit_value b) n ∙ ap (λ k. bit_at k n) (half v b) in
-    ap (λ d. nat_eq d 1 ∷ unsigned (suc n) (v * 2 + bit_value b)) top ∙ ap (λ bs. nat_eq (bit_at v n) 1 ∷ bs) (unsigned-snoc n v b)
+pub begins_more : (front whole more : List Bool) → begins front whole ≡ true → begins front (whole ++ more) ≡ true
+unfolding begins
+begins_more [] whole more e = refl
+begins_more (b ∷ front) [] more e = absurd cc
+begins_more (true ∷ front) (true ∷ whole) more e = begins_more front whole more e
+begins_more (true ∷ front) (false ∷ whole) more e = absurd cc
+begins_more (false ∷ front) (true ∷ whole) more e = absurd cc
+begins_more (false ∷ front) (false ∷ whole) more e = begins_more front whole more e
 
-pub bits_of-snoc : (xs : List ℕ) (b : ℕ) → bits_of (xs ++ b ∷ []) ≡ bits_of xs ++ unsigned 8 b
-bits_of-snoc [] b = append-nil (unsigned 8 b)
-bits_of-snoc (x ∷ xs) b = ap (λ bs. unsigned 8 x ++ bs) (bits_of-snoc xs b) ∙ sym (append_assoc (unsigned 8 x) (bits_of xs) (unsigned 8 b))
+-- a beginning is followed by some bits
+pub begins_is : (front whole : List Bool) → begins front whole ≡ true → (rest : List Bool) × (whole ≡ front ++ rest)
+unfolding begins
+begins_is [] whole e = (whole, refl)
+begins_is (b ∷ front) [] e = absurd cc
+begins_is (true ∷ front) (true ∷ whole) e = let r = begins_is front whole e in (r.0, ap (λ bs. true ∷ bs) r.1)
+begins_is (true ∷ front) (false ∷ whole) e = absurd cc
+begins_is (false ∷ front) (true ∷ whole) e = absurd cc
+begins_is (false ∷ front) (false ∷ whole) e = let r = begins_is front whole e in (r.0, ap (λ bs. false ∷ bs) r.1)
 
--- a byte that became whole
-pub whole : (sent sent' : List ℕ) (held v w : ℕ) (b : Bool) → held ≡ 7 → w ≡ v * 2 + bit_value b → sent' ≡ sent ++ w ∷ [] → bits_of sent' ++ [] ≡ (bits_of sent ++ unsigned held v) ++ b ∷ []
-whole sent sent' held v w b h e s = append-nil (bits_of sent') ∙ ap bits_of s ∙ bits_of-snoc sent w ∙ ap (λ k. bits_of sent ++ unsigned 8 k) e
-    ∙ ap (λ bs. bits_of sent ++ bs) (unsigned-snoc 7 v b) ∙ ap (λ k. bits_of sent ++ (unsigned k v ++ b ∷ [])) (sym h) ∙ sym (append_assoc (bits_of sent) (unsigned held v) (b ∷ []))
+pub begins_at : (front whole rest : List Bool) → whole ≡ front ++ rest → begins front whole ≡ true
+begins_at front whole rest e = ap (begins front) e ∙ begins_itself front rest
 
-pub part : (sent : List ℕ) (held v w : ℕ) (b : Bool) → w ≡ bit_value b → bits_of sent ++ unsigned (held + 1) (v * 2 + w) ≡ (bits_of sent ++ unsigned held v) ++ b ∷ []
-part sent held v w b e =
-    let k : held + 1 ≡ suc held = omega arith in
-    ap (λ j. bits_of sent ++ unsigned j (v * 2 + w)) k ∙ ap (λ j. bits_of sent ++ unsigned (suc held) (v * 2 + j)) e ∙ ap (λ bs. bits_of sent ++ bs) (unsigned-snoc held v b) ∙ sym (append_assoc (bits_of sent) (unsigned held v) (b ∷ []))
+-- ---- one piece and then others
 
--- the bits of a number that are still to be written
-pub number_rest : (n i value : ℕ) → i < n → unsigned (n - i) value ≡ nat_eq (bit_and (value / 2 ^ (n - 1 - i)) 1) 1 ∷ unsigned (n - (i + 1)) value
-number_rest n i value lt =
-    let k : n - i ≡ suc (n - (i + 1)) = omega arith in
-    let j : n - 1 - i ≡ n - (i + 1) = omega arith in
-    ap (λ x. unsigned x value) k ∙ ap (λ d. nat_eq d 1 ∷ unsigned (n - (i + 1)) value) (sym (shr_and_one value (n - (i + 1)))) ∙ ap (λ x. nat_eq (bit_and (value / 2 ^ x) 1) 1 ∷ unsigned (n - (i + 1)) value) (sym j)
+-- the target failed in a later call
+pub fails_later : {bits : List Bool} {old mid new : Written} {e : Why} (bits' : List Bool) → (old.known ≡ true → mid.known ≡ true) → mid.errors ≡ old.errors → mid.names ≡ old.names
+    → (more : List Bool) → (old.known ≡ true → bits' ≡ bits ++ more) → Fails bits mid new e → Fails bits' old new e
+fails_later {bits = bits} {old = old} {mid = mid} {new = new} bits' known errors names more is f = record {
+  reason = f.reason;
+  kept = let le = f.kept in omega (arith, errors, le);
+  names = f.names ∙ names;
+  rises = λ k. let lt = f.rises (known k) in omega (arith, errors, lt);
+  begun = λ k. ap (begins (bits_of new.sent)) (is k) ∙ begins_more (bits_of new.sent) bits more (f.begun (known k));
+}
 
-pub behind_joined : (bits : List Bool) (parts : List (List Bool)) → behind_parts bits parts ≡ bits ++ joined parts
+pub fails_more : {bits : List Bool} {old new : Written} {e : Why} (more : List Bool) → Fails bits old new e → Fails (bits ++ more) old new e
+fails_more {bits = bits} more f = fails_later (bits ++ more) (λ k. k) refl refl more (λ _. refl) f
+
+-- a piece that was written, and what came of the next
+pub adds_then : {a b : List Bool} {old mid new : Written} → Adds a old mid → Adds b mid new → Adds (a ++ b) old new
+adds_then {a = a} {b = b} {old = old} p q = record {
+  known = λ k. q.known (p.known k);
+  errors = q.errors ∙ p.errors;
+  names = q.names ∙ p.names;
+  mark = q.mark ∙ ap (past b) p.mark ∙ sym (past-append a b old.mark);
+  bits = λ k. q.bits (p.known k) ∙ ap (λ bits. bits ++ b) (p.bits k) ∙ append_assoc old.bits a b;
+}
+
+pub fails_then : {a : List Bool} {old mid new : Written} {e : Why} (b : List Bool) → Adds a old mid → Fails (mid.bits ++ b) mid new e → Fails (old.bits ++ (a ++ b)) old new e
+fails_then {a = a} {old = old} {mid = mid} b p f =
+    fails_later (old.bits ++ (a ++ b)) p.known p.errors p.names [] (λ k. sym (append_assoc old.bits a b) ∙ ap (λ bits. bits ++ b) (sym (p.bits k)) ∙ sym (append-nil (mid.bits ++ b))) f
+
+pub writes_then : {X : Type 0} {a : List Bool} {old mid : Written} (b : List Bool) (new : Written) (result : Result X Why) → Adds a old mid → Writes b mid new result → Writes (a ++ b) old new result
+writes_then b new (Ok x) p q = adds_then p q
+writes_then b new (Err e) p q = fails_then b p q
+
+-- a piece that was not written, of more bits
+pub fails_first : {old new : Written} {e : Why} (a b : List Bool) → Fails (old.bits ++ a) old new e → Fails (old.bits ++ (a ++ b)) old new e
+fails_first {old = old} a b f = fails_later (old.bits ++ (a ++ b)) (λ k. k) refl refl b (λ _. sym (append_assoc old.bits a b)) f
+
+-- ---- a loop
+
+-- What was written so far and the bits that are still to be written are the bits written before and the whole.
+pub record Towards (rest whole : List Bool) (old now : Written) : Type 0 where
+  pub known : old.known ≡ true → now.known ≡ true
+  pub errors : now.errors ≡ old.errors
+  pub names : now.names ≡ old.names
+  pub mark : past rest now.mark ≡ past whole old.mark
+  pub bits : old.known ≡ true → now.bits ++ rest ≡ old.bits ++ whole
+
+pub towards_start : (whole : List Bool) (w : Written) → Towards whole whole w w
+towards_start whole w = record { known = λ k. k; errors = refl; names = refl; mark = refl; bits = λ _. refl }
+
+pub towards_more : {rest' whole part : List Bool} {old now new : Written} (rest : List Bool) → rest' ≡ part ++ rest → Towards rest' whole old now → Adds part now new → Towards rest whole old new
+towards_more {part = part} {old = old} {now = now} {new = new} rest is t a = record {
+  known = λ k. a.known (t.known k);
+  errors = a.errors ∙ t.errors;
+  names = a.names ∙ t.names;
+  mark = ap (past rest) a.mark ∙ sym (past-append part rest now.mark) ∙ ap (λ bs. past bs now.mark) (sym is) ∙ t.mark;
+  bits = λ k. ap (λ bits. bits ++ rest) (a.bits (t.known k)) ∙ append_assoc now.bits part rest ∙ ap (λ bs. now.bits ++ bs) (sym is) ∙ t.bits k;
+}
+
+pub towards_end : {rest whole : List Bool} {old now : Written} → rest ≡ [] → Towards rest whole old now → Adds whole old now
+towards_end {old = old} {now = now} is t = record {
+  known = t.known;
+  errors = t.errors;
+  names = t.names;
+  mark = ap (λ bs. past bs now.mark) (sym is) ∙ t.mark;
+  bits = λ k. sym (append-nil now.bits) ∙ ap (λ bs. now.bits ++ bs) (sym is) ∙ t.bits k;
+}
+
+-- the last piece
+pub towards_last : {X : Type 0} {rest whole : List Bool} {old now : Written} (new : Written) (result : Result X Why) → Towards rest whole old now → Writes rest now new result → Writes whole old new result
+towards_last new (Ok x) t a = record { known = λ k. a.known (t.known k); errors = a.errors ∙ t.errors; names = a.names ∙ t.names; mark = a.mark ∙ t.mark; bits = λ k. a.bits (t.known k) ∙ t.bits k }
+towards_last {rest = rest} {whole = whole} {old = old} {now = now} new (Err e) t f = fails_later (old.bits ++ whole) t.known t.errors t.names [] (λ k. sym (t.bits k) ∙ sym (append-nil (now.bits ++ rest))) f
+
+pub towards_fail : {rest' whole : List Bool} {old now new : Written} {e : Why} (part rest : List Bool) → rest' ≡ part ++ rest → Towards rest' whole old now → Fails (now.bits ++ part) now new e → Fails (old.bits ++ whole) old new e
+towards_fail {whole = whole} {old = old} {now = now} part rest is t f =
+    fails_later (old.bits ++ whole) t.known t.errors t.names rest (λ k. sym (t.bits k) ∙ ap (λ bs. now.bits ++ bs) is ∙ sym (append_assoc now.bits part rest)) f
+
+-- ---- a chain of calls
+
+behind_joined : (bits : List Bool) (parts : List (List Bool)) → behind_parts bits parts ≡ bits ++ joined parts
 behind_joined bits [] = sym (append-nil bits)
 behind_joined bits (part ∷ parts) = behind_joined (bits ++ part) parts ∙ append_assoc bits part (joined parts)
 
+past_joined : (parts : List (List Bool)) (m : Mark) → past_parts parts m ≡ past (joined parts) m
+past_joined [] m = refl
+past_joined (part ∷ parts) m = past_joined parts (past part m) ∙ sym (past-append part (joined parts) m)
+
 -- what is written part by part is written
 pub parts_written : {X : Type 0} (parts : List (List Bool)) (old new : Written) (result : Result X Why) → WritesParts parts old new result → Writes (joined parts) old new result
-parts_written parts old new (Ok x) w = (w.0, w.1, λ known. w.2 known ∙ behind_joined old.bits parts)
-parts_written parts old new (Err e) w = w
-
--- what was written so far, part by part
-pub record Wrote (parts : List (List Bool)) (old new : Written) : Type 0 where
-  pub known : old.known ≡ true → new.known ≡ true
-  pub errors : new.errors ≡ old.errors
-  pub bits : old.known ≡ true → new.bits ≡ behind_parts old.bits parts
+parts_written parts old new (Ok x) w = record { known = w.known; errors = w.errors; names = w.names; mark = w.mark ∙ past_joined parts old.mark; bits = λ k. w.bits k ∙ behind_joined old.bits parts }
+parts_written parts old new (Err e) f =
+    fails_later (old.bits ++ joined parts) (λ k. k) refl refl [] (λ _. sym (behind_joined old.bits parts) ∙ sym (append-nil (behind_parts old.bits parts))) f
 
 pub wrote_none : (w : Written) → Wrote [] w w
-wrote_none w = record { known = λ known. known; errors = refl; bits = λ known. refl }
+wrote_none w = record { known = λ known. known; errors = refl; names = refl; mark = refl; bits = λ known. refl }
 
-behind_more : (bits : List Bool) (parts : List (List Bool)) (part : List Bool) → behind_parts bits (parts ++ part ∷ []) ≡ behind_parts bits parts ++ part
-behind_more bits [] part = refl
-behind_more bits (p ∷ parts) part = behind_more (bits ++ p) parts part
+behind_more : (bits : List Bool) (parts : List (List Bool)) (part : List Bool) (more : List (List Bool)) → behind_parts bits (parts ++ part ∷ more) ≡ behind_parts (behind_parts bits parts ++ part) more
+behind_more bits [] part more = refl
+behind_more bits (p ∷ parts) part more = behind_more (bits ++ p) parts part more
 
-pub wrote_more : {parts : List (List Bool)} {old mid : Written} (new : Written) (last : List Bool) → Wrote parts old mid
-    → (mid.known ≡ true → new.known ≡ true) × (new.errors ≡ mid.errors) × (mid.known ≡ true → new.bits ≡ mid.bits ++ last) → Wrote (parts ++ last ∷ []) old new
-wrote_more {parts = parts} {old = old} new last w h = record {
-  known = λ known. h.0 (w.known known);
-  errors = h.1 ∙ w.errors;
-  bits = λ known. h.2 (w.known known) ∙ ap (λ b. b ++ last) (w.bits known) ∙ sym (behind_more old.bits parts last);
+past_more : (m : Mark) (parts : List (List Bool)) (part : List Bool) → past_parts (parts ++ part ∷ []) m ≡ past part (past_parts parts m)
+past_more m [] part = refl
+past_more m (p ∷ parts) part = past_more (past p m) parts part
+
+pub wrote_more : {parts : List (List Bool)} {last : List Bool} {old mid new : Written} → Wrote parts old mid → Adds last mid new → Wrote (parts ++ last ∷ []) old new
+wrote_more {parts = parts} {last = last} {old = old} w a = record {
+  known = λ k. a.known (w.known k);
+  errors = a.errors ∙ w.errors;
+  names = a.names ∙ w.names;
+  mark = a.mark ∙ ap (past last) w.mark ∙ sym (past_more old.mark parts last);
+  bits = λ k. a.bits (w.known k) ∙ ap (λ b. b ++ last) (w.bits k) ∙ sym (behind_more old.bits parts last []);
 }
 
-pub wrote_parts : (parts : List (List Bool)) (old new : Written) → Wrote parts old new → (old.known ≡ true → new.known ≡ true) × (new.errors ≡ old.errors) × (old.known ≡ true → new.bits ≡ behind_parts old.bits parts)
-wrote_parts parts old new w = (w.known, w.errors, w.bits)
+-- the part that was not written, before others
+pub wrote_fails : {parts : List (List Bool)} {old mid new : Written} {e : Why} (last : List Bool) (more : List (List Bool)) → Wrote parts old mid → Fails (mid.bits ++ last) mid new e
+    → Fails (behind_parts old.bits (parts ++ last ∷ more)) old new e
+wrote_fails {parts = parts} {old = old} {mid = mid} last more w f =
+    fails_later (behind_parts old.bits (parts ++ last ∷ more)) w.known w.errors w.names (joined more)
+    (λ k. behind_more old.bits parts last more ∙ ap (λ b. behind_parts (b ++ last) more) (sym (w.bits k)) ∙ behind_joined (mid.bits ++ last) more) f

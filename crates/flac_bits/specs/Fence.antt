@@ -1,5 +1,5 @@
 -- A fence: an item may have so many bytes at most, and no bit past them is read. (Of a frame STREAMINFO tells the size in 24 bits: RFC 9639, section 8.2.)
-use Rattle.std.specs.Prelude.{◌≡◌, ℕ, ◌+◌, ◌*◌, ◌<◌, ◌≤◌, Bool, cond, nat_le, List, ◌++◌, length, take, drop, Option, Some, None, Result, Ok, Err, ◌⊎◌, ⊤}
+use Rattle.std.specs.Prelude.{◌≡◌, ℕ, ◌+◌, ◌*◌, ◌<◌, ◌≤◌, Bool, cond, nat_le, List, ◌++◌, length, take, drop, Option, Some, None, Result, Ok, ◌⊎◌, ⊤}
 use Rattle.flac_bits.specs.State.{Mark, Cursor, with_short}
 use Rattle.flac_bits.specs.Layout.{Layout, Reason, run, and_then}
 use Rattle.flac_bits.specs.Meaning.{Shows, IsCut}

@@ -1,5 +1,5 @@
 -- What a call hands to a receiver, which reads a stream item by item.
-use Rattle.std.specs.Prelude.{◌≡◌, ◌≢◌, ◌<◌, ℕ, Bool, true, List, [], ◌∷◌, ◌++◌, Option, Some, None, Result, Ok, Err}
+use Rattle.std.specs.Prelude.{◌≡◌, ◌≢◌, ◌<◌, ℕ, Bool, true, List, [], ◌∷◌, ◌++◌, Option, Some, None, Result, Ok, Err, ◌⊎◌}
 use Rattle.flac_bits.specs.State.{Mark, Cursor, State}
 use Rattle.flac_bits.specs.Items.{Grammar, after, Joined, Stream, Refused, Step, item, over, refused}
 use Rattle.flac_bits.specs.declared.why.Why.{Why}
@@ -67,3 +67,8 @@ pub record ReadsOnce {S I P : Type 0} (g : Grammar S I P) (s : S) (mark : Mark) 
 
 abbrev pub OneReading : {S I P : Type 0} → Grammar S I P → Type 0
 OneReading {S = S} g = (s : S) (mark : Mark) (text : List Bool) → ReadsOnce g s mark text
+
+-- and each input has one
+abbrev pub SomeReading : {S I P : Type 0} → Grammar S I P → Type 0
+SomeReading {S = S} {I = I} {P = P} g =
+    (s : S) (mark : Mark) (text : List Bool) → ((items : List I) × Stream g s mark items text) ⊎ ((items : List I) × (at : P) × (why : Why) × Refused g s mark items text at why)

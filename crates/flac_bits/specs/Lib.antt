@@ -16,5 +16,7 @@ pub mod Items
 pub mod Handing
 pub mod Signed
 pub mod Sending
+pub mod Unsent
+pub mod Standing
 pub mod Fencing
 pub mod Reasons

@@ -1,24 +1,83 @@
 -- What a bit writer has written.
-use Rattle.std.specs.Prelude.{◌≡◌, ℕ, Bool, true, List, [], ◌∷◌, ◌++◌, Result, Ok, Err}
+use Rattle.std.specs.Prelude.{◌≡◌, ◌<◌, ◌≤◌, ℕ, Bool, true, false, cond, List, [], ◌∷◌, ◌++◌, Result, Ok, Err}
+use Rattle.std.specs.Borrow.{GName}
+use Rattle.flac_bits.specs.Bits.{bits_of}
+use Rattle.flac_bits.specs.State.{Mark, past, fresh}
 use Rattle.flac_bits.specs.declared.why.Why.{Why}
+use Rattle.flac_bits.specs.declared.why.Why.TheVariants.{Write}
 
--- whether the target tells its bytes, how many errors it answered, and all bits that were written
 pub record Written : Type 0 where
+  -- the target tells its bytes
   pub known : Bool
+  -- errors that it answered
   pub errors : ℕ
+  -- the references that it goes through
+  pub names : List GName
+  -- the bytes that it was sent
+  pub sent : List ℕ
+  -- all bits that were written: those that were sent, and those that are still held
   pub bits : List Bool
+  -- what is known of the bits written, as of those that a reader has read
+  pub mark : Mark
 
--- these bits were written, where the target tells its bytes; else the target failed
+-- the first bits are a beginning of the second
+unfoldable pub begins : List Bool → List Bool → Bool
+begins [] whole = true
+begins (b ∷ front) [] = false
+begins (true ∷ front) (c ∷ whole) = cond c (begins front whole) false
+begins (false ∷ front) (c ∷ whole) = cond c false (begins front whole)
+
+-- The target failed: its count rose where it tells its bytes, and what it was sent is a beginning of these bits.
+pub record Fails (bits : List Bool) (old new : Written) (e : Why) : Type 0 where
+  pub reason : e ≡ Write
+  pub kept : old.errors ≤ new.errors
+  pub names : new.names ≡ old.names
+  pub rises : old.known ≡ true → old.errors < new.errors
+  pub begun : old.known ≡ true → begins (bits_of new.sent) bits ≡ true
+
+-- these bits were written behind those before
+pub record Adds (text : List Bool) (old new : Written) : Type 0 where
+  pub known : old.known ≡ true → new.known ≡ true
+  pub errors : new.errors ≡ old.errors
+  pub names : new.names ≡ old.names
+  pub mark : new.mark ≡ past text old.mark
+  pub bits : old.known ≡ true → new.bits ≡ old.bits ++ text
+
 abbrev pub Writes : {X : Type 0} → List Bool → Written → Written → Result X Why → Type 0
-Writes text old new (Ok x) = (old.known ≡ true → new.known ≡ true) × (new.errors ≡ old.errors) × (old.known ≡ true → new.bits ≡ old.bits ++ text)
-Writes text old new (Err e) = old.known ≡ true → new.errors ≡ old.errors → ⊥
+Writes text old new (Ok x) = Adds text old new
+Writes text old new (Err e) = Fails (old.bits ++ text) old new e
+
+-- the checks began anew, where the bits written are whole bytes
+pub record Restarts (old new : Written) : Type 0 where
+  pub known : old.known ≡ true → new.known ≡ true
+  pub errors : new.errors ≡ old.errors
+  pub names : new.names ≡ old.names
+  pub mark : new.mark ≡ fresh old.mark
+  pub bits : old.known ≡ true → new.bits ≡ old.bits
+
+abbrev pub Starts : {X : Type 0} → Written → Written → Result X Why → Type 0
+Starts old new (Ok x) = Restarts old new
+Starts old new (Err e) = Fails old.bits old new e
 
 -- bits behind which these parts were written, one after another
 abbrev pub behind_parts : List Bool → List (List Bool) → List Bool
 behind_parts bits [] = bits
 behind_parts bits (part ∷ parts) = behind_parts (bits ++ part) parts
 
+-- the mark behind these parts
+abbrev pub past_parts : List (List Bool) → Mark → Mark
+past_parts [] m = m
+past_parts (part ∷ parts) m = past_parts parts (past part m)
+
+-- these parts were written, one after another
+pub record Wrote (parts : List (List Bool)) (old new : Written) : Type 0 where
+  pub known : old.known ≡ true → new.known ≡ true
+  pub errors : new.errors ≡ old.errors
+  pub names : new.names ≡ old.names
+  pub mark : new.mark ≡ past_parts parts old.mark
+  pub bits : old.known ≡ true → new.bits ≡ behind_parts old.bits parts
+
 -- the same as Writes of the joined parts, in the form that a chain of calls gives
 abbrev pub WritesParts : {X : Type 0} → List (List Bool) → Written → Written → Result X Why → Type 0
-WritesParts parts old new (Ok x) = (old.known ≡ true → new.known ≡ true) × (new.errors ≡ old.errors) × (old.known ≡ true → new.bits ≡ behind_parts old.bits parts)
-WritesParts parts old new (Err e) = old.known ≡ true → new.errors ≡ old.errors → ⊥
+WritesParts parts old new (Ok x) = Wrote parts old new
+WritesParts parts old new (Err e) = Fails (behind_parts old.bits parts) old new e

@@ -479,6 +479,7 @@ impl<R: Source> BitReader<R> {
 
     /// The bits up to the next whole byte, and whether they are zeros.
     pub fn align(&mut self) -> Result<bool, Why>
+        ensures spends { OnOk result (self.new.most ≤ self.old.most) }
         ensures counts { Counts self.old self.new result }
         ensures reads { Reads (λ b. b) to_byte self.old self.new result }
     {

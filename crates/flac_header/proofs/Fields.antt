@@ -85,19 +85,19 @@ size_tie code m = tie (size_field code) m (IsSize code) (size_spelling code)
     (λ seven. named_size code (2 ^ code) six seven (rw (no_1, many) refl))))))
     (λ size v. by_test (nat_eq code 1)
     (λ one. choose_true (nat_eq code 1) _ _ m _ one
-      (let is = size_named code size (one_is_no_6 code one) (one_is_no_7 code one) v in let n : size ≡ 192 = is ∙ rw one refl in
-      ((named_size code size (one_is_no_6 code one) (one_is_no_7 code one) is).1, sym n)))
+    (let is = size_named code size (one_is_no_6 code one) (one_is_no_7 code one) v in let n : size ≡ 192 = is ∙ rw one refl in
+    ((named_size code size (one_is_no_6 code one) (one_is_no_7 code one) is).1, sym n)))
     (λ no_1. choose_false (nat_eq code 1) _ _ m _ no_1 (by_test (nat_lt code 6)
     (λ few. choose_true (nat_lt code 6) _ _ m _ few
-      (let is = size_named code size (no_6 code (below code 6 few)) (no_7 code (below code 6 few)) v in let n : size ≡ 144 * 2 ^ code = is ∙ rw (no_1, few) refl in
-      ((named_size code size (no_6 code (below code 6 few)) (no_7 code (below code 6 few)) is).1, sym n)))
+    (let is = size_named code size (no_6 code (below code 6 few)) (no_7 code (below code 6 few)) v in let n : size ≡ 144 * 2 ^ code = is ∙ rw (no_1, few) refl in
+    ((named_size code size (no_6 code (below code 6 few)) (no_7 code (below code 6 few)) is).1, sym n)))
     (λ many. choose_false (nat_lt code 6) _ _ m _ many (by_test (nat_eq code 6)
     (λ six. choose_true (nat_eq code 6) _ _ m _ six (let k = to_6 code size six v in (size - 1, k.0, (k.1, k.2))))
     (λ six. choose_false (nat_eq code 6) _ _ m _ six (by_test (nat_eq code 7)
     (λ seven. choose_true (nat_eq code 7) _ _ m _ seven (let k = to_7 code size six seven v in (size - 1, k.0, ((k.1, tt), (k.2, k.3)))))
     (λ seven. choose_false (nat_eq code 7) _ _ m _ seven
-      (let is = size_named code size six seven v in let n : size ≡ 2 ^ code = is ∙ rw (no_1, many) refl in
-      ((named_size code size six seven is).1, sym n))))))))))
+    (let is = size_named code size six seven v in let n : size ≡ 2 ^ code = is ∙ rw (no_1, many) refl in
+    ((named_size code size six seven is).1, sym n))))))))))
 
 -- ---- rates
 
@@ -150,9 +150,10 @@ from_14 : (code v : ℕ) → nat_lt code 12 ≡ false → nat_eq code 12 ≡ fal
     → IsRate code (v * 10) × (unsigned 16 v ++ [] ≡ rate_spelling code (v * 10))
 unfolding rate_spelling
 from_14 code v many twelve thirteen fourteen lt =
-    let back : v * 10 / 10 ≡ v = omega arith in
-    (record { least = rw many (omega arith); greatest = rw (many, twelve, thirteen) (omega (arith, lt)); whole = rw (twelve, fourteen) (omega arith) },
-      rw (twelve, thirteen, fourteen, back) (append-nil (unsigned 16 v)))
+    let back : v * 10 / 10 ≡ v = omega arith in (
+      record { least = rw many (omega arith); greatest = rw (many, twelve, thirteen) (omega (arith, lt)); whole = rw (twelve, fourteen) (omega arith) },
+      rw (twelve, thirteen, fourteen, back) (append-nil (unsigned 16 v)),
+    )
 
 to_12 : (code rate : ℕ) → nat_lt code 12 ≡ false → nat_eq code 12 ≡ true → IsRate code rate → (rate / 1000 < 2 ^ 8) × (unsigned 8 (rate / 1000) ++ [] ≡ rate_spelling code rate) × (rate / 1000 * 1000 ≡ rate)
 unfolding rate_spelling
@@ -189,4 +190,4 @@ rate_tie code m lt = tie (rate_field code) m (IsRate code) (rate_spelling code)
     (λ twelve. choose_false (nat_eq code 12) _ _ m _ twelve (by_test (nat_eq code 13)
     (λ thirteen. choose_true (nat_eq code 13) _ _ m _ thirteen (let k = to_13 code rate many twelve thirteen v in (rate, k.0, (k.1, refl))))
     (λ thirteen. choose_false (nat_eq code 13) _ _ m _ thirteen
-      (let k = to_14 code rate many twelve thirteen (is_14 code lt many twelve thirteen) v in (rate / 10, k.0, (k.1, k.2)))))))))
+    (let k = to_14 code rate many twelve thirteen (is_14 code lt many twelve thirteen) v in (rate / 10, k.0, (k.1, k.2)))))))))

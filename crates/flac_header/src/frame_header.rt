@@ -1,6 +1,6 @@
 //! The value of a frame header.
 
-ghost use Rattle.std.specs.Prelude.{◌≡◌, ◌≤◌};
+ghost use Rattle.std.specs.Prelude.{◌≡◌, ◌≤◌, ◌<◌, ◌^◌};
 ghost use Rattle.flac_header.specs.Header.{channels_of, depth_of};
 
 use std::marker::Model;
@@ -92,7 +92,8 @@ impl FrameHeader {
 
     /// The number of the frame or of its first sample, below 2^36 (section 9.1.5).
     pub fn number(&self) -> u64
-        ensures { result ≡ self.now.number }
+        ensures number { result ≡ self.now.number }
+        ensures small { result < 2 ^ 36 }
     {
         self.number
     }

@@ -2,9 +2,11 @@
 #![tactic(auto)]
 
 mod frame_header;
+mod promises;
 mod read;
 mod subset;
 
 pub use frame_header::FrameHeader;
+pub use promises::headers_are_spelled;
 pub use read::read_header;
 pub use subset::{Profile, subset_allows};

@@ -1,1 +1,4 @@
 pub mod Skips
+pub mod Turns
+pub mod Zeros
+pub mod Reasons

@@ -1,31 +1,52 @@
 -- A metadata block (RFC 9639, section 8).
-use Rattle.std.specs.Prelude.{ℕ, ◌*◌, Bool, true, nat_eq}
-use Rattle.flac_bits.specs.Layout.{Layout, done, refuse, ◌>>=◌, choose}
-use Rattle.flac_bits.specs.declared.why.Why.TheVariants.{NotYet}
+use Rattle.std.specs.Prelude.{◌≡◌, ℕ, ◌-◌, ◌*◌, ◌/◌, ◌<◌, Bool, true, nat_eq, None, Result, Ok, Err}
+use Rattle.flac_bits.specs.State.{State, Cursor}
+use Rattle.flac_bits.specs.Layout.{Layout, done, ◌>>=◌, bits, choose, run}
+use Rattle.flac_bits.specs.Lists.{list_of}
 use Rattle.flac_meta.specs.Info.{stream_info}
 use Rattle.flac_meta.specs.Header.{block_header}
 use Rattle.flac_meta.specs.Padding.{skipped}
+use Rattle.flac_meta.specs.SeekTable.{seek_points}
+use Rattle.flac_meta.specs.Comments.{comments}
+use Rattle.flac_meta.specs.CueSheet.{cue_sheet}
+use Rattle.flac_meta.specs.Picture.{picture}
+use Rattle.flac_bits.specs.declared.why.Why.{Why}
+use Rattle.flac_bits.specs.declared.why.Why.TheVariants.{Memory}
+use Rattle.flac_meta.specs.declared.header.BlockHeader.{BlockHeader}
 use Rattle.flac_meta.specs.declared.seen.Seen.{Seen}
 use Rattle.flac_meta.specs.declared.block.Block.{Block}
 use Rattle.flac_meta.specs.declared.block.Block.TheVariants as block_of
 
--- STREAMINFO (section 8.2)
-abbrev pub info_content : Layout Block
-info_content = do
-  info ← stream_info
-  done (block_of.StreamInfo info)
-
 -- padding: its bytes may have any value (section 8.3)
-abbrev pub padding_content : ℕ → Layout Block
-padding_content length = do
+unfoldable pub padding : ℕ → Layout Block
+padding length = do
   _ ← skipped (8 * length)
   done (block_of.Padding length)
 
--- the content of a block of this kind and of this length in bytes
+-- an identifier of 4 bytes, and the application's data (section 8.4)
+unfoldable pub application : ℕ → Layout Block
+application length = do
+  id ← list_of 4 (bits 8)
+  bytes ← list_of (length - 4) (bits 8)
+  done (block_of.Application id bytes)
+
+-- a kind that is reserved: bytes that are kept
+unfoldable pub other : ℕ → ℕ → Layout Block
+other kind length = do
+  bytes ← list_of length (bits 8)
+  done (block_of.Other kind bytes)
+
+-- the content of a block of this kind and of this length in bytes (section 8.1, the table of kinds)
 unfoldable pub content : ℕ → ℕ → Layout Block
 content kind length =
-    choose (nat_eq kind 0) info_content
-    (choose (nat_eq kind 1) (padding_content length) (refuse NotYet))
+    choose (nat_eq kind 0) (stream_info >>= λ info. done (block_of.StreamInfo info))
+    (choose (nat_eq kind 1) (padding length)
+    (choose (nat_eq kind 2) (application length)
+    (choose (nat_eq kind 3) (seek_points (length / 18) None >>= λ points. done (block_of.SeekTable points))
+    (choose (nat_eq kind 4) (comments length >>= λ found. done (block_of.VorbisComment found))
+    (choose (nat_eq kind 5) (cue_sheet length >>= λ sheet. done (block_of.CueSheet sheet))
+    (choose (nat_eq kind 6) (picture length >>= λ found. done (block_of.Picture found))
+    (other kind length)))))))
 
 -- whether it is the last block, and the block
 unfoldable pub block : Seen → Layout (Bool × Block)
@@ -38,5 +59,10 @@ block seen = do
 abbrev pub seen_after : Seen → Block → Seen
 seen_after seen (block_of.StreamInfo info) = record seen { stream_info = true }
 seen_after seen (block_of.SeekTable points) = record seen { seek_table = true }
-seen_after seen (block_of.VorbisComment comments) = record seen { comments = true }
-seen_after seen other = seen
+seen_after seen (block_of.VorbisComment found) = record seen { comments = true }
+seen_after seen found = seen
+
+-- Memory is asked for only where a good header announces a kind that holds some: neither STREAMINFO nor padding.
+abbrev pub MemoryAsked : {X : Type 0} → Seen → State → State → Result X Why → Type 0
+MemoryAsked seen old new result = result ≡ Err Memory → old.known ≡ true → new.errors ≡ old.errors → (old.cursor.mark.short ≡ Memory → ⊥)
+    → (header : BlockHeader) × (behind : Cursor) × (run (block_header seen) old.cursor ≡ Ok (header, behind)) × (1 < header.kind)

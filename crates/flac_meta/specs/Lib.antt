@@ -1,4 +1,9 @@
 pub mod Info
 pub mod Header
-pub mod Block
 pub mod Padding
+pub mod Fields
+pub mod SeekTable
+pub mod Comments
+pub mod Picture
+pub mod CueSheet
+pub mod Block

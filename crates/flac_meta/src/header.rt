@@ -1,6 +1,6 @@
 //! The header of a metadata block.
 
-ghost use Rattle.std.specs.Prelude.{OnOk, IfOk, ◌+◌, ◌<◌, ◌≤◌, ◌^◌};
+ghost use Rattle.std.specs.Prelude.{OnOk, IfOk, ◌≡◌, ◌+◌, ◌<◌, ◌≤◌, ◌^◌};
 ghost use Rattle.flac_bits.specs.Reading.{Counts, Reads};
 ghost use Rattle.flac_meta.specs.Header.{block_header};
 
@@ -22,6 +22,7 @@ pub fn read_block_header<R: Source>(
     seen: &Seen,
 ) -> Result<BlockHeader, Why>
     ensures small { IfOk result (λ h. h.length < 2 ^ 24) }
+    ensures id { IfOk result (λ h. h.kind ≡ 2 → 4 ≤ h.length) }
     ensures spends { OnOk result (bits.new.most + 32 ≤ bits.old.most) }
     ensures counts { Counts bits.old bits.new result }
     ensures reads { Reads (λ h. h) (block_header seen.now) bits.old bits.new result }

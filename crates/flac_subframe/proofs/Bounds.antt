@@ -1,11 +1,12 @@
 -- Bounds on signed products and sums.
-use Rattle.std.proofs.Common.{◌≡◌, ℕ, ◌+◌, ◌-◌, ◌*◌, ◌^◌, ◌≤◌, ◌<◌, refl, arith, ℤ, pos, ◌+ℤ◌, ◌*ℤ◌, FitsSigned, to_z, of_z, w32, w64, negsuc}
+use Rattle.std.proofs.Common.{◌≡◌, ℕ, ◌+◌, ◌-◌, ◌*◌, ◌^◌, ◌≤◌, ◌<◌, refl, arith, ℤ, pos, ◌+ℤ◌, ◌*ℤ◌, FitsSigned, to_z, of_z, w32, w64, negsuc, List, All}
 use Rattle.std.specs.Int.RustNames.{unsigned_abs}
 use Rattle.std.specs.Int.{int_shr}
 use Rattle.std.proofs.lemmas.Int.{ints, to_z-of_z, unsigned_abs-mul, fits_signed_from_abs}
 use Rattle.std.proofs.lemmas.Nat.{mul-le, shr_le}
 use Rattle.std.proofs.Math.Nat.{pow-le-pow_right}
-use Rattle.flac_subframe.specs.Numbers.{FitsBits}
+use Rattle.flac_bits.specs.Rice.{IsResidual}
+use Rattle.flac_bits.specs.Signed.{FitsBits}
 
 pub abs_from_bits_15 : (z : ℤ) → FitsBits 15 z → unsigned_abs z ≤ 2 ^ 14
 abs_from_bits_15 z f = omega (arith, ints, f.low, f.high)
@@ -72,3 +73,13 @@ pub fits_up : (m n : ℕ) (z : ℤ) → m ≤ n → FitsBits m z → FitsBits n 
 fits_up m n z le f =
     let h : 2 ^ (m - 1) ≤ 2 ^ (n - 1) = pow-le-pow_right {n = 2} (omega arith) {i = m - 1} {j = n - 1} (omega arith) in
     record { low = omega (arith, ints, f.low, f.high); high = omega (arith, ints, f.low, f.high) }
+
+pub all_fit_32 : (n : ℕ) (zs : List ℤ) → n ≤ 32 → All (FitsBits n) zs → All (FitsBits 32) zs
+all_fit_32 n zs few h = λ k d within. fits_up n 32 _ few (h k d within)
+
+-- the same for a place of 32 bits and a coefficient
+pub stored_32 : (bits : ℕ) (z : ℤ) → bits ≤ 15 → FitsBits bits z → to_z w32 (of_z w32 z) ≡ z
+stored_32 bits z few f = back_32 z (fits_up bits 15 z few f)
+
+pub residuals_fit : (zs : List ℤ) → All IsResidual zs → All (FitsBits 32) zs
+residuals_fit zs h = λ k d within. let r = h k d within in record { low = omega (arith, ints, r.low); high = omega (arith, ints, r.high) }

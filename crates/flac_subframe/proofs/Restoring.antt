@@ -7,7 +7,8 @@ use Rattle.std.proofs.lemmas.List.{get_or-set_same, get_or-set_other, get_or-tak
 use Rattle.std.proofs.lemmas.Bool.{cases_lt}
 use Rattle.std.proofs.lemmas.List.Elements.{All-from_get_or}
 use Rattle.flac_subframe.proofs.Bounds.{shifted_small, fits_more}
-use Rattle.flac_subframe.specs.Numbers.{FitsBits, sample_at}
+use Rattle.flac_bits.specs.Signed.{FitsBits}
+use Rattle.flac_subframe.specs.Numbers.{sample_at}
 use Rattle.flac_subframe.specs.Prediction.{prediction, weighted, Restored}
 
 -- a prediction reads only the samples before it

@@ -1,11 +1,13 @@
 -- Samples that are computed from a form that was read.
-use Rattle.std.proofs.Common.{◌≡◌, ℕ, ◌-◌, List, [], ◌∷◌, Bool, true, false, cond, Option, Some, None, Result, Ok, Err, refl, sym, ap, ◌∙◌, ℤ, All, arith, nat_lt, ◌<◌, ◌^◌, pos, negsuc, ◌≤◌, length, replicate}
+use Rattle.std.proofs.Common.{◌≡◌, ℕ, zero, suc, ◌-◌, List, [], ◌∷◌, Bool, true, false, cond, Option, Some, None, Result, Ok, Err, refl, sym, ap, ◌∙◌, ℤ, All, arith, nat_lt, ◌<◌, ◌^◌, pos, negsuc, ◌≤◌, length, replicate}
 use Rattle.flac_bits.specs.State.{Cursor}
-use Rattle.flac_bits.specs.Layout.{Layout, run, and_then, bind, done, Reason}
+use Rattle.flac_bits.specs.Lists.{list_of}
+use Rattle.flac_bits.specs.Layout.{number_at, number_from, Layout, run, and_then, bind, done, Reason}
 use Rattle.flac_subframe.specs.declared.limits.Limits.{Limits}
-use Rattle.flac_subframe.specs.Numbers.{FitsBits, sample_at, fits, all_fit}
-use Rattle.flac_subframe.specs.Fields.{signed_field}
-use Rattle.flac_subframe.specs.Subframe.{Content, Constant, Verbatim, Form, Header, header, content, subframe, samples_of, scaled, fitting, restored_samples, content_samples, subframe_samples}
+use Rattle.flac_bits.specs.Signed.{FitsBits}
+use Rattle.flac_subframe.specs.Numbers.{sample_at, fits, all_fit}
+use Rattle.flac_bits.specs.Signed.{signed_field}
+use Rattle.flac_subframe.specs.Subframe.{Content, Constant, Verbatim, Form, Header, header, content, constant, subframe, samples_of, scaled, fitting, restored_samples, content_samples, subframe_samples}
 use Rattle.flac_subframe.proofs.Steps.{and_then_and_then, same_then}
 use Rattle.std.proofs.lemmas.Int.{ints}
 use Rattle.std.proofs.lemmas.Bool.{lt-ltb}
@@ -14,13 +16,13 @@ use Rattle.std.proofs.lemmas.List.Elements.{All-head, All-tail, All-replicate}
 
 -- the form and its samples in one step
 pub samples_run : (depth block : ℕ) (limits : Limits) (c : Cursor)
-    → run (subframe_samples depth block limits) c ≡ and_then (run (header depth block limits) c) (λ h d. and_then (run (content_samples h.kind (depth - h.wasted) block) d) (λ o e. Ok (scaled h.wasted o, e)))
+    → run (subframe_samples depth block limits) c ≡ and_then (run (header depth block limits) c) (λ h d. and_then (run (content_samples h.kind (depth - h.wasted) block limits.partition) d) (λ o e. Ok (scaled h.wasted o, e)))
 unfolding subframe_samples subframe content_samples
 samples_run depth block limits c =
     and_then_and_then (run (header depth block limits) c) _ _
     ∙ same_then (run (header depth block limits) c) _ _ (λ h d.
-    and_then_and_then (run (content h.kind (depth - h.wasted) block) d) _ _
-    ∙ sym (and_then_and_then (run (content h.kind (depth - h.wasted) block) d) _ _))
+    and_then_and_then (run (content h.kind (depth - h.wasted) block limits.partition) d) _ _
+    ∙ sym (and_then_and_then (run (content h.kind (depth - h.wasted) block limits.partition) d) _ _))
 
 -- numbers that fit
 fits_is : (n : ℕ) (z : ℤ) → FitsBits n z → fits n z ≡ true
@@ -41,8 +43,14 @@ pub repeated : (x : ℤ) (s : List ℤ) (i : ℕ) → length s ≤ i → ((k : �
 repeated x s i over h =
     ext_get_or (pos 0) s (replicate (length s) x) (sym (length-replicate (length s) x)) (λ k lt. h k (omega arith) ∙ sym (get_or-replicate (length s) k x (pos 0) lt))
 
-pub constant_read : (kind depth block : ℕ) (c d : Cursor) (v : ℤ) → kind ≡ 0 → FitsBits depth v → run (signed_field depth) c ≡ Ok (v, d) → run (content_samples kind depth block) c ≡ Ok (Some (replicate block v), d)
-unfolding content_samples content
-constant_read kind depth block c d v zero fit reads =
+pub constant_read : (depth block : ℕ) (c d : Cursor) (v : ℤ) → FitsBits depth v → run (signed_field depth) c ≡ Ok (v, d) → run (bind (constant depth) (λ x. done (fitting depth block x))) c ≡ Ok (Some (replicate block v), d)
+unfolding constant
+constant_read depth block c d v fit reads =
     let e : fitting depth block (Constant v) ≡ Some (replicate block v) = fitting_is depth block (Constant v) (All-replicate (FitsBits depth) block v fit) in
-    rw (zero, reads, e) refl
+    rw (reads, e) refl
+
+-- numbers of no bits
+pub no_bits : (n : ℕ) (c : Cursor) → run (list_of n (signed_field 0)) c ≡ Ok (replicate n (pos 0), c)
+unfolding list_of signed_field number_at number_from
+no_bits zero c = refl
+no_bits (suc n) c = rw (no_bits n c) refl

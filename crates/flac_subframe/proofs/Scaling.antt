@@ -5,7 +5,8 @@ use Rattle.std.proofs.lemmas.Int.{ints, unsigned_abs-mul, fits_signed_from_abs}
 use Rattle.std.proofs.lemmas.Nat.{mul-le, pow-add, pow_below}
 use Rattle.std.proofs.lemmas.List.{get_or-set_same, get_or-set_other, ext_get_or, get_or-map}
 use Rattle.std.proofs.lemmas.List.{length-map}
-use Rattle.flac_subframe.specs.Numbers.{FitsBits, sample_at}
+use Rattle.flac_bits.specs.Signed.{FitsBits}
+use Rattle.flac_subframe.specs.Numbers.{sample_at}
 use Rattle.flac_subframe.proofs.Bounds.{abs_product, back, stored}
 
 module _ (w : ℕ) (few : w < 33) (z : ℤ) (f : FitsBits (33 - w) z) where

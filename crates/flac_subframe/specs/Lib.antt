@@ -1,4 +1,5 @@
 pub mod Numbers
 pub mod Prediction
-pub mod Fields
+pub mod Residual
 pub mod Subframe
+pub mod Laws

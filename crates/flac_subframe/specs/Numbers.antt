@@ -1,14 +1,7 @@
--- Signed numbers of a given number of bits, and a list of them read at an index.
-use Rattle.std.specs.Prelude.{ℕ, ℤ, pos, negsuc, neg_ℤ, ◌-◌, ◌^◌, ◌-ℤ◌, ◌≤ℤ◌, Bool, true, false, cond, nat_lt, List, [], ◌∷◌, slice_index_or}
-use Rattle.std.proofs.Common.{◌<ℤ◌}
-use Rattle.flac_bits.specs.Layout.{Layout, done, bits, ◌>>=◌}
+-- Signed numbers that fit, as a test, and a list of numbers read at an index.
+use Rattle.std.specs.Prelude.{ℕ, ℤ, pos, negsuc, ◌-◌, ◌^◌, Bool, true, false, cond, nat_lt, List, [], ◌∷◌, slice_index_or}
 
 -- z is a two's complement number of n bits
-pub record FitsBits (n : ℕ) (z : ℤ) : Type 0 where
-  pub low : neg_ℤ (pos (2 ^ (n - 1))) ≤ℤ z
-  pub high : z <ℤ pos (2 ^ (n - 1))
-
--- the same as a test
 abbrev pub fits : ℕ → ℤ → Bool
 fits n (pos a) = nat_lt a (2 ^ (n - 1))
 fits n (negsuc a) = nat_lt a (2 ^ (n - 1))

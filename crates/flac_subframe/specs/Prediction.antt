@@ -32,7 +32,7 @@ unfoldable pub first_restored : List ℤ → ℕ → List ℤ → ℕ → List �
 first_restored cs shift r zero = []
 first_restored cs shift r (suc n) =
     let s : List ℤ = first_restored cs shift r n in
-    s ++ (cond (nat_lt n (length cs)) (pos 0) (prediction cs shift s n) +ℤ sample_at r n) ∷ []
+    s ++ cond (nat_lt n (length cs)) (sample_at r n) (prediction cs shift s n +ℤ sample_at r n) ∷ []
 
-abbrev pub restored : List ℤ → ℕ → List ℤ → List ℤ
+unfoldable pub restored : List ℤ → ℕ → List ℤ → List ℤ
 restored cs shift r = first_restored cs shift r (length r)

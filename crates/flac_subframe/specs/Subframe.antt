@@ -1,12 +1,20 @@
 -- A subframe: its form, its layout, and its samples (RFC 9639, section 9.2).
-use Rattle.std.specs.Prelude.{ℕ, ◌+◌, ◌-◌, ◌*◌, ◌^◌, ◌≤◌, Bool, cond, nat_eq, nat_lt, ◌&&◌, ◌||◌, ℤ, pos, ◌*ℤ◌, List, [], ◌∷◌, map, replicate, Option, Some, None}
+use Rattle.std.specs.Prelude.{ℕ, ◌+◌, ◌-◌, ◌*◌, ◌^◌, ◌≤◌, Bool, cond, nat_eq, nat_lt, ◌&&◌, ◌||◌, not, ℤ, pos, ◌*ℤ◌, List, [], ◌∷◌, ◌++◌, length, map, replicate, Option, Some, None}
 use Rattle.flac_bits.specs.Layout.{Layout, done, bits, unary, judge, refuse, choose, ◌>>=◌}
 use Rattle.flac_bits.specs.Lists.{list_of}
 use Rattle.flac_bits.specs.declared.why.Why.{Why}
-use Rattle.flac_bits.specs.declared.why.Why.TheVariants.{BadSubframe, NotYet}
+use Rattle.flac_bits.specs.declared.why.Why.TheVariants.{NotSubset, BadSubframe, BadPredictor, BadPartition}
 use Rattle.flac_subframe.specs.declared.limits.Limits.{Limits}
 use Rattle.flac_subframe.specs.Numbers.{all_fit}
-use Rattle.flac_subframe.specs.Fields.{signed_field, some_or}
+use Rattle.flac_subframe.specs.Prediction.{fixed_coefficients, restored}
+use Rattle.flac_subframe.specs.Residual.{Residual, residual, residual_values}
+use Rattle.flac_bits.specs.Signed.{signed_field}
+
+-- A linear predictor: the precision of its coefficients in bits, the shift, and the coefficients, the one for the nearest sample first (section 9.2.6).
+pub record Predictor : Type 0 where
+  pub precision : ℕ
+  pub shift : ℕ
+  pub coefficients : List ℤ
 
 -- What a spelling of the samples chose, by the type of the subframe.
 pub data Content : Type 0 where
@@ -14,6 +22,10 @@ pub data Content : Type 0 where
   Constant : ℤ → Content
   -- the samples themselves
   Verbatim : List ℤ → Content
+  -- the warm-up samples of a fixed predictor, as many as its order, and the residual
+  Fixed : List ℤ → Residual → Content
+  -- the warm-up samples of a linear predictor, what it is, and the residual
+  Linear : List ℤ → Predictor → Residual → Content
 
 -- how many lowest bits of each sample are zeros and left out, and the rest
 pub record Form : Type 0 where
@@ -24,15 +36,60 @@ pub record Form : Type 0 where
 abbrev pub is_reserved : ℕ → Bool
 is_reserved kind = (nat_lt 1 kind && nat_lt kind 8) || (nat_lt 12 kind && nat_lt kind 32)
 
--- The content of a type, of samples of so many bits (section 9.2.3, 9.2.4).
-unfoldable pub content : ℕ → ℕ → ℕ → Layout Content
-content kind depth block =
-    choose (nat_eq kind 0) (signed_field depth >>= λ sample. done (Constant sample)) (list_of block (signed_field depth) >>= λ samples. done (Verbatim samples))
+-- the order of a type's predictor: 8 to 12 are the fixed ones of order 0 to 4, 32 to 63 the linear ones of order 1 to 32 (section 9.2.1)
+abbrev pub predictor_order : ℕ → ℕ
+predictor_order kind = cond (nat_lt kind 32) (kind - 8) (kind - 31)
+
+abbrev pub linear_order : ℕ → ℕ
+linear_order kind = kind - 31
+
+-- Warm-up samples and the residual (section 9.2.5).
+unfoldable pub fixed : ℕ → ℕ → ℕ → ℕ → Layout Content
+fixed depth block limit order = do
+  warm_up ← list_of order (signed_field depth)
+  rest ← residual limit order block
+  done (Fixed warm_up rest)
+
+-- The precision less one, of which 15 is forbidden; the shift, which is signed and must not be negative; and the coefficients (section 9.2.6).
+unfoldable pub predictor : ℕ → Layout Predictor
+predictor order = do
+  low ← bits 4
+  _ ← judge (record { broken = nat_eq low 15; why = BadPredictor } ∷ [])
+  shift ← bits 5
+  _ ← judge (record { broken = nat_lt 15 shift; why = BadPredictor } ∷ [])
+  coefficients ← list_of order (signed_field (low + 1))
+  done (record { precision = low + 1; shift = shift; coefficients = coefficients })
+
+-- Warm-up samples, the predictor and the residual (section 9.2.6).
+unfoldable pub linear : ℕ → ℕ → ℕ → ℕ → Layout Content
+linear depth block limit order = do
+  warm_up ← list_of order (signed_field depth)
+  chosen ← predictor order
+  rest ← residual limit order block
+  done (Linear warm_up chosen rest)
+
+unfoldable pub constant : ℕ → Layout Content
+constant depth = signed_field depth >>= λ sample. done (Constant sample)
+
+unfoldable pub verbatim : ℕ → ℕ → Layout Content
+verbatim depth block = list_of block (signed_field depth) >>= λ samples. done (Verbatim samples)
+
+-- The content of a type, of samples of so many bits (sections 9.2.3 to 9.2.6).
+unfoldable pub content : ℕ → ℕ → ℕ → ℕ → Layout Content
+content kind depth block limit =
+    choose (nat_eq kind 0) (constant depth)
+    (choose (nat_eq kind 1) (verbatim depth block)
+    (choose (nat_lt kind 32) (fixed depth block limit (predictor_order kind)) (linear depth block limit (predictor_order kind))))
+
+-- one more, or the reason where there is none
+abbrev pub one_more : Option ℕ → Layout ℕ
+one_more (Some zeros) = done (zeros + 1)
+one_more None = refuse BadSubframe
 
 -- How many bits are wasted: none, or one more than the zeros before a one; one bit of the depth at least is left (section 9.2.2).
 unfoldable pub wasted_bits : ℕ → ℕ → Layout ℕ
 wasted_bits flag depth =
-    choose (nat_eq flag 0) (done 0) (unary (depth - 2) >>= λ zeros. some_or BadSubframe zeros >>= λ k. done (k + 1))
+    choose (nat_eq flag 0) (done 0) (unary (depth - 2) >>= λ zeros. one_more zeros)
 
 -- What the header of a subframe says: the type, and how many bits are wasted.
 pub record Header : Type 0 where
@@ -46,7 +103,8 @@ header depth block limits = do
   kind ← bits 6
   flag ← bits 1
   _ ← judge (record { broken = nat_eq zero 1 || (is_reserved kind || (nat_eq flag 1 && nat_lt depth 2)); why = BadSubframe } ∷
-      record { broken = nat_lt 1 kind; why = NotYet } ∷ [])
+      record { broken = nat_lt limits.linear (linear_order kind); why = NotSubset } ∷
+      record { broken = not (nat_lt (predictor_order kind) block); why = BadPartition } ∷ [])
   wasted ← wasted_bits flag depth
   done (record { kind = kind; wasted = wasted })
 
@@ -54,7 +112,7 @@ header depth block limits = do
 unfoldable pub subframe : ℕ → ℕ → Limits → Layout Form
 subframe depth block limits = do
   h ← header depth block limits
-  rest ← content h.kind (depth - h.wasted) block
+  rest ← content h.kind (depth - h.wasted) block limits.partition
   done (record { wasted = h.wasted; content = rest })
 
 -- ---- the samples
@@ -63,6 +121,8 @@ subframe depth block limits = do
 abbrev pub restored_samples : ℕ → Content → List ℤ
 restored_samples block (Constant sample) = replicate block sample
 restored_samples block (Verbatim samples) = samples
+restored_samples block (Fixed warm_up rest) = restored (fixed_coefficients (length warm_up)) 0 (warm_up ++ residual_values rest)
+restored_samples block (Linear warm_up chosen rest) = restored chosen.coefficients chosen.shift (warm_up ++ residual_values rest)
 
 -- they, where each fits so many bits
 unfoldable pub fitting : ℕ → ℕ → Content → Option (List ℤ)
@@ -77,8 +137,8 @@ scaled wasted None = None
 abbrev pub samples_of : ℕ → ℕ → Form → Option (List ℤ)
 samples_of depth block form = scaled form.wasted (fitting (depth - form.wasted) block form.content)
 
-unfoldable pub content_samples : ℕ → ℕ → ℕ → Layout (Option (List ℤ))
-content_samples kind depth block = content kind depth block >>= λ c. done (fitting depth block c)
+unfoldable pub content_samples : ℕ → ℕ → ℕ → ℕ → Layout (Option (List ℤ))
+content_samples kind depth block limit = content kind depth block limit >>= λ c. done (fitting depth block c)
 
 unfoldable pub subframe_samples : ℕ → ℕ → Limits → Layout (Option (List ℤ))
 subframe_samples depth block limits = subframe depth block limits >>= λ form. done (samples_of depth block form)

@@ -1,7 +1,7 @@
 //! Signed numbers of a given number of bits.
 
-ghost use Rattle.std.specs.Prelude.{◌≡◌, ◌≤◌, ◌^◌, ◌↔◌, pos, IsTrue};
-ghost use Rattle.flac_subframe.specs.Numbers.{FitsBits};
+ghost use Rattle.std.specs.Prelude.{◌≡◌, ◌≤◌, ◌^◌, ◌↔◌, pos, length, replicate, IsTrue};
+ghost use Rattle.flac_bits.specs.Signed.{FitsBits};
 
 /// Whether a number has a two's complement form of so many bits.
 #[inline(always)]
@@ -21,4 +21,13 @@ pub fn power_of_two(exponent: u32) -> i64
     ensures { result ≡ pos (2 ^ exponent) }
 {
     1 << exponent
+}
+
+/// Fills the places with one number.
+pub fn repeat(number: i64, places: &mut [i64])
+    ensures { places.new ≡ replicate (length places.old) number }
+{
+    for place in places.iter_mut() {
+        *place = number;
+    }
 }

@@ -2,7 +2,7 @@
 
 ghost use Rattle.std.specs.Prelude.{◌≡◌, ◌<◌, ◌≤◌, ℤ, List, length, All, IsTrue};
 ghost use Rattle.std.specs.List.{AllWithin};
-ghost use Rattle.flac_subframe.specs.Numbers.{FitsBits};
+ghost use Rattle.flac_bits.specs.Signed.{FitsBits};
 ghost use Rattle.flac_subframe.specs.Prediction.{Restored};
 
 use crate::numbers::fits_bits;

@@ -2,13 +2,16 @@
 
 ghost use Rattle.std.specs.Prelude.{◌≡◌, ◌≤◌, ◌<◌, ◌+◌, ◌-◌, OnOk, IfOk, IfSome, length, cond, Some, None, All, IsTrue, map, replicate, ℤ, pos, ◌*ℤ◌, ◌^◌};
 ghost use Rattle.flac_bits.specs.Reading.{Counts, Gives, Reads, Means};
-ghost use Rattle.flac_subframe.specs.Numbers.{FitsBits};
-ghost use Rattle.flac_subframe.specs.Subframe.{is_reserved, content_samples, wasted_bits, header, scaled, subframe_samples};
+ghost use Rattle.flac_bits.specs.Signed.{FitsBits};
+ghost use Rattle.flac_subframe.specs.Subframe.{is_reserved, predictor_order, constant, verbatim, fixed, predictor, linear, fitting, content_samples, wasted_bits, header, scaled, subframe_samples};
 ghost use Rattle.flac_bits.specs.Layout.{bind, done, zeros_at};
 
-use crate::fields::{read_signed, take_signed};
+use crate::fields::read_coefficients;
 use crate::limits::Limits;
-use crate::numbers::power_of_two;
+use crate::numbers::{power_of_two, repeat};
+use crate::predictors::fixed_coefficients;
+use crate::residual::read_residual;
+use crate::restoration::restore;
 use flac_bits::{BitReader, Source, Why};
 
 /// The type of a subframe, and how many of its lowest bits are zeros and left out.
@@ -23,25 +26,6 @@ fn is_reserved(kind: u64) -> bool
     ensures { result ≡ is_reserved kind }
 {
     (1 < kind && kind < 8) || (12 < kind && kind < 32)
-}
-
-/// How many zeros stand before the next one; `None` at a zero past the limit.
-#[tactic(auto, unfolding(flac_bits::specs::Layout::zeros_at), using(crate::proofs::Zeros::zeros_turn, crate::proofs::Zeros::zeros_final))]
-fn read_zeros<R: Source>(bits: &mut BitReader<R>, limit: u32) -> Result<Option<u32>, Why>
-    ensures within { IfOk result (λ o. IfSome o (λ q. q ≤ limit)) }
-    ensures spends { OnOk result (bits.new.most ≤ bits.old.most) }
-    ensures counts { Counts bits.old bits.new result }
-    ensures reads { Gives (λ v. v) (zeros_at limit bits.old.cursor) bits.old bits.new result }
-{
-    for zeros in 0..limit {
-        if bits.take(1)? == 1 {
-            return Ok(Some(zeros));
-        }
-    }
-    if bits.take(1)? == 1 {
-        return Ok(Some(limit));
-    }
-    Ok(None)
 }
 
 /// How many bits are wasted (RFC 9639, section 9.2.2).
@@ -59,10 +43,22 @@ fn read_wasted<R: Source>(bits: &mut BitReader<R>, flag: u64, depth: u32) -> Res
     if flag == 0 {
         return Ok(0);
     }
-    let Some(zeros) = read_zeros(bits, depth - 2)? else {
+    let Some(zeros) = bits.unary(u64::from(depth - 2))? else {
         return Err(Why::BadSubframe);
     };
-    Ok(zeros + 1)
+    Ok(zeros as u32 + 1)
+}
+
+/// The order of a type's predictor (RFC 9639, section 9.2.1).
+fn predictor_order(kind: u64) -> u32
+    requires { kind < 64 }
+    ensures { result ≡ predictor_order kind }
+{
+    if kind < 32 {
+        kind.saturating_sub(8) as u32
+    } else {
+        kind as u32 - 31
+    }
 }
 
 /// The header of a subframe.
@@ -74,7 +70,8 @@ fn read_header<R: Source>(
     limits: &Limits,
 ) -> Result<Header, Why>
     requires depth { (1 ≤ depth) × (depth ≤ 33) }
-    ensures kind { IfOk result (λ h. h.kind < 2) }
+    ensures kind { IfOk result (λ h. (h.kind < 64) × (1 < h.kind → 8 ≤ h.kind) × (12 < h.kind → 32 ≤ h.kind)) }
+    ensures order { IfOk result (λ h. predictor_order h.kind < block) }
     ensures left { IfOk result (λ h. h.wasted < depth) }
     ensures spends { OnOk result (bits.new.most + 8 ≤ bits.old.most) }
     ensures counts { Counts bits.old bits.new result }
@@ -86,44 +83,185 @@ fn read_header<R: Source>(
     if zero == 1 || is_reserved(kind) || (flag == 1 && depth < 2) {
         return Err(Why::BadSubframe);
     }
-    if kind > 1 {
-        return Err(Why::NotYet);
+    if kind.saturating_sub(31) > u64::from(limits.linear) {
+        return Err(Why::NotSubset);
+    }
+    if predictor_order(kind) >= block {
+        return Err(Why::BadPartition);
     }
     let wasted = read_wasted(bits, flag, depth)?;
     Ok(Header { kind, wasted })
 }
 
-/// Fills the places with one sample.
-fn repeat(sample: i64, samples: &mut [i64])
-    ensures { samples.new ≡ replicate (length samples.old) sample }
-{
-    for place in samples.iter_mut() {
-        *place = sample;
-    }
-}
-
-/// The samples of a content before the wasted bits are put back, where each fits; else `false`.
-#[tactic(auto, unfolding(crate::specs::Subframe::content_samples, crate::specs::Subframe::content), using(crate::proofs::Samples::fitting_is))]
-fn read_content<R: Source>(
+/// One sample for all (RFC 9639, section 9.2.3).
+#[tactic(auto, unfolding(crate::specs::Subframe::constant))]
+fn read_constant<R: Source>(
     bits: &mut BitReader<R>,
-    kind: u64,
     depth: u32,
     samples: &mut [i64],
 ) -> Result<bool, Why>
     requires depth { (1 ≤ depth) × (depth ≤ 33) }
-    requires kind { kind < 2 }
     ensures fits { IfOk result (λ fits. IsTrue fits → All (FitsBits depth) samples.new) }
     ensures spends { OnOk result (bits.new.most ≤ bits.old.most) }
     ensures counts { Counts bits.old bits.new result }
-    ensures reads { Reads (λ fits. cond fits (Some samples.new) None) (content_samples kind depth (length samples.old)) bits.old bits.new result }
+    ensures reads { Reads (λ fits. cond fits (Some samples.new) None)
+        (bind (constant depth) (λ c. done (fitting depth (length samples.old) c))) bits.old bits.new result }
+{
+    let sample = bits.take_signed(depth)?;
+    repeat(sample, samples);
+    Ok(true)
+}
+
+/// Each sample (RFC 9639, section 9.2.4).
+#[tactic(auto, unfolding(crate::specs::Subframe::verbatim), using(crate::proofs::Samples::fitting_is))]
+fn read_verbatim<R: Source>(
+    bits: &mut BitReader<R>,
+    depth: u32,
+    samples: &mut [i64],
+) -> Result<bool, Why>
+    requires depth { (1 ≤ depth) × (depth ≤ 33) }
+    ensures fits { IfOk result (λ fits. IsTrue fits → All (FitsBits depth) samples.new) }
+    ensures spends { OnOk result (bits.new.most ≤ bits.old.most) }
+    ensures counts { Counts bits.old bits.new result }
+    ensures reads { Reads (λ fits. cond fits (Some samples.new) None)
+        (bind (verbatim depth (length samples.old)) (λ c. done (fitting depth (length samples.old) c))) bits.old bits.new result }
+{
+    bits.signed_partition(depth, samples)?;
+    Ok(true)
+}
+
+/// A fixed predictor (RFC 9639, section 9.2.5).
+#[tactic(auto, unfolding(crate::specs::Subframe::fixed))]
+fn read_fixed<R: Source>(
+    bits: &mut BitReader<R>,
+    depth: u32,
+    limit: u32,
+    order: u32,
+    samples: &mut [i64],
+) -> Result<bool, Why>
+    requires depth { (1 ≤ depth) × (depth ≤ 33) }
+    requires limit { limit ≤ 15 }
+    requires order { order ≤ 4 }
+    requires places { (order < length samples.old) × (length samples.old ≤ 65535) }
+    ensures fits { IfOk result (λ fits. IsTrue fits → All (FitsBits depth) samples.new) }
+    ensures spends { OnOk result (bits.new.most ≤ bits.old.most) }
+    ensures counts { Counts bits.old bits.new result }
+    ensures reads { Reads (λ fits. cond fits (Some samples.new) None)
+        (bind (fixed depth (length samples.old) limit order) (λ c. done (fitting depth (length samples.old) c))) bits.old bits.new result }
+{
+    let places = order as usize;
+    bits.signed_partition(depth, &mut samples[..places])?;
+    read_residual(bits, limit, places, &mut samples[places..])?;
+    Ok(restore(fixed_coefficients(order), 0, depth, samples))
+}
+
+/// The precision and the shift of a linear predictor, and its coefficients into their places (RFC 9639, section 9.2.6).
+#[tactic(auto, unfolding(crate::specs::Subframe::predictor))]
+fn read_predictor<R: Source>(
+    bits: &mut BitReader<R>,
+    coefficients: &mut [i32],
+) -> Result<(u32, u32), Why>
+    ensures shift { IfOk result (λ p. p.1 < 16) }
+    ensures fits { OnOk result (All (FitsBits 15) coefficients.new) }
+    ensures spends { OnOk result (bits.new.most ≤ bits.old.most) }
+    ensures counts { Counts bits.old bits.new result }
+    ensures reads { Reads (λ p. record { precision = p.0; shift = p.1; coefficients = coefficients.new }) (predictor (length coefficients.old)) bits.old bits.new result }
+{
+    let low = bits.take(4)? as u32;
+    if low == 15 {
+        return Err(Why::BadPredictor);
+    }
+    let shift = bits.take(5)? as u32;
+    if shift > 15 {
+        return Err(Why::BadPredictor);
+    }
+    read_coefficients(bits, low + 1, coefficients)?;
+    Ok((low + 1, shift))
+}
+
+/// A linear predictor, with places for its coefficients (RFC 9639, section 9.2.6).
+#[tactic(auto, unfolding(crate::specs::Subframe::linear))]
+fn read_linear_into<R: Source>(
+    bits: &mut BitReader<R>,
+    depth: u32,
+    limit: u32,
+    coefficients: &mut [i32],
+    samples: &mut [i64],
+) -> Result<bool, Why>
+    requires depth { (1 ≤ depth) × (depth ≤ 33) }
+    requires limit { limit ≤ 15 }
+    requires order { length coefficients.old ≤ 32 }
+    requires places { (length coefficients.old < length samples.old) × (length samples.old ≤ 65535) }
+    ensures fits { IfOk result (λ fits. IsTrue fits → All (FitsBits depth) samples.new) }
+    ensures spends { OnOk result (bits.new.most ≤ bits.old.most) }
+    ensures counts { Counts bits.old bits.new result }
+    ensures reads { Reads (λ fits. cond fits (Some samples.new) None)
+        (bind (linear depth (length samples.old) limit (length coefficients.old)) (λ c. done (fitting depth (length samples.old) c))) bits.old bits.new result }
+{
+    let order = coefficients.len();
+    bits.signed_partition(depth, &mut samples[..order])?;
+    let (_precision, shift) = read_predictor(bits, coefficients)?;
+    read_residual(bits, limit, order, &mut samples[order..])?;
+    Ok(restore(coefficients, shift, depth, samples))
+}
+
+/// A linear predictor of an order.
+fn read_linear<R: Source>(
+    bits: &mut BitReader<R>,
+    depth: u32,
+    limit: u32,
+    order: u32,
+    samples: &mut [i64],
+) -> Result<bool, Why>
+    requires depth { (1 ≤ depth) × (depth ≤ 33) }
+    requires limit { limit ≤ 15 }
+    requires order { order ≤ 32 }
+    requires places { (order < length samples.old) × (length samples.old ≤ 65535) }
+    ensures fits { IfOk result (λ fits. IsTrue fits → All (FitsBits depth) samples.new) }
+    ensures spends { OnOk result (bits.new.most ≤ bits.old.most) }
+    ensures counts { Counts bits.old bits.new result }
+    ensures reads { Reads (λ fits. cond fits (Some samples.new) None)
+        (bind (linear depth (length samples.old) limit order) (λ c. done (fitting depth (length samples.old) c))) bits.old bits.new result }
+{
+    let mut coefficients = [0; 32];
+    read_linear_into(
+        bits,
+        depth,
+        limit,
+        &mut coefficients[..order as usize],
+        samples,
+    )
+}
+
+/// The samples of a content before the wasted bits are put back, where each fits; else `false`.
+#[tactic(auto, unfolding(crate::specs::Subframe::content_samples, crate::specs::Subframe::content))]
+fn read_content<R: Source>(
+    bits: &mut BitReader<R>,
+    kind: u64,
+    depth: u32,
+    limit: u32,
+    samples: &mut [i64],
+) -> Result<bool, Why>
+    requires depth { (1 ≤ depth) × (depth ≤ 33) }
+    requires limit { limit ≤ 15 }
+    requires kind { (kind < 64) × (1 < kind → 8 ≤ kind) × (12 < kind → 32 ≤ kind) }
+    requires places { (predictor_order kind < length samples.old) × (length samples.old ≤ 65535) }
+    ensures fits { IfOk result (λ fits. IsTrue fits → All (FitsBits depth) samples.new) }
+    ensures spends { OnOk result (bits.new.most ≤ bits.old.most) }
+    ensures counts { Counts bits.old bits.new result }
+    ensures reads { Reads (λ fits. cond fits (Some samples.new) None) (content_samples kind depth (length samples.old) limit) bits.old bits.new result }
 {
     if kind == 0 {
-        let sample = take_signed(bits, depth)?;
-        repeat(sample, samples);
-        return Ok(true);
+        return read_constant(bits, depth, samples);
     }
-    read_signed(bits, depth, samples)?;
-    Ok(true)
+    if kind == 1 {
+        return read_verbatim(bits, depth, samples);
+    }
+    let order = predictor_order(kind);
+    if kind < 32 {
+        return read_fixed(bits, depth, limit, order, samples);
+    }
+    read_linear(bits, depth, limit, order, samples)
 }
 
 /// Puts the wasted bits back.
@@ -169,14 +307,22 @@ fn read_here<R: Source>(
     samples: &mut [i64],
 ) -> Result<bool, Why>
     requires depth { (1 ≤ depth) × (depth ≤ 33) }
+    requires block { (1 ≤ block) × (block ≤ 65535) }
     requires places { length samples.old ≡ block }
+    requires limits { (limits.now.partition ≤ 15) × (limits.now.linear ≤ 32) }
     ensures spends { OnOk result (bits.new.most + 8 ≤ bits.old.most) }
     ensures counts { Counts bits.old bits.new result }
     ensures reads { Reads (λ fits. cond fits (Some samples.new) None)
-        (bind (header depth block limits.now) (λ h. bind (content_samples h.kind (depth - h.wasted) block) (λ o. done (scaled h.wasted o)))) bits.old bits.new result }
+        (bind (header depth block limits.now) (λ h. bind (content_samples h.kind (depth - h.wasted) block limits.now.partition) (λ o. done (scaled h.wasted o)))) bits.old bits.new result }
 {
     let header = read_header(bits, depth, block, limits)?;
-    let fits = read_content(bits, header.kind, depth - header.wasted, samples)?;
+    let fits = read_content(
+        bits,
+        header.kind,
+        depth - header.wasted,
+        limits.partition,
+        samples,
+    )?;
     if fits {
         scale(samples, header.wasted);
     }

@@ -3,7 +3,8 @@ use Rattle.std.proofs.Math.IntN.{+ℤ_assoc, +ℤ_idr}
 use Rattle.std.specs.Int.{int_shr}
 use Rattle.std.specs.Int.RustNames.{unsigned_abs}
 use Rattle.std.proofs.lemmas.List.{drop_more, drop_all}
-use Rattle.flac_subframe.specs.Numbers.{FitsBits, sample_at}
+use Rattle.flac_bits.specs.Signed.{FitsBits}
+use Rattle.flac_subframe.specs.Numbers.{sample_at}
 use Rattle.flac_subframe.specs.Prediction.{weighted}
 use Rattle.flac_subframe.proofs.Bounds.{product_fits, sum_fits, sum_back, sum_small, back, shifted_small}
 use Rattle.flac_subframe.proofs.predictors.predict_linear.Goals as goal

@@ -1,0 +1,13 @@
+use Rattle.std.proofs.Common.{rules, ◌≡◌, ◌<◌, ◌≤◌, ◌+◌, ◌-◌, ◌*◌, ◌/◌, ◌%◌, ◌^◌, ◌++◌, ◌∷◌, [], ℕ, List, Bool, length, take, drop, min, sym, ap, ◌∙◌, arith, refl}
+use Rattle.std.proofs.lemmas.List.{length-take, append-nil}
+use Rattle.std.proofs.lemmas.List.{take_more}
+use Rattle.std.specs.Int.{bytes_high_first}
+use Rattle.flac_bits.specs.Bits.{unsigned, bits_of}
+use Rattle.flac_bits.specs.State.{Mark, past}
+use Rattle.flac_bits.specs.Unsent.{Unsent}
+use Rattle.flac_bits.proofs.Check.{past-check8, past-check16}
+use Rattle.flac_bits.proofs.Putting.{number_bytes, putting, putting_rest, settled, unread_is, begun_is, checked_is, sent_mark}
+use Rattle.flac_bits.proofs.unsent.Unsent.put.Goals as goal
+
+pub returns-clause-put : goal.returns-clause-put
+returns-clause-put c = let i = c.self.inside in let inv = c.self.invariant in let long : length (take i.end i.bytes) ≡ i.end = omega (arith, length-take i.end i.bytes, inv) in λ _. putting_rest (take i.end i.bytes) i.from i.rest c.put.new.self (unsigned c.args.n c.args.value) _ c.args.self.now c.self.view_is (omega (arith, long, inv)) c.put.ensures

@@ -1,0 +1,198 @@
+//! Bits that were written and not sent yet.
+
+ghost use Rattle.std.specs.Prelude.{◌≡◌, ◌<◌, ◌≤◌, ◌+◌, ◌-◌, ◌*◌, ◌%◌, ◌^◌, ◌++◌, [], ℕ, List, Bool, true, false, length, take, drop, min, IfErr};
+ghost use Rattle.std.specs.Int.{bytes_high_first};
+ghost use Rattle.flac_bits.specs.declared.why.Why.TheVariants.{Truncated};
+ghost use Rattle.flac_bits.specs.Bits.{unsigned, bits_of};
+ghost use Rattle.flac_bits.specs.State.{past};
+ghost use Rattle.flac_bits.specs.Unsent.{Unsent, Puts, KeepsBits};
+ghost use Rattle.flac_bits.specs.Sending.{Sends};
+
+use crate::rest::Rest;
+use crate::send::send_all;
+use crate::sums::{checked8, checked16};
+use crate::target::Target;
+use crate::why::Why;
+use std::marker::Model;
+
+/// How many bytes are held at most.
+const HOLD: usize = 4096;
+
+/// An array of whole bytes, and the bits behind them.
+#[derive(Drop)]
+pub struct Unsent {
+    rest: Rest,
+    bytes: [u8; HOLD],
+    end: usize,
+    before: u64,
+    from: usize,
+    check8: u8,
+    check16: u16,
+}
+
+impl Model for Unsent {
+    ghost Value = { Unsent };
+
+    ghost view = { λ u. record {
+      bytes = take u.end u.bytes;
+      rest = u.rest;
+      mark = past (bits_of (drop u.from (take u.end u.bytes)) ++ u.rest) (record {
+        unread = 0;
+        bytes = min (u.before + u.from) (2 ^ 64 - 1);
+        check8 = u.check8;
+        check16 = u.check16;
+        short = Truncated;
+      });
+    } };
+
+    ghost invariant = { λ u. (u.from ≤ u.end) × (u.end ≤ 4096) × (length u.bytes ≡ 4096) };
+}
+
+/// Writes a word at a place, its highest byte first.
+#[inline(always)]
+fn put_word(bytes: &mut [u8], place: usize, word: u64)
+    requires { place + 8 ≤ length bytes.old }
+    ensures { take (place + 8) bytes.new ≡ take place bytes.old ++ bytes_high_first 8 word }
+{
+    bytes[place..place + 8].copy_from_slice(&word.to_be_bytes());
+}
+
+impl Unsent {
+    pub fn new() -> Unsent
+        ensures { result ≡ record { bytes = []; rest = []; mark = record { unread = 0; bytes = 0; check8 = 0; check16 = 0; short = Truncated } } }
+    {
+        Unsent {
+            rest: Rest::empty(),
+            bytes: [0; HOLD],
+            end: 0,
+            before: 0,
+            from: 0,
+            check8: 0,
+            check16: 0,
+        }
+    }
+
+    /// Puts the n bits of a number behind those held, where they do not fill a word; false where they do.
+    #[inline(always)]
+    pub fn put(&mut self, n: u32, value: u64) -> bool
+        requires few { n ≤ 64 }
+        requires fits { value < 2 ^ n }
+        ensures put { result ≡ true → Puts (unsigned n value) self.old self.new }
+        ensures full { result ≡ false → (self.new ≡ self.old) × (64 ≤ length self.old.rest + n) }
+    {
+        if self.rest.count() + n > 63 {
+            return false;
+        }
+        self.rest.put(n, value);
+        true
+    }
+
+    /// Whether one more word has room.
+    pub fn has_room(&self) -> bool
+        ensures { result ≡ true → length self.now.bytes + 8 ≤ 4096 }
+    {
+        self.end <= HOLD - 8
+    }
+
+    /// Puts the n bits of a number behind those held, where they fill a word.
+    #[inline(always)]
+    pub fn fill(&mut self, n: u32, value: u64)
+        requires room { length self.old.bytes + 8 ≤ 4096 }
+        requires enough { 64 ≤ length self.old.rest + n }
+        requires few { n ≤ 64 }
+        requires fits { value < 2 ^ n }
+        ensures { Puts (unsigned n value) self.old self.new }
+    {
+        let word = self.rest.fill(n, value);
+        put_word(&mut self.bytes, self.end, word);
+        self.end += 8;
+    }
+
+    /// How many bits of the byte that was begun are still to come.
+    pub fn unread(&self) -> u32
+        ensures { (result ≡ self.now.mark.unread) × (result < 8) }
+    {
+        (64 - self.rest.count()) % 8
+    }
+
+    /// How many bytes were begun.
+    pub fn bytes_begun(&self) -> u64
+        ensures { result ≡ self.now.mark.bytes }
+    {
+        let begun = (self.rest.count() as usize + 7) / 8;
+        self.before.saturating_add((self.end + begun) as u64)
+    }
+
+    pub fn check8(&self) -> u8
+        ensures { result ≡ self.now.mark.check8 }
+    {
+        let check = checked8(self.check8, &self.bytes[self.from..self.end]);
+        self.rest.checked8(check)
+    }
+
+    pub fn check16(&self) -> u16
+        ensures { result ≡ self.now.mark.check16 }
+    {
+        let check = checked16(self.check16, &self.bytes[self.from..self.end]);
+        self.rest.checked16(check)
+    }
+
+    /// The next byte of the bits behind the whole bytes.
+    fn settle_byte(&mut self)
+        requires room { length self.old.bytes < 4096 }
+        requires enough { 8 ≤ length self.old.rest }
+        ensures kept { KeepsBits self.old self.new }
+        ensures long { length self.new.bytes ≡ length self.old.bytes + 1 }
+        ensures left { length self.new.rest + 8 ≡ length self.old.rest }
+    {
+        let byte = self.rest.take_byte();
+        self.bytes[self.end] = byte;
+        self.end += 1;
+    }
+
+    /// How many bits stand behind the whole bytes.
+    fn rest_count(&self) -> u32
+        ensures count { (result ≡ length self.now.rest) × (result ≤ 63) }
+        ensures unread { (length self.now.rest + self.now.mark.unread) % 8 ≡ 0 }
+    {
+        self.rest.count()
+    }
+
+    /// All whole bytes of the bits held, as bytes.
+    pub fn settle(&mut self)
+        requires { length self.old.bytes + 8 ≤ 4096 }
+        ensures kept { KeepsBits self.old self.new }
+        ensures left { self.new.mark.unread ≡ 0 → self.new.rest ≡ [] }
+    {
+        for i in 0..self.rest_count() / 8 {
+            let _i = i;
+            self.settle_byte();
+        }
+    }
+
+    /// Begins the checks anew, where no bits stand behind the whole bytes.
+    pub fn start_checks(&mut self)
+        requires { self.old.rest ≡ [] }
+        ensures { self.new ≡ record self.old { mark = record self.old.mark { check8 = 0; check16 = 0 } } }
+    {
+        self.from = self.end;
+        self.check8 = 0;
+        self.check16 = 0;
+    }
+
+    /// Sends the whole bytes.
+    pub fn send_to<W: Target>(&mut self, target: &mut W) -> Result<(), Why>
+        ensures sends { Sends W.Target self.old.bytes target.old target.new result }
+        ensures kept { (self.new.rest ≡ self.old.rest) × (self.new.mark ≡ self.old.mark) }
+        ensures sent { result ≡ Ok tt → self.new.bytes ≡ [] }
+        ensures write { IfErr result (λ e. e ≡ Why.Write) }
+    {
+        send_all(target, &self.bytes[..self.end])?;
+        self.check8 = checked8(self.check8, &self.bytes[self.from..self.end]);
+        self.check16 = checked16(self.check16, &self.bytes[self.from..self.end]);
+        self.before = self.before.saturating_add(self.end as u64);
+        self.from = 0;
+        self.end = 0;
+        Ok(())
+    }
+}

@@ -1,0 +1,1 @@
+//! Lines of text into a target of bytes.

@@ -1,0 +1,27 @@
+-- The samples of all channels, which stand in one array.
+use Rattle.std.proofs.Common.{◌≡◌, ℕ, zero, suc, ◌+◌, ◌*◌, ◌≤◌, ℤ, Bool, true, false, cond, List, [], ◌∷◌, ◌++◌, length, take, drop, Option, Some, None, refl, sym, ap, ◌∙◌, arith}
+use Rattle.std.proofs.lemmas.List.{take-append-drop, take_all, length-drop}
+use Rattle.std.proofs.lemmas.Slice.{take-put_mid}
+use borrow.Rule.Slice.PartMut.{put_mid}
+use Rattle.flac_subframe.specs.Numbers.{all_fit}
+use Rattle.flac_frame.specs.Frame.{each_fits, in_range}
+use Rattle.flac_frame.specs.View.{chunks}
+use Rattle.flac_frame.proofs.Depths.{all_fit-append}
+
+-- the samples of all channels fit where all that stand in the array do
+pub each_is : (depth c n : ℕ) (xs : List ℤ) → length xs ≡ c * n → each_fits depth (chunks c n xs) ≡ all_fit depth xs
+each_is depth zero n [] long = refl
+each_is depth zero n (x ∷ xs) long = absurd (omega (arith, long))
+each_is depth (suc c) n xs long =
+    let rest : length (drop n xs) ≡ c * n = length-drop n xs ∙ omega (arith, long) in
+    ap (λ b. cond (all_fit depth (take n xs)) b false) (each_is depth c n (drop n xs) rest) ∙ sym (all_fit-append depth (take n xs) (drop n xs)) ∙ ap (all_fit depth) (take-append-drop n xs)
+
+pub some_fit : (depth c n : ℕ) (xs : List ℤ) → length xs ≡ c * n → all_fit depth xs ≡ true → in_range depth (Some (chunks c n xs)) ≡ Some (chunks c n xs)
+some_fit depth c n xs long h = rw (each_is depth c n xs long, h) refl
+
+pub none_fits : (depth c n : ℕ) (xs : List ℤ) → length xs ≡ c * n → all_fit depth xs ≡ false → in_range depth (Some (chunks c n xs)) ≡ None
+none_fits depth c n xs long h = rw (each_is depth c n xs long, h) refl
+
+-- the first places, after a write to them
+pub first_places : (n : ℕ) (xs ys : List ℤ) → length ys ≡ n → take n (put_mid 0 n xs ys) ≡ ys
+first_places n xs ys long = take-put_mid 0 n xs ys n (omega (arith, long)) (omega arith)

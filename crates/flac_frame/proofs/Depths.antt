@@ -1,0 +1,72 @@
+-- Samples that fit a depth.
+use Rattle.std.proofs.Common.{◌≡◌, ℕ, zero, suc, ◌+◌, ◌-◌, ◌*◌, ◌%◌, ◌^◌, ◌<◌, ◌≤◌, ℤ, pos, negsuc, neg_ℤ, ◌≤ℤ◌, ◌<ℤ◌, ◌-ℤ◌, Bool, true, false, cond, ◌&&◌, nat_lt, List, [], ◌∷◌, ◌++◌, length, take, drop, get_or, set, Option, Some, None, FitsSigned, to_z, of_z, w32, w64, refl, sym, ap, ◌∙◌, arith}
+use Rattle.std.proofs.lemmas.Bool.{lt-ltb, le-ltb, ltb-true}
+use Rattle.std.proofs.lemmas.Int.{ints, to_z_pos, to_z-of_z}
+use Rattle.std.proofs.lemmas.Nat.{one_shl, pow_below}
+use Rattle.std.proofs.lemmas.List.{take_more, take_more_set, take_all}
+use Rattle.std.proofs.Math.Nat.{pow-le-pow_right}
+use Rattle.flac_subframe.specs.Numbers.{fits, all_fit}
+
+-- the limit as the code computes it
+pub limit_is : (bits : ℕ) → 1 ≤ bits → bits ≤ 32 → to_z w64 (1 * 2 ^ (bits - 1) % 2 ^ 64) ≡ pos (2 ^ (bits - 1))
+limit_is bits low high =
+    let below : bits - 1 < 63 = omega arith in
+    let within : bits - 1 < 64 = omega arith in
+    rw (one_shl (bits - 1) 64 within) (to_z_pos w64 (2 ^ (bits - 1)) (pow_below (bits - 1) 63 below))
+
+pub negated_fits : (bits : ℕ) → bits ≤ 32 → 1 ≤ bits → FitsSigned w64 (pos 0 -ℤ pos (2 ^ (bits - 1)))
+negated_fits bits high low = omega (arith, ints, pow_below (bits - 1) 63 (omega arith))
+
+pub fits_within : (n : ℕ) (z : ℤ) → neg_ℤ (pos (2 ^ (n - 1))) ≤ℤ z → z <ℤ pos (2 ^ (n - 1)) → true ≡ fits n z
+fits_within n (pos a) low high = sym (lt-ltb a (2 ^ (n - 1)) (omega (arith, ints, low, high)))
+fits_within n (negsuc a) low high = sym (lt-ltb a (2 ^ (n - 1)) (omega (arith, ints, low, high)))
+
+pub fits_below : (n : ℕ) (z : ℤ) → z <ℤ neg_ℤ (pos (2 ^ (n - 1))) → false ≡ fits n z
+fits_below n (pos a) low = absurd (omega (arith, ints, low))
+fits_below n (negsuc a) low = sym (le-ltb a (2 ^ (n - 1)) (omega (arith, ints, low)))
+
+pub fits_above : (n : ℕ) (z : ℤ) → pos (2 ^ (n - 1)) ≤ℤ z → false ≡ fits n z
+fits_above n (pos a) high = sym (le-ltb a (2 ^ (n - 1)) (omega (arith, ints, high)))
+fits_above n (negsuc a) high = absurd (omega (arith, ints, high))
+
+up : (n : ℕ) → n ≤ 32 → 2 ^ (n - 1) ≤ 2 ^ 31
+up n few = pow-le-pow_right {n = 2} (omega arith) {i = n - 1} {j = 31} (omega arith)
+
+-- a sample that fits is kept by a cast to 32 bits
+pub kept_32 : (n : ℕ) (z : ℤ) → n ≤ 32 → fits n z ≡ true → FitsSigned w32 z
+kept_32 n (pos a) few h = omega (arith, ints, ltb-true a (2 ^ (n - 1)) h, up n few)
+kept_32 n (negsuc a) few h = omega (arith, ints, ltb-true a (2 ^ (n - 1)) h, up n few)
+
+-- one sample that does not fit
+pub one_bad : (n : ℕ) (xs : List ℤ) (i : ℕ) → i < length xs → fits n (get_or xs i (pos 0)) ≡ false → false ≡ all_fit n xs
+one_bad n [] i lt h = absurd (omega (arith, lt))
+one_bad n (x ∷ xs) zero lt h = rw h refl
+one_bad n (x ∷ xs) (suc i) lt h = go (fits n x) (one_bad n xs i (omega (arith, lt)) h)
+  where
+    go : (b : Bool) → false ≡ all_fit n xs → false ≡ cond b (all_fit n xs) false
+    go true e = e
+    go false e = refl
+
+pub all_fit-append : (n : ℕ) (xs ys : List ℤ) → all_fit n (xs ++ ys) ≡ cond (all_fit n xs) (all_fit n ys) false
+all_fit-append n [] ys = refl
+all_fit-append n (x ∷ xs) ys = go (fits n x) (all_fit-append n xs ys)
+  where
+    go : (b : Bool) → all_fit n (xs ++ ys) ≡ cond (all_fit n xs) (all_fit n ys) false → cond b (all_fit n (xs ++ ys)) false ≡ cond (cond b (all_fit n xs) false) (all_fit n ys) false
+    go true e = e
+    go false e = refl
+
+-- one sample more
+pub fit_more : (n : ℕ) (xs : List ℤ) (i : ℕ) → i < length xs → all_fit n (take i xs) ≡ true → fits n (get_or xs i (pos 0)) ≡ true → all_fit n (take (i + 1) xs) ≡ true
+fit_more n xs i lt h k = rw (take_more xs i (pos 0) lt, all_fit-append n (take i xs) (get_or xs i (pos 0) ∷ []), h, k) refl
+
+-- the cast to 32 bits
+pub cast_32 : (n : ℕ) (z : ℤ) → n ≤ 32 → fits n z ≡ true → to_z w32 (of_z w32 (to_z w64 (of_z w64 z))) ≡ z
+cast_32 n z few h =
+    let small = kept_32 n z few h in
+    let same : to_z w64 (of_z w64 z) ≡ z = to_z-of_z w64 z (omega (arith, ints, small)) in
+    rw same (to_z-of_z w32 z small)
+
+pub put_more : (n : ℕ) (xs out : List ℤ) (i : ℕ) → n ≤ 32 → i < length xs → length out ≡ length xs → take i out ≡ take i xs → fits n (get_or xs i (pos 0)) ≡ true
+    → take (i + 1) (set out i (to_z w32 (of_z w32 (to_z w64 (of_z w64 (get_or xs i (pos 0))))))) ≡ take (i + 1) xs
+put_more n xs out i few lt long same h = rw (cast_32 n (get_or xs i (pos 0)) few h)
+    (take_more_set out i (get_or xs i (pos 0)) (omega (arith, long, lt)) ∙ ap (λ k. k ++ get_or xs i (pos 0) ∷ []) same ∙ sym (take_more xs i (pos 0) lt))

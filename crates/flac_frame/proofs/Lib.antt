@@ -1,0 +1,4 @@
+pub mod Starts
+pub mod Subframes
+pub mod Depths
+pub mod Bodies

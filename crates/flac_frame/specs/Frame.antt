@@ -1,0 +1,117 @@
+-- A frame: its header, a subframe for each channel, and its check (RFC 9639, section 9).
+use Rattle.std.specs.Prelude.{ℕ, zero, suc, ◌+◌, ◌*◌, Bool, true, false, not, cond, ◌&&◌, ◌||◌, nat_eq, nat_lt, nat_le, ℤ, List, [], ◌∷◌, ◌++◌, take, drop, Option, Some, None, is_none, ⊤}
+use Rattle.flac_bits.specs.Layout.{Layout, done, bits, judge, mark, align, ◌>>=◌}
+use Rattle.flac_bits.specs.declared.why.Why.TheVariants.{NotSubset, HeaderMismatch, Sequence, BlockSize, NotYet, NonzeroPadding, FrameCheck, SampleRange}
+use Rattle.flac_header.specs.Header.{Header, header, allowed, channels_of, depth_of}
+use Rattle.flac_meta.specs.Info.{Info}
+use Rattle.flac_subframe.specs.declared.limits.Limits.{Limits}
+use Rattle.flac_subframe.specs.Numbers.{all_fit}
+use Rattle.flac_subframe.specs.Fields.{some_or}
+use Rattle.flac_subframe.specs.Subframe.{subframe_samples}
+use Rattle.flac_frame.specs.declared.before.Before.{Before}
+
+-- A frame: whether its number is that of its first sample, the number, the samples a channel, and those of each channel.
+pub record Frame : Type 0 where
+  pub variable : Bool
+  pub number : ℕ
+  pub size : ℕ
+  pub channels : List (List ℤ)
+
+-- what a frame leaves for those behind it: frames are counted, or numbered by their first samples (section 9.1.5)
+abbrev pub left_by : Option Before → (variable : Bool) → (number size : ℕ) → Before
+left_by None variable number size = record { first_size = size; variable = variable; next = number + cond variable size 1; size = size }
+left_by (Some b) variable number size = record { first_size = b.first_size; variable = variable; next = number + cond variable size 1; size = size }
+
+abbrev pub after : Option Before → Frame → Before
+after before f = left_by before f.variable f.number f.size
+
+-- ---- what the end of a frame's header is judged by
+
+-- rate, channel count or depth is not what STREAMINFO says
+abbrev pub differs : Info → Header → Bool
+differs info h = not (nat_eq h.rate info.rate && nat_eq (channels_of h.channel_code) info.channels && nat_eq (depth_of h.depth_code) info.depth)
+
+-- the blocking strategy changes, or the number does not follow on
+abbrev pub breaks_sequence : Option Before → Header → Bool
+breaks_sequence None h = false
+breaks_sequence (Some b) h = cond h.variable (not b.variable) b.variable || not (nat_eq h.number b.next)
+
+-- The block is longer than any may be; or the one before, which now is not the last, is shorter than all but the last
+-- may be; or, with fixed blocking, the one before has not the size of the first, or this one is longer than that.
+abbrev pub breaks_size : Info → Option Before → Header → Bool
+breaks_size info None h = nat_lt info.greatest_block h.size
+breaks_size info (Some b) h = nat_lt info.greatest_block h.size || nat_lt b.size info.least_block || (not h.variable && (not (nat_eq b.size b.first_size) || nat_lt b.first_size h.size))
+
+-- a header in a stream
+unfoldable pub stream_header : Info → Option Before → Layout Header
+stream_header info before = do
+  h ← header
+  _ ← judge (
+      record { broken = not (allowed h); why = NotSubset } ∷
+      record { broken = differs info h; why = HeaderMismatch } ∷
+      record { broken = breaks_sequence before h; why = Sequence } ∷
+      record { broken = breaks_size info before h; why = BlockSize } ∷
+      record { broken = nat_lt 7 h.channel_code; why = NotYet } ∷ [])
+  done h
+
+-- ---- the subframes
+
+-- what the subset allows of a subframe (section 7)
+abbrev pub limits_of : Info → Limits
+limits_of info = record { partition = 8; linear = cond (nat_le info.rate 48000) 12 32 }
+
+-- the side channel has one bit more: the second of codes 8 and 10, the first of code 9 (section 9.2.3)
+unfoldable pub side_bit : ℕ → ℕ → ℕ
+side_bit code channel = cond (nat_eq code 9) (cond (nat_eq channel 0) 1 0) (cond (nat_lt 7 code && nat_eq channel 1) 1 0)
+
+-- the samples of one more channel, where those of all channels fit
+abbrev pub with_channel : Option (List (List ℤ)) → Option (List ℤ) → Option (List (List ℤ))
+with_channel (Some channels) (Some channel) = Some (channels ++ channel ∷ [])
+with_channel (Some channels) None = None
+with_channel None channel = None
+
+-- the subframes of n channels from one on, behind those that were read
+unfoldable pub subframes : (depth code block : ℕ) → Limits → Option (List (List ℤ)) → (channel n : ℕ) → Layout (Option (List (List ℤ)))
+subframes depth code block limits got channel zero = done got
+subframes depth code block limits got channel (suc n) = do
+  samples ← subframe_samples (depth + side_bit code channel) block limits
+  subframes depth code block limits (with_channel got samples) (channel + 1) n
+
+-- ---- the end
+
+abbrev pub check16 : Layout ℕ
+check16 = mark >>= λ m. done m.check16
+
+-- zeros up to a whole byte, and CRC-16 of the frame so far (section 9.3)
+unfoldable pub frame_end : Layout ⊤
+frame_end = do
+  zeros ← align
+  _ ← judge (record { broken = not zeros; why = NonzeroPadding } ∷ [])
+  check ← check16
+  stored ← bits 16
+  judge (record { broken = not (nat_eq stored check); why = FrameCheck } ∷ [])
+
+-- ---- the samples
+
+abbrev pub each_fits : ℕ → List (List ℤ) → Bool
+each_fits depth [] = true
+each_fits depth (channel ∷ channels) = cond (all_fit depth channel) (each_fits depth channels) false
+
+-- the samples of all channels, where each fits the depth
+abbrev pub in_range : ℕ → Option (List (List ℤ)) → Option (List (List ℤ))
+in_range depth None = None
+in_range depth (Some channels) = cond (each_fits depth channels) (Some channels) None
+
+-- what follows a header: a subframe for each channel, the end, and the samples
+unfoldable pub frame_body : Info → Header → Layout Frame
+frame_body info h = do
+  samples ← subframes info.depth h.channel_code h.size (limits_of info) (Some []) 0 info.channels
+  _ ← frame_end
+  channels ← some_or SampleRange (in_range info.depth samples)
+  done (record { variable = h.variable; number = h.number; size = h.size; channels = channels })
+
+-- a frame behind those before it
+unfoldable pub frame : Info → Option Before → Layout Frame
+frame info before = do
+  h ← stream_header info before
+  frame_body info h

@@ -1,0 +1,24 @@
+-- What the buffers of frames hold.
+use Rattle.std.specs.Prelude.{◌≡◌, ℕ, false, [], Option, Some, Result, Ok, Err}
+use Rattle.flac_bits.specs.declared.why.Why.{Why}
+use Rattle.flac_frame.specs.declared.before.Before.{Before}
+use Rattle.flac_frame.specs.Frame.{Frame, after}
+
+-- How many channels and how many samples of each the arrays have room for, what the frames before leave, and the frame that was read last.
+pub record Kept : Type 0 where
+  pub channels : ℕ
+  pub max_block : ℕ
+  pub before : Option Before
+  pub held : Frame
+
+-- no frame
+abbrev pub nothing : Frame
+nothing = record { variable = false; number = 0; size = 0; channels = [] }
+
+-- the buffers behind a frame that was lent, or that was refused
+abbrev pub LeavesIn : {X : Type 0} → Kept → Kept → (X → Frame) → Result X Why → Type 0
+LeavesIn old last shown (Ok x) = (last.before ≡ Some (after old.before (shown x))) × (last.held ≡ shown x)
+LeavesIn old last shown (Err e) = (last.before ≡ old.before) × (last.held ≡ nothing)
+
+abbrev pub Leaves : {X : Type 0} → Kept → Kept → (X → Frame) → Result X Why → Type 0
+Leaves old last shown result = (last.channels ≡ old.channels) × (last.max_block ≡ old.max_block) × LeavesIn old last shown result

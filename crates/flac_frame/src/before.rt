@@ -1,0 +1,36 @@
+//! What the frames before leave for the next.
+
+ghost use Rattle.std.specs.Prelude.{◌≡◌};
+
+use flac_header::FrameHeader;
+
+/// What the frames before leave for the next one: the first block size, the blocking strategy, the number that the next
+/// frame has, and the size of the last block.
+#[derive(Clone, Copy, Debug)]
+pub struct Before {
+    pub(crate) first_size: u32,
+    pub(crate) variable: bool,
+    pub(crate) next: u64,
+    pub(crate) size: u32,
+}
+
+impl Before {
+    ghost use Rattle.flac_frame.specs.Frame.{left_by};
+
+    /// What a frame of this header leaves, behind those before it.
+    pub(crate) fn after(before: &Option<Before>, header: &FrameHeader) -> Before
+        ensures { result ≡ left_by before.now header.now.variable header.now.number header.now.size }
+    {
+        let size = header.block_size();
+        let step = if header.variable() { size as u64 } else { 1 };
+        Before {
+            first_size: match before {
+                None => size,
+                Some(before) => before.first_size,
+            },
+            variable: header.variable(),
+            next: header.number() + step,
+            size,
+        }
+    }
+}

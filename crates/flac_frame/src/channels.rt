@@ -1,0 +1,66 @@
+//! The subframes of a frame.
+
+ghost use Rattle.std.specs.Prelude.{◌≡◌, ◌≤◌, ◌<◌, ◌+◌, ◌*◌, OnOk, IfOk, length, cond, Some, None, [], nat_le};
+ghost use Rattle.flac_bits.specs.Reading.{Counts, Reads};
+ghost use Rattle.flac_meta.specs.Info.{Info};
+ghost use Rattle.flac_frame.specs.Frame.{limits_of, side_bit, subframes};
+ghost use Rattle.flac_frame.specs.View.{chunks};
+
+use flac_bits::{BitReader, Source, Why};
+use flac_meta::StreamInfo;
+use flac_subframe::{Limits, read_subframe};
+
+/// What the streamable subset allows of a subframe.
+pub(crate) fn limits_of(info: &StreamInfo) -> Limits
+    ensures limits { result ≡ limits_of info.now }
+{
+    Limits {
+        partition: 8,
+        linear: if info.rate() <= 48000 { 12 } else { 32 },
+    }
+}
+
+/// How many bits the samples of a channel have more than those of the stream.
+#[tactic(auto, unfolding(crate::specs::Frame::side_bit))]
+fn side_bit(code: u8, channel: usize) -> u32
+    ensures bit { result ≡ side_bit code channel }
+    ensures small { result ≤ 1 }
+{
+    match code {
+        9 => u32::from(channel == 0),
+        8.. => u32::from(channel == 1),
+        _ => 0,
+    }
+}
+
+/// Reads a subframe for each channel into the channels' places, one channel after another; `false` where a sample does not fit.
+#[tactic(auto, using(crate::proofs::Subframes::subframes_more))]
+pub(crate) fn read_subframes<R: Source>(
+    bits: &mut BitReader<R>,
+    depth: u32,
+    code: u8,
+    block: u32,
+    limits: &Limits,
+    channels: usize,
+    samples: &mut [i64],
+) -> Result<bool, Why>
+    requires depth { (1 ≤ depth) × (depth ≤ 32) }
+    requires block { (1 ≤ block) × (block ≤ 65535) }
+    requires limits { (limits.now.partition ≤ 15) × (limits.now.linear ≤ 32) }
+    requires channels { channels ≤ 8 }
+    requires places { length samples.old ≡ channels * block }
+    ensures spends { OnOk result (bits.new.most ≤ bits.old.most) }
+    ensures counts { Counts bits.old bits.new result }
+    ensures reads { Reads (λ fits. cond fits (Some (chunks channels block samples.new)) None) (subframes depth code block limits.now (Some []) 0 channels) bits.old bits.new result }
+{
+    let size = block as usize;
+    let mut fits = true;
+    for channel in 0..channels {
+        let start = channel * size;
+        let own = &mut samples[start..start + size];
+        if !read_subframe(bits, depth + side_bit(code, channel), block, limits, own)? {
+            fits = false;
+        }
+    }
+    Ok(fits)
+}

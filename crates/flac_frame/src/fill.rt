@@ -1,0 +1,78 @@
+//! What follows the header of a frame.
+
+ghost use Rattle.std.specs.Prelude.{◌≡◌, ◌≤◌, ◌<◌, ◌+◌, ◌*◌, ◌^◌, length, min, take, OnOk, IfOk};
+ghost use Rattle.flac_bits.specs.Reading.{Counts, Reads};
+ghost use Rattle.flac_frame.specs.Frame.{frame_body, frame};
+ghost use Rattle.flac_bits.specs.State.{started};
+ghost use Rattle.flac_header.specs.Header.{greatest_block};
+ghost use Rattle.flac_frame.specs.View.{frame_in};
+
+use crate::before::Before;
+use crate::channels::{limits_of, read_subframes};
+use crate::end::read_end;
+use crate::samples::narrow;
+use crate::start::read_start;
+use flac_bits::{BitReader, Source, Why};
+use flac_header::{FrameHeader, Profile};
+use flac_meta::StreamInfo;
+
+/// Reads what follows a header: the channels' samples, one channel after another, and the frame's end.
+#[tactic(auto, unfolding(crate::specs::Frame::frame_body), using(crate::proofs::Bodies::some_fit, crate::proofs::Bodies::none_fits))]
+fn read_body<R: Source>(
+    bits: &mut BitReader<R>,
+    info: &StreamInfo,
+    header: &FrameHeader,
+    wide: &mut [i64],
+    out: &mut [i32],
+) -> Result<(), Why>
+    requires wide { length wide.old ≡ info.now.channels * header.now.size }
+    requires out { length out.old ≡ info.now.channels * header.now.size }
+    ensures spends { OnOk result (bits.new.most ≤ bits.old.most) }
+    ensures counts { Counts bits.old bits.new result }
+    ensures reads { Reads (λ _. frame_in info.now.channels header.now out.new) (frame_body info.now header.now) bits.old bits.new result }
+{
+    let channels = info.channels() as usize;
+    let depth = info.depth() as u32;
+    let block = header.block_size();
+    let limits = limits_of(info);
+    let fits = read_subframes(
+        bits,
+        depth,
+        header.channel_code(),
+        block,
+        &limits,
+        channels,
+        wide,
+    )?;
+    read_end(bits)?;
+    if !fits {
+        return Err(Why::SampleRange);
+    }
+    if !narrow(wide, depth, out) {
+        return Err(Why::SampleRange);
+    }
+    Ok(())
+}
+
+/// Reads the frame that begins here, and puts its channels, one after another, into the first places of `out`.
+#[tactic(auto, unfolding(crate::specs::Frame::frame), using(crate::proofs::Bodies::first_places))]
+pub(crate) fn read_into<R: Source>(
+    bits: &mut BitReader<R>,
+    info: &StreamInfo,
+    profile: Profile,
+    before: &Option<Before>,
+    wide: &mut [i64],
+    out: &mut [i32],
+) -> Result<FrameHeader, Why>
+    requires wide { info.now.channels * min info.now.greatest_block (greatest_block info.now.rate) ≤ length wide.old }
+    requires out { length out.old ≡ length wide.old }
+    ensures size { IfOk result (λ h. h.size ≤ min info.now.greatest_block (greatest_block info.now.rate)) }
+    ensures spends { OnOk result (bits.new.most + 40 ≤ bits.old.most) }
+    ensures counts { Counts bits.old bits.new result }
+    ensures reads { Reads (λ h. frame_in info.now.channels h (take (info.now.channels * h.size) out.new)) (frame info.now before.now) (started bits.old) bits.new result }
+{
+    let header = read_start(bits, info, profile, before)?;
+    let places = info.channels() as usize * header.block_size() as usize;
+    read_body(bits, info, &header, &mut wide[..places], &mut out[..places])?;
+    Ok(header)
+}

@@ -1,0 +1,15 @@
+//! Whole FLAC frames, read into buffers that lend their samples (RFC 9639, section 9).
+#![tactic(auto)]
+
+mod before;
+mod buffers;
+mod channels;
+mod end;
+mod fill;
+mod samples;
+mod start;
+mod view;
+
+pub use before::Before;
+pub use buffers::FrameBuffers;
+pub use view::FrameView;

@@ -1,0 +1,85 @@
+//! The header of a frame in its stream.
+
+ghost use Rattle.std.specs.Prelude.{◌≡◌, ◌≤◌, ◌<◌, ◌+◌, ◌^◌, IfOk, OnOk};
+ghost use Rattle.flac_bits.specs.Reading.{Counts, Reads};
+ghost use Rattle.flac_bits.specs.State.{started};
+ghost use Rattle.flac_header.specs.Header.{channels_of, greatest_block, IsHeader};
+ghost use Rattle.flac_frame.specs.Frame.{differs, breaks_sequence, breaks_size, stream_header};
+
+use crate::before::Before;
+use flac_bits::{BitReader, Source, Why};
+use flac_header::{FrameHeader, Profile, read_header, subset_allows};
+use flac_meta::StreamInfo;
+
+/// Whether rate, channel count or depth is not what STREAMINFO says.
+fn differs(info: &StreamInfo, header: &FrameHeader) -> bool
+    ensures { result ≡ differs info.now header.now }
+{
+    !(header.rate() == info.rate()
+        && header.channels() == info.channels() as u32
+        && header.depth() == info.depth() as u32)
+}
+
+/// Whether the blocking strategy changes, or the number does not follow on.
+fn breaks_sequence(before: &Option<Before>, header: &FrameHeader) -> bool
+    ensures { result ≡ breaks_sequence before.now header.now }
+{
+    match before {
+        None => false,
+        Some(before) => { header.variable() != before.variable || header.number() != before.next }
+    }
+}
+
+/// Whether the block is too long, or the one before was too short.
+fn breaks_size(info: &StreamInfo, before: &Option<Before>, header: &FrameHeader) -> bool
+    ensures { result ≡ breaks_size info.now before.now header.now }
+{
+    let size = header.block_size();
+    let too_long = size > info.greatest_block() as u32;
+    match before {
+        None => too_long,
+        Some(before) => {
+            too_long
+                || before.size < info.least_block() as u32
+                || (!header.variable()
+                    && (before.size != before.first_size || size > before.first_size))
+        }
+    }
+}
+
+/// Reads the header of the frame that begins here, and judges it by STREAMINFO and the frames before.
+#[tactic(auto, unfolding(crate::specs::Frame::stream_header), using(crate::proofs::Starts::size_allowed, crate::proofs::Starts::size_small))]
+pub(crate) fn read_start<R: Source>(
+    bits: &mut BitReader<R>,
+    info: &StreamInfo,
+    profile: Profile,
+    before: &Option<Before>,
+) -> Result<FrameHeader, Why>
+    ensures number { IfOk result (λ h. h.number < 2 ^ 36) }
+    ensures channels { IfOk result (λ h. channels_of h.channel_code ≡ info.now.channels) }
+    ensures size { IfOk result (λ h. (h.size ≤ info.now.greatest_block) × (h.size ≤ greatest_block info.now.rate)) }
+    ensures spends { OnOk result (bits.new.most + 40 ≤ bits.old.most) }
+    ensures counts { Counts bits.old bits.new result }
+    ensures reads { Reads (λ h. h) (stream_header info.now before.now) (started bits.old) bits.new result }
+{
+    let header = read_header(bits)?;
+    let allowed = match profile {
+        Profile::Subset => subset_allows(&header),
+    };
+    if !allowed {
+        return Err(Why::NotSubset);
+    }
+    if differs(info, &header) {
+        return Err(Why::HeaderMismatch);
+    }
+    if breaks_sequence(before, &header) {
+        return Err(Why::Sequence);
+    }
+    if breaks_size(info, before, &header) {
+        return Err(Why::BlockSize);
+    }
+    if header.channel_code() > 7 {
+        return Err(Why::NotYet);
+    }
+    Ok(header)
+}

@@ -1,0 +1,83 @@
+-- A loop that reads items in turn.
+use Rattle.std.proofs.Common.{◌≡◌, ℕ, suc, ◌+◌, ◌-◌, ◌<◌, ◌≤◌, List, [], ◌∷◌, ◌++◌, Result, Ok, Err, refl, sym, ap, ◌∙◌, arith, append_assoc, Option, Some, length, ◌*◌}
+use Rattle.std.proofs.lemmas.List.{append-nil}
+use Rattle.std.specs.Prelude.{⊤}
+use Rattle.flac_bits.specs.State.{Cursor}
+use Rattle.flac_bits.specs.Layout.{Layout, done, run, and_then, Reason}
+use Rattle.flac_bits.specs.Lists.{behind}
+use Rattle.flac_meta.specs.Fields.{in_turn, nothing_left, little_endian, sized}
+use Rattle.flac_meta.specs.SeekTable.{seek_point, seek_points}
+use Rattle.flac_meta.specs.Comments.{texts}
+use Rattle.flac_meta.specs.CueSheet.{cue_track, cue_tracks}
+use Rattle.flac_meta.specs.declared.seek_table.SeekPoint.{SeekPoint}
+use Rattle.flac_meta.specs.declared.cue_sheet.CueTrack.{CueTrack}
+
+and_then_behind : {A : Type 0} (r : Result (List A × Cursor) Reason) (front : List A) (x : A) → and_then (and_then r (λ xs d. Ok (x ∷ xs, d))) (behind front) ≡ and_then r (behind (front ++ x ∷ []))
+unfolding behind
+and_then_behind (Ok (xs, d)) front x = ap (λ ys. okay (ys, d)) (sym (append_assoc front (x ∷ []) xs))
+  where
+    okay : {B : Type 0} → B × Cursor → Result (B × Cursor) Reason
+    okay y = Ok y
+and_then_behind (Err e) front x = refl
+
+nested : {A B C : Type 0} (r : Result (A × Cursor) Reason) (f : A → Cursor → Result (B × Cursor) Reason) (g : B → Cursor → Result (C × Cursor) Reason) → and_then (and_then r f) g ≡ and_then r (λ x d. and_then (f x d) g)
+nested (Ok x) f g = refl
+nested (Err e) f g = refl
+
+same_then : {A B : Type 0} (r : Result (A × Cursor) Reason) (f g : A → Cursor → Result (B × Cursor) Reason) → ((x : A) (d : Cursor) → f x d ≡ g x d) → and_then r f ≡ and_then r g
+same_then (Ok x) f g h = h x.0 x.1
+same_then (Err e) f g h = refl
+
+-- one more item
+turn_more : {S A : Type 0} (item : S → Layout A) (next : S → A → S) (last : S → Layout ⊤) (n i : ℕ) (s : S) (c : Cursor) (front : List A) → i < n
+    → and_then (run (in_turn item next last (n - i) s) c) (behind front)
+    ≡ and_then (run (item s) c) (λ x d. and_then (run (in_turn item next last (n - (i + 1)) (next s x)) d) (behind (front ++ x ∷ [])))
+unfolding in_turn
+turn_more item next last n i s c front lt =
+    let k : n - i ≡ suc (n - (i + 1)) = omega arith in
+    rw k (nested (run (item s) c) (λ x d. and_then (run (in_turn item next last (n - (i + 1)) (next s x)) d) (λ xs d'. Ok (x ∷ xs, d'))) (behind front)
+    ∙ same_then (run (item s) c) _ _ (λ x d. and_then_behind (run (in_turn item next last (n - (i + 1)) (next s x)) d) front x))
+
+-- behind the last item
+turn_end : {S A : Type 0} (item : S → Layout A) (next : S → A → S) (last : S → Layout ⊤) (n i : ℕ) (s : S) (c : Cursor) (front : List A) → n ≤ i
+    → and_then (run (in_turn item next last (n - i) s) c) (behind front) ≡ and_then (run (last s) c) (λ _ d. Ok (front, d))
+unfolding in_turn behind
+turn_end item next last n i s c front le =
+    let k : n - i ≡ 0 = omega arith in
+    rw k (nested (run (last s) c) (λ _ d. Ok ([], d)) (behind front) ∙ same_then (run (last s) c) _ _ (λ x d. ap (λ ys. okay (ys, d)) (append-nil front)))
+  where
+    okay : {B : Type 0} → B × Cursor → Result (B × Cursor) Reason
+    okay y = Ok y
+
+-- the first item
+pub turn_start : {A : Type 0} (r : Result (List A × Cursor) Reason) → and_then r (behind []) ≡ r
+unfolding behind
+turn_start (Ok x) = refl
+turn_start (Err e) = refl
+
+pub points_more : (n i : ℕ) (before : Option ℕ) (c : Cursor) (front : List SeekPoint) → i < n
+    → and_then (run (seek_points (n - i) before) c) (behind front) ≡ and_then (run (seek_point before) c) (λ x d. and_then (run (seek_points (n - (i + 1)) (Some x.sample)) d) (behind (front ++ x ∷ [])))
+unfolding seek_points
+points_more = turn_more seek_point (λ before point. Some point.sample) (λ before. done tt)
+
+pub points_end : (n i : ℕ) (before : Option ℕ) (c : Cursor) (front : List SeekPoint) → n ≤ i → and_then (run (seek_points (n - i) before) c) (behind front) ≡ Ok (front, c)
+unfolding seek_points
+points_end = turn_end seek_point (λ before point. Some point.sample) (λ before. done tt)
+
+pub texts_more : (n i left : ℕ) (c : Cursor) (front : List (List ℕ)) → i < n
+    → and_then (run (texts (n - i) left) c) (behind front) ≡ and_then (run (sized little_endian left) c) (λ x d. and_then (run (texts (n - (i + 1)) (left - (4 + length x))) d) (behind (front ++ x ∷ [])))
+unfolding texts
+texts_more = turn_more (sized little_endian) (λ left text. left - (4 + length text)) nothing_left
+
+pub texts_end : (n i left : ℕ) (c : Cursor) (front : List (List ℕ)) → n ≤ i → and_then (run (texts (n - i) left) c) (behind front) ≡ and_then (run (nothing_left left) c) (λ _ d. Ok (front, d))
+unfolding texts
+texts_end = turn_end (sized little_endian) (λ left text. left - (4 + length text)) nothing_left
+
+pub tracks_more : (n i left : ℕ) (c : Cursor) (front : List CueTrack) → i < n
+    → and_then (run (cue_tracks (n - i) left) c) (behind front) ≡ and_then (run (cue_track left) c) (λ x d. and_then (run (cue_tracks (n - (i + 1)) (left - (36 + 12 * length x.indices))) d) (behind (front ++ x ∷ [])))
+unfolding cue_tracks
+tracks_more = turn_more cue_track (λ left track. left - (36 + 12 * length track.indices)) nothing_left
+
+pub tracks_end : (n i left : ℕ) (c : Cursor) (front : List CueTrack) → n ≤ i → and_then (run (cue_tracks (n - i) left) c) (behind front) ≡ and_then (run (nothing_left left) c) (λ _ d. Ok (front, d))
+unfolding cue_tracks
+tracks_end = turn_end cue_track (λ left track. left - (36 + 12 * length track.indices)) nothing_left

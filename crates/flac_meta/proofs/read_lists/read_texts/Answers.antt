@@ -1,0 +1,16 @@
+use Rattle.std.proofs.Common.{◌+◌, ◌-◌, List, ℕ, ◌++◌, ◌∷◌, [], length, sym, ap, ◌∙◌}
+use Rattle.std.proofs.lemmas.Result.{err_from_is_err_and}
+use Rattle.flac_bits.specs.State.{Cursor}
+use Rattle.flac_bits.specs.Layout.{run, and_then}
+use Rattle.flac_bits.specs.Lists.{behind}
+use Rattle.flac_meta.specs.Comments.{texts}
+use Rattle.flac_meta.proofs.Turns.{texts_more}
+use Rattle.flac_meta.proofs.read_lists.read_texts.Goals as goal
+
+pub returns-in_err-text-clause-reads : goal.returns-in_err-text-clause-reads
+returns-in_err-text-clause-reads g c = λ room known same.
+    let p = err_from_is_err_and c.from_residual.result c.from_residual.ensures.1 in
+    let now = c.loop-i.invariant.2 in
+    let more : List ℕ → Cursor → _ = λ x d. and_then (run (texts (c.args.count - (c.loop-i.i + 1)) (c.loop-i.left - (4 + length x))) d) (behind (c.loop-i.list.items ++ x ∷ [])) in
+    rw (p.1, p.2) (sym (now.reads known) ∙ texts_more c.args.count c.loop-i.i c.loop-i.left c.loop-i.bits.cursor c.loop-i.list.items c.loop-i-test.true
+    ∙ ap (λ r. and_then r more) (c.in_err-text.ensures.reads (λ q. room cc) (now.known known) (same ∙ sym now.errors)))

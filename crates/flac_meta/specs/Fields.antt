@@ -1,0 +1,60 @@
+-- Fields inside a block, of whose content so many bytes are left.
+use Rattle.std.specs.Prelude.{ℕ, zero, suc, ◌+◌, ◌-◌, ◌*◌, Bool, not, List, [], ◌∷◌, nat_eq, nat_lt, ⊤}
+use Rattle.flac_bits.specs.Layout.{Layout, done, judge, refuse, ◌>>=◌, bits, choose}
+use Rattle.flac_bits.specs.Lists.{list_of}
+use Rattle.flac_bits.specs.declared.why.Why.TheVariants.{BlockLength, CueSheet}
+use Rattle.flac_meta.specs.Padding.{skipped}
+
+-- Fields that begin with so many bytes of fixed size. Where the content has fewer left, it is refused at its last byte.
+abbrev pub part : {A : Type 0} → ℕ → ℕ → Layout A → Layout A
+part size left fields = choose (nat_lt left size) (skipped (8 * left) >>= λ _. refuse BlockLength) fields
+
+-- at the end of a length or a count: what it announces needs so many bytes
+abbrev pub needs : ℕ → ℕ → Layout ⊤
+needs size left = judge (record { broken = nat_lt left size; why = BlockLength } ∷ [])
+
+-- behind the last field nothing is left
+abbrev pub nothing_left : ℕ → Layout ⊤
+nothing_left left = judge (record { broken = not (nat_eq left 0); why = BlockLength } ∷ [])
+
+-- a number of 32 bits, its lowest byte first (RFC 9639, section 8.6)
+unfoldable pub little_endian : Layout ℕ
+little_endian = do
+  a ← bits 8
+  b ← bits 8
+  c ← bits 8
+  d ← bits 8
+  done (a + 256 * b + 65536 * c + 16777216 * d)
+
+-- bytes behind their number
+unfoldable pub sized : Layout ℕ → ℕ → Layout (List ℕ)
+sized number left = part 4 left (do
+  size ← number
+  _ ← needs size (left - 4)
+  list_of size (bits 8))
+
+-- a number of 32 bits, its highest byte first
+unfoldable pub number_32 : ℕ → Layout ℕ
+number_32 left = part 4 left (bits 32)
+
+-- so many items one after another, each in the state that those before it leave, and what is judged behind the last
+unfoldable pub in_turn : {S A : Type 0} → (S → Layout A) → (S → A → S) → (S → Layout ⊤) → ℕ → S → Layout (List A)
+in_turn item next behind_last zero s = do
+  _ ← behind_last s
+  done []
+in_turn item next behind_last (suc n) s = do
+  x ← item s
+  xs ← in_turn item next behind_last n (next s x)
+  done (x ∷ xs)
+
+-- whether so many bits are zeros
+unfoldable pub zeros : ℕ → Layout Bool
+zeros n = do
+  v ← bits n
+  done (nat_eq v 0)
+
+-- reserved bits of a cue sheet are zeros
+abbrev pub reserved : ℕ → Layout ⊤
+reserved n = do
+  clear ← zeros n
+  judge (record { broken = not clear; why = CueSheet } ∷ [])

@@ -1,0 +1,122 @@
+//! Fields inside a block's content.
+
+ghost use Rattle.std.specs.Prelude.{◌≡◌, OnOk, IfOk, ◌+◌, ◌-◌, ◌*◌, ◌<◌, ◌≤◌, ◌^◌, length, true};
+ghost use Rattle.flac_bits.specs.Layout.{bits as number};
+ghost use Rattle.flac_bits.specs.Lists.{list_of};
+ghost use Rattle.flac_bits.specs.Reading.{Counts, Reads, ReadsInRoom};
+ghost use Rattle.flac_meta.specs.Fields.{little_endian, sized, number_32, zeros};
+
+use crate::exact::skip_bytes;
+use crate::lists::Bytes;
+use flac_bits::{BitReader, Source, Why};
+use std::alloc::Global;
+
+/// A number of 32 bits, its lowest byte first.
+#[tactic(auto, unfolding(crate::specs::Fields::little_endian))]
+pub fn read_little_endian<R: Source>(bits: &mut BitReader<R>) -> Result<u32, Why>
+    ensures spends { OnOk result (bits.new.most ≤ bits.old.most) }
+    ensures counts { Counts bits.old bits.new result }
+    ensures reads { Reads (λ v. v) little_endian bits.old bits.new result }
+{
+    let a = bits.take(8)? as u32;
+    let b = bits.take(8)? as u32;
+    let c = bits.take(8)? as u32;
+    let d = bits.take(8)? as u32;
+    Ok(a + 256 * b + 65536 * c + 16777216 * d)
+}
+
+/// So many bytes. Memory is asked for as they come.
+#[tactic(auto, using(flac_bits::proofs::Lists::list_more, flac_bits::proofs::Lists::list_end, flac_bits::proofs::Lists::list_start))]
+pub fn read_raw<R: Source>(alloc: Global, bits: &mut BitReader<R>, size: u32) -> Result<Bytes, Why>
+    ensures size { IfOk result (λ b. length b ≡ size) }
+    ensures spends { OnOk result (bits.new.most ≤ bits.old.most) }
+    ensures counts { Counts bits.old bits.new result }
+    ensures reads { ReadsInRoom (λ b. b) (list_of size (number 8)) bits.old bits.new result }
+{
+    let mut bytes = Vec::new(alloc);
+    for i in 0..size {
+        let _i = i;
+        bytes.push(bits.take(8)? as u8)?;
+    }
+    Ok(Bytes::from_vec(bytes))
+}
+
+/// Bytes behind their number, whose lowest byte comes first, in a content of which so many bytes are left.
+#[tactic(auto, unfolding(crate::specs::Fields::sized))]
+pub fn read_sized_little<R: Source>(
+    alloc: Global,
+    bits: &mut BitReader<R>,
+    left: u32,
+) -> Result<Bytes, Why>
+    requires { left < 2 ^ 24 }
+    ensures fits { IfOk result (λ b. 4 + length b ≤ left) }
+    ensures spends { OnOk result (bits.new.most ≤ bits.old.most) }
+    ensures counts { Counts bits.old bits.new result }
+    ensures reads { ReadsInRoom (λ b. b) (sized little_endian left) bits.old bits.new result }
+{
+    if left < 4 {
+        skip_bytes(bits, left)?;
+        return Err(Why::BlockLength);
+    }
+    let size = read_little_endian(bits)?;
+    if left - 4 < size {
+        return Err(Why::BlockLength);
+    }
+    read_raw(alloc, bits, size)
+}
+
+/// Bytes behind their number, in a content of which so many bytes are left.
+#[tactic(auto, unfolding(crate::specs::Fields::sized))]
+pub fn read_sized<R: Source>(
+    alloc: Global,
+    bits: &mut BitReader<R>,
+    left: u32,
+) -> Result<Bytes, Why>
+    requires { left < 2 ^ 24 }
+    ensures fits { IfOk result (λ b. 4 + length b ≤ left) }
+    ensures spends { OnOk result (bits.new.most ≤ bits.old.most) }
+    ensures counts { Counts bits.old bits.new result }
+    ensures reads { ReadsInRoom (λ b. b) (sized (number 32) left) bits.old bits.new result }
+{
+    if left < 4 {
+        skip_bytes(bits, left)?;
+        return Err(Why::BlockLength);
+    }
+    let size = bits.take(32)? as u32;
+    if left - 4 < size {
+        return Err(Why::BlockLength);
+    }
+    read_raw(alloc, bits, size)
+}
+
+/// A number of 32 bits, in a content of which so many bytes are left.
+#[tactic(auto, unfolding(crate::specs::Fields::number_32))]
+pub fn read_number_32<R: Source>(bits: &mut BitReader<R>, left: u32) -> Result<u32, Why>
+    requires { left < 2 ^ 24 }
+    ensures fits { OnOk result (4 ≤ left) }
+    ensures spends { OnOk result (bits.new.most ≤ bits.old.most) }
+    ensures counts { Counts bits.old bits.new result }
+    ensures reads { Reads (λ v. v) (number_32 left) bits.old bits.new result }
+{
+    if left < 4 {
+        skip_bytes(bits, left)?;
+        return Err(Why::BlockLength);
+    }
+    Ok(bits.take(32)? as u32)
+}
+
+/// Whether so many bits are zeros.
+#[tactic(auto, using(crate::proofs::Zeros::zeros_first, crate::proofs::Zeros::zeros_more, crate::proofs::Zeros::zeros_end))]
+pub fn read_zeros<R: Source>(bits: &mut BitReader<R>, count: u32) -> Result<bool, Why>
+    ensures spends { OnOk result (bits.new.most ≤ bits.old.most) }
+    ensures counts { Counts bits.old bits.new result }
+    ensures reads { Reads (λ z. z) (zeros count) bits.old bits.new result }
+{
+    let mut clear = bits.take(count % 64)? == 0;
+    for i in 0..count / 64 {
+        let _i = i;
+        let word = bits.take(64)?;
+        clear &= word == 0;
+    }
+    Ok(clear)
+}

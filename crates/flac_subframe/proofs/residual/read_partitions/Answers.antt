@@ -1,0 +1,31 @@
+use Rattle.std.proofs.Common.{length, arith, ◌-◌, sym, ◌∙◌}
+use borrow.Rule.Slice.PartMut.{put_mid, mid_of, same_len_mid}
+use Rattle.flac_subframe.proofs.Parts.{parts_start, parts_next, parts_fail, parts_fit, parts_read, cuts_within, length_mid}
+use Rattle.flac_subframe.proofs.residual.read_partitions.Goals as goal
+
+pub loop-i-init : goal.loop-i-init
+loop-i-init g c = parts_start c.args.parameter_bits c.args.order c.args.size c.args.count c.args.bits.now c.args.out.now c.requires.room c.requires.cut
+
+pub loop-i-preserved : goal.loop-i-preserved
+loop-i-preserved g c =
+    let so = c.loop-i.invariant in
+    let within = cuts_within c.args.order c.args.size c.args.count (length c.loop-i.out) c.loop-i.start c.loop-i.end c.loop-i.i c.loop-i-test.true so.cuts in
+    parts_next c.args.parameter_bits c.args.order c.args.size c.args.count c.args.bits.now c.loop-i.bits c.read_partition.new.bits c.loop-i.out c.read_partition.new.out c.loop-i.start c.loop-i.end c.loop-i.i
+    (length (mid_of c.loop-i.start (c.loop-i.end - c.loop-i.start) c.loop-i.out)) c.loop-i-test.true so (length_mid c.loop-i.start c.loop-i.end c.loop-i.out so.cuts.ordered within)
+    c.read_partition.auto.out (same_len_mid c.loop-i.start (c.loop-i.end - c.loop-i.start) c.loop-i.out c.read_partition.new.out c.read_partition.auto.out)
+    c.in_ok-read_partition.ensures.fits c.in_ok-read_partition.ensures.spends c.in_ok-read_partition.ensures.counts c.in_ok-read_partition.ensures.reads
+
+pub returns-in_err-read_partition-clause-reads : goal.returns-in_err-read_partition-clause-reads
+returns-in_err-read_partition-clause-reads g c = λ known same.
+    let so = c.loop-i.invariant in
+    let within = cuts_within c.args.order c.args.size c.args.count (length c.loop-i.out) c.loop-i.start c.loop-i.end c.loop-i.i c.loop-i-test.true so.cuts in
+    let fails = c.in_err-read_partition.ensures.reads (so.goes.known known) (same ∙ sym so.goes.errors) in
+    let whole = parts_fail c.args.parameter_bits c.args.order c.args.size c.args.count c.args.bits.now c.loop-i.bits c.read_partition.new.bits c.loop-i.out c.read_partition.new.out c.loop-i.start c.loop-i.end c.loop-i.i
+    (length (mid_of c.loop-i.start (c.loop-i.end - c.loop-i.start) c.loop-i.out)) c.loop-i-test.true so (length_mid c.loop-i.start c.loop-i.end c.loop-i.out so.cuts.ordered within) _ fails known in
+    grind (arith, whole)
+
+pub returns-clause-fits : goal.returns-clause-fits
+returns-clause-fits g c = parts_fit c.args.parameter_bits c.args.order c.args.size c.args.count c.args.bits.now c.loop-i.bits c.loop-i.out c.loop-i.start c.loop-i.end c.loop-i.i (omega (arith, c.requires.some, c.loop-i-test.false)) c.loop-i-test.false c.loop-i.invariant
+
+pub returns-clause-reads : goal.returns-clause-reads
+returns-clause-reads g c = λ known same. parts_read c.args.parameter_bits c.args.order c.args.size c.args.count c.args.bits.now c.loop-i.bits c.loop-i.out c.loop-i.start c.loop-i.end c.loop-i.i (omega (arith, c.requires.some, c.loop-i-test.false)) c.loop-i-test.false c.loop-i.invariant known

@@ -1,0 +1,22 @@
+use Rattle.std.proofs.Common.{arith, sym, ◌∙◌, ◌≡◌, ◌+◌, length, ℕ, drop, take, ◌-◌, ◌≤◌}
+use Rattle.std.proofs.lemmas.List.{length-take}
+use Rattle.flac_subframe.specs.Prediction.{fixed_coefficients}
+use Rattle.flac_subframe.proofs.Predicted.{fixed_read, fixed_length, places_are, restored_same, left_over}
+use Rattle.flac_subframe.proofs.subframe.read_fixed.Goals as goal
+
+pub returns-clause-reads : goal.returns-clause-reads
+returns-clause-reads g c = λ known same.
+    let n = c.args.order in
+    let s = c.args.samples.now in
+    let within : n ≤ length s = omega (arith, c.requires.places.0) in
+    let front : length (take n s) ≡ n = omega (arith, length-take n s) in
+    let long : length c.signed_partition.new.values ≡ n = c.signed_partition.auto.values ∙ front in
+    let size = left_over n c.signed_partition.new.values s long within in
+    let left : length c.read_residual.new.out ≡ length s - n = omega (arith, c.read_residual.auto.out, size) in
+    let counts = c.in_ok-signed_partition.ensures.counts in
+    let warm = rw front at (c.in_ok-signed_partition.ensures.reads known counts.1) in
+    let rest = rw size at (c.in_ok-read_residual.ensures.reads (counts.0 known) (same ∙ sym counts.1)) in
+    let whole = places_are n c.signed_partition.new.values c.read_residual.new.out s long within left in
+    let fits = restored_same 0 c.args.depth (fixed_coefficients n) c.fixed_coefficients.result.now c.signed_partition.new.values c.read_residual.new.out _ c.restore.new.samples c.restore.result c.fixed_coefficients.ensures whole
+    (omega (arith, fixed_length n c.requires.order, long)) c.restore.ensures.restored c.restore.ensures.fits c.restore.ensures.only in
+    fixed_read c.args.depth (length s) c.args.limit n c.args.bits.now.cursor c.signed_partition.new.self.cursor c.signed_partition.new.values warm c.read_residual.new.bits.cursor c.read_residual.new.out c.restore.new.samples c.restore.result long rest fits

@@ -1,0 +1,26 @@
+use Rattle.std.proofs.Common.{arith, sym, ◌∙◌, ◌≡◌, ◌+◌, length, ℕ, drop, take, ◌-◌, ◌≤◌, refl}
+use Rattle.std.proofs.lemmas.List.{length-take}
+use Rattle.flac_subframe.specs.Subframe.{Predictor}
+use Rattle.flac_subframe.proofs.Predicted.{linear_read, places_are, restored_same, left_over}
+use Rattle.flac_subframe.proofs.subframe.read_linear_into.Goals as goal
+
+pub returns-clause-reads : goal.returns-clause-reads
+returns-clause-reads g c = λ known same.
+    let n = length c.args.coefficients.now in
+    let s = c.args.samples.now in
+    let within : n ≤ length s = omega (arith, c.requires.places.0) in
+    let front : length (take n s) ≡ n = omega (arith, length-take n s) in
+    let long : length c.signed_partition.new.values ≡ n = c.signed_partition.auto.values ∙ front in
+    let size = left_over n c.signed_partition.new.values s long within in
+    let left : length c.read_residual.new.out ≡ length s - n = omega (arith, c.read_residual.auto.out, size) in
+    let counts = c.in_ok-signed_partition.ensures.counts in
+    let after = c.in_ok-_precision.ensures.counts in
+    let same_then = after.1 ∙ counts.1 in
+    let warm = rw front at (c.in_ok-signed_partition.ensures.reads known counts.1) in
+    let chosen = c.in_ok-_precision.ensures.reads (counts.0 known) after.1 in
+    let p : Predictor = record { precision = c.in_ok-_precision._precision; shift = c.in_ok-_precision.shift; coefficients = c.read_predictor.new.coefficients } in
+    let rest = rw size at (c.in_ok-read_residual.ensures.reads (after.0 (counts.0 known)) (same ∙ sym same_then)) in
+    let whole = places_are n c.signed_partition.new.values c.read_residual.new.out s long within left in
+    let fits = restored_same c.in_ok-_precision.shift c.args.depth c.read_predictor.new.coefficients c.read_predictor.new.coefficients c.signed_partition.new.values c.read_residual.new.out _ c.restore.new.samples c.restore.result refl whole
+    (omega (arith, c.read_predictor.auto.coefficients, long)) c.restore.ensures.restored c.restore.ensures.fits c.restore.ensures.only in
+    linear_read c.args.depth (length s) c.args.limit n c.args.bits.now.cursor c.signed_partition.new.self.cursor c.signed_partition.new.values warm c.read_predictor.new.bits.cursor p chosen c.read_residual.new.bits.cursor c.read_residual.new.out c.restore.new.samples c.restore.result rest fits

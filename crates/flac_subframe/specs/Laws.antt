@@ -1,0 +1,24 @@
+-- What the samples of a form are, as equations, and the laws.
+use Rattle.std.specs.Prelude.{◌≡◌, ℕ, ◌<◌, ◌↔◌, ℤ, List, ◌++◌, length}
+use Rattle.flac_subframe.specs.Numbers.{sample_at}
+use Rattle.flac_subframe.specs.Prediction.{fixed_coefficients, Restored}
+use Rattle.flac_subframe.specs.Residual.{residual_values}
+use Rattle.flac_subframe.specs.Subframe.{Content, Constant, Verbatim, Fixed, Linear, Predictor, restored_samples}
+
+-- s are the samples of a content in a block of a size, before the wasted bits are put back (RFC 9639, sections 9.2.3 to 9.2.6).
+abbrev pub RestoredBy : ℕ → Content → List ℤ → Type 0
+RestoredBy block (Constant sample) s = (length s ≡ block) × ((k : ℕ) → k < block → sample_at s k ≡ sample)
+RestoredBy block (Verbatim samples) s = s ≡ samples
+RestoredBy block (Fixed warm_up rest) s = Restored (fixed_coefficients (length warm_up)) 0 (warm_up ++ residual_values rest) s
+RestoredBy block (Linear warm_up chosen rest) s = Restored chosen.coefficients chosen.shift (warm_up ++ residual_values rest) s
+
+-- a linear predictor has as many warm-up samples as coefficients (section 9.2.6)
+abbrev pub HasWarmUp : Content → Type 0
+HasWarmUp (Constant sample) = Unit {0}
+HasWarmUp (Verbatim samples) = Unit {0}
+HasWarmUp (Fixed warm_up rest) = Unit {0}
+HasWarmUp (Linear warm_up chosen rest) = length warm_up ≡ length chosen.coefficients
+
+-- the samples that a reading computes are just those that the equations give
+abbrev pub SamplesAreRestored : Type 0
+SamplesAreRestored = (block : ℕ) (c : Content) (s : List ℤ) → HasWarmUp c → RestoredBy block c s ↔ (s ≡ restored_samples block c)

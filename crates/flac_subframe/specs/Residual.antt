@@ -1,0 +1,72 @@
+-- The residual: values in partitions, each under a coding of its own (RFC 9639, section 9.2.7).
+use Rattle.std.specs.Prelude.{ℕ, zero, suc, ◌+◌, ◌-◌, ◌/◌, ◌%◌, ◌^◌, Bool, nat_eq, nat_lt, ◌&&◌, not, ℤ, List, [], ◌∷◌, flat_map}
+use Rattle.flac_bits.specs.Layout.{Layout, done, bits, judge, choose, ◌>>=◌}
+use Rattle.flac_bits.specs.Lists.{list_of}
+use Rattle.flac_bits.specs.Rice.{rice_value}
+use Rattle.flac_bits.specs.declared.why.Why.TheVariants.{NotSubset, BadPartition}
+use Rattle.flac_bits.specs.Signed.{signed_field}
+
+-- a Rice parameter, or how many bits each value has that is not coded (section 9.2.7.1)
+pub data Coding : Type 0 where
+  Rice : ℕ → Coding
+  Escape : ℕ → Coding
+
+pub record Partition : Type 0 where
+  pub coding : Coding
+  pub values : List ℤ
+
+-- The coding method, how often the block is halved, and the partitions (section 9.2.7).
+pub record Residual : Type 0 where
+  pub method : ℕ
+  pub order : ℕ
+  pub partitions : List Partition
+
+-- n values of signed numbers of a width that is told first, and 0 where it is 0: then they take no bits (section 9.2.7.1)
+unfoldable pub escaped : ℕ → Layout Partition
+escaped n = do
+  width ← bits 5
+  values ← list_of n (signed_field width)
+  done (record { coding = Escape width; values = values })
+
+-- n values under a Rice parameter (section 9.2.7.2)
+unfoldable pub coded : ℕ → ℕ → Layout Partition
+coded n parameter = list_of n (rice_value parameter) >>= λ values. done (record { coding = Rice parameter; values = values })
+
+-- A partition of n values: a parameter of some bits, of which all ones are an escape (section 9.2.7.1).
+unfoldable pub partition : ℕ → ℕ → Layout Partition
+partition parameter_bits n = bits parameter_bits >>= λ parameter. choose (nat_eq parameter (2 ^ parameter_bits - 1)) (escaped n) (coded n parameter)
+
+-- Partitions one after another: one of a first length, and the others of another.
+unfoldable pub partitions : ℕ → ℕ → ℕ → ℕ → Layout (List Partition)
+partitions parameter_bits first size zero = done []
+partitions parameter_bits first size (suc n) = do
+  one ← partition parameter_bits first
+  others ← partitions parameter_bits size size n
+  done (one ∷ others)
+
+-- the block can be halved so often, and each part is longer than the predictor's order (section 9.2.7)
+abbrev pub can_halve : ℕ → ℕ → ℕ → Bool
+can_halve block times order = nat_eq (block % 2 ^ times) 0 && nat_lt order (block / 2 ^ times)
+
+-- The coding method, 0 or 1, and the partition order, with a limit on it (section 9.2.7).
+unfoldable pub residual_header : ℕ → ℕ → ℕ → Layout (ℕ × ℕ)
+residual_header limit order block = do
+  method ← bits 2
+  _ ← judge (record { broken = nat_lt 1 method; why = BadPartition } ∷ [])
+  times ← bits 4
+  _ ← judge (record { broken = nat_lt limit times; why = NotSubset } ∷ record { broken = not (can_halve block times order); why = BadPartition } ∷ [])
+  done (method, times)
+
+-- The residual of a predictor of an order in a block: the method gives the bits of a parameter, 4 or 5; the first partition lacks the values of the
+-- warm-up samples (section 9.2.7).
+unfoldable pub residual : ℕ → ℕ → ℕ → Layout Residual
+residual limit order block = do
+  h ← residual_header limit order block
+  parts ← partitions (4 + h.0) (block / 2 ^ h.1 - order) (block / 2 ^ h.1) (2 ^ h.1)
+  done (record { method = h.0; order = h.1; partitions = parts })
+
+abbrev pub all_values : List Partition → List ℤ
+all_values parts = flat_map (λ p. p.values) parts
+
+abbrev pub residual_values : Residual → List ℤ
+residual_values r = all_values r.partitions

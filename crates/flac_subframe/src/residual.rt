@@ -1,0 +1,134 @@
+//! The residual, read into the places of the samples that it restores.
+
+ghost use Rattle.std.specs.Prelude.{◌≡◌, ◌≤◌, ◌<◌, ◌+◌, ◌-◌, ◌*◌, ◌^◌, ◌/◌, ◌⊎◌, OnOk, IfOk, IfSome, length, All};
+ghost use Rattle.flac_bits.specs.Layout.{bind, done, zeros_at};
+ghost use Rattle.flac_bits.specs.Lists.{list_of};
+ghost use Rattle.flac_bits.specs.Rice.{rice_value, unfolded};
+ghost use Rattle.flac_bits.specs.Reading.{Counts, Gives, Reads};
+ghost use Rattle.flac_bits.specs.Signed.{FitsBits};
+ghost use Rattle.flac_subframe.specs.Residual.{partition, partitions, residual_header, residual, all_values, residual_values, can_halve};
+
+use crate::numbers::repeat;
+use flac_bits::{BitReader, Source, Why};
+
+/// Fills the places with the values of one partition.
+#[tactic(auto, unfolding(crate::specs::Residual::partition, crate::specs::Residual::escaped, crate::specs::Residual::coded), using(crate::proofs::Bounds::all_fit_32, crate::proofs::Bounds::residuals_fit, crate::proofs::Samples::no_bits))]
+fn read_partition<R: Source>(
+    bits: &mut BitReader<R>,
+    parameter_bits: u32,
+    out: &mut [i64],
+) -> Result<(), Why>
+    requires { (parameter_bits ≡ 4) ⊎ (parameter_bits ≡ 5) }
+    ensures fits { OnOk result (All (FitsBits 32) out.new) }
+    ensures spends { OnOk result (bits.new.most ≤ bits.old.most) }
+    ensures counts { Counts bits.old bits.new result }
+    ensures reads { Reads (λ _. out.new) (bind (partition parameter_bits (length out.old)) (λ p. done p.values)) bits.old bits.new result }
+{
+    let parameter = bits.take(parameter_bits)? as u32;
+    if parameter == (1 << parameter_bits) - 1 {
+        let width = bits.take(5)? as u32;
+        if width == 0 {
+            repeat(0, out);
+            return Ok(());
+        }
+        bits.signed_partition(width, out)?;
+        return Ok(());
+    }
+    bits.rice_partition(parameter, out)?;
+    Ok(())
+}
+
+/// Fills the places with the values of the partitions of a block, of which each has `size` values but the first, which lacks those
+/// of the warm-up samples.
+#[tactic(auto, using(crate::proofs::Parts::gathers_nothing))]
+fn read_partitions<R: Source>(
+    bits: &mut BitReader<R>,
+    parameter_bits: u32,
+    order: usize,
+    size: usize,
+    count: usize,
+    out: &mut [i64],
+) -> Result<(), Why>
+    requires parameter_bits { (parameter_bits ≡ 4) ⊎ (parameter_bits ≡ 5) }
+    requires room { order < size }
+    requires some { 0 < count }
+    requires few { length out.old ≤ 65535 }
+    requires small { size ≤ 65535 }
+    requires cut { length out.old + order ≡ count * size }
+    ensures fits { OnOk result (All (FitsBits 32) out.new) }
+    ensures spends { OnOk result (bits.new.most ≤ bits.old.most) }
+    ensures counts { Counts bits.old bits.new result }
+    ensures reads { Reads (λ _. out.new) (bind (partitions parameter_bits (size - order) size count) (λ ps. done (all_values ps))) bits.old bits.new result }
+{
+    let mut start = 0;
+    let mut end = size - order;
+    for i in 0..count {
+        read_partition(bits, parameter_bits, &mut out[start..end])?;
+        start = end;
+        end += size;
+    }
+    Ok(())
+}
+
+/// How many partitions a partition order gives.
+#[inline(always)]
+fn partition_count(times: u32) -> usize
+    requires { times ≤ 15 }
+    ensures { result ≡ 2 ^ times }
+{
+    1 << times
+}
+
+/// The coding method and the partition order of a residual (RFC 9639, section 9.2.7).
+#[tactic(auto, unfolding(crate::specs::Residual::residual_header))]
+fn read_residual_header<R: Source>(
+    bits: &mut BitReader<R>,
+    limit: u32,
+    order: usize,
+    block: usize,
+) -> Result<(u32, u32), Why>
+    requires limit { limit ≤ 15 }
+    ensures method { IfOk result (λ h. (4 + h.0 ≡ 4) ⊎ (4 + h.0 ≡ 5)) }
+    ensures times { IfOk result (λ h. h.1 ≤ 15) }
+    ensures whole { IfOk result (λ h. block ≡ 2 ^ h.1 * (block / 2 ^ h.1)) }
+    ensures room { IfOk result (λ h. order < block / 2 ^ h.1) }
+    ensures spends { OnOk result (bits.new.most ≤ bits.old.most) }
+    ensures counts { Counts bits.old bits.new result }
+    ensures reads { Reads (λ h. (h.0, h.1)) (residual_header limit order block) bits.old bits.new result }
+{
+    let method = bits.take(2)? as u32;
+    if method > 1 {
+        return Err(Why::BadPartition);
+    }
+    let times = bits.take(4)? as u32;
+    if times > limit {
+        return Err(Why::NotSubset);
+    }
+    let count = partition_count(times);
+    if block % count != 0 || block / count <= order {
+        return Err(Why::BadPartition);
+    }
+    Ok((method, times))
+}
+
+/// Fills the places behind the warm-up samples of a block with the residual of a predictor of an order (RFC 9639, section 9.2.7).
+#[tactic(auto, unfolding(crate::specs::Residual::residual))]
+pub fn read_residual<R: Source>(
+    bits: &mut BitReader<R>,
+    limit: u32,
+    order: usize,
+    out: &mut [i64],
+) -> Result<(), Why>
+    requires limit { limit ≤ 15 }
+    requires few { length out.old + order ≤ 65535 }
+    ensures fits { OnOk result (All (FitsBits 32) out.new) }
+    ensures spends { OnOk result (bits.new.most ≤ bits.old.most) }
+    ensures counts { Counts bits.old bits.new result }
+    ensures reads { Reads (λ _. out.new) (bind (residual limit order (length out.old + order)) (λ r. done (residual_values r))) bits.old bits.new result }
+{
+    let block = out.len() + order;
+    let (method, times) = read_residual_header(bits, limit, order, block)?;
+    let count = partition_count(times);
+    read_partitions(bits, 4 + method, order, block / count, count, out)?;
+    Ok(())
+}
