@@ -72,24 +72,30 @@ fn residual_values(rt: HostRuntime) -> Result<(), Fail> {
     Ok(())
 }
 
-fn mixed<R: Source>(rt: HostRuntime, bits: &mut BitReader<R>) -> Result<(), Fail> {
-    assert_eq!(rt; bits.take(12)?, 0x012);
-    assert_eq!(rt; bits.take_signed(4)?, 3);
-    assert_eq!(rt; bits.unary(5)?, Some(1));
-    assert_eq!(rt; bits.take(46)?, 0x0567_89AB_CDEF);
+/// Fields of many kinds, and the byte that stands last.
+fn last_of<R: Source + Drop>(source: R) -> Result<u8, Why> {
+    let mut bits = BitReader::new(source);
     let mut rest = [0u8; 4];
-    read_bytes(bits, &mut rest)?;
-    assert_eq!(rt; rest[3], 3);
-    assert_eq!(rt; bits.at_end()?, true);
-    Ok(())
+    if bits.take(12)? != 0x012 || bits.take_signed(4)? != 3 || bits.unary(5)? != Some(1) {
+        return Err(Why::BadNumber);
+    }
+    if bits.take(46)? != 0x0567_89AB_CDEF {
+        return Err(Why::BadNumber);
+    }
+    read_bytes(&mut bits, &mut rest)?;
+    if bits.at_end()? {
+        return Ok(rest[3]);
+    }
+    Err(Why::BadNumber)
 }
 
 #[test]
 fn pieces(rt: HostRuntime) -> Result<(), Fail> {
     let bytes = [0x01, 0x23, 0x45, 0x67, 0x89, 0xAB, 0xCD, 0xEF, 0, 1, 2, 3];
-    mixed(rt, &mut BitReader::new(Pieces::new(Memory::new(&bytes), 1)))?;
-    mixed(rt, &mut BitReader::new(Pieces::new(Memory::new(&bytes), 2)))?;
-    mixed(rt, &mut BitReader::new(Pieces::new(Memory::new(&bytes), 3)))?;
+    assert_eq!(rt; last_of(Memory::new(&bytes))?, 3);
+    assert_eq!(rt; last_of(Pieces::new(Memory::new(&bytes), 1))?, 3);
+    assert_eq!(rt; last_of(Pieces::new(Memory::new(&bytes), 2))?, 3);
+    assert_eq!(rt; last_of(Pieces::new(Memory::new(&bytes), 3))?, 3);
     Ok(())
 }
 
@@ -127,6 +133,7 @@ fn fence(rt: HostRuntime) -> Result<(), Fail> {
 }
 
 /// A reader of one byte, which then fails once.
+#[derive(Drop)]
 struct Once {
     given: bool,
 }
