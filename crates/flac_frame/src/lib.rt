@@ -8,8 +8,10 @@ mod end;
 mod fill;
 mod samples;
 mod start;
+mod stereo;
 mod view;
 
 pub use before::Before;
 pub use buffers::FrameBuffers;
+pub use stereo::channels_are_joined;
 pub use view::FrameView;
