@@ -9,6 +9,8 @@ mod fill;
 mod samples;
 mod start;
 mod stereo;
+#[cfg(test)]
+mod tests;
 mod view;
 
 pub use before::Before;

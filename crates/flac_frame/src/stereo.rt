@@ -9,7 +9,7 @@ ghost use Rattle.flac_frame.specs.View.{chunks};
 /// The left and the right sample that two samples of these channels are kept as (RFC 9639, section 4.2).
 #[inline(always)]
 #[tactic(auto, unfolding(crate::specs::Stereo::left_of, crate::specs::Stereo::right_of))]
-fn join_samples(code: u8, first: i64, second: i64) -> (i64, i64)
+pub(crate) fn join_samples(code: u8, first: i64, second: i64) -> (i64, i64)
     requires first { FitsBits 34 first }
     requires second { FitsBits 34 second }
     ensures left { result.0 ≡ left_of code first second }
