@@ -6,7 +6,7 @@ use Rattle.std.proofs.lemmas.Int.{ints}
 use Rattle.std.proofs.lemmas.Bool.Decides.{nat_tests}
 use Rattle.std.proofs.lemmas.Simd.{length-zip2, get_or-zip2}
 use Rattle.std.proofs.lemmas.List.{get_or-set_same, get_or-set_other, ext_get_or, length-set}
-use Rattle.flac_subframe.specs.Numbers.{FitsBits}
+use Rattle.flac_bits.specs.Signed.{FitsBits}
 use Rattle.flac_frame.specs.Stereo.{sample_at, IsSide, IsMiddle, KeptAs, Joined, left_of, right_of, joined, joined_pair, ChannelsAreJoined}
 
 by_test : {R : Type 0} (b : Bool) → (b ≡ true → R) → (b ≡ false → R) → R

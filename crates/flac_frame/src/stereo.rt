@@ -2,7 +2,7 @@
 
 ghost use Rattle.std.specs.Prelude.{◌≡◌, ◌<◌, ◌≤◌, ◌*◌, length, All};
 ghost use Rattle.std.specs.Simd.Lanes.{zip2};
-ghost use Rattle.flac_subframe.specs.Numbers.{FitsBits};
+ghost use Rattle.flac_bits.specs.Signed.{FitsBits};
 ghost use Rattle.flac_frame.specs.Stereo.{left_of, right_of, joined, ChannelsAreJoined};
 ghost use Rattle.flac_frame.specs.View.{chunks};
 

@@ -2,7 +2,7 @@ use Rattle.std.proofs.Common.{◌≡◌, ◌*◌, ◌+◌, ℤ, List, Option, []
 use Rattle.flac_bits.specs.State.{Cursor}
 use Rattle.flac_bits.specs.Layout.{run, Reason}
 use Rattle.std.proofs.lemmas.List.{take_all}
-use Rattle.flac_subframe.specs.Numbers.{FitsBits}
+use Rattle.flac_bits.specs.Signed.{FitsBits}
 use Rattle.flac_frame.specs.Frame.{subframes}
 use Rattle.flac_frame.specs.View.{chunks}
 use Rattle.flac_frame.proofs.Subframes.{turn, subframes_over, part_ends, both_true, both_false, all_more}

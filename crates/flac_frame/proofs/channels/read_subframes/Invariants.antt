@@ -2,7 +2,7 @@ use Rattle.std.proofs.Common.{◌≡◌, ◌*◌, ◌≤◌, ◌-◌, length, ta
 use Rattle.flac_bits.specs.Layout.{run}
 use Rattle.flac_bits.specs.Reading.{Goes}
 use Rattle.flac_frame.specs.Frame.{subframes}
-use Rattle.flac_subframe.specs.Numbers.{FitsBits}
+use Rattle.flac_bits.specs.Signed.{FitsBits}
 use Rattle.flac_frame.specs.View.{chunks}
 use Rattle.flac_frame.proofs.channels.read_subframes.Given as goal
 
