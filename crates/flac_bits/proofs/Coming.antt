@@ -33,6 +33,7 @@ same_test a b c d f g = elim (cases_lt b a) [
   where
     le-leb : {a b : ℕ} → a ≤ b → nat_le a b ≡ true
     le-leb le = grind (arith, nat_tests)
+
     lt-leb : {a b : ℕ} → b < a → nat_le a b ≡ false
     lt-leb lt = grind (arith, nat_tests)
 

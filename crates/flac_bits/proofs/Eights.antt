@@ -104,7 +104,7 @@ eight32 c xs long fits small =
     let at6 : get_or behind32_1 (get_or xs 6 0) 0 ≡ e 1 (get_or xs 6 0) = is32_1 (get_or xs 6 0) (small 6) in
     let at7 : get_or behind32_0 (get_or xs 7 0) 0 ≡ e 0 (get_or xs 7 0) = is32_0 (get_or xs 7 0) (small 7) in
     let held : times 32 79764919 32 c ≡ remainder 32 79764919 (bits_of ((c / 16777216) ∷ (c / 65536 % 256) ∷ (c / 256 % 256) ∷ (c % 256) ∷ [])) = times_is 32 79764919 32 c (omega arith) fits
-        ∙ ap (remainder 32 79764919) (split 8 24 c ∙ ap (λ bs. unsigned 8 (c / 16777216) ++ bs) (split 8 16 c ∙ ap (λ bs. bs ++ unsigned 16 c) (sym (unsigned-mod 8 (c / 65536))) ∙ ap (λ bs. unsigned 8 (c / 65536 % 256) ++ bs) (split 8 8 c ∙ ap (λ bs. bs ++ unsigned 8 c) (sym (unsigned-mod 8 (c / 256))) ∙ ap (λ bs. unsigned 8 (c / 256 % 256) ++ bs) (sym (unsigned-mod 8 c))))) in
+    ∙ ap (remainder 32 79764919) (split 8 24 c ∙ ap (λ bs. unsigned 8 (c / 16777216) ++ bs) (split 8 16 c ∙ ap (λ bs. bs ++ unsigned 16 c) (sym (unsigned-mod 8 (c / 65536))) ∙ ap (λ bs. unsigned 8 (c / 65536 % 256) ++ bs) (split 8 8 c ∙ ap (λ bs. bs ++ unsigned 8 c) (sym (unsigned-mod 8 (c / 256))) ∙ ap (λ bs. unsigned 8 (c / 256 % 256) ++ bs) (sym (unsigned-mod 8 c))))) in
     let sums : fed 32 79764919 c (bits_of xs) ≡ remainder 32 79764919 (bits_of ((bit_xor (c / 16777216) (get_or xs 0 0)) ∷ (bit_xor (c / 65536 % 256) (get_or xs 1 0)) ∷ (bit_xor (c / 256 % 256) (get_or xs 2 0)) ∷ (bit_xor (c % 256) (get_or xs 3 0)) ∷ (get_or xs 4 0) ∷ (get_or xs 5 0) ∷ (get_or xs 6 0) ∷ (get_or xs 7 0) ∷ [])) =
     ap (λ ys. fed 32 79764919 c (bits_of ys)) (eight_list xs long) ∙ fed_mixed 32 79764919 c ((c / 16777216) ∷ (c / 65536 % 256) ∷ (c / 256 % 256) ∷ (c % 256) ∷ []) (get_or xs 0 0 ∷ get_or xs 1 0 ∷ get_or xs 2 0 ∷ get_or xs 3 0 ∷ []) (get_or xs 4 0 ∷ get_or xs 5 0 ∷ get_or xs 6 0 ∷ get_or xs 7 0 ∷ []) refl refl held in
     rw (at0, at1, at2, at3, at4, at5, at6, at7) (sym (eight_is 32 79764919 (bit_xor (c / 16777216) (get_or xs 0 0)) (bit_xor (c / 65536 % 256) (get_or xs 1 0)) (bit_xor (c / 256 % 256) (get_or xs 2 0)) (bit_xor (c % 256) (get_or xs 3 0)) (get_or xs 4 0) (get_or xs 5 0) (get_or xs 6 0) (get_or xs 7 0))) ∙ sym sums
@@ -115,4 +115,3 @@ byte32 c b fits small =
     let look = is32_0 (bit_xor (c / 16777216) b) (xor_lt 8 (c / 16777216) b (omega (arith, fits)) small) in
     let low : c * 256 % 4294967296 ≡ c % 16777216 * 256 = omega arith in
     ap (λ k. bit_xor k (get_or behind32_0 (bit_xor (c / 16777216) b) 0)) low ∙ ap (bit_xor (c % 16777216 * 256)) look ∙ sym (byte_step 24 79764919 c b fits)
-

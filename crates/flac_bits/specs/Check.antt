@@ -1,7 +1,7 @@
 -- The check of a bit list: the remainder of its polynomial times x^w by x^w + g.
-use Rattle.std.specs.Prelude.{ℕ, zero, suc, ◌-◌, ◌*◌, ◌%◌, ◌^◌, Bool, cond, nat_eq, List, [], ◌∷◌, length, bit_xor}
+use Rattle.std.specs.Prelude.{ℕ, zero, suc, ◌-◌, ◌*◌, ◌%◌, ◌^◌, ◌≡◌, Bool, cond, nat_eq, List, [], ◌∷◌, length, bit_xor}
 use Rattle.std.specs.Int.{bit_at}
-use Rattle.flac_bits.specs.State.{feed}
+use Rattle.flac_bits.specs.State.{feed, Mark, past}
 
 -- x times a remainder, reduced
 abbrev pub shifted : ℕ → ℕ → ℕ → ℕ
@@ -21,3 +21,7 @@ remainder w g (b ∷ bs) = bit_xor (cond b (power w g (length bs)) 0) (remainder
 unfoldable pub fed : ℕ → ℕ → ℕ → List Bool → ℕ
 fed w g c [] = c
 fed w g c (b ∷ bs) = fed w g (feed w g c b) bs
+
+-- what a mark tells of the bits since the checks began is their remainder (RFC 9639, sections 9.1.8 and 9.3)
+abbrev pub ChecksAreRemainders : Type 0
+ChecksAreRemainders = (bits : List Bool) (m : Mark) → m.check8 ≡ 0 → m.check16 ≡ 0 → ((past bits m).check8 ≡ remainder 8 7 bits) × ((past bits m).check16 ≡ remainder 16 32773 bits)

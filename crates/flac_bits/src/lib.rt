@@ -8,10 +8,10 @@ mod held;
 mod number;
 mod promises;
 mod reader;
-mod rest;
 mod remainders16;
 mod remainders32;
 mod remainders8;
+mod rest;
 mod send;
 mod signed;
 mod source;
@@ -30,11 +30,12 @@ pub use promises::numbers_are_spelled;
 pub use reader::BitReader;
 pub use send::send_all;
 pub use source::{Memory, Pieces, Source};
-pub use sums::{crc8, crc16, crc32_sum};
+pub use sums::{checks_are_remainders, crc8, crc16, crc32_sum};
 pub use target::{Collected, Target};
 pub use why::Why;
-pub use word::Word;
 pub use writer::BitWriter;
 
+#[cfg(test)]
+mod reader_tests;
 #[cfg(test)]
 mod writer_tests;

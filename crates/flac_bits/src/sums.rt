@@ -3,7 +3,7 @@
 ghost use Rattle.std.specs.Prelude.{◌≡◌, ◌<◌, ◌≤◌, ◌/◌, ◌^◌, length};
 ghost use Rattle.flac_bits.specs.Bits.{unsigned, bits_of};
 ghost use Rattle.flac_bits.specs.State.{feed};
-ghost use Rattle.flac_bits.specs.Check.{fed, remainder};
+ghost use Rattle.flac_bits.specs.Check.{fed, remainder, ChecksAreRemainders};
 
 use crate::{remainders8, remainders16, remainders32};
 
@@ -70,7 +70,14 @@ fn eight_checked8(check: u8, bytes: &[u8]) -> u8
     requires { length bytes.now ≡ 8 }
     ensures { result ≡ fed 8 7 check (bits_of bytes.now) }
 {
-    remainders8::BEHIND_7[(check ^ bytes[0]) as usize] ^ (remainders8::BEHIND_6[bytes[1] as usize] ^ (remainders8::BEHIND_5[bytes[2] as usize] ^ (remainders8::BEHIND_4[bytes[3] as usize] ^ (remainders8::BEHIND_3[bytes[4] as usize] ^ (remainders8::BEHIND_2[bytes[5] as usize] ^ (remainders8::BEHIND_1[bytes[6] as usize] ^ remainders8::BEHIND_0[bytes[7] as usize]))))))
+    remainders8::BEHIND_7[(check ^ bytes[0]) as usize]
+        ^ (remainders8::BEHIND_6[bytes[1] as usize]
+            ^ (remainders8::BEHIND_5[bytes[2] as usize]
+                ^ (remainders8::BEHIND_4[bytes[3] as usize]
+                    ^ (remainders8::BEHIND_3[bytes[4] as usize]
+                        ^ (remainders8::BEHIND_2[bytes[5] as usize]
+                            ^ (remainders8::BEHIND_1[bytes[6] as usize]
+                                ^ remainders8::BEHIND_0[bytes[7] as usize]))))))
 }
 
 #[tactic(auto, unfolding(crate::specs::Check::fed))]
@@ -111,7 +118,14 @@ fn eight_checked16(check: u16, bytes: &[u8]) -> u16
     requires { length bytes.now ≡ 8 }
     ensures { result ≡ fed 16 32773 check (bits_of bytes.now) }
 {
-    remainders16::BEHIND_7[((check >> 8) as u8 ^ bytes[0]) as usize] ^ (remainders16::BEHIND_6[((check % 256) as u8 ^ bytes[1]) as usize] ^ (remainders16::BEHIND_5[bytes[2] as usize] ^ (remainders16::BEHIND_4[bytes[3] as usize] ^ (remainders16::BEHIND_3[bytes[4] as usize] ^ (remainders16::BEHIND_2[bytes[5] as usize] ^ (remainders16::BEHIND_1[bytes[6] as usize] ^ remainders16::BEHIND_0[bytes[7] as usize]))))))
+    remainders16::BEHIND_7[((check >> 8) as u8 ^ bytes[0]) as usize]
+        ^ (remainders16::BEHIND_6[((check % 256) as u8 ^ bytes[1]) as usize]
+            ^ (remainders16::BEHIND_5[bytes[2] as usize]
+                ^ (remainders16::BEHIND_4[bytes[3] as usize]
+                    ^ (remainders16::BEHIND_3[bytes[4] as usize]
+                        ^ (remainders16::BEHIND_2[bytes[5] as usize]
+                            ^ (remainders16::BEHIND_1[bytes[6] as usize]
+                                ^ remainders16::BEHIND_0[bytes[7] as usize]))))))
 }
 
 #[tactic(auto, unfolding(crate::specs::Check::fed))]
@@ -152,7 +166,14 @@ fn eight_checked32(check: u32, bytes: &[u8]) -> u32
     requires { length bytes.now ≡ 8 }
     ensures { result ≡ fed 32 79764919 check (bits_of bytes.now) }
 {
-    remainders32::BEHIND_7[((check >> 24) as u8 ^ bytes[0]) as usize] ^ (remainders32::BEHIND_6[(((check >> 16) % 256) as u8 ^ bytes[1]) as usize] ^ (remainders32::BEHIND_5[(((check >> 8) % 256) as u8 ^ bytes[2]) as usize] ^ (remainders32::BEHIND_4[((check % 256) as u8 ^ bytes[3]) as usize] ^ (remainders32::BEHIND_3[bytes[4] as usize] ^ (remainders32::BEHIND_2[bytes[5] as usize] ^ (remainders32::BEHIND_1[bytes[6] as usize] ^ remainders32::BEHIND_0[bytes[7] as usize]))))))
+    remainders32::BEHIND_7[((check >> 24) as u8 ^ bytes[0]) as usize]
+        ^ (remainders32::BEHIND_6[(((check >> 16) % 256) as u8 ^ bytes[1]) as usize]
+            ^ (remainders32::BEHIND_5[(((check >> 8) % 256) as u8 ^ bytes[2]) as usize]
+                ^ (remainders32::BEHIND_4[((check % 256) as u8 ^ bytes[3]) as usize]
+                    ^ (remainders32::BEHIND_3[bytes[4] as usize]
+                        ^ (remainders32::BEHIND_2[bytes[5] as usize]
+                            ^ (remainders32::BEHIND_1[bytes[6] as usize]
+                                ^ remainders32::BEHIND_0[bytes[7] as usize]))))))
 }
 
 #[tactic(auto, unfolding(crate::specs::Check::fed))]
@@ -194,3 +215,8 @@ pub fn crc16(bytes: &[u8]) -> u16
 {
     checked16(0, bytes)
 }
+
+/// The checks that a reader tells are the remainders of the bits that were read since the checks began.
+pub fn checks_are_remainders()
+    ensures { ChecksAreRemainders }
+{}

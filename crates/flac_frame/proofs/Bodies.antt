@@ -5,6 +5,7 @@ use Rattle.std.proofs.lemmas.Slice.{take-put_mid}
 use borrow.Rule.Slice.PartMut.{put_mid}
 use Rattle.flac_subframe.specs.Numbers.{all_fit}
 use Rattle.flac_frame.specs.Frame.{each_fits, in_range}
+use Rattle.flac_frame.specs.Stereo.{joined}
 use Rattle.flac_frame.specs.View.{chunks}
 use Rattle.flac_frame.proofs.Depths.{all_fit-append}
 
@@ -16,11 +17,11 @@ each_is depth (suc c) n xs long =
     let rest : length (drop n xs) ≡ c * n = length-drop n xs ∙ omega (arith, long) in
     ap (λ b. cond (all_fit depth (take n xs)) b false) (each_is depth c n (drop n xs) rest) ∙ sym (all_fit-append depth (take n xs) (drop n xs)) ∙ ap (all_fit depth) (take-append-drop n xs)
 
-pub some_fit : (depth c n : ℕ) (xs : List ℤ) → length xs ≡ c * n → all_fit depth xs ≡ true → in_range depth (Some (chunks c n xs)) ≡ Some (chunks c n xs)
-some_fit depth c n xs long h = rw (each_is depth c n xs long, h) refl
+pub some_fit : (depth code c n : ℕ) (old xs : List ℤ) → chunks c n xs ≡ joined code (chunks c n old) → length xs ≡ c * n → all_fit depth xs ≡ true → in_range depth code (Some (chunks c n old)) ≡ Some (chunks c n xs)
+some_fit depth code c n old xs is long h = rw (← is, each_is depth c n xs long, h) refl
 
-pub none_fits : (depth c n : ℕ) (xs : List ℤ) → length xs ≡ c * n → all_fit depth xs ≡ false → in_range depth (Some (chunks c n xs)) ≡ None
-none_fits depth c n xs long h = rw (each_is depth c n xs long, h) refl
+pub none_fits : (depth code c n : ℕ) (old xs : List ℤ) → chunks c n xs ≡ joined code (chunks c n old) → length xs ≡ c * n → all_fit depth xs ≡ false → in_range depth code (Some (chunks c n old)) ≡ None
+none_fits depth code c n old xs is long h = rw (← is, each_is depth c n xs long, h) refl
 
 -- the first places, after a write to them
 pub first_places : (n : ℕ) (xs ys : List ℤ) → length ys ≡ n → take n (put_mid 0 n xs ys) ≡ ys

@@ -2,3 +2,4 @@ pub mod Starts
 pub mod Subframes
 pub mod Depths
 pub mod Bodies
+pub mod Joins

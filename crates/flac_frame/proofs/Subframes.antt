@@ -1,6 +1,7 @@
 -- Subframes that are read one after another into one array.
-use Rattle.std.proofs.Common.{◌≡◌, ℕ, zero, suc, ◌+◌, ◌-◌, ◌*◌, ◌<◌, ◌≤◌, ℤ, Bool, true, false, cond, ◌&&◌, List, [], ◌∷◌, ◌++◌, length, take, drop, get_or, Option, Some, None, Result, Ok, Err, refl, sym, ap, ◌∙◌, arith}
+use Rattle.std.proofs.Common.{◌≡◌, ℕ, zero, suc, ◌+◌, ◌-◌, ◌*◌, ◌<◌, ◌≤◌, ℤ, Bool, true, false, cond, ◌&&◌, List, [], ◌∷◌, ◌++◌, length, take, drop, get_or, Option, Some, None, Result, Ok, Err, All, refl, sym, ap, ◌∙◌, arith}
 use Rattle.std.proofs.lemmas.List.{take-append-le, drop-append-le, drop-take, drop-drop, take-take, take_all, length-drop, length-take-le}
+use Rattle.std.proofs.lemmas.List.Elements.{All-append}
 use Rattle.std.proofs.lemmas.Slice.{take-put_mid}
 use borrow.Rule.Slice.PartMut.{put_mid}
 use Rattle.std.proofs.Math.Nat.{mul-le-mul_right}
@@ -103,3 +104,10 @@ chunks-at (suc c) n xs (suc i) h =
     let lt : i < c = omega arith in
     let e : suc i * n ≡ n + i * n = omega arith in
     chunks-at c n (drop n xs) i lt ∙ (ap (take n) (drop-drop (i * n) n xs) ∙ ap (λ k. take n (drop k xs)) (sym e))
+
+-- what holds of the samples so far and of those of one channel more
+pub all_more : (P : ℤ → Type 0) (c b : ℕ) (xs own : List ℤ) → c * b ≤ length xs → length own ≡ b → All P (take (c * b) xs) → All P own → All P (take ((c + 1) * b) (put_mid (c * b) (c * b + b - c * b) xs own))
+all_more P c b xs own within is before here =
+    let e : (c + 1) * b ≡ c * b + b = omega arith in
+    let long : c * b + b ≡ c * b + length own = omega (arith, is) in
+    rw (e, take-put_mid (c * b) (c * b + b - c * b) xs own (c * b + b) long within) (All-append P (take (c * b) xs) own before here)

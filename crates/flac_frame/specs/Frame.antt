@@ -2,12 +2,13 @@
 use Rattle.std.specs.Prelude.{ℕ, zero, suc, ◌+◌, ◌*◌, Bool, true, false, not, cond, ◌&&◌, ◌||◌, nat_eq, nat_lt, nat_le, ℤ, List, [], ◌∷◌, ◌++◌, take, drop, Option, Some, None, is_none, ⊤}
 use Rattle.flac_bits.specs.Layout.{Layout, done, bits, judge, refuse, mark, align, ◌>>=◌}
 use Rattle.flac_bits.specs.declared.why.Why.{Why}
-use Rattle.flac_bits.specs.declared.why.Why.TheVariants.{NotSubset, HeaderMismatch, Sequence, BlockSize, NotYet, NonzeroPadding, FrameCheck, SampleRange}
+use Rattle.flac_bits.specs.declared.why.Why.TheVariants.{NotSubset, HeaderMismatch, Sequence, BlockSize, NonzeroPadding, FrameCheck, SampleRange}
 use Rattle.flac_header.specs.Header.{Header, header, allowed, channels_of, depth_of}
 use Rattle.flac_meta.specs.Info.{Info}
 use Rattle.flac_subframe.specs.declared.limits.Limits.{Limits}
 use Rattle.flac_subframe.specs.Numbers.{all_fit}
 use Rattle.flac_subframe.specs.Subframe.{subframe_samples}
+use Rattle.flac_frame.specs.Stereo.{joined}
 use Rattle.flac_frame.specs.declared.before.Before.{Before}
 
 -- A frame: whether its number is that of its first sample, the number, the samples a channel, and those of each channel.
@@ -50,8 +51,7 @@ stream_header info before = do
       record { broken = not (allowed h); why = NotSubset } ∷
       record { broken = differs info h; why = HeaderMismatch } ∷
       record { broken = breaks_sequence before h; why = Sequence } ∷
-      record { broken = breaks_size info before h; why = BlockSize } ∷
-      record { broken = nat_lt 7 h.channel_code; why = NotYet } ∷ [])
+      record { broken = breaks_size info before h; why = BlockSize } ∷ [])
   done h
 
 -- ---- the subframes
@@ -70,7 +70,7 @@ with_channel (Some channels) (Some channel) = Some (channels ++ channel ∷ [])
 with_channel (Some channels) None = None
 with_channel None channel = None
 
--- the subframes of n channels from one on, behind those that were read
+-- The subframes of n channels from one on, behind those that were read.
 unfoldable pub subframes : (depth code block : ℕ) → Limits → Option (List (List ℤ)) → (channel n : ℕ) → Layout (Option (List (List ℤ)))
 subframes depth code block limits got channel zero = done got
 subframes depth code block limits got channel (suc n) = do
@@ -98,9 +98,9 @@ each_fits depth [] = true
 each_fits depth (channel ∷ channels) = cond (all_fit depth channel) (each_fits depth channels) false
 
 -- the samples of all channels, where each fits the depth
-abbrev pub in_range : ℕ → Option (List (List ℤ)) → Option (List (List ℤ))
-in_range depth None = None
-in_range depth (Some channels) = cond (each_fits depth channels) (Some channels) None
+abbrev pub in_range : (depth code : ℕ) → Option (List (List ℤ)) → Option (List (List ℤ))
+in_range depth code None = None
+in_range depth code (Some channels) = cond (each_fits depth (joined code channels)) (Some (joined code channels)) None
 
 -- what there is, or the reason
 abbrev pub some_or : {A : Type 0} → Why → Option A → Layout A
@@ -112,7 +112,7 @@ unfoldable pub frame_body : Info → Header → Layout Frame
 frame_body info h = do
   samples ← subframes info.depth h.channel_code h.size (limits_of info) (Some []) 0 info.channels
   _ ← frame_end
-  channels ← some_or SampleRange (in_range info.depth samples)
+  channels ← some_or SampleRange (in_range info.depth h.channel_code samples)
   done (record { variable = h.variable; number = h.number; size = h.size; channels = channels })
 
 -- a frame behind those before it

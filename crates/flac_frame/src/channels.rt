@@ -1,6 +1,7 @@
 //! The subframes of a frame.
 
-ghost use Rattle.std.specs.Prelude.{◌≡◌, ◌≤◌, ◌<◌, ◌+◌, ◌*◌, OnOk, IfOk, length, cond, Some, None, [], nat_le};
+ghost use Rattle.std.specs.Prelude.{◌≡◌, ◌≤◌, ◌<◌, ◌+◌, ◌*◌, OnOk, IfOk, length, cond, Some, None, [], nat_le, All, IsTrue};
+ghost use Rattle.flac_bits.specs.Signed.{FitsBits};
 ghost use Rattle.flac_bits.specs.Reading.{Counts, Reads};
 ghost use Rattle.flac_meta.specs.Info.{Info};
 ghost use Rattle.flac_frame.specs.Frame.{limits_of, side_bit, subframes};
@@ -49,6 +50,7 @@ pub(crate) fn read_subframes<R: Source>(
     requires limits { (limits.now.partition ≤ 15) × (limits.now.linear ≤ 32) }
     requires channels { channels ≤ 8 }
     requires places { length samples.old ≡ channels * block }
+    ensures small { IfOk result (λ fits. IsTrue fits → All (FitsBits 34) samples.new) }
     ensures spends { OnOk result (bits.new.most ≤ bits.old.most) }
     ensures counts { Counts bits.old bits.new result }
     ensures reads { Reads (λ fits. cond fits (Some (chunks channels block samples.new)) None) (subframes depth code block limits.now (Some []) 0 channels) bits.old bits.new result }

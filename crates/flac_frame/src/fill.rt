@@ -4,7 +4,7 @@ ghost use Rattle.std.specs.Prelude.{◌≡◌, ◌≤◌, ◌<◌, ◌+◌, ◌*
 ghost use Rattle.flac_bits.specs.Reading.{Counts, Reads};
 ghost use Rattle.flac_frame.specs.Frame.{frame_body, frame};
 ghost use Rattle.flac_bits.specs.State.{started};
-ghost use Rattle.flac_header.specs.Header.{greatest_block};
+ghost use Rattle.flac_header.specs.Header.{greatest_block, channels_of};
 ghost use Rattle.flac_frame.specs.View.{frame_in};
 
 use crate::before::Before;
@@ -12,6 +12,7 @@ use crate::channels::{limits_of, read_subframes};
 use crate::end::read_end;
 use crate::samples::narrow;
 use crate::start::read_start;
+use crate::stereo::join_channels;
 use flac_bits::{BitReader, Source, Why};
 use flac_header::{FrameHeader, Profile};
 use flac_meta::StreamInfo;
@@ -25,6 +26,7 @@ fn read_body<R: Source>(
     wide: &mut [i64],
     out: &mut [i32],
 ) -> Result<(), Why>
+    requires channels { channels_of header.now.channel_code ≡ info.now.channels }
     requires wide { length wide.old ≡ info.now.channels * header.now.size }
     requires out { length out.old ≡ info.now.channels * header.now.size }
     ensures spends { OnOk result (bits.new.most ≤ bits.old.most) }
@@ -48,6 +50,7 @@ fn read_body<R: Source>(
     if !fits {
         return Err(Why::SampleRange);
     }
+    join_channels(header.channel_code(), channels, block as usize, wide);
     if !narrow(wide, depth, out) {
         return Err(Why::SampleRange);
     }

@@ -8,8 +8,12 @@ mod end;
 mod fill;
 mod samples;
 mod start;
+mod stereo;
+#[cfg(test)]
+mod tests;
 mod view;
 
 pub use before::Before;
 pub use buffers::FrameBuffers;
+pub use stereo::channels_are_joined;
 pub use view::FrameView;

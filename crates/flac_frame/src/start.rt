@@ -56,6 +56,7 @@ pub(crate) fn read_start<R: Source>(
     before: &Option<Before>,
 ) -> Result<FrameHeader, Why>
     ensures number { IfOk result (λ h. h.number < 2 ^ 36) }
+    ensures code { IfOk result (λ h. h.channel_code < 11) }
     ensures channels { IfOk result (λ h. channels_of h.channel_code ≡ info.now.channels) }
     ensures size { IfOk result (λ h. (h.size ≤ info.now.greatest_block) × (h.size ≤ greatest_block info.now.rate)) }
     ensures spends { OnOk result (bits.new.most + 40 ≤ bits.old.most) }
@@ -77,9 +78,6 @@ pub(crate) fn read_start<R: Source>(
     }
     if breaks_size(info, before, &header) {
         return Err(Why::BlockSize);
-    }
-    if header.channel_code() > 7 {
-        return Err(Why::NotYet);
     }
     Ok(header)
 }

@@ -29,7 +29,7 @@ impl<'a> FrameView<'a> {
     pub fn is_empty(&self) -> bool
         ensures { result ≡ nat_eq (frame_of self.now).size 0 }
     {
-        self.block == 0
+        self.len() == 0
     }
 
     /// How many channels there are, at most 8.

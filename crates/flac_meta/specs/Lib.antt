@@ -10,3 +10,4 @@ pub mod Block
 pub mod Spelling
 pub mod Listed
 pub mod Fielded
+pub mod Parts

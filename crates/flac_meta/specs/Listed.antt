@@ -4,8 +4,7 @@ use Rattle.flac_bits.specs.Layout.{Rule}
 use Rattle.flac_bits.specs.declared.why.Why.{Why}
 use Rattle.flac_bits.specs.declared.why.Why.TheVariants as why
 use Rattle.flac_meta.specs.SeekTable.{in_order}
-use Rattle.flac_meta.specs.Spelling.{length_of, kind_of}
-use Rattle.flac_meta.specs.Header.{is_repeated}
+use Rattle.flac_meta.specs.Spelling.{length_of}
 use Rattle.flac_meta.specs.Block.{seen_after}
 use Rattle.flac_meta.specs.declared.seen.Seen.{Seen}
 use Rattle.flac_meta.specs.declared.cue_sheet.CueTrack.{CueTrack}
@@ -48,9 +47,16 @@ block_fault b = first_broken (
     record { broken = is_out_of_order b; why = why.SeekOrder } ∷
     record { broken = has_bad_sheet b; why = why.CueSheet } ∷ [])
 
+-- a kind that occurs once at most and came
+abbrev pub came : Seen → Block → Bool
+came seen (block_of.StreamInfo info) = seen.stream_info
+came seen (block_of.SeekTable points) = seen.seek_table
+came seen (block_of.VorbisComment found) = seen.comments
+came seen b = false
+
 -- why it may not stand behind these blocks
 abbrev pub fault_behind : Seen → Block → Option Why
-fault_behind seen b = cond (is_repeated seen (kind_of b)) (Some why.RepeatedBlock) (block_fault b)
+fault_behind seen b = cond (came seen b) (Some why.RepeatedBlock) (block_fault b)
 
 abbrev pub or_else : Option Why → Option Why → Option Why
 or_else None rest = rest

@@ -3,9 +3,11 @@
 
 mod block;
 mod block_length;
+mod block_list;
 mod comments;
 mod cue_sheet;
 mod exact;
+mod faults;
 mod fielded;
 mod fields;
 mod header;
@@ -21,8 +23,10 @@ mod reading;
 mod seek_table;
 mod seen;
 mod stream_info;
+mod writing;
 
 pub use block::Block;
+pub use block_list::BlockList;
 pub use comments::Comments;
 pub use cue_sheet::{CueIndex, CueIndices, CueSheet, CueTrack, CueTracks};
 pub use lists::{Bytes, Texts};
@@ -31,3 +35,4 @@ pub use reading::read_block;
 pub use seek_table::{SeekPoint, SeekTable};
 pub use seen::Seen;
 pub use stream_info::StreamInfo;
+pub use writing::{write_block, write_comments};

@@ -16,7 +16,7 @@ use flac_bits::{BitReader, Source, Why};
 use std::alloc::Global;
 
 /// Whether a point of this sample number may stand behind one of that.
-fn may_follow(before: Option<u64>, sample: u64) -> bool
+pub fn may_follow(before: Option<u64>, sample: u64) -> bool
     ensures { result ≡ follows before sample }
 {
     match before {

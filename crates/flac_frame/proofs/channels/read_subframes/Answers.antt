@@ -1,20 +1,26 @@
-use Rattle.std.proofs.Common.{◌≡◌, ◌*◌, ◌+◌, ℤ, List, Option, [], Result, Ok, length, arith, rules, sym, ◌∙◌, cond, Some, None, ap, true}
+use Rattle.std.proofs.Common.{◌≡◌, ◌*◌, ◌+◌, ℤ, List, Option, [], Result, Ok, length, arith, rules, sym, ◌∙◌, cond, Some, None, ap, subst, true, false, Bool, All, ◌≤◌}
 use Rattle.flac_bits.specs.State.{Cursor}
 use Rattle.flac_bits.specs.Layout.{run, Reason}
+use Rattle.std.proofs.lemmas.List.{take_all}
+use Rattle.flac_bits.specs.Signed.{FitsBits}
 use Rattle.flac_frame.specs.Frame.{subframes}
 use Rattle.flac_frame.specs.View.{chunks}
-use Rattle.flac_frame.proofs.Subframes.{turn, subframes_over, part_ends, both_true, both_false}
+use Rattle.flac_frame.proofs.Subframes.{turn, subframes_over, part_ends, both_true, both_false, all_more}
 use Rattle.flac_frame.proofs.channels.read_subframes.Goals as goal
 use Rattle.flac_frame.proofs.channels.read_subframes.Goals.{then-not-branch, else-not-branch}
 
 abbrev okay : Option (List (List ℤ)) × Cursor → Result (Option (List (List ℤ)) × Cursor) Reason
 okay y = Ok y
 
+never : {P : Type 0} (b : Bool) → b ≡ false → b ≡ true → P
+never true e f = absurd cc
+never false e f = absurd cc
+
 pub returns-clause-reads : goal.returns-clause-reads
 returns-clause-reads g c = λ known same.
     let l = c.loop-channel in
     let e : l.channel ≡ c.args.channels = omega (arith, c.loop-channel-test.false, l.auto.channel-end) in
-    sym (l.invariant.1.reads known) ∙ subframes_over c.args.depth c.args.code c.args.block c.args.limits.now (cond l.fits (Some (chunks l.channel c.args.block l.samples)) None) l.channel c.args.channels l.bits.cursor (omega (arith, c.loop-channel-test.false))
+    sym (l.invariant.2.reads known) ∙ subframes_over c.args.depth c.args.code c.args.block c.args.limits.now (cond l.fits (Some (chunks l.channel c.args.block l.samples)) None) l.channel c.args.channels l.bits.cursor (omega (arith, c.loop-channel-test.false))
     ∙ ap (λ k. okay (cond l.fits (Some (chunks k c.args.block l.samples)) None, l.bits.cursor)) e
 
 pub loop-channel-preserved : goal.loop-channel-preserved
@@ -23,9 +29,26 @@ loop-channel-preserved g c =
     let long : length l.samples ≡ c.args.channels * c.args.block = omega (arith, l.auto.samples, c.requires.places) in
     let own : length c.read_subframe.new.samples ≡ c.args.block = omega (arith, c.read_subframe.auto.samples) in
     let next = turn c.args.bits.now l.bits c.read_subframe.new.bits c.args.depth c.args.code c.args.block c.args.limits.now l.fits c.in_ok-read_subframe.field-0 c.if-not-branch.fits l.channel c.args.channels l.samples c.read_subframe.new.samples
-    (run (subframes c.args.depth c.args.code c.args.block c.args.limits.now (Some []) 0 c.args.channels) c.args.bits.now.cursor) l.invariant.1 c.loop-channel-test.true long own in
+    (run (subframes c.args.depth c.args.code c.args.block c.args.limits.now (Some []) 0 c.args.channels) c.args.bits.now.cursor) l.invariant.2 c.loop-channel-test.true long own in
     let reads = rw c.side_bit.ensures.bit at c.in_ok-read_subframe.ensures.reads in
+    let within : l.channel * c.args.block ≤ length l.samples = omega (arith, long, part_ends l.channel c.args.channels c.args.block c.loop-channel-test.true) in
     elim c.if-not-branch.branch [
-      | then-not-branch w ↦ (omega (arith, c.in_ok-read_subframe.ensures.spends, l.invariant.0), next (both_false l.fits c.if-not-branch.fits c.in_ok-read_subframe.field-0 w.fits-is w.if-not-branch.true) c.in_ok-read_subframe.ensures.counts reads)
-      | else-not-branch w ↦ (omega (arith, c.in_ok-read_subframe.ensures.spends, l.invariant.0), next (both_true l.fits c.if-not-branch.fits c.in_ok-read_subframe.field-0 w.fits-is w.if-not-branch.false) c.in_ok-read_subframe.ensures.counts reads)
+      | then-not-branch w ↦ (
+        omega (arith, c.in_ok-read_subframe.ensures.spends, l.invariant.0),
+        λ yes. never c.if-not-branch.fits w.fits-is yes,
+        next (both_false l.fits c.if-not-branch.fits c.in_ok-read_subframe.field-0 w.fits-is w.if-not-branch.true) c.in_ok-read_subframe.ensures.counts reads,
+      )
+      | else-not-branch w ↦ (
+        omega (arith, c.in_ok-read_subframe.ensures.spends, l.invariant.0),
+        λ yes. all_more (FitsBits 34) l.channel c.args.block l.samples c.read_subframe.new.samples within own (l.invariant.1 (sym w.fits-is ∙ yes)) (c.in_ok-read_subframe.ensures.small w.if-not-branch.false),
+        next (both_true l.fits c.if-not-branch.fits c.in_ok-read_subframe.field-0 w.fits-is w.if-not-branch.false) c.in_ok-read_subframe.ensures.counts reads,
+      )
     ]
+
+pub returns-clause-small : goal.returns-clause-small
+returns-clause-small g c = λ yes.
+    let l = c.loop-channel in
+    let e : l.channel ≡ c.args.channels = omega (arith, c.loop-channel-test.false, l.auto.channel-end) in
+    let long : length l.samples ≡ c.args.channels * c.args.block = omega (arith, l.auto.samples, c.requires.places) in
+    let all : length l.samples ≡ l.channel * c.args.block = long ∙ ap (λ k. k * c.args.block) (sym e) in
+    subst (All (FitsBits 34)) (take_all (l.channel * c.args.block) l.samples (omega (arith, all))) (l.invariant.1 yes)

@@ -22,4 +22,5 @@ returns-in_err-put_bytes g c =
 
 pub returns : goal.returns
 unfolding s.sized_bits
-returns g c = (towards_end refl (towards_more ([]) refl (towards_more (joined (bits_of c.args.bytes.now ∷ [])) refl (towards_start _ c.args.writer.now) c.in_ok-put.ensures) c.in_ok-put_bytes.ensures))
+returns g c =
+    (towards_end refl (towards_more ([]) refl (towards_more (joined (bits_of c.args.bytes.now ∷ [])) refl (towards_start _ c.args.writer.now) c.in_ok-put.ensures) c.in_ok-put_bytes.ensures))

@@ -28,4 +28,5 @@ returns-in_err-put_zeros g c =
 
 pub returns : goal.returns
 unfolding s.index_spelling
-returns g c = (towards_end refl (towards_more ([]) refl (towards_more (joined (s.zero_bits (8 * 3) ∷ [])) refl (towards_more (joined (unsigned 8 c.args.index.now.number ∷ s.zero_bits (8 * 3) ∷ [])) refl (towards_start _ c.args.writer.now) c.in_ok-put.ensures) c.in_ok-put-2.ensures) c.in_ok-put_zeros.ensures))
+returns g c =
+    (towards_end refl (towards_more ([]) refl (towards_more (joined (s.zero_bits (8 * 3) ∷ [])) refl (towards_more (joined (unsigned 8 c.args.index.now.number ∷ s.zero_bits (8 * 3) ∷ [])) refl (towards_start _ c.args.writer.now) c.in_ok-put.ensures) c.in_ok-put-2.ensures) c.in_ok-put_zeros.ensures))

@@ -40,4 +40,5 @@ returns-in_err-put_tracks g c =
 
 pub returns : goal.returns
 unfolding s.sheet_spelling
-returns g c = rw (← c.as_slice-tracks.ensures, ← c.flag-cd.ensures.value) (towards_end refl (towards_more ([]) refl (towards_more (joined (s.each_spelled s.track_spelling c.as_slice-tracks.result.now ∷ [])) refl (towards_more (joined (unsigned 8 (length c.as_slice-tracks.result.now) ∷ s.each_spelled s.track_spelling c.as_slice-tracks.result.now ∷ [])) refl (towards_more (joined (s.zero_bits (7 + 8 * 258) ∷ unsigned 8 (length c.as_slice-tracks.result.now) ∷ s.each_spelled s.track_spelling c.as_slice-tracks.result.now ∷ [])) (fields_are _ (joined (s.zero_bits (7 + 8 * 258) ∷ unsigned 8 (length c.as_slice-tracks.result.now) ∷ s.each_spelled s.track_spelling c.as_slice-tracks.result.now ∷ [])) _ refl) (towards_more (joined (unsigned 64 c.args.sheet.now.lead_in ∷ unsigned 1 c.flag-cd.result ∷ s.zero_bits (7 + 8 * 258) ∷ unsigned 8 (length c.as_slice-tracks.result.now) ∷ s.each_spelled s.track_spelling c.as_slice-tracks.result.now ∷ [])) refl (towards_start _ c.args.writer.now) c.in_ok-put_bytes.ensures) c.in_ok-put_fields.ensures) c.in_ok-put_zeros.ensures) c.in_ok-put.ensures) c.in_ok-put_tracks.ensures))
+returns g c =
+    rw (← c.as_slice-tracks.ensures, ← c.flag-cd.ensures.value) (towards_end refl (towards_more ([]) refl (towards_more (joined (s.each_spelled s.track_spelling c.as_slice-tracks.result.now ∷ [])) refl (towards_more (joined (unsigned 8 (length c.as_slice-tracks.result.now) ∷ s.each_spelled s.track_spelling c.as_slice-tracks.result.now ∷ [])) refl (towards_more (joined (s.zero_bits (7 + 8 * 258) ∷ unsigned 8 (length c.as_slice-tracks.result.now) ∷ s.each_spelled s.track_spelling c.as_slice-tracks.result.now ∷ [])) (fields_are _ (joined (s.zero_bits (7 + 8 * 258) ∷ unsigned 8 (length c.as_slice-tracks.result.now) ∷ s.each_spelled s.track_spelling c.as_slice-tracks.result.now ∷ [])) _ refl) (towards_more (joined (unsigned 64 c.args.sheet.now.lead_in ∷ unsigned 1 c.flag-cd.result ∷ s.zero_bits (7 + 8 * 258) ∷ unsigned 8 (length c.as_slice-tracks.result.now) ∷ s.each_spelled s.track_spelling c.as_slice-tracks.result.now ∷ [])) refl (towards_start _ c.args.writer.now) c.in_ok-put_bytes.ensures) c.in_ok-put_fields.ensures) c.in_ok-put_zeros.ensures) c.in_ok-put.ensures) c.in_ok-put_tracks.ensures))

@@ -52,4 +52,5 @@ returns-in_err-put_indices g c =
 
 pub returns : goal.returns
 unfolding s.track_spelling
-returns g c = rw (← c.as_slice-indices.ensures, ← c.flag-data.ensures.value, ← c.flag-emphasis.ensures.value) (towards_end refl (towards_more ([]) refl (towards_more (joined (s.each_spelled s.index_spelling c.as_slice-indices.result.now ∷ [])) refl (towards_more (joined (unsigned 8 (length c.as_slice-indices.result.now) ∷ s.each_spelled s.index_spelling c.as_slice-indices.result.now ∷ [])) refl (towards_more (joined (s.zero_bits (6 + 8 * 13) ∷ unsigned 8 (length c.as_slice-indices.result.now) ∷ s.each_spelled s.index_spelling c.as_slice-indices.result.now ∷ [])) (fields_are _ (joined (s.zero_bits (6 + 8 * 13) ∷ unsigned 8 (length c.as_slice-indices.result.now) ∷ s.each_spelled s.index_spelling c.as_slice-indices.result.now ∷ [])) _ refl) (towards_more (joined (unsigned 1 c.flag-data.result ∷ unsigned 1 c.flag-emphasis.result ∷ s.zero_bits (6 + 8 * 13) ∷ unsigned 8 (length c.as_slice-indices.result.now) ∷ s.each_spelled s.index_spelling c.as_slice-indices.result.now ∷ [])) refl (towards_more (joined (bits_of c.args.track.now.isrc ∷ unsigned 1 c.flag-data.result ∷ unsigned 1 c.flag-emphasis.result ∷ s.zero_bits (6 + 8 * 13) ∷ unsigned 8 (length c.as_slice-indices.result.now) ∷ s.each_spelled s.index_spelling c.as_slice-indices.result.now ∷ [])) refl (towards_more (joined (unsigned 8 c.args.track.now.number ∷ bits_of c.args.track.now.isrc ∷ unsigned 1 c.flag-data.result ∷ unsigned 1 c.flag-emphasis.result ∷ s.zero_bits (6 + 8 * 13) ∷ unsigned 8 (length c.as_slice-indices.result.now) ∷ s.each_spelled s.index_spelling c.as_slice-indices.result.now ∷ [])) refl (towards_start _ c.args.writer.now) c.in_ok-put.ensures) c.in_ok-put-2.ensures) c.in_ok-put_bytes.ensures) c.in_ok-put_fields.ensures) c.in_ok-put_zeros.ensures) c.in_ok-put-3.ensures) c.in_ok-put_indices.ensures))
+returns g c =
+    rw (← c.as_slice-indices.ensures, ← c.flag-data.ensures.value, ← c.flag-emphasis.ensures.value) (towards_end refl (towards_more ([]) refl (towards_more (joined (s.each_spelled s.index_spelling c.as_slice-indices.result.now ∷ [])) refl (towards_more (joined (unsigned 8 (length c.as_slice-indices.result.now) ∷ s.each_spelled s.index_spelling c.as_slice-indices.result.now ∷ [])) refl (towards_more (joined (s.zero_bits (6 + 8 * 13) ∷ unsigned 8 (length c.as_slice-indices.result.now) ∷ s.each_spelled s.index_spelling c.as_slice-indices.result.now ∷ [])) (fields_are _ (joined (s.zero_bits (6 + 8 * 13) ∷ unsigned 8 (length c.as_slice-indices.result.now) ∷ s.each_spelled s.index_spelling c.as_slice-indices.result.now ∷ [])) _ refl) (towards_more (joined (unsigned 1 c.flag-data.result ∷ unsigned 1 c.flag-emphasis.result ∷ s.zero_bits (6 + 8 * 13) ∷ unsigned 8 (length c.as_slice-indices.result.now) ∷ s.each_spelled s.index_spelling c.as_slice-indices.result.now ∷ [])) refl (towards_more (joined (bits_of c.args.track.now.isrc ∷ unsigned 1 c.flag-data.result ∷ unsigned 1 c.flag-emphasis.result ∷ s.zero_bits (6 + 8 * 13) ∷ unsigned 8 (length c.as_slice-indices.result.now) ∷ s.each_spelled s.index_spelling c.as_slice-indices.result.now ∷ [])) refl (towards_more (joined (unsigned 8 c.args.track.now.number ∷ bits_of c.args.track.now.isrc ∷ unsigned 1 c.flag-data.result ∷ unsigned 1 c.flag-emphasis.result ∷ s.zero_bits (6 + 8 * 13) ∷ unsigned 8 (length c.as_slice-indices.result.now) ∷ s.each_spelled s.index_spelling c.as_slice-indices.result.now ∷ [])) refl (towards_start _ c.args.writer.now) c.in_ok-put.ensures) c.in_ok-put-2.ensures) c.in_ok-put_bytes.ensures) c.in_ok-put_fields.ensures) c.in_ok-put_zeros.ensures) c.in_ok-put-3.ensures) c.in_ok-put_indices.ensures))

@@ -28,4 +28,5 @@ returns-in_err-put_texts g c =
 
 pub returns : goal.returns
 unfolding s.comments_spelling
-returns g c = rw (← c.as_slice-vendor.ensures, ← c.as_slice-list.ensures) (towards_end refl (towards_more ([]) refl (towards_more (joined (s.each_spelled s.little_sized c.as_slice-list.result.now ∷ [])) refl (towards_more (joined (s.little_bits (length c.as_slice-list.result.now) ∷ s.each_spelled s.little_sized c.as_slice-list.result.now ∷ [])) refl (towards_start _ c.args.writer.now) c.in_ok-put_little_sized.ensures) c.in_ok-put_little.ensures) c.in_ok-put_texts.ensures))
+returns g c =
+    rw (← c.as_slice-vendor.ensures, ← c.as_slice-list.ensures) (towards_end refl (towards_more ([]) refl (towards_more (joined (s.each_spelled s.little_sized c.as_slice-list.result.now ∷ [])) refl (towards_more (joined (s.little_bits (length c.as_slice-list.result.now) ∷ s.each_spelled s.little_sized c.as_slice-list.result.now ∷ [])) refl (towards_start _ c.args.writer.now) c.in_ok-put_little_sized.ensures) c.in_ok-put_little.ensures) c.in_ok-put_texts.ensures))

@@ -40,4 +40,5 @@ returns-in_err-put_sized-3 g c =
 
 pub returns : goal.returns
 unfolding s.picture_spelling
-returns g c = rw (← c.as_slice-media.ensures, ← c.as_slice-text.ensures, ← c.as_slice-bytes.ensures) (towards_end refl (towards_more ([]) refl (towards_more (joined (s.sized_bits c.as_slice-bytes.result.now ∷ [])) (fields_are _ (joined (s.sized_bits c.as_slice-bytes.result.now ∷ [])) _ refl) (towards_more (joined (unsigned 32 c.args.picture.now.width ∷ unsigned 32 c.args.picture.now.height ∷ unsigned 32 c.args.picture.now.depth ∷ unsigned 32 c.args.picture.now.colours ∷ s.sized_bits c.as_slice-bytes.result.now ∷ [])) refl (towards_more (joined (s.sized_bits c.as_slice-text.result.now ∷ unsigned 32 c.args.picture.now.width ∷ unsigned 32 c.args.picture.now.height ∷ unsigned 32 c.args.picture.now.depth ∷ unsigned 32 c.args.picture.now.colours ∷ s.sized_bits c.as_slice-bytes.result.now ∷ [])) refl (towards_more (joined (s.sized_bits c.as_slice-media.result.now ∷ s.sized_bits c.as_slice-text.result.now ∷ unsigned 32 c.args.picture.now.width ∷ unsigned 32 c.args.picture.now.height ∷ unsigned 32 c.args.picture.now.depth ∷ unsigned 32 c.args.picture.now.colours ∷ s.sized_bits c.as_slice-bytes.result.now ∷ [])) refl (towards_start _ c.args.writer.now) c.in_ok-put.ensures) c.in_ok-put_sized.ensures) c.in_ok-put_sized-2.ensures) c.in_ok-put_fields.ensures) c.in_ok-put_sized-3.ensures))
+returns g c =
+    rw (← c.as_slice-media.ensures, ← c.as_slice-text.ensures, ← c.as_slice-bytes.ensures) (towards_end refl (towards_more ([]) refl (towards_more (joined (s.sized_bits c.as_slice-bytes.result.now ∷ [])) (fields_are _ (joined (s.sized_bits c.as_slice-bytes.result.now ∷ [])) _ refl) (towards_more (joined (unsigned 32 c.args.picture.now.width ∷ unsigned 32 c.args.picture.now.height ∷ unsigned 32 c.args.picture.now.depth ∷ unsigned 32 c.args.picture.now.colours ∷ s.sized_bits c.as_slice-bytes.result.now ∷ [])) refl (towards_more (joined (s.sized_bits c.as_slice-text.result.now ∷ unsigned 32 c.args.picture.now.width ∷ unsigned 32 c.args.picture.now.height ∷ unsigned 32 c.args.picture.now.depth ∷ unsigned 32 c.args.picture.now.colours ∷ s.sized_bits c.as_slice-bytes.result.now ∷ [])) refl (towards_more (joined (s.sized_bits c.as_slice-media.result.now ∷ s.sized_bits c.as_slice-text.result.now ∷ unsigned 32 c.args.picture.now.width ∷ unsigned 32 c.args.picture.now.height ∷ unsigned 32 c.args.picture.now.depth ∷ unsigned 32 c.args.picture.now.colours ∷ s.sized_bits c.as_slice-bytes.result.now ∷ [])) refl (towards_start _ c.args.writer.now) c.in_ok-put.ensures) c.in_ok-put_sized.ensures) c.in_ok-put_sized-2.ensures) c.in_ok-put_fields.ensures) c.in_ok-put_sized-3.ensures))

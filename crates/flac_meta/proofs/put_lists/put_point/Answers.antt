@@ -28,4 +28,5 @@ returns-in_err-put-3 g c =
 
 pub returns : goal.returns
 unfolding s.point_spelling
-returns g c = (towards_end refl (towards_more ([]) refl (towards_more (joined (unsigned 16 c.args.point.now.length ∷ [])) refl (towards_more (joined (unsigned 64 c.args.point.now.offset ∷ unsigned 16 c.args.point.now.length ∷ [])) refl (towards_start _ c.args.writer.now) c.in_ok-put.ensures) c.in_ok-put-2.ensures) c.in_ok-put-3.ensures))
+returns g c =
+    (towards_end refl (towards_more ([]) refl (towards_more (joined (unsigned 16 c.args.point.now.length ∷ [])) refl (towards_more (joined (unsigned 64 c.args.point.now.offset ∷ unsigned 16 c.args.point.now.length ∷ [])) refl (towards_start _ c.args.writer.now) c.in_ok-put.ensures) c.in_ok-put-2.ensures) c.in_ok-put-3.ensures))

@@ -1,5 +1,5 @@
 use Rattle.std.proofs.Common.{arith, ◌-◌, All, subst, sym}
-use Rattle.flac_subframe.specs.Numbers.{FitsBits}
+use Rattle.flac_bits.specs.Signed.{FitsBits}
 use Rattle.flac_subframe.proofs.Bounds.{fits_up}
 use Rattle.flac_subframe.proofs.Scaling.{scaled_fit}
 use Rattle.flac_subframe.proofs.subframe.read_here.Goals as goal

@@ -7,11 +7,12 @@ use Rattle.flac_bits.proofs.held.Held.lift.Goals as goal
 pub returns-clause-held : goal.returns-clause-held
 returns-clause-held c =
     let inv = c.self.invariant in
-    let all = begun_more c.self.inside.bytes c.self.inside.place c.self.inside.end c.self.inside.filled inv.1 inv.5 (omega (arith, inv.6, inv.4)) in
-    (ap (λ (s : Store). s.word) c.self.view_is,
+    let all = begun_more c.self.inside.bytes c.self.inside.place c.self.inside.end c.self.inside.filled inv.1 inv.5 (omega (arith, inv.6, inv.4)) in (
+      ap (λ (s : Store). s.word) c.self.view_is,
       all ∙ ap (λ (s : Store). s.bytes ++ s.fence.hidden) c.self.view_is,
       ap (λ (s : Store). s.mark) c.self.view_is,
-      ap (λ xs. record { room = None; hidden = xs }) (drop_end c.self.inside.filled c.self.inside.bytes))
+      ap (λ xs. record { room = None; hidden = xs }) (drop_end c.self.inside.filled c.self.inside.bytes),
+    )
 
 pub returns-clause-behind : goal.returns-clause-behind
 returns-clause-behind c = λ coming.

@@ -27,8 +27,7 @@ returns-clause-over g c = elim c.match-fill.branch [
       let ok = w.in-Ok.ensures.ok in
       let bits = ok.4 told in
       let ys = g.R.Source.coming c.fill.new.source in
-      let reason = same_reason c.self.inside.held c.fill.new.held (g.R.Source.coming c.self.inside.source) ys _ _ bits (c.fill.ensures.foretold told ok.1) in
-      (
+      let reason = same_reason c.self.inside.held c.fill.new.held (g.R.Source.coming c.self.inside.source) ys _ _ bits (c.fill.ensures.foretold told ok.1) in (
         rw (bits.left, c.fill.ensures.mark, reason) cursor_is,
         over_is w.in-Ok.more c.fill.new.held.word (bits_of c.fill.new.held.bytes) (bits_of (allowed c.fill.new.held.fence.room ys)) c.args.self.now.cursor.left
             (λ e. w.in-Ok.ensures.more (ap Ok e)) (λ e. ap (λ (s : Cursor). s.left) (sym cursor_is) ∙ (w.in-Ok.ensures.over (ap Ok e) told).0) (bits.left ∙ ap (λ (s : Cursor). s.left) cursor_is),

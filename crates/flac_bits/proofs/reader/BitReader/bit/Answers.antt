@@ -45,4 +45,4 @@ returns-in-Ok-true-clause-reads g c = λ known same.
     let reason = same_reason c.self.inside.held c.fill.new.held xs ys _ _ bits (c.in-Ok-true.ensures.foretold told ok.1) in
     let takes = c.take.ensures.0 in
     rw takes.3 (bit_read c.take.result c.args.self.now.cursor _ _ c.self.inside.held c.fill.new.held c.take.new.self (bits_of (allowed c.fill.new.held.fence.room ys)) (bits_of (allowed c.self.inside.held.fence.room xs))
-        reason c.take.ensures.1 (ap (λ (s : State). s.cursor) c.self.view_is) c.in-Ok-true.ensures.mark bits.left takes)
+    reason c.take.ensures.1 (ap (λ (s : State). s.cursor) c.self.view_is) c.in-Ok-true.ensures.mark bits.left takes)

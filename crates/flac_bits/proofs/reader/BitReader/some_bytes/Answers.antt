@@ -42,7 +42,8 @@ returns-in-Ok-true-clause-taken g c = λ known.
     ap (λ w. with_short w c.refill.new.held.mark) reason ∙ ap (with_short _) c.in-Ok-true.ensures.mark ∙ ap (λ (s : State). s.cursor.mark) c.self.view_is in
     rw c.copy.ensures.taken.2 (
       sym left ∙ ap (λ bs. bs ++ rest) (c.copy.ensures.taken.0) ∙ append_assoc text (c.copy.new.self.word ++ bits_of c.copy.new.self.bytes) rest,
-      ap (with_short why) (c.copy.ensures.taken.1) ∙ sym (past-with_short text why c.refill.new.held.mark) ∙ ap (past text) marked)
+      ap (with_short why) (c.copy.ensures.taken.1) ∙ sym (past-with_short text why c.refill.new.held.mark) ∙ ap (past text) marked,
+    )
 
 pub returns-in-Ok-true-clause-over : goal.returns-in-Ok-true-clause-over
 returns-in-Ok-true-clause-over g c = λ zero room known.

@@ -1,0 +1,78 @@
+//! Frames from outside: of RFC 9639, appendix D.1, and worked by hand.
+
+ghost use Rattle.std.specs.Prelude.{◌≡◌, IfOk};
+
+use crate::stereo::{channels_are_joined, join_samples};
+use crate::{FrameBuffers, FrameView};
+use flac_bits::{BitReader, Memory, Why};
+use flac_header::Profile;
+use flac_meta::StreamInfo;
+use std::test::Fail;
+
+fn stereo_info(block: u16) -> Result<StreamInfo, Why>
+    ensures { IfOk result (λ i. (i.channels ≡ 2) × (i.greatest_block ≡ block)) }
+{
+    StreamInfo::new(block, block, 0, 0, 44100, 2, 16, 0, [0; 16])
+}
+
+/// A sample of a frame that is lent.
+fn sample(view: &FrameView, channel: usize, i: usize) -> Option<i32> {
+    if channel >= view.channels() {
+        return None;
+    }
+    view.channel(channel).get(i).copied()
+}
+
+#[test]
+fn first_frame_of_the_standard(rt: HostRuntime) -> Result<(), Fail> {
+    let bytes = [
+        0xFF, 0xF8, 0x69, 0x18, 0x00, 0x00, 0xBF, 0x03, 0x58, 0xFD, 0x03, 0x12, 0x8B, 0xAA, 0x9A,
+    ];
+    let mut bits = BitReader::new(Memory::new(&bytes));
+    let mut buffers = FrameBuffers::new(rt.alloc(), 2, 4096)?;
+    let info = stereo_info(4096)?;
+    let view = buffers.read_frame(&mut bits, &info, Profile::Subset)?;
+    assert_eq!(rt; (view.channels(), view.len(), view.number()), (2, 1, 0));
+    assert!(rt; !view.variable() && !view.is_empty());
+    assert_eq!(rt; (sample(&view, 0, 0), sample(&view, 1, 0)), (Some(25588), Some(10416)));
+    Ok(())
+}
+
+#[test]
+fn left_and_side(rt: HostRuntime) -> Result<(), Fail> {
+    let bytes = [
+        0xFF, 0xF8, 0x69, 0x88, 0x00, 0x0F, 0x3B, 0x14, 0x00, 0x00, 0x00, 0x01, 0x03, 0xC0, 0x20,
+        0x07, 0x80, 0x3D, 0x83,
+    ];
+    let mut bits = BitReader::new(Memory::new(&bytes));
+    let mut buffers = FrameBuffers::new(rt.alloc(), 2, 16)?;
+    let info = stereo_info(16)?;
+    let view = buffers.read_frame(&mut bits, &info, Profile::Subset)?;
+    assert_eq!(rt; (sample(&view, 0, 15), sample(&view, 1, 14)), (Some(15), Some(14)));
+    Ok(())
+}
+
+#[test]
+fn out_of_range(rt: HostRuntime) -> Result<(), Fail> {
+    let mut bytes = [
+        0xFF, 0xF8, 0x69, 0x88, 0x00, 0x0F, 0x3B, 0x00, 0x7F, 0xFF, 0x00, 0xFF, 0xFF, 0x80, 0x6F,
+        0x48,
+    ];
+    let info = stereo_info(16)?;
+    let mut buffers = FrameBuffers::new(rt.alloc(), 2, 16)?;
+    let mut bits = BitReader::new(Memory::new(&bytes));
+    assert_eq!(rt; buffers.fill(&mut bits, &info, Profile::Subset), Err(Why::SampleRange));
+    assert_eq!(rt; buffers.view().channels(), 0);
+    bytes[15] = 0x49;
+    let mut bits = BitReader::new(Memory::new(&bytes));
+    assert_eq!(rt; buffers.fill(&mut bits, &info, Profile::Subset), Err(Why::FrameCheck));
+    Ok(())
+}
+
+#[test]
+fn pairs_of_samples(rt: HostRuntime) {
+    channels_are_joined();
+    assert_eq!(rt; join_samples(10, -1, -1), (-1, 0));
+    assert_eq!(rt; join_samples(8, 2147483647, 4294967295), (2147483647, -2147483648));
+    assert_eq!(rt; join_samples(9, 4294967295, -2147483648), (2147483647, -2147483648));
+}

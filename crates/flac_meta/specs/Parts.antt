@@ -1,0 +1,16 @@
+-- Name and value of a comment (RFC 9639, section 8.6).
+use Rattle.std.specs.Prelude.{◌≡◌, ◌≢◌, ℕ, ◌<◌, ◌≤◌, List, [], ◌∷◌, ◌++◌, length, get_or, ◌⊎◌}
+
+-- no byte of the text is `=`, whose code is 61
+abbrev pub HasNoEquals : List ℕ → Type 0
+HasNoEquals text = (k : ℕ) → k < length text → get_or text k 0 ≢ 61
+
+-- there is no such comment, or it has no `=`
+abbrev pub LacksParts : List (List ℕ) → ℕ → Type 0
+LacksParts list i = i < length list → HasNoEquals (get_or list i [])
+
+-- the comment is the name, the first `=` of it and the value
+pub record AreParts (list : List (List ℕ)) (i : ℕ) (name value : List ℕ) : Type 0 where
+  pub there : i < length list
+  pub joined : get_or list i [] ≡ name ++ 61 ∷ value
+  pub first : HasNoEquals name

@@ -1,0 +1,87 @@
+//! Blocks that stand behind STREAMINFO.
+
+ghost use Rattle.std.specs.Prelude.{◌≡◌, MatchResult, OnOk, None, Some};
+ghost use Rattle.flac_meta.specs.Listed.{fault_behind, list_fault, info_seen};
+
+use crate::block::Block;
+use crate::faults::fault_of;
+use crate::seen::Seen;
+use flac_bits::Why;
+use std::marker::Model;
+
+/// Blocks that may stand behind STREAMINFO, in their order: each may be written, none is a STREAMINFO, and there is at most
+/// one seek table and one Vorbis comment.
+#[derive(Debug, Drop)]
+pub struct BlockList {
+    blocks: Vec<Block>,
+}
+
+impl Model for BlockList {
+    ghost use Rattle.std.specs.Prelude.{List};
+    ghost use Rattle.flac_meta.specs.declared.block.Block.{Block};
+
+    ghost Value = { List Block };
+
+    ghost use Rattle.std.specs.Prelude.{◌≡◌, None};
+    ghost use Rattle.flac_meta.specs.Listed.{list_fault, info_seen};
+
+    ghost view = { λ b. b.blocks.items };
+
+    ghost invariant = { λ b. list_fault info_seen b.blocks.items ≡ None };
+}
+
+/// Why a block may not stand behind those that came, if it may not.
+fn fault_after(seen: Seen, block: &Block) -> Option<Why>
+    ensures { result ≡ fault_behind seen block.now }
+{
+    let repeated = match block {
+        Block::StreamInfo(_) => seen.stream_info,
+        Block::SeekTable(_) => seen.seek_table,
+        Block::VorbisComment(_) => seen.comments,
+        _ => false,
+    };
+    if repeated {
+        return Some(Why::RepeatedBlock);
+    }
+    fault_of(block)
+}
+
+/// The reason of the first block that may not stand behind STREAMINFO and those before it.
+fn first_fault(blocks: &[Block]) -> Option<Why>
+    ensures { result ≡ list_fault info_seen blocks.now }
+{
+    let mut seen = Seen {
+        stream_info: true,
+        seek_table: false,
+        comments: false,
+    };
+    for block in blocks {
+        if let Some(why) = fault_after(seen, block) {
+            return Some(why);
+        }
+        seen.note(block);
+    }
+    None
+}
+
+impl BlockList {
+    /// The list of these blocks. It refuses the first block that offends, with the first reason that applies of
+    /// [`Why::RepeatedBlock`] (a STREAMINFO, a second seek table or Vorbis comment) and those of [`crate::write_block`].
+    pub fn new(blocks: Vec<Block>) -> Result<BlockList, Why>
+        ensures found { MatchResult result (λ b. b ≡ blocks.items) (λ e. list_fault info_seen blocks.items ≡ Some e) }
+        ensures good { OnOk result (list_fault info_seen blocks.items ≡ None) }
+    {
+        match first_fault(&blocks) {
+            Some(why) => Err(why),
+            None => Ok(BlockList { blocks }),
+        }
+    }
+
+    /// The blocks.
+    pub fn blocks(&self) -> &[Block]
+        ensures items { result.now ≡ self.now }
+        ensures good { list_fault info_seen self.now ≡ None }
+    {
+        self.blocks.as_slice()
+    }
+}
