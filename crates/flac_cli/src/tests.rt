@@ -30,7 +30,8 @@ const LIST: Job<'static> = Job::List { input: "a.flac" };
 /// The samples of that example.
 const SAMPLES: [u8; 4] = [0xF4, 0x63, 0xB0, 0x28];
 
-const LINES: &str = "block 0 STREAMINFO 34\n  blocks 4096 4096 frames 15 15 rate 44100 channels 2 depth 16 samples 1\n  md5 00000000000000000000000000000000\n";
+const LINES: &str =
+    "block 0 STREAMINFO 34\n  blocks 4096 4096 frames 15 15 rate 44100 channels 2 depth 16 samples 1\n  md5 00000000000000000000000000000000\n";
 
 /// What a job wrote.
 #[derive(Clone, Copy)]
@@ -41,7 +42,14 @@ struct Wanted<'a> {
 }
 
 /// Does a job over memory, whose status and whose bytes written must be these.
-fn expect(rt: &impl Abort, alloc: Global, job: Job<'_>, input: &[u8], status: u8, wanted: &Wanted<'_>) {
+fn expect(
+    rt: &impl Abort,
+    alloc: Global,
+    job: Job<'_>,
+    input: &[u8],
+    status: u8,
+    wanted: &Wanted<'_>,
+) {
     let mut source = Memory::new(input);
     let mut file = Collected::new(alloc);
     let mut out = Collected::new(alloc);
@@ -55,27 +63,55 @@ fn expect(rt: &impl Abort, alloc: Global, job: Job<'_>, input: &[u8], status: u8
 
 #[test]
 fn done(rt: HostRuntime) {
-    let wanted = Wanted { file: &[], out: "frames 1 samples 1\n", err: "" };
+    let wanted = Wanted {
+        file: &[],
+        out: "frames 1 samples 1\n",
+        err: "",
+    };
     expect(&rt, rt.alloc(), TEST, &ROW, 0, &wanted);
-    let wanted = Wanted { file: &SAMPLES, out: "", err: "" };
+    let wanted = Wanted {
+        file: &SAMPLES,
+        out: "",
+        err: "",
+    };
     expect(&rt, rt.alloc(), DECODE, &ROW, 0, &wanted);
-    let wanted = Wanted { file: &[], out: LINES, err: "" };
+    let wanted = Wanted {
+        file: &[],
+        out: LINES,
+        err: "",
+    };
     expect(&rt, rt.alloc(), LIST, &ROW, 0, &wanted);
 }
 
 #[test]
 fn refused(rt: HostRuntime) {
-    let wanted = Wanted { file: &[], out: "", err: "flac: a.flac: frame 0: 3 Truncated\n" };
+    let wanted = Wanted {
+        file: &[],
+        out: "",
+        err: "flac: a.flac: frame 0: 3 Truncated\n",
+    };
     expect(&rt, rt.alloc(), TEST, &ROW[..56], 1, &wanted);
     let mut changed = ROW;
     changed[56] = 0x9B;
-    let wanted = Wanted { file: &[], out: "", err: "flac: a.flac: frame 0: 26 FrameCheck\n" };
+    let wanted = Wanted {
+        file: &[],
+        out: "",
+        err: "flac: a.flac: frame 0: 26 FrameCheck\n",
+    };
     expect(&rt, rt.alloc(), DECODE, &changed, 1, &wanted);
     let mut longer = [0u8; 59];
     longer[..57].copy_from_slice(&ROW);
-    let wanted = Wanted { file: &SAMPLES, out: "", err: "flac: a.flac: frame 1: 3 Truncated\n" };
+    let wanted = Wanted {
+        file: &SAMPLES,
+        out: "",
+        err: "flac: a.flac: frame 1: 3 Truncated\n",
+    };
     expect(&rt, rt.alloc(), DECODE, &longer[..58], 1, &wanted);
-    let wanted = Wanted { file: &SAMPLES, out: "", err: "flac: a.flac: frame 1: 12 BadSync\n" };
+    let wanted = Wanted {
+        file: &SAMPLES,
+        out: "",
+        err: "flac: a.flac: frame 1: 12 BadSync\n",
+    };
     expect(&rt, rt.alloc(), DECODE, &longer, 1, &wanted);
 }
 
@@ -84,14 +120,28 @@ fn refused(rt: HostRuntime) {
 fn channels(rt: HostRuntime) {
     let mut whole = [0u8; 54];
     whole[..42].copy_from_slice(&ROW[..42]);
-    whole[42..].copy_from_slice(&[0xFF, 0xF8, 0x69, 0x08, 0x00, 0x0F, 0x30, 0x00, 0x00, 0x00, 0x46, 0x80]);
-    let wanted = Wanted { file: &[], out: "", err: "flac: a.flac: frame 0: 17 HeaderMismatch\n" };
+    whole[42..].copy_from_slice(&[
+        0xFF, 0xF8, 0x69, 0x08, 0x00, 0x0F, 0x30, 0x00, 0x00, 0x00, 0x46, 0x80,
+    ]);
+    let wanted = Wanted {
+        file: &[],
+        out: "",
+        err: "flac: a.flac: frame 0: 17 HeaderMismatch\n",
+    };
     expect(&rt, rt.alloc(), TEST, &whole, 1, &wanted);
     whole[20] = 0x40;
     whole[25] = 0x10;
-    let wanted = Wanted { file: &[], out: "frames 1 samples 16\n", err: "" };
+    let wanted = Wanted {
+        file: &[],
+        out: "frames 1 samples 16\n",
+        err: "",
+    };
     expect(&rt, rt.alloc(), TEST, &whole, 0, &wanted);
-    let wanted = Wanted { file: &[0; 32], out: "", err: "" };
+    let wanted = Wanted {
+        file: &[0; 32],
+        out: "",
+        err: "",
+    };
     expect(&rt, rt.alloc(), DECODE, &whole, 0, &wanted);
 }
 
@@ -105,7 +155,18 @@ fn fronts(rt: HostRuntime) {
             42 => "flac: a.flac: end: 28 TotalMismatch\n",
             _ => "flac: a.flac: frame 0: 3 Truncated\n",
         };
-        expect(&rt, rt.alloc(), TEST, &ROW[..count], 1, &Wanted { file: &[], out: "", err });
+        expect(
+            &rt,
+            rt.alloc(),
+            TEST,
+            &ROW[..count],
+            1,
+            &Wanted {
+                file: &[],
+                out: "",
+                err,
+            },
+        );
     }
 }
 

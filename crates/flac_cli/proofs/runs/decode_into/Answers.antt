@@ -10,5 +10,5 @@ returns-clause-stream g c tells =
 pub returns-clause-written : goal.returns-clause-written
 returns-clause-written g c tells told =
     at_ok c.decode.result
-      (λ none. let d = (c.decode.ensures.hands tells.0).done (tells.1, tells.2) none in
-        (d.0, d.1, all_written (λ s. s.failures.count < 18446744073709551615) (λ s. g.W.Target.known s.target) (λ s. g.W.Target.sent s.target) (λ s. s.depth) _ d.0 _ d.2 (omega arith) told))
+    (λ none. let d = (c.decode.ensures.hands tells.0).done (tells.1, tells.2) none in
+    (d.0, d.1, all_written (λ s. s.failures.count < 18446744073709551615) (λ s. g.W.Target.known s.target) (λ s. g.W.Target.sent s.target) (λ s. s.depth) _ d.0 _ d.2 (omega arith) told))
