@@ -34,7 +34,10 @@ fn first_frame_of_the_standard(rt: HostRuntime) -> Result<(), Fail> {
     let view = buffers.read_frame(&mut bits, &info, Profile::Subset)?;
     assert_eq!(rt; (view.channels(), view.len(), view.number()), (2, 1, 0));
     assert!(rt; !view.variable() && !view.is_empty());
-    assert_eq!(rt; (sample(&view, 0, 0), sample(&view, 1, 0)), (Some(25588), Some(10416)));
+    assert_eq!(rt;
+        (sample(&view, 0, 0), sample(&view, 1, 0)),
+        (Some(25588), Some(10416))
+    );
     Ok(())
 }
 
@@ -48,7 +51,10 @@ fn left_and_side(rt: HostRuntime) -> Result<(), Fail> {
     let mut buffers = FrameBuffers::new(rt.alloc(), 2, 16)?;
     let info = stereo_info(16)?;
     let view = buffers.read_frame(&mut bits, &info, Profile::Subset)?;
-    assert_eq!(rt; (sample(&view, 0, 15), sample(&view, 1, 14)), (Some(15), Some(14)));
+    assert_eq!(rt;
+        (sample(&view, 0, 15), sample(&view, 1, 14)),
+        (Some(15), Some(14))
+    );
     Ok(())
 }
 
@@ -61,11 +67,17 @@ fn out_of_range(rt: HostRuntime) -> Result<(), Fail> {
     let info = stereo_info(16)?;
     let mut buffers = FrameBuffers::new(rt.alloc(), 2, 16)?;
     let mut bits = BitReader::new(Memory::new(&bytes));
-    assert_eq!(rt; buffers.fill(&mut bits, &info, Profile::Subset), Err(Why::SampleRange));
+    assert_eq!(rt;
+        buffers.fill(&mut bits, &info, Profile::Subset),
+        Err(Why::SampleRange)
+    );
     assert_eq!(rt; buffers.view().channels(), 0);
     bytes[15] = 0x49;
     let mut bits = BitReader::new(Memory::new(&bytes));
-    assert_eq!(rt; buffers.fill(&mut bits, &info, Profile::Subset), Err(Why::FrameCheck));
+    assert_eq!(rt;
+        buffers.fill(&mut bits, &info, Profile::Subset),
+        Err(Why::FrameCheck)
+    );
     Ok(())
 }
 
@@ -73,6 +85,12 @@ fn out_of_range(rt: HostRuntime) -> Result<(), Fail> {
 fn pairs_of_samples(rt: HostRuntime) {
     channels_are_joined();
     assert_eq!(rt; join_samples(10, -1, -1), (-1, 0));
-    assert_eq!(rt; join_samples(8, 2147483647, 4294967295), (2147483647, -2147483648));
-    assert_eq!(rt; join_samples(9, 4294967295, -2147483648), (2147483647, -2147483648));
+    assert_eq!(rt;
+        join_samples(8, 2147483647, 4294967295),
+        (2147483647, -2147483648)
+    );
+    assert_eq!(rt;
+        join_samples(9, 4294967295, -2147483648),
+        (2147483647, -2147483648)
+    );
 }

@@ -120,8 +120,8 @@ is_unknown digest = list_all (λ b. nat_eq b 0) digest
 unfoldable pub end_rules : Option Info → ℕ → List ℕ → List Rule
 end_rules None samples message = []
 end_rules (Some i) samples message =
-  record { broken = not (nat_eq i.total 0) && not (nat_eq i.total samples); why = TotalMismatch } ∷
-  record { broken = not (is_unknown i.digest) && not (bytes_eq i.digest (md5 message)); why = Md5Mismatch } ∷ []
+    record { broken = not (nat_eq i.total 0) && not (nat_eq i.total samples); why = TotalMismatch } ∷
+    record { broken = not (is_unknown i.digest) && not (bytes_eq i.digest (md5 message)); why = Md5Mismatch } ∷ []
 
 -- ---- the grammar
 

@@ -95,7 +95,10 @@ pub(crate) fn place_of(track: &Track) -> Place
 
 /// Reads the next part, and keeps it in the track; nothing where the stream is over. Where it refuses, the fault is told
 /// with its place, and the track is of no use any more.
-pub(crate) fn advance<R: Source>(reader: &mut BitReader<R>, track: &mut Track) -> Result<Option<Part>, Fault>
+pub(crate) fn advance<R: Source>(
+    reader: &mut BitReader<R>,
+    track: &mut Track,
+) -> Result<Option<Part>, Fault>
     ensures spends { IfOk result (λ o. MatchOption o (reader.new.most ≤ reader.old.most) (λ _. reader.new.most + 32 ≤ reader.old.most)) }
     ensures counts { Counts reader.old reader.new (reason_of told result) }
     ensures steps { (p : Progress) → IsAt track.old p → StepsTo (λ part. piece_of track.new part) told (step_at grammar p reader.old.cursor) reader.old reader.new result }
@@ -110,7 +113,10 @@ pub(crate) fn advance<R: Source>(reader: &mut BitReader<R>, track: &mut Track) -
         },
         Ok(true) => match track.close() {
             Ok(()) => Ok(None),
-            Err(why) => Err(Fault { at: Place::End, why }),
+            Err(why) => Err(Fault {
+                at: Place::End,
+                why,
+            }),
         },
         Err(why) => Err(Fault { at, why }),
     }

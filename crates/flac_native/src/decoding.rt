@@ -55,7 +55,11 @@ fn hand_at<S: Sink>(at: Place, part: Part, track: &Track, sink: &mut S) -> Resul
 }
 
 /// Hands what is still to come to the sink.
-pub(crate) fn hand_out<R: Source, S: Sink>(reader: &mut BitReader<R>, track: &mut Track, sink: &mut S) -> Result<(), Fault>
+pub(crate) fn hand_out<R: Source, S: Sink>(
+    reader: &mut BitReader<R>,
+    track: &mut Track,
+    sink: &mut S,
+) -> Result<(), Fault>
     ensures hands { (p : Progress) → IsAt track.old p → reader.old.known ≡ true →
         Hands grammar (taken S.takes) S.errors p reader.old.cursor.mark reader.old.cursor.left (IsCalm reader.old reader.new) sink.old sink.new (outcome_of told result) }
     ensures counts { Counts reader.old reader.new (reason_of told result) }
@@ -73,12 +77,17 @@ pub(crate) fn hand_out<R: Source, S: Sink>(reader: &mut BitReader<R>, track: &mu
 }
 
 /// Decodes a native stream, and hands its blocks and frames to the sink, one after another (RFC 9639, section 6).
-pub fn decode<R: Source, S: Sink>(alloc: Global, source: &mut R, profile: Profile, sink: &mut S) -> Result<(), Fault>
+pub fn decode<R: Source, S: Sink>(
+    alloc: Global,
+    source: &mut R,
+    profile: Profile,
+    sink: &mut S,
+) -> Result<(), Fault>
     // Ok only where the bytes are a stream, of which the sink took just the items; refused only as the bytes are, behind just
     // the items before; and whatever ended it, the sink took items that are spelled whole, from the start.
     ensures hands { R.known source.old ≡ true →
         Hands grammar (taken S.takes) S.errors opening (beginning (short_of ((R.behind source.old).fails))) (bits_of (R.coming source.old))
-          ((R.errors source.new ≡ R.errors source.old) × (R.raised source.new ≡ R.raised source.old)) sink.old sink.new (outcome_of told result) }
+        ((R.errors source.new ≡ R.errors source.old) × (R.raised source.new ≡ R.raised source.old)) sink.old sink.new (outcome_of told result) }
     // A stream is not refused but for want of memory, and what the bytes show is the place and the reason answered.
     ensures decides { R.known source.old ≡ true → R.errors source.new ≡ R.errors source.old → R.raised source.new ≡ R.raised source.old → S.errors sink.new ≡ S.errors sink.old →
         Decides grammar opening (beginning (short_of ((R.behind source.old).fails))) (bits_of (R.coming source.old)) (outcome_of told result) }

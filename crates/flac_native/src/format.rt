@@ -36,7 +36,11 @@ impl Format {
     }
 
     /// Reads the next frame into the buffers.
-    pub(crate) fn fill<R: Source>(&mut self, bits: &mut BitReader<R>, profile: Profile) -> Result<(), Why>
+    pub(crate) fn fill<R: Source>(
+        &mut self,
+        bits: &mut BitReader<R>,
+        profile: Profile,
+    ) -> Result<(), Why>
         ensures spends { OnOk result (bits.new.most + 40 ≤ bits.old.most) }
         ensures counts { Counts bits.old bits.new result }
         ensures reads { Reads (λ _. self.new.buffers.held) (frame self.old.info self.old.buffers.before) (started bits.old) bits.new result }

@@ -15,12 +15,11 @@ mod track;
 
 pub use decoding::decode;
 pub use fault::{Fault, Place};
-pub use laws::only_one_way;
-pub use message::put_row;
-pub use sink::{Sink, SinkFault};
-pub use track::Track;
-
 pub use flac_bits::{Source, Why};
 pub use flac_frame::FrameView;
 pub use flac_header::Profile;
 pub use flac_meta::{Block, StreamInfo};
+pub use laws::only_one_way;
+pub use message::put_row;
+pub use sink::{Sink, SinkFault};
+pub use track::Track;

@@ -78,7 +78,10 @@ impl Track {
     }
 
     /// Reads the next block, and notes it.
-    pub(crate) fn next_block<R: Source>(&mut self, bits: &mut BitReader<R>) -> Result<(bool, Block), Why>
+    pub(crate) fn next_block<R: Source>(
+        &mut self,
+        bits: &mut BitReader<R>,
+    ) -> Result<(bool, Block), Why>
         ensures spends { OnOk result (bits.new.most + 32 ≤ bits.old.most) }
         ensures counts { Counts bits.old bits.new result }
         ensures reads { ReadsInRoom (λ x. x) (block_layout self.old.seen) bits.old bits.new result }

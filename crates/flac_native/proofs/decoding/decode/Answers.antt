@@ -20,4 +20,4 @@ returns-clause-decides g c = λ known errors raised same.
     let R = g.R.Source in
     let hands = returns-clause-hands g c known in
     decides grammar needs_bits (taken g.S.Sink.takes) g.S.Sink.errors opening (beginning (short_of ((R.behind c.args.source.now).fails))) (bits_of (R.coming c.args.source.now)) _
-      c.args.sink.now c.hand_out-outcome.new.sink (outcome_of told c.hand_out-outcome.result) hands (errors, raised) same
+    c.args.sink.now c.hand_out-outcome.new.sink (outcome_of told c.hand_out-outcome.result) hands (errors, raised) same

@@ -12,22 +12,22 @@ returns-in-Ok-None-clause-hands g c = λ first at known.
     let far = c.loop-part.invariant.far first at in
     let step = rw c.in-Ok-None.field-0-is at c.in-Ok-None.ensures in
     all_done grammar (taken g.S.Sink.takes) g.S.Sink.errors first far.0 c.args.reader.now c.loop-part.reader (IsCalm c.args.reader.now c.advance.new.reader) c.args.sink.now c.loop-part.sink
-      far.2 (λ told. step.steps far.0 far.1 told step.counts.1 step.counts.2) known
+    far.2 (λ told. step.steps far.0 far.1 told step.counts.1 step.counts.2) known
 
 pub returns-in-Err-clause-hands : goal.returns-in-Err-clause-hands
 returns-in-Err-clause-hands g c = λ first at known.
     let far = c.loop-part.invariant.far first at in
     step_refused grammar (taken g.S.Sink.takes) g.S.Sink.errors first far.0 c.args.reader.now c.loop-part.reader c.advance.new.reader c.args.sink.now c.loop-part.sink c.in-Err.fault.at c.in-Err.fault.why
-      far.2 (c.in-Err.ensures.steps far.0 far.1) known
+    far.2 (c.in-Err.ensures.steps far.0 far.1) known
 
 pub returns-in_err-hand_at-clause-hands : goal.returns-in_err-hand_at-clause-hands
 returns-in_err-hand_at-clause-hands g c =
     let p = err_from_is_err_and c.from_residual.result c.from_residual.ensures.1 in
     let failed = c.in_err-hand_at.ensures.failed in
     rw (p.1, p.2) (λ first at known.
-      let far = c.loop-part.invariant.far first at in
-      sink_failed grammar (taken g.S.Sink.takes) g.S.Sink.errors first far.0 c.args.reader.now c.loop-part.reader _ c.args.sink.now c.loop-part.sink c.hand_at.new.sink _ _
-        far.2 failed.0 failed.1 (failed.2 ∙ c.place_of-at.ensures ∙ ap (λ (s : Stand). place_in s.phase s.index) far.1.stand) known)
+    let far = c.loop-part.invariant.far first at in
+    sink_failed grammar (taken g.S.Sink.takes) g.S.Sink.errors first far.0 c.args.reader.now c.loop-part.reader _ c.args.sink.now c.loop-part.sink c.hand_at.new.sink _ _
+    far.2 failed.0 failed.1 (failed.2 ∙ c.place_of-at.ensures ∙ ap (λ (s : Stand). place_in s.phase s.index) far.1.stand) known)
 
 pub loop-part-preserved : goal.loop-part-preserved
 loop-part-preserved g c =
@@ -39,8 +39,10 @@ loop-part-preserved g c =
       names = c.hand_at.ensures.names ∙ inv.names;
       far = λ first at.
           let far = inv.far first at in
-          let piece = piece_of c.advance.new.track c.in-Ok-Some.part in
-          (next far.0 piece, step.next far.0 far.1,
+          let piece = piece_of c.advance.new.track c.in-Ok-Some.part in (
+            next far.0 piece,
+            step.next far.0 far.1,
             one_more grammar (taken g.S.Sink.takes) g.S.Sink.errors first far.0 (next far.0 piece) c.args.reader.now c.loop-part.reader c.advance.new.reader c.args.sink.now c.loop-part.sink c.hand_at.new.sink piece
-              far.2 step.counts (λ told. step.steps far.0 far.1 told step.counts.1 step.counts.2) took.counted took.takes refl);
+                far.2 step.counts (λ told. step.steps far.0 far.1 told step.counts.1 step.counts.2) took.counted took.takes refl,
+          );
     }

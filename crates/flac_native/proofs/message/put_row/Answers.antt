@@ -1,6 +1,7 @@
 use Rattle.std.proofs.Common.{◌<◌, ◌≡◌, ◌++◌, length, take, List, ℕ, ℤ, pos, slice_index_or, append_assoc, ap, sym, ◌∙◌, arith}
 use Rattle.flac_native.specs.Message.{sample_bytes, row_bytes}
 use Rattle.flac_frame.specs.Lent.{frame_of}
+use Rattle.flac_frame.proofs.Subframes.{length-chunks}
 use Rattle.flac_native.proofs.Messages.{row_more}
 use Rattle.flac_native.proofs.message.put_row.Goals as goal
 
@@ -18,3 +19,13 @@ loop-i-preserved c =
       bytes = c.put_sample.ensures ∙ ap (λ l. l ++ sample c.channel.result.now) inv.bytes ∙ append_assoc front rows (sample c.channel.result.now)
           ∙ ap (λ r. front ++ r) (ap (λ channel. rows ++ sample channel) c.channel.ensures.value ∙ sym (row_more width channels c.args.index c.loop-i.i lt));
     }
+
+pub put_sample-requires-clause-room : goal.put_sample-requires-clause-room
+put_sample-requires-clause-room c =
+    let v = c.args.view.now in
+    omega (arith, v.few, length-chunks v.channels v.block v.samples.now, c.channels-i-end.ensures, c.loop-i.invariant.end, c.loop-i-test.true, c.requires.width, c.requires.room, c.loop-i.auto.out)
+
+pub returns-clause-end : goal.returns-clause-end
+returns-clause-end c =
+    let v = c.args.view.now in
+    omega (arith, v.few, length-chunks v.channels v.block v.samples.now, c.channels-i-end.ensures, c.loop-i.invariant.end, c.loop-i.auto.i-end)
