@@ -35,7 +35,18 @@ def ask(*words, limit=120):
     status, out, err = call(*words, limit=limit)
     if status == 2 or (status == 1 and err.endswith(b": 49 NotYet\n")):
         raise NotYet(f"'{words[0]}' is not there yet")
+    if status == 1 and err.endswith((b": marker: 4 BadMarker\n", b": marker: 3 Truncated\n")) and reads_ogg(words):
+        raise NotYet("Ogg is not there yet")
     return status, out, err
+
+
+def reads_ogg(words):
+    """Whether the call reads a file that begins as Ogg does; a program that knows Ogg never answers BadMarker there."""
+    try:
+        with open(words[1], "rb") as file:
+            return file.read(1) == b"O"
+    except (IndexError, OSError):
+        return False
 
 
 def succeeds(*words, limit=120):
