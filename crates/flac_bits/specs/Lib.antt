@@ -20,3 +20,4 @@ pub mod Unsent
 pub mod Standing
 pub mod Fencing
 pub mod Reasons
+pub mod Meant

@@ -1,6 +1,6 @@
 //! Bytes, one after another.
 
-ghost use Rattle.std.specs.Prelude.{◌≤◌, ◌+◌, ◌*◌, length, OnOk};
+ghost use Rattle.std.specs.Prelude.{◌≢◌, ◌≤◌, ◌+◌, ◌*◌, length, OnOk, IfErr};
 ghost use Rattle.flac_bits.specs.Layout.{bits as number};
 ghost use Rattle.flac_bits.specs.Lists.{list_of};
 ghost use Rattle.flac_bits.specs.Reading.{Counts, Reads};
@@ -17,6 +17,7 @@ use crate::why::Why;
 pub fn read_bytes<R: Source>(bits: &mut BitReader<R>, out: &mut [u8]) -> Result<(), Why>
     ensures spends { OnOk result (bits.new.most + 8 * length out.old ≤ bits.old.most) }
     ensures counts { Counts bits.old bits.new result }
+    ensures memory { IfErr result (λ e. e ≢ Why.Memory) }
     ensures reads { Reads (λ _. out.new) (list_of (length out.old) (number 8)) bits.old bits.new result }
 {
     if bits.unread() > 0 {
@@ -39,6 +40,7 @@ pub fn read_bytes<R: Source>(bits: &mut BitReader<R>, out: &mut [u8]) -> Result<
 fn read_each<R: Source>(bits: &mut BitReader<R>, out: &mut [u8]) -> Result<(), Why>
     ensures spends { OnOk result (bits.new.most + 8 * length out.old ≤ bits.old.most) }
     ensures counts { Counts bits.old bits.new result }
+    ensures memory { IfErr result (λ e. e ≢ Why.Memory) }
     ensures reads { Reads (λ _. out.new) (list_of (length out.old) (number 8)) bits.old bits.new result }
 {
     for i in 0..out.len() {

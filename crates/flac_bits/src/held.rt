@@ -1,6 +1,6 @@
 //! Bytes that were pulled, and the bits of them that are held in a word.
 
-ghost use Rattle.std.specs.Prelude.{◌≡◌, ◌<◌, ◌≤◌, ◌+◌, ◌-◌, ◌*◌, ◌/◌, ◌%◌, ◌^◌, ◌++◌, ◌∷◌, [], ℕ, List, Bool, true, false, length, take, drop, replicate, min, IfSome, IfOk, IfErr, OnOk, Some, None, Ok, is_some, IsTrue, ◌↔◌};
+ghost use Rattle.std.specs.Prelude.{◌≡◌, ◌≢◌, ◌<◌, ◌≤◌, ◌+◌, ◌-◌, ◌*◌, ◌/◌, ◌%◌, ◌^◌, ◌++◌, ◌∷◌, [], ℕ, List, Bool, true, false, length, take, drop, replicate, min, IfSome, IfOk, IfErr, OnOk, Some, None, Ok, is_some, IsTrue, ◌↔◌};
 ghost use Rattle.flac_bits.specs.declared.why.Why.TheVariants.{Truncated};
 ghost use Rattle.flac_bits.specs.Bits.{unsigned, bits_of};
 ghost use Rattle.flac_bits.specs.Meaning.{unary_bits};
@@ -184,6 +184,7 @@ impl Held {
     pub fn short(&self) -> Why
         ensures fence { self.now.fence.room ≡ Some 0 → result ≡ Why.FrameTooLong }
         ensures over { (self.now.fence.room ≡ Some 0 → ⊥) → result ≡ Why.Truncated }
+        ensures memory { result ≢ Why.Memory }
     {
         match self.room {
             Some(0) => Why::FrameTooLong,

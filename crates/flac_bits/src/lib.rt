@@ -26,7 +26,7 @@ pub use bytes::read_bytes;
 pub use coded::write_number;
 pub use counted::Counted;
 pub use number::read_number;
-pub use promises::numbers_are_spelled;
+pub use promises::{fields_are_meant, numbers_are_spelled};
 pub use reader::BitReader;
 pub use send::send_all;
 pub use source::{Memory, Pieces, Source};

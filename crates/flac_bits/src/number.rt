@@ -1,6 +1,6 @@
 //! The coded number.
 
-ghost use Rattle.std.specs.Prelude.{◌≡◌, ◌≤◌, ◌<◌, ◌^◌, ◌+◌, ◌*◌, cond, nat_lt, IfOk, OnOk, IfSome};
+ghost use Rattle.std.specs.Prelude.{◌≡◌, ◌≢◌, ◌≤◌, ◌<◌, ◌^◌, ◌+◌, ◌*◌, cond, nat_lt, IfOk, IfErr, OnOk, IfSome};
 ghost use Rattle.flac_bits.specs.Coded.{IsNumber};
 ghost use Rattle.flac_bits.specs.Number.{lead_form, continued, number};
 ghost use Rattle.flac_bits.specs.Reading.{Counts, Reads, Means};
@@ -33,6 +33,7 @@ fn continued<R: Source>(bits: &mut BitReader<R>, count: u32, high: u64) -> Resul
     ensures spends { OnOk result (bits.new.most ≤ bits.old.most) }
     ensures room { IfOk result (λ v. v < (high + 1) * 64 ^ count) }
     ensures counts { Counts bits.old bits.new result }
+    ensures memory { IfErr result (λ e. e ≢ Why.Memory) }
     ensures reads { Reads (λ v. v) (continued count high) bits.old bits.new result }
 {
     let mut value = high;
@@ -51,6 +52,7 @@ pub fn read_number<R: Source>(bits: &mut BitReader<R>, max_bits: u32) -> Result<
     ensures fits { IfOk result (λ v. IsNumber max_bits v) }
     ensures spends { OnOk result (bits.new.most + 8 ≤ bits.old.most) }
     ensures counts { Counts bits.old bits.new result }
+    ensures memory { IfErr result (λ e. e ≢ Why.Memory) }
     ensures reads { Reads (λ v. v) (number max_bits) bits.old bits.new result }
     ensures means { Means (λ v. v) (number max_bits) bits.old bits.new result }
 {
@@ -62,6 +64,7 @@ fn number_here<R: Source>(bits: &mut BitReader<R>, max_bits: u32) -> Result<u64,
     ensures fits { IfOk result (λ v. IsNumber max_bits v) }
     ensures spends { OnOk result (bits.new.most + 8 ≤ bits.old.most) }
     ensures counts { Counts bits.old bits.new result }
+    ensures memory { IfErr result (λ e. e ≢ Why.Memory) }
     ensures reads { Reads (λ v. v) (number max_bits) bits.old bits.new result }
 {
     let lead = bits.take(8)?;

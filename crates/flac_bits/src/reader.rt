@@ -1,6 +1,6 @@
 //! Bits out of a source of bytes.
 
-ghost use Rattle.std.specs.Prelude.{◌≡◌, ◌<◌, ◌≤◌, ◌+◌, ◌^◌, ◌-◌, ◌++◌, ◌∷◌, [], ℕ, true, IfOk, IfErr, OnOk, ◌*◌, length, take, IfSome, None, Some, Ok, ◌↔◌, false, is_some};
+ghost use Rattle.std.specs.Prelude.{◌≡◌, ◌≢◌, ◌<◌, ◌≤◌, ◌+◌, ◌^◌, ◌-◌, ◌++◌, ◌∷◌, [], ℕ, true, IfOk, IfErr, OnOk, ◌*◌, length, take, IfSome, None, Some, Ok, ◌↔◌, false, is_some};
 ghost use Rattle.flac_bits.specs.declared.why.Why.TheVariants.{Truncated};
 ghost use Rattle.flac_bits.specs.Bits.{is_nil};
 ghost use Rattle.flac_bits.specs.Bits.{unsigned, bits_of, bit_value};
@@ -135,6 +135,7 @@ impl<R: Source> BitReader<R> {
     fn bit(&mut self) -> Result<bool, Why>
         ensures spends { OnOk result (self.new.most + 1 ≤ self.old.most) }
         ensures counts { Counts self.old self.new result }
+        ensures memory { IfErr result (λ e. e ≢ Why.Memory) }
         ensures reads { Gives (λ b. b) (next_bit self.old.cursor) self.old self.new result }
     {
         match fill(&mut self.held, &mut self.source) {
@@ -152,6 +153,7 @@ impl<R: Source> BitReader<R> {
         ensures small { IfOk result (λ v. v < 2 ^ n) }
         ensures spends { OnOk result (self.new.most + n ≤ self.old.most) }
         ensures counts { Counts self.old self.new result }
+        ensures memory { IfErr result (λ e. e ≢ Why.Memory) }
         ensures reads { Gives (λ v. v) (number_at n self.old.cursor) self.old self.new result }
     {
         let mut value = 0u64;
@@ -169,6 +171,7 @@ impl<R: Source> BitReader<R> {
         ensures small { IfOk result (λ v. v < 2 ^ n) }
         ensures spends { OnOk result (self.new.most + n ≤ self.old.most) }
         ensures counts { Counts self.old self.new result }
+        ensures memory { IfErr result (λ e. e ≢ Why.Memory) }
         ensures reads { Gives (λ v. v) (number_at n self.old.cursor) self.old self.new result }
     {
         if let Some(value) = self.ready(n) {
@@ -183,6 +186,7 @@ impl<R: Source> BitReader<R> {
         ensures small { IfOk result (λ v. v < 2 ^ n) }
         ensures spends { OnOk result (self.new.most + n ≤ self.old.most) }
         ensures counts { Counts self.old self.new result }
+        ensures memory { IfErr result (λ e. e ≢ Why.Memory) }
         ensures reads { Gives (λ v. v) (number_at n self.old.cursor) self.old self.new result }
     {
         self.top_up();
@@ -208,6 +212,7 @@ impl<R: Source> BitReader<R> {
         ensures within { IfOk result (λ o. IfSome o (λ q. q ≤ limit)) }
         ensures spends { OnOk result (self.new.most ≤ self.old.most) }
         ensures counts { Counts self.old self.new result }
+        ensures memory { IfErr result (λ e. e ≢ Why.Memory) }
         ensures reads { Gives (λ v. v) (zeros_at limit self.old.cursor) self.old self.new result }
     {
         for zeros in 0..limit {
@@ -227,6 +232,7 @@ impl<R: Source> BitReader<R> {
         ensures within { IfOk result (λ o. IfSome o (λ q. q ≤ limit)) }
         ensures spends { OnOk result (self.new.most ≤ self.old.most) }
         ensures counts { Counts self.old self.new result }
+        ensures memory { IfErr result (λ e. e ≢ Why.Memory) }
         ensures reads { Gives (λ v. v) (zeros_at limit self.old.cursor) self.old self.new result }
     {
         self.top_up();
@@ -256,6 +262,7 @@ impl<R: Source> BitReader<R> {
         requires limit { limit < 2 ^ 32 }
         ensures spends { OnOk result (self.new.most ≤ self.old.most) }
         ensures counts { Counts self.old self.new result }
+        ensures memory { IfErr result (λ e. e ≢ Why.Memory) }
         ensures reads { Reads (λ v. v) (rice k limit) self.old self.new result }
     {
         let Some(zeros) = self.unary(limit)? else {
@@ -272,6 +279,7 @@ impl<R: Source> BitReader<R> {
         requires limit { limit < 2 ^ 32 }
         ensures spends { OnOk result (self.new.most ≤ self.old.most) }
         ensures counts { Counts self.old self.new result }
+        ensures memory { IfErr result (λ e. e ≢ Why.Memory) }
         ensures reads { Reads (λ v. v) (rice k limit) self.old self.new result }
     {
         self.top_up();
@@ -289,6 +297,7 @@ impl<R: Source> BitReader<R> {
         ensures fits { IfOk result IsResidual }
         ensures spends { OnOk result (self.new.most ≤ self.old.most) }
         ensures counts { Counts self.old self.new result }
+        ensures memory { IfErr result (λ e. e ≢ Why.Memory) }
         ensures reads { Reads (λ v. v) (rice_value k) self.old self.new result }
     {
         let folded = self.folded_value(k, MOST_FOLDED >> k)?;
@@ -309,6 +318,7 @@ impl<R: Source> BitReader<R> {
         ensures fits { OnOk result (All IsResidual values.new) }
         ensures spends { OnOk result (self.new.most ≤ self.old.most) }
         ensures counts { Counts self.old self.new result }
+        ensures memory { IfErr result (λ e. e ≢ Why.Memory) }
         ensures reads { Reads (λ _. values.new) (list_of (length values.old) (rice_value k)) self.old self.new result }
     {
         for i in 0..values.len() {
@@ -326,6 +336,7 @@ impl<R: Source> BitReader<R> {
         ensures fits { IfOk result (FitsBits n) }
         ensures spends { OnOk result (self.new.most + n ≤ self.old.most) }
         ensures counts { Counts self.old self.new result }
+        ensures memory { IfErr result (λ e. e ≢ Why.Memory) }
         ensures reads { Reads (λ v. v) (signed_field n) self.old self.new result }
     {
         let value = self.take(n)?;
@@ -340,6 +351,7 @@ impl<R: Source> BitReader<R> {
         ensures fits { OnOk result (All (FitsBits n) values.new) }
         ensures spends { OnOk result (self.new.most ≤ self.old.most) }
         ensures counts { Counts self.old self.new result }
+        ensures memory { IfErr result (λ e. e ≢ Why.Memory) }
         ensures reads { Reads (λ _. values.new) (list_of (length values.old) (signed_field n)) self.old self.new result }
     {
         for i in 0..values.len() {
@@ -395,7 +407,8 @@ impl<R: Source> BitReader<R> {
 
     /// The reason where a field needs more bits than are left, and no error of the source is the reason.
     pub fn short(&self) -> Why
-        ensures { self.now.known ≡ true → self.now.cursor.left ≡ [] → (self.now.cursor.mark.short ≡ Why.Read → ⊥) → result ≡ self.now.cursor.mark.short }
+        ensures short { self.now.known ≡ true → self.now.cursor.left ≡ [] → (self.now.cursor.mark.short ≡ Why.Read → ⊥) → result ≡ self.now.cursor.mark.short }
+        ensures memory { result ≢ Why.Memory }
     {
         self.held.short()
     }
@@ -411,6 +424,7 @@ impl<R: Source> BitReader<R> {
     pub fn at_end(&mut self) -> Result<bool, Why>
         ensures spends { OnOk result (self.new.most ≤ self.old.most) }
         ensures counts { Counts self.old self.new result }
+        ensures memory { IfErr result (λ e. e ≢ Why.Memory) }
         ensures over { IfOk result (λ over. self.old.known ≡ true → (self.new.cursor ≡ self.old.cursor) × (over ≡ is_nil self.old.cursor.left)) }
         ensures read { IfErr result (λ e. (e ≡ Why.Read) × (self.old.known ≡ true → self.new.errors ≡ self.old.errors → (self.old.cursor.left ≡ []) × (self.old.cursor.mark.short ≡ Why.Read))) }
     {
@@ -481,6 +495,7 @@ impl<R: Source> BitReader<R> {
     pub fn align(&mut self) -> Result<bool, Why>
         ensures spends { OnOk result (self.new.most ≤ self.old.most) }
         ensures counts { Counts self.old self.new result }
+        ensures memory { IfErr result (λ e. e ≢ Why.Memory) }
         ensures reads { Reads (λ b. b) to_byte self.old self.new result }
     {
         let unread = self.held.unread();

@@ -15,7 +15,7 @@ returns-then-n-out-clause-reads g c = λ known same.
     let lt = c.if-n-out.true in
     let over = got.over (omega (arith, lt, c.take_bytes.auto.out)) known in
     missing (take n c.take_bytes.new.out) (length c.args.out.now) c.short.result c.args.bits.now.cursor c.take_bytes.new.self.cursor (omega (arith, lt, length-take {A = ℕ} n c.take_bytes.new.out, c.take_bytes.auto.out))
-    over.0 (c.short.ensures (got.counts.0 known) over.0 over.1) (got.taken known)
+    over.0 (c.short.ensures.short (got.counts.0 known) over.0 over.1) (got.taken known)
 
 pub returns-else-n-out-clause-reads : goal.returns-else-n-out-clause-reads
 returns-else-n-out-clause-reads g c = λ known same.

@@ -12,8 +12,8 @@ use Rattle.flac_bits.proofs.Marks.{past-unread}
 use Rattle.flac_bits.proofs.Standing.{short_is, no_bytes, same_reason, same_behind}
 use Rattle.flac_bits.proofs.reader.BitReader.short.Goals as goal
 
-pub returns : goal.returns
-returns g c = λ known none other.
+pub returns-clause-short : goal.returns-clause-short
+returns-clause-short g c = λ known none other.
     let is = ap (λ (s : State). s.cursor.mark.short) c.self.view_is in
     let room = c.self.inside.held.fence.room in
     let coming = g.R.Source.coming c.self.inside.source in
