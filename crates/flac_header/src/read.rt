@@ -1,6 +1,6 @@
 //! Reads the header of a frame.
 
-ghost use Rattle.std.specs.Prelude.{◌≡◌, ◌<◌, ◌≤◌, ◌+◌, ◌^◌, IfOk, OnOk};
+ghost use Rattle.std.specs.Prelude.{◌≡◌, ◌≢◌, ◌<◌, ◌≤◌, ◌+◌, ◌^◌, IfOk, IfErr, OnOk};
 ghost use Rattle.flac_bits.specs.Reading.{Counts, Reads, Means};
 ghost use Rattle.flac_bits.specs.State.{started};
 ghost use Rattle.flac_header.specs.Header.{size_field, rate_field, header, IsSize, IsRate};
@@ -16,6 +16,7 @@ fn read_size<R: Source>(bits: &mut BitReader<R>, code: u8) -> Result<u32, Why>
     ensures fits { IfOk result (λ v. IsSize code v) }
     ensures spends { OnOk result (bits.new.most ≤ bits.old.most) }
     ensures counts { Counts bits.old bits.new result }
+    ensures memory { IfErr result (λ e. e ≢ Why.Memory) }
     ensures reads { Reads (λ v. v) (size_field code) bits.old bits.new result }
 {
     let size = match code {
@@ -41,6 +42,7 @@ fn read_rate<R: Source>(bits: &mut BitReader<R>, code: u8) -> Result<u32, Why>
     ensures fits { IfOk result (λ v. IsRate code v) }
     ensures spends { OnOk result (bits.new.most ≤ bits.old.most) }
     ensures counts { Counts bits.old bits.new result }
+    ensures memory { IfErr result (λ e. e ≢ Why.Memory) }
     ensures reads { Reads (λ v. v) (rate_field code) bits.old bits.new result }
 {
     let rate = match code {
@@ -68,6 +70,7 @@ fn read_rate<R: Source>(bits: &mut BitReader<R>, code: u8) -> Result<u32, Why>
 fn read_fields<R: Source>(bits: &mut BitReader<R>) -> Result<FrameHeader, Why>
     ensures spends { OnOk result (bits.new.most + 40 ≤ bits.old.most) }
     ensures counts { Counts bits.old bits.new result }
+    ensures memory { IfErr result (λ e. e ≢ Why.Memory) }
     ensures reads { Reads (λ h. h) header bits.old bits.new result }
 {
     if bits.take(15)? != 0x7FFC {
@@ -118,6 +121,7 @@ fn read_fields<R: Source>(bits: &mut BitReader<R>) -> Result<FrameHeader, Why>
 pub fn read_header<R: Source>(bits: &mut BitReader<R>) -> Result<FrameHeader, Why>
     ensures spends { OnOk result (bits.new.most + 40 ≤ bits.old.most) }
     ensures counts { Counts bits.old bits.new result }
+    ensures memory { IfErr result (λ e. e ≢ Why.Memory) }
     ensures reads { Reads (λ h. h) header (started bits.old) bits.new result }
     ensures means { Means (λ h. h) header (started bits.old) bits.new result }
 {
