@@ -1,26 +1,21 @@
 -- What ties the content of each kind of block to its spelling.
-use Rattle.std.proofs.Common.{◌≡◌, ℕ, zero, suc, ◌+◌, ◌-◌, ◌*◌, ◌/◌, ◌%◌, ◌^◌, ◌<◌, ◌≤◌, Bool, true, false, not, nat_eq, nat_lt, ◌&&◌, ◌||◌, Option, Some, None, List, [], ◌∷◌, ◌++◌, length, refl, sym, ap, subst, ◌∙◌, arith}
-use Rattle.std.proofs.lemmas.List.{append-nil}
+use Rattle.std.proofs.Common.{◌≡◌, ℕ, zero, suc, ◌+◌, ◌-◌, ◌*◌, ◌^◌, ◌<◌, ◌≤◌, Bool, true, false, not, nat_eq, nat_lt, ◌&&◌, ◌||◌, Option, Some, None, List, [], ◌∷◌, ◌++◌, length, refl, sym, ap, arith}
 use Rattle.std.proofs.lemmas.Bool.Decides.{nat_tests}
-use Rattle.std.specs.Prelude.{⊤}
-use Rattle.flac_bits.specs.Bits.{unsigned, bits_of, bit_value}
-use Rattle.flac_bits.specs.State.{Mark, past}
-use Rattle.flac_bits.specs.Layout.{Layout, done, bind, bits}
+use Rattle.flac_bits.specs.Bits.{bits_of}
+use Rattle.flac_bits.specs.State.{Mark}
+use Rattle.flac_bits.specs.Layout.{done, bits}
 use Rattle.flac_bits.specs.Lists.{list_of}
-use Rattle.flac_bits.specs.Forms.{Ties, joined, IsBytes, AreBytes}
-use Rattle.flac_bits.proofs.Ties.{ForEach, ForSome, tie, each_tied, some_tied, bytes_tie}
-use Rattle.flac_meta.specs.Info.{Info, KeepsRules, is_bad, stream_info}
-use Rattle.flac_meta.specs.Fields.{part, needs, nothing_left, little_endian, sized, number_32, in_turn, reserved}
+use Rattle.flac_bits.specs.Forms.{Ties, IsBytes, AreBytes}
+use Rattle.flac_bits.proofs.Ties.{tie, each_tied, some_tied, bytes_tie}
+use Rattle.flac_meta.specs.Info.{stream_info}
+use Rattle.flac_meta.specs.Fields.{nothing_left, little_endian, sized}
 use Rattle.flac_meta.specs.SeekTable.{follows, in_order, seek_point, seek_points}
 use Rattle.flac_meta.specs.Comments.{texts, comments}
-use Rattle.flac_meta.specs.Picture.{sizes, picture}
-use Rattle.flac_meta.specs.CueSheet.{cue_index, cue_count, track_front, cue_track, cue_tracks, sheet_front, cue_sheet}
 use Rattle.flac_meta.specs.Spelling as s
-use Rattle.flac_meta.specs.Valid.{AllAre, IsInfo, IsPoint, IsComments, IsIndex, IsTrack, IsSheet, IsPicture}
+use Rattle.flac_meta.specs.Valid.{AllAre, IsInfo, IsPoint, IsComments}
 use Rattle.flac_meta.specs.declared.seek_table.SeekPoint.{SeekPoint}
 use Rattle.flac_meta.specs.declared.comments.Comments.{Comments}
-use Rattle.flac_meta.specs.declared.picture.Picture.{Picture}
-use Rattle.flac_meta.proofs.Tied.{not_less, less_not, is_zero, joined_append, part_each, part_some, bits_tie, number_32_tie, little_tie, IsText, text_spelling, sized_tie, reserved_tie, nothing_tie, InTurn, turn_tie, AreMany, list_tie, retie}
+use Rattle.flac_meta.proofs.Tied.{less_not, part_each, part_some, little_tie, IsText, sized_tie, nothing_tie, InTurn, turn_tie, retie}
 
 -- ---- STREAMINFO
 

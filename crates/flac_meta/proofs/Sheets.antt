@@ -1,9 +1,8 @@
 -- What ties a cue sheet to its spelling.
 use Rattle.std.proofs.Common.{◌≡◌, ℕ, zero, suc, ◌+◌, ◌-◌, ◌*◌, ◌^◌, ◌<◌, ◌≤◌, Bool, true, false, not, nat_eq, nat_lt, ◌||◌, List, [], ◌∷◌, ◌++◌, length, refl, sym, ap, ◌∙◌, arith}
-use Rattle.std.proofs.lemmas.Bool.Decides.{nat_tests}
 use Rattle.flac_bits.specs.Bits.{unsigned, bits_of, bit_value}
 use Rattle.flac_bits.specs.State.{Mark}
-use Rattle.flac_bits.specs.Layout.{Layout, bits}
+use Rattle.flac_bits.specs.Layout.{bits}
 use Rattle.flac_bits.specs.Lists.{list_of}
 use Rattle.flac_bits.specs.Forms.{Ties, joined, IsBytes}
 use Rattle.flac_bits.proofs.Ties.{tie, each_tied, some_tied, bytes_tie}
@@ -12,7 +11,6 @@ use Rattle.flac_meta.specs.CueSheet.{cue_index, cue_count, track_front, cue_trac
 use Rattle.flac_meta.specs.Spelling as s
 use Rattle.flac_meta.specs.Listed.{overflows, is_bad_sheet}
 use Rattle.flac_meta.specs.Valid.{AllAre, IsIndex, IsTrack, IsSheet}
-use Rattle.flac_meta.specs.declared.cue_sheet.CueIndex.{CueIndex}
 use Rattle.flac_meta.specs.declared.cue_sheet.CueTrack.{CueTrack}
 use Rattle.flac_meta.specs.declared.cue_sheet.CueSheet.{CueSheet}
 use Rattle.flac_meta.proofs.Tied.{not_less, less_not, joined_append, part_each, part_some, reserved_tie, nothing_tie, InTurn, turn_tie, AreMany, list_tie}
@@ -42,9 +40,6 @@ bit_not true = refl
 bit_not false = refl
 
 -- ---- places
-
-abbrev Any : {A : Type 0} → A → Type 0
-Any x = Unit {0}
 
 pub index_tie : (m : Mark) → Ties cue_index m IsIndex s.index_spelling
 unfolding cue_index s.index_spelling
@@ -237,14 +232,14 @@ record Counts (n : ℕ) (o : Bool) : Type 0 where
   few : n < 2 ^ 8
   fine : o ≡ false
 
-tracks_some : (n : ℕ) (a b o : Bool) → (a || b || o) ≡ false → (a ≡ false) × (b ≡ false) × (o ≡ false)
-tracks_some n false false false h = (refl, refl, refl)
-tracks_some n true b o h = absurd cc
-tracks_some n false true o h = absurd cc
-tracks_some n false false true h = absurd cc
+tracks_some : (a b o : Bool) → (a || b || o) ≡ false → (a ≡ false) × (b ≡ false) × (o ≡ false)
+tracks_some false false false h = (refl, refl, refl)
+tracks_some true b o h = absurd cc
+tracks_some false true o h = absurd cc
+tracks_some false false true h = absurd cc
 
 counts_of : (n : ℕ) (o : Bool) → (nat_eq n 0 || nat_lt 255 n || o) ≡ false → Counts n o
-counts_of n o h = let k = tracks_some n (nat_eq n 0) (nat_lt 255 n) o h in record { some = k.0; few = byte_counts n k.1; fine = k.2 }
+counts_of n o h = let k = tracks_some (nat_eq n 0) (nat_lt 255 n) o h in record { some = k.0; few = byte_counts n k.1; fine = k.2 }
 
 -- each track has 36 bytes at least
 few_tracks : (ts : List CueTrack) → 36 * length ts ≤ s.tracks_length ts

@@ -1,7 +1,7 @@
 -- Which blocks there are, and which bits spell them (RFC 9639, section 8).
-use Rattle.std.specs.Prelude.{◌≡◌, ℕ, ◌+◌, ◌*◌, ◌<◌, ◌≤◌, ◌^◌, Bool, true, false, List, [], ◌∷◌, ◌++◌, length, None, Ok, ◌↔◌}
+use Rattle.std.specs.Prelude.{◌≡◌, ℕ, ◌*◌, ◌<◌, ◌^◌, Bool, false, List, [], ◌∷◌, ◌++◌, None, Ok, ◌↔◌}
 use Rattle.flac_bits.specs.Bits.{unsigned}
-use Rattle.flac_bits.specs.State.{Mark, Cursor, past}
+use Rattle.flac_bits.specs.State.{Mark, past}
 use Rattle.flac_bits.specs.Layout.{run}
 use Rattle.flac_bits.specs.Meaning.{Spells}
 use Rattle.flac_bits.specs.Forms.{joined, AreBytes, IsBytes}
