@@ -1,6 +1,6 @@
 //! Headers from outside, worked by hand from RFC 9639, section 9.1.
 
-use crate::{FrameHeader, Profile, headers_are_spelled, read_header, subset_allows, write_header};
+use crate::{FrameHeader, headers_are_spelled, read_header, subset_allows, write_header};
 use flac_bits::{BitReader, BitWriter, Collected, Memory, Why};
 use std::test::Fail;
 
@@ -43,4 +43,17 @@ fn refused(rt: HostRuntime) {
         Err(Why::HeaderCheck)
     );
     assert_eq!(rt; read(&[0xFF, 0xFA]), Err(Why::BadSync));
+}
+
+#[test]
+fn chosen(rt: HostRuntime) -> Result<(), Fail> {
+    let header = FrameHeader::chosen(16, 44100, 0, 16, 0).ok_or(Why::BadSync)?;
+    let mut writer = BitWriter::new(Collected::new(rt.alloc()));
+    write_header(&header, &mut writer)?;
+    writer.finish()?;
+    let bytes = [0xFF, 0xF8, 0x69, 0x08, 0x00, 0x0F, 0x30];
+    assert_eq!(rt; writer.into_target().bytes(), bytes.as_slice());
+    assert_eq!(rt; FrameHeader::chosen(16, 65537, 0, 16, 0), None);
+    assert_eq!(rt; FrameHeader::chosen(16, 44100, 11, 16, 0), None);
+    Ok(())
 }

@@ -4,3 +4,8 @@ pub mod Zeros
 pub mod Reasons
 pub mod Steps
 pub mod Lengths
+pub mod Tied
+pub mod Contents
+pub mod Pictures
+pub mod Sheets
+pub mod Blocks

@@ -54,7 +54,7 @@ zeros n = do
   done (nat_eq v 0)
 
 -- reserved bits of a cue sheet are zeros
-abbrev pub reserved : ℕ → Layout ⊤
+unfoldable pub reserved : ℕ → Layout ⊤
 reserved n = do
   clear ← zeros n
   judge (record { broken = not clear; why = CueSheet } ∷ [])

@@ -11,3 +11,4 @@ pub mod Spelling
 pub mod Listed
 pub mod Fielded
 pub mod Parts
+pub mod Valid

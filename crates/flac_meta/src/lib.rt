@@ -13,6 +13,7 @@ mod fields;
 mod header;
 mod lists;
 mod picture;
+mod promises;
 mod put;
 mod put_cue_sheet;
 mod put_lists;
@@ -23,6 +24,8 @@ mod reading;
 mod seek_table;
 mod seen;
 mod stream_info;
+#[cfg(test)]
+mod tests;
 mod writing;
 
 pub use block::Block;
@@ -31,6 +34,7 @@ pub use comments::Comments;
 pub use cue_sheet::{CueIndex, CueIndices, CueSheet, CueTrack, CueTracks};
 pub use lists::{Bytes, Texts};
 pub use picture::Picture;
+pub use promises::blocks_are_spelled;
 pub use reading::read_block;
 pub use seek_table::{SeekPoint, SeekTable};
 pub use seen::Seen;

@@ -12,7 +12,7 @@ use flac_bits::{BitReader, Source, Why};
 use std::alloc::Global;
 
 /// A place in a track (RFC 9639, section 8.7.1.1).
-#[tactic(auto, unfolding(crate::specs::CueSheet::cue_index))]
+#[tactic(auto, unfolding(crate::specs::CueSheet::cue_index, crate::specs::Fields::reserved))]
 fn read_index<R: Source>(bits: &mut BitReader<R>) -> Result<CueIndex, Why>
     ensures spends { OnOk result (bits.new.most ≤ bits.old.most) }
     ensures counts { Counts bits.old bits.new result }
@@ -48,7 +48,7 @@ fn read_indices<R: Source>(
 }
 
 /// The fields of a track before its places.
-#[tactic(auto, unfolding(crate::specs::CueSheet::track_front))]
+#[tactic(auto, unfolding(crate::specs::CueSheet::track_front, crate::specs::Fields::reserved))]
 fn read_track_front<R: Source>(
     bits: &mut BitReader<R>,
 ) -> Result<(u64, u8, [u8; 12], bool, bool), Why>
@@ -141,7 +141,7 @@ fn read_tracks<R: Source>(
 }
 
 /// The fields of a cue sheet before its tracks.
-#[tactic(auto, unfolding(crate::specs::CueSheet::sheet_front))]
+#[tactic(auto, unfolding(crate::specs::CueSheet::sheet_front, crate::specs::Fields::reserved))]
 fn read_sheet_front<R: Source>(bits: &mut BitReader<R>) -> Result<([u8; 128], u64, bool), Why>
     ensures spends { OnOk result (bits.new.most ≤ bits.old.most) }
     ensures counts { Counts bits.old bits.new result }

@@ -1,0 +1,237 @@
+//! Blocks from outside, worked by hand from RFC 9639, section 8.
+
+use crate::{
+    Block, BlockList, Bytes, Comments, CueSheet, CueTracks, SeekPoint, SeekTable, Seen, StreamInfo,
+    Texts, blocks_are_spelled, read_block, write_block, write_comments,
+};
+use flac_bits::{BitReader, BitWriter, Collected, Memory, Why};
+use std::alloc::Global;
+use std::test::Fail;
+
+/// The block that comes behind STREAMINFO, and whether it is the last.
+fn read(alloc: Global, bytes: &[u8]) -> Result<(bool, Block), Why> {
+    let mut seen = Seen {
+        stream_info: true,
+        seek_table: false,
+        comments: false,
+    };
+    let mut bits = BitReader::new(Memory::new(bytes));
+    read_block(alloc, &mut bits, &mut seen)
+}
+
+/// The bytes of a block.
+fn bytes_of(alloc: Global, block: &Block, last: bool) -> Result<Vec<u8>, Why> {
+    let mut writer = BitWriter::new(Collected::new(alloc));
+    write_block(block, last, &mut writer)?;
+    writer.finish()?;
+    Ok(writer.into_target().into_bytes())
+}
+
+/// Whether the block is written as it was read, with so many bytes of content.
+fn comes_back(alloc: Global, bytes: &[u8], length: u64) -> Result<bool, Why> {
+    let (last, block) = read(alloc, bytes)?;
+    let written = bytes_of(alloc, &block, last)?;
+    Ok(block.length() == length && written.as_slice() == bytes)
+}
+
+fn refusal(alloc: Global, bytes: &[u8]) -> Option<Why> {
+    read(alloc, bytes).err()
+}
+
+fn text(alloc: Global, bytes: &[u8]) -> Result<Bytes, Why> {
+    Ok(Bytes::from_vec(Vec::from_slice(alloc, bytes)?))
+}
+
+/// Comments of these three texts.
+fn comments_of(alloc: Global) -> Result<Comments, Why> {
+    let mut list = Vec::new(alloc);
+    list.push(text(alloc, b"A=b=c")?)?;
+    list.push(text(alloc, b"=x")?)?;
+    list.push(text(alloc, b"none")?)?;
+    Ok(Comments {
+        vendor: text(alloc, b"")?,
+        list: Texts::from_vec(list),
+    })
+}
+
+#[test]
+fn stream_info(rt: HostRuntime) -> Result<(), Fail> {
+    blocks_are_spelled();
+    let bytes = [
+        0x80, 0, 0, 34, 0x10, 0, 0x10, 0, 0, 0, 14, 0, 0, 15, 0x0A, 0xC4, 0x42, 0xF0, 0, 0, 0, 1,
+        1, 2, 3, 4, 5, 6, 7, 8, 9, 10, 11, 12, 13, 14, 15, 16,
+    ];
+    let mut seen = Seen::new();
+    let mut bits = BitReader::new(Memory::new(&bytes));
+    let (last, block) = read_block(rt.alloc(), &mut bits, &mut seen)?;
+    let digest = [1, 2, 3, 4, 5, 6, 7, 8, 9, 10, 11, 12, 13, 14, 15, 16];
+    let info = StreamInfo::new(4096, 4096, 14, 15, 44100, 2, 16, 1, digest)?;
+    assert!(rt; last && matches!(&block, Block::StreamInfo(found) if *found == info));
+    assert_eq!(rt;
+        bytes_of(rt.alloc(), &block, last)?.as_slice(),
+        bytes.as_slice()
+    );
+    assert_eq!(rt; refusal(rt.alloc(), &bytes), Some(Why::RepeatedBlock));
+    Ok(())
+}
+
+#[test]
+fn refused_at_the_header(rt: HostRuntime) {
+    let alloc = rt.alloc();
+    assert_eq!(rt; refusal(alloc, &[0xFF, 0, 0, 0]), Some(Why::ForbiddenType));
+    assert_eq!(rt; refusal(alloc, &[0x83, 0, 0, 0x11]), Some(Why::BlockLength));
+    assert_eq!(rt; refusal(alloc, &[0x82, 0, 0, 3]), Some(Why::BlockLength));
+    assert_eq!(rt;
+        refusal(alloc, &[0x80, 0, 0, 0x21]),
+        Some(Why::RepeatedBlock)
+    );
+    assert_eq!(rt; refusal(alloc, &[0x81, 0, 0]), Some(Why::Truncated));
+}
+
+#[test]
+fn refused_inside(rt: HostRuntime) {
+    let alloc = rt.alloc();
+    assert_eq!(rt;
+        refusal(alloc, &[0x84, 0, 0, 8, 0, 0, 0, 0, 0xFF, 0xFF, 0xFF, 0xFF]),
+        Some(Why::BlockLength)
+    );
+    let mut points = [0u8; 40];
+    points[0] = 3;
+    points[3] = 36;
+    for i in 4..12 {
+        points[i] = 0xFF;
+    }
+    assert_eq!(rt; refusal(alloc, &points), Some(Why::SeekOrder));
+    let mut sheet = [0u8; 400];
+    sheet[0] = 5;
+    sheet[2] = 1;
+    sheet[3] = 0x8C;
+    assert_eq!(rt; refusal(alloc, &sheet), Some(Why::CueSheet));
+    sheet[399] = 1;
+    assert_eq!(rt; refusal(alloc, &sheet), Some(Why::BlockLength));
+}
+
+#[test]
+fn bytes_come_back(rt: HostRuntime) -> Result<(), Fail> {
+    let alloc = rt.alloc();
+    assert!(rt; comes_back(alloc, &[0x81, 0, 0, 2, 0, 0], 2)?);
+    assert!(rt; comes_back(alloc, &[2, 0, 0, 5, 0x61, 0x62, 0x63, 0x64, 7], 5)?);
+    assert!(rt; comes_back(alloc, &[0x87, 0, 0, 1, 9], 1)?);
+    assert!(rt;
+        comes_back(
+            alloc,
+            &[4, 0, 0, 14, 1, 0, 0, 0, 0x66, 1, 0, 0, 0, 1, 0, 0, 0, 0x3D],
+            14
+        )?
+    );
+    let mut picture = [0u8; 38];
+    picture[0] = 6;
+    picture[3] = 34;
+    picture[7] = 3;
+    picture[11] = 1;
+    picture[12] = 0x61;
+    picture[36] = 1;
+    picture[37] = 5;
+    assert!(rt; comes_back(alloc, &picture, 34)?);
+    Ok(())
+}
+
+#[test]
+fn tables_come_back(rt: HostRuntime) -> Result<(), Fail> {
+    let alloc = rt.alloc();
+    let mut points = [0u8; 40];
+    points[0] = 3;
+    points[3] = 36;
+    points[29] = 1;
+    assert!(rt; comes_back(alloc, &points, 36)?);
+    let mut sheet = [0u8; 448];
+    sheet[0] = 5;
+    sheet[2] = 1;
+    sheet[3] = 0xBC;
+    sheet[399] = 1;
+    sheet[408] = 1;
+    sheet[435] = 1;
+    sheet[444] = 1;
+    assert!(rt; comes_back(alloc, &sheet, 444)?);
+    Ok(())
+}
+
+#[test]
+fn comments(rt: HostRuntime) -> Result<(), Fail> {
+    let alloc = rt.alloc();
+    let found = comments_of(alloc)?;
+    assert_eq!(rt; found.parts(0), Some((b"A".as_slice(), b"b=c".as_slice())));
+    assert_eq!(rt; found.parts(1), Some((b"".as_slice(), b"x".as_slice())));
+    assert_eq!(rt; found.parts(2), None);
+    assert_eq!(rt; found.parts(3), None);
+    assert_eq!(rt; found.length(), 31);
+    let ours = Comments {
+        vendor: text(alloc, b"flac profile 1")?,
+        list: Texts::from_vec(Vec::new(alloc)),
+    };
+    let mut writer = BitWriter::new(Collected::new(alloc));
+    write_comments(&ours, true, &mut writer)?;
+    writer.finish()?;
+    let bytes = [
+        0x84, 0, 0, 0x16, 0x0E, 0, 0, 0, 0x66, 0x6C, 0x61, 0x63, 0x20, 0x70, 0x72, 0x6F, 0x66,
+        0x69, 0x6C, 0x65, 0x20, 0x31, 0, 0, 0, 0,
+    ];
+    assert_eq!(rt; writer.into_target().bytes(), bytes.as_slice());
+    Ok(())
+}
+
+/// Why no list is made of this block.
+fn fault(alloc: Global, block: Block) -> Result<Option<Why>, Why> {
+    let mut blocks = Vec::new(alloc);
+    blocks.push(block)?;
+    Ok(BlockList::new(blocks).err())
+}
+
+#[test]
+fn lists(rt: HostRuntime) -> Result<(), Fail> {
+    let alloc = rt.alloc();
+    let mut good = Vec::new(alloc);
+    good.push(Block::VorbisComment(comments_of(alloc)?))?;
+    good.push(Block::Padding(4))?;
+    assert_eq!(rt; BlockList::new(good)?.blocks().len(), 2);
+    let mut twice = Vec::new(alloc);
+    twice.push(Block::VorbisComment(comments_of(alloc)?))?;
+    twice.push(Block::VorbisComment(comments_of(alloc)?))?;
+    assert_eq!(rt; BlockList::new(twice).err(), Some(Why::RepeatedBlock));
+    let bytes = text(alloc, b"")?;
+    assert_eq!(rt;
+        fault(alloc, Block::Other { kind: 6, bytes })?,
+        Some(Why::ForbiddenType)
+    );
+    assert_eq!(rt;
+        fault(alloc, Block::Padding(16777216))?,
+        Some(Why::BlockLength)
+    );
+    Ok(())
+}
+
+#[test]
+fn tables_refused(rt: HostRuntime) -> Result<(), Fail> {
+    let alloc = rt.alloc();
+    let point = SeekPoint {
+        sample: 1,
+        offset: 0,
+        length: 1,
+    };
+    let mut points = Vec::new(alloc);
+    points.push(point)?;
+    points.push(point)?;
+    let table = SeekTable::from_vec(points);
+    assert_eq!(rt;
+        fault(alloc, Block::SeekTable(table))?,
+        Some(Why::SeekOrder)
+    );
+    let sheet = CueSheet {
+        catalogue: [0; 128],
+        lead_in: 0,
+        cd: false,
+        tracks: CueTracks::from_vec(Vec::new(alloc)),
+    };
+    assert_eq!(rt; fault(alloc, Block::CueSheet(sheet))?, Some(Why::CueSheet));
+    Ok(())
+}
