@@ -3,3 +3,4 @@ pub mod Subframes
 pub mod Depths
 pub mod Bodies
 pub mod Joins
+pub mod Following

@@ -6,6 +6,7 @@ mod buffers;
 mod channels;
 mod end;
 mod fill;
+mod promises;
 mod samples;
 mod start;
 mod stereo;
@@ -15,5 +16,5 @@ mod view;
 
 pub use before::Before;
 pub use buffers::FrameBuffers;
-pub use stereo::channels_are_joined;
+pub use promises::{channels_are_joined, frames_follow};
 pub use view::FrameView;

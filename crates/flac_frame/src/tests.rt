@@ -2,8 +2,8 @@
 
 ghost use Rattle.std.specs.Prelude.{◌≡◌, IfOk};
 
-use crate::stereo::{channels_are_joined, join_samples};
-use crate::{FrameBuffers, FrameView};
+use crate::stereo::join_samples;
+use crate::{FrameBuffers, FrameView, channels_are_joined, frames_follow};
 use flac_bits::{BitReader, Memory, Why};
 use flac_header::Profile;
 use flac_meta::StreamInfo;
@@ -84,6 +84,7 @@ fn out_of_range(rt: HostRuntime) -> Result<(), Fail> {
 #[test]
 fn pairs_of_samples(rt: HostRuntime) {
     channels_are_joined();
+    frames_follow();
     assert_eq!(rt; join_samples(10, -1, -1), (-1, 0));
     assert_eq!(rt;
         join_samples(8, 2147483647, 4294967295),
