@@ -1,5 +1,5 @@
 -- The headers that are accepted one after another are those that follow one another.
-use Rattle.std.proofs.Common.{◌≡◌, ℕ, ◌+◌, ◌≤◌, ◌<◌, Bool, true, false, not, cond, ◌&&◌, ◌||◌, nat_eq, nat_lt, List, [], ◌∷◌, ◌++◌, Option, Some, None, All, ◌↔◌, refl, sym, ap, subst, ◌∙◌, arith}
+use Rattle.std.proofs.Common.{◌≡◌, ℕ, ◌+◌, ◌≤◌, Bool, true, false, not, cond, ◌&&◌, ◌||◌, nat_eq, nat_lt, List, [], ◌∷◌, ◌++◌, Option, Some, None, All, refl, sym, ap, subst, ◌∙◌, arith}
 use Rattle.std.proofs.lemmas.Bool.Decides.{nat_tests}
 use Rattle.std.proofs.lemmas.List.{append-nil}
 use Rattle.std.proofs.lemmas.List.Elements.{All-nil, All-cons, All-head, All-tail}
@@ -9,7 +9,7 @@ use Rattle.flac_bits.specs.Fence.{InRoom}
 use Rattle.flac_bits.specs.Items.{Joined}
 use Rattle.flac_meta.specs.Info.{Info}
 use Rattle.flac_header.specs.Header.{Header, header, allowed, channels_of, depth_of}
-use Rattle.flac_frame.specs.Frame.{Frame, frame, frame_body, stream_header, header_rules, left_by, after, differs, breaks_sequence, breaks_size}
+use Rattle.flac_frame.specs.Frame.{Frame, frame, frame_body, stream_header, header_rules, left_by, after, differs}
 use Rattle.flac_frame.specs.Follows.{EachTwo, ButLast, NumberFollows, HasFormat, Follows, AreAccepted, AcceptedFollow, AreFrames, frames, FramesFollow}
 use Rattle.flac_frame.specs.declared.before.Before.{Before}
 

@@ -4,3 +4,5 @@ pub mod Depths
 pub mod Bodies
 pub mod Joins
 pub mod Following
+pub mod Gathered
+pub mod FrameTie

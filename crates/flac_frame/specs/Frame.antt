@@ -1,5 +1,5 @@
 -- A frame: its header, a subframe for each channel, and its check (RFC 9639, section 9).
-use Rattle.std.specs.Prelude.{ℕ, zero, suc, ◌+◌, ◌*◌, Bool, true, false, not, cond, ◌&&◌, ◌||◌, nat_eq, nat_lt, nat_le, ℤ, List, [], ◌∷◌, ◌++◌, take, drop, Option, Some, None, is_none, ⊤}
+use Rattle.std.specs.Prelude.{ℕ, zero, suc, ◌+◌, Bool, true, false, not, cond, ◌&&◌, ◌||◌, nat_eq, nat_lt, nat_le, ℤ, List, [], ◌∷◌, ◌++◌, Option, Some, None, ⊤}
 use Rattle.flac_bits.specs.Layout.{Layout, Rule, done, bits, judge, refuse, mark, align, ◌>>=◌}
 use Rattle.flac_bits.specs.declared.why.Why.{Why}
 use Rattle.flac_bits.specs.declared.why.Why.TheVariants.{NotSubset, HeaderMismatch, Sequence, BlockSize, NonzeroPadding, FrameCheck, SampleRange}

@@ -16,5 +16,5 @@ mod view;
 
 pub use before::Before;
 pub use buffers::FrameBuffers;
-pub use promises::{channels_are_joined, frames_follow};
+pub use promises::{channels_are_joined, frames_are_spelled, frames_follow};
 pub use view::FrameView;

@@ -1,6 +1,7 @@
 //! What holds of the definitions.
 
 ghost use Rattle.flac_frame.specs.Follows.{AcceptedFollow, FramesFollow};
+ghost use Rattle.flac_frame.specs.Spelling.{FramesAreSpelled, FramesAreReadAgain, FramesAreBytes};
 ghost use Rattle.flac_frame.specs.Stereo.{ChannelsAreJoined};
 
 /// The channels that are read are the only ones of which the equations of left, right, middle and side hold.
@@ -13,4 +14,12 @@ pub fn channels_are_joined()
 pub fn frames_follow()
     ensures headers { AcceptedFollow }
     ensures frames { FramesFollow }
+{}
+
+/// At a whole byte bits spell just the frames of which they are the spelling of a form; such a spelling is whole bytes, and is read as
+/// that frame, whatever follows.
+pub fn frames_are_spelled()
+    ensures spelled { FramesAreSpelled }
+    ensures again { FramesAreReadAgain }
+    ensures bytes { FramesAreBytes }
 {}

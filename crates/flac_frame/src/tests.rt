@@ -3,7 +3,7 @@
 ghost use Rattle.std.specs.Prelude.{◌≡◌, IfOk};
 
 use crate::stereo::join_samples;
-use crate::{FrameBuffers, FrameView, channels_are_joined, frames_follow};
+use crate::{FrameBuffers, FrameView, channels_are_joined, frames_are_spelled, frames_follow};
 use flac_bits::{BitReader, Memory, Why};
 use flac_header::Profile;
 use flac_meta::StreamInfo;
@@ -85,6 +85,7 @@ fn out_of_range(rt: HostRuntime) -> Result<(), Fail> {
 fn pairs_of_samples(rt: HostRuntime) {
     channels_are_joined();
     frames_follow();
+    frames_are_spelled();
     assert_eq!(rt; join_samples(10, -1, -1), (-1, 0));
     assert_eq!(rt;
         join_samples(8, 2147483647, 4294967295),
