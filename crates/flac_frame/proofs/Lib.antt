@@ -6,3 +6,4 @@ pub mod Joins
 pub mod Following
 pub mod Gathered
 pub mod FrameTie
+pub mod Sounds
