@@ -5,7 +5,6 @@ mod choice;
 mod chosen;
 mod coding;
 mod cost;
-mod fields;
 mod folding;
 mod halving;
 mod limits;
