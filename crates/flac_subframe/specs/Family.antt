@@ -1,5 +1,5 @@
 -- The forms of a subframe for some samples, and the form that a choice stands for.
-use Rattle.std.specs.Prelude.{ℕ, ℤ, ◌≡◌, ◌-◌, List, map}
+use Rattle.std.specs.Prelude.{ℕ, ℤ, ◌≡◌, List, map}
 use Rattle.flac_subframe.specs.declared.chosen.Choice.{Choice}
 use Rattle.flac_subframe.specs.Bodies.{Chooses, Body, content_of, StandsFor}
 use Rattle.flac_subframe.specs.Chosen.{body_of}

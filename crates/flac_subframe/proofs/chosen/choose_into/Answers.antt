@@ -1,4 +1,4 @@
-use Rattle.std.proofs.Common.{◌≡◌, ◌∙◌, refl, sym, arith}
+use Rattle.std.proofs.Common.{sym}
 use Rattle.flac_subframe.specs.Bodies.{content_of}
 use Rattle.flac_subframe.specs.Chosen.{body_of, fixed_below}
 use Rattle.flac_subframe.proofs.Powers.{shortened_is}

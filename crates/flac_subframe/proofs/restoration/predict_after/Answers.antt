@@ -1,4 +1,4 @@
-use Rattle.std.proofs.Common.{arith, ◌≡◌, ◌≤◌, ℕ, sym, ◌∙◌}
+use Rattle.std.proofs.Common.{arith, ◌≡◌, sym}
 use Rattle.std.proofs.lemmas.Int.{ints}
 use Rattle.flac_subframe.proofs.FixedSums.{no_terms, one_term, two_terms, three_terms, four_terms}
 use Rattle.flac_subframe.proofs.restoration.predict_after.Goals as goal

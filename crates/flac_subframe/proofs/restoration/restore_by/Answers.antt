@@ -1,8 +1,7 @@
-use Rattle.std.proofs.Common.{arith, ◌≡◌, ◌+◌, ◌-◌, pos, sym, ◌∙◌}
+use Rattle.std.proofs.Common.{arith, ◌≡◌, ◌+◌, ◌-◌, pos, sym}
 use Rattle.std.proofs.lemmas.List.{get_or-set_same}
 use Rattle.flac_subframe.specs.Numbers.{sample_at}
 use Rattle.flac_subframe.specs.Prediction.{prediction}
-use Rattle.flac_subframe.proofs.Bounds.{fits_more}
 use Rattle.flac_subframe.proofs.Restoring.{restored_more, stops, done}
 use Rattle.flac_subframe.proofs.Nearest.{fits_before, sum_near}
 use Rattle.flac_subframe.proofs.restoration.restore_by.Goals as goal

@@ -1,7 +1,7 @@
-use Rattle.std.proofs.Common.{arith, ◌≡◌, ◌≤◌, ℕ, pos, sym, ◌∙◌, length}
+use Rattle.std.proofs.Common.{arith, pos, ◌∙◌}
 use Rattle.flac_subframe.specs.Numbers.{sample_at}
 use Rattle.flac_subframe.specs.Prediction.{fixed_coefficients, prediction}
-use Rattle.flac_subframe.proofs.Bounds.{fits_more, back_33}
+use Rattle.flac_subframe.proofs.Bounds.{fits_more}
 use Rattle.flac_subframe.proofs.Predicted.{fixed_length}
 use Rattle.flac_subframe.proofs.Restoring.{restored_more, stops, done}
 use Rattle.flac_subframe.proofs.Nearest.{holds_more, predicted_after, sum_near}

@@ -1,4 +1,4 @@
-use Rattle.std.proofs.Common.{arith, sym, ◌∙◌, ◌≡◌, ◌+◌, length, ℕ, drop, take, ◌-◌, ◌≤◌, refl}
+use Rattle.std.proofs.Common.{arith, sym, ◌∙◌, ◌≡◌, length, take, ◌-◌, ◌≤◌, refl}
 use Rattle.std.proofs.lemmas.List.{length-take}
 use Rattle.flac_subframe.specs.Subframe.{Predictor}
 use Rattle.flac_subframe.proofs.Predicted.{linear_read, places_are, restored_same, left_over}

@@ -1,4 +1,4 @@
-use Rattle.std.proofs.Common.{ℕ, ◌≤◌, pos, arith}
+use Rattle.std.proofs.Common.{pos, arith}
 use Rattle.flac_subframe.specs.Numbers.{sample_at}
 use Rattle.flac_subframe.proofs.Scaling.{product_fits, product_is, scaled_more, scaled_all, scaled_none}
 use Rattle.flac_subframe.proofs.subframe.scale.Goals as goal
