@@ -24,3 +24,5 @@ pub mod Bodies
 pub mod Best
 pub mod Powers
 pub mod WholeLeast
+pub mod WriteSteps
+pub mod Made
