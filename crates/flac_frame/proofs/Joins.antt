@@ -1,13 +1,12 @@
 -- Left and right samples from those that they are kept as.
-use Rattle.std.proofs.Common.{◌≡◌, ℕ, zero, suc, ◌+◌, ◌-◌, ◌*◌, ◌^◌, ◌<◌, ◌≤◌, ℤ, pos, negsuc, ◌≤ℤ◌, ◌<ℤ◌, ◌+ℤ◌, ◌-ℤ◌, Bool, true, false, cond, nat_eq, nat_lt, List, [], ◌∷◌, ◌++◌, length, take, drop, get_or, slice_set, below_more, All, ◌↔◌, FitsSigned, to_z, of_z, w64, refl, sym, ap, subst, ◌∙◌, arith}
+use Rattle.std.proofs.Common.{◌≡◌, ℕ, ◌+◌, ◌<◌, ◌≤◌, ℤ, pos, negsuc, ◌≤ℤ◌, ◌<ℤ◌, ◌+ℤ◌, ◌-ℤ◌, Bool, true, false, nat_eq, nat_lt, List, [], ◌∷◌, length, get_or, slice_set, below_more, refl, sym, ap, ◌∙◌, arith}
 use Rattle.std.specs.Int.{int_shr}
 use Rattle.std.specs.Simd.Lanes.{zip2}
 use Rattle.std.proofs.lemmas.Int.{ints}
 use Rattle.std.proofs.lemmas.Bool.Decides.{nat_tests}
 use Rattle.std.proofs.lemmas.Simd.{length-zip2, get_or-zip2}
 use Rattle.std.proofs.lemmas.List.{get_or-set_same, get_or-set_other, ext_get_or, length-set}
-use Rattle.flac_bits.specs.Signed.{FitsBits}
-use Rattle.flac_frame.specs.Stereo.{sample_at, IsSide, IsMiddle, KeptAs, Joined, left_of, right_of, joined, joined_pair, ChannelsAreJoined}
+use Rattle.flac_frame.specs.Stereo.{sample_at, IsMiddle, KeptAs, left_of, right_of, joined, ChannelsAreJoined}
 
 by_test : {R : Type 0} (b : Bool) → (b ≡ true → R) → (b ≡ false → R) → R
 by_test true f g = f refl

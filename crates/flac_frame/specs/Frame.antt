@@ -1,6 +1,6 @@
 -- A frame: its header, a subframe for each channel, and its check (RFC 9639, section 9).
-use Rattle.std.specs.Prelude.{ℕ, zero, suc, ◌+◌, ◌*◌, Bool, true, false, not, cond, ◌&&◌, ◌||◌, nat_eq, nat_lt, nat_le, ℤ, List, [], ◌∷◌, ◌++◌, take, drop, Option, Some, None, is_none, ⊤}
-use Rattle.flac_bits.specs.Layout.{Layout, done, bits, judge, refuse, mark, align, ◌>>=◌}
+use Rattle.std.specs.Prelude.{ℕ, zero, suc, ◌+◌, Bool, true, false, not, cond, ◌&&◌, ◌||◌, nat_eq, nat_lt, nat_le, ℤ, List, [], ◌∷◌, ◌++◌, Option, Some, None, ⊤}
+use Rattle.flac_bits.specs.Layout.{Layout, Rule, done, bits, judge, refuse, mark, align, ◌>>=◌}
 use Rattle.flac_bits.specs.declared.why.Why.{Why}
 use Rattle.flac_bits.specs.declared.why.Why.TheVariants.{NotSubset, HeaderMismatch, Sequence, BlockSize, NonzeroPadding, FrameCheck, SampleRange}
 use Rattle.flac_header.specs.Header.{Header, header, allowed, channels_of, depth_of}
@@ -43,15 +43,19 @@ abbrev pub breaks_size : Info → Option Before → Header → Bool
 breaks_size info None h = nat_lt info.greatest_block h.size
 breaks_size info (Some b) h = nat_lt info.greatest_block h.size || nat_lt b.size info.least_block || (not h.variable && (not (nat_eq b.size b.first_size) || nat_lt b.first_size h.size))
 
+-- what the end of a header is judged by, in the order of rank
+abbrev pub header_rules : Info → Option Before → Header → List Rule
+header_rules info before h =
+    record { broken = not (allowed h); why = NotSubset } ∷
+    record { broken = differs info h; why = HeaderMismatch } ∷
+    record { broken = breaks_sequence before h; why = Sequence } ∷
+    record { broken = breaks_size info before h; why = BlockSize } ∷ []
+
 -- a header in a stream
 unfoldable pub stream_header : Info → Option Before → Layout Header
 stream_header info before = do
   h ← header
-  _ ← judge (
-      record { broken = not (allowed h); why = NotSubset } ∷
-      record { broken = differs info h; why = HeaderMismatch } ∷
-      record { broken = breaks_sequence before h; why = Sequence } ∷
-      record { broken = breaks_size info before h; why = BlockSize } ∷ [])
+  _ ← judge (header_rules info before h)
   done h
 
 -- ---- the subframes

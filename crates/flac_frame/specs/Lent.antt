@@ -1,5 +1,4 @@
 -- The frame that is lent.
-use Rattle.std.specs.Prelude.{ℕ}
 use Rattle.flac_frame.specs.declared.view.FrameView.{FrameView}
 use Rattle.flac_frame.specs.Frame.{Frame}
 use Rattle.flac_frame.specs.View.{chunks}

@@ -1,6 +1,6 @@
 -- Channels that stand in one array, one after another, and the frame that is lent.
-use Rattle.std.specs.Prelude.{ℕ, zero, suc, ◌*◌, List, [], ◌∷◌, take, drop, ℤ}
-use Rattle.flac_header.specs.Header.{Header, channels_of}
+use Rattle.std.specs.Prelude.{ℕ, zero, suc, List, [], ◌∷◌, take, drop, ℤ}
+use Rattle.flac_header.specs.Header.{Header}
 use Rattle.flac_frame.specs.Frame.{Frame}
 
 -- so many lists of length n, one after another

@@ -1,19 +1,24 @@
 //! Whole FLAC frames, read into buffers that lend their samples (RFC 9639, section 9).
 #![tactic(auto)]
 
+mod audio;
 mod before;
 mod buffers;
 mod channels;
 mod end;
 mod fill;
+mod promises;
 mod samples;
+mod setup;
 mod start;
 mod stereo;
 #[cfg(test)]
 mod tests;
 mod view;
 
+pub use audio::Audio;
 pub use before::Before;
 pub use buffers::FrameBuffers;
-pub use stereo::channels_are_joined;
+pub use promises::{channels_are_joined, frames_are_spelled, frames_follow};
+pub use setup::SetupFault;
 pub use view::FrameView;

@@ -5,7 +5,7 @@ ghost use Rattle.flac_subframe.specs.Numbers.{fits, all_fit};
 
 /// Whether a sample fits the depth.
 #[inline(always)]
-fn fits_depth(sample: i64, depth: u32) -> bool
+pub(crate) fn fits_depth(sample: i64, depth: u32) -> bool
     requires depth { (1 ≤ depth) × (depth ≤ 32) }
     ensures { result ≡ fits depth sample }
 {

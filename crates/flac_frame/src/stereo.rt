@@ -3,7 +3,7 @@
 ghost use Rattle.std.specs.Prelude.{◌≡◌, ◌<◌, ◌≤◌, ◌*◌, length, All};
 ghost use Rattle.std.specs.Simd.Lanes.{zip2};
 ghost use Rattle.flac_bits.specs.Signed.{FitsBits};
-ghost use Rattle.flac_frame.specs.Stereo.{left_of, right_of, joined, ChannelsAreJoined};
+ghost use Rattle.flac_frame.specs.Stereo.{left_of, right_of, joined};
 ghost use Rattle.flac_frame.specs.View.{chunks};
 
 /// The left and the right sample that two samples of these channels are kept as (RFC 9639, section 4.2).
@@ -53,8 +53,3 @@ pub(crate) fn join_channels(code: u8, channels: usize, block: usize, samples: &m
         join_two(code, first, second);
     }
 }
-
-/// The channels that are read are the only ones of which the equations of left, right, middle and side hold.
-pub fn channels_are_joined()
-    ensures { ChannelsAreJoined }
-{}

@@ -2,11 +2,15 @@
 
 ghost use Rattle.std.specs.Prelude.{◌≡◌, IfOk};
 
-use crate::stereo::{channels_are_joined, join_samples};
-use crate::{FrameBuffers, FrameView};
+use crate::stereo::join_samples;
+use crate::{
+    Audio, FrameBuffers, FrameView, SetupFault, channels_are_joined, frames_are_spelled,
+    frames_follow,
+};
 use flac_bits::{BitReader, Memory, Why};
 use flac_header::Profile;
 use flac_meta::StreamInfo;
+use std::alloc::{AllocError, Global};
 use std::test::Fail;
 
 fn stereo_info(block: u16) -> Result<StreamInfo, Why>
@@ -84,6 +88,8 @@ fn out_of_range(rt: HostRuntime) -> Result<(), Fail> {
 #[test]
 fn pairs_of_samples(rt: HostRuntime) {
     channels_are_joined();
+    frames_follow();
+    frames_are_spelled();
     assert_eq!(rt; join_samples(10, -1, -1), (-1, 0));
     assert_eq!(rt;
         join_samples(8, 2147483647, 4294967295),
@@ -93,4 +99,51 @@ fn pairs_of_samples(rt: HostRuntime) {
         join_samples(9, 4294967295, -2147483648),
         (2147483647, -2147483648)
     );
+}
+
+/// Two channels of these samples at a rate and of so many bits each.
+fn two_channels(
+    alloc: Global,
+    rate: u32,
+    bits: u32,
+    left: &[i32],
+    right: &[i32],
+) -> Result<Result<Audio, SetupFault>, AllocError> {
+    let mut channels = Vec::new(alloc);
+    channels.push(left.iter().copied().collect(alloc)?)?;
+    channels.push(right.iter().copied().collect(alloc)?)?;
+    Ok(Audio::new(rate, bits, channels))
+}
+
+/// The fault of what was refused.
+fn fault_in(outcome: Result<Audio, SetupFault>) -> Option<SetupFault> {
+    match outcome {
+        Ok(_) => None,
+        Err(fault) => Some(fault),
+    }
+}
+
+#[test]
+fn audio(rt: HostRuntime) -> Result<(), Fail> {
+    let alloc = rt.alloc();
+    let refused = fault_in(two_channels(alloc, 65537, 10, &[1], &[])?);
+    assert_eq!(rt; refused, Some(SetupFault::BadRate));
+    let refused = fault_in(two_channels(alloc, 44100, 10, &[1], &[])?);
+    assert_eq!(rt; refused, Some(SetupFault::BadDepth));
+    let refused = fault_in(two_channels(alloc, 44100, 16, &[32768], &[])?);
+    assert_eq!(rt; refused, Some(SetupFault::LengthsDiffer));
+    let refused = fault_in(two_channels(alloc, 44100, 16, &[32768], &[0])?);
+    assert_eq!(rt; refused, Some(SetupFault::SampleTooLarge));
+    let refused = fault_in(Audio::new(384000, 32, Vec::new(alloc)));
+    assert_eq!(rt; refused, Some(SetupFault::BadChannels));
+    let text = format!(in alloc; "{}", SetupFault::SampleTooLarge)?;
+    assert_eq!(rt; text.as_str(), "44 SampleTooLarge");
+    let Ok(audio) = two_channels(alloc, 7000, 12, &[2047, 0], &[-2048, 1])? else {
+        assert!(rt; false);
+        return Ok(());
+    };
+    assert_eq!(rt; (audio.rate(), audio.bits(), audio.len()), (7000, 12, 2));
+    assert_eq!(rt; audio.channels().len(), 2);
+    assert!(rt; !audio.is_empty());
+    Ok(())
 }

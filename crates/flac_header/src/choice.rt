@@ -36,7 +36,7 @@ fn size_code(size: u32) -> Option<u8>
 
 /// The code of a rate (RFC 9639, section 9.1.2).
 #[tactic(auto, unfolding(crate::specs::Choice::rate_choice))]
-fn rate_code(rate: u32) -> Option<u8>
+pub fn rate_code(rate: u32) -> Option<u8>
     ensures code { result ≡ rate_choice rate }
     ensures range { IfSome result (λ c. c < 15) }
     ensures fits { IfSome result (λ c. IsRate c rate) }
@@ -63,7 +63,7 @@ fn rate_code(rate: u32) -> Option<u8>
 
 /// The code of a depth (RFC 9639, section 9.1.4).
 #[tactic(auto, unfolding(crate::specs::Choice::depth_choice))]
-fn depth_code(depth: u32) -> Option<u8>
+pub fn depth_code(depth: u32) -> Option<u8>
     ensures code { result ≡ depth_choice depth }
     ensures range { IfSome result (λ c. (c < 8) × (nat_eq c 3 ≡ false)) }
 {

@@ -10,6 +10,7 @@ mod subset;
 mod tests;
 mod write;
 
+pub use choice::{depth_code, rate_code};
 pub use frame_header::FrameHeader;
 pub use promises::headers_are_spelled;
 pub use read::read_header;

@@ -1,5 +1,5 @@
 -- The least body for some samples, one predictor after another.
-use Rattle.std.proofs.Common.{◌≡◌, ◌⊎◌, ◌∙◌, refl, sym, subst, inl, inr, ℕ, ◌+◌, ◌-◌, ◌*◌, ◌≤◌, ◌<◌, arith, ℤ, pos, List, [], ◌∷◌, ◌++◌, length, take, All, replicate, get_or, length-append}
+use Rattle.std.proofs.Common.{◌≡◌, ◌⊎◌, ◌∙◌, refl, sym, subst, inl, inr, ℕ, ◌+◌, ◌-◌, ◌*◌, ◌≤◌, ◌<◌, arith, ℤ, pos, List, [], ◌∷◌, ◌++◌, length, take, replicate, get_or, length-append}
 use Rattle.std.specs.List.{flat_map}
 use Rattle.std.proofs.lemmas.Int.{ints}
 use Rattle.std.proofs.lemmas.List.{same_lists, get_or_append_left, get_or-append-add, get_or-take, length-take-le, get_or_default}
@@ -9,12 +9,11 @@ use Rattle.flac_subframe.specs.Numbers.{sample_at}
 use Rattle.flac_subframe.specs.Prediction.{Restored}
 use Rattle.flac_subframe.specs.Least.{IsLeast}
 use Rattle.flac_bits.specs.Signed.{signed}
-use Rattle.flac_bits.specs.Rice.{IsResidual}
 use Rattle.flac_subframe.specs.Cost.{MayWrite, Codings}
 use Rattle.flac_subframe.specs.Cost.{residual_cost}
 use Rattle.flac_subframe.proofs.Lengths.{length-residual, length-signed, length-samples, length-predictor, length-two, length-three}
 use Rattle.flac_subframe.specs.Spelling.{content_spelling, residual_spelling, predictor_spelling}
-use Rattle.flac_subframe.specs.Bodies.{fields_cost, residual_of, content_of, Chooses, fixed, linear, coefficients_of, shift_of, order_of, Body, constant, verbatim, predicted, spelled, Among, Predicts, StandsFor, difference, differences}
+use Rattle.flac_subframe.specs.Bodies.{fields_cost, residual_of, Chooses, fixed, linear, coefficients_of, shift_of, order_of, Body, constant, verbatim, predicted, spelled, Among, Predicts, StandsFor, difference, differences}
 use Rattle.flac_subframe.specs.Chosen.{IsLeastOf, HasNone, body_by}
 use Rattle.flac_subframe.specs.declared.halving.ResidualChoice.{ResidualChoice}
 use Rattle.flac_subframe.specs.Cost.{codings_of}

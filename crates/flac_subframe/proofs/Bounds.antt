@@ -77,6 +77,9 @@ fits_up m n z le f =
 pub all_fit_32 : (n : ℕ) (zs : List ℤ) → n ≤ 32 → All (FitsBits n) zs → All (FitsBits 32) zs
 all_fit_32 n zs few h = λ k d within. fits_up n 32 _ few (h k d within)
 
+pub all_fit_15 : (n : ℕ) (zs : List ℤ) → n ≤ 15 → All (FitsBits n) zs → All (FitsBits 15) zs
+all_fit_15 n zs few h = λ k d within. fits_up n 15 _ few (h k d within)
+
 -- the same for a place of 32 bits and a coefficient
 pub stored_32 : (bits : ℕ) (z : ℤ) → bits ≤ 15 → FitsBits bits z → to_z w32 (of_z w32 z) ≡ z
 stored_32 bits z few f = back_32 z (fits_up bits 15 z few f)

@@ -1,19 +1,18 @@
 -- Ties of signed numbers, of lists and of Rice codes.
-use Rattle.std.proofs.Common.{◌≡◌, ◌∙◌, ℕ, zero, suc, ◌+◌, ◌-◌, ◌*◌, ◌/◌, ◌%◌, ◌^◌, ◌≤◌, ◌<◌, refl, sym, ap, subst, arith, Bool, true, false, ℤ, pos, negsuc, List, [], ◌∷◌, ◌++◌, length, flat_map, All, Option, Some, None, nat_lt, inl, inr}
+use Rattle.std.proofs.Common.{◌≡◌, ◌∙◌, ℕ, zero, suc, ◌-◌, ◌*◌, ◌%◌, ◌^◌, ◌≤◌, ◌<◌, refl, sym, ap, arith, Bool, ℤ, pos, negsuc, List, [], ◌∷◌, ◌++◌, length, flat_map, All, inl, inr}
 use Rattle.std.proofs.lemmas.Int.{ints}
-use Rattle.std.proofs.lemmas.Bool.{cases_lt, lt-ltb, le-ltb, ltb-true, ltb-false}
-use Rattle.std.proofs.lemmas.Nat.{div-mul-add, pow_pos}
-use Rattle.std.proofs.Math.Nat.{mod-eq_of_lt, mod-lt, pow-suc, mul-add-mod_self_right}
+use Rattle.std.proofs.lemmas.Bool.{cases_lt, lt-ltb, le-ltb}
+use Rattle.std.proofs.lemmas.Nat.{pow_pos}
+use Rattle.std.proofs.Math.Nat.{mod-eq_of_lt, mod-lt, pow-suc}
 use Rattle.std.proofs.lemmas.List.{append-nil}
 use Rattle.std.proofs.lemmas.List.Elements.{All-nil, All-cons, All-head, All-tail}
 use Rattle.flac_bits.specs.Bits.{unsigned}
 use Rattle.flac_bits.specs.State.{Mark, past}
-use Rattle.flac_bits.specs.Layout.{Layout, done, bits, unary, refuse, bind, choose}
+use Rattle.flac_bits.specs.Layout.{Layout}
 use Rattle.flac_bits.specs.Lists.{list_of}
-use Rattle.flac_bits.specs.Forms.{joined, Ties}
-use Rattle.flac_bits.specs.Meaning.{unary_bits, zeros_bits, IsWithin}
-use Rattle.flac_bits.specs.Signed.{signed, signed_field, to_signed, modulo, FitsBits}
-use Rattle.flac_bits.proofs.Ties.{ForEach, ForSome, tie, each_tied, some_tied}
+use Rattle.flac_bits.specs.Forms.{Ties}
+use Rattle.flac_bits.specs.Signed.{signed, signed_field, to_signed, modulo}
+use Rattle.flac_bits.proofs.Ties.{ForSome, tie, each_tied, some_tied}
 use Rattle.flac_subframe.specs.Spelling.{FitsWidth}
 
 double : (n : ℕ) → 2 ^ suc n ≡ 2 * 2 ^ n

@@ -1,19 +1,18 @@
 -- The tie of a subframe's header, and of the whole.
-use Rattle.std.proofs.Common.{◌≡◌, ◌∙◌, ℕ, zero, suc, ◌+◌, ◌-◌, ◌^◌, ◌≤◌, ◌<◌, refl, sym, ap, subst, arith, Bool, true, false, cond, List, [], ◌∷◌, ◌++◌, length, Option, Some, None, nat_lt, nat_eq, eq-eqb, ◌&&◌, ◌||◌, not, inl, inr}
+use Rattle.std.proofs.Common.{◌≡◌, ℕ, zero, suc, ◌+◌, ◌-◌, ◌^◌, ◌≤◌, ◌<◌, refl, sym, subst, arith, Bool, true, false, List, [], ◌++◌, length, Option, Some, None, nat_lt, nat_eq, eq-eqb, ◌&&◌, ◌||◌, inl, inr}
 use Rattle.std.proofs.lemmas.Bool.{lt-ltb, le-ltb, ltb-true, ltb-false, eqb-true, eqb-false, false≢true, cases_lt}
 use Rattle.std.proofs.lemmas.List.{append-nil}
 use Rattle.flac_bits.specs.Bits.{unsigned}
 use Rattle.flac_bits.specs.State.{Mark, past}
-use Rattle.flac_bits.specs.Layout.{Layout, done, bits, unary, refuse, bind, choose}
-use Rattle.flac_bits.specs.Forms.{joined, Ties}
+use Rattle.flac_bits.specs.Layout.{done, unary, bind}
+use Rattle.flac_bits.specs.Forms.{Ties}
 use Rattle.flac_bits.specs.Meaning.{Spells, unary_bits, zeros_bits, IsWithin}
 use Rattle.flac_subframe.specs.Laws.{SubframesAreSpelled, SubframesAreReadAgain}
 use Rattle.flac_bits.proofs.Meaning.{again}
 use Rattle.flac_bits.proofs.Ties.{ForEach, ForSome, tie, each_tied, some_tied, choose_each, choose_true, choose_false}
 use Rattle.flac_subframe.specs.declared.limits.Limits.{Limits}
-use Rattle.flac_subframe.specs.Subframe.{Content, Constant, Verbatim, Fixed, Linear, Form, Header, is_reserved, predictor_order, linear_order, content, one_more, wasted_bits, header, subframe}
+use Rattle.flac_subframe.specs.Subframe.{Content, Constant, Verbatim, Fixed, Linear, Header, is_reserved, predictor_order, linear_order, content, one_more, wasted_bits, header, subframe}
 use Rattle.flac_subframe.specs.Spelling.{content_spelling, type_of, flag_of, wasted_spelling, header_spelling, subframe_spelling, MayHold, IsSubframe}
-use Rattle.flac_subframe.proofs.RiceTies.{eqb-ne}
 use Rattle.flac_subframe.proofs.SubframeTie.{Holds, each_constant, each_verbatim, each_fixed, each_linear, some_content, not_false, not_true}
 
 -- ---- tests

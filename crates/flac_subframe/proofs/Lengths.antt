@@ -10,8 +10,7 @@ use Rattle.flac_bits.specs.Meaning.{unary_bits}
 use Rattle.flac_bits.specs.Forms.{joined}
 use Rattle.flac_subframe.specs.declared.coding.Coding.{Coding}
 use Rattle.flac_subframe.specs.declared.coding.Coding.TheVariants.{Rice, Escape}
-use Rattle.flac_subframe.specs.Residual.{Partition}
-use Rattle.flac_subframe.specs.Spelling.{folded, value_spelling, coding_spelling, partition_spelling, residual_spelling, predictor_spelling, content_spelling}
+use Rattle.flac_subframe.specs.Spelling.{folded, value_spelling, coding_spelling, partition_spelling, residual_spelling, predictor_spelling}
 use Rattle.flac_subframe.specs.Subframe.{Predictor}
 use Rattle.flac_subframe.specs.Cost.{value_cost, coding_cost, partitions_cost, residual_cost, Codings}
 use Rattle.flac_subframe.specs.Bodies.{cut, residual_of}

@@ -1,8 +1,10 @@
 pub mod Bounds
 pub mod Restoring
+pub mod FixedSums
+pub mod Nearest
+pub mod Weighing
 pub mod Scaling
 pub mod Steps
-pub mod Filling
 pub mod Parts
 pub mod Samples
 pub mod Unique
@@ -22,3 +24,5 @@ pub mod Bodies
 pub mod Best
 pub mod Powers
 pub mod WholeLeast
+pub mod WriteSteps
+pub mod Made

@@ -1,5 +1,5 @@
 -- Partitions one after another.
-use Rattle.std.proofs.Common.{◌≡◌, ℕ, zero, suc, ◌+◌, ◌-◌, ◌*◌, ◌<◌, ◌≤◌, true, List, [], ◌∷◌, ◌++◌, length, take, drop, refl, sym, ap, arith, Result, Ok, Err, ◌∙◌, ℤ, pos, append_assoc, flat_map, All}
+use Rattle.std.proofs.Common.{◌≡◌, ℕ, suc, ◌+◌, ◌-◌, ◌*◌, ◌<◌, ◌≤◌, true, List, [], ◌∷◌, ◌++◌, length, take, drop, refl, sym, ap, arith, Result, Ok, Err, ◌∙◌, ℤ, append_assoc, All}
 use borrow.Rule.Slice.PartMut.{put_mid, mid_of}
 use Rattle.std.proofs.lemmas.List.{take_all, append-nil, length-take, length-drop}
 use Rattle.std.proofs.lemmas.List.Elements.{All-append}
@@ -9,7 +9,6 @@ use Rattle.flac_bits.specs.Layout.{Layout, run, and_then, bind, done, Reason}
 use Rattle.flac_bits.specs.Reading.{Goes}
 use Rattle.flac_bits.proofs.Loops.{goes_on}
 use Rattle.flac_bits.specs.Signed.{FitsBits}
-use Rattle.flac_subframe.specs.Numbers.{sample_at}
 use Rattle.flac_subframe.specs.Residual.{Partition, partition, partitions, all_values}
 use Rattle.flac_subframe.proofs.Steps.{starts, and_then_and_then, same_then}
 

@@ -1,5 +1,5 @@
 -- Samples behind a residual that was read.
-use Rattle.std.proofs.Common.{◌≡◌, ℕ, ◌+◌, ◌-◌, ◌/◌, ◌^◌, List, ◌++◌, Bool, cond, Option, Some, None, Result, Ok, Err, refl, sym, ap, ◌∙◌, ℤ, length, take, drop, ◌≤◌, arith, zero, suc, IsTrue, All}
+use Rattle.std.proofs.Common.{◌≡◌, ℕ, ◌+◌, ◌-◌, ◌/◌, ◌^◌, List, ◌++◌, Bool, cond, Option, Some, None, Ok, Err, refl, sym, ap, ◌∙◌, ℤ, length, take, drop, ◌≤◌, arith, zero, suc, IsTrue, All}
 use borrow.Rule.Slice.PartMut.{put_mid, mid_of, same_len_mid}
 use Rattle.std.proofs.lemmas.List.{take_all, length-append, length-take, length-drop}
 use Rattle.std.proofs.Math.Seq.{take-append_seam}
@@ -8,13 +8,13 @@ use Rattle.flac_bits.specs.Signed.{FitsBits}
 use Rattle.flac_subframe.specs.Prediction.{Restored}
 use Rattle.flac_subframe.proofs.Unique.{restored_fits}
 use Rattle.flac_bits.specs.State.{Cursor}
-use Rattle.flac_bits.specs.Layout.{Layout, run, and_then, bind, done, Reason}
+use Rattle.flac_bits.specs.Layout.{run, and_then, bind, done, Reason}
 use Rattle.flac_bits.specs.Lists.{list_of}
 use Rattle.flac_bits.specs.Signed.{signed_field}
 use Rattle.flac_subframe.specs.Numbers.{all_fit}
 use Rattle.flac_subframe.specs.Prediction.{fixed_coefficients, restored}
 use Rattle.flac_subframe.specs.Residual.{Residual, residual_header, residual, residual_values, partitions, all_values}
-use Rattle.flac_subframe.specs.Subframe.{Content, Fixed, Linear, Predictor, predictor, fixed, linear, fitting}
+use Rattle.flac_subframe.specs.Subframe.{Fixed, Linear, Predictor, predictor, fixed, linear, fitting}
 use Rattle.flac_subframe.proofs.Steps.{and_then_and_then, read_before, fails_before}
 
 -- behind the header of a residual stand its partitions

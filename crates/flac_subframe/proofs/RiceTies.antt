@@ -1,13 +1,13 @@
 -- Ties of values under a Rice code, and of partitions.
-use Rattle.std.proofs.Common.{◌≡◌, ◌∙◌, ℕ, zero, suc, ◌+◌, ◌-◌, ◌*◌, ◌/◌, ◌%◌, ◌^◌, ◌≤◌, ◌<◌, refl, sym, ap, subst, arith, Bool, true, false, ℤ, pos, negsuc, List, [], ◌∷◌, ◌++◌, length, flat_map, All, Option, Some, None, nat_lt, nat_eq, inl, inr, eqb, eq-eqb}
+use Rattle.std.proofs.Common.{◌≡◌, ◌∙◌, ℕ, zero, suc, ◌+◌, ◌-◌, ◌*◌, ◌/◌, ◌%◌, ◌^◌, ◌≤◌, refl, sym, ap, arith, Bool, true, false, ℤ, pos, negsuc, List, [], ◌∷◌, ◌++◌, length, flat_map, Option, Some, None, nat_lt, nat_eq, inl, inr, eq-eqb}
 use Rattle.std.proofs.lemmas.Int.{ints}
-use Rattle.std.proofs.lemmas.Bool.{cases_lt, cases_eq, lt-ltb, le-ltb, ltb-true, ltb-false, eqb-true, eqb-false, false≢true}
+use Rattle.std.proofs.lemmas.Bool.{cases_eq, le-ltb, ltb-false, eqb-true, eqb-false}
 use Rattle.std.proofs.lemmas.Nat.{div-mul-add, pow_pos, le-div, shr_split}
 use Rattle.std.proofs.Math.Nat.{mod-eq_of_lt, mod-lt, mul-add-mod_self_right}
 use Rattle.std.proofs.lemmas.List.{append-nil}
 use Rattle.flac_bits.specs.Bits.{unsigned}
 use Rattle.flac_bits.specs.State.{Mark, past}
-use Rattle.flac_bits.specs.Layout.{Layout, done, bits, unary, refuse, bind, choose}
+use Rattle.flac_bits.specs.Layout.{done, bits, bind}
 use Rattle.flac_bits.specs.Lists.{list_of}
 use Rattle.flac_bits.specs.Forms.{joined, Ties}
 use Rattle.flac_bits.specs.Meaning.{unary_bits, zeros_bits, IsWithin}

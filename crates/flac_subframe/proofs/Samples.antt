@@ -1,13 +1,13 @@
 -- Samples that are computed from a form that was read.
-use Rattle.std.proofs.Common.{◌≡◌, ℕ, zero, suc, ◌-◌, List, [], ◌∷◌, Bool, true, false, cond, Option, Some, None, Result, Ok, Err, refl, sym, ap, ◌∙◌, ℤ, All, arith, nat_lt, ◌<◌, ◌^◌, pos, negsuc, ◌≤◌, length, replicate}
+use Rattle.std.proofs.Common.{◌≡◌, ℕ, zero, suc, ◌-◌, List, [], ◌∷◌, true, Some, Ok, refl, sym, ◌∙◌, ℤ, All, arith, ◌<◌, ◌^◌, pos, negsuc, ◌≤◌, length, replicate}
 use Rattle.flac_bits.specs.State.{Cursor}
 use Rattle.flac_bits.specs.Lists.{list_of}
-use Rattle.flac_bits.specs.Layout.{number_at, number_from, Layout, run, and_then, bind, done, Reason}
+use Rattle.flac_bits.specs.Layout.{number_at, number_from, run, and_then, bind, done}
 use Rattle.flac_subframe.specs.declared.limits.Limits.{Limits}
 use Rattle.flac_bits.specs.Signed.{FitsBits}
 use Rattle.flac_subframe.specs.Numbers.{sample_at, fits, all_fit}
 use Rattle.flac_bits.specs.Signed.{signed_field}
-use Rattle.flac_subframe.specs.Subframe.{Content, Constant, Verbatim, Form, Header, header, content, constant, subframe, samples_of, scaled, fitting, restored_samples, content_samples, subframe_samples}
+use Rattle.flac_subframe.specs.Subframe.{Content, Constant, header, content, constant, subframe, scaled, fitting, restored_samples, content_samples, subframe_samples}
 use Rattle.flac_subframe.proofs.Steps.{and_then_and_then, same_then}
 use Rattle.std.proofs.lemmas.Int.{ints}
 use Rattle.std.proofs.lemmas.Bool.{lt-ltb}

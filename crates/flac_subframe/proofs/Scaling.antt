@@ -1,8 +1,9 @@
 -- The wasted bits put back.
 use Rattle.std.proofs.Common.{◌≡◌, ℕ, ◌+◌, ◌-◌, ◌*◌, ◌^◌, ◌≤◌, ◌<◌, refl, sym, ap, ◌∙◌, arith, ℤ, pos, ◌*ℤ◌, FitsSigned, to_z, of_z, w64, List, length, map, below_more, slice_set, All}
+use Rattle.std.proofs.Math.IntN.{*ℤ-one, one}
 use Rattle.std.specs.Int.RustNames.{unsigned_abs}
-use Rattle.std.proofs.lemmas.Int.{ints, unsigned_abs-mul, fits_signed_from_abs}
-use Rattle.std.proofs.lemmas.Nat.{mul-le, pow-add, pow_below}
+use Rattle.std.proofs.lemmas.Int.{ints, fits_signed_from_abs}
+use Rattle.std.proofs.lemmas.Nat.{pow-add, pow_below}
 use Rattle.std.proofs.lemmas.List.{get_or-set_same, get_or-set_other, ext_get_or, get_or-map}
 use Rattle.std.proofs.lemmas.List.{length-map}
 use Rattle.std.proofs.lemmas.List.Elements.{All-map}
@@ -55,6 +56,11 @@ pub scaled_all : (w : ℕ) (r s : List ℤ) (i : ℕ) → length s ≡ length r 
 scaled_all w r s i long over so =
     ext_get_or (pos 0) s (map (times w) r) (long ∙ sym (length-map r (times w)))
     (λ k h. so.before k (omega arith) ∙ sym (get_or-map (times w) r k (pos 0) (pos 0) (omega arith)))
+
+-- without wasted bits nothing changes
+pub scaled_none : (w : ℕ) (r : List ℤ) → w ≡ 0 → r ≡ map (λ z. z *ℤ pos (2 ^ w)) r
+unfolding one
+scaled_none w r e = scaled_all w r r (length r) refl (omega arith) (record { before = λ k h. rw e (sym (*ℤ-one (sample_at r k))); behind = λ k h. refl })
 
 in_34_bits : (z : ℤ) → unsigned_abs z ≤ 2 ^ 32 → FitsBits 34 z
 in_34_bits z h = record { low = omega (arith, ints, h); high = omega (arith, ints, h) }

@@ -1,5 +1,5 @@
 -- Readings that follow one another.
-use Rattle.std.proofs.Common.{◌≡◌, ℕ, List, [], ◌∷◌, Result, Ok, Err, refl, ap}
+use Rattle.std.proofs.Common.{◌≡◌, Result, Ok, Err, refl, ap}
 use Rattle.flac_bits.specs.State.{Cursor, State}
 use Rattle.flac_bits.specs.Layout.{and_then, Reason}
 use Rattle.flac_bits.specs.Reading.{Goes}

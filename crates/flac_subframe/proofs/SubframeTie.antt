@@ -1,19 +1,17 @@
 -- The tie of a subframe.
-use Rattle.std.proofs.Common.{◌≡◌, ◌∙◌, ℕ, zero, suc, ◌+◌, ◌-◌, ◌*◌, ◌/◌, ◌%◌, ◌^◌, ◌≤◌, ◌<◌, refl, sym, ap, subst, arith, Bool, true, false, cond, ℤ, List, [], ◌∷◌, ◌++◌, length, flat_map, All, Option, Some, None, nat_lt, nat_eq, eqb, eq-eqb, ◌&&◌, ◌||◌, not}
-use Rattle.std.proofs.lemmas.Bool.{lt-ltb, le-ltb, ltb-true, ltb-false, eqb-true, eqb-false, false≢true}
+use Rattle.std.proofs.Common.{◌≡◌, ℕ, ◌+◌, ◌-◌, ◌/◌, ◌^◌, ◌≤◌, ◌<◌, refl, sym, arith, Bool, true, false, List, [], ◌∷◌, length, flat_map, nat_lt, nat_eq, not}
+use Rattle.std.proofs.lemmas.Bool.{lt-ltb, le-ltb, ltb-false, eqb-false, false≢true}
 use Rattle.std.proofs.lemmas.List.{append-nil}
 use Rattle.flac_bits.specs.Bits.{unsigned}
-use Rattle.flac_bits.specs.State.{Mark, past}
-use Rattle.flac_bits.specs.Layout.{Layout, done, bits, unary, refuse, bind, choose}
+use Rattle.flac_bits.specs.State.{Mark}
 use Rattle.flac_bits.specs.Lists.{list_of}
 use Rattle.flac_bits.specs.Forms.{joined, Ties}
-use Rattle.flac_bits.specs.Meaning.{unary_bits, zeros_bits, IsWithin}
 use Rattle.flac_bits.specs.Signed.{signed, signed_field}
-use Rattle.flac_bits.proofs.Ties.{ForEach, ForSome, tie, each_tied, some_tied, choose_each, choose_true, choose_false}
+use Rattle.flac_bits.proofs.Ties.{ForEach, ForSome, tie, each_tied, some_tied, choose_true, choose_false}
 use Rattle.flac_subframe.specs.declared.limits.Limits.{Limits}
-use Rattle.flac_subframe.specs.Residual.{Partition, Residual, residual_header, residual, partitions, can_halve}
-use Rattle.flac_subframe.specs.Subframe.{Content, Constant, Verbatim, Fixed, Linear, Predictor, Form, Header, is_reserved, predictor_order, linear_order, predictor, constant, verbatim, fixed, linear, content, one_more, wasted_bits, header, subframe}
-use Rattle.flac_subframe.specs.Spelling.{partition_spelling, residual_spelling, predictor_spelling, content_spelling, type_of, flag_of, wasted_spelling, header_spelling, subframe_spelling, FitsWidth, MayLeave, MayPredict, AreSigned, MayHold, IsSubframe}
+use Rattle.flac_subframe.specs.Residual.{residual_header, residual, partitions, can_halve}
+use Rattle.flac_subframe.specs.Subframe.{Content, Constant, Verbatim, Fixed, Linear, Predictor, predictor_order, predictor, constant, verbatim, fixed, linear, content}
+use Rattle.flac_subframe.specs.Spelling.{partition_spelling, residual_spelling, predictor_spelling, content_spelling, type_of, FitsWidth, MayLeave, MayPredict, MayHold}
 use Rattle.flac_subframe.proofs.FieldTies.{signed_tie, list_tie, Many}
 use Rattle.flac_subframe.proofs.RiceTies.{Parts, partitions_tie, eqb-ne}
 

@@ -1,10 +1,10 @@
 -- There is one list of samples that is restored.
-use Rattle.std.proofs.Common.{◌≡◌, ◌∙◌, ℕ, zero, suc, ◌+◌, ◌-◌, ◌^◌, ◌≤◌, ◌<◌, refl, sym, ap, arith, Bool, true, false, cond, IsTrue, ℤ, pos, negsuc, ◌+ℤ◌, List, [], ◌∷◌, ◌++◌, length, All, inl, inr, Option, Some, None, nat_lt}
+use Rattle.std.proofs.Common.{◌≡◌, ◌∙◌, ℕ, zero, suc, ◌-◌, ◌^◌, ◌≤◌, ◌<◌, refl, sym, ap, arith, Bool, true, false, cond, IsTrue, ℤ, pos, negsuc, ◌+ℤ◌, List, [], ◌∷◌, length, All, inl, inr, Option, Some, None, nat_lt}
 use Rattle.std.specs.Int.{int_shr}
 use Rattle.std.proofs.lemmas.Int.{ints}
 use Rattle.std.proofs.lemmas.List.{length-append, get_or_append_left, ext_get_or}
 use Rattle.std.proofs.Math.Seq.{get_or-append_seam}
-use Rattle.std.proofs.lemmas.List.Elements.{All-from_get_or, All-nil, All-cons}
+use Rattle.std.proofs.lemmas.List.Elements.{All-nil, All-cons}
 use Rattle.std.proofs.lemmas.Bool.{cases_lt, lt-ltb, ltb-true, false≢true}
 use Rattle.flac_bits.specs.Signed.{FitsBits}
 use Rattle.flac_subframe.specs.Numbers.{sample_at, fits, all_fit}

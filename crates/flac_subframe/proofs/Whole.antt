@@ -1,11 +1,11 @@
 -- The samples of a content.
-use Rattle.std.proofs.Common.{◌≡◌, ◌∙◌, ◌↔◌, ℕ, zero, suc, ◌≤◌, ◌<◌, refl, sym, ap, subst, arith, ℤ, List, ◌++◌, length, replicate, pos}
+use Rattle.std.proofs.Common.{◌≡◌, ◌∙◌, ◌↔◌, ℕ, zero, suc, ◌≤◌, sym, ap, subst, arith, ℤ, List, ◌++◌, length, replicate, pos}
 use Rattle.std.proofs.lemmas.List.{length-append, length-replicate, get_or-replicate, ext_get_or}
 use Rattle.flac_subframe.specs.Numbers.{sample_at}
 use Rattle.flac_subframe.specs.Prediction.{fixed_coefficients, restored, Restored}
 use Rattle.flac_subframe.specs.Residual.{residual_values}
-use Rattle.flac_subframe.specs.Subframe.{Content, Constant, Verbatim, Fixed, Linear, restored_samples}
-use Rattle.flac_subframe.specs.Laws.{RestoredBy, HasWarmUp, SamplesAreRestored}
+use Rattle.flac_subframe.specs.Subframe.{Constant, Verbatim, Fixed, Linear}
+use Rattle.flac_subframe.specs.Laws.{SamplesAreRestored}
 use Rattle.flac_subframe.proofs.Unique.{restored_is, only_one}
 
 fixed_few : (n : ℕ) → length (fixed_coefficients n) ≤ n

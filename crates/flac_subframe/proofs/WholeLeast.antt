@@ -1,5 +1,5 @@
 -- The least whole subframe, from the least content.
-use Rattle.std.proofs.Common.{◌≡◌, ◌⊎◌, ◌∙◌, refl, sym, ap, inl, inr, ℕ, zero, suc, ◌+◌, ◌-◌, ◌*◌, ◌^◌, ◌≤◌, ◌<◌, arith, ℤ, pos, List, [], ◌∷◌, ◌++◌, Bool, true, false, length, map, All, get_or, length-append}
+use Rattle.std.proofs.Common.{◌≡◌, ◌∙◌, refl, sym, inl, inr, ℕ, zero, suc, ◌+◌, ◌-◌, ◌^◌, ◌≤◌, arith, ℤ, pos, List, [], ◌∷◌, length, map, All, length-append}
 use Rattle.std.proofs.Math.IntN.{zero-*ℤ}
 use Rattle.flac_bits.specs.Bits.{unsigned}
 use Rattle.flac_bits.specs.Forms.{joined}
@@ -7,7 +7,7 @@ use Rattle.flac_subframe.specs.Least.{IsLeast}
 use Rattle.flac_subframe.specs.Bodies.{Chooses, Body, content_of, StandsFor, spelled}
 use Rattle.flac_subframe.specs.Subframe.{Form}
 use Rattle.flac_subframe.specs.Spelling.{type_of, flag_of, wasted_spelling, header_spelling, content_spelling, subframe_spelling}
-use Rattle.flac_subframe.specs.Wasted.{times_power, Multiple, IsWasted, shortened}
+use Rattle.flac_subframe.specs.Wasted.{times_power, Multiple, IsWasted}
 use Rattle.flac_subframe.specs.Family.{Stands}
 use Rattle.flac_subframe.proofs.Lengths.{length-unsigned, length-unary, length-two, length-three}
 use Rattle.flac_subframe.proofs.Powers.{shortened_is}

@@ -1,5 +1,5 @@
 -- The forms of a subframe behind its header, what they spell and what they stand for.
-use Rattle.std.specs.Prelude.{ℕ, ℤ, ◌≡◌, ◌+◌, ◌-◌, ◌*◌, ◌/◌, ◌^◌, ◌<◌, ◌≤◌, ◌⊎◌, ◌-ℤ◌, List, [], ◌∷◌, ◌++◌, Bool, length, take, drop, map, replicate, All}
+use Rattle.std.specs.Prelude.{ℕ, ℤ, ◌≡◌, ◌+◌, ◌-◌, ◌*◌, ◌/◌, ◌^◌, ◌<◌, ◌⊎◌, ◌-ℤ◌, List, [], ◌∷◌, ◌++◌, Bool, length, take, drop, map, replicate, All}
 use Rattle.std.specs.List.{range_with_len}
 use Rattle.flac_subframe.specs.declared.coding.Coding.{Coding}
 use Rattle.flac_subframe.specs.Residual.{Partition, Residual}

@@ -1,5 +1,5 @@
 -- What a choice of the code stands for.
-use Rattle.std.specs.Prelude.{ℕ, ℤ, List, ◌++◌, take, length, map, ◌≡◌, ◌<◌, ◌≤◌, ◌^◌, ◌⊎◌, All}
+use Rattle.std.specs.Prelude.{ℕ, ℤ, List, take, length, map, ◌≡◌, ◌<◌, ◌≤◌, ◌^◌, ◌⊎◌, All}
 use Rattle.std.specs.List.{range_with_len}
 use Rattle.flac_subframe.specs.declared.halving.ResidualChoice.{ResidualChoice}
 use Rattle.flac_subframe.specs.Least.{IsLeast}

@@ -8,7 +8,7 @@ use Rattle.flac_subframe.specs.Spelling.{subframe_spelling, IsSubframe}
 use Rattle.flac_subframe.specs.Numbers.{sample_at}
 use Rattle.flac_subframe.specs.Prediction.{fixed_coefficients, Restored}
 use Rattle.flac_subframe.specs.Residual.{residual_values}
-use Rattle.flac_subframe.specs.Subframe.{Content, Constant, Verbatim, Fixed, Linear, Predictor, Form, subframe, restored_samples}
+use Rattle.flac_subframe.specs.Subframe.{Content, Constant, Verbatim, Fixed, Linear, Form, subframe, restored_samples}
 
 -- s are the samples of a content in a block of a size, before the wasted bits are put back (RFC 9639, sections 9.2.3 to 9.2.6).
 abbrev pub RestoredBy : ℕ → Content → List ℤ → Type 0

@@ -4,7 +4,7 @@ ghost use Rattle.std.specs.Prelude.{◌≡◌, ◌<◌, ◌≤◌, ◌^◌, leng
 ghost use Rattle.flac_bits.specs.Signed.{FitsBits};
 ghost use Rattle.flac_subframe.specs.Least.{IsLeast};
 ghost use Rattle.flac_subframe.specs.Chosen.{fixed_below};
-ghost use Rattle.flac_subframe.specs.Family.{Stands, form_of};
+ghost use Rattle.flac_subframe.specs.Family.{Stands, IsMadeOf, form_of};
 ghost use Rattle.flac_subframe.specs.Spelling.{subframe_spelling};
 
 use crate::choice::{Kind, choose_body};
@@ -13,8 +13,8 @@ use crate::wasted::drop_wasted;
 /// How a subframe is written: how many lowest bits are left out, how the rest is written, and how many bits it all takes.
 #[derive(Drop)]
 pub struct Choice {
-    wasted: u32,
-    kind: Kind,
+    pub(crate) wasted: u32,
+    pub(crate) kind: Kind,
     bits: u64,
 }
 
@@ -43,6 +43,7 @@ pub fn choose_into(samples: &[i64], depth: u32, shortened: &mut [i64], values: &
     requires values { length samples.now ≤ length values.old }
     ensures least { IsLeast (λ f. Stands 8 (fixed_below 5) f samples.now) (λ f. length (subframe_spelling depth f)) (form_of result samples.now) }
     ensures bits { result.bits ≡ length (subframe_spelling depth (form_of result samples.now)) }
+    ensures made { IsMadeOf result samples.now }
     ensures small { result.bits ≤ 2 ^ 61 }
 {
     let places = &mut shortened[..samples.len()];

@@ -5,7 +5,6 @@ mod choice;
 mod chosen;
 mod coding;
 mod cost;
-mod fields;
 mod folding;
 mod halving;
 mod limits;
@@ -18,9 +17,11 @@ mod subframe;
 #[cfg(test)]
 mod tests;
 mod wasted;
+mod writing;
 
 pub use chosen::{Choice, choose_into};
 pub use limits::Limits;
 pub use predictors::{predict_fixed, predict_linear};
 pub use promises::{samples_are_restored, subframes_are_read_again, subframes_are_spelled};
 pub use subframe::read_subframe;
+pub use writing::write_subframe_into;

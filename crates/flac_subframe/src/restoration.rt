@@ -1,15 +1,173 @@
 //! Restoration of samples in the residual's own places.
 
-ghost use Rattle.std.specs.Prelude.{◌≡◌, ◌<◌, ◌≤◌, ℤ, List, length, All, IsTrue};
+ghost use Rattle.std.specs.Prelude.{◌≡◌, ◌∷◌, [], ◌+◌, ◌-◌, ◌<◌, ◌≤◌, ◌^◌, ℤ, List, length, All, IsTrue};
 ghost use Rattle.std.specs.List.{AllWithin};
+ghost use Rattle.std.specs.Int.RustNames.{unsigned_abs};
 ghost use Rattle.flac_bits.specs.Signed.{FitsBits};
-ghost use Rattle.flac_subframe.specs.Prediction.{Restored};
+ghost use Rattle.flac_subframe.specs.Numbers.{sample_at};
+ghost use Rattle.flac_subframe.specs.Prediction.{fixed_coefficients, prediction, Restored};
 
 use crate::numbers::fits_bits;
-use crate::predictors::predict_linear;
 
-/// Turns warm-up samples and a residual into samples, from the front. It stops with `false` at a sample that does not fit.
-pub fn restore(coefficients: &[i32], shift: u32, bits: u32, samples: &mut [i64]) -> bool
+/// What the fixed predictor of an order says after four samples, the nearest first (RFC 9639, section 9.2.5).
+#[inline(always)]
+fn predict_after(order: usize, first: i64, second: i64, third: i64, fourth: i64) -> i64
+    requires order { order ≤ 4 }
+    requires first { FitsBits 33 first }
+    requires second { FitsBits 33 second }
+    requires third { FitsBits 33 third }
+    requires fourth { FitsBits 33 fourth }
+    ensures value { result ≡ prediction (fixed_coefficients order) 0 (fourth ∷ third ∷ second ∷ first ∷ []) 4 }
+    ensures small { unsigned_abs result ≤ 2 ^ 51 }
+{
+    match order {
+        0 => 0,
+        1 => first,
+        2 => 2 * first - second,
+        3 => 3 * (first - second) + third,
+        _ => 4 * (first + third) - 6 * second - fourth,
+    }
+}
+
+/// The sample so many places before the end of the warm-up samples, 0 where they are fewer.
+#[inline(always)]
+fn warm_up_sample(samples: &[i64], order: usize, back: usize) -> i64
+    requires some { 1 ≤ back }
+    requires enough { order ≤ length samples.now }
+    requires fits { AllWithin (FitsBits 33) samples.now 0 order }
+    ensures value { back ≤ order → result ≡ sample_at samples.now (order - back) }
+    ensures fits { FitsBits 33 result }
+{
+    if back <= order {
+        samples[order - back]
+    } else {
+        0
+    }
+}
+
+/// Restores by the fixed predictor of an order, whose last samples are held beside the slice.
+#[inline(always)]
+fn restore_order(order: usize, bits: u32, samples: &mut [i64]) -> bool
+    requires order { order ≤ 4 }
+    requires enough { order ≤ length samples.old }
+    requires positive { 1 ≤ bits }
+    requires bits { bits ≤ 33 }
+    requires warm_up { AllWithin (FitsBits bits) samples.old 0 order }
+    requires residual { AllWithin (FitsBits 32) samples.old order (length samples.old) }
+    ensures restored { IsTrue result → Restored (fixed_coefficients order) 0 samples.old samples.new }
+    ensures fits { IsTrue result → All (FitsBits bits) samples.new }
+    ensures only { (s : List ℤ) → Restored (fixed_coefficients order) 0 samples.old s → All (FitsBits bits) s → IsTrue result }
+{
+    let mut first = warm_up_sample(samples, order, 1);
+    let mut second = warm_up_sample(samples, order, 2);
+    let mut third = warm_up_sample(samples, order, 3);
+    let mut fourth = warm_up_sample(samples, order, 4);
+    for i in order..samples.len() {
+        let sample = predict_after(order, first, second, third, fourth) + samples[i];
+        if !fits_bits(sample, bits) {
+            return false;
+        }
+        samples[i] = sample;
+        fourth = third;
+        third = second;
+        second = first;
+        first = sample;
+    }
+    true
+}
+
+/// Turns warm-up samples and the residual of the fixed predictor of an order into samples, from the front (RFC 9639, section 9.2.5).
+/// It stops with `false` at a sample that does not fit.
+#[inline(never)]
+pub fn restore_fixed(order: usize, bits: u32, samples: &mut [i64]) -> bool
+    requires order { order ≤ 4 }
+    requires enough { order ≤ length samples.old }
+    requires positive { 1 ≤ bits }
+    requires bits { bits ≤ 33 }
+    requires warm_up { AllWithin (FitsBits bits) samples.old 0 order }
+    requires residual { AllWithin (FitsBits 32) samples.old order (length samples.old) }
+    ensures restored { IsTrue result → Restored (fixed_coefficients order) 0 samples.old samples.new }
+    ensures fits { IsTrue result → All (FitsBits bits) samples.new }
+    ensures only { (s : List ℤ) → Restored (fixed_coefficients order) 0 samples.old s → All (FitsBits bits) s → IsTrue result }
+{
+    match order {
+        0 => restore_order(0, bits, samples),
+        1 => restore_order(1, bits, samples),
+        2 => restore_order(2, bits, samples),
+        3 => restore_order(3, bits, samples),
+        _ => restore_order(order, bits, samples),
+    }
+}
+
+/// What a linear predictor says of the sample at an index, where the nearest sample is at hand (RFC 9639, section 9.2.6).
+#[inline(always)]
+fn predict_at(
+    order: usize,
+    coefficients: &[i64],
+    shift: u32,
+    samples: &[i64],
+    at: usize,
+    near: i64,
+) -> i64
+    requires some { 1 ≤ order }
+    requires few { order ≤ 32 }
+    requires order { length coefficients.now ≡ order }
+    requires small { All (FitsBits 15) coefficients.now }
+    requires shift { shift < 16 }
+    requires enough { order ≤ at }
+    requires within { at ≤ length samples.now }
+    requires fits { AllWithin (FitsBits 33) samples.now 0 at }
+    requires near { near ≡ sample_at samples.now (at - 1) }
+    ensures value { result ≡ prediction coefficients.now shift samples.now at }
+    ensures small { unsigned_abs result ≤ 2 ^ 51 }
+{
+    let mut sum = 0;
+    for j in 1..order {
+        sum += coefficients[j] * samples[at - 1 - j];
+    }
+    (sum + coefficients[0] * near) >> shift
+}
+
+/// Restores by a linear predictor of an order, whose nearest sample is held beside the slice.
+#[inline(always)]
+fn restore_by(
+    order: usize,
+    coefficients: &[i64],
+    shift: u32,
+    bits: u32,
+    samples: &mut [i64],
+) -> bool
+    requires some { 1 ≤ order }
+    requires few { order ≤ 32 }
+    requires order { length coefficients.now ≡ order }
+    requires small { All (FitsBits 15) coefficients.now }
+    requires shift { shift < 16 }
+    requires enough { order ≤ length samples.old }
+    requires positive { 1 ≤ bits }
+    requires bits { bits ≤ 33 }
+    requires warm_up { AllWithin (FitsBits bits) samples.old 0 order }
+    requires residual { AllWithin (FitsBits 32) samples.old order (length samples.old) }
+    ensures restored { IsTrue result → Restored coefficients.now shift samples.old samples.new }
+    ensures fits { IsTrue result → All (FitsBits bits) samples.new }
+    ensures only { (s : List ℤ) → Restored coefficients.now shift samples.old s → All (FitsBits bits) s → IsTrue result }
+{
+    let mut near = samples[order - 1];
+    for i in order..samples.len() {
+        let sample = predict_at(order, coefficients, shift, samples, i, near) + samples[i];
+        if !fits_bits(sample, bits) {
+            return false;
+        }
+        samples[i] = sample;
+        near = sample;
+    }
+    true
+}
+
+/// Turns warm-up samples and the residual of a linear predictor into samples, from the front (RFC 9639, section 9.2.6).
+/// It stops with `false` at a sample that does not fit.
+#[inline(never)]
+pub fn restore_linear(coefficients: &[i64], shift: u32, bits: u32, samples: &mut [i64]) -> bool
+    requires some { 1 ≤ length coefficients.now }
     requires few { length coefficients.now ≤ 32 }
     requires small { All (FitsBits 15) coefficients.now }
     requires shift { shift < 16 }
@@ -22,12 +180,19 @@ pub fn restore(coefficients: &[i32], shift: u32, bits: u32, samples: &mut [i64])
     ensures fits { IsTrue result → All (FitsBits bits) samples.new }
     ensures only { (s : List ℤ) → Restored coefficients.now shift samples.old s → All (FitsBits bits) s → IsTrue result }
 {
-    for i in coefficients.len()..samples.len() {
-        let sample = predict_linear(coefficients, shift, &samples[..i]) + samples[i];
-        if !fits_bits(sample, bits) {
-            return false;
-        }
-        samples[i] = sample;
+    match coefficients.len() {
+        1 => restore_by(1, coefficients, shift, bits, samples),
+        2 => restore_by(2, coefficients, shift, bits, samples),
+        3 => restore_by(3, coefficients, shift, bits, samples),
+        4 => restore_by(4, coefficients, shift, bits, samples),
+        5 => restore_by(5, coefficients, shift, bits, samples),
+        6 => restore_by(6, coefficients, shift, bits, samples),
+        7 => restore_by(7, coefficients, shift, bits, samples),
+        8 => restore_by(8, coefficients, shift, bits, samples),
+        9 => restore_by(9, coefficients, shift, bits, samples),
+        10 => restore_by(10, coefficients, shift, bits, samples),
+        11 => restore_by(11, coefficients, shift, bits, samples),
+        12 => restore_by(12, coefficients, shift, bits, samples),
+        order => restore_by(order, coefficients, shift, bits, samples),
     }
-    true
 }

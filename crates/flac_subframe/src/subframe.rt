@@ -6,12 +6,10 @@ ghost use Rattle.flac_bits.specs.Signed.{FitsBits};
 ghost use Rattle.flac_subframe.specs.Subframe.{is_reserved, predictor_order, constant, verbatim, fixed, predictor, linear, fitting, content_samples, wasted_bits, header, scaled, subframe_samples};
 ghost use Rattle.flac_bits.specs.Layout.{bind, done, zeros_at};
 
-use crate::fields::read_coefficients;
 use crate::limits::Limits;
 use crate::numbers::{power_of_two, repeat};
-use crate::predictors::fixed_coefficients;
 use crate::residual::read_residual;
-use crate::restoration::restore;
+use crate::restoration::{restore_fixed, restore_linear};
 use flac_bits::{BitReader, Source, Why};
 
 /// The type of a subframe, and how many of its lowest bits are zeros and left out.
@@ -152,14 +150,14 @@ fn read_fixed<R: Source>(
     let places = order as usize;
     bits.signed_partition(depth, &mut samples[..places])?;
     read_residual(bits, limit, places, &mut samples[places..])?;
-    Ok(restore(fixed_coefficients(order), 0, depth, samples))
+    Ok(restore_fixed(places, depth, samples))
 }
 
 /// The precision and the shift of a linear predictor, and its coefficients into their places (RFC 9639, section 9.2.6).
 #[tactic(auto, unfolding(crate::specs::Subframe::predictor))]
 fn read_predictor<R: Source>(
     bits: &mut BitReader<R>,
-    coefficients: &mut [i32],
+    coefficients: &mut [i64],
 ) -> Result<(u32, u32), Why>
     ensures shift { IfOk result (λ p. p.1 < 16) }
     ensures fits { OnOk result (All (FitsBits 15) coefficients.new) }
@@ -175,7 +173,7 @@ fn read_predictor<R: Source>(
     if shift > 15 {
         return Err(Why::BadPredictor);
     }
-    read_coefficients(bits, low + 1, coefficients)?;
+    bits.signed_partition(low + 1, coefficients)?;
     Ok((low + 1, shift))
 }
 
@@ -185,12 +183,12 @@ fn read_linear_into<R: Source>(
     bits: &mut BitReader<R>,
     depth: u32,
     limit: u32,
-    coefficients: &mut [i32],
+    coefficients: &mut [i64],
     samples: &mut [i64],
 ) -> Result<bool, Why>
     requires depth { (1 ≤ depth) × (depth ≤ 33) }
     requires limit { limit ≤ 15 }
-    requires order { length coefficients.old ≤ 32 }
+    requires order { (1 ≤ length coefficients.old) × (length coefficients.old ≤ 32) }
     requires places { (length coefficients.old < length samples.old) × (length samples.old ≤ 65535) }
     ensures fits { IfOk result (λ fits. IsTrue fits → All (FitsBits depth) samples.new) }
     ensures spends { OnOk result (bits.new.most ≤ bits.old.most) }
@@ -202,7 +200,7 @@ fn read_linear_into<R: Source>(
     bits.signed_partition(depth, &mut samples[..order])?;
     let (_precision, shift) = read_predictor(bits, coefficients)?;
     read_residual(bits, limit, order, &mut samples[order..])?;
-    Ok(restore(coefficients, shift, depth, samples))
+    Ok(restore_linear(coefficients, shift, depth, samples))
 }
 
 /// A linear predictor of an order.
@@ -215,7 +213,7 @@ fn read_linear<R: Source>(
 ) -> Result<bool, Why>
     requires depth { (1 ≤ depth) × (depth ≤ 33) }
     requires limit { limit ≤ 15 }
-    requires order { order ≤ 32 }
+    requires order { (1 ≤ order) × (order ≤ 32) }
     requires places { (order < length samples.old) × (length samples.old ≤ 65535) }
     ensures fits { IfOk result (λ fits. IsTrue fits → All (FitsBits depth) samples.new) }
     ensures spends { OnOk result (bits.new.most ≤ bits.old.most) }
@@ -223,7 +221,7 @@ fn read_linear<R: Source>(
     ensures reads { Reads (λ fits. cond fits (Some samples.new) None)
         (bind (linear depth (length samples.old) limit order) (λ c. done (fitting depth (length samples.old) c))) bits.old bits.new result }
 {
-    let mut coefficients = [0; 32];
+    let mut coefficients = [0i64; 32];
     read_linear_into(
         bits,
         depth,
@@ -270,6 +268,9 @@ fn scale(samples: &mut [i64], wasted: u32)
     requires small { All (FitsBits (33 - wasted)) samples.old }
     ensures { samples.new ≡ map (λ z. z *ℤ pos (2 ^ wasted)) samples.old }
 {
+    if wasted == 0 {
+        return;
+    }
     let power = power_of_two(wasted);
     for place in samples.iter_mut() {
         *place *= power;

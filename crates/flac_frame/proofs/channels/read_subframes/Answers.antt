@@ -1,4 +1,4 @@
-use Rattle.std.proofs.Common.{◌≡◌, ◌*◌, ◌+◌, ℤ, List, Option, [], Result, Ok, length, arith, rules, sym, ◌∙◌, cond, Some, None, ap, subst, true, false, Bool, All, ◌≤◌}
+use Rattle.std.proofs.Common.{◌≡◌, ◌*◌, ℤ, List, Option, [], Result, Ok, length, arith, sym, ◌∙◌, cond, Some, None, ap, subst, true, false, Bool, All, ◌≤◌}
 use Rattle.flac_bits.specs.State.{Cursor}
 use Rattle.flac_bits.specs.Layout.{run, Reason}
 use Rattle.std.proofs.lemmas.List.{take_all}

@@ -1,4 +1,4 @@
-use Rattle.std.proofs.Common.{◌≡◌, ◌*◌, ◌≤◌, ◌-◌, length, take, true, All, cond, Some, None, []}
+use Rattle.std.proofs.Common.{◌≡◌, ◌*◌, ◌≤◌, ◌-◌, take, true, All, cond, Some, None, []}
 use Rattle.flac_bits.specs.Layout.{run}
 use Rattle.flac_bits.specs.Reading.{Goes}
 use Rattle.flac_frame.specs.Frame.{subframes}

@@ -1,7 +1,5 @@
-use Rattle.std.proofs.Common.{◌≡◌, ℤ, pos, length, get_or, to_z, of_z, w64, SFits, arith, rules, sym, ap, ◌∙◌}
-use Rattle.std.proofs.lemmas.Int.{to_z-of_z}
-use Rattle.flac_frame.specs.Stereo.{sample_at, left_of, right_of}
-use Rattle.flac_frame.proofs.Joins.{joined_none, joined_more, left_all, right_all}
+use Rattle.std.proofs.Common.{arith}
+use Rattle.flac_frame.proofs.Joins.{left_all, right_all}
 use Rattle.flac_frame.proofs.stereo.join_two.Goals as goal
 
 pub returns-clause-left : goal.returns-clause-left

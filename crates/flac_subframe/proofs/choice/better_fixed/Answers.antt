@@ -1,8 +1,6 @@
-use Rattle.std.proofs.Common.{arith, ◌≡◌, ◌+◌, ◌*◌, ◌≤◌, length, refl, ℕ, ℤ, List}
-use Rattle.flac_subframe.specs.declared.halving.ResidualChoice.{ResidualChoice}
-use Rattle.flac_subframe.specs.Prediction.{fixed_coefficients}
+use Rattle.std.proofs.Common.{arith, refl}
 use Rattle.flac_subframe.specs.Bodies.{fixed}
-use Rattle.flac_subframe.specs.Chosen.{fixed_below, IsLeastOf, HasNone}
+use Rattle.flac_subframe.specs.Chosen.{fixed_below}
 use Rattle.flac_subframe.proofs.Differences.{length-fixed}
 use Rattle.flac_subframe.proofs.Best.{best_none, best_kept, best_taken, one_fixed_more}
 use Rattle.flac_subframe.proofs.choice.better_fixed.Goals as goal

@@ -1,4 +1,3 @@
-use Rattle.std.proofs.Common.{◌++◌, map, take}
 use Rattle.flac_subframe.specs.Chosen.{IsBest, fixed_below}
 use Rattle.flac_subframe.proofs.choice.choose_body.Given as goal
 

@@ -1,4 +1,4 @@
-use Rattle.std.proofs.Common.{◌≡◌, ◌∙◌, refl, sym, arith}
+use Rattle.std.proofs.Common.{sym}
 use Rattle.flac_subframe.specs.Bodies.{content_of}
 use Rattle.flac_subframe.specs.Chosen.{body_of, fixed_below}
 use Rattle.flac_subframe.proofs.Powers.{shortened_is}
@@ -14,3 +14,9 @@ pub returns-clause-bits : goal.returns-clause-bits
 returns-clause-bits c =
     let k = c.drop_wasted-wasted.result in let s = c.args.samples.now in let t = c.drop_wasted-wasted.new.shortened in let dropped = c.drop_wasted-wasted.ensures in
     rw (shortened_is k s t dropped.shortened, c.from.ensures, c.choose_body-best.ensures.priced) (sym (length-subframe c.args.depth (record { wasted = k; content = content_of (body_of c.choose_body-best.result.kind t) })))
+
+pub returns-clause-made : goal.returns-clause-made
+returns-clause-made c =
+    let k = c.drop_wasted-wasted.result in let s = c.args.samples.now in let t = c.drop_wasted-wasted.new.shortened in let dropped = c.drop_wasted-wasted.ensures in
+    let same = shortened_is k s t dropped.shortened in
+    record { wasted = dropped.wasted; times = rw same dropped.shortened; stands = rw same c.choose_body-best.ensures.least.member }

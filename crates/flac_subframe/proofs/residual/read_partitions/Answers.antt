@@ -1,5 +1,5 @@
 use Rattle.std.proofs.Common.{length, arith, ◌-◌, sym, ◌∙◌}
-use borrow.Rule.Slice.PartMut.{put_mid, mid_of, same_len_mid}
+use borrow.Rule.Slice.PartMut.{mid_of, same_len_mid}
 use Rattle.flac_subframe.proofs.Parts.{parts_start, parts_next, parts_fail, parts_fit, parts_read, cuts_within, length_mid}
 use Rattle.flac_subframe.proofs.residual.read_partitions.Goals as goal
 

@@ -1,4 +1,4 @@
-use Rattle.std.proofs.Common.{arith, sym, ◌∙◌, ◌≡◌, ◌+◌, length, ℕ}
+use Rattle.std.proofs.Common.{arith, sym, ◌∙◌, ◌+◌, length, ℕ}
 use Rattle.flac_subframe.proofs.Predicted.{residual_run}
 use Rattle.flac_subframe.proofs.residual.read_residual.Goals as goal
 

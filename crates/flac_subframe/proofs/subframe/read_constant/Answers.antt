@@ -1,4 +1,4 @@
-use Rattle.std.proofs.Common.{length, ◌∙◌, arith}
+use Rattle.std.proofs.Common.{length, arith}
 use Rattle.flac_subframe.proofs.Bounds.{stored}
 use Rattle.flac_subframe.proofs.Samples.{constant_read}
 use Rattle.flac_subframe.proofs.subframe.read_constant.Goals as goal

@@ -1,4 +1,4 @@
-use Rattle.std.proofs.Common.{arith, sym, ◌∙◌, ◌≡◌, ◌+◌, length, ℕ, drop, take, ◌-◌, ◌≤◌}
+use Rattle.std.proofs.Common.{arith, sym, ◌∙◌, ◌≡◌, length, take, ◌-◌, ◌≤◌, refl}
 use Rattle.std.proofs.lemmas.List.{length-take}
 use Rattle.flac_subframe.specs.Prediction.{fixed_coefficients}
 use Rattle.flac_subframe.proofs.Predicted.{fixed_read, fixed_length, places_are, restored_same, left_over}
@@ -17,6 +17,6 @@ returns-clause-reads g c = λ known same.
     let warm = rw front at (c.in_ok-signed_partition.ensures.reads known counts.1) in
     let rest = rw size at (c.in_ok-read_residual.ensures.reads (counts.0 known) (same ∙ sym counts.1)) in
     let whole = places_are n c.signed_partition.new.values c.read_residual.new.out s long within left in
-    let fits = restored_same 0 c.args.depth (fixed_coefficients n) c.fixed_coefficients.result.now c.signed_partition.new.values c.read_residual.new.out _ c.restore.new.samples c.restore.result c.fixed_coefficients.ensures whole
-    (omega (arith, fixed_length n c.requires.order, long)) c.restore.ensures.restored c.restore.ensures.fits c.restore.ensures.only in
-    fixed_read c.args.depth (length s) c.args.limit n c.args.bits.now.cursor c.signed_partition.new.self.cursor c.signed_partition.new.values warm c.read_residual.new.bits.cursor c.read_residual.new.out c.restore.new.samples c.restore.result long rest fits
+    let fits = restored_same 0 c.args.depth (fixed_coefficients n) (fixed_coefficients n) c.signed_partition.new.values c.read_residual.new.out _ c.restore_fixed.new.samples c.restore_fixed.result refl whole
+    (omega (arith, fixed_length n c.requires.order, long)) c.restore_fixed.ensures.restored c.restore_fixed.ensures.fits c.restore_fixed.ensures.only in
+    fixed_read c.args.depth (length s) c.args.limit n c.args.bits.now.cursor c.signed_partition.new.self.cursor c.signed_partition.new.values warm c.read_residual.new.bits.cursor c.read_residual.new.out c.restore_fixed.new.samples c.restore_fixed.result long rest fits

@@ -1,4 +1,4 @@
-use Rattle.std.proofs.Common.{arith, sym, ◌∙◌, ◌≡◌, ◌+◌, length, ℕ, drop, take, ◌-◌, ◌≤◌, refl}
+use Rattle.std.proofs.Common.{arith, sym, ◌∙◌, ◌≡◌, length, take, ◌-◌, ◌≤◌, refl}
 use Rattle.std.proofs.lemmas.List.{length-take}
 use Rattle.flac_subframe.specs.Subframe.{Predictor}
 use Rattle.flac_subframe.proofs.Predicted.{linear_read, places_are, restored_same, left_over}
@@ -21,6 +21,6 @@ returns-clause-reads g c = λ known same.
     let p : Predictor = record { precision = c.in_ok-_precision._precision; shift = c.in_ok-_precision.shift; coefficients = c.read_predictor.new.coefficients } in
     let rest = rw size at (c.in_ok-read_residual.ensures.reads (after.0 (counts.0 known)) (same ∙ sym same_then)) in
     let whole = places_are n c.signed_partition.new.values c.read_residual.new.out s long within left in
-    let fits = restored_same c.in_ok-_precision.shift c.args.depth c.read_predictor.new.coefficients c.read_predictor.new.coefficients c.signed_partition.new.values c.read_residual.new.out _ c.restore.new.samples c.restore.result refl whole
-    (omega (arith, c.read_predictor.auto.coefficients, long)) c.restore.ensures.restored c.restore.ensures.fits c.restore.ensures.only in
-    linear_read c.args.depth (length s) c.args.limit n c.args.bits.now.cursor c.signed_partition.new.self.cursor c.signed_partition.new.values warm c.read_predictor.new.bits.cursor p chosen c.read_residual.new.bits.cursor c.read_residual.new.out c.restore.new.samples c.restore.result rest fits
+    let fits = restored_same c.in_ok-_precision.shift c.args.depth c.read_predictor.new.coefficients c.read_predictor.new.coefficients c.signed_partition.new.values c.read_residual.new.out _ c.restore_linear.new.samples c.restore_linear.result refl whole
+    (omega (arith, c.read_predictor.auto.coefficients, long)) c.restore_linear.ensures.restored c.restore_linear.ensures.fits c.restore_linear.ensures.only in
+    linear_read c.args.depth (length s) c.args.limit n c.args.bits.now.cursor c.signed_partition.new.self.cursor c.signed_partition.new.values warm c.read_predictor.new.bits.cursor p chosen c.read_residual.new.bits.cursor c.read_residual.new.out c.restore_linear.new.samples c.restore_linear.result rest fits

@@ -1,6 +1,6 @@
-use Rattle.std.proofs.Common.{ℕ, ◌≤◌, pos, arith}
+use Rattle.std.proofs.Common.{pos, arith}
 use Rattle.flac_subframe.specs.Numbers.{sample_at}
-use Rattle.flac_subframe.proofs.Scaling.{product_fits, product_is, scaled_more, scaled_all}
+use Rattle.flac_subframe.proofs.Scaling.{product_fits, product_is, scaled_more, scaled_all, scaled_none}
 use Rattle.flac_subframe.proofs.subframe.scale.Goals as goal
 
 pub overflow_mul-place : goal.overflow_mul-place
@@ -16,3 +16,6 @@ loop-place-preserved c =
 
 pub returns : goal.returns
 returns c = scaled_all c.args.wasted c.args.samples.now c.loop-place.samples c.loop-place.place-index c.loop-place.auto.samples (omega (arith, c.loop-place-test.false)) c.loop-place.invariant
+
+pub returns-then-wasted-eq0 : goal.returns-then-wasted-eq0
+returns-then-wasted-eq0 c = scaled_none c.args.wasted c.args.samples.now c.if-wasted-eq0.true

@@ -1,8 +1,7 @@
-use Rattle.std.proofs.Common.{◌≡◌, ◌∙◌, refl, sym, ap, inl, inr, arith, ℕ, ℤ, suc, ◌+◌, ◌+ℤ◌, ◌<◌, List, length, pos, All}
+use Rattle.std.proofs.Common.{◌≡◌, ◌∙◌, refl, sym, ap, inl, inr, arith, ℤ, suc, ◌+◌, ◌+ℤ◌, ◌<◌, length, pos}
 use Rattle.std.specs.Int.{int_shr}
 use Rattle.std.proofs.lemmas.Bool.{cases_lt}
 use Rattle.std.proofs.lemmas.List.{get_or_default}
-use Rattle.flac_bits.specs.Signed.{FitsBits}
 use Rattle.flac_subframe.specs.Numbers.{sample_at}
 use Rattle.flac_subframe.specs.Wasted.{times_power}
 use Rattle.flac_subframe.proofs.Powers.{all_times, none_wasted, even, silent, times_more}

@@ -1,5 +1,4 @@
-use Rattle.std.proofs.Common.{◌≡◌, ◌<◌, ◌∙◌, ◌+◌, ◌*◌, ◌≤◌, ◌-◌, arith, sym, ap, take, drop, length}
-use Rattle.flac_frame.specs.View.{chunks}
+use Rattle.std.proofs.Common.{◌≡◌, ◌<◌, ◌+◌, ◌*◌, ◌-◌, arith, sym}
 use Rattle.flac_frame.proofs.Subframes.{length-chunks, part_ends, chunks-at}
 use Rattle.flac_frame.proofs.view.FrameView.channel.Goals as goal
 

@@ -1,5 +1,5 @@
 use Rattle.flac_frame.proofs.Joins.{channels_joined}
-use Rattle.flac_frame.proofs.stereo.channels_are_joined.Goals as goal
+use Rattle.flac_frame.proofs.promises.channels_are_joined.Goals as goal
 
 pub returns : goal.returns
 returns c = channels_joined

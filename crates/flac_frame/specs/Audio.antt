@@ -1,0 +1,39 @@
+-- Samples that can be encoded.
+use Rattle.std.specs.Prelude.{ℕ, ◌^◌, Bool, not, cond, ◌||◌, nat_eq, nat_lt, nat_le, ℤ, List, [], length, slice_index_or, Option, Some, None, is_none}
+use Rattle.std.specs.List.{list_all}
+use Rattle.flac_header.specs.Choice.{rate_choice, depth_choice}
+use Rattle.flac_subframe.specs.Numbers.{fits}
+use Rattle.flac_frame.specs.declared.setup.SetupFault.{SetupFault}
+use Rattle.flac_frame.specs.declared.setup.SetupFault.TheVariants.{BadRate, BadDepth, BadChannels, LengthsDiffer, SampleTooLarge, TooLong}
+
+-- The rate in Hz, the bits of a sample, and the samples of each channel.
+pub record Sound : Type 0 where
+  pub rate : ℕ
+  pub bits : ℕ
+  pub channels : List (List ℤ)
+
+-- how many samples each channel has, where all have as many
+abbrev pub samples_each : List (List ℤ) → ℕ
+samples_each channels = length (slice_index_or channels 0 [])
+
+abbrev pub as_long : List (List ℤ) → Bool
+as_long channels = list_all (λ c. nat_eq (length c) (samples_each channels)) channels
+
+-- each sample is a number of so many bits
+abbrev pub each_small : ℕ → List (List ℤ) → Bool
+each_small bits channels = list_all (λ c. list_all (fits bits) c) channels
+
+-- Why channels cannot be encoded, if so: there are 1 to 8 (RFC 9639, section 9.1.3), of one length; a sample does not fit its bits; or STREAMINFO
+-- cannot tell how many samples they have (section 8.2).
+unfoldable pub channels_fault : (bits : ℕ) → List (List ℤ) → Option SetupFault
+channels_fault bits channels =
+    cond (nat_eq (length channels) 0 || nat_lt 8 (length channels)) (Some BadChannels)
+    (cond (not (as_long channels)) (Some LengthsDiffer)
+    (cond (not (each_small bits channels)) (Some SampleTooLarge)
+    (cond (nat_le (2 ^ 36) (samples_each channels)) (Some TooLong) None)))
+
+-- Why samples cannot be encoded, if so: a frame header of the streamable subset has no code for the rate or for the depth (sections 7, 9.1.2 and
+-- 9.1.4), or the channels cannot be.
+unfoldable pub audio_fault : (rate bits : ℕ) → List (List ℤ) → Option SetupFault
+audio_fault rate bits channels =
+    cond (is_none (rate_choice rate)) (Some BadRate) (cond (is_none (depth_choice bits)) (Some BadDepth) (channels_fault bits channels))

@@ -1,0 +1,25 @@
+//! What holds of the definitions.
+
+ghost use Rattle.flac_frame.specs.Follows.{AcceptedFollow, FramesFollow};
+ghost use Rattle.flac_frame.specs.Spelling.{FramesAreSpelled, FramesAreReadAgain, FramesAreBytes};
+ghost use Rattle.flac_frame.specs.Stereo.{ChannelsAreJoined};
+
+/// The channels that are read are the only ones of which the equations of left, right, middle and side hold.
+pub fn channels_are_joined()
+    ensures { ChannelsAreJoined }
+{}
+
+/// What a reader judges of one header after another is what the standard asks of the list of all headers, and the frames that it
+/// takes one after another are those whose headers follow one another so (RFC 9639, sections 7, 8.2 and 9.1).
+pub fn frames_follow()
+    ensures headers { AcceptedFollow }
+    ensures frames { FramesFollow }
+{}
+
+/// At a whole byte bits spell just the frames of which they are the spelling of a form; such a spelling is whole bytes, and is read as
+/// that frame, whatever follows.
+pub fn frames_are_spelled()
+    ensures spelled { FramesAreSpelled }
+    ensures again { FramesAreReadAgain }
+    ensures bytes { FramesAreBytes }
+{}

@@ -1,0 +1,15 @@
+use Rattle.std.proofs.Common.{pos}
+use Rattle.flac_subframe.specs.Numbers.{sample_at}
+use Rattle.flac_subframe.proofs.Bounds.{back_33}
+use Rattle.flac_subframe.proofs.WriteSteps.{constant_text, verbatim_text}
+use Rattle.flac_subframe.proofs.writing.write_content.Goals as goal
+
+pub returns-in-Constant : goal.returns-in-Constant
+returns-in-Constant g c =
+    let x = sample_at c.args.samples.now 0 in
+    let same = back_33 x (c.requires.fits 0 (pos 0) c.requires.some) in
+    let put = rw same at c.put_signed.ensures in
+    rw (c.in-Constant.is, constant_text c.args.depth x) put
+
+pub returns-in-Verbatim : goal.returns-in-Verbatim
+returns-in-Verbatim g c = rw (c.in-Verbatim.is, verbatim_text c.args.depth c.args.samples.now) c.write_signed.ensures

@@ -1,0 +1,237 @@
+//! Subframes, written.
+
+ghost use Rattle.std.specs.Prelude.{◌≡◌, ◌≤◌, ◌<◌, ◌+◌, ◌*◌, ◌-◌, ◌^◌, ◌⊎◌, length, All, flat_map, take};
+ghost use Rattle.flac_bits.specs.Rice.{IsResidual};
+ghost use Rattle.flac_bits.specs.Signed.{signed, FitsBits};
+ghost use Rattle.flac_bits.specs.Written.{Writes};
+ghost use Rattle.flac_subframe.specs.Bodies.{cut, residual_of, content_of, Predicts, fixed, order_of, coefficients_of, differences, StandsFor};
+ghost use Rattle.flac_subframe.specs.Chosen.{body_by, body_of, fixed_below};
+ghost use Rattle.flac_subframe.specs.Family.{form_of, IsMadeOf, OrderIsFew, kind_number};
+ghost use Rattle.flac_subframe.specs.Cost.{MayCode, MayCodeEach, MayWrite, codings_of};
+ghost use Rattle.flac_subframe.specs.Spelling.{value_spelling, coding_spelling, partition_spelling, residual_spelling, content_spelling, header_spelling, subframe_spelling};
+
+use crate::choice::{Kind, take_differences};
+use crate::chosen::Choice;
+use crate::coding::Coding;
+use crate::folding::fold;
+use crate::halving::{ResidualChoice, power};
+use crate::predictors::fixed_coefficients;
+use crate::wasted::drop_wasted;
+use flac_bits::{BitWriter, Target, Why};
+
+/// Writes values under a Rice parameter.
+fn write_values<W: Target>(
+    writer: &mut BitWriter<W>,
+    parameter: u32,
+    values: &[i64],
+) -> Result<(), Why>
+    requires parameter { parameter ≤ 30 }
+    requires range { All IsResidual values.now }
+    ensures { Writes (flat_map (value_spelling parameter) values.now) writer.old writer.new result }
+{
+    for value in values {
+        writer.put_rice(parameter, fold(*value))?;
+    }
+    Ok(())
+}
+
+/// Writes signed numbers of n bits; of none nothing.
+fn write_signed<W: Target>(writer: &mut BitWriter<W>, n: u32, values: &[i64]) -> Result<(), Why>
+    requires few { n ≤ 33 }
+    requires range { All (FitsBits 33) values.now }
+    ensures { Writes (flat_map (signed n) values.now) writer.old writer.new result }
+{
+    if n == 0 {
+        return Ok(());
+    }
+    for value in values {
+        writer.put_signed(n, *value)?;
+    }
+    Ok(())
+}
+
+/// The parameter that marks an escape: all ones.
+fn escape(parameter_bits: u32) -> u64
+    requires { (parameter_bits ≡ 4) ⊎ (parameter_bits ≡ 5) }
+    ensures { result ≡ 2 ^ parameter_bits - 1 }
+{
+    if parameter_bits == 4 { 15 } else { 31 }
+}
+
+/// Writes a partition.
+fn write_partition<W: Target>(
+    writer: &mut BitWriter<W>,
+    parameter_bits: u32,
+    coding: Coding,
+    values: &[i64],
+) -> Result<(), Why>
+    requires method { (parameter_bits ≡ 4) ⊎ (parameter_bits ≡ 5) }
+    requires may { MayCode parameter_bits values.now coding }
+    requires range { All IsResidual values.now }
+    ensures { Writes (coding_spelling parameter_bits coding values.now) writer.old writer.new result }
+{
+    match coding {
+        Coding::Rice(parameter) => {
+            writer.put(parameter_bits, parameter as u64)?;
+            write_values(writer, parameter as u32, values)
+        }
+        Coding::Escape(width) => {
+            let field = escape(parameter_bits) * 32 + width as u64;
+            writer.put(parameter_bits + 5, field)?;
+            write_signed(writer, width as u32, values)
+        }
+    }
+}
+
+/// Writes partitions, of which the first has a length of its own.
+fn write_partitions<W: Target>(
+    writer: &mut BitWriter<W>,
+    parameter_bits: u32,
+    first: usize,
+    size: usize,
+    codings: &[Coding],
+    values: &[i64],
+) -> Result<(), Why>
+    requires method { (parameter_bits ≡ 4) ⊎ (parameter_bits ≡ 5) }
+    requires may { MayCodeEach parameter_bits first size values.now codings.now }
+    requires range { All IsResidual values.now }
+    requires cut { length values.now + size ≡ first + length codings.now * size }
+    ensures { Writes (flat_map (partition_spelling parameter_bits) (cut first size values.now codings.now)) writer.old writer.new result }
+{
+    let mut rest = values;
+    let mut long = first;
+    for coding in codings {
+        let (part, after) = rest.split_at(long);
+        write_partition(writer, parameter_bits, *coding, part)?;
+        rest = after;
+        long = size;
+    }
+    Ok(())
+}
+
+/// Writes the residual of a predictor of an order.
+fn write_residual<W: Target>(
+    writer: &mut BitWriter<W>,
+    choice: &ResidualChoice,
+    order: usize,
+    values: &[i64],
+) -> Result<(), Why>
+    requires few { length values.now + order ≤ 65535 }
+    requires may { MayWrite 8 order values.now (codings_of choice.now) }
+    requires range { All IsResidual values.now }
+    ensures { Writes (residual_spelling (residual_of order values.now (codings_of choice.now))) writer.old writer.new result }
+{
+    let size = (values.len() + order) / power(choice.halvings);
+    let parameter_bits = choice.parameter_bits as u32;
+    let field = (parameter_bits as u64 - 4) * 16 + choice.halvings as u64;
+    writer.put(6, field)?;
+    write_partitions(
+        writer,
+        parameter_bits,
+        size - order,
+        size,
+        choice.codings.as_slice(),
+        values,
+    )
+}
+
+/// Writes the content of a fixed predictor; the places are overwritten.
+fn write_fixed<W: Target>(
+    writer: &mut BitWriter<W>,
+    order: usize,
+    residual: &ResidualChoice,
+    depth: u32,
+    samples: &[i64],
+    values: &mut [i64],
+) -> Result<(), Why>
+    requires order { order ≤ 4 }
+    requires few { length samples.now ≤ 65535 }
+    requires depth { (1 ≤ depth) × (depth ≤ 33) }
+    requires fits { All (FitsBits 33) samples.now }
+    requires places { length samples.now ≤ length values.old }
+    requires predicts { Predicts 8 (fixed order) (take (order_of (fixed order)) samples.now) (codings_of residual.now) (differences (coefficients_of (fixed order)) 0 samples.now) samples.now }
+    ensures { Writes (content_spelling depth (content_of (body_by (fixed order) residual.now samples.now))) writer.old writer.new result }
+{
+    let coefficients = fixed_coefficients(order as u32);
+    let count = coefficients.len();
+    let places = &mut values[..samples.len() - count];
+    let _all = take_differences(coefficients, 0, samples, places);
+    write_signed(writer, depth, &samples[..count])?;
+    write_residual(writer, residual, count, places)
+}
+
+/// Writes the content of a subframe; the places are overwritten.
+fn write_content<W: Target>(
+    writer: &mut BitWriter<W>,
+    kind: &Kind,
+    depth: u32,
+    samples: &[i64],
+    values: &mut [i64],
+) -> Result<(), Why>
+    requires some { 0 < length samples.now }
+    requires few { length samples.now ≤ 65535 }
+    requires depth { (1 ≤ depth) × (depth ≤ 33) }
+    requires fits { All (FitsBits 33) samples.now }
+    requires places { length samples.now ≤ length values.old }
+    requires stands { StandsFor 8 (fixed_below 5) (body_of kind.now samples.now) samples.now }
+    ensures { Writes (content_spelling depth (content_of (body_of kind.now samples.now))) writer.old writer.new result }
+{
+    match kind {
+        Kind::Constant => writer.put_signed(depth, samples[0]),
+        Kind::Verbatim => write_signed(writer, depth, samples),
+        Kind::Fixed { order, residual } => {
+            write_fixed(writer, *order, residual, depth, samples, values)
+        }
+    }
+}
+
+/// The header of a subframe: its type, and how many bits are wasted.
+fn write_header<W: Target>(writer: &mut BitWriter<W>, kind: u64, wasted: u32) -> Result<(), Why>
+    requires kind { kind < 64 }
+    requires wasted { wasted ≤ 33 }
+    ensures { Writes (header_spelling kind wasted) writer.old writer.new result }
+{
+    if wasted == 0 {
+        return writer.put(8, kind * 2);
+    }
+    writer.put(8, kind * 2 + 1)?;
+    writer.put_unary(wasted as u64 - 1)
+}
+
+/// The type of a subframe (RFC 9639, section 9.2.1).
+fn type_of_kind(kind: &Kind) -> u64
+    requires { OrderIsFew kind.now }
+    ensures { result ≡ kind_number kind.now }
+{
+    match kind {
+        Kind::Constant => 0,
+        Kind::Verbatim => 1,
+        Kind::Fixed { order, residual: _ } => 8 + *order as u64,
+    }
+}
+
+/// Writes the subframe that was chosen for samples of a depth, with places for them and for the residual, which are overwritten.
+///
+/// The choice is one that was made of these samples at this depth. Errors: `Write`.
+pub fn write_subframe_into<W: Target>(
+    choice: &Choice,
+    samples: &[i64],
+    depth: u32,
+    shortened: &mut [i64],
+    values: &mut [i64],
+    writer: &mut BitWriter<W>,
+) -> Result<(), Why>
+    requires some { 0 < length samples.now }
+    requires few { length samples.now ≤ 65535 }
+    requires depth { (1 ≤ depth) × (depth ≤ 33) }
+    requires fits { All (FitsBits depth) samples.now }
+    requires places { length samples.now ≤ length shortened.old }
+    requires values { length samples.now ≤ length values.old }
+    requires made { IsMadeOf choice.now samples.now }
+    ensures { Writes (subframe_spelling depth (form_of choice.now samples.now)) writer.old writer.new result }
+{
+    let places = &mut shortened[..samples.len()];
+    let wasted = drop_wasted(samples, depth, places);
+    write_header(writer, type_of_kind(&choice.kind), wasted)?;
+    write_content(writer, &choice.kind, depth - wasted, places, values)
+}
