@@ -137,10 +137,16 @@ place_in Opening index = place.Marker
 place_in Blocks index = place.Block index
 place_in Frames index = place.Frame index
 
+-- a frame has at most 16777215 bytes: STREAMINFO tells the sizes of frames in 24 bits (section 8.2)
+abbrev pub room_in : Phase → Option ℕ
+room_in Opening = None
+room_in Blocks = None
+room_in Frames = Some 16777215
+
 abbrev pub grammar : Grammar Progress Piece Place
 grammar = record {
   layout = λ p. layout p.stand;
-  room = λ p. None;
+  room = λ p. room_in p.stand.phase;
   next = next;
   may_end = λ p. may_end_in p.stand.phase p.stand.info;
   at_end = λ p. end_rules p.stand.info p.samples p.message;

@@ -1,5 +1,5 @@
 -- What a track keeps of the parts so far.
-use Rattle.std.specs.Prelude.{◌≡◌, ℕ, min, Bool, false, List, [], Option, Some, None}
+use Rattle.std.specs.Prelude.{◌≡◌, ℕ, min, Bool, true, false, List, [], Option, Some, None, is_some}
 use Rattle.flac_meta.specs.Info.{Info}
 use Rattle.flac_meta.specs.declared.block.Block.{Block}
 use Rattle.flac_frame.specs.Frame.{Frame}
@@ -7,8 +7,11 @@ use Rattle.flac_frame.specs.declared.before.Before.{Before}
 use Rattle.flac_native.specs.Stream.{Piece, marked, block, framed, Stand, Progress}
 use Rattle.flac_native.specs.declared.format.Format.{Format}
 use Rattle.flac_native.specs.declared.track.Track.{Track}
+use Rattle.flac_native.specs.declared.course.Course.{Course}
+use Rattle.flac_native.specs.declared.course.Course.TheVariants as course
 use Rattle.flac_native.specs.declared.part.Part.{Part}
 use Rattle.flac_native.specs.declared.part.Part.TheVariants as part
+use Rattle.flac_native.specs.declared.phase.Phase.TheVariants as phase
 use Rattle.md5.specs.Md5.{Holds}
 
 abbrev pub info_in : Option Format → Option Info
@@ -49,3 +52,18 @@ pub record IsAt (t : Track) (p : Progress) : Type 0 where
   pub stand : stand_of t ≡ p.stand
   pub samples : t.samples ≡ min p.samples 18446744073709551615
   pub digest : Holds t.hasher p.message
+
+-- the part that was read is there; the marker comes but once
+abbrev pub IsMadeAs : Part → Track → Track → Type 0
+IsMadeAs part.Marker old new = (old.phase ≡ phase.Opening) × (new.phase ≡ phase.Blocks)
+IsMadeAs part.Block old new = is_some new.block ≡ true
+IsMadeAs part.Frame old new = is_some new.format ≡ true
+
+-- what was read last is there to be lent
+abbrev pub is_made : Course → Track → Bool
+is_made (course.Read part.Marker) t = false
+is_made (course.Read part.Block) t = is_some t.block
+is_made (course.Read part.Frame) t = is_some t.format
+is_made course.Begun t = true
+is_made course.Over t = true
+is_made (course.Spent at) t = true

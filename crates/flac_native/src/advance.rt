@@ -2,13 +2,14 @@
 
 ghost use Rattle.std.specs.Prelude.{◌≡◌, ◌≤◌, ◌+◌, ◌++◌, ◌&&◌, ℕ, List, min, true, is_some, OnOk, IfOk, IfErr, IfSome, MatchOption};
 ghost use Rattle.flac_bits.specs.Bits.{is_nil};
-ghost use Rattle.flac_bits.specs.State.{started};
+ghost use Rattle.flac_bits.specs.Fencing.{lifted};
 ghost use Rattle.flac_bits.specs.Meaning.{AllKept, BreaksFirst};
-ghost use Rattle.flac_bits.specs.Reading.{Counts, Reads, ReadsInRoom};
+ghost use Rattle.flac_bits.specs.Reading.{Counts, Reads};
 ghost use Rattle.flac_bits.specs.Items.{step_at};
 ghost use Rattle.flac_bits.specs.Handing.{StepsTo, reason_of};
-ghost use Rattle.flac_native.specs.Stream.{marker, layout, Progress, grammar, may_end_in, place_in, next, stand_after, samples_in, message_in, end_rules};
-ghost use Rattle.flac_native.specs.Track.{IsAt, piece_of, stand_of, info_in};
+ghost use Rattle.flac_native.specs.Stream.{marker, layout, room_in, Progress, grammar, may_end_in, place_in, next, stand_after, samples_in, message_in, end_rules};
+ghost use Rattle.flac_native.specs.Within.{ReadsWithinInRoom};
+ghost use Rattle.flac_native.specs.Track.{IsAt, IsMadeAs, piece_of, stand_of, info_in};
 ghost use Rattle.flac_native.specs.Item.{told};
 ghost use Rattle.flac_native.specs.Ends.{EndsBy};
 ghost use Rattle.md5.specs.Md5.{Holds};
@@ -36,22 +37,24 @@ fn read_marker<R: Source>(reader: &mut BitReader<R>) -> Result<(), Why>
 #[tactic(auto, unfolding(crate::specs::Stream::layout))]
 fn read_part<R: Source>(reader: &mut BitReader<R>, track: &mut Track) -> Result<Part, Why>
     ensures spends { OnOk result (reader.new.most + 32 ≤ reader.old.most) }
-    ensures counts { Counts reader.old reader.new result }
-    ensures reads { ReadsInRoom (λ part. piece_of track.new part) (layout (stand_of track.old)) (started reader.old) reader.new result }
+    ensures counts { Counts (lifted reader.old) reader.new result }
+    ensures reads { ReadsWithinInRoom (room_in track.old.phase) (λ part. piece_of track.new part) (layout (stand_of track.old)) reader.old reader.new result }
     ensures stand { IfOk result (λ part. stand_of track.new ≡ stand_after (stand_of track.old) (piece_of track.new part)) }
     ensures samples { IfOk result (λ part. track.new.samples ≡ min (track.old.samples + samples_in (piece_of track.new part)) 18446744073709551615) }
-    ensures made { IfOk result (λ part. part ≡ Part.Frame → is_some track.new.format ≡ true) }
+    ensures made { IfOk result (λ part. IsMadeAs part track.old track.new) }
     ensures digest { IfOk result (λ part. (m : List ℕ) → Holds track.old.hasher m → Holds track.new.hasher (m ++ message_in (info_in track.old.format) (piece_of track.new part))) }
 {
     let _samples = track.samples;
     match track.phase {
         Phase::Opening => {
+            reader.lift();
             reader.start_checks();
             read_marker(reader)?;
             track.phase = Phase::Blocks;
             Ok(Part::Marker)
         }
         Phase::Blocks => {
+            reader.lift();
             reader.start_checks();
             let (last, block) = track.next_block(reader)?;
             track.last = last;
@@ -100,11 +103,12 @@ pub(crate) fn advance<R: Source>(
     track: &mut Track,
 ) -> Result<Option<Part>, Fault>
     ensures spends { IfOk result (λ o. MatchOption o (reader.new.most ≤ reader.old.most) (λ _. reader.new.most + 32 ≤ reader.old.most)) }
-    ensures counts { Counts reader.old reader.new (reason_of told result) }
-    ensures steps { (p : Progress) → IsAt track.old p → StepsTo (λ part. piece_of track.new part) told (step_at grammar p reader.old.cursor) reader.old reader.new result }
-    ensures made { IfOk result (λ o. IfSome o (λ part. part ≡ Part.Frame → is_some track.new.format ≡ true)) }
+    ensures counts { Counts (lifted reader.old) reader.new (reason_of told result) }
+    ensures steps { (p : Progress) → IsAt track.old p → StepsTo (λ part. piece_of track.new part) told (step_at grammar p (lifted reader.old).cursor) (lifted reader.old) reader.new result }
+    ensures made { IfOk result (λ o. IfSome o (λ part. IsMadeAs part track.old track.new)) }
     ensures next { IfOk result (λ o. IfSome o (λ part. (p : Progress) → IsAt track.old p → IsAt track.new (next p (piece_of track.new part)))) }
 {
+    reader.lift();
     let at = place_of(track);
     match ends_here(reader, track) {
         Ok(false) => match read_part(reader, track) {

@@ -3,6 +3,7 @@
 ghost use Rattle.std.specs.Prelude.{◌≡◌, ◌<◌, ◌≤◌, true, OnOk, OnErr, IfErr, is_some};
 ghost use Rattle.flac_bits.specs.Bits.{bits_of};
 ghost use Rattle.flac_bits.specs.State.{short_of};
+ghost use Rattle.flac_bits.specs.Fencing.{lifted};
 ghost use Rattle.flac_bits.specs.Reading.{Counts};
 ghost use Rattle.flac_bits.specs.Handing.{Hands, Decides, IsCalm, outcome_of, reason_of};
 ghost use Rattle.flac_native.specs.Stream.{Progress, grammar, opening};
@@ -22,9 +23,10 @@ use std::alloc::Global;
 /// Hands the part that was read last to the sink.
 fn hand<S: Sink>(part: Part, track: &Track, sink: &mut S) -> Result<(), SinkFault>
     requires { part ≡ Part.Frame → is_some track.now.format ≡ true }
-    ensures takes { OnOk result (taken S.takes sink.old (piece_of track.now part) sink.new) }
+    ensures known { OnOk result (S.known sink.old ≡ true → S.known sink.new ≡ true) }
+    ensures takes { OnOk result (S.known sink.old ≡ true → taken S.takes sink.old (piece_of track.now part) sink.new) }
     ensures counted { OnOk result (S.errors sink.new ≡ S.errors sink.old) }
-    ensures failed { OnErr result (S.errors sink.old < S.errors sink.new) }
+    ensures failed { OnErr result (S.known sink.old ≡ true → S.errors sink.old < S.errors sink.new) }
     ensures names { S.names sink.new ≡ S.names sink.old }
 {
     match part {
@@ -43,9 +45,10 @@ fn hand<S: Sink>(part: Part, track: &Track, sink: &mut S) -> Result<(), SinkFaul
 /// Hands the part that was read last to the sink, and tells where it failed.
 fn hand_at<S: Sink>(at: Place, part: Part, track: &Track, sink: &mut S) -> Result<(), Fault>
     requires { part ≡ Part.Frame → is_some track.now.format ≡ true }
-    ensures takes { OnOk result (taken S.takes sink.old (piece_of track.now part) sink.new) }
+    ensures known { OnOk result (S.known sink.old ≡ true → S.known sink.new ≡ true) }
+    ensures takes { OnOk result (S.known sink.old ≡ true → taken S.takes sink.old (piece_of track.now part) sink.new) }
     ensures counted { OnOk result (S.errors sink.new ≡ S.errors sink.old) }
-    ensures failed { IfErr result (λ f. (S.errors sink.old < S.errors sink.new) × (f.why ≡ Why.Sink) × (f.at ≡ at)) }
+    ensures failed { IfErr result (λ f. (S.known sink.old ≡ true → S.errors sink.old < S.errors sink.new) × (f.why ≡ Why.Sink) × (f.at ≡ at)) }
     ensures names { S.names sink.new ≡ S.names sink.old }
 {
     match hand(part, track, sink) {
@@ -60,9 +63,9 @@ pub(crate) fn hand_out<R: Source, S: Sink>(
     track: &mut Track,
     sink: &mut S,
 ) -> Result<(), Fault>
-    ensures hands { (p : Progress) → IsAt track.old p → reader.old.known ≡ true →
-        Hands grammar (taken S.takes) S.errors p reader.old.cursor.mark reader.old.cursor.left (IsCalm reader.old reader.new) sink.old sink.new (outcome_of told result) }
-    ensures counts { Counts reader.old reader.new (reason_of told result) }
+    ensures hands { (p : Progress) → IsAt track.old p → reader.old.known ≡ true → S.known sink.old ≡ true →
+        Hands grammar (taken S.takes) S.errors p (lifted reader.old).cursor.mark (lifted reader.old).cursor.left (IsCalm reader.old reader.new) sink.old sink.new (outcome_of told result) }
+    ensures counts { Counts (lifted reader.old) reader.new (reason_of told result) }
     ensures names { S.names sink.new ≡ S.names sink.old }
 {
     loop {
@@ -85,11 +88,11 @@ pub fn decode<R: Source, S: Sink>(
 ) -> Result<(), Fault>
     // Ok only where the bytes are a stream, of which the sink took just the items; refused only as the bytes are, behind just
     // the items before; and whatever ended it, the sink took items that are spelled whole, from the start.
-    ensures hands { R.known source.old ≡ true →
+    ensures hands { R.known source.old ≡ true → S.known sink.old ≡ true →
         Hands grammar (taken S.takes) S.errors opening (beginning (short_of ((R.behind source.old).fails))) (bits_of (R.coming source.old))
         ((R.errors source.new ≡ R.errors source.old) × (R.raised source.new ≡ R.raised source.old)) sink.old sink.new (outcome_of told result) }
     // A stream is not refused but for want of memory, and what the bytes show is the place and the reason answered.
-    ensures decides { R.known source.old ≡ true → R.errors source.new ≡ R.errors source.old → R.raised source.new ≡ R.raised source.old → S.errors sink.new ≡ S.errors sink.old →
+    ensures decides { R.known source.old ≡ true → S.known sink.old ≡ true → R.errors source.new ≡ R.errors source.old → R.raised source.new ≡ R.raised source.old → S.errors sink.new ≡ S.errors sink.old →
         Decides grammar opening (beginning (short_of ((R.behind source.old).fails))) (bits_of (R.coming source.old)) (outcome_of told result) }
     ensures kept { R.errors source.old ≤ R.errors source.new }
     ensures read { IfErr result (λ f. R.known source.old ≡ true → f.why ≡ Why.Read → R.raised source.old < R.raised source.new) }

@@ -9,6 +9,9 @@ use flac_header::Profile;
 use flac_meta::StreamInfo;
 use std::alloc::Global;
 
+/// How many bytes a frame has at most: STREAMINFO tells the sizes of frames in 24 bits (RFC 9639, section 8.2).
+const LONGEST_FRAME: u64 = 16777215;
+
 /// STREAMINFO, and the buffers for its frames.
 #[derive(Drop)]
 pub(crate) struct Format {
@@ -19,8 +22,9 @@ pub(crate) struct Format {
 }
 
 impl Format {
-    ghost use Rattle.flac_bits.specs.Reading.{Counts, Reads};
-    ghost use Rattle.flac_bits.specs.State.{started};
+    ghost use Rattle.flac_bits.specs.Reading.{Counts};
+    ghost use Rattle.flac_bits.specs.Fencing.{lifted};
+    ghost use Rattle.flac_native.specs.Within.{ReadsWithin};
     ghost use Rattle.flac_frame.specs.Frame.{frame, after};
     ghost use Rattle.flac_frame.specs.Lent.{frame_of};
 
@@ -35,19 +39,22 @@ impl Format {
         Ok(Format { info, buffers })
     }
 
-    /// Reads the next frame into the buffers.
+    /// Reads the next frame into the buffers. It has at most 16777215 bytes.
     pub(crate) fn fill<R: Source>(
         &mut self,
         bits: &mut BitReader<R>,
         profile: Profile,
     ) -> Result<(), Why>
         ensures spends { OnOk result (bits.new.most + 40 ≤ bits.old.most) }
-        ensures counts { Counts bits.old bits.new result }
-        ensures reads { Reads (λ _. self.new.buffers.held) (frame self.old.info self.old.buffers.before) (started bits.old) bits.new result }
+        ensures counts { Counts (lifted bits.old) bits.new result }
+        ensures reads { ReadsWithin (Some 16777215) (λ _. self.new.buffers.held) (frame self.old.info self.old.buffers.before) bits.old bits.new result }
         ensures before { OnOk result (self.new.buffers.before ≡ Some (after self.old.buffers.before self.new.buffers.held)) }
         ensures info { self.new.info ≡ self.old.info }
     {
-        self.buffers.fill(bits, &self.info, profile)
+        bits.fence(LONGEST_FRAME);
+        let outcome = self.buffers.fill(bits, &self.info, profile);
+        bits.lift();
+        outcome
     }
 
     /// The frame that was read last.

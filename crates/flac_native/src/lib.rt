@@ -2,23 +2,29 @@
 #![tactic(auto)]
 
 mod advance;
+mod course;
+mod decoder;
 mod decoding;
 mod end;
 mod fault;
 mod format;
+mod item;
 mod laws;
 mod message;
 mod part;
 mod phase;
 mod sink;
+mod steps;
 mod track;
 
+pub use decoder::Decoder;
 pub use decoding::decode;
 pub use fault::{Fault, Place};
 pub use flac_bits::{Source, Why};
 pub use flac_frame::FrameView;
 pub use flac_header::Profile;
 pub use flac_meta::{Block, StreamInfo};
+pub use item::Item;
 pub use laws::only_one_way;
 pub use message::put_row;
 pub use sink::{Sink, SinkFault};

@@ -1,6 +1,6 @@
 //! Where the blocks and frames of a stream go.
 
-ghost use Rattle.std.specs.Prelude.{◌≡◌, ◌<◌, ℕ, List, OnOk, OnErr};
+ghost use Rattle.std.specs.Prelude.{◌≡◌, ◌<◌, ℕ, Bool, true, List, OnOk, OnErr};
 ghost use Rattle.std.specs.Borrow.{GName};
 ghost use Rattle.flac_frame.specs.Lent.{frame_of};
 ghost use Rattle.flac_native.specs.Item.{Item, metadata, frame as frame_item};
@@ -17,6 +17,9 @@ pub trait Sink {
     /// From old, a sink that takes this item may go on to new.
     ghost takes: { Self → Item → Self → Type 0 };
 
+    /// Whether its errors are counted. Where the count can rise no more they are not, and nothing is claimed of the sink.
+    ghost known: { Self → Bool };
+
     /// How many errors it answered.
     ghost errors: { Self → ℕ };
 
@@ -25,15 +28,17 @@ pub trait Sink {
 
     /// Takes a metadata block. An error takes nothing.
     fn block(&mut self, block: &Block) -> Result<(), SinkFault>
-        ensures takes { OnOk result (takes self.old (metadata block.now) self.new) }
+        ensures known { OnOk result (known self.old ≡ true → known self.new ≡ true) }
+        ensures takes { OnOk result (known self.old ≡ true → takes self.old (metadata block.now) self.new) }
         ensures counted { OnOk result (errors self.new ≡ errors self.old) }
-        ensures failed { OnErr result (errors self.old < errors self.new) }
+        ensures failed { OnErr result (known self.old ≡ true → errors self.old < errors self.new) }
         ensures names { names self.new ≡ names self.old };
 
     /// Takes a frame, which is lent for the call. An error takes nothing.
     fn frame(&mut self, frame: &FrameView<'_>) -> Result<(), SinkFault>
-        ensures takes { OnOk result (takes self.old (frame_item (frame_of frame.now)) self.new) }
+        ensures known { OnOk result (known self.old ≡ true → known self.new ≡ true) }
+        ensures takes { OnOk result (known self.old ≡ true → takes self.old (frame_item (frame_of frame.now)) self.new) }
         ensures counted { OnOk result (errors self.new ≡ errors self.old) }
-        ensures failed { OnErr result (errors self.old < errors self.new) }
+        ensures failed { OnErr result (known self.old ≡ true → errors self.old < errors self.new) }
         ensures names { names self.new ≡ names self.old };
 }

@@ -1,8 +1,9 @@
 //! What the parts of a stream so far leave for those behind them.
 
 ghost use Rattle.std.specs.Prelude.{◌≡◌, ◌≢◌, ◌≤◌, ◌+◌, ◌++◌, ℕ, List, [], min, cond, OnOk, IfOk, IfErr, IfSome, Some, None, is_some, true};
-ghost use Rattle.flac_bits.specs.Reading.{Counts, Reads, ReadsInRoom};
-ghost use Rattle.flac_bits.specs.State.{started};
+ghost use Rattle.flac_bits.specs.Reading.{Counts, ReadsInRoom};
+ghost use Rattle.flac_bits.specs.Fencing.{lifted};
+ghost use Rattle.flac_native.specs.Within.{ReadsWithin};
 ghost use Rattle.flac_meta.specs.Block.{block as block_layout, seen_after};
 ghost use Rattle.flac_meta.specs.Header.{nothing_seen};
 ghost use Rattle.flac_frame.specs.Lent.{frame_of};
@@ -98,14 +99,15 @@ impl Track {
     #[tactic(auto, unfolding(crate::specs::Stream::frame_behind))]
     pub(crate) fn next_frame<R: Source>(&mut self, bits: &mut BitReader<R>) -> Result<(), Why>
         ensures spends { OnOk result (bits.new.most + 40 ≤ bits.old.most) }
-        ensures counts { Counts bits.old bits.new result }
-        ensures reads { Reads (λ _. shown self.new) (frame_behind (info_in self.old.format) (before_in self.old.format)) (started bits.old) bits.new result }
+        ensures counts { Counts (lifted bits.old) bits.new result }
+        ensures reads { ReadsWithin (Some 16777215) (λ _. shown self.new) (frame_behind (info_in self.old.format) (before_in self.old.format)) bits.old bits.new result }
         ensures stand { OnOk result (stand_of self.new ≡ stand_after (stand_of self.old) (framed (shown self.new))) }
         ensures samples { OnOk result (self.new.samples ≡ min (self.old.samples + (shown self.new).size) 18446744073709551615) }
         ensures digest { OnOk result ((m : List ℕ) → Holds self.old.hasher m → Holds self.new.hasher (m ++ message_in (info_in self.old.format) (framed (shown self.new)))) }
         ensures made { OnOk result (is_some self.new.format ≡ true) }
     {
         let Some(format) = &mut self.format else {
+            bits.lift();
             return Err(Why::NotStreamInfoFirst);
         };
         format.fill(bits, self.profile)?;

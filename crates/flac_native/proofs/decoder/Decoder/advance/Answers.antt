@@ -1,0 +1,13 @@
+use Rattle.std.proofs.Common.{◌≡◌, refl}
+use Rattle.flac_native.proofs.decoder.Decoder.advance.Goals as goal
+
+pub returns-in-Ok-None : goal.returns-in-Ok-None
+returns-in-Ok-None g c =
+    let found = rw c.in-Ok-None.field-0-is at c.in-Ok-None.ensures in
+    record {
+      gives = λ p at known same quiet room items end still. found.gives p at known same quiet (λ e. absurd cc) items end still;
+      counts = found.counts;
+      going = tt;
+      ends = λ e. refl;
+      refused = tt;
+    }
