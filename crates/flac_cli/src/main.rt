@@ -7,7 +7,11 @@ mod frames;
 mod jobs;
 mod lines;
 mod list;
+#[cfg(test)]
+mod list_tests;
 mod listing;
+#[cfg(test)]
+mod row_tests;
 mod runs;
 mod samples;
 #[cfg(test)]

@@ -18,14 +18,14 @@ const ROW: [u8; 57] = [
     0xBF, 0x03, 0x58, 0xFD, 0x03, 0x12, 0x8B, 0xAA, 0x9A,
 ];
 
-const TEST: Job<'static> = Job::Test { input: "a.flac" };
+pub(crate) const TEST: Job<'static> = Job::Test { input: "a.flac" };
 
-const DECODE: Job<'static> = Job::Decode {
+pub(crate) const DECODE: Job<'static> = Job::Decode {
     input: "a.flac",
     output: "a.raw",
 };
 
-const LIST: Job<'static> = Job::List { input: "a.flac" };
+pub(crate) const LIST: Job<'static> = Job::List { input: "a.flac" };
 
 /// The samples of that example.
 const SAMPLES: [u8; 4] = [0xF4, 0x63, 0xB0, 0x28];
@@ -35,14 +35,14 @@ const LINES: &str =
 
 /// What a job wrote.
 #[derive(Clone, Copy)]
-struct Wanted<'a> {
-    file: &'a [u8],
-    out: &'a str,
-    err: &'a str,
+pub(crate) struct Wanted<'a> {
+    pub(crate) file: &'a [u8],
+    pub(crate) out: &'a str,
+    pub(crate) err: &'a str,
 }
 
 /// Does a job over memory, whose status and whose bytes written must be these.
-fn expect(
+pub(crate) fn expect(
     rt: &impl Abort,
     alloc: Global,
     job: Job<'_>,
@@ -168,6 +168,48 @@ fn fronts(rt: HostRuntime) {
             },
         );
     }
+}
+
+/// A change of one byte of the frame, to three other values each, is refused in the frame, and none of its samples is written.
+#[test]
+fn changes(rt: HostRuntime) {
+    for place in 42..57 {
+        for change in [0x01, 0x80, 0xFF] {
+            let mut changed = ROW;
+            changed[place] ^= change;
+            let mut source = Memory::new(&changed);
+            let mut file = Collected::new(rt.alloc());
+            let mut out = Collected::new(rt.alloc());
+            let mut err = Collected::new(rt.alloc());
+            let status = run(
+                rt.alloc(),
+                &DECODE,
+                &mut source,
+                &mut file,
+                &mut out,
+                &mut err,
+            );
+            assert_eq!(rt; status, 1, "at {place}");
+            assert!(rt; file.bytes().is_empty(), "at {place}");
+            assert!(rt;
+                err.bytes().starts_with(b"flac: a.flac: frame 0: "),
+                "at {place}"
+            );
+        }
+    }
+}
+
+/// The frame with a header of other block size and rate, whose check holds.
+#[test]
+fn other_rate(rt: HostRuntime) {
+    let mut changed = ROW;
+    changed[44] = 0x58;
+    let wanted = Wanted {
+        file: &[],
+        out: "",
+        err: "flac: a.flac: frame 0: 17 HeaderMismatch\n",
+    };
+    expect(&rt, rt.alloc(), TEST, &changed, 1, &wanted);
 }
 
 /// A writer without room.

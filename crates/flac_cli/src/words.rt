@@ -8,6 +8,41 @@ use clap::{Arg, Command};
 use std::alloc::{AllocError, Global};
 use std::borrow::CowStr;
 
+const EXAMPLES: &str = "Examples:
+  flac test song.flac             is the stream whole and right?
+  flac list song.flac             what its metadata tells
+  flac decode song.flac song.raw  its samples
+
+The status is 0 where all is done. Where a stream is refused it is 1, and a line tells
+where and why, as in
+  flac: song.flac: frame 3: 26 FrameCheck";
+
+const TEST_EXAMPLE: &str = "Example:
+  $ flac test song.flac
+  frames 2584 samples 10584000
+
+The samples are those of each channel. Where the stream states their number and their MD5,
+both were compared. A file that was cut:
+  $ flac test cut.flac
+  flac: cut.flac: frame 1291: 3 Truncated";
+
+const DECODE_EXAMPLE: &str = "Example, of a stream of 44100 Hz with two channels of 16 bits:
+  $ flac decode song.flac song.raw
+  $ sox -t raw -r 44100 -c 2 -b 16 -e signed -L song.raw song.wav
+
+What was written before a fault stays in OUT.";
+
+const LIST_EXAMPLE: &str = "Example:
+  $ flac list song.flac
+  block 0 STREAMINFO 34
+    blocks 4096 4096 frames 14 9217 rate 44100 channels 2 depth 16 samples 10584000
+    md5 1e9f2ec1e5a1a1d5f6a3b8a7c0de4a31
+  block 1 VORBIS_COMMENT 51
+    vendor reference libFLAC 1.4.2 20221022
+    comment TITLE=x
+
+Bytes of a text outside 20 to 7E, and the backslash, are shown as \\x and two digits.";
+
 /// Reads the words, of which the first is the program's name.
 ///
 /// # Errors
@@ -63,7 +98,8 @@ fn parsed<'a>(alloc: Global, words: &'a [String]) -> Result<Option<Job<'a>>, cla
 /// The commands of the program.
 fn command<'a>(alloc: Global) -> Result<Command<'a>, AllocError> {
     Command::new(alloc, "flac")
-        .about("Tests and decodes FLAC streams (RFC 9639)")
+        .about("Tests, decodes and lists FLAC streams (RFC 9639)")
+        .after_help(EXAMPLES)
         .subcommand_required(true)
         .subcommand(test_command(alloc)?)?
         .subcommand(decode_command(alloc)?)?
@@ -74,7 +110,7 @@ fn test_command<'a>(alloc: Global) -> Result<Command<'a>, AllocError> {
     let input = Arg::new(alloc, "IN").required(true).help("The stream");
     Command::new(alloc, "test")
         .about("Decodes a stream, and prints how many frames and samples it has")
-        .after_help("Example: flac test song.flac\n  frames 2584 samples 10584000")
+        .after_help(TEST_EXAMPLE)
         .arg(input)
 }
 
@@ -87,7 +123,7 @@ fn decode_command<'a>(alloc: Global) -> Result<Command<'a>, AllocError> {
         .about(
             "Decodes a stream to raw samples: interleaved, signed little-endian, whole bytes a sample",
         )
-        .after_help("Example: flac decode song.flac song.raw")
+        .after_help(DECODE_EXAMPLE)
         .arg(input)?
         .arg(output)
 }
@@ -96,6 +132,6 @@ fn list_command<'a>(alloc: Global) -> Result<Command<'a>, AllocError> {
     let input = Arg::new(alloc, "IN").required(true).help("The stream");
     Command::new(alloc, "list")
         .about("Decodes a stream, and lists its metadata blocks")
-        .after_help("Example: flac list song.flac")
+        .after_help(LIST_EXAMPLE)
         .arg(input)
 }

@@ -1,5 +1,5 @@
 -- Samples that are written one after another.
-use Rattle.std.proofs.Common.{◌≡◌, ℕ, zero, suc, ℤ, pos, ◌+◌, ◌-◌, ◌<◌, ◌≤◌, List, [], ◌∷◌, ◌++◌, length, take, refl, sym, ap, ◌∙◌, append_assoc, arith}
+use Rattle.std.proofs.Common.{◌≡◌, ℕ, zero, suc, ℤ, pos, ◌+◌, ◌<◌, List, [], ◌∷◌, ◌++◌, length, take, sym, ap, ◌∙◌, append_assoc, arith}
 use Rattle.std.proofs.lemmas.List.{append-nil}
 use Rattle.std.specs.Prelude.{slice_index_or}
 use Rattle.flac_native.specs.Message.{sample_bytes, row_bytes, rows_bytes}
@@ -24,3 +24,16 @@ rows_more width channels (suc n) i =
     let e : i + 1 + n ≡ i + suc n = omega arith in
     let s : suc n + 1 ≡ suc (n + 1) = omega arith in
     rw s (ap (λ r. row_bytes width channels i ++ r) (more ∙ ap (λ k. rows_bytes width channels n (i + 1) ++ row_bytes width channels k) e) ∙ sym (append_assoc (row_bytes width channels i) (rows_bytes width channels n (i + 1)) (row_bytes width channels (i + suc n))))
+
+-- the samples at more indices
+pub rows_split : (width : ℕ) (channels : List (List ℤ)) (n k i : ℕ) → rows_bytes width channels (n + k) i ≡ rows_bytes width channels n i ++ rows_bytes width channels k (i + n)
+unfolding rows_bytes
+rows_split width channels zero k i =
+    let e : i ≡ i + 0 = omega arith in
+    let z : 0 + k ≡ k = omega arith in
+    rw z (ap (λ j. rows_bytes width channels k j) e)
+rows_split width channels (suc n) k i =
+    let more = rows_split width channels n k (i + 1) in
+    let e : i + 1 + n ≡ i + suc n = omega arith in
+    let s : suc n + k ≡ suc (n + k) = omega arith in
+    rw s (ap (λ r. row_bytes width channels i ++ r) (more ∙ ap (λ j. rows_bytes width channels n (i + 1) ++ rows_bytes width channels k j) e) ∙ sym (append_assoc (row_bytes width channels i) (rows_bytes width channels n (i + 1)) (rows_bytes width channels k (i + suc n))))

@@ -26,6 +26,6 @@ pub use flac_header::Profile;
 pub use flac_meta::{Block, StreamInfo};
 pub use item::Item;
 pub use laws::only_one_way;
-pub use message::put_row;
+pub use message::put_rows;
 pub use sink::{Sink, SinkFault};
 pub use track::Track;

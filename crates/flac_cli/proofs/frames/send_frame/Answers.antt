@@ -1,28 +1,29 @@
-use Rattle.std.proofs.Common.{◌≡◌, arith, rules, ◌+◌, ◌++◌, take, refl, sym, ap, ◌∙◌, append_assoc, length}
-use Rattle.flac_native.specs.Message.{row_bytes, rows_bytes}
+use Rattle.std.proofs.Common.{arith, rules, ap, sym, refl, ◌∙◌, ◌++◌, append-nil}
 use Rattle.flac_frame.specs.Lent.{frame_of}
 use Rattle.flac_cli.proofs.Sent.{rows_none, rows_step}
 use Rattle.flac_cli.proofs.frames.send_frame.Goals as goal
 
-pub loop-index-init : goal.loop-index-init
-loop-index-init g c = record {
-  held = omega arith;
-  length = refl;
-  known = λ k. k;
-  sent = λ k. ap (λ l. g.W.Target.sent c.args.target.now ++ l) (sym (rows_none c.args.width (frame_of c.args.frame.now).channels 0));
-  names = refl;
-  errors = refl;
-}
-
-pub loop-index-preserved : goal.loop-index-preserved
-loop-index-preserved g c =
-    let before = c.loop-index.invariant in
-    let room = c.in_ok-start.ensures in
+pub loop-start-init : goal.loop-start-init
+loop-start-init g c =
+    let sent = g.W.Target.sent c.args.target.now in
     record {
-      held = omega (arith, c.put_row-held.ensures.end, room.held);
+      within = omega arith;
+      length = refl;
+      known = λ k. k;
+      sent = λ k. sym (ap (λ l. sent ++ l) (rows_none c.args.width (frame_of c.args.frame.now).channels 0) ∙ append-nil sent);
+      names = refl;
+      errors = refl;
+    }
+
+pub loop-start-preserved : goal.loop-start-preserved
+loop-start-preserved g c =
+    let before = c.loop-start.invariant in
+    let sends = c.in_ok-send_all.ensures.sends in
+    record {
+      within = omega (arith, before.within, c.loop-start-test.true, c.min-count.ensures);
       length = search (rules, before.length);
-      known = λ k. room.known (before.known k);
-      sent = λ k. rows_step c.args.width (frame_of c.args.frame.now).channels c.loop-index.index _ _ _ _ _ (before.sent k) (room.sent (before.known k)) c.put_row-held.ensures.bytes;
-      names = room.names ∙ before.names;
-      errors = room.counted ∙ before.errors;
+      known = λ k. sends.known (before.known k);
+      sent = λ k. rows_step c.args.width (frame_of c.args.frame.now).channels c.loop-start.start c.min-count.result _ _ _ _ (before.sent k) c.put_rows-end.ensures.bytes (sends.sent (before.known k));
+      names = sends.names ∙ before.names;
+      errors = sends.counted ∙ before.errors;
     }

@@ -1,0 +1,10 @@
+use Rattle.std.proofs.Common.{◌≡◌, ◌≤◌, ◌*◌, take}
+use Rattle.flac_native.specs.Message.{rows_bytes}
+use Rattle.flac_frame.specs.Lent.{frame_of}
+use Rattle.flac_native.proofs.message.put_rows_of.Given as goal
+
+abbrev pub invariant-loop-i : goal.invariant-loop-i
+invariant-loop-i l = record {
+  end : l.at ≤ 32 * l.i;
+  bytes : take l.at l.out ≡ rows_bytes l.width (frame_of l.view).channels l.i l.start;
+}
