@@ -1,5 +1,5 @@
 -- What an answer of a decoding says.
-use Rattle.std.proofs.Common.{◌≡◌, None, Ok, Err, OnOk, Result, refl}
+use Rattle.std.proofs.Common.{◌≡◌, ℕ, nat_lt, true, None, Ok, Err, OnOk, Result, refl}
 use Rattle.flac_native.specs.Item.{told}
 use Rattle.flac_native.specs.declared.fault.Fault.{Fault}
 use Rattle.flac_bits.specs.Handing.{outcome_of}
@@ -8,3 +8,7 @@ use Rattle.flac_bits.specs.Handing.{outcome_of}
 pub at_ok : {A X : Type 0} (r : Result A Fault) → (outcome_of told r ≡ None → X) → OnOk r X
 at_ok (Ok a) h = h refl
 at_ok (Err e) h = tt
+
+-- A count that stands at 0 can rise.
+pub counts_on : (n : ℕ) → n ≡ 0 → nat_lt n 18446744073709551615 ≡ true
+counts_on n is = rw is refl

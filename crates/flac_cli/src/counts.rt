@@ -1,6 +1,6 @@
 //! A sink that counts.
 
-ghost use Rattle.std.specs.Prelude.{◌≡◌, []};
+ghost use Rattle.std.specs.Prelude.{◌≡◌, true, []};
 ghost use Rattle.flac_cli.specs.Taking.{frames_after, samples_after};
 
 use flac_frame::FrameView;
@@ -19,6 +19,8 @@ impl Sink for Counts {
       frames : new.frames ≡ frames_after old.frames item;
       samples : new.samples ≡ samples_after old.samples item;
     } };
+
+    ghost known = { λ _. true };
 
     ghost errors = { λ _. 0 };
 

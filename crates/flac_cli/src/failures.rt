@@ -1,6 +1,6 @@
 //! A count of failures.
 
-ghost use Rattle.std.specs.Prelude.{◌≡◌, ◌<◌, OnOk, OnErr};
+ghost use Rattle.std.specs.Prelude.{◌≡◌, ◌<◌, Err};
 
 use flac_native::SinkFault;
 
@@ -11,17 +11,12 @@ pub(crate) struct Failures {
 }
 
 impl Failures {
-    /// Counts one more, and answers it. Behind 2^64 - 1 none is counted, and none is answered.
+    /// Counts one more, and answers it. The count stops at 2^64 - 1.
     pub(crate) fn fail(&mut self) -> Result<(), SinkFault>
-        ensures full { OnOk result ((self.new ≡ self.old) × (self.old.count ≡ 18446744073709551615)) }
-        ensures counted { OnErr result (self.old.count < self.new.count) }
+        ensures refused { result ≡ Err SinkFault }
+        ensures counted { self.old.count < 18446744073709551615 → self.old.count < self.new.count }
     {
-        match self.count.checked_add(1) {
-            Some(count) => {
-                self.count = count;
-                Err(SinkFault)
-            }
-            None => Ok(()),
-        }
+        self.count = self.count.saturating_add(1);
+        Err(SinkFault)
     }
 }

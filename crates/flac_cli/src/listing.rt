@@ -1,6 +1,6 @@
 //! A sink that lists metadata.
 
-ghost use Rattle.std.specs.Prelude.{[], ⊤};
+ghost use Rattle.std.specs.Prelude.{◌≡◌, [], ⊤, nat_lt};
 
 use crate::failures::Failures;
 use crate::lines::Lines;
@@ -20,7 +20,9 @@ pub(crate) struct Listing<W: Target> {
 }
 
 impl<W: Target> Listing<W> {
-    pub(crate) fn new(target: W) -> Listing<W> {
+    pub(crate) fn new(target: W) -> Listing<W>
+        ensures { result.failures.count ≡ 0 }
+    {
         Listing {
             lines: Lines::new(target),
             index: 0,
@@ -31,6 +33,8 @@ impl<W: Target> Listing<W> {
 
 impl<W: Target> Sink for Listing<W> {
     ghost takes = { λ _ _ _. ⊤ };
+
+    ghost known = { λ s. nat_lt s.failures.count 18446744073709551615 };
 
     ghost errors = { λ s. s.failures.count };
 

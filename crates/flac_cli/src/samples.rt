@@ -1,6 +1,6 @@
 //! A sink that writes raw samples.
 
-ghost use Rattle.std.specs.Prelude.{◌≡◌, ◌≤◌, ◌<◌, ◌++◌, true};
+ghost use Rattle.std.specs.Prelude.{◌≡◌, ◌≤◌, ◌++◌, nat_lt, true};
 ghost use Rattle.flac_cli.specs.Taking.{depth_behind, samples_in};
 
 use crate::failures::Failures;
@@ -36,13 +36,13 @@ impl<W: Target> SampleWriter<W> {
 }
 
 impl<W: Target> Sink for SampleWriter<W> {
-    // It takes an item where it can still count a failure.
-    ghost takes = { λ old item new. old.failures.count < 18446744073709551615 → record {
-      can : new.failures.count < 18446744073709551615;
+    ghost takes = { λ old item new. record {
       known : W.known old.target ≡ true → W.known new.target ≡ true;
       depth : new.depth ≡ depth_behind old.depth item;
       sent : W.known old.target ≡ true → W.sent new.target ≡ W.sent old.target ++ samples_in old.depth item;
     } };
+
+    ghost known = { λ s. nat_lt s.failures.count 18446744073709551615 };
 
     ghost errors = { λ s. s.failures.count };
 

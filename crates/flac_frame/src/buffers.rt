@@ -1,6 +1,6 @@
 //! The arrays that frames are read into.
 
-ghost use Rattle.std.specs.Prelude.{◌≡◌, ◌≤◌, ◌<◌, ◌+◌, ◌*◌, length, min, Some, None, Err, OnOk, OnErr, IfOk, IfErr, ⊤, []};
+ghost use Rattle.std.specs.Prelude.{◌≡◌, ◌≢◌, ◌≤◌, ◌<◌, ◌+◌, ◌*◌, length, min, Some, None, Err, OnOk, OnErr, IfOk, IfErr, ⊤, []};
 ghost use Rattle.flac_bits.specs.Reading.{Counts, Reads, Means};
 ghost use Rattle.flac_bits.specs.State.{started};
 ghost use Rattle.flac_header.specs.Header.{greatest_block};
@@ -103,6 +103,7 @@ impl FrameBuffers {
         ensures refused { OnErr result ((self.new.before ≡ self.old.before) × (self.new.held ≡ nothing)) }
         ensures spends { OnOk result (bits.new.most + 40 ≤ bits.old.most) }
         ensures counts { Counts bits.old bits.new result }
+        ensures memory { IfErr result (λ e. e ≢ Why.Memory) }
         ensures reads { Reads (λ _. self.new.held) (frame info.now self.old.before) (started bits.old) bits.new result }
         ensures means { Means (λ _. self.new.held) (frame info.now self.old.before) (started bits.old) bits.new result }
     {
@@ -122,6 +123,7 @@ impl FrameBuffers {
         ensures refused { OnErr result ((self.new.before ≡ self.old.before) × (self.new.held ≡ nothing)) }
         ensures spends { OnOk result (bits.new.most + 40 ≤ bits.old.most) }
         ensures counts { Counts bits.old bits.new result }
+        ensures memory { IfErr result (λ e. e ≢ Why.Memory) }
         ensures reads { Reads (λ _. self.new.held) (frame info.now self.old.before) (started bits.old) bits.new result }
     {
         self.variable = false;
@@ -169,6 +171,7 @@ impl FrameBuffers {
         requires block { min info.now.greatest_block (greatest_block info.now.rate) ≤ self.old.max_block }
         ensures spends { OnOk result (bits.new.most + 40 ≤ bits.old.most) }
         ensures counts { Counts bits.old bits.new result }
+        ensures memory { IfErr result (λ e. e ≢ Why.Memory) }
         ensures reads { Reads frame_of (frame info.now self.old.before) (started bits.old) bits.new result }
         ensures* after { sem 𝓛 (follows_so the_row the_row self.entry.ghost_name none (λ _ _. ⊤) (λ last. Leaves self.old last frame_of result)) }
     {

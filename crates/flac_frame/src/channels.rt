@@ -1,6 +1,6 @@
 //! The subframes of a frame.
 
-ghost use Rattle.std.specs.Prelude.{◌≡◌, ◌≤◌, ◌<◌, ◌+◌, ◌*◌, OnOk, IfOk, length, cond, Some, None, [], nat_le, All, IsTrue};
+ghost use Rattle.std.specs.Prelude.{◌≡◌, ◌≢◌, ◌≤◌, ◌<◌, ◌+◌, ◌*◌, OnOk, IfOk, length, cond, Some, None, [], nat_le, All, IsTrue, IfErr};
 ghost use Rattle.flac_bits.specs.Signed.{FitsBits};
 ghost use Rattle.flac_bits.specs.Reading.{Counts, Reads};
 ghost use Rattle.flac_meta.specs.Info.{Info};
@@ -53,6 +53,7 @@ pub(crate) fn read_subframes<R: Source>(
     ensures small { IfOk result (λ fits. IsTrue fits → All (FitsBits 34) samples.new) }
     ensures spends { OnOk result (bits.new.most ≤ bits.old.most) }
     ensures counts { Counts bits.old bits.new result }
+    ensures memory { IfErr result (λ e. e ≢ Why.Memory) }
     ensures reads { Reads (λ fits. cond fits (Some (chunks channels block samples.new)) None) (subframes depth code block limits.now (Some []) 0 channels) bits.old bits.new result }
 {
     let size = block as usize;

@@ -1,6 +1,6 @@
 //! The end of a frame.
 
-ghost use Rattle.std.specs.Prelude.{◌≡◌, ◌≤◌, OnOk};
+ghost use Rattle.std.specs.Prelude.{◌≡◌, ◌≢◌, ◌≤◌, OnOk, IfErr};
 ghost use Rattle.flac_bits.specs.Reading.{Counts, Reads};
 ghost use Rattle.flac_frame.specs.Frame.{frame_end};
 
@@ -11,6 +11,7 @@ use flac_bits::{BitReader, Source, Why};
 pub(crate) fn read_end<R: Source>(bits: &mut BitReader<R>) -> Result<(), Why>
     ensures spends { OnOk result (bits.new.most ≤ bits.old.most) }
     ensures counts { Counts bits.old bits.new result }
+    ensures memory { IfErr result (λ e. e ≢ Why.Memory) }
     ensures reads { Reads (λ u. u) frame_end bits.old bits.new result }
 {
     if !bits.align()? {

@@ -1,6 +1,6 @@
 //! What follows the header of a frame.
 
-ghost use Rattle.std.specs.Prelude.{◌≡◌, ◌≤◌, ◌<◌, ◌+◌, ◌*◌, ◌^◌, length, min, take, OnOk, IfOk};
+ghost use Rattle.std.specs.Prelude.{◌≡◌, ◌≢◌, ◌≤◌, ◌<◌, ◌+◌, ◌*◌, ◌^◌, length, min, take, OnOk, IfOk, IfErr};
 ghost use Rattle.flac_bits.specs.Reading.{Counts, Reads};
 ghost use Rattle.flac_frame.specs.Frame.{frame_body, frame};
 ghost use Rattle.flac_bits.specs.State.{started};
@@ -31,6 +31,7 @@ fn read_body<R: Source>(
     requires out { length out.old ≡ info.now.channels * header.now.size }
     ensures spends { OnOk result (bits.new.most ≤ bits.old.most) }
     ensures counts { Counts bits.old bits.new result }
+    ensures memory { IfErr result (λ e. e ≢ Why.Memory) }
     ensures reads { Reads (λ _. frame_in info.now.channels header.now out.new) (frame_body info.now header.now) bits.old bits.new result }
 {
     let channels = info.channels() as usize;
@@ -72,6 +73,7 @@ pub(crate) fn read_into<R: Source>(
     ensures size { IfOk result (λ h. h.size ≤ min info.now.greatest_block (greatest_block info.now.rate)) }
     ensures spends { OnOk result (bits.new.most + 40 ≤ bits.old.most) }
     ensures counts { Counts bits.old bits.new result }
+    ensures memory { IfErr result (λ e. e ≢ Why.Memory) }
     ensures reads { Reads (λ h. frame_in info.now.channels h (take (info.now.channels * h.size) out.new)) (frame info.now before.now) (started bits.old) bits.new result }
 {
     let header = read_start(bits, info, profile, before)?;

@@ -1,6 +1,6 @@
 //! The header of a frame in its stream.
 
-ghost use Rattle.std.specs.Prelude.{◌≡◌, ◌≤◌, ◌<◌, ◌+◌, ◌^◌, IfOk, OnOk};
+ghost use Rattle.std.specs.Prelude.{◌≡◌, ◌≢◌, ◌≤◌, ◌<◌, ◌+◌, ◌^◌, IfOk, OnOk, IfErr};
 ghost use Rattle.flac_bits.specs.Reading.{Counts, Reads};
 ghost use Rattle.flac_bits.specs.State.{started};
 ghost use Rattle.flac_header.specs.Header.{channels_of, greatest_block, IsHeader};
@@ -61,6 +61,7 @@ pub(crate) fn read_start<R: Source>(
     ensures size { IfOk result (λ h. (h.size ≤ info.now.greatest_block) × (h.size ≤ greatest_block info.now.rate)) }
     ensures spends { OnOk result (bits.new.most + 40 ≤ bits.old.most) }
     ensures counts { Counts bits.old bits.new result }
+    ensures memory { IfErr result (λ e. e ≢ Why.Memory) }
     ensures reads { Reads (λ h. h) (stream_header info.now before.now) (started bits.old) bits.new result }
 {
     let header = read_header(bits)?;

@@ -186,7 +186,7 @@ pub moves_refused : {X Y : Type 0} (old new : Stage) (view : X → Option Item) 
 moves_refused {X} {Y} old new view seen f h = go old.course h
   where
     goes : Goes old new view (Err f) → Goes old new seen (Err f)
-    goes h = record { gives = λ p at known same quiet room items end still. h.gives p at known same quiet (λ e. room (same_why f.why Memory e)) items end still; counts = h.counts; going = h.going; ends = h.ends; refused = h.refused }
+    goes h = record { gives = λ p at known same quiet room items end still. h.gives p at known same quiet (λ e. room (same_why f.why Memory e)) items end still; counts = h.counts; memory = h.memory; going = h.going; ends = h.ends; refused = h.refused }
 
     go : (k : Course) → MovesFrom k old new view (Err f) → MovesFrom k old new seen (Err f)
     go course.Begun h = goes h

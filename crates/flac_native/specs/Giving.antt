@@ -1,5 +1,5 @@
 -- What a decoder has still to give, and that each call gives the first of it.
-use Rattle.std.specs.Prelude.{◌≡◌, true, List, [], ◌∷◌, Option, Some, None, Result, Ok, Err, IfOk, IfErr, IfSome, ⊤}
+use Rattle.std.specs.Prelude.{◌≡◌, ◌≢◌, true, List, [], ◌∷◌, Option, Some, None, Result, Ok, Err, IfOk, IfErr, IfSome, ⊤}
 use Rattle.flac_bits.specs.declared.source.Source as source
 use Rattle.flac_bits.specs.State.{Cursor, State}
 use Rattle.flac_bits.specs.Fencing.{lifted}
@@ -15,6 +15,7 @@ use Rattle.flac_native.specs.Item.{Item, metadata, frame, told}
 use Rattle.flac_native.specs.declared.fault.Place.{Place}
 use Rattle.flac_native.specs.declared.fault.Fault.{Fault}
 use Rattle.flac_native.specs.declared.part.Part.{Part}
+use Rattle.flac_native.specs.declared.phase.Phase.TheVariants.{Frames}
 use Rattle.flac_native.specs.declared.track.Track.{Track}
 use Rattle.flac_native.specs.declared.course.Course.{Course}
 use Rattle.flac_native.specs.declared.course.Course.TheVariants as course
@@ -100,6 +101,8 @@ held (course.Spent at) t = None
 pub record Goes {X : Type 0} (old new : Stage) (view : X → Option Item) (result : Result X Fault) : Type 0 where
   pub gives : (p : Progress) → IsAt old.track p → GivesFirst p (lifted old.reader) new.reader new.track view result
   pub counts : Counts (lifted old.reader) new.reader (reason_of told result)
+  -- no growth is refused behind the last block
+  pub memory : old.track.phase ≡ Frames → IfErr result (λ f. f.why ≢ Memory)
   pub going : IfOk result (λ x. IfSome (view x) (λ _. (part : Part) × (new.course ≡ course.Read part)))
   pub ends : seen_by view result ≡ Ok None → new.course ≡ course.Over
   pub refused : IfErr result (λ f. new.course ≡ course.Spent f.at)

@@ -1,6 +1,6 @@
 //! One part of a stream after another.
 
-ghost use Rattle.std.specs.Prelude.{◌≡◌, ◌≤◌, ◌+◌, ◌++◌, ◌&&◌, ℕ, List, min, true, is_some, OnOk, IfOk, IfErr, IfSome, MatchOption};
+ghost use Rattle.std.specs.Prelude.{◌≡◌, ◌≢◌, ◌≤◌, ◌+◌, ◌++◌, ◌&&◌, ℕ, List, min, true, is_some, OnOk, IfOk, IfErr, IfSome, MatchOption};
 ghost use Rattle.flac_bits.specs.Bits.{is_nil};
 ghost use Rattle.flac_bits.specs.Fencing.{lifted};
 ghost use Rattle.flac_bits.specs.Meaning.{AllKept, BreaksFirst};
@@ -38,6 +38,7 @@ fn read_marker<R: Source>(reader: &mut BitReader<R>) -> Result<(), Why>
 fn read_part<R: Source>(reader: &mut BitReader<R>, track: &mut Track) -> Result<Part, Why>
     ensures spends { OnOk result (reader.new.most + 32 ≤ reader.old.most) }
     ensures counts { Counts (lifted reader.old) reader.new result }
+    ensures memory { track.old.phase ≡ Phase.Frames → IfErr result (λ e. e ≢ Why.Memory) }
     ensures reads { ReadsWithinInRoom (room_in track.old.phase) (λ part. piece_of track.new part) (layout (stand_of track.old)) reader.old reader.new result }
     ensures stand { IfOk result (λ part. stand_of track.new ≡ stand_after (stand_of track.old) (piece_of track.new part)) }
     ensures samples { IfOk result (λ part. track.new.samples ≡ min (track.old.samples + samples_in (piece_of track.new part)) 18446744073709551615) }
@@ -104,6 +105,8 @@ pub(crate) fn advance<R: Source>(
 ) -> Result<Option<Part>, Fault>
     ensures spends { IfOk result (λ o. MatchOption o (reader.new.most ≤ reader.old.most) (λ _. reader.new.most + 32 ≤ reader.old.most)) }
     ensures counts { Counts (lifted reader.old) reader.new (reason_of told result) }
+    // Behind the last block no memory is taken.
+    ensures memory { track.old.phase ≡ Phase.Frames → IfErr result (λ f. f.why ≢ Why.Memory) }
     ensures steps { (p : Progress) → IsAt track.old p → StepsTo (λ part. piece_of track.new part) told (step_at grammar p (lifted reader.old).cursor) (lifted reader.old) reader.new result }
     ensures made { IfOk result (λ o. IfSome o (λ part. IsMadeAs part track.old track.new)) }
     ensures next { IfOk result (λ o. IfSome o (λ part. (p : Progress) → IsAt track.old p → IsAt track.new (next p (piece_of track.new part)))) }

@@ -32,6 +32,7 @@ fn same_bytes(one: &[u8], other: &[u8]) -> bool
 fn judge(info: &StreamInfo, samples: u64, hasher: Md5) -> Result<(), Why>
     ensures judged { (count : ℕ) (message : List ℕ) → samples ≡ min count 18446744073709551615 → Holds hasher message → EndsBy (end_rules (Some info.now) count message) result }
     ensures quiet { IfErr result (λ e. e ≢ Why.Read) }
+    ensures memory { IfErr result (λ e. e ≢ Why.Memory) }
 {
     if info.total() != 0 && info.total() != samples {
         return Err(Why::TotalMismatch);
@@ -53,6 +54,7 @@ impl Track {
     pub(crate) fn close(&mut self) -> Result<(), Why>
         ensures judged { (p : Progress) → IsAt self.old p → EndsBy (end_rules p.stand.info p.samples p.message) result }
         ensures quiet { IfErr result (λ e. e ≢ Why.Read) }
+        ensures memory { IfErr result (λ e. e ≢ Why.Memory) }
     {
         let Some(format) = &self.format else {
             return Ok(());

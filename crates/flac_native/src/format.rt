@@ -1,6 +1,6 @@
 //! STREAMINFO, and the buffers for its frames.
 
-ghost use Rattle.std.specs.Prelude.{◌≡◌, ◌≤◌, ◌+◌, OnOk, IfOk, IfErr, Some, None, min};
+ghost use Rattle.std.specs.Prelude.{◌≡◌, ◌≢◌, ◌≤◌, ◌+◌, OnOk, IfOk, IfErr, Some, None, min};
 ghost use Rattle.flac_header.specs.Header.{greatest_block};
 
 use flac_bits::{BitReader, Source, Why};
@@ -47,6 +47,7 @@ impl Format {
     ) -> Result<(), Why>
         ensures spends { OnOk result (bits.new.most + 40 ≤ bits.old.most) }
         ensures counts { Counts (lifted bits.old) bits.new result }
+        ensures memory { IfErr result (λ e. e ≢ Why.Memory) }
         ensures reads { ReadsWithin (Some 16777215) (λ _. self.new.buffers.held) (frame self.old.info self.old.buffers.before) bits.old bits.new result }
         ensures before { OnOk result (self.new.buffers.before ≡ Some (after self.old.buffers.before self.new.buffers.held)) }
         ensures info { self.new.info ≡ self.old.info }

@@ -29,3 +29,6 @@ pub use laws::only_one_way;
 pub use message::put_rows;
 pub use sink::{Sink, SinkFault};
 pub use track::Track;
+
+#[cfg(test)]
+mod tests;

@@ -21,6 +21,7 @@ use crate::decoder::Decoder;
 use crate::fault::Fault;
 use crate::item::Item;
 use crate::part::Part;
+use crate::phase::Phase;
 use crate::track::Track;
 use flac_bits::{BitReader, Source, Why};
 use flac_header::Profile;
@@ -37,6 +38,7 @@ fn is_marker(outcome: &Result<Option<Part>, Fault>) -> bool
 /// Reads the next block or frame; nothing where the stream is over. The marker is read with the block behind it.
 fn next_item<R: Source>(reader: &mut BitReader<R>, track: &mut Track) -> Result<Option<Part>, Fault>
     ensures counts { Counts (lifted reader.old) reader.new (reason_of told result) }
+    ensures memory { track.old.phase ≡ Phase.Frames → IfErr result (λ f. f.why ≢ Why.Memory) }
     ensures made { IfOk result (λ o. IfSome o (λ part. is_made (Course.Read part) track.new ≡ true)) }
     ensures gives { (p : Progress) → IsAt track.old p → GivesFirst p (lifted reader.old) reader.new track.new (λ o. found track.new o) result }
 {

@@ -100,6 +100,7 @@ impl Track {
     pub(crate) fn next_frame<R: Source>(&mut self, bits: &mut BitReader<R>) -> Result<(), Why>
         ensures spends { OnOk result (bits.new.most + 40 ≤ bits.old.most) }
         ensures counts { Counts (lifted bits.old) bits.new result }
+        ensures memory { IfErr result (λ e. e ≢ Why.Memory) }
         ensures reads { ReadsWithin (Some 16777215) (λ _. shown self.new) (frame_behind (info_in self.old.format) (before_in self.old.format)) bits.old bits.new result }
         ensures stand { OnOk result (stand_of self.new ≡ stand_after (stand_of self.old) (framed (shown self.new))) }
         ensures samples { OnOk result (self.new.samples ≡ min (self.old.samples + (shown self.new).size) 18446744073709551615) }

@@ -1,6 +1,6 @@
 //! The residual, read into the places of the samples that it restores.
 
-ghost use Rattle.std.specs.Prelude.{◌≡◌, ◌≤◌, ◌<◌, ◌+◌, ◌-◌, ◌*◌, ◌^◌, ◌/◌, ◌⊎◌, OnOk, IfOk, IfSome, length, All};
+ghost use Rattle.std.specs.Prelude.{◌≡◌, ◌≢◌, ◌≤◌, ◌<◌, ◌+◌, ◌-◌, ◌*◌, ◌^◌, ◌/◌, ◌⊎◌, OnOk, IfOk, IfSome, length, All, IfErr};
 ghost use Rattle.flac_bits.specs.Layout.{bind, done, zeros_at};
 ghost use Rattle.flac_bits.specs.Lists.{list_of};
 ghost use Rattle.flac_bits.specs.Rice.{rice_value, unfolded};
@@ -22,6 +22,7 @@ fn read_partition<R: Source>(
     ensures fits { OnOk result (All (FitsBits 32) out.new) }
     ensures spends { OnOk result (bits.new.most ≤ bits.old.most) }
     ensures counts { Counts bits.old bits.new result }
+    ensures memory { IfErr result (λ e. e ≢ Why.Memory) }
     ensures reads { Reads (λ _. out.new) (bind (partition parameter_bits (length out.old)) (λ p. done p.values)) bits.old bits.new result }
 {
     let parameter = bits.take(parameter_bits)? as u32;
@@ -58,6 +59,7 @@ fn read_partitions<R: Source>(
     ensures fits { OnOk result (All (FitsBits 32) out.new) }
     ensures spends { OnOk result (bits.new.most ≤ bits.old.most) }
     ensures counts { Counts bits.old bits.new result }
+    ensures memory { IfErr result (λ e. e ≢ Why.Memory) }
     ensures reads { Reads (λ _. out.new) (bind (partitions parameter_bits (size - order) size count) (λ ps. done (all_values ps))) bits.old bits.new result }
 {
     let mut start = 0;
@@ -94,6 +96,7 @@ fn read_residual_header<R: Source>(
     ensures room { IfOk result (λ h. order < block / 2 ^ h.1) }
     ensures spends { OnOk result (bits.new.most ≤ bits.old.most) }
     ensures counts { Counts bits.old bits.new result }
+    ensures memory { IfErr result (λ e. e ≢ Why.Memory) }
     ensures reads { Reads (λ h. (h.0, h.1)) (residual_header limit order block) bits.old bits.new result }
 {
     let method = bits.take(2)? as u32;
@@ -124,6 +127,7 @@ pub fn read_residual<R: Source>(
     ensures fits { OnOk result (All (FitsBits 32) out.new) }
     ensures spends { OnOk result (bits.new.most ≤ bits.old.most) }
     ensures counts { Counts bits.old bits.new result }
+    ensures memory { IfErr result (λ e. e ≢ Why.Memory) }
     ensures reads { Reads (λ _. out.new) (bind (residual limit order (length out.old + order)) (λ r. done (residual_values r))) bits.old bits.new result }
 {
     let block = out.len() + order;

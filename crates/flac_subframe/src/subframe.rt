@@ -1,6 +1,6 @@
 //! A subframe, read into its samples' places.
 
-ghost use Rattle.std.specs.Prelude.{◌≡◌, ◌≤◌, ◌<◌, ◌+◌, ◌-◌, OnOk, IfOk, IfSome, length, cond, Some, None, All, IsTrue, map, replicate, ℤ, pos, ◌*ℤ◌, ◌^◌};
+ghost use Rattle.std.specs.Prelude.{◌≡◌, ◌≢◌, ◌≤◌, ◌<◌, ◌+◌, ◌-◌, OnOk, IfOk, IfSome, length, cond, Some, None, All, IsTrue, map, replicate, ℤ, pos, ◌*ℤ◌, ◌^◌, IfErr};
 ghost use Rattle.flac_bits.specs.Reading.{Counts, Gives, Reads, Means};
 ghost use Rattle.flac_bits.specs.Signed.{FitsBits};
 ghost use Rattle.flac_subframe.specs.Subframe.{is_reserved, predictor_order, constant, verbatim, fixed, predictor, linear, fitting, content_samples, wasted_bits, header, scaled, subframe_samples};
@@ -36,6 +36,7 @@ fn read_wasted<R: Source>(bits: &mut BitReader<R>, flag: u64, depth: u32) -> Res
     ensures left { IfOk result (λ k. k < depth) }
     ensures spends { OnOk result (bits.new.most ≤ bits.old.most) }
     ensures counts { Counts bits.old bits.new result }
+    ensures memory { IfErr result (λ e. e ≢ Why.Memory) }
     ensures reads { Reads (λ k. k) (wasted_bits flag depth) bits.old bits.new result }
 {
     if flag == 0 {
@@ -73,6 +74,7 @@ fn read_header<R: Source>(
     ensures left { IfOk result (λ h. h.wasted < depth) }
     ensures spends { OnOk result (bits.new.most + 8 ≤ bits.old.most) }
     ensures counts { Counts bits.old bits.new result }
+    ensures memory { IfErr result (λ e. e ≢ Why.Memory) }
     ensures reads { Reads (λ h. record { kind = h.kind; wasted = h.wasted }) (header depth block limits.now) bits.old bits.new result }
 {
     let zero = bits.take(1)?;
@@ -102,6 +104,7 @@ fn read_constant<R: Source>(
     ensures fits { IfOk result (λ fits. IsTrue fits → All (FitsBits depth) samples.new) }
     ensures spends { OnOk result (bits.new.most ≤ bits.old.most) }
     ensures counts { Counts bits.old bits.new result }
+    ensures memory { IfErr result (λ e. e ≢ Why.Memory) }
     ensures reads { Reads (λ fits. cond fits (Some samples.new) None)
         (bind (constant depth) (λ c. done (fitting depth (length samples.old) c))) bits.old bits.new result }
 {
@@ -121,6 +124,7 @@ fn read_verbatim<R: Source>(
     ensures fits { IfOk result (λ fits. IsTrue fits → All (FitsBits depth) samples.new) }
     ensures spends { OnOk result (bits.new.most ≤ bits.old.most) }
     ensures counts { Counts bits.old bits.new result }
+    ensures memory { IfErr result (λ e. e ≢ Why.Memory) }
     ensures reads { Reads (λ fits. cond fits (Some samples.new) None)
         (bind (verbatim depth (length samples.old)) (λ c. done (fitting depth (length samples.old) c))) bits.old bits.new result }
 {
@@ -144,6 +148,7 @@ fn read_fixed<R: Source>(
     ensures fits { IfOk result (λ fits. IsTrue fits → All (FitsBits depth) samples.new) }
     ensures spends { OnOk result (bits.new.most ≤ bits.old.most) }
     ensures counts { Counts bits.old bits.new result }
+    ensures memory { IfErr result (λ e. e ≢ Why.Memory) }
     ensures reads { Reads (λ fits. cond fits (Some samples.new) None)
         (bind (fixed depth (length samples.old) limit order) (λ c. done (fitting depth (length samples.old) c))) bits.old bits.new result }
 {
@@ -163,6 +168,7 @@ fn read_predictor<R: Source>(
     ensures fits { OnOk result (All (FitsBits 15) coefficients.new) }
     ensures spends { OnOk result (bits.new.most ≤ bits.old.most) }
     ensures counts { Counts bits.old bits.new result }
+    ensures memory { IfErr result (λ e. e ≢ Why.Memory) }
     ensures reads { Reads (λ p. record { precision = p.0; shift = p.1; coefficients = coefficients.new }) (predictor (length coefficients.old)) bits.old bits.new result }
 {
     let low = bits.take(4)? as u32;
@@ -193,6 +199,7 @@ fn read_linear_into<R: Source>(
     ensures fits { IfOk result (λ fits. IsTrue fits → All (FitsBits depth) samples.new) }
     ensures spends { OnOk result (bits.new.most ≤ bits.old.most) }
     ensures counts { Counts bits.old bits.new result }
+    ensures memory { IfErr result (λ e. e ≢ Why.Memory) }
     ensures reads { Reads (λ fits. cond fits (Some samples.new) None)
         (bind (linear depth (length samples.old) limit (length coefficients.old)) (λ c. done (fitting depth (length samples.old) c))) bits.old bits.new result }
 {
@@ -218,6 +225,7 @@ fn read_linear<R: Source>(
     ensures fits { IfOk result (λ fits. IsTrue fits → All (FitsBits depth) samples.new) }
     ensures spends { OnOk result (bits.new.most ≤ bits.old.most) }
     ensures counts { Counts bits.old bits.new result }
+    ensures memory { IfErr result (λ e. e ≢ Why.Memory) }
     ensures reads { Reads (λ fits. cond fits (Some samples.new) None)
         (bind (linear depth (length samples.old) limit order) (λ c. done (fitting depth (length samples.old) c))) bits.old bits.new result }
 {
@@ -247,6 +255,7 @@ fn read_content<R: Source>(
     ensures fits { IfOk result (λ fits. IsTrue fits → All (FitsBits depth) samples.new) }
     ensures spends { OnOk result (bits.new.most ≤ bits.old.most) }
     ensures counts { Counts bits.old bits.new result }
+    ensures memory { IfErr result (λ e. e ≢ Why.Memory) }
     ensures reads { Reads (λ fits. cond fits (Some samples.new) None) (content_samples kind depth (length samples.old) limit) bits.old bits.new result }
 {
     if kind == 0 {
@@ -295,6 +304,7 @@ pub fn read_subframe<R: Source>(
     ensures small { IfOk result (λ fits. IsTrue fits → All (FitsBits 34) samples.new) }
     ensures spends { OnOk result (bits.new.most + 8 ≤ bits.old.most) }
     ensures counts { Counts bits.old bits.new result }
+    ensures memory { IfErr result (λ e. e ≢ Why.Memory) }
     ensures reads { Reads (λ fits. cond fits (Some samples.new) None) (subframe_samples depth block limits.now) bits.old bits.new result }
     ensures means { Means (λ fits. cond fits (Some samples.new) None) (subframe_samples depth block limits.now) bits.old bits.new result }
 {
@@ -315,6 +325,7 @@ fn read_here<R: Source>(
     ensures small { IfOk result (λ fits. IsTrue fits → All (FitsBits 34) samples.new) }
     ensures spends { OnOk result (bits.new.most + 8 ≤ bits.old.most) }
     ensures counts { Counts bits.old bits.new result }
+    ensures memory { IfErr result (λ e. e ≢ Why.Memory) }
     ensures reads { Reads (λ fits. cond fits (Some samples.new) None)
         (bind (header depth block limits.now) (λ h. bind (content_samples h.kind (depth - h.wasted) block limits.now.partition) (λ o. done (scaled h.wasted o)))) bits.old bits.new result }
 {

@@ -7,6 +7,7 @@ returns-in-Ok-None g c =
     record {
       gives = λ p at known same quiet room items end still. found.gives p at known same quiet (λ e. absurd cc) items end still;
       counts = found.counts;
+      memory = λ phase. tt;
       going = tt;
       ends = λ e. refl;
       refused = tt;

@@ -1,0 +1,70 @@
+//! A stream item by item: the example of RFC 9639, appendix D.1, its digest unknown.
+
+use crate::{Decoder, Fault, Item, Place, Profile, Source, Why};
+use flac_bits::{Memory, Pieces};
+use flac_frame::FrameView;
+use std::test::Fail;
+
+/// One frame of one sample of two channels.
+const ROW: [u8; 57] = [
+    0x66, 0x4C, 0x61, 0x43, 0x80, 0x00, 0x00, 0x22, 0x10, 0x00, 0x10, 0x00, 0x00, 0x00, 0x0F, 0x00,
+    0x00, 0x0F, 0x0A, 0xC4, 0x42, 0xF0, 0x00, 0x00, 0x00, 0x01, 0x00, 0x00, 0x00, 0x00, 0x00, 0x00,
+    0x00, 0x00, 0x00, 0x00, 0x00, 0x00, 0x00, 0x00, 0x00, 0x00, 0xFF, 0xF8, 0x69, 0x18, 0x00, 0x00,
+    0xBF, 0x03, 0x58, 0xFD, 0x03, 0x12, 0x8B, 0xAA, 0x9A,
+];
+
+/// Raises the peak of each channel to that of a frame.
+fn note(frame: &FrameView<'_>, peaks: &mut [u32; 8]) {
+    for (i, peak) in peaks.iter_mut().enumerate() {
+        if i < frame.channels() {
+            for sample in frame.channel(i) {
+                *peak = (*peak).max(sample.unsigned_abs());
+            }
+        }
+    }
+}
+
+/// The peak of each channel of a stream.
+fn peaks<R: Source>(decoder: &mut Decoder<R>) -> Result<[u32; 8], Fault> {
+    let mut peaks = [0; 8];
+    for _ in 0..u64::MAX {
+        match decoder.next()? {
+            Item::Block(_) => {}
+            Item::Frame(frame) => note(&frame, &mut peaks),
+            Item::End => return Ok(peaks),
+        }
+    }
+    Ok(peaks)
+}
+
+#[test]
+fn peaks_of_a_stream(rt: HostRuntime) -> Result<(), Fail> {
+    let source = Pieces::new(Memory::new(&ROW), 1);
+    let mut decoder = Decoder::new(rt.alloc(), source, Profile::Subset);
+    let found = peaks(&mut decoder)?;
+    assert_eq!(rt; (found[0], found[1], found[2]), (25588, 10416, 0));
+    assert!(rt; matches!(decoder.next()?, Item::End));
+    Ok(())
+}
+
+#[test]
+fn refused_once_and_spent_then(rt: HostRuntime) -> Result<(), Fail> {
+    let mut decoder = Decoder::new(rt.alloc(), Memory::new(&ROW[..56]), Profile::Subset);
+    assert!(rt; matches!(decoder.next()?, Item::Block(_)));
+    let at = Place::Frame(0);
+    assert_eq!(rt;
+        decoder.step(),
+        Err(Fault {
+            at,
+            why: Why::Truncated
+        })
+    );
+    assert_eq!(rt;
+        decoder.step(),
+        Err(Fault {
+            at,
+            why: Why::Spent
+        })
+    );
+    Ok(())
+}
