@@ -272,9 +272,9 @@ impl<R: Source> BitReader<R> {
         Ok((zeros << k) + low)
     }
 
-    /// A folded value of a Rice code: zeros and a one, and the lowest k bits.
-    #[inline(always)]
-    fn folded_value(&mut self, k: u32, limit: u64) -> Result<u64, Why>
+    /// The same where the word has not the whole value: it is filled first.
+    #[inline(never)]
+    fn folded_more(&mut self, k: u32, limit: u64) -> Result<u64, Why>
         requires k { k ≤ 30 }
         requires limit { limit < 2 ^ 32 }
         ensures spends { OnOk result (self.new.most ≤ self.old.most) }
@@ -287,6 +287,22 @@ impl<R: Source> BitReader<R> {
             return Ok(value);
         }
         self.rice_slow(k, limit)
+    }
+
+    /// A folded value of a Rice code: zeros and a one, and the lowest k bits.
+    #[inline(always)]
+    fn folded_value(&mut self, k: u32, limit: u64) -> Result<u64, Why>
+        requires k { k ≤ 30 }
+        requires limit { limit < 2 ^ 32 }
+        ensures spends { OnOk result (self.new.most ≤ self.old.most) }
+        ensures counts { Counts self.old self.new result }
+        ensures memory { IfErr result (λ e. e ≢ Why.Memory) }
+        ensures reads { Reads (λ v. v) (rice k limit) self.old self.new result }
+    {
+        if let Some(value) = self.ready_rice(k, limit) {
+            return Ok(value);
+        }
+        self.folded_more(k, limit)
     }
 
     /// A residual value under the Rice parameter k (RFC 9639, section 9.2.7.3).
