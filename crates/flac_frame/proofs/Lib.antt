@@ -7,3 +7,4 @@ pub mod Following
 pub mod Gathered
 pub mod FrameTie
 pub mod Sounds
+pub mod Stood

@@ -19,6 +19,6 @@ mod view;
 pub use audio::Audio;
 pub use before::Before;
 pub use buffers::FrameBuffers;
-pub use promises::{channels_are_joined, frames_are_spelled, frames_follow};
+pub use promises::{channels_are_joined, forms_stand_for_samples, frames_are_spelled, frames_follow};
 pub use setup::SetupFault;
 pub use view::FrameView;
