@@ -114,7 +114,9 @@ const SHEET: [(usize, u8); 22] = [
 fn cue_sheet(rt: HostRuntime) -> Result<(), Fail> {
     let mut block = [0u8; 484];
     for (place, byte) in SHEET {
-        block[place] = byte;
+        if let Some(other) = block.get_mut(place) {
+            *other = byte;
+        }
     }
     let sheet = "block 1 CUESHEET 480\n  catalogue 1\\x00\\x5c lead_in 88200 cd 1\n";
     let tracks =
