@@ -36,3 +36,15 @@ goes_on old now next part x more rest after whole goes begins then_is counts rea
   names = counts.4 ∙ goes.names;
   reads = λ known. sym then_is ∙ sym (ap (λ r. and_then r more) (reads (goes.known known) counts.1)) ∙ sym begins ∙ goes.reads known;
 }
+
+-- a turn that read what it read by equations
+pub goes_same : {Y : Type 0} (old now next : State) (rest after whole : Result Y Reason) → Goes old now rest whole
+    → next.known ≡ now.known → next.errors ≡ now.errors → next.raised ≡ now.raised → next.behind ≡ now.behind → next.names ≡ now.names → rest ≡ after → Goes old next after whole
+goes_same old now next rest after whole goes known errors raised behind names same = record {
+  known = λ k. known ∙ goes.known k;
+  errors = errors ∙ goes.errors;
+  raised = raised ∙ goes.raised;
+  behind = λ k. behind ∙ goes.behind k;
+  names = names ∙ goes.names;
+  reads = λ k. sym same ∙ goes.reads k;
+}

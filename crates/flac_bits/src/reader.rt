@@ -1,15 +1,15 @@
 //! Bits out of a source of bytes.
 
-ghost use Rattle.std.specs.Prelude.{◌≡◌, ◌≢◌, ◌<◌, ◌≤◌, ◌+◌, ◌^◌, ◌-◌, ◌++◌, ◌∷◌, [], ℕ, true, IfOk, IfErr, OnOk, ◌*◌, length, take, IfSome, None, Some, Ok, ◌↔◌, false, is_some};
+ghost use Rattle.std.specs.Prelude.{◌≡◌, ◌≢◌, ◌<◌, ◌≤◌, ◌+◌, ◌^◌, ◌-◌, ◌++◌, ◌∷◌, [], ℕ, true, IfOk, IfErr, OnOk, ◌*◌, length, take, IfSome, None, Some, Ok, ◌↔◌, false, is_some, get_or, pos};
 ghost use Rattle.flac_bits.specs.declared.why.Why.TheVariants.{Truncated};
 ghost use Rattle.flac_bits.specs.Bits.{is_nil};
 ghost use Rattle.flac_bits.specs.Bits.{unsigned, bits_of, bit_value};
 ghost use Rattle.flac_bits.specs.State.{State, Cursor, short_of, with_short, started, Consumes, without_fence};
 ghost use Rattle.flac_bits.specs.Fencing.{fence_at, lifted};
 ghost use Rattle.flac_bits.specs.Store.{state_of, left_of, fenced_of, most_of, reason_of, reached, SameBits};
-ghost use Rattle.flac_bits.specs.Layout.{next_bit, number_at, zeros_at, align as to_byte, run};
+ghost use Rattle.flac_bits.specs.Layout.{next_bit, number_at, zeros_at, align as to_byte, run, and_then};
 ghost use Rattle.std.specs.Prelude.{All};
-ghost use Rattle.flac_bits.specs.Lists.{list_of};
+ghost use Rattle.flac_bits.specs.Lists.{list_of, behind};
 ghost use Rattle.flac_bits.specs.Rice.{rice, rice_value, IsResidual};
 ghost use Rattle.flac_bits.specs.Signed.{signed_field, FitsBits};
 ghost use Rattle.flac_bits.specs.Reading.{Counts, Gives, Reads};
@@ -91,6 +91,15 @@ fn refill<R: Source>(held: &mut Held, source: &mut R) -> Result<bool, Why>
         return Ok(true);
     }
     held.pull(source)
+}
+
+/// A quotient below the greatest of a residual value under the Rice parameter k: whatever the lowest bits are, the value is within its range.
+#[inline(always)]
+fn ready_limit(k: u32) -> u64
+    requires { k ≤ 30 }
+    ensures { (result + 1) * 2 ^ k ≤ 0xFFFF_FFFE }
+{
+    (MOST_FOLDED >> k) - 1
 }
 
 impl<R: Source> BitReader<R> {
@@ -323,6 +332,47 @@ impl<R: Source> BitReader<R> {
         Ok(unfolded(folded))
     }
 
+    /// A residual value, where the word has all of it and its quotient is within the limit.
+    #[inline(always)]
+    #[tactic(auto, unfolding(crate::specs::Rice::rice_value))]
+    fn ready_value(&mut self, k: u32, limit: u64) -> Option<i64>
+        requires k { k ≤ 30 }
+        requires limit { (limit + 1) * 2 ^ k ≤ 0xFFFF_FFFE }
+        ensures some { IfSome result (λ v. IsResidual v × (self.new.most ≤ self.old.most) × (self.new.known ≡ self.old.known) × (self.new.errors ≡ self.old.errors) × (self.new.raised ≡ self.old.raised) × (self.new.behind ≡ self.old.behind) × (self.new.names ≡ self.old.names)
+            × (run (rice_value k) self.old.cursor ≡ Ok (v, self.new.cursor))) }
+        ensures none { result ≡ None → self.new ≡ self.old }
+    {
+        match self.held.rice(k, limit) {
+            Some(folded) => Some(unfolded(folded)),
+            None => None,
+        }
+    }
+
+    /// Fills the places from one on with residual values, as far as the word has them, and answers where it stopped.
+    #[inline(always)]
+    fn ready_values(&mut self, k: u32, limit: u64, values: &mut [i64], from: usize) -> usize
+        requires k { k ≤ 30 }
+        requires limit { (limit + 1) * 2 ^ k ≤ 0xFFFF_FFFE }
+        requires from { from ≤ length values.old }
+        ensures within { (from ≤ result) × (result ≤ length values.old) }
+        ensures went { (self.new.most ≤ self.old.most) × (self.new.known ≡ self.old.known) × (self.new.errors ≡ self.old.errors) × (self.new.raised ≡ self.old.raised) × (self.new.behind ≡ self.old.behind) × (self.new.names ≡ self.old.names) }
+        ensures reads { and_then (run (list_of (length values.old - from) (rice_value k)) self.old.cursor) (behind (take from values.old))
+            ≡ and_then (run (list_of (length values.old - result) (rice_value k)) self.new.cursor) (behind (take result values.new)) }
+        ensures fits { ((j : ℕ) → j < from → IsResidual (get_or values.old j (pos 0))) → (j : ℕ) → j < result → IsResidual (get_or values.new j (pos 0)) }
+    {
+        let mut i = from;
+        while i < values.len() {
+            match self.ready_value(k, limit) {
+                Some(value) => {
+                    values[i] = value;
+                    i += 1;
+                }
+                None => return i,
+            }
+        }
+        i
+    }
+
     /// Fills the places with the residual values that come next under the Rice parameter k (RFC 9639, section 9.2.7.3).
     ///
     /// # Errors
@@ -337,8 +387,17 @@ impl<R: Source> BitReader<R> {
         ensures memory { IfErr result (λ e. e ≢ Why.Memory) }
         ensures reads { Reads (λ _. values.new) (list_of (length values.old) (rice_value k)) self.old self.new result }
     {
-        for i in 0..values.len() {
-            values[i] = self.rice_value(k)?;
+        let limit = ready_limit(k);
+        let mut i = 0;
+        while i < values.len() {
+            self.top_up();
+            let next = self.ready_values(k, limit, values, i);
+            if next > i {
+                i = next;
+            } else {
+                values[i] = self.rice_value(k)?;
+                i += 1;
+            }
         }
         Ok(())
     }

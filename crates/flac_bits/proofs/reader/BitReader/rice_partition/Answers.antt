@@ -1,4 +1,4 @@
-use Rattle.std.proofs.Common.{◌≡◌, ℕ, ◌+◌, ◌-◌, List, [], ◌∷◌, ◌++◌, length, take, refl, sym, ap, arith, Result, Ok, ◌∙◌, ℤ, pos, below_more}
+use Rattle.std.proofs.Common.{◌≡◌, ℕ, ◌+◌, ◌-◌, ◌<◌, List, [], ◌∷◌, ◌++◌, length, take, refl, sym, ap, arith, Result, Ok, ◌∙◌, ℤ, pos, below_more}
 use Rattle.std.proofs.lemmas.List.{take_all, get_or-set_same, get_or-set_other}
 use Rattle.std.proofs.lemmas.List.Elements.{All-from_get_or}
 use Rattle.std.proofs.lemmas.Grind.{take-set_at}
@@ -7,7 +7,7 @@ use Rattle.flac_bits.specs.Layout.{run, and_then, Reason}
 use Rattle.flac_bits.specs.Lists.{list_of, behind}
 use Rattle.flac_bits.specs.Rice.{rice_value}
 use Rattle.flac_bits.specs.Rice.{IsResidual}
-use Rattle.flac_bits.proofs.Loops.{goes_on}
+use Rattle.flac_bits.proofs.Loops.{goes_on, goes_same}
 use Rattle.flac_bits.proofs.Lists.{list_more, list_end, list_start}
 use Rattle.flac_bits.proofs.Signs.{residual_kept}
 use Rattle.flac_bits.proofs.reader.BitReader.rice_partition.Goals as goal
@@ -17,17 +17,25 @@ loop-i-preserved g c =
     let n = length c.args.values.now in
     let i = c.loop-i.i in
     let field = rice_value c.args.k in
-    let more : ℤ → Cursor → _ = λ v d. and_then (run (list_of (n - (i + 1)) field) d) (behind (take i c.loop-i.values ++ v ∷ [])) in
+    let ready = c.ready_values-next in
+    let stop : ready.result ≡ i = omega (arith, ready.ensures.within.0, c.if-next-i.false) in
+    let got = rw (stop, c.loop-i.auto.values, c.top_up.ensures) at ready.ensures in
+    let mid = ready.new.self in
+    let values = ready.new.values in
+    let short : i < length values = omega (arith, c.loop-i-test.true, ready.auto.values) in
+    let within : i < n = omega (arith, c.loop-i-test.true, c.loop-i.auto.values) in
+    let more : ℤ → Cursor → _ = λ v d. and_then (run (list_of (n - (i + 1)) field) d) (behind (take i values ++ v ∷ [])) in
     let v = c.in_ok-values.field-0 in
     let same = residual_kept v c.in_ok-values.ensures.fits in
-    let last = get_or-set_same c.loop-i.values i v (pos 0) (omega (arith, c.loop-i.auto.values, c.loop-i-test.true)) in
+    let last = get_or-set_same values i v (pos 0) short in
     rw same (record {
-      goes = goes_on c.args.self.now c.loop-i.self c.rice_value.new.self (run field c.loop-i.self.cursor) v more _ _ _
-          c.loop-i.invariant.goes (list_more n i field c.loop-i.self.cursor (take i c.loop-i.values) c.loop-i-test.true)
-          (ap (λ front. and_then (run (list_of (n - (i + 1)) field) c.rice_value.new.self.cursor) (behind front)) (sym (take-set_at c.loop-i.values i (i + 1) v refl (omega (arith, c.loop-i.auto.values, c.loop-i-test.true)))))
+      goes = goes_on c.args.self.now mid c.rice_value.new.self (run field mid.cursor) v more _ _ _
+          (goes_same c.args.self.now c.loop-i.self mid _ _ _ c.loop-i.invariant.goes got.went.1 got.went.2 got.went.3 got.went.4 got.went.5 got.reads)
+          (list_more n i field mid.cursor (take i values) within)
+          (ap (λ front. and_then (run (list_of (n - (i + 1)) field) c.rice_value.new.self.cursor) (behind front)) (sym (take-set_at values i (i + 1) v refl short)))
           c.in_ok-values.ensures.counts c.in_ok-values.ensures.reads;
-      fits = below_more _ i (λ j h. rw (get_or-set_other c.loop-i.values i j v (pos 0) (λ e. omega arith)) (c.loop-i.invariant.fits j h)) (rw last c.in_ok-values.ensures.fits);
-      spent = omega (arith, c.in_ok-values.ensures.spends);
+      fits = below_more _ i (λ j h. rw (get_or-set_other values i j v (pos 0) (λ e. omega arith)) (got.fits c.loop-i.invariant.fits j h)) (rw last c.in_ok-values.ensures.fits);
+      spent = omega (arith, c.in_ok-values.ensures.spends, got.went.0, c.loop-i.invariant.spent);
     })
 
 pub loop-i-init : goal.loop-i-init
@@ -47,4 +55,4 @@ abbrev okay : List ℤ × Cursor → Result (List ℤ × Cursor) Reason
 okay y = Ok y
 
 pub returns-clause-reads : goal.returns-clause-reads
-returns-clause-reads g c = λ known same. sym (c.loop-i.invariant.goes.reads known) ∙ list_end (length c.args.values.now) c.loop-i.i (rice_value c.args.k) c.loop-i.self.cursor (take c.loop-i.i c.loop-i.values) c.loop-i-test.false ∙ ap (λ front. okay (front, c.loop-i.self.cursor)) (take_all c.loop-i.i c.loop-i.values (omega (arith, c.loop-i.auto.values, c.loop-i-test.false)))
+returns-clause-reads g c = λ known same. sym (c.loop-i.invariant.goes.reads known) ∙ list_end (length c.args.values.now) c.loop-i.i (rice_value c.args.k) c.loop-i.self.cursor (take c.loop-i.i c.loop-i.values) (omega (arith, c.loop-i-test.false, c.loop-i.auto.values)) ∙ ap (λ front. okay (front, c.loop-i.self.cursor)) (take_all c.loop-i.i c.loop-i.values (omega (arith, c.loop-i.auto.values, c.loop-i-test.false)))

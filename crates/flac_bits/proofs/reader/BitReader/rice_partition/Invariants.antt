@@ -12,3 +12,6 @@ invariant-loop-i g l = record {
   fits : (j : ℕ) → j < l.i → IsResidual (get_or l.values j (pos 0));
   spent : l.self.most ≤ l.initial.self.most;
 }
+
+abbrev pub decreases-loop-i : goal.decreases-loop-i
+decreases-loop-i g l = length l.initial.values - l.i
