@@ -24,7 +24,7 @@ abbrev pub AllAre : {A : Type 0} → (A → Type 0) → List A → Type 0
 AllAre P [] = Unit {0}
 AllAre P (x ∷ xs) = P x × AllAre P xs
 
--- ---- each number fits its field, and each field of bytes has its length
+-- ---- each number fits its field, and each field of bytes has its length: so it is of every value, by its type
 
 pub record IsInfo (i : Info) : Type 0 where
   pub rules : KeepsRules i

@@ -54,24 +54,36 @@ fn comments_of(alloc: Global) -> Result<Comments, Why> {
     })
 }
 
+/// STREAMINFO, marked last: blocks of 4096, frames of 14 to 15 bytes, 44100 Hz, 2 channels, 16 bits, 1 sample.
+fn info_bytes() -> [u8; 38] {
+    [
+        0x80, 0, 0, 34, 0x10, 0, 0x10, 0, 0, 0, 14, 0, 0, 15, 0x0A, 0xC4, 0x42, 0xF0, 0, 0, 0, 1,
+        1, 2, 3, 4, 5, 6, 7, 8, 9, 10, 11, 12, 13, 14, 15, 16,
+    ]
+}
+
 #[test]
 fn stream_info(rt: HostRuntime) -> Result<(), Fail> {
     blocks_are_spelled();
-    let bytes = [
-        0x80, 0, 0, 34, 0x10, 0, 0x10, 0, 0, 0, 14, 0, 0, 15, 0x0A, 0xC4, 0x42, 0xF0, 0, 0, 0, 1,
-        1, 2, 3, 4, 5, 6, 7, 8, 9, 10, 11, 12, 13, 14, 15, 16,
-    ];
+    let alloc = rt.alloc();
+    let bytes = info_bytes();
     let mut seen = Seen::new();
     let mut bits = BitReader::new(Memory::new(&bytes));
-    let (last, block) = read_block(rt.alloc(), &mut bits, &mut seen)?;
+    let (last, block) = read_block(alloc, &mut bits, &mut seen)?;
     let digest = [1, 2, 3, 4, 5, 6, 7, 8, 9, 10, 11, 12, 13, 14, 15, 16];
     let info = StreamInfo::new(4096, 4096, 14, 15, 44100, 2, 16, 1, digest)?;
     assert!(rt; last && matches!(&block, Block::StreamInfo(found) if *found == info));
-    assert_eq!(rt;
-        bytes_of(rt.alloc(), &block, last)?.as_slice(),
-        bytes.as_slice()
-    );
-    assert_eq!(rt; refusal(rt.alloc(), &bytes), Some(Why::RepeatedBlock));
+    Ok(())
+}
+
+#[test]
+fn stream_info_is_written(rt: HostRuntime) -> Result<(), Fail> {
+    let alloc = rt.alloc();
+    let digest = [1, 2, 3, 4, 5, 6, 7, 8, 9, 10, 11, 12, 13, 14, 15, 16];
+    let info = StreamInfo::new(4096, 4096, 14, 15, 44100, 2, 16, 1, digest)?;
+    let written = bytes_of(alloc, &Block::StreamInfo(info), true)?;
+    assert_eq!(rt; written.as_slice(), info_bytes().as_slice());
+    assert_eq!(rt; refusal(alloc, &info_bytes()), Some(Why::RepeatedBlock));
     Ok(())
 }
 
@@ -157,26 +169,34 @@ fn tables_come_back(rt: HostRuntime) -> Result<(), Fail> {
 }
 
 #[test]
-fn comments(rt: HostRuntime) -> Result<(), Fail> {
-    let alloc = rt.alloc();
-    let found = comments_of(alloc)?;
+fn parts(rt: HostRuntime) -> Result<(), Fail> {
+    let found = comments_of(rt.alloc())?;
     assert_eq!(rt; found.parts(0), Some((b"A".as_slice(), b"b=c".as_slice())));
     assert_eq!(rt; found.parts(1), Some((b"".as_slice(), b"x".as_slice())));
-    assert_eq!(rt; found.parts(2), None);
-    assert_eq!(rt; found.parts(3), None);
+    assert!(rt; found.parts(2).is_none() && found.parts(3).is_none());
     assert_eq!(rt; found.length(), 31);
-    let ours = Comments {
+    Ok(())
+}
+
+/// The comments that the program writes where it is given none.
+fn program_bytes() -> [u8; 26] {
+    [
+        0x84, 0, 0, 0x16, 0x0E, 0, 0, 0, 0x66, 0x6C, 0x61, 0x63, 0x20, 0x70, 0x72, 0x6F, 0x66,
+        0x69, 0x6C, 0x65, 0x20, 0x31, 0, 0, 0, 0,
+    ]
+}
+
+#[test]
+fn comments_are_written(rt: HostRuntime) -> Result<(), Fail> {
+    let alloc = rt.alloc();
+    let comments = Comments {
         vendor: text(alloc, b"flac profile 1")?,
         list: Texts::from_vec(Vec::new(alloc)),
     };
     let mut writer = BitWriter::new(Collected::new(alloc));
-    write_comments(&ours, true, &mut writer)?;
+    write_comments(&comments, true, &mut writer)?;
     writer.finish()?;
-    let bytes = [
-        0x84, 0, 0, 0x16, 0x0E, 0, 0, 0, 0x66, 0x6C, 0x61, 0x63, 0x20, 0x70, 0x72, 0x6F, 0x66,
-        0x69, 0x6C, 0x65, 0x20, 0x31, 0, 0, 0, 0,
-    ];
-    assert_eq!(rt; writer.into_target().bytes(), bytes.as_slice());
+    assert_eq!(rt; writer.into_target().bytes(), program_bytes().as_slice());
     Ok(())
 }
 
