@@ -8,3 +8,6 @@ pub mod Gathered
 pub mod FrameTie
 pub mod Sounds
 pub mod Stood
+pub mod Encoded
+pub mod Wholes
+pub mod Encodings

@@ -1,10 +1,10 @@
 -- A form that stands for samples may be spelled, and has these samples.
-use Rattle.std.proofs.Common.{◌≡◌, ◌⊎◌, ◌∙◌, refl, sym, ap, subst, inl, inr, ℕ, zero, suc, ◌+◌, ◌-◌, ◌*◌, ◌/◌, ◌%◌, ◌^◌, ◌≤◌, ◌<◌, arith, ℤ, pos, negsuc, neg_ℤ, ◌*ℤ◌, ◌<ℤ◌, ◌≤ℤ◌, Bool, true, cond, nat_eq, nat_lt, ◌&&◌, List, [], ◌∷◌, ◌++◌, length, length-append, take, drop, map, get_or, replicate, Option, Some, All, flat_map}
+use Rattle.std.proofs.Common.{◌≡◌, ◌⊎◌, ◌∙◌, refl, sym, ap, subst, inl, inr, ℕ, zero, suc, ◌+◌, ◌-◌, ◌*◌, ◌/◌, ◌%◌, ◌^◌, ◌≤◌, ◌<◌, arith, ℤ, pos, negsuc, true, List, [], ◌∷◌, ◌++◌, length, length-append, take, drop, map, get_or, replicate, Option, Some, All}
 use Rattle.std.proofs.lemmas.Bool.{cases_lt}
 use Rattle.std.proofs.lemmas.Bool.Decides.{nat_tests}
 use Rattle.std.proofs.lemmas.Int.{ints}
-use Rattle.std.proofs.lemmas.List.{append-nil, take_all, take-append-drop, length-take-le, length-drop, length-map, get_or-map, get_or_default, length-replicate}
-use Rattle.std.proofs.lemmas.List.Elements.{All-take, All-head, All-tail, All-nil, All-cons}
+use Rattle.std.proofs.lemmas.List.{append-nil, take_all, take-append-drop, length-take-le, length-drop, length-map, get_or-map, get_or_default}
+use Rattle.std.proofs.lemmas.List.Elements.{All-take, All-tail}
 use Rattle.std.proofs.lemmas.Nat.{pow-add, pow_pos}
 use Rattle.std.proofs.Math.Nat.{mul-le-mul_right, pow-le-pow_right, div-add-mod}
 use Rattle.flac_bits.specs.Rice.{IsResidual}
@@ -12,16 +12,15 @@ use Rattle.flac_bits.specs.Signed.{FitsBits}
 use Rattle.flac_subframe.specs.declared.limits.Limits.{Limits}
 use Rattle.flac_subframe.specs.declared.coding.Coding.{Coding}
 use Rattle.flac_subframe.specs.declared.coding.Coding.TheVariants.{Rice, Escape}
-use Rattle.flac_subframe.specs.Bodies.{Chooses, fixed, linear, order_of, Body, constant, verbatim, predicted, cut, residual_of, content_of, Among, Predicts, StandsFor}
+use Rattle.flac_subframe.specs.Bodies.{fixed, linear, order_of, Body, constant, verbatim, predicted, cut, residual_of, content_of, Among, Predicts, StandsFor}
 use Rattle.flac_subframe.specs.Chosen.{fixed_below}
-use Rattle.flac_subframe.specs.Cost.{Codings, MayCode, MayCodeEach, MayWrite}
-use Rattle.flac_subframe.specs.Family.{Stands}
+use Rattle.flac_subframe.specs.Cost.{Codings, MayCode, MayCodeEach}
 use Rattle.flac_subframe.specs.Numbers.{sample_at}
 use Rattle.flac_subframe.specs.Prediction.{fixed_coefficients, Restored}
-use Rattle.flac_subframe.specs.Residual.{Partition, Residual, all_values, residual_values, can_halve}
-use Rattle.flac_subframe.specs.Spelling.{FitsWidth, IsCoded, ArePartitions, MayLeave, AreSigned, MayHold, IsSubframe}
-use Rattle.flac_subframe.specs.Subframe.{Content, Constant, Verbatim, Fixed, Linear, Form, restored_samples, fitting, scaled, samples_of}
-use Rattle.flac_subframe.specs.Wasted.{times_power, Multiple, IsWasted, shortened}
+use Rattle.flac_subframe.specs.Residual.{all_values, residual_values, can_halve}
+use Rattle.flac_subframe.specs.Spelling.{FitsWidth, IsCoded, ArePartitions, MayLeave, MayHold}
+use Rattle.flac_subframe.specs.Subframe.{Fixed, restored_samples, fitting, scaled}
+use Rattle.flac_subframe.specs.Wasted.{times_power, Multiple, IsWasted}
 use Rattle.flac_subframe.proofs.Bodies.{warm_up_is}
 use Rattle.flac_subframe.proofs.Differences.{length-fixed}
 use Rattle.flac_subframe.proofs.Powers.{silent}
@@ -100,7 +99,7 @@ width : (n : ℕ) (z : ℤ) → 1 ≤ n → FitsBits n z → FitsWidth n z
 width zero z some f = absurd (omega arith)
 width (suc n) z some f = f
 
-all_width : (n : ℕ) (zs : List ℤ) → 1 ≤ n → All (FitsBits n) zs → All (FitsWidth n) zs
+pub all_width : (n : ℕ) (zs : List ℤ) → 1 ≤ n → All (FitsBits n) zs → All (FitsWidth n) zs
 all_width n zs some f = λ k d h. width n (get_or zs k d) some (f k d h)
 
 -- ---- the wasted bits
@@ -122,7 +121,7 @@ module _ (depth k : ℕ) (s t : List ℤ) (deep : 1 ≤ depth) (some : 0 < lengt
     | inr b ↦
         let wide : All (FitsBits k) s = λ i d h. fits_more depth k (get_or s i d) b (fits i d h) in
         let more : All (Multiple (k + 1)) s = λ i d h.
-            (pos 0, get_or_default s i d (pos 0) h ∙ (silent k s t long each (omega (arith, b, deep)) wide i h).1 ∙ sym (zero_times (k + 1))) in
+        (pos 0, get_or_default s i d (pos 0) h ∙ (silent k s t long each (omega (arith, b, deep)) wide i h).1 ∙ sym (zero_times (k + 1))) in
         absurd (omega (arith, most (k + 1) more))
   ]
 
