@@ -26,3 +26,5 @@ pub mod Powers
 pub mod WholeLeast
 pub mod WriteSteps
 pub mod Made
+pub mod Cuts
+pub mod Valid

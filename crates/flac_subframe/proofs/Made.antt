@@ -13,7 +13,7 @@ use Rattle.flac_subframe.proofs.Differences.{length-fixed}
 order_is : (a b : ℕ) → fixed a ≡ fixed b → a ≡ b
 order_is a b e = cc
 
-among_few : (order : ℕ) → Among (fixed order) (fixed_below 5) → order ≤ 4
+pub among_few : (order : ℕ) → Among (fixed order) (fixed_below 5) → order ≤ 4
 among_few order (inl e) = omega (arith, order_is order 0 e)
 among_few order (inr (inl e)) = omega (arith, order_is order 1 e)
 among_few order (inr (inr (inl e))) = omega (arith, order_is order 2 e)

@@ -5,7 +5,9 @@ ghost use Rattle.flac_bits.specs.Signed.{FitsBits};
 ghost use Rattle.flac_subframe.specs.Least.{IsLeast};
 ghost use Rattle.flac_subframe.specs.Chosen.{fixed_below};
 ghost use Rattle.flac_subframe.specs.Family.{Stands, IsMadeOf, form_of};
-ghost use Rattle.flac_subframe.specs.Spelling.{subframe_spelling};
+ghost use Rattle.flac_subframe.specs.Spelling.{subframe_spelling, IsSubframe};
+ghost use Rattle.flac_subframe.specs.Subframe.{samples_of};
+ghost use Rattle.flac_subframe.specs.declared.limits.Limits.{Limits};
 
 use crate::choice::{Kind, choose_body};
 use crate::wasted::drop_wasted;
@@ -44,6 +46,8 @@ pub fn choose_into(samples: &[i64], depth: u32, shortened: &mut [i64], values: &
     ensures least { IsLeast (λ f. Stands 8 (fixed_below 5) f samples.now) (λ f. length (subframe_spelling depth f)) (form_of result samples.now) }
     ensures bits { result.bits ≡ length (subframe_spelling depth (form_of result samples.now)) }
     ensures made { IsMadeOf result samples.now }
+    ensures valid { (limits : Limits) → 8 ≤ limits.partition → IsSubframe depth (length samples.now) limits (form_of result samples.now) }
+    ensures restored { samples_of depth (length samples.now) (form_of result samples.now) ≡ Some samples.now }
     ensures small { result.bits ≤ 2 ^ 61 }
 {
     let places = &mut shortened[..samples.len()];

@@ -3,7 +3,8 @@
 ghost use Rattle.std.specs.Prelude.{◌≡◌, ◌≤◌, ◌^◌, ◌↔◌, pos, length, replicate, IsTrue};
 ghost use Rattle.flac_bits.specs.Signed.{FitsBits};
 
-/// Whether a number has a two's complement form of so many bits.
+/// Whether a number has a two's complement form of so many bits: moved up by half the range, it is within the range, and so one
+/// comparison tells.
 #[inline(always)]
 pub fn fits_bits(number: i64, bits: u32) -> bool
     requires positive { 1 ≤ bits }
@@ -11,7 +12,7 @@ pub fn fits_bits(number: i64, bits: u32) -> bool
     ensures { IsTrue result ↔ FitsBits bits number }
 {
     let limit = 1i64 << (bits - 1);
-    -limit <= number && number < limit
+    number.wrapping_add(limit).cast_unsigned() < 1 << bits
 }
 
 /// Two to the power of so much.

@@ -1,8 +1,9 @@
-use Rattle.std.proofs.Common.{sym}
+use Rattle.std.proofs.Common.{arith, sym}
 use Rattle.flac_subframe.specs.Bodies.{content_of}
 use Rattle.flac_subframe.specs.Chosen.{body_of, fixed_below}
 use Rattle.flac_subframe.proofs.Powers.{shortened_is}
 use Rattle.flac_subframe.proofs.WholeLeast.{whole_least, length-subframe}
+use Rattle.flac_subframe.proofs.Valid.{may_be, are_samples}
 use Rattle.flac_subframe.proofs.chosen.choose_into.Goals as goal
 
 pub returns-clause-least : goal.returns-clause-least
@@ -20,3 +21,15 @@ returns-clause-made c =
     let k = c.drop_wasted-wasted.result in let s = c.args.samples.now in let t = c.drop_wasted-wasted.new.shortened in let dropped = c.drop_wasted-wasted.ensures in
     let same = shortened_is k s t dropped.shortened in
     record { wasted = dropped.wasted; times = rw same dropped.shortened; stands = rw same c.choose_body-best.ensures.least.member }
+
+pub returns-clause-valid : goal.returns-clause-valid
+returns-clause-valid c = λ limits le.
+    let k = c.drop_wasted-wasted.result in let s = c.args.samples.now in let t = c.drop_wasted-wasted.new.shortened in let dropped = c.drop_wasted-wasted.ensures in
+    let b = body_of c.choose_body-best.result.kind t in
+    rw (shortened_is k s t dropped.shortened) (may_be 8 c.args.depth k s t dropped.some dropped.shortened c.requires.fits limits b c.requires.some le (omega arith) c.choose_body-best.ensures.least.member)
+
+pub returns-clause-restored : goal.returns-clause-restored
+returns-clause-restored c =
+    let k = c.drop_wasted-wasted.result in let s = c.args.samples.now in let t = c.drop_wasted-wasted.new.shortened in let dropped = c.drop_wasted-wasted.ensures in
+    let b = body_of c.choose_body-best.result.kind t in
+    rw (shortened_is k s t dropped.shortened) (are_samples 8 c.args.depth k s t dropped.some dropped.shortened c.requires.fits b c.choose_body-best.ensures.least.member)

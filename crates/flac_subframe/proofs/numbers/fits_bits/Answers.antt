@@ -1,22 +1,34 @@
-use Rattle.std.proofs.Common.{arith, ◌≡◌, ◌<◌, ◌≤◌, ◌^◌, ◌*◌, ◌-◌, ◌%◌, ℕ, pos, neg_ℤ, ◌≤ℤ◌, ◌-ℤ◌, FitsSigned, to_z, w64, sym}
-use Rattle.std.proofs.lemmas.Int.{ints, to_z_pos}
-use Rattle.std.proofs.lemmas.Nat.{one_shl, pow_below}
+use Rattle.std.proofs.Common.{arith, ◌≡◌, ◌∙◌, ℕ, zero, suc, ◌+◌, ◌-◌, ◌*◌, ◌%◌, ◌^◌, ◌<◌, ◌≤◌, pos, negsuc, ℤ, FitsSigned, of_z, w64, refl}
+use Rattle.std.proofs.lemmas.Int.{ints, of_z-to_z}
+use Rattle.std.proofs.lemmas.Nat.{one_shl}
+use Rattle.std.proofs.lemmas.Bool.{lt-ltb, ltb-true}
+use Rattle.std.proofs.Math.Nat.{pow-suc, pow-le-pow_right}
+use Rattle.flac_bits.specs.Signed.{FitsBits}
 use Rattle.flac_subframe.proofs.numbers.fits_bits.Goals as goal
 
--- the limit as the code computes it
-limit_is : (bits : ℕ) → 1 ≤ bits → bits ≤ 63 → to_z w64 (1 * 2 ^ (bits - 1) % 2 ^ 64) ≡ pos (2 ^ (bits - 1))
-limit_is bits low high =
-    let below : bits - 1 < 63 = omega arith in
-    let within : bits - 1 < 64 = omega arith in
-    rw (one_shl (bits - 1) 64 within) (to_z_pos w64 (2 ^ (bits - 1)) (pow_below (bits - 1) 63 below))
+twice : (n : ℕ) → 1 ≤ n → 2 ^ n ≡ 2 * 2 ^ (n - 1)
+twice zero some = absurd (omega arith)
+twice (suc n) some = let e : suc n - 1 ≡ n = omega arith in rw (e, pow-suc) (omega arith)
 
-negated_fits : (bits : ℕ) → bits ≤ 63 → 1 ≤ bits → FitsSigned w64 (pos 0 -ℤ pos (2 ^ (bits - 1)))
-negated_fits bits high low = omega (arith, ints, pow_below (bits - 1) 63 (omega arith))
+fits_when : (number : ℤ) (bits half moved : ℕ) → half ≡ 2 ^ (bits - 1) → half ≤ 2 ^ 62 → FitsSigned w64 number → moved ≡ (of_z w64 number + half) % 2 ^ 64 → moved < 2 * half → FitsBits bits number
+fits_when (pos a) bits half moved e small range is h = record { low = omega (arith, ints, e); high = omega (arith, ints, e, range, is) }
+fits_when (negsuc a) bits half moved e small range is h = record { low = omega (arith, ints, e, range, is); high = omega (arith, ints, e) }
 
-pub overflow_sub-limit-2 : goal.overflow_sub-limit-2
-overflow_sub-limit-2 c = rw (limit_is c.args.bits c.requires.positive c.requires.small) (negated_fits c.args.bits c.requires.small c.requires.positive)
+when_fits : (number : ℤ) (bits half moved : ℕ) → half ≡ 2 ^ (bits - 1) → half ≤ 2 ^ 62 → FitsSigned w64 number → moved ≡ (of_z w64 number + half) % 2 ^ 64 → FitsBits bits number → moved < 2 * half
+when_fits (pos a) bits half moved e small range is f = omega (arith, ints, e, range, is, f.high)
+when_fits (negsuc a) bits half moved e small range is f = omega (arith, ints, e, range, is, f.low)
 
-pub returns-then-limit-number : goal.returns-then-limit-number
-returns-then-limit-number c = let e = limit_is c.args.bits c.requires.positive c.requires.small in
-    let low : neg_ℤ (pos (2 ^ (c.args.bits - 1))) ≤ℤ c.args.number = omega (arith, ints, e, c.if-limit-number.true) in
-    rw e (λ t. record { low = low; high = omega (arith, ints, t) }, λ f. sym (omega (arith, ints, f.high)))
+pub returns : goal.returns
+returns c =
+    let bits = c.args.bits in
+    let half : ℕ = 2 ^ (bits - 1) in
+    let low : bits - 1 < 64 = omega arith in
+    let high : bits < 64 = omega arith in
+    let small : 2 ^ (bits - 1) ≤ 2 ^ 62 = pow-le-pow_right {n = 2} (omega arith) {i = bits - 1} {j = 62} (omega arith) in
+    let moved = rw (one_shl (bits - 1) 64 low) at c.cast_unsigned.ensures in
+    let is : c.cast_unsigned.result ≡ (of_z w64 c.args.number + 2 ^ (bits - 1)) % 2 ^ 64 = moved ∙ of_z-to_z w64 _ (omega arith) in
+    let double = twice bits c.requires.positive in
+    rw (one_shl bits 64 high) (
+      λ t. fits_when c.args.number bits half c.cast_unsigned.result refl small c.ranges.number is (omega (arith, ltb-true _ _ t, double)),
+      λ f. lt-ltb _ _ (omega (arith, when_fits c.args.number bits half c.cast_unsigned.result refl small c.ranges.number is f, double)),
+    )
