@@ -14,7 +14,7 @@ use Rattle.flac_subframe.specs.Spelling.{subframe_spelling, IsSubframe}
 use Rattle.flac_subframe.specs.Subframe.{Form, Verbatim, fitting, scaled, samples_of}
 use Rattle.flac_subframe.proofs.Samples.{fitting_is}
 use Rattle.flac_subframe.proofs.Scaling.{scaled_none}
-use Rattle.flac_frame.specs.Encoding.{block_of, AreForms, WritesLeast, WritesForms}
+use Rattle.flac_frame.specs.Encoding.{block_of, AreForms, AreLeast, WritesLeast, WritesForms}
 use Rattle.flac_frame.proofs.Stood.{forms_stand, all_width}
 
 -- ---- samples in wider places
@@ -67,12 +67,18 @@ module _ (depth size : ℕ) (deep : 1 ≤ depth) (some : 1 ≤ size) where
   forms-append (f ∷ fs) gs [] b h k = absurd h
   forms-append (f ∷ fs) gs (s ∷ ss) b h k = (h.0, h.1, forms-append fs gs ss b h.2 k)
 
+  least-append : (fs gs : List Form) (a b : List (List ℤ)) → AreLeast depth fs a → AreLeast depth gs b → AreLeast depth (fs ++ gs) (a ++ b)
+  least-append [] gs [] b h k = k
+  least-append [] gs (s ∷ ss) b h k = absurd h
+  least-append (f ∷ fs) gs [] b h k = absurd h
+  least-append (f ∷ fs) gs (s ∷ ss) b h k = (h.0, least-append fs gs ss b h.1 k)
+
   -- the first of the forms were written
   abbrev pub WroteForms : List (List ℤ) → Written → Written → Type 0
-  WroteForms block old new = (fs : List Form) × AreForms depth size fs block × Adds (flat_map (subframe_spelling depth) fs) old new
+  WroteForms block old new = (fs : List Form) × AreForms depth size fs block × AreLeast depth fs block × Adds (flat_map (subframe_spelling depth) fs) old new
 
   pub forms_none : (w : Written) → WroteForms [] w w
-  forms_none w = ([], tt, record { known = λ k. k; errors = refl; names = refl; mark = refl; bits = λ k. sym (append-nil w.bits) })
+  forms_none w = ([], tt, tt, record { known = λ k. k; errors = refl; names = refl; mark = refl; bits = λ k. sym (append-nil w.bits) })
 
   one_form : (f : Form) (s : List ℤ) → length s ≡ size → All (FitsBits depth) s → Stands 8 (fixed_below 5) f s → AreForms depth size (f ∷ []) (s ∷ [])
   one_form f s long fits stands =
@@ -81,21 +87,21 @@ module _ (depth size : ℕ) (deep : 1 ≤ depth) (some : 1 ≤ size) where
       (λ limits few. subst (λ n. IsSubframe depth n limits f) long (both limits few).0, subst (λ n. samples_of depth n f ≡ Some s) long (both limits (omega arith)).1, tt)
 
   pub forms_more : (block : List (List ℤ)) (s : List ℤ) (old mid new : Written) → length s ≡ size → All (FitsBits depth) s → WroteForms block old mid → WritesLeast depth s mid new (okay tt) → WroteForms (block ++ s ∷ []) old new
-  forms_more block s old mid new long fits (fs, are, adds) (f, least, more) =
+  forms_more block s old mid new long fits (fs, are, leasts, adds) (f, least, more) =
       let text : flat_map (subframe_spelling depth) (fs ++ f ∷ []) ≡ flat_map (subframe_spelling depth) fs ++ subframe_spelling depth f =
       flat_map-append (subframe_spelling depth) fs (f ∷ []) ∙ ap (λ t. flat_map (subframe_spelling depth) fs ++ t) (append-nil (subframe_spelling depth f)) in
-      (fs ++ f ∷ [], forms-append fs (f ∷ []) block (s ∷ []) are (one_form f s long fits least.member), subst (λ t. Adds t old new) (sym text) (adds_then adds more))
+      (fs ++ f ∷ [], forms-append fs (f ∷ []) block (s ∷ []) are (one_form f s long fits least.member), least-append fs (f ∷ []) block (s ∷ []) leasts (least, tt), subst (λ t. Adds t old new) (sym text) (adds_then adds more))
 
   pub forms_fail : (block rest : List (List ℤ)) (s : List ℤ) (old mid new : Written) (e : Why) → length s ≡ size → All (FitsBits depth) s → IsBlock rest → WroteForms block old mid → WritesLeast depth s mid new (failed e)
       → WritesForms depth size (block ++ s ∷ rest) old new (failed e)
-  forms_fail block rest s old mid new e long fits others (fs, are, adds) (f, least, fails) =
+  forms_fail block rest s old mid new e long fits others (fs, are, leasts, adds) (f, least, fails) =
       let p = plain_forms rest others in
       let one : List Bool = subframe_spelling depth f in
       let first : List Bool = flat_map (subframe_spelling depth) fs in
       let last : List Bool = flat_map (subframe_spelling depth) p.0 in
       let text : (old.bits ++ (first ++ one)) ++ last ≡ old.bits ++ flat_map (subframe_spelling depth) (fs ++ f ∷ p.0) =
       append_assoc old.bits (first ++ one) last ∙ ap (λ t. old.bits ++ t) (append_assoc first one last ∙ sym (flat_map-append (subframe_spelling depth) fs (f ∷ p.0))) in
-      (fs ++ f ∷ p.0, forms-append fs (f ∷ p.0) block (s ∷ rest) are (first_of p.0 (one_form f s long fits least.member) p.1), subst (λ t. Fails t old new e) text (fails_more last (fails_then one adds fails)))
+      (fs ++ f ∷ p.0, forms-append fs (f ∷ p.0) block (s ∷ rest) are (first_of p.0 (one_form f s long fits least.member) p.1), tt, subst (λ t. Fails t old new e) text (fails_more last (fails_then one adds fails)))
     where
       first_of : (gs : List Form) → AreForms depth size (f ∷ []) (s ∷ []) → AreForms depth size gs rest → AreForms depth size (f ∷ gs) (s ∷ rest)
       first_of gs h k = (h.0, h.1, k)

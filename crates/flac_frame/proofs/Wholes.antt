@@ -1,5 +1,5 @@
 -- A whole frame, as it is written.
-use Rattle.std.proofs.Common.{◌≡◌, ◌∙◌, refl, sym, ap, subst, ℕ, suc, ◌+◌, ◌-◌, ◌≤◌, ◌<◌, ◌^◌, arith, ℤ, Bool, true, false, cond, nat_eq, nat_lt, nat_le, List, [], ◌∷◌, ◌++◌, append_assoc, length, map, Option, Some, None, is_some, Result, All, flat_map, take, drop}
+use Rattle.std.proofs.Common.{◌≡◌, ◌∙◌, refl, sym, ap, subst, ℕ, suc, ◌+◌, ◌-◌, ◌≤◌, ◌<◌, ◌^◌, arith, ℤ, Bool, true, false, cond, nat_eq, nat_lt, nat_le, List, [], ◌∷◌, ◌++◌, append_assoc, length, map, Option, Some, None, is_some, Result, Ok, Err, OnOk, All, flat_map, take, drop}
 use Rattle.std.proofs.lemmas.Bool.Decides.{nat_tests}
 use Rattle.std.proofs.lemmas.List.Elements.{All-nil, All-cons, All-head, All-tail}
 use Rattle.std.proofs.lemmas.List.{length-map}
@@ -28,21 +28,25 @@ use Rattle.flac_frame.proofs.Sounds.{depth_small}
 
 -- ---- header, subframes and end, one after another
 
+on_ok : {X P : Type 0} (result : Result X Why) → P → OnOk result P
+on_ok (Ok x) p = p
+on_ok (Err e) p = tt
+
 module _ (depth size : ℕ) (deep : 1 ≤ depth) (some : 1 ≤ size) (h : Header) (block : List (List ℤ)) (old : Written) where
   pub header_fails : (new : Written) (e : Why) → IsBlock depth size deep some block → Fails ((restarted old).bits ++ header_spelling h) (restarted old) new e → WritesWhole depth size h block old new (failed e)
   header_fails new e are fails =
       let p = plain_forms depth size deep some block are in
-      (p.0, p.1, fails_first (header_spelling h) _ fails)
+      (p.0, p.1, tt, fails_first (header_spelling h) _ fails)
 
   pub channels_fail : (mid new : Written) (e : Why) → Adds (header_spelling h) (restarted old) mid → WritesForms depth size block mid new (failed e) → WritesWhole depth size h block old new (failed e)
-  channels_fail mid new e adds (fs, are, fails) = (fs, are, fails_then _ adds (fails_first (flat_map (subframe_spelling depth) fs) _ fails))
+  channels_fail mid new e adds (fs, are, leasts, fails) = (fs, are, tt, fails_then _ adds (fails_first (flat_map (subframe_spelling depth) fs) _ fails))
 
   pub frame_written : {X : Type 0} (mid end new : Written) (result : Result X Why) → Adds (header_spelling h) (restarted old) mid → WritesForms depth size block mid end (okay tt) → Writes (end_spelling end.mark) end new result
       → WritesWhole depth size h block old new result
-  frame_written mid end new result adds (fs, are, more) last =
+  frame_written mid end new result adds (fs, are, leasts, more) last =
       let is : end.mark ≡ past (flat_map (subframe_spelling depth) fs) (past (header_spelling h) (fresh old.mark)) = more.mark ∙ ap (past (flat_map (subframe_spelling depth) fs)) adds.mark in
       let last' = subst (λ m. Writes (end_spelling m) end new result) is last in
-      (fs, are, writes_then _ new result adds (writes_then _ new result more last'))
+      (fs, are, on_ok result leasts, writes_then _ new result adds (writes_then _ new result more last'))
 
 -- ---- the form that they spell
 
@@ -175,7 +179,7 @@ as_coded code few = let a : nat_lt code 8 ≡ true = grind (arith, nat_tests) in
 pub frame_encoded : {X : Type 0} (sound : Sound) (code size number : ℕ) (block : List (List ℤ)) (h : Header) (old new : Written) (result : Result X Why) → code ≤ 7 → number < 2 ^ 31 → old.mark.unread ≡ 0
     → chosen_header size sound.rate code sound.bits number ≡ Some h → IsHeader h → code + 1 ≡ length block → All (λ s. All (FitsBits sound.bits) s) block → WritesWhole sound.bits size h block old new result → WritesFrame sound size number block old new result
 unfolding frame_spelling
-frame_encoded sound code size number block h old new result independent small whole chosen valid each fits (fs, are, writes) =
+frame_encoded sound code size number block h old new result independent small whole chosen valid each fits (fs, are, leasts, writes) =
     let depth : ℕ = sound.bits in
     let codes = codes_are (size_choice size) (rate_choice sound.rate) (depth_choice depth) size sound.rate code number h (sym (chosen_as size sound.rate code depth number (omega (arith, independent)) small) ∙ chosen) in
     let body : List Bool = header_spelling h ++ flat_map (subframe_spelling depth) fs in
@@ -202,6 +206,7 @@ frame_encoded sound code size number block h old new result independent small wh
           fit = all_fit_in depth code size independent block fits;
         };
       },
+      leasts,
       subst (λ t. Writes t (restarted old) new result) text writes,
     )
 

@@ -1,5 +1,5 @@
 -- What encoding a frame writes.
-use Rattle.std.specs.Prelude.{◌≡◌, ℕ, ◌≤◌, ◌<◌, Bool, ℤ, List, [], ◌∷◌, ◌++◌, length, map, take, drop, flat_map, Some, Option, All, Result, true, false, ⊤}
+use Rattle.std.specs.Prelude.{◌≡◌, ℕ, ◌≤◌, ◌<◌, Bool, ℤ, List, [], ◌∷◌, ◌++◌, length, map, take, drop, flat_map, Some, Option, All, Result, OnOk, true, false, ⊤}
 use Rattle.flac_bits.specs.Bits.{unsigned}
 use Rattle.flac_bits.specs.State.{Mark, past, fresh}
 use Rattle.flac_bits.specs.Signed.{FitsBits}
@@ -44,9 +44,21 @@ pub record IsEncoding (sound : Sound) (size number : ℕ) (block : List (List �
   pub subframes : AreSubframes sound.bits code size (limits_at sound.rate) 0 f.subframes
   pub samples : FrameSamples sound.bits f block
 
--- at a whole byte, where the checks begin, the spelling of such a frame was written
+-- no form in the family takes fewer bits for the samples: constant, verbatim, or a fixed predictor of order 0 to 4 with either coding method, partition orders
+-- up to 8 and any parameter or escape, and as many wasted bits as all samples lack
+abbrev pub IsLeastFor : ℕ → List ℤ → Form → Type 0
+IsLeastFor depth s f = IsLeast (λ g. Stands 8 (fixed_below 5) g s) (λ g. length (subframe_spelling depth g)) f
+
+-- each channel's subframe is the least by itself
+abbrev pub AreLeast : ℕ → List Form → List (List ℤ) → Type 0
+AreLeast depth [] [] = ⊤
+AreLeast depth [] (s ∷ ss) = ⊥
+AreLeast depth (f ∷ fs) [] = ⊥
+AreLeast depth (f ∷ fs) (s ∷ ss) = IsLeastFor depth s f × AreLeast depth fs ss
+
+-- at a whole byte, where the checks begin, the spelling of such a frame was written; one that was written whole has the least subframes
 abbrev pub WritesFrame : {X : Type 0} → Sound → (size number : ℕ) → List (List ℤ) → Written → Written → Result X Why → Type 0
-WritesFrame sound size number block old new result = (f : FrameForm) × IsEncoding sound size number block f × Writes (frame_spelling sound.bits f) (restarted old) new result
+WritesFrame sound size number block old new result = (f : FrameForm) × IsEncoding sound size number block f × OnOk result (AreLeast sound.bits f.subframes block) × Writes (frame_spelling sound.bits f) (restarted old) new result
 
 -- What is encoded of samples of the format that STREAMINFO tells has a header of that format, which the subset allows where the block is not too long for its
 -- rate; and where the header keeps the rules behind what the frames before leave, it is a frame of the block.
@@ -66,7 +78,7 @@ EncodingsAreFrames = (sound : Sound) (size number : ℕ) (block : List (List ℤ
 
 -- a least form of samples was written
 abbrev pub WritesLeast : {X : Type 0} → ℕ → List ℤ → Written → Written → Result X Why → Type 0
-WritesLeast depth s old new result = (f : Form) × IsLeast (λ g. Stands 8 (fixed_below 5) g s) (λ g. length (subframe_spelling depth g)) f × Writes (subframe_spelling depth f) old new result
+WritesLeast depth s old new result = (f : Form) × IsLeastFor depth s f × Writes (subframe_spelling depth f) old new result
 
 -- forms that may be spelled have the samples of channels, each by itself
 abbrev pub AreForms : (depth size : ℕ) → List Form → List (List ℤ) → Type 0
@@ -76,7 +88,7 @@ AreForms depth size (f ∷ fs) [] = ⊥
 AreForms depth size (f ∷ fs) (s ∷ ss) = ((limits : Limits) → 8 ≤ limits.partition → IsSubframe depth size limits f) × (samples_of depth size f ≡ Some s) × AreForms depth size fs ss
 
 abbrev pub WritesForms : {X : Type 0} → (depth size : ℕ) → List (List ℤ) → Written → Written → Result X Why → Type 0
-WritesForms depth size block old new result = (fs : List Form) × AreForms depth size fs block × Writes (flat_map (subframe_spelling depth) fs) old new result
+WritesForms depth size block old new result = (fs : List Form) × AreForms depth size fs block × OnOk result (AreLeast depth fs block) × Writes (flat_map (subframe_spelling depth) fs) old new result
 
 -- zeros up to a whole byte behind a mark, and CRC-16
 abbrev pub end_spelling : Mark → List Bool
@@ -88,4 +100,4 @@ whole_text depth h fs m =
     header_spelling h ++ (flat_map (subframe_spelling depth) fs ++ end_spelling (past (flat_map (subframe_spelling depth) fs) (past (header_spelling h) (fresh m))))
 
 abbrev pub WritesWhole : {X : Type 0} → (depth size : ℕ) → Header → List (List ℤ) → Written → Written → Result X Why → Type 0
-WritesWhole depth size h block old new result = (fs : List Form) × AreForms depth size fs block × Writes (whole_text depth h fs old.mark) (restarted old) new result
+WritesWhole depth size h block old new result = (fs : List Form) × AreForms depth size fs block × OnOk result (AreLeast depth fs block) × Writes (whole_text depth h fs old.mark) (restarted old) new result

@@ -15,9 +15,18 @@ fn read(bytes: &[u8], depth: u32, samples: &mut [i64]) -> Result<bool, Why>
     requires depth { (1 ≤ depth) × (depth ≤ 33) }
     requires block { (1 ≤ length samples.old) × (length samples.old ≤ 65535) }
 {
+    read_within(bytes, depth, 12, samples)
+}
+
+/// The same with a greatest order of a linear predictor.
+fn read_within(bytes: &[u8], depth: u32, linear: u32, samples: &mut [i64]) -> Result<bool, Why>
+    requires depth { (1 ≤ depth) × (depth ≤ 33) }
+    requires linear { linear ≤ 32 }
+    requires block { (1 ≤ length samples.old) × (length samples.old ≤ 65535) }
+{
     let limits = Limits {
         partition: 8,
-        linear: 12,
+        linear,
     };
     let mut bits = BitReader::new(Memory::new(bytes));
     read_subframe(&mut bits, depth, samples.len() as u32, &limits, samples)
@@ -113,6 +122,16 @@ fn restores_by_each_order(rt: HostRuntime) {
     let twice_less_one = [0x42, 0x00, 0x00, 0x00, 0x01, 0x20, 0x2E, 0x07, 0x80];
     assert_eq!(rt; read(&twice_less_one, 16, &mut block), Ok(true));
     assert_eq!(rt; (block[2], block[15]), (2, 15));
+    let thirteenth_before = [
+        0x58, 0x00, 0x01, 0x00, 0x02, 0x00, 0x03, 0x00, 0x04, 0x00, 0x05, 0x00, 0x06, 0x00, 0x07,
+        0x00, 0x08, 0x00, 0x09, 0x00, 0x0A, 0x00, 0x0B, 0x00, 0x0C, 0x00, 0x0D, 0x10, 0x00, 0x00,
+        0x00, 0x20, 0x78, 0x00,
+    ];
+    assert_eq!(rt;
+        read_within(&thirteenth_before, 16, 13, &mut block),
+        Ok(true)
+    );
+    assert_eq!(rt; (block[12], block[13], block[15]), (13, 1, 3));
 }
 
 fn all_fit(samples: &[i64], depth: u32) -> bool
