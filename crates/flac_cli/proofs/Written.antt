@@ -1,11 +1,11 @@
 -- What a writer of samples has written.
-use Rattle.std.proofs.Common.{◌≡◌, ◌<◌, ℕ, List, [], ◌∷◌, ◌++◌, Bool, true, refl, ap, sym, subst, ◌∙◌, append_assoc, append-nil}
+use Rattle.std.proofs.Common.{◌≡◌, ℕ, List, [], ◌∷◌, ◌++◌, Bool, true, ap, sym, subst, ◌∙◌, append_assoc, append-nil}
 use Rattle.flac_native.specs.Stream.{Piece, marked, block, framed}
 use Rattle.flac_bits.specs.Handing.{TakesAll}
 use Rattle.flac_native.specs.Message.{frame_message}
 use Rattle.flac_native.specs.Item.{Item}
 use Rattle.flac_native.specs.Decoding.{taken}
-use Rattle.flac_cli.specs.Samples.{depth_after, all_samples}
+use Rattle.flac_cli.specs.Samples.{all_samples}
 use Rattle.flac_cli.specs.Taking.{depth_behind, samples_in}
 
 module _ {S : Type 0} (can : S → Type 0) (is_known : S → Bool) (bytes : S → List ℕ) (bits : S → ℕ) where
