@@ -1,5 +1,5 @@
 -- What a writer of samples has written.
-use Rattle.std.proofs.Common.{◌≡◌, ℕ, List, [], ◌∷◌, ◌++◌, Bool, true, refl, ap, sym, ◌∙◌, append_assoc, append-nil}
+use Rattle.std.proofs.Common.{◌≡◌, ℕ, List, [], ◌∷◌, ◌++◌, Bool, true, ap, sym, ◌∙◌, append_assoc, append-nil}
 use Rattle.flac_native.specs.Stream.{Piece, marked, block, framed}
 use Rattle.flac_bits.specs.Handing.{TakesAll}
 use Rattle.flac_native.specs.Message.{frame_message}

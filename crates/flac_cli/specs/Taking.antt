@@ -1,5 +1,5 @@
 -- What sinks make of an item.
-use Rattle.std.specs.Prelude.{◌≡◌, ℕ, ◌+◌, ◌<◌, ◌^◌, ◌-◌, min, Bool, true, List, [], ◌++◌}
+use Rattle.std.specs.Prelude.{ℕ, ◌+◌, min, List, []}
 use Rattle.flac_native.specs.Item.{Item, metadata, frame}
 use Rattle.flac_native.specs.Message.{frame_message}
 use Rattle.flac_cli.specs.Samples.{depth_after}

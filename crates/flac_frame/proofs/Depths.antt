@@ -1,7 +1,7 @@
 -- Samples that fit a depth.
-use Rattle.std.proofs.Common.{◌≡◌, ℕ, zero, suc, ◌+◌, ◌-◌, ◌*◌, ◌%◌, ◌^◌, ◌<◌, ◌≤◌, ℤ, pos, negsuc, neg_ℤ, ◌≤ℤ◌, ◌<ℤ◌, ◌-ℤ◌, Bool, true, false, cond, List, [], ◌∷◌, ◌++◌, length, take, get_or, set, FitsSigned, to_z, of_z, w32, w64, refl, sym, ap, ◌∙◌, arith}
+use Rattle.std.proofs.Common.{◌≡◌, ℕ, ◌+◌, ◌-◌, ◌*◌, ◌%◌, ◌^◌, ◌<◌, ◌≤◌, ℤ, pos, negsuc, neg_ℤ, ◌≤ℤ◌, ◌<ℤ◌, ◌-ℤ◌, Bool, true, false, cond, List, [], ◌∷◌, ◌++◌, length, take, get_or, set, FitsSigned, to_z, w32, w64, refl, sym, ap, ◌∙◌, arith}
 use Rattle.std.proofs.lemmas.Bool.{lt-ltb, le-ltb, ltb-true}
-use Rattle.std.proofs.lemmas.Int.{ints, to_z_pos, to_z-of_z}
+use Rattle.std.proofs.lemmas.Int.{ints, to_z_pos}
 use Rattle.std.proofs.lemmas.Nat.{one_shl, pow_below}
 use Rattle.std.proofs.lemmas.List.{take_more, take_more_set}
 use Rattle.std.proofs.Math.Nat.{pow-le-pow_right}
@@ -37,16 +37,6 @@ pub kept_32 : (n : ℕ) (z : ℤ) → n ≤ 32 → fits n z ≡ true → FitsSig
 kept_32 n (pos a) few h = omega (arith, ints, ltb-true a (2 ^ (n - 1)) h, up n few)
 kept_32 n (negsuc a) few h = omega (arith, ints, ltb-true a (2 ^ (n - 1)) h, up n few)
 
--- one sample that does not fit
-pub one_bad : (n : ℕ) (xs : List ℤ) (i : ℕ) → i < length xs → fits n (get_or xs i (pos 0)) ≡ false → false ≡ all_fit n xs
-one_bad n [] i lt h = absurd (omega (arith, lt))
-one_bad n (x ∷ xs) zero lt h = rw h refl
-one_bad n (x ∷ xs) (suc i) lt h = go (fits n x) (one_bad n xs i (omega (arith, lt)) h)
-  where
-    go : (b : Bool) → false ≡ all_fit n xs → false ≡ cond b (all_fit n xs) false
-    go true e = e
-    go false e = refl
-
 pub all_fit-append : (n : ℕ) (xs ys : List ℤ) → all_fit n (xs ++ ys) ≡ cond (all_fit n xs) (all_fit n ys) false
 all_fit-append n [] ys = refl
 all_fit-append n (x ∷ xs) ys = go (fits n x) (all_fit-append n xs ys)
@@ -59,14 +49,19 @@ all_fit-append n (x ∷ xs) ys = go (fits n x) (all_fit-append n xs ys)
 pub fit_more : (n : ℕ) (xs : List ℤ) (i : ℕ) → i < length xs → all_fit n (take i xs) ≡ true → fits n (get_or xs i (pos 0)) ≡ true → all_fit n (take (i + 1) xs) ≡ true
 fit_more n xs i lt h k = rw (take_more xs i (pos 0) lt, all_fit-append n (take i xs) (get_or xs i (pos 0) ∷ []), h, k) refl
 
--- the cast to 32 bits
-pub cast_32 : (n : ℕ) (z : ℤ) → n ≤ 32 → fits n z ≡ true → to_z w32 (of_z w32 (to_z w64 (of_z w64 z))) ≡ z
-cast_32 n z few h =
-    let small = kept_32 n z few h in
-    let same : to_z w64 (of_z w64 z) ≡ z = to_z-of_z w64 z (omega (arith, ints, small)) in
-    rw same (to_z-of_z w32 z small)
+pub fit_less : (n : ℕ) (xs : List ℤ) (i : ℕ) → i < length xs → all_fit n (take (i + 1) xs) ≡ true → (all_fit n (take i xs) ≡ true) × (fits n (get_or xs i (pos 0)) ≡ true)
+fit_less n xs i lt h =
+    let one = get_or xs i (pos 0) in
+    let more : all_fit n (take (i + 1) xs) ≡ cond (all_fit n (take i xs)) (cond (fits n one) true false) false =
+    ap (all_fit n) (take_more xs i (pos 0) lt) ∙ all_fit-append n (take i xs) (one ∷ []) in
+    both (all_fit n (take i xs)) (fits n one) (sym more ∙ h)
+  where
+    both : (a b : Bool) → cond a (cond b true false) false ≡ true → (a ≡ true) × (b ≡ true)
+    both true true e = (refl, refl)
+    both true false e = absurd cc
+    both false b e = absurd cc
 
-pub put_more : (n : ℕ) (xs out : List ℤ) (i : ℕ) → n ≤ 32 → i < length xs → length out ≡ length xs → take i out ≡ take i xs → fits n (get_or xs i (pos 0)) ≡ true
-    → take (i + 1) (set out i (to_z w32 (of_z w32 (to_z w64 (of_z w64 (get_or xs i (pos 0))))))) ≡ take (i + 1) xs
-put_more n xs out i few lt long same h = rw (cast_32 n (get_or xs i (pos 0)) few h)
-    (take_more_set out i (get_or xs i (pos 0)) (omega (arith, long, lt)) ∙ ap (λ k. k ++ get_or xs i (pos 0) ∷ []) same ∙ sym (take_more xs i (pos 0) lt))
+pub put_more : (xs out : List ℤ) (i : ℕ) (value : ℤ) → i < length xs → length out ≡ length xs → take i out ≡ take i xs → value ≡ get_or xs i (pos 0)
+    → take (i + 1) (set out i value) ≡ take (i + 1) xs
+put_more xs out i value lt long same is =
+    take_more_set out i value (omega (arith, long, lt)) ∙ (ap (λ k. k ++ value ∷ []) same ∙ ap (λ z. take i xs ++ z ∷ []) is) ∙ sym (take_more xs i (pos 0) lt)

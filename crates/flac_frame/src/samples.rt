@@ -1,6 +1,7 @@
 //! Samples of the depth of the stream.
 
-ghost use Rattle.std.specs.Prelude.{◌≡◌, ◌≤◌, length, true};
+ghost use Rattle.std.specs.Prelude.{◌≡◌, ◌≤◌, length, true, FitsSigned};
+ghost use Rattle.std.specs.Int.{w32};
 ghost use Rattle.flac_subframe.specs.Numbers.{fits, all_fit};
 
 /// Whether a sample fits the depth.
@@ -19,6 +20,24 @@ pub(crate) fn fits_depth(sample: i64, depth: u32) -> bool
     true
 }
 
+/// A number that is 0 just where a sample fits the depth.
+#[inline(always)]
+fn excess(sample: i64, depth: u32) -> u64
+    requires depth { (1 ≤ depth) × (depth ≤ 32) }
+    ensures none { result ≡ 0 → fits depth sample ≡ true }
+    ensures some { fits depth sample ≡ true → result ≡ 0 }
+{
+    sample.cast_unsigned().wrapping_add(1 << (depth - 1)) >> depth
+}
+
+/// The lowest 32 bits of a sample, which are the sample again where it fits them.
+#[inline(always)]
+fn lowest(sample: i64) -> i32
+    ensures { FitsSigned w32 sample → result ≡ sample }
+{
+    ((sample.cast_unsigned() & 0xFFFF_FFFF) as u32).cast_signed()
+}
+
 /// Puts the samples into places of 32 bits, and answers whether each fits the depth.
 pub(crate) fn narrow(samples: &[i64], depth: u32, out: &mut [i32]) -> bool
     requires depth { (1 ≤ depth) × (depth ≤ 32) }
@@ -26,12 +45,11 @@ pub(crate) fn narrow(samples: &[i64], depth: u32, out: &mut [i32]) -> bool
     ensures fits { result ≡ all_fit depth samples.now }
     ensures same { result ≡ true → out.new ≡ samples.now }
 {
+    let mut wrong = 0;
     for i in 0..samples.len() {
         let sample = samples[i];
-        if !fits_depth(sample, depth) {
-            return false;
-        }
-        out[i] = sample as i32;
+        wrong |= excess(sample, depth);
+        out[i] = lowest(sample);
     }
-    true
+    wrong == 0
 }

@@ -1,25 +1,35 @@
-use Rattle.std.proofs.Common.{arith, rules, ◌≡◌, ℤ, pos, length, get_or, to_z, of_z, w64, SFits, true, false, sym, ap, ◌∙◌}
+use Rattle.std.proofs.Common.{arith, rules, ◌≡◌, ℕ, ℤ, pos, length, get_or, to_z, of_z, w32, w64, SFits, true, refl, sym, ap, ◌∙◌}
+use Rattle.std.specs.Prelude.{bit_or}
 use Rattle.std.proofs.lemmas.Int.{to_z-of_z}
+use Rattle.std.proofs.lemmas.Nat.{le_or_l, le_or_r}
 use Rattle.flac_subframe.specs.Numbers.{fits}
-use Rattle.flac_frame.proofs.Depths.{one_bad, fit_more, put_more}
+use Rattle.flac_frame.proofs.Depths.{fit_more, fit_less, put_more, kept_32}
 use Rattle.flac_frame.proofs.samples.narrow.Goals as goal
 
-pub returns-then-not-fits_depth-clause-fits : goal.returns-then-not-fits_depth-clause-fits
-returns-then-not-fits_depth-clause-fits c =
-    let x : ℤ = get_or c.args.samples.now c.loop-i.i (pos 0) in
-    let f : SFits w64 x = search rules in
-    let same : to_z w64 (of_z w64 x) ≡ x = to_z-of_z w64 x f in
-    let bad : fits c.args.depth x ≡ false = ap (fits c.args.depth) (sym same) ∙ sym c.if-not-fits_depth.ensures in
-    one_bad c.args.depth c.args.samples.now c.loop-i.i c.loop-i-test.true bad
+none_left : (a b : ℕ) → bit_or a b ≡ 0 → (a ≡ 0) × (b ≡ 0)
+none_left a b e = (omega (arith, le_or_l a b, e), omega (arith, le_or_r a b, e))
+
+none_both : (a b : ℕ) → a ≡ 0 → b ≡ 0 → bit_or a b ≡ 0
+none_both a b e f = rw (e, f) refl
 
 pub loop-i-preserved : goal.loop-i-preserved
 loop-i-preserved c =
     let l = c.loop-i in
-    let x : ℤ = get_or c.args.samples.now l.i (pos 0) in
+    let inv = l.invariant in
+    let depth = c.args.depth in
+    let xs = c.args.samples.now in
+    let lt = c.loop-i-test.true in
+    let x : ℤ = get_or xs l.i (pos 0) in
     let f : SFits w64 x = search rules in
     let same : to_z w64 (of_z w64 x) ≡ x = to_z-of_z w64 x f in
-    let good : fits c.args.depth x ≡ true = ap (fits c.args.depth) (sym same) ∙ sym c.if-not-fits_depth.ensures in
-    let long : length l.out ≡ length c.args.samples.now = omega (arith, l.auto.out, c.requires.places) in (
-      put_more c.args.depth c.args.samples.now l.out l.i c.requires.depth.1 c.loop-i-test.true long l.invariant.0 good,
-      fit_more c.args.depth c.args.samples.now l.i c.loop-i-test.true l.invariant.1 good,
-    )
+    let long : length l.out ≡ length xs = omega (arith, l.auto.out, c.requires.places) in
+    let v : ℤ = c.lowest.result in
+    let g : SFits w32 v = search rules in
+    let kept : to_z w32 (of_z w32 v) ≡ v = to_z-of_z w32 v g in
+    let good : c.excess-wrong.result ≡ 0 → fits depth x ≡ true = λ e. ap (fits depth) (sym same) ∙ c.excess-wrong.ensures.none e in
+    let is : fits depth x ≡ true → to_z w32 (of_z w32 v) ≡ x = λ h. kept ∙ (c.lowest.ensures (rw same (kept_32 depth x c.requires.depth.1 h)) ∙ same) in
+    record {
+      none = λ e. let z = none_left l.wrong c.excess-wrong.result e in fit_more depth xs l.i lt (inv.none z.0) (good z.1);
+      some = λ h. let both = fit_less depth xs l.i lt h in none_both l.wrong c.excess-wrong.result (inv.some both.0) (c.excess-wrong.ensures.some (ap (fits depth) same ∙ both.1));
+      same = λ e. let z = none_left l.wrong c.excess-wrong.result e in put_more xs l.out l.i (to_z w32 (of_z w32 v)) lt long (inv.same z.0) (is (good z.1));
+    }
