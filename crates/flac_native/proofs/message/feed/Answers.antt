@@ -19,6 +19,6 @@ loop-start-preserved c =
       fed = λ m holds.
           let before = rows_bytes width channels n 0 in
           let all : (m ++ before) ++ take c.put_rows-end.result c.put_rows-end.new.out ≡ m ++ rows_bytes width channels (n + k) 0 =
-            append_assoc m before _ ∙ ap (λ l. m ++ l) (ap (λ l. before ++ l) c.put_rows-end.ensures.bytes ∙ sym rows) in
+          append_assoc m before _ ∙ ap (λ l. m ++ l) (ap (λ l. before ++ l) c.put_rows-end.ensures.bytes ∙ sym rows) in
           subst (λ l. Holds c.update.new.self l) all (c.update.ensures (m ++ before) (inv.fed m holds));
     }
