@@ -86,7 +86,7 @@ module _ (body : List Bool) (m : Mark) (whole : m.unread ≡ 0) (begun : m.check
   body_check =
       ap (λ (k : Mark). k.check16) (sym (past-append body (zeros (past body m)) m)) ∙ check16_is (body ++ zeros (past body m)) m begun ∙ ap (λ t. remainder 16 32773 (body ++ t)) behind_body
 
-  end_is : body ++ end_spelling (past body m) ≡ checked (filled body)
+  pub end_is : body ++ end_spelling (past body m) ≡ checked (filled body)
   end_is = sym (append_assoc body (zeros (past body m)) _) ∙ ap (λ t. (body ++ t) ++ unsigned 16 (past (zeros (past body m)) (past body m)).check16) behind_body ∙ ap (λ n. filled body ++ unsigned 16 n) body_check
 
   end_small : (past (zeros (past body m)) (past body m)).check16 < 2 ^ 16

@@ -7,3 +7,6 @@ pub mod Following
 pub mod Gathered
 pub mod FrameTie
 pub mod Sounds
+pub mod Stood
+pub mod Encoded
+pub mod Wholes

@@ -1,13 +1,18 @@
 -- Samples that can be encoded.
-use Rattle.std.proofs.Common.{◌≡◌, ℕ, ◌<◌, ◌≤◌, ◌^◌, Bool, true, false, cond, ◌||◌, nat_eq, nat_lt, nat_le, ℤ, List, [], ◌∷◌, map, length, get_or, Option, Some, None, is_some, refl, sym, ap, ◌∙◌, arith}
+use Rattle.std.proofs.Common.{◌≡◌, ℕ, ◌<◌, ◌≤◌, ◌^◌, Bool, true, false, cond, ◌||◌, nat_eq, nat_lt, nat_le, ℤ, List, [], ◌∷◌, map, length, get_or, Option, Some, None, is_some, is_none, ◌-◌, pos, negsuc, not, All, ◌&&◌, refl, sym, ap, ◌∙◌, arith}
 use Rattle.std.specs.List.{list_all}
 use Rattle.std.proofs.lemmas.List.{length-map}
 use Rattle.std.proofs.lemmas.List.Folds.{list_all-map}
 use Rattle.flac_subframe.specs.Numbers.{fits}
-use Rattle.flac_frame.specs.Audio.{samples_each, as_long, each_small, channels_fault}
-use Rattle.flac_frame.specs.declared.setup.SetupFault.TheVariants.{LengthsDiffer, SampleTooLarge, TooLong}
+use Rattle.flac_frame.specs.Audio.{samples_each, as_long, each_small, channels_fault, audio_fault, IsSound}
+use Rattle.flac_frame.specs.declared.setup.SetupFault.{SetupFault}
+use Rattle.flac_frame.specs.declared.setup.SetupFault.TheVariants.{BadRate, BadDepth, BadChannels, LengthsDiffer, SampleTooLarge, TooLong}
+use Rattle.std.proofs.lemmas.Int.{ints}
+use Rattle.std.proofs.lemmas.Bool.{ltb-true}
+use Rattle.std.proofs.lemmas.List.Elements.{All-nil, All-cons}
+use Rattle.flac_bits.specs.Signed.{FitsBits}
 use Rattle.std.proofs.lemmas.Bool.Decides.{nat_tests}
-use Rattle.flac_header.specs.Choice.{depth_choice}
+use Rattle.flac_header.specs.Choice.{depth_choice, rate_choice}
 
 pub samples_in_first : {X : Type 0} (f : X → List ℤ) (xs : List X) (d : X) → 0 < length xs → length (get_or (map f xs) 0 []) ≡ length (f (get_or xs 0 d))
 samples_in_first f [] d h = absurd (omega (arith, h))
@@ -49,3 +54,59 @@ not_long n h = let e : nat_le (2 ^ 36) n ≡ false = grind (arith, nat_tests) in
 pub depth_small : (d : ℕ) → is_some (depth_choice d) ≡ true → (1 ≤ d) × (d ≤ 32)
 unfolding depth_choice
 depth_small d h = grind (arith, nat_tests)
+
+-- ---- what holds of samples that can be encoded
+
+fits_is : (n : ℕ) (z : ℤ) → fits n z ≡ true → FitsBits n z
+fits_is n (pos a) h = let lt : a < 2 ^ (n - 1) = ltb-true a (2 ^ (n - 1)) h in record { low = omega (arith, ints); high = omega (arith, ints, lt) }
+fits_is n (negsuc a) h = let lt : a < 2 ^ (n - 1) = ltb-true a (2 ^ (n - 1)) h in record { low = omega (arith, ints, lt); high = omega (arith, ints) }
+
+both : (a b : Bool) → (a && b) ≡ true → (a ≡ true) × (b ≡ true)
+both true true e = (refl, refl)
+both true false e = absurd cc
+both false b e = absurd cc
+
+all_of : {X : Type 0} (P : X → Type 0) (p : X → Bool) → ((x : X) → p x ≡ true → P x) → (xs : List X) → list_all p xs ≡ true → All P xs
+all_of P p h [] e = All-nil P
+all_of P p h (x ∷ xs) e = let b = both (p x) (list_all p xs) e in All-cons P x xs (h x b.0) (all_of P p h xs b.1)
+
+same_length : (n : ℕ) (c : List ℤ) → nat_eq (length c) n ≡ true → length c ≡ n
+same_length n c e = grind (arith, nat_tests)
+
+none_here : (a : Bool) (e : SetupFault) (o : Option SetupFault) → cond a (Some e) o ≡ None → (a ≡ false) × (o ≡ None)
+none_here true e o h = absurd cc
+none_here false e o h = (refl, h)
+
+is_there : {X : Type 0} (o : Option X) → is_none o ≡ false → is_some o ≡ true
+is_there None e = absurd cc
+is_there (Some x) e = refl
+
+kept_true : (b : Bool) → not b ≡ false → b ≡ true
+kept_true true e = refl
+kept_true false e = absurd cc
+
+counts_are : (n : ℕ) → (nat_eq n 0 || nat_lt 8 n) ≡ false → (1 ≤ n) × (n ≤ 8)
+counts_are n e = (grind (arith, nat_tests), grind (arith, nat_tests))
+
+not_over : (n : ℕ) → nat_le (2 ^ 36) n ≡ false → n < 2 ^ 36
+not_over n e = grind (arith, nat_tests)
+
+pub sound_is : (rate bits : ℕ) (cs : List (List ℤ)) → audio_fault rate bits cs ≡ None → IsSound (record { rate = rate; bits = bits; channels = cs })
+unfolding audio_fault channels_fault
+sound_is rate bits cs e =
+    let a = none_here (is_none (rate_choice rate)) BadRate _ e in
+    let b = none_here (is_none (depth_choice bits)) BadDepth _ a.1 in
+    let c = none_here (nat_eq (length cs) 0 || nat_lt 8 (length cs)) BadChannels _ b.1 in
+    let d = none_here (not (as_long cs)) LengthsDiffer _ c.1 in
+    let f = none_here (not (each_small bits cs)) SampleTooLarge _ d.1 in
+    let g = none_here (nat_le (2 ^ 36) (samples_each cs)) TooLong None f.1 in
+    let n = counts_are (length cs) c.0 in
+    record {
+      rate = is_there (rate_choice rate) a.0;
+      bits = is_there (depth_choice bits) b.0;
+      some = n.0;
+      few = n.1;
+      long = all_of (λ c. length c ≡ samples_each cs) (λ c. nat_eq (length c) (samples_each cs)) (same_length (samples_each cs)) cs (kept_true (as_long cs) d.0);
+      small = all_of (λ c. All (FitsBits bits) c) (λ c. list_all (fits bits) c) (λ c h. all_of (FitsBits bits) (fits bits) (fits_is bits) c h) cs (kept_true (each_small bits cs) f.0);
+      short = not_over (samples_each cs) g.0;
+    }

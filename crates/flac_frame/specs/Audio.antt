@@ -1,7 +1,8 @@
 -- Samples that can be encoded.
-use Rattle.std.specs.Prelude.{ℕ, ◌^◌, Bool, not, cond, ◌||◌, nat_eq, nat_lt, nat_le, ℤ, List, [], length, slice_index_or, Option, Some, None, is_none}
+use Rattle.std.specs.Prelude.{◌≡◌, ◌≤◌, ◌<◌, All, true, is_some, ℕ, ◌^◌, Bool, not, cond, ◌||◌, nat_eq, nat_lt, nat_le, ℤ, List, [], length, slice_index_or, Option, Some, None, is_none}
 use Rattle.std.specs.List.{list_all}
 use Rattle.flac_header.specs.Choice.{rate_choice, depth_choice}
+use Rattle.flac_bits.specs.Signed.{FitsBits}
 use Rattle.flac_subframe.specs.Numbers.{fits}
 use Rattle.flac_frame.specs.declared.setup.SetupFault.{SetupFault}
 use Rattle.flac_frame.specs.declared.setup.SetupFault.TheVariants.{BadRate, BadDepth, BadChannels, LengthsDiffer, SampleTooLarge, TooLong}
@@ -37,3 +38,13 @@ channels_fault bits channels =
 unfoldable pub audio_fault : (rate bits : ℕ) → List (List ℤ) → Option SetupFault
 audio_fault rate bits channels =
     cond (is_none (rate_choice rate)) (Some BadRate) (cond (is_none (depth_choice bits)) (Some BadDepth) (channels_fault bits channels))
+
+-- what holds of samples that can be encoded
+pub record IsSound (a : Sound) : Type 0 where
+  pub rate : is_some (rate_choice a.rate) ≡ true
+  pub bits : is_some (depth_choice a.bits) ≡ true
+  pub some : 1 ≤ length a.channels
+  pub few : length a.channels ≤ 8
+  pub long : All (λ c. length c ≡ samples_each a.channels) a.channels
+  pub small : All (λ c. All (FitsBits a.bits) c) a.channels
+  pub short : samples_each a.channels < 2 ^ 36

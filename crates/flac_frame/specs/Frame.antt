@@ -61,8 +61,11 @@ stream_header info before = do
 -- ---- the subframes
 
 -- what the subset allows of a subframe (section 7)
+abbrev pub limits_at : (rate : ℕ) → Limits
+limits_at rate = record { partition = 8; linear = cond (nat_le rate 48000) 12 32 }
+
 abbrev pub limits_of : Info → Limits
-limits_of info = record { partition = 8; linear = cond (nat_le info.rate 48000) 12 32 }
+limits_of info = limits_at info.rate
 
 -- the side channel has one bit more: the second of codes 8 and 10, the first of code 9 (section 9.2.3)
 unfoldable pub side_bit : ℕ → ℕ → ℕ

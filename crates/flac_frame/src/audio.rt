@@ -3,7 +3,7 @@
 ghost use Rattle.std.specs.Prelude.{◌≡◌, ◌≤◌, ◌<◌, ◌^◌, map, length, nat_eq, MatchResult, Some, None};
 ghost use Rattle.std.specs.List.{list_all};
 ghost use Rattle.flac_subframe.specs.Numbers.{fits};
-ghost use Rattle.flac_frame.specs.Audio.{samples_each, channels_fault, audio_fault};
+ghost use Rattle.flac_frame.specs.Audio.{samples_each, channels_fault, audio_fault, IsSound};
 
 use crate::samples::fits_depth;
 use crate::setup::SetupFault;
@@ -132,8 +132,10 @@ impl Audio {
     }
 
     /// The samples of each channel.
+    #[tactic(auto, using(crate::proofs::Sounds::sound_is))]
     pub fn channels(&self) -> &[Vec<i32>]
-        ensures { map (λ c. c.items) result.now ≡ self.now.channels }
+        ensures items { map (λ c. c.items) result.now ≡ self.now.channels }
+        ensures sound { IsSound self.now }
     {
         self.channels.as_slice()
     }

@@ -5,6 +5,7 @@ mod audio;
 mod before;
 mod buffers;
 mod channels;
+mod encode;
 mod end;
 mod fill;
 mod promises;
@@ -19,6 +20,9 @@ mod view;
 pub use audio::Audio;
 pub use before::Before;
 pub use buffers::FrameBuffers;
-pub use promises::{channels_are_joined, frames_are_spelled, frames_follow};
+pub use encode::{EncodeBuffers, encode_frame};
+pub use promises::{
+    channels_are_joined, forms_stand_for_samples, frames_are_spelled, frames_follow,
+};
 pub use setup::SetupFault;
 pub use view::FrameView;

@@ -1,5 +1,6 @@
 //! What holds of the definitions.
 
+ghost use Rattle.flac_frame.specs.Encoding.{FormsStand};
 ghost use Rattle.flac_frame.specs.Follows.{AcceptedFollow, FramesFollow};
 ghost use Rattle.flac_frame.specs.Spelling.{FramesAreSpelled, FramesAreReadAgain, FramesAreBytes};
 ghost use Rattle.flac_frame.specs.Stereo.{ChannelsAreJoined};
@@ -22,4 +23,9 @@ pub fn frames_are_spelled()
     ensures spelled { FramesAreSpelled }
     ensures again { FramesAreReadAgain }
     ensures bytes { FramesAreBytes }
+{}
+
+/// A form that a choice makes of samples may be spelled, and has just these samples.
+pub fn forms_stand_for_samples()
+    ensures { FormsStand }
 {}

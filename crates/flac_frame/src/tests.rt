@@ -4,10 +4,10 @@ ghost use Rattle.std.specs.Prelude.{◌≡◌, IfOk};
 
 use crate::stereo::join_samples;
 use crate::{
-    Audio, FrameBuffers, FrameView, SetupFault, channels_are_joined, frames_are_spelled,
-    frames_follow,
+    Audio, EncodeBuffers, FrameBuffers, FrameView, SetupFault, channels_are_joined, encode_frame,
+    forms_stand_for_samples, frames_are_spelled, frames_follow,
 };
-use flac_bits::{BitReader, Memory, Why};
+use flac_bits::{BitReader, BitWriter, Collected, Memory, Target, Why};
 use flac_header::Profile;
 use flac_meta::StreamInfo;
 use std::alloc::{AllocError, Global};
@@ -145,5 +145,49 @@ fn audio(rt: HostRuntime) -> Result<(), Fail> {
     assert_eq!(rt; (audio.rate(), audio.bits(), audio.len()), (7000, 12, 2));
     assert_eq!(rt; audio.channels().len(), 2);
     assert!(rt; !audio.is_empty());
+    Ok(())
+}
+
+/// Writes all samples, 16 at most, as frame 0.
+fn write_all<W: Target>(alloc: Global, audio: &Audio, writer: &mut BitWriter<W>) -> Result<(), Why>
+    requires { writer.old.mark.unread ≡ 0 }
+{
+    let len = audio.len();
+    if len == 0 || len > 16 {
+        return Err(Why::BlockSize);
+    }
+    let mut buffers = EncodeBuffers::new(alloc, 16)?;
+    encode_frame(audio, 0..len, 0, &mut buffers, writer)?;
+    writer.finish()
+}
+
+#[test]
+fn frames_are_written(rt: HostRuntime) -> Result<(), Fail> {
+    let alloc = rt.alloc();
+    forms_stand_for_samples();
+    let Ok(audio) = two_channels(alloc, 44100, 16, &[25588], &[10416])? else {
+        assert!(rt; false);
+        return Ok(());
+    };
+    let mut writer = BitWriter::new(Collected::new(alloc));
+    write_all(alloc, &audio, &mut writer)?;
+    let frame = [
+        0xFF, 0xF8, 0x69, 0x18, 0x00, 0x00, 0xBF, 0x01, 0x58, 0xFD, 0x01, 0x12, 0x8B, 0x5A, 0xB2,
+    ];
+    assert_eq!(rt; writer.into_target().bytes(), frame.as_slice());
+    let ramp = [0, 1, 2, 3, 4, 5, 6, 7, 8, 9, 10, 11, 12, 13, 14, 15];
+    let mut channels = Vec::new(alloc);
+    channels.push(ramp.iter().copied().collect(alloc)?)?;
+    let Ok(audio) = Audio::new(44100, 16, channels) else {
+        assert!(rt; false);
+        return Ok(());
+    };
+    let mut writer = BitWriter::new(Collected::new(alloc));
+    write_all(alloc, &audio, &mut writer)?;
+    let frame = [
+        0xFF, 0xF8, 0x69, 0x08, 0x00, 0x0F, 0x30, 0x14, 0x00, 0x00, 0x00, 0x01, 0x03, 0xC0, 0xEF,
+        0xC9,
+    ];
+    assert_eq!(rt; writer.into_target().bytes(), frame.as_slice());
     Ok(())
 }

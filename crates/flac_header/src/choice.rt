@@ -1,7 +1,7 @@
 //! The codes that a writer chooses.
 
 ghost use Rattle.std.specs.Prelude.{◌≡◌, ◌≤◌, ◌<◌, IfSome, nat_eq, false};
-ghost use Rattle.flac_header.specs.Header.{IsSize, IsRate};
+ghost use Rattle.flac_header.specs.Header.{IsSize, IsRate, IsHeader};
 ghost use Rattle.flac_header.specs.Choice.{size_choice, rate_choice, depth_choice, chosen_header};
 
 use crate::frame_header::FrameHeader;
@@ -89,7 +89,8 @@ impl FrameHeader {
         depth: u32,
         number: u64,
     ) -> Option<FrameHeader>
-        ensures { result ≡ chosen_header size rate channel_code depth number }
+        ensures chosen { result ≡ chosen_header size rate channel_code depth number }
+        ensures valid { IfSome result (λ h. IsHeader h) }
     {
         if channel_code > 10 || number >= 1 << 31 {
             return None;

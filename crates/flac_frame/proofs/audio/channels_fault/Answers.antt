@@ -1,4 +1,4 @@
-use Rattle.std.proofs.Common.{◌≡◌, sym, ◌∙◌}
+use Rattle.std.proofs.Common.{sym, ◌∙◌}
 use Rattle.flac_frame.proofs.Sounds.{differ, large, rest, too_long, not_long}
 use Rattle.flac_frame.proofs.audio.channels_fault.Goals as goal
 

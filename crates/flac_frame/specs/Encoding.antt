@@ -1,0 +1,72 @@
+-- What encoding a frame writes.
+use Rattle.std.specs.Prelude.{◌≡◌, ℕ, ◌≤◌, ◌<◌, Bool, ℤ, List, [], ◌∷◌, ◌++◌, length, map, take, drop, flat_map, Some, All, Result, ⊤}
+use Rattle.flac_bits.specs.Bits.{unsigned}
+use Rattle.flac_bits.specs.State.{Mark, past, fresh}
+use Rattle.flac_bits.specs.Signed.{FitsBits}
+use Rattle.flac_bits.specs.Written.{Written, Writes}
+use Rattle.flac_bits.specs.declared.why.Why.{Why}
+use Rattle.flac_header.specs.Header.{Header, IsHeader}
+use Rattle.flac_header.specs.Choice.{chosen_header}
+use Rattle.flac_header.specs.Spelling.{restarted, header_spelling}
+use Rattle.flac_subframe.specs.declared.limits.Limits.{Limits}
+use Rattle.flac_subframe.specs.Chosen.{fixed_below}
+use Rattle.flac_subframe.specs.Family.{Stands}
+use Rattle.flac_subframe.specs.Least.{IsLeast}
+use Rattle.flac_subframe.specs.Spelling.{subframe_spelling, IsSubframe}
+use Rattle.flac_subframe.specs.Subframe.{Form, samples_of}
+use Rattle.flac_frame.specs.Audio.{Sound}
+use Rattle.flac_frame.specs.Frame.{limits_at}
+use Rattle.flac_frame.specs.Spelling.{FrameForm, frame_spelling, AreSubframes, FrameSamples}
+
+-- a form that stands for samples of a depth may be spelled in a block of as many, and has these samples
+abbrev pub FormsStand : Type 0
+FormsStand = (depth : ℕ) (limits : Limits) (f : Form) (s : List ℤ) → 1 ≤ depth → 0 < length s → 8 ≤ limits.partition → All (FitsBits depth) s → Stands 8 (fixed_below 5) f s
+    → IsSubframe depth (length s) limits f × (samples_of depth (length s) f ≡ Some s)
+
+-- ---- a frame
+
+-- the samples of a block: so many of each channel, from one on
+abbrev pub block_of : (start size : ℕ) → List (List ℤ) → List (List ℤ)
+block_of start size channels = map (λ c. take size (drop start c)) channels
+
+-- A frame of a block of samples: the header has fixed blocking, the frame's number and the codes for the block size, the rate and the depth (the channel code
+-- is free); the subframes may be spelled, and the channels are the block's.
+pub record IsEncoding (sound : Sound) (size number : ℕ) (block : List (List ℤ)) (f : FrameForm) : Type 0 where
+  pub code : ℕ
+  pub header : chosen_header size sound.rate code sound.bits number ≡ Some f.header
+  pub valid : IsHeader f.header
+  pub many : length f.subframes ≡ length block
+  pub subframes : AreSubframes sound.bits code size (limits_at sound.rate) 0 f.subframes
+  pub samples : FrameSamples sound.bits f block
+
+-- at a whole byte, where the checks begin, the spelling of such a frame was written
+abbrev pub WritesFrame : {X : Type 0} → Sound → (size number : ℕ) → List (List ℤ) → Written → Written → Result X Why → Type 0
+WritesFrame sound size number block old new result = (f : FrameForm) × IsEncoding sound size number block f × Writes (frame_spelling sound.bits f) (restarted old) new result
+
+-- ---- its parts
+
+-- a least form of samples was written
+abbrev pub WritesLeast : {X : Type 0} → ℕ → List ℤ → Written → Written → Result X Why → Type 0
+WritesLeast depth s old new result = (f : Form) × IsLeast (λ g. Stands 8 (fixed_below 5) g s) (λ g. length (subframe_spelling depth g)) f × Writes (subframe_spelling depth f) old new result
+
+-- forms that may be spelled have the samples of channels, each by itself
+abbrev pub AreForms : (depth size : ℕ) → List Form → List (List ℤ) → Type 0
+AreForms depth size [] [] = ⊤
+AreForms depth size [] (s ∷ ss) = ⊥
+AreForms depth size (f ∷ fs) [] = ⊥
+AreForms depth size (f ∷ fs) (s ∷ ss) = ((limits : Limits) → 8 ≤ limits.partition → IsSubframe depth size limits f) × (samples_of depth size f ≡ Some s) × AreForms depth size fs ss
+
+abbrev pub WritesForms : {X : Type 0} → (depth size : ℕ) → List (List ℤ) → Written → Written → Result X Why → Type 0
+WritesForms depth size block old new result = (fs : List Form) × AreForms depth size fs block × Writes (flat_map (subframe_spelling depth) fs) old new result
+
+-- zeros up to a whole byte behind a mark, and CRC-16
+abbrev pub end_spelling : Mark → List Bool
+end_spelling m = unsigned m.unread 0 ++ unsigned 16 (past (unsigned m.unread 0) m).check16
+
+-- behind the header of a frame come its subframes, zeros up to a whole byte, and the check
+abbrev pub whole_text : ℕ → Header → List Form → Mark → List Bool
+whole_text depth h fs m =
+    header_spelling h ++ (flat_map (subframe_spelling depth) fs ++ end_spelling (past (flat_map (subframe_spelling depth) fs) (past (header_spelling h) (fresh m))))
+
+abbrev pub WritesWhole : {X : Type 0} → (depth size : ℕ) → Header → List (List ℤ) → Written → Written → Result X Why → Type 0
+WritesWhole depth size h block old new result = (fs : List Form) × AreForms depth size fs block × Writes (whole_text depth h fs old.mark) (restarted old) new result
