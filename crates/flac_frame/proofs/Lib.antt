@@ -10,3 +10,4 @@ pub mod Sounds
 pub mod Stood
 pub mod Encoded
 pub mod Wholes
+pub mod Encodings

@@ -1,5 +1,5 @@
 -- A whole frame, as it is written.
-use Rattle.std.proofs.Common.{◌≡◌, ◌∙◌, refl, sym, ap, subst, ℕ, suc, ◌+◌, ◌-◌, ◌≤◌, ◌<◌, ◌^◌, arith, ℤ, Bool, true, false, cond, nat_eq, nat_lt, nat_le, List, [], ◌∷◌, ◌++◌, append_assoc, length, map, Option, Some, None, is_some, Result, All, flat_map}
+use Rattle.std.proofs.Common.{◌≡◌, ◌∙◌, refl, sym, ap, subst, ℕ, suc, ◌+◌, ◌-◌, ◌≤◌, ◌<◌, ◌^◌, arith, ℤ, Bool, true, false, cond, nat_eq, nat_lt, nat_le, List, [], ◌∷◌, ◌++◌, append_assoc, length, map, Option, Some, None, is_some, Result, All, flat_map, take, drop}
 use Rattle.std.proofs.lemmas.Bool.Decides.{nat_tests}
 use Rattle.std.proofs.lemmas.List.Elements.{All-nil, All-cons, All-head, All-tail}
 use Rattle.std.proofs.lemmas.List.{length-map}
@@ -10,7 +10,7 @@ use Rattle.flac_bits.specs.declared.why.Why.{Why}
 use Rattle.flac_bits.proofs.Laws.{past-append}
 use Rattle.flac_bits.proofs.Writing.{fails_first, fails_then, writes_then}
 use Rattle.flac_bits.proofs.ItemSpellings.{fresh_unread, fresh_check16}
-use Rattle.flac_header.specs.Header.{Header, IsHeader}
+use Rattle.flac_header.specs.Header.{Header, IsHeader, channels_of}
 use Rattle.flac_header.specs.Choice.{size_choice, rate_choice, depth_choice, with_codes, chosen_header}
 use Rattle.flac_header.specs.Spelling.{header_spelling, restarted}
 use Rattle.flac_subframe.specs.declared.limits.Limits.{Limits}
@@ -169,10 +169,13 @@ chosen_there size rate code bits number some less r d few small e =
 
 -- ---- the whole
 
+as_coded : (code : ℕ) → code ≤ 7 → channels_of code ≡ code + 1
+as_coded code few = let a : nat_lt code 8 ≡ true = grind (arith, nat_tests) in rw a refl
+
 pub frame_encoded : {X : Type 0} (sound : Sound) (code size number : ℕ) (block : List (List ℤ)) (h : Header) (old new : Written) (result : Result X Why) → code ≤ 7 → number < 2 ^ 31 → old.mark.unread ≡ 0
-    → chosen_header size sound.rate code sound.bits number ≡ Some h → IsHeader h → All (λ s. All (FitsBits sound.bits) s) block → WritesWhole sound.bits size h block old new result → WritesFrame sound size number block old new result
+    → chosen_header size sound.rate code sound.bits number ≡ Some h → IsHeader h → code + 1 ≡ length block → All (λ s. All (FitsBits sound.bits) s) block → WritesWhole sound.bits size h block old new result → WritesFrame sound size number block old new result
 unfolding frame_spelling
-frame_encoded sound code size number block h old new result independent small whole chosen valid fits (fs, are, writes) =
+frame_encoded sound code size number block h old new result independent small whole chosen valid each fits (fs, are, writes) =
     let depth : ℕ = sound.bits in
     let codes = codes_are (size_choice size) (rate_choice sound.rate) (depth_choice depth) size sound.rate code number h (sym (chosen_as size sound.rate code depth number (omega (arith, independent)) small) ∙ chosen) in
     let body : List Bool = header_spelling h ++ flat_map (subframe_spelling depth) fs in
@@ -189,6 +192,7 @@ frame_encoded sound code size number block h old new result independent small wh
         code = code;
         header = chosen;
         valid = valid;
+        channels = ap channels_of codes.0 ∙ as_coded code independent ∙ each;
         many = as_many depth code size independent fs block are;
         subframes = subframes_are depth code size independent limits (omega arith) 0 fs block are;
         samples = record {
@@ -237,5 +241,6 @@ module _ {V : Type 0} (items : V → List ℤ) (xs : List V) (sound : Sound) (go
       let chosen : chosen_header size sound.rate code sound.bits number ≡ Some h = ap (λ k. chosen_header size k code sound.bits number) (sym r) ∙ ap (λ k. chosen_header size rate code k number) (sym b) ∙ sym is ∙ there in
       let block = is_block items sound.bits start size deep.0 some xs (each_long start size within, each_fits_in sound.bits refl) in
       let fits = subst (λ k. All (λ s. All (FitsBits sound.bits) s) (block_of start size k)) are block.1 in
+      let block_long : length (block_of start size sound.channels) ≡ length xs = length-map sound.channels (λ c. take size (drop start c)) ∙ ap (λ (l : List (List ℤ)). length l) (sym are) ∙ length-map xs items in
       let wrote' = subst (λ k. WritesWhole sound.bits size h (block_of start size k) old new result) are (subst (λ k. WritesWhole k size h (block_of start size (map items xs)) old new result) d wrote) in
-      frame_encoded sound code size number (block_of start size sound.channels) h old new result (omega (arith, c, few_channels.1)) small whole chosen valid fits wrote'
+      frame_encoded sound code size number (block_of start size sound.channels) h old new result (omega (arith, c, few_channels.1)) small whole chosen valid (omega (arith, c, few_channels.0, block_long)) fits wrote'

@@ -1,11 +1,13 @@
 -- What encoding a frame writes.
-use Rattle.std.specs.Prelude.{◌≡◌, ℕ, ◌≤◌, ◌<◌, Bool, ℤ, List, [], ◌∷◌, ◌++◌, length, map, take, drop, flat_map, Some, All, Result, ⊤}
+use Rattle.std.specs.Prelude.{◌≡◌, ℕ, ◌≤◌, ◌<◌, Bool, ℤ, List, [], ◌∷◌, ◌++◌, length, map, take, drop, flat_map, Some, Option, All, Result, true, false, ⊤}
 use Rattle.flac_bits.specs.Bits.{unsigned}
 use Rattle.flac_bits.specs.State.{Mark, past, fresh}
 use Rattle.flac_bits.specs.Signed.{FitsBits}
 use Rattle.flac_bits.specs.Written.{Written, Writes}
 use Rattle.flac_bits.specs.declared.why.Why.{Why}
-use Rattle.flac_header.specs.Header.{Header, IsHeader}
+use Rattle.flac_bits.specs.Meaning.{AllKept}
+use Rattle.flac_meta.specs.Info.{Info}
+use Rattle.flac_header.specs.Header.{Header, IsHeader, channels_of, greatest_block, allowed}
 use Rattle.flac_header.specs.Choice.{chosen_header}
 use Rattle.flac_header.specs.Spelling.{restarted, header_spelling}
 use Rattle.flac_subframe.specs.declared.limits.Limits.{Limits}
@@ -15,8 +17,10 @@ use Rattle.flac_subframe.specs.Least.{IsLeast}
 use Rattle.flac_subframe.specs.Spelling.{subframe_spelling, IsSubframe}
 use Rattle.flac_subframe.specs.Subframe.{Form, samples_of}
 use Rattle.flac_frame.specs.Audio.{Sound}
-use Rattle.flac_frame.specs.Frame.{limits_at}
-use Rattle.flac_frame.specs.Spelling.{FrameForm, frame_spelling, AreSubframes, FrameSamples}
+use Rattle.flac_frame.specs.Follows.{HasFormat}
+use Rattle.flac_frame.specs.Frame.{limits_at, header_rules}
+use Rattle.flac_frame.specs.Spelling.{FrameForm, frame_spelling, AreSubframes, IsFrame, FrameSamples}
+use Rattle.flac_frame.specs.declared.before.Before.{Before}
 
 -- a form that stands for samples of a depth may be spelled in a block of as many, and has these samples
 abbrev pub FormsStand : Type 0
@@ -35,6 +39,7 @@ pub record IsEncoding (sound : Sound) (size number : ℕ) (block : List (List �
   pub code : ℕ
   pub header : chosen_header size sound.rate code sound.bits number ≡ Some f.header
   pub valid : IsHeader f.header
+  pub channels : channels_of f.header.channel_code ≡ length block
   pub many : length f.subframes ≡ length block
   pub subframes : AreSubframes sound.bits code size (limits_at sound.rate) 0 f.subframes
   pub samples : FrameSamples sound.bits f block
@@ -42,6 +47,20 @@ pub record IsEncoding (sound : Sound) (size number : ℕ) (block : List (List �
 -- at a whole byte, where the checks begin, the spelling of such a frame was written
 abbrev pub WritesFrame : {X : Type 0} → Sound → (size number : ℕ) → List (List ℤ) → Written → Written → Result X Why → Type 0
 WritesFrame sound size number block old new result = (f : FrameForm) × IsEncoding sound size number block f × Writes (frame_spelling sound.bits f) (restarted old) new result
+
+-- What is encoded of samples of the format that STREAMINFO tells has a header of that format, which the subset allows where the block is not too long for its
+-- rate; and where the header keeps the rules behind what the frames before leave, it is a frame of the block.
+pub record IsFrameOf (info : Info) (size number : ℕ) (block : List (List ℤ)) (f : FrameForm) : Type 0 where
+  pub fixed : f.header.variable ≡ false
+  pub numbered : f.header.number ≡ number
+  pub sized : f.header.size ≡ size
+  pub format : HasFormat info f.header
+  pub allowed : size ≤ greatest_block info.rate → allowed f.header ≡ true
+  pub frame : (before : Option Before) → AllKept (header_rules info before f.header) → IsFrame info before f × FrameSamples info.depth f block
+
+abbrev pub EncodingsAreFrames : Type 0
+EncodingsAreFrames = (sound : Sound) (size number : ℕ) (block : List (List ℤ)) (f : FrameForm) (info : Info) → info.rate ≡ sound.rate → info.depth ≡ sound.bits → info.channels ≡ length block
+    → IsEncoding sound size number block f → IsFrameOf info size number block f
 
 -- ---- its parts
 

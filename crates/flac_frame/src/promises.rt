@@ -1,6 +1,6 @@
 //! What holds of the definitions.
 
-ghost use Rattle.flac_frame.specs.Encoding.{FormsStand};
+ghost use Rattle.flac_frame.specs.Encoding.{FormsStand, EncodingsAreFrames};
 ghost use Rattle.flac_frame.specs.Follows.{AcceptedFollow, FramesFollow};
 ghost use Rattle.flac_frame.specs.Spelling.{FramesAreSpelled, FramesAreReadAgain, FramesAreBytes};
 ghost use Rattle.flac_frame.specs.Stereo.{ChannelsAreJoined};
@@ -28,4 +28,9 @@ pub fn frames_are_spelled()
 /// A form that a choice makes of samples may be spelled, and has just these samples.
 pub fn forms_stand_for_samples()
     ensures { FormsStand }
+{}
+
+/// What is encoded of a block of samples is a frame of that block, in a stream of the samples' format.
+pub fn encodings_are_frames()
+    ensures { EncodingsAreFrames }
 {}

@@ -5,7 +5,7 @@ ghost use Rattle.std.specs.Prelude.{◌≡◌, IfOk};
 use crate::stereo::join_samples;
 use crate::{
     Audio, EncodeBuffers, FrameBuffers, FrameView, SetupFault, channels_are_joined, encode_frame,
-    forms_stand_for_samples, frames_are_spelled, frames_follow,
+    encodings_are_frames, forms_stand_for_samples, frames_are_spelled, frames_follow,
 };
 use flac_bits::{BitReader, BitWriter, Collected, Memory, Target, Why};
 use flac_header::Profile;
@@ -165,6 +165,7 @@ fn write_all<W: Target>(alloc: Global, audio: &Audio, writer: &mut BitWriter<W>)
 fn frames_are_written(rt: HostRuntime) -> Result<(), Fail> {
     let alloc = rt.alloc();
     forms_stand_for_samples();
+    encodings_are_frames();
     let Ok(audio) = two_channels(alloc, 44100, 16, &[25588], &[10416])? else {
         assert!(rt; false);
         return Ok(());
