@@ -31,16 +31,18 @@ use Rattle.flac_frame.specs.Audio.{Sound, samples_each}
 use Rattle.flac_frame.specs.Frame.{Frame, frame, header_rules, left_by, breaks_sequence, breaks_size, limits_of}
 use Rattle.flac_frame.specs.Spelling.{frame_spelling, frame_with, AreSubframes, IsSpelled, IsFrame}
 use Rattle.flac_frame.specs.declared.before.Before.{Before}
+use Rattle.flac_frame.specs.Encoding.{block_of}
+use Rattle.flac_frame.proofs.Encodings.{encodings_are_frames}
 use Rattle.flac_frame.proofs.FrameTie.{frames_spelled, frames_bytes}
 use Rattle.flac_native.specs.Decoding.{beginning}
 use Rattle.flac_native.specs.Message.{sample_width, sample_bytes, row_bytes, rows_bytes}
 use Rattle.flac_native.specs.Stream.{Piece, marked, block, framed, Stand, Progress, grammar, opening, layout, layout_in, marker, frame_behind, next, raised, stand_after, phase_behind, info_after, before_behind, end_rules, is_unknown, may_end_in, room_in}
 use Rattle.flac_native.specs.declared.phase.Phase.TheVariants.{Opening, Blocks, Frames}
-use Rattle.flac_native.specs.Given.{Cut, fits_plan, blocks_in, plan_fault, info_of, sound_message, part_of, size_of, frame_of, frames_from, frames_of, closing, given}
+use Rattle.flac_native.specs.Given.{Cut, fits_plan, blocks_in, plan_fault, info_of, sound_message, size_of, frame_of, frames_from, frames_of, closing, given}
 use Rattle.flac_native.specs.Writing.{SpellsFrame, AreFrames, AreSizes, blocks_spelling, stream_spelling, EncodedAreStreams}
 use Rattle.flac_native.proofs.Messages.{rows_split}
 use Rattle.flac_native.proofs.Digests.{digest_is_bytes}
-use Rattle.flac_native.proofs.Planned.{Planned, planned, Fit, fit, keeps_rules, Chosen, chosen, is_header, is_allowed, depth_kept}
+use Rattle.flac_native.proofs.Planned.{Planned, planned, Fit, fit, keeps_rules}
 use Rattle.flac_native.proofs.WholeBytes.{block_whole}
 
 -- ---- items one after another, and where they end
@@ -64,20 +66,20 @@ one_more i message s m x xs front rest spelled room more = ((front, rest, refl, 
 part_at : (start size k : ℕ) (c : List ℤ) → k < size → slice_index_or (take size (drop start c)) k (pos 0) ≡ slice_index_or c (start + k) (pos 0)
 part_at start size k c h = get_or-take size (drop start c) k (pos 0) h ∙ get_or-drop start c k (pos 0)
 
-part_row : (width start size k : ℕ) (channels : List (List ℤ)) → k < size → row_bytes width (part_of start size channels) k ≡ row_bytes width channels (start + k)
+part_row : (width start size k : ℕ) (channels : List (List ℤ)) → k < size → row_bytes width (block_of start size channels) k ≡ row_bytes width channels (start + k)
 unfolding row_bytes
 part_row width start size k [] h = refl
 part_row width start size k (c ∷ cs) h =
-    ap (λ z. sample_bytes width z ++ row_bytes width (part_of start size cs) k) (part_at start size k c h) ∙ ap (λ r. sample_bytes width (slice_index_or c (start + k) (pos 0)) ++ r) (part_row width start size k cs h)
+    ap (λ z. sample_bytes width z ++ row_bytes width (block_of start size cs) k) (part_at start size k c h) ∙ ap (λ r. sample_bytes width (slice_index_or c (start + k) (pos 0)) ++ r) (part_row width start size k cs h)
 
-part_rows : (width start size n k : ℕ) (channels : List (List ℤ)) → k + n ≤ size → rows_bytes width (part_of start size channels) n k ≡ rows_bytes width channels n (start + k)
+part_rows : (width start size n k : ℕ) (channels : List (List ℤ)) → k + n ≤ size → rows_bytes width (block_of start size channels) n k ≡ rows_bytes width channels n (start + k)
 unfolding rows_bytes
 part_rows width start size zero k channels h = refl
 part_rows width start size (suc n) k channels h =
     let here = part_row width start size k channels (omega (arith, h)) in
     let more = part_rows width start size n (k + 1) channels (omega (arith, h)) in
     let e : start + (k + 1) ≡ start + k + 1 = omega arith in
-    ap (λ r. r ++ rows_bytes width (part_of start size channels) n (k + 1)) here ∙ ap (λ r. row_bytes width channels (start + k) ++ r) (more ∙ ap (λ j. rows_bytes width channels n j) e)
+    ap (λ r. r ++ rows_bytes width (block_of start size channels) n (k + 1)) here ∙ ap (λ r. row_bytes width channels (start + k) ++ r) (more ∙ ap (λ j. rows_bytes width channels n j) e)
 
 -- ---- blocks that hold all samples
 
@@ -86,13 +88,13 @@ before_last b total rest number blocks some e h =
     let up : b * suc number ≤ b * blocks = mul-le-mul_left b h in
     omega (arith, some, e, up, mul-suc b number)
 
-least_part : (b total number : ℕ) → 16 ≤ b → number < blocks_in b total → b * number < total
+pub least_part : (b total number : ℕ) → 16 ≤ b → number < blocks_in b total → b * number < total
 least_part b total number some h = before_last b total _ number (blocks_in b total) some (div-add-mod (total + (b - 1)) b) h
 
 covered : (b total rest blocks : ℕ) → 16 ≤ b → b * blocks + rest ≡ total + (b - 1) → rest < b → total ≤ b * blocks
 covered b total rest blocks some e small = omega (arith, some, e, small)
 
-all_parts : (b total : ℕ) → 16 ≤ b → total ≤ b * blocks_in b total
+pub all_parts : (b total : ℕ) → 16 ≤ b → total ≤ b * blocks_in b total
 all_parts b total some =
     let small : (total + (b - 1)) % b < b = omega (arith, some) in
     covered b total _ (blocks_in b total) some (div-add-mod (total + (b - 1)) b) small
@@ -154,32 +156,26 @@ module _ (p : Cut) (a : Sound) (least greatest : ℕ) (q : Planned p) (f : Fit p
       go (Some k) (inl e) full = absurd cc
       go (Some k) (inr e) full = let is : k ≡ full_before b number = cc in rw (full, is) refl
 
-  frame_here : (number : ℕ) (before : Option Before) (m : Mark) (t : List Bool) → m.unread ≡ 0 → (before ≡ None) ⊎ (before ≡ Some (full_before b number)) → SpellsFrame p a (frame_of b a number) t
+  frame_here : (number : ℕ) (before : Option Before) (m : Mark) (t : List Bool) → m.unread ≡ 0 → (before ≡ None) ⊎ (before ≡ Some (full_before b number)) → SpellsFrame a (frame_of b a number) t
       → Spells (frame info before) (fresh m) t (frame_of b a number)
   frame_here number before m t z left s =
       let h = s.form.header in
       let size = size_of b total number in
-      let c = chosen size a.rate h.channel_code a.bits number h s.header in
-      let variable : h.variable ≡ false = ap (λ (k : Header). k.variable) c.is in
-      let numbered : h.number ≡ number = ap (λ (k : Header). k.number) c.is in
-      let rated : h.rate ≡ a.rate = ap (λ (k : Header). k.rate) c.is in
-      let is_size : h.size ≡ size = ap (λ (k : Header). k.size) c.is in
-      let at_most : h.size ≤ b = omega (arith, is_size) in
-      let in_rate : size ≤ greatest_block a.rate = subst (λ r. size ≤ greatest_block r) f.rate (omega (arith, q.greatest)) in
-      let depth = depth_kept size a.rate h.channel_code a.bits number h c in
-      let follows : AllKept (header_rules info before h) = (
-        ap not (is_allowed size a.rate h.channel_code a.bits number h c in_rate),
-        (same_three h.rate a.rate (channels_of h.channel_code) (length a.channels) (depth_of h.depth_code) a.bits rated s.code depth, (follows_on b number before h variable numbered left, (sized info b number before h refl refl at_most left, tt))),
-      ) in
       let x = frame_of b a number in
-      let is_frame : x ≡ frame_with h x.channels = subst (λ k. x ≡ frame_with k x.channels) (sym c.is) refl in
-      let subframes = subst (λ n. AreSubframes a.bits h.channel_code n (limits_of info) 0 s.form.subframes) (sym is_size) s.subframes in
+      let r = encodings_are_frames a size number x.channels s.form info refl refl (sym (length-map a.channels (λ c. take size (drop (b * number) c)))) s.encoding in
+      let in_rate : size ≤ greatest_block a.rate = subst (λ r. size ≤ greatest_block r) f.rate (omega (arith, q.greatest)) in
+      let at_most : h.size ≤ b = omega (arith, r.sized) in
+      let follows : AllKept (header_rules info before h) = (
+        ap not (r.allowed in_rate),
+        (same_three h.rate a.rate (channels_of h.channel_code) (length a.channels) (depth_of h.depth_code) a.bits r.format.rate r.format.channels r.format.depth, (follows_on b number before h r.fixed r.numbered left, (sized info b number before h refl refl at_most left, tt))),
+      ) in
+      let k = r.frame before follows in
       (frames_spelled info before (fresh m) t x rules (fresh_unread m z) (fresh_check8 m z) (fresh_check16 m z)).1 (record {
         form = s.form;
-        valid = record { header = is_header size a.rate h.channel_code a.bits number h c; follows = follows; many = s.many; subframes = subframes };
+        valid = k.0;
         spelling = s.spelling;
-        frame = is_frame;
-        samples = s.samples;
+        frame = rw (r.fixed, r.numbered, r.sized) refl;
+        samples = k.1;
       })
 
   abbrev pub at_frame : ℕ → Seen → Option Before → ℕ → List ℕ → Progress
@@ -195,7 +191,7 @@ module _ (p : Cut) (a : Sound) (least greatest : ℕ) (q : Planned p) (f : Fit p
 
   pub frames_run : (texts : List (List Bool)) (number index samples : ℕ) (seen : Seen) (before : Option Before) (message : List ℕ) (m : Mark) → m.unread ≡ 0
       → number + length texts ≡ blocks_in b total → Left number before → samples ≡ min total (b * number) → message ≡ rows_bytes width a.channels (min total (b * number)) 0
-      → ((j : ℕ) → j < length texts → SpellsFrame p a (frame_of b a (number + j)) (slice_index_or texts j []))
+      → ((j : ℕ) → j < length texts → SpellsFrame a (frame_of b a (number + j)) (slice_index_or texts j []))
       → Runs info (sound_message a) (at_frame index seen before samples message) m (map framed (frames_from b a (length texts) number)) (joined texts)
   unfolding sound_message
   frames_run [] number index samples seen before message m z many left counted told each =
@@ -204,23 +200,23 @@ module _ (p : Cut) (a : Sound) (least greatest : ℕ) (q : Planned p) (f : Fit p
       (refl, record { phase = refl; info = refl; samples = counted ∙ all; message = told ∙ ap (λ n. rows_bytes width a.channels n 0) all })
   frames_run (t ∷ ts) number index samples seen before message m z many left counted told each =
       let more : b * number < total = least_part b total number q.least (omega (arith, many)) in
-      let here : SpellsFrame p a (frame_of b a number) t = subst (λ n. SpellsFrame p a (frame_of b a n) t) (let e : number + 0 ≡ number = omega arith in e) (each 0 (omega arith)) in
+      let here : SpellsFrame a (frame_of b a number) t = subst (λ n. SpellsFrame a (frame_of b a n) t) (let e : number + 0 ≡ number = omega arith in e) (each 0 (omega arith)) in
       let was = left more in
       let size = size_of b total number in
       let whole : length t % 8 ≡ 0 = ap (λ (k : List Bool). length k % 8) here.spelling ∙ frames_bytes a.bits here.form in
       let up : b * (number + 1) ≡ b * number + b = omega (arith, mul-suc b number) in
       let so_far : min total (b * number) ≡ b * number = omega (arith, more) in
       let then_far : min total (b * (number + 1)) ≡ b * number + size = omega (arith, more, up) in
-      let here_rows : rows_bytes width (part_of (b * number) size a.channels) size 0 ≡ rows_bytes width a.channels size (b * number) =
+      let here_rows : rows_bytes width (block_of (b * number) size a.channels) size 0 ≡ rows_bytes width a.channels size (b * number) =
       part_rows width (b * number) size size 0 a.channels (omega arith) ∙ ap (λ n. rows_bytes width a.channels size n) (let e : b * number + 0 ≡ b * number = omega arith in e) in
       let split : rows_bytes width a.channels (b * number + size) 0 ≡ rows_bytes width a.channels (b * number) 0 ++ rows_bytes width a.channels size (b * number) =
       rows_split width a.channels (b * number) size 0 ∙ ap (λ n. rows_bytes width a.channels (b * number) 0 ++ rows_bytes width a.channels size n) (let e : 0 + b * number ≡ b * number = omega arith in e) in
-      let told_then : message ++ rows_bytes width (part_of (b * number) size a.channels) size 0 ≡ rows_bytes width a.channels (min total (b * (number + 1))) 0 =
-      ap (λ k. k ++ rows_bytes width (part_of (b * number) size a.channels) size 0) (told ∙ ap (λ n. rows_bytes width a.channels n 0) so_far)
+      let told_then : message ++ rows_bytes width (block_of (b * number) size a.channels) size 0 ≡ rows_bytes width a.channels (min total (b * (number + 1))) 0 =
+      ap (λ k. k ++ rows_bytes width (block_of (b * number) size a.channels) size 0) (told ∙ ap (λ n. rows_bytes width a.channels n 0) so_far)
       ∙ ap (λ r. rows_bytes width a.channels (b * number) 0 ++ r) here_rows ∙ sym split ∙ ap (λ n. rows_bytes width a.channels n 0) (sym then_far) in
       one_more info (sound_message a) (at_frame index seen before samples message) m (framed (frame_of b a number)) (map framed (frames_from b a (length ts) (number + 1))) t (joined ts)
       (as_piece index samples seen before message (fresh m) t (frame_of b a number) (frame_here number before m t z was here))
       (omega (arith, fresh_unread m z, here.short))
-      (frames_run ts (number + 1) (raised index) (samples + size) seen (Some (left_by before false number size)) (message ++ rows_bytes width (part_of (b * number) size a.channels) size 0) (past t (fresh m))
+      (frames_run ts (number + 1) (raised index) (samples + size) seen (Some (left_by before false number size)) (message ++ rows_bytes width (block_of (b * number) size a.channels) size 0) (past t (fresh m))
       (behind_whole t (fresh m) (fresh_unread m z) whole) (omega (arith, many)) (left_on number before was) (omega (arith, counted, so_far, then_far)) told_then
-      (λ j h. subst (λ n. SpellsFrame p a (frame_of b a n) (slice_index_or ts j [])) (let e : number + suc j ≡ number + 1 + j = omega arith in e) (each (suc j) (omega (arith, h)))))
+      (λ j h. subst (λ n. SpellsFrame a (frame_of b a n) (slice_index_or ts j [])) (let e : number + suc j ≡ number + 1 + j = omega arith in e) (each (suc j) (omega (arith, h)))))

@@ -8,3 +8,5 @@ pub mod Planned
 pub mod Digests
 pub mod Encoded
 pub mod Streams
+pub mod BlocksWritten
+pub mod Gathered

@@ -200,7 +200,7 @@ encoded_are_streams p list a least greatest frames planned_is fits listed_is fie
     let width = sample_width a.bits in
     let items = map framed (frames_from b a (length frames) 0) in
     let there : (seen : Seen) (m : Mark) → m.unread ≡ 0 → Runs i message (behind i true 0 seen) m items (joined frames) = λ seen m z.
-    frames_run p a least greatest q k small.0 small.1 frames 0 0 0 seen None [] m z (omega (arith, f.many)) (λ more. inl refl) (sym (no_samples b (samples_each a.channels))) (sym (ap (λ n. rows_bytes width a.channels n 0) (no_samples b (samples_each a.channels)))) (λ j h. subst (λ n. SpellsFrame p a (frame_of b a n) (slice_index_or frames j [])) (let e : j ≡ 0 + j = omega arith in e) (f.each j h)) in
+    frames_run p a least greatest q k small.0 small.1 frames 0 0 0 seen None [] m z (omega (arith, f.many)) (λ more. inl refl) (sym (no_samples b (samples_each a.channels))) (sym (ap (λ n. rows_bytes width a.channels n 0) (no_samples b (samples_each a.channels)))) (λ j h. subst (λ n. SpellsFrame a (frame_of b a n) (slice_index_or frames j [])) (let e : j ≡ 0 + j = omega arith in e) (f.each j h)) in
     let start = beginning Truncated in
     let m = past (unsigned 32 0x664C6143) (fresh start) in
     let z : m.unread ≡ 0 = behind_whole (unsigned 32 0x664C6143) (fresh start) refl refl in

@@ -1,5 +1,5 @@
 -- What is encoded: STREAMINFO, blocks, and samples that are cut into frames.
-use Rattle.std.specs.Prelude.{ℕ, zero, suc, ◌+◌, ◌-◌, ◌*◌, ◌/◌, ◌^◌, min, Bool, false, cond, ◌&&◌, ◌||◌, nat_eq, nat_lt, nat_le, ℤ, List, [], ◌∷◌, ◌++◌, length, map, take, drop, Option, Some, None, is_none}
+use Rattle.std.specs.Prelude.{ℕ, zero, suc, ◌+◌, ◌-◌, ◌*◌, ◌/◌, ◌^◌, min, Bool, false, cond, ◌&&◌, ◌||◌, nat_eq, nat_lt, nat_le, ℤ, List, [], ◌∷◌, ◌++◌, length, map, Option, Some, None, is_none}
 use Rattle.flac_bits.specs.Bits.{is_nil}
 use Rattle.flac_meta.specs.Info.{Info}
 use Rattle.flac_meta.specs.declared.block.Block.{Block}
@@ -8,6 +8,7 @@ use Rattle.flac_header.specs.Header.{greatest_block}
 use Rattle.flac_header.specs.Choice.{rate_choice, depth_choice}
 use Rattle.flac_frame.specs.Frame.{Frame}
 use Rattle.flac_frame.specs.Audio.{Sound, samples_each}
+use Rattle.flac_frame.specs.Encoding.{block_of}
 use Rattle.flac_frame.specs.declared.setup.SetupFault.{SetupFault}
 use Rattle.flac_frame.specs.declared.setup.SetupFault.TheVariants.{BadRate, BadDepth, BadChannels, TooLong, BadBlockSize}
 use Rattle.flac_native.specs.Message.{sample_width, rows_bytes}
@@ -66,10 +67,6 @@ info_of p a least greatest = record {
   digest = md5 (sound_message a);
 }
 
--- of each channel so many samples, from one on
-abbrev pub part_of : (start size : ℕ) → List (List ℤ) → List (List ℤ)
-part_of start size channels = map (λ c. take size (drop start c)) channels
-
 -- how many samples the block of a number has: the last has those that are left
 abbrev pub size_of : (block_size total number : ℕ) → ℕ
 size_of block_size total number = min block_size (total - block_size * number)
@@ -80,7 +77,7 @@ frame_of block_size a number = record {
   variable = false;
   number = number;
   size = size_of block_size (samples_each a.channels) number;
-  channels = part_of (block_size * number) (size_of block_size (samples_each a.channels) number) a.channels;
+  channels = block_of (block_size * number) (size_of block_size (samples_each a.channels) number) a.channels;
 }
 
 -- n frames from one on

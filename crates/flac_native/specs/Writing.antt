@@ -9,33 +9,27 @@ use Rattle.flac_meta.specs.Spelling.{block_spelling}
 use Rattle.flac_meta.specs.Valid.{AllAre, FitsFields}
 use Rattle.flac_meta.specs.declared.block.Block.{Block}
 use Rattle.flac_meta.specs.declared.block.Block.TheVariants as blocks
-use Rattle.flac_header.specs.Header.{channels_of}
-use Rattle.flac_header.specs.Choice.{chosen_header}
 use Rattle.flac_frame.specs.Audio.{Sound, samples_each}
-use Rattle.flac_frame.specs.Frame.{Frame, limits_of}
-use Rattle.flac_frame.specs.Spelling.{FrameForm, frame_spelling, AreSubframes, FrameSamples}
+use Rattle.flac_frame.specs.Encoding.{IsEncoding}
+use Rattle.flac_frame.specs.Frame.{Frame}
+use Rattle.flac_frame.specs.Spelling.{FrameForm, frame_spelling}
 use Rattle.flac_native.specs.Decoding.{beginning}
 use Rattle.flac_native.specs.Stream.{grammar, opening}
 use Rattle.flac_native.specs.Given.{Cut, fits_plan, blocks_in, plan_fault, info_of, frame_of, given}
 
 -- ---- frames
 
--- The bits spell a frame of a block: the header has the codes that a writer chooses for its size, the rate and the depth (the channel code is free but for
--- the number of channels), and its subframes keep the samples. The frame has at most 16777215 bytes, as STREAMINFO tells (RFC 9639, section 8.2).
-pub record SpellsFrame (p : Cut) (a : Sound) (f : Frame) (text : List Bool) : Type 0 where
+-- The bits spell a frame of a block of samples, in at most 16777215 bytes, as STREAMINFO tells (RFC 9639, section 8.2).
+pub record SpellsFrame (a : Sound) (f : Frame) (text : List Bool) : Type 0 where
   pub form : FrameForm
-  pub header : chosen_header f.size a.rate form.header.channel_code a.bits f.number ≡ Some form.header
-  pub code : channels_of form.header.channel_code ≡ length a.channels
-  pub many : length form.subframes ≡ length a.channels
-  pub subframes : AreSubframes a.bits form.header.channel_code f.size (limits_of (info_of p a 0 0)) 0 form.subframes
-  pub samples : FrameSamples a.bits form f.channels
+  pub encoding : IsEncoding a f.size f.number f.channels form
   pub spelling : text ≡ frame_spelling a.bits form
   pub short : length text ≤ 8 * 16777215
 
 -- a frame for each block of the samples
 pub record AreFrames (p : Cut) (a : Sound) (frames : List (List Bool)) : Type 0 where
   pub many : length frames ≡ blocks_in p.block_size (samples_each a.channels)
-  pub each : (i : ℕ) → i < length frames → SpellsFrame p a (frame_of p.block_size a i) (slice_index_or frames i [])
+  pub each : (i : ℕ) → i < length frames → SpellsFrame a (frame_of p.block_size a i) (slice_index_or frames i [])
 
 -- the least and the greatest size of the frames in bytes, 0 where there is no frame
 pub record AreSizes (frames : List (List Bool)) (least greatest : ℕ) : Type 0 where
@@ -62,3 +56,18 @@ EncodedAreStreams =
     (p : Cut) (list : List Block) (a : Sound) (least greatest : ℕ) (frames : List (List Bool)) → plan_fault p ≡ None → fits_plan p a ≡ true → list_fault info_seen list ≡ None → AllAre FitsFields list
     → AreFrames p a frames → AreSizes frames least greatest
     → Stream grammar opening (beginning Truncated) (given p list a least greatest) (stream_spelling p list a least greatest frames)
+
+-- the bits are all frames of the samples, of which the least and the greatest have so many bytes
+pub record IsEncoded (p : Cut) (a : Sound) (text : List Bool) (least greatest : ℕ) : Type 0 where
+  pub frames : List (List Bool)
+  pub are : AreFrames p a frames
+  pub sizes : AreSizes frames least greatest
+  pub spelled : text ≡ joined frames
+
+-- Behind the bits that were there, a stream of what was given was written, where each field of the blocks is of its width.
+pub record Encodes (p : Cut) (list : List Block) (a : Sound) (before after : List Bool) : Type 0 where
+  pub least : ℕ
+  pub greatest : ℕ
+  pub text : List Bool
+  pub written : after ≡ before ++ text
+  pub stream : AllAre FitsFields list → Stream grammar opening (beginning Truncated) (given p list a least greatest) text

@@ -6,7 +6,9 @@ mod course;
 mod decoder;
 mod decoding;
 mod digest;
+mod encode_fault;
 mod encoded_info;
+mod encoding;
 mod end;
 mod fault;
 mod format;
@@ -23,6 +25,7 @@ mod track;
 
 pub use decoder::Decoder;
 pub use decoding::decode;
+pub use encode_fault::EncodeFault;
 pub use encoded_info::info_of;
 pub use fault::{Fault, Place};
 pub use flac_bits::{Source, Why};

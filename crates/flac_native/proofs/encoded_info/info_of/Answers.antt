@@ -12,7 +12,7 @@ pub overflow_cast-channels : goal.overflow_cast-channels
 overflow_cast-channels c =
     let q = planned c.args.plan.now c.block_size-size.ensures.good in
     let f = fit c.args.plan.now c.args.audio.now c.requires.fits in
-    let many : length c.channels.result.now ≡ length c.args.audio.now.channels = sym (length-map c.channels.result.now (λ v. v.items)) ∙ ap length c.channels.ensures in
+    let many : length c.channels.result.now ≡ length c.args.audio.now.channels = sym (length-map c.channels.result.now (λ v. v.items)) ∙ ap length c.channels.ensures.items in
     omega (arith, many, f.channels, q.few)
 
 pub overflow_cast-bits : goal.overflow_cast-bits
@@ -40,7 +40,7 @@ unreachable-requires c =
     let q = planned c.args.plan.now c.block_size-size.ensures.good in
     let f = fit c.args.plan.now c.args.audio.now c.requires.fits in
     let k = keeps_rules c.args.plan.now c.args.audio.now c.args.least c.args.greatest q f (omega (arith, c.requires.least, c.requires.greatest)) c.requires.greatest in
-    let many : length c.channels.result.now ≡ length c.args.audio.now.channels = sym (length-map c.channels.result.now (λ v. v.items)) ∙ ap length c.channels.ensures in
+    let many : length c.channels.result.now ≡ length c.args.audio.now.channels = sym (length-map c.channels.result.now (λ v. v.items)) ∙ ap length c.channels.ensures.items in
     let size = c.block_size-size.ensures.value in
     let bits = c.bits-bits.ensures in
     let total = c.len-total.ensures in
