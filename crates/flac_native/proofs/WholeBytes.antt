@@ -40,7 +40,7 @@ unfolding s.each_spelled
 each_whole spelling h [] = whole_nil
 each_whole spelling h (x ∷ xs) = whole_append (spelling x) (s.each_spelled spelling xs) (h x) (each_whole spelling h xs)
 
-bits_whole : (bytes : List ℕ) → Whole (bits_of bytes)
+pub bits_whole : (bytes : List ℕ) → Whole (bits_of bytes)
 bits_whole bytes = record { bytes = omega (arith, length-bits_of bytes) }
 
 little_long : (v : ℕ) → length (s.little_bits v) ≡ 32

@@ -1,12 +1,14 @@
 //! Writes native streams.
 
-ghost use Rattle.std.specs.Prelude.{◌≡◌, ◌∷◌, ◌++◌, ◌≤◌, ◌<◌, ◌^◌, min, max, cond, nat_eq, true, IfOk};
+ghost use Rattle.std.specs.Prelude.{◌≡◌, ◌∷◌, ◌++◌, ◌≤◌, ◌<◌, ◌^◌, min, max, cond, nat_eq, true, IfOk, IfErr, OnOk};
 ghost use Rattle.flac_bits.specs.Bits.{unsigned, bits_of};
 ghost use Rattle.flac_bits.specs.Written.{Writes};
 ghost use Rattle.flac_meta.specs.declared.block.Block.TheVariants as block_of;
 ghost use Rattle.flac_native.specs.Given.{fits_plan};
-ghost use Rattle.flac_native.specs.Writing.{blocks_spelling, IsEncoded};
+ghost use Rattle.flac_native.specs.Writing.{blocks_spelling, IsEncoded, Encodes};
 
+use crate::encode_fault::EncodeFault;
+use crate::encoded_info::info_of;
 use crate::plan::Plan;
 use flac_bits::{BitWriter, Collected, Target, Why};
 use flac_frame::{Audio, EncodeBuffers, encode_frame};
@@ -101,4 +103,53 @@ fn encode_frames(alloc: Global, plan: &Plan, audio: &Audio) -> Result<Frames, Wh
         least: least as u32,
         greatest: greatest as u32,
     })
+}
+
+/// Writes a whole stream, and sends what is held.
+fn send_stream<W: Target>(
+    info: StreamInfo,
+    list: &BlockList,
+    frames: &[u8],
+    writer: &mut BitWriter<W>,
+) -> Result<(), Why>
+    requires { writer.old.mark.unread ≡ 0 }
+    ensures writes { Writes (unsigned 32 0x664C6143 ++ (blocks_spelling (block_of.StreamInfo info ∷ list.now) ++ bits_of frames.now)) writer.old writer.new result }
+    ensures sent { OnOk result (writer.old.known ≡ true → bits_of writer.new.sent ≡ writer.old.bits ++ (unsigned 32 0x664C6143 ++ (blocks_spelling (block_of.StreamInfo info ∷ list.now) ++ bits_of frames.now))) }
+{
+    write_stream(info, list, frames, writer)?;
+    writer.finish()
+}
+
+/// Writes samples as a native stream: STREAMINFO with the number of samples, the sizes of the frames and the digest, the blocks of the list, and a frame
+/// for each block of the plan (RFC 9639, section 6). The frames are held in memory before the first byte is written.
+///
+/// The plan fits the samples: see [`Plan::fits`].
+///
+/// # Errors
+/// [`EncodeFault::Memory`] where a growth was refused; then nothing was written. [`EncodeFault::Write`] where the target answered an error; then it was sent a
+/// beginning of the stream.
+pub fn encode<W: Target>(
+    alloc: Global,
+    plan: &Plan,
+    list: &BlockList,
+    audio: &Audio,
+    target: &mut W,
+) -> Result<(), EncodeFault>
+    requires { fits_plan plan.now audio.now ≡ true }
+    ensures written { OnOk result (W.known target.old ≡ true → Encodes plan.now list.now audio.now (bits_of (W.sent target.old)) (bits_of (W.sent target.new))) }
+    ensures failed { IfErr result (λ e. e ≡ EncodeFault.Write → W.known target.old ≡ true → W.errors target.old < W.errors target.new) }
+{
+    let _size = plan.block_size();
+    let _blocks = list.blocks();
+    let Ok(frames) = encode_frames(alloc, plan, audio) else {
+        return Err(EncodeFault::Memory);
+    };
+    let info = info_of(plan, audio, frames.least, frames.greatest);
+    let mut writer = BitWriter::new(target);
+    let outcome = send_stream(info, list, frames.bytes.as_slice(), &mut writer);
+    let _target = writer.into_target();
+    match outcome {
+        Ok(()) => Ok(()),
+        Err(_) => Err(EncodeFault::Write),
+    }
 }

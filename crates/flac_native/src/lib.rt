@@ -27,6 +27,7 @@ pub use decoder::Decoder;
 pub use decoding::decode;
 pub use encode_fault::EncodeFault;
 pub use encoded_info::info_of;
+pub use encoding::encode;
 pub use fault::{Fault, Place};
 pub use flac_bits::{Source, Why};
 pub use flac_frame::FrameView;
