@@ -3,3 +3,10 @@ pub mod Bounds
 pub mod Messages
 pub mod Advancing
 pub mod Deciding
+pub mod WholeBytes
+pub mod Planned
+pub mod Digests
+pub mod Encoded
+pub mod Streams
+pub mod BlocksWritten
+pub mod Gathered

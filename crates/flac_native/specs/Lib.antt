@@ -6,3 +6,5 @@ pub mod Item
 pub mod Decoding
 pub mod Ends
 pub mod Giving
+pub mod Given
+pub mod Writing

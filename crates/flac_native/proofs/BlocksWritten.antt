@@ -1,0 +1,54 @@
+-- Blocks that are written one after another.
+use Rattle.std.proofs.Common.{◌≡◌, ℕ, zero, suc, ◌+◌, ◌<◌, ◌≤◌, Bool, true, false, cond, nat_eq, List, [], ◌∷◌, ◌++◌, length, drop, get_or, Option, Some, None, refl, sym, ap, ◌∙◌, arith}
+use Rattle.std.proofs.lemmas.Bool.Decides.{nat_tests}
+use Rattle.flac_bits.specs.Bits.{is_nil}
+use Rattle.flac_bits.specs.declared.why.Why.{Why}
+use Rattle.flac_meta.specs.Block.{seen_after}
+use Rattle.flac_meta.specs.Listed.{came, block_fault, fault_behind, or_else, list_fault}
+use Rattle.flac_meta.specs.Spelling.{block_spelling}
+use Rattle.flac_meta.specs.declared.seen.Seen.{Seen}
+use Rattle.flac_meta.specs.declared.block.Block.{Block}
+use Rattle.flac_native.specs.Writing.{blocks_spelling}
+
+is_last : (bs : List Block) → is_nil bs ≡ nat_eq 1 (suc (length bs))
+is_last [] = refl
+is_last (b ∷ bs) = let e : nat_eq 1 (suc (suc (length bs))) ≡ false = grind (arith, nat_tests) in sym e
+
+shifted : (i n : ℕ) → nat_eq (i + 1) n ≡ nat_eq (suc i + 1) (suc n)
+shifted i n = grind (arith, nat_tests)
+
+-- one block more
+pub blocks_step : (bs : List Block) (i : ℕ) (b : Block) → i < length bs → b ≡ get_or bs i b → blocks_spelling (drop i bs) ≡ block_spelling (nat_eq (i + 1) (length bs)) b ++ blocks_spelling (drop (i + 1) bs)
+blocks_step [] i b lt is = absurd (omega (arith, lt))
+blocks_step (x ∷ xs) zero b lt is = ap (λ l. block_spelling l x ++ blocks_spelling xs) (is_last xs) ∙ ap (λ y. block_spelling (nat_eq 1 (suc (length xs))) y ++ blocks_spelling xs) (sym is)
+blocks_step (x ∷ xs) (suc i) b lt is =
+    let e : suc i + 1 ≡ suc (i + 1) = omega arith in
+    blocks_step xs i b (omega (arith, lt)) is ∙ ap (λ l. block_spelling l b ++ blocks_spelling (drop (i + 1) xs)) (shifted i (length xs)) ∙ ap (λ n. block_spelling (nat_eq (suc i + 1) (suc (length xs))) b ++ blocks_spelling (drop n (x ∷ xs))) (sym e)
+
+pub blocks_over : (bs : List Block) (i : ℕ) → length bs ≤ i → blocks_spelling (drop i bs) ≡ []
+blocks_over [] zero h = refl
+blocks_over [] (suc i) h = refl
+blocks_over (x ∷ xs) zero h = absurd (omega (arith, h))
+blocks_over (x ∷ xs) (suc i) h = blocks_over xs i (omega (arith, h))
+
+first_none : {A : Type 0} (b : Bool) (x : A) (rest : Option A) → cond b (Some x) rest ≡ None → rest ≡ None
+first_none true x rest e = absurd cc
+first_none false x rest e = e
+
+both_none : (x y : Option Why) → or_else x y ≡ None → (x ≡ None) × (y ≡ None)
+both_none None y e = (refl, e)
+both_none (Some w) y e = absurd cc
+
+-- each block of a list may be written
+pub each_written : (bs : List Block) (seen : Seen) (i : ℕ) (b : Block) → list_fault seen bs ≡ None → i < length bs → b ≡ get_or bs i b → block_fault b ≡ None
+each_written [] seen i b e lt is = absurd (omega (arith, lt))
+each_written (x ∷ xs) seen zero b e lt is = ap block_fault is ∙ first_none (came seen x) _ (block_fault x) (both_none (fault_behind seen x) _ e).0
+each_written (x ∷ xs) seen (suc i) b e lt is = each_written xs (seen_after seen x) i b (both_none (fault_behind seen x) _ e).1 (omega (arith, lt)) is
+
+nil_is : (bs : List Block) → is_nil bs ≡ nat_eq (length bs) 0
+nil_is [] = refl
+nil_is (b ∷ bs) = let e : nat_eq (suc (length bs)) 0 ≡ false = grind (arith, nat_tests) in sym e
+
+-- the first block
+pub first_step : (b : Block) (bs : List Block) → blocks_spelling (b ∷ bs) ≡ block_spelling (nat_eq (length bs) 0) b ++ blocks_spelling bs
+first_step b bs = ap (λ l. block_spelling l b ++ blocks_spelling bs) (nil_is bs)

@@ -1,0 +1,99 @@
+-- What is encoded: STREAMINFO, blocks, and samples that are cut into frames.
+use Rattle.std.specs.Prelude.{ℕ, zero, suc, ◌+◌, ◌-◌, ◌*◌, ◌/◌, ◌^◌, min, Bool, false, cond, ◌&&◌, ◌||◌, nat_eq, nat_lt, nat_le, ℤ, List, [], ◌∷◌, ◌++◌, length, map, Option, Some, None, is_none}
+use Rattle.flac_bits.specs.Bits.{is_nil}
+use Rattle.flac_meta.specs.Info.{Info}
+use Rattle.flac_meta.specs.declared.block.Block.{Block}
+use Rattle.flac_meta.specs.declared.block.Block.TheVariants as blocks
+use Rattle.flac_header.specs.Header.{greatest_block}
+use Rattle.flac_header.specs.Choice.{rate_choice, depth_choice}
+use Rattle.flac_frame.specs.Frame.{Frame}
+use Rattle.flac_frame.specs.Audio.{Sound, samples_each}
+use Rattle.flac_frame.specs.Encoding.{block_of}
+use Rattle.flac_frame.specs.declared.setup.SetupFault.{SetupFault}
+use Rattle.flac_frame.specs.declared.setup.SetupFault.TheVariants.{BadRate, BadDepth, BadChannels, TooLong, BadBlockSize}
+use Rattle.flac_native.specs.Message.{sample_width, rows_bytes}
+use Rattle.flac_native.specs.Stream.{Piece, marked, block, framed}
+use Rattle.md5.specs.Md5.{md5}
+
+-- ---- a plan
+
+-- How samples are cut: the samples of a block, and the rate, the bits of a sample, the channels and the samples of each that the plan was made for.
+pub record Cut : Type 0 where
+  pub block_size : ℕ
+  pub rate : ℕ
+  pub bits : ℕ
+  pub channels : ℕ
+  pub total : ℕ
+
+abbrev pub cut_of : ℕ → Sound → Cut
+cut_of block_size a = record { block_size = block_size; rate = a.rate; bits = a.bits; channels = length a.channels; total = samples_each a.channels }
+
+-- these are samples that the plan was made for
+abbrev pub fits_plan : Cut → Sound → Bool
+fits_plan p a = nat_eq p.rate a.rate && nat_eq p.bits a.bits && nat_eq p.channels (length a.channels) && nat_eq p.total (samples_each a.channels)
+
+-- how many blocks hold so many samples
+abbrev pub blocks_in : (block_size total : ℕ) → ℕ
+blocks_in block_size total = (total + (block_size - 1)) / block_size
+
+-- Why samples of a format cannot be cut into blocks, if so. No frame header of the streamable subset, or no STREAMINFO, tells the format, which is so
+-- of no samples that can be encoded (RFC 9639, sections 7, 8.2 and 9.1); a block has 16 samples or more (section 8.2), and no more than the subset allows
+-- at the rate; a frame number has 31 bits (section 9.1.5), and the number of samples 36.
+unfoldable pub plan_fault : Cut → Option SetupFault
+plan_fault p =
+    cond (is_none (rate_choice p.rate)) (Some BadRate)
+    (cond (is_none (depth_choice p.bits)) (Some BadDepth)
+    (cond (nat_eq p.channels 0 || nat_lt 8 p.channels) (Some BadChannels)
+    (cond (nat_lt p.block_size 16 || nat_lt (greatest_block p.rate) p.block_size) (Some BadBlockSize)
+    (cond (nat_le (2 ^ 36) p.total || nat_lt (2 ^ 31) (blocks_in p.block_size p.total)) (Some TooLong) None))))
+
+-- ---- what is written
+
+-- the message of the digest (section 8.2): all samples
+unfoldable pub sound_message : Sound → List ℕ
+sound_message a = rows_bytes (sample_width a.bits) a.channels (samples_each a.channels) 0
+
+-- STREAMINFO, where the least and the greatest frame have so many bytes (section 8.2)
+abbrev pub info_of : Cut → Sound → (least greatest : ℕ) → Info
+info_of p a least greatest = record {
+  least_block = p.block_size;
+  greatest_block = p.block_size;
+  least_frame = least;
+  greatest_frame = greatest;
+  rate = a.rate;
+  channels = length a.channels;
+  depth = a.bits;
+  total = samples_each a.channels;
+  digest = md5 (sound_message a);
+}
+
+-- how many samples the block of a number has: the last has those that are left
+abbrev pub size_of : (block_size total number : ℕ) → ℕ
+size_of block_size total number = min block_size (total - block_size * number)
+
+-- the frame of a number: frames are counted from 0 (section 9.1.5)
+abbrev pub frame_of : (block_size : ℕ) → Sound → ℕ → Frame
+frame_of block_size a number = record {
+  variable = false;
+  number = number;
+  size = size_of block_size (samples_each a.channels) number;
+  channels = block_of (block_size * number) (size_of block_size (samples_each a.channels) number) a.channels;
+}
+
+-- n frames from one on
+abbrev pub frames_from : (block_size : ℕ) → Sound → (n number : ℕ) → List Frame
+frames_from block_size a zero number = []
+frames_from block_size a (suc n) number = frame_of block_size a number ∷ frames_from block_size a n (number + 1)
+
+-- all samples as frames
+abbrev pub frames_of : (block_size : ℕ) → Sound → List Frame
+frames_of block_size a = frames_from block_size a (blocks_in block_size (samples_each a.channels)) 0
+
+-- blocks, of which the last is marked (section 8.1)
+abbrev pub closing : List Block → List Piece
+closing [] = []
+closing (b ∷ bs) = block (is_nil bs) b ∷ closing bs
+
+-- the parts of the stream: the marker, STREAMINFO, the blocks and the frames, of which the least and the greatest have so many bytes
+abbrev pub given : Cut → List Block → Sound → (least greatest : ℕ) → List Piece
+given p list a least greatest = marked ∷ (closing (blocks.StreamInfo (info_of p a least greatest) ∷ list) ++ map framed (frames_of p.block_size a))

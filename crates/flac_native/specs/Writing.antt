@@ -1,0 +1,73 @@
+-- What encoding writes, and that it is a stream of what was given.
+use Rattle.std.specs.Prelude.{◌≡◌, ℕ, ◌+◌, ◌*◌, ◌<◌, ◌≤◌, Bool, true, List, [], ◌∷◌, ◌++◌, length, slice_index_or, Some, None}
+use Rattle.flac_bits.specs.Bits.{unsigned, is_nil}
+use Rattle.flac_bits.specs.Forms.{joined}
+use Rattle.flac_bits.specs.Items.{Stream}
+use Rattle.flac_bits.specs.declared.why.Why.TheVariants.{Truncated}
+use Rattle.flac_meta.specs.Listed.{list_fault, info_seen}
+use Rattle.flac_meta.specs.Spelling.{block_spelling}
+use Rattle.flac_meta.specs.Valid.{AllAre, FitsFields}
+use Rattle.flac_meta.specs.declared.block.Block.{Block}
+use Rattle.flac_meta.specs.declared.block.Block.TheVariants as blocks
+use Rattle.flac_frame.specs.Audio.{Sound, samples_each}
+use Rattle.flac_frame.specs.Encoding.{IsEncoding}
+use Rattle.flac_frame.specs.Frame.{Frame}
+use Rattle.flac_frame.specs.Spelling.{FrameForm, frame_spelling}
+use Rattle.flac_native.specs.Decoding.{beginning}
+use Rattle.flac_native.specs.Stream.{grammar, opening}
+use Rattle.flac_native.specs.Given.{Cut, fits_plan, blocks_in, plan_fault, info_of, frame_of, given}
+
+-- ---- frames
+
+-- The bits spell a frame of a block of samples, in at most 16777215 bytes, as STREAMINFO tells (RFC 9639, section 8.2).
+pub record SpellsFrame (a : Sound) (f : Frame) (text : List Bool) : Type 0 where
+  pub form : FrameForm
+  pub encoding : IsEncoding a f.size f.number f.channels form
+  pub spelling : text ≡ frame_spelling a.bits form
+  pub short : length text ≤ 8 * 16777215
+
+-- a frame for each block of the samples
+pub record AreFrames (p : Cut) (a : Sound) (frames : List (List Bool)) : Type 0 where
+  pub many : length frames ≡ blocks_in p.block_size (samples_each a.channels)
+  pub each : (i : ℕ) → i < length frames → SpellsFrame a (frame_of p.block_size a i) (slice_index_or frames i [])
+
+-- the least and the greatest size of the frames in bytes, 0 where there is no frame
+pub record AreSizes (frames : List (List Bool)) (least greatest : ℕ) : Type 0 where
+  pub none : length frames ≡ 0 → (least ≡ 0) × (greatest ≡ 0)
+  pub least_is : 0 < length frames → (i : ℕ) × (i < length frames) × (length (slice_index_or frames i []) ≡ 8 * least)
+  pub greatest_is : 0 < length frames → (i : ℕ) × (i < length frames) × (length (slice_index_or frames i []) ≡ 8 * greatest)
+  pub within : (i : ℕ) → i < length frames → (8 * least ≤ length (slice_index_or frames i [])) × (length (slice_index_or frames i []) ≤ 8 * greatest)
+
+-- ---- the whole
+
+-- blocks, of which the last is marked
+abbrev pub blocks_spelling : List Block → List Bool
+blocks_spelling [] = []
+blocks_spelling (b ∷ bs) = block_spelling (is_nil bs) b ++ blocks_spelling bs
+
+-- the marker fLaC (section 6), STREAMINFO, the blocks and the frames
+abbrev pub stream_spelling : Cut → List Block → Sound → (least greatest : ℕ) → List (List Bool) → List Bool
+stream_spelling p list a least greatest frames =
+    unsigned 32 0x664C6143 ++ (blocks_spelling (blocks.StreamInfo (info_of p a least greatest) ∷ list) ++ joined frames)
+
+-- So what is written is a stream of what was given: of samples that a plan was made for, and of blocks that may stand behind STREAMINFO.
+abbrev pub EncodedAreStreams : Type 0
+EncodedAreStreams =
+    (p : Cut) (list : List Block) (a : Sound) (least greatest : ℕ) (frames : List (List Bool)) → plan_fault p ≡ None → fits_plan p a ≡ true → list_fault info_seen list ≡ None → AllAre FitsFields list
+    → AreFrames p a frames → AreSizes frames least greatest
+    → Stream grammar opening (beginning Truncated) (given p list a least greatest) (stream_spelling p list a least greatest frames)
+
+-- the bits are all frames of the samples, of which the least and the greatest have so many bytes
+pub record IsEncoded (p : Cut) (a : Sound) (text : List Bool) (least greatest : ℕ) : Type 0 where
+  pub frames : List (List Bool)
+  pub are : AreFrames p a frames
+  pub sizes : AreSizes frames least greatest
+  pub spelled : text ≡ joined frames
+
+-- Behind the bits that were there, a stream of what was given was written, where each field of the blocks is of its width.
+pub record Encodes (p : Cut) (list : List Block) (a : Sound) (before after : List Bool) : Type 0 where
+  pub least : ℕ
+  pub greatest : ℕ
+  pub text : List Bool
+  pub written : after ≡ before ++ text
+  pub stream : AllAre FitsFields list → Stream grammar opening (beginning Truncated) (given p list a least greatest) text
