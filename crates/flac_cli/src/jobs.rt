@@ -3,19 +3,34 @@
 ghost use Rattle.std.specs.Prelude.{◌≡◌, ◌≤◌, option_map};
 ghost use Rattle.flac_cli.specs.Asks.{input_of, output_of};
 
+use crate::encoding::Format;
 use std::alloc::Global;
 use std::borrow::CowStr;
 use std::io::ErrorKind;
 
 /// A job: one variant a command, with the command's words.
-#[derive(Clone, Copy, Debug, PartialEq, Eq)]
+#[derive(Debug, Drop, PartialEq, Eq)]
 pub enum Job<'a> {
     /// Decodes the stream, and tells how many frames and samples it has.
-    Test { input: &'a str },
+    Test {
+        input: &'a str,
+    },
     /// Decodes the stream, and writes its samples.
-    Decode { input: &'a str, output: &'a str },
+    Decode {
+        input: &'a str,
+        output: &'a str,
+    },
     /// Decodes the stream, and lists its metadata.
-    List { input: &'a str },
+    List {
+        input: &'a str,
+    },
+    /// Encodes raw samples of a format, with these comments.
+    Encode {
+        input: &'a str,
+        output: &'a str,
+        format: Format,
+        comments: Vec<&'a str>,
+    },
 }
 
 impl<'a> Job<'a> {
@@ -25,7 +40,7 @@ impl<'a> Job<'a> {
     {
         match self {
             Job::Test { input } | Job::List { input } => input,
-            Job::Decode { input, .. } => input,
+            Job::Decode { input, .. } | Job::Encode { input, .. } => input,
         }
     }
 
@@ -35,7 +50,7 @@ impl<'a> Job<'a> {
     {
         match self {
             Job::Test { .. } | Job::List { .. } => None,
-            Job::Decode { output, .. } => Some(output),
+            Job::Decode { output, .. } | Job::Encode { output, .. } => Some(output),
         }
     }
 }
@@ -57,6 +72,16 @@ impl LineFault {
         LineFault {
             text: CowStr::Borrowed("flac: command: 2 Memory\n"),
             status: 1,
+        }
+    }
+
+    /// A comment without `=`.
+    pub fn no_equals() -> LineFault
+        ensures { result.status ≡ 2 }
+    {
+        LineFault {
+            text: CowStr::Borrowed("flac: command: comment without =\n"),
+            status: 2,
         }
     }
 

@@ -2,6 +2,7 @@
 
 ghost use Rattle.std.specs.Prelude.{◌≤◌};
 
+use crate::encoding::Refusal;
 use crate::texts::PlaceText;
 use flac_bits::{Target, Why, send_all};
 use flac_native::Fault;
@@ -73,6 +74,14 @@ pub(crate) fn tell_reason<E: Target>(err: &mut E, path: &str, why: Why) {
     let mut lines = Lines::new(err);
     let number = why.number();
     if writeln!(lines, "flac: {path}: {number} {why:?}").is_ok() {
+        let _ = lines.send();
+    }
+}
+
+/// Writes the line of a refused encoding: `flac: PATH: NUMBER NAME`.
+pub(crate) fn tell_refusal<E: Target>(err: &mut E, path: &str, refusal: Refusal) {
+    let mut lines = Lines::new(err);
+    if writeln!(lines, "flac: {path}: {refusal}").is_ok() {
         let _ = lines.send();
     }
 }

@@ -1,7 +1,10 @@
-//! The program `flac`: tests, decodes and lists FLAC streams (RFC 9639).
+//! The program `flac`: tests, decodes, lists and encodes FLAC streams (RFC 9639).
 #![tactic(auto)]
 
 mod counts;
+mod encoding;
+#[cfg(test)]
+mod encoding_tests;
 mod failures;
 mod frames;
 mod jobs;
@@ -10,6 +13,7 @@ mod list;
 #[cfg(test)]
 mod list_tests;
 mod listing;
+mod raw;
 #[cfg(test)]
 mod row_tests;
 mod runs;

@@ -3,16 +3,17 @@
 ghost use Rattle.std.specs.Prelude.{◌≡◌, ◌++◌, true, List, OnOk};
 ghost use Rattle.flac_native.specs.Stream.{Piece};
 ghost use Rattle.flac_cli.specs.Streams.{IsStream, Tells};
-ghost use Rattle.flac_cli.specs.Asks.{AsksDecode};
+ghost use Rattle.flac_cli.specs.Asks.{AsksDecode, AsksStream};
 ghost use Rattle.flac_cli.specs.Samples.{all_samples};
 
 use crate::counts::Counts;
+use crate::encoding::{Refusal, encode_raw};
 use crate::jobs::Job;
-use crate::lines::{Lines, tell_fault, tell_reason};
+use crate::lines::{Lines, tell_fault, tell_reason, tell_refusal};
 use crate::listing::Listing;
 use crate::samples::SampleWriter;
 use flac_bits::{Source, Target, Why};
-use flac_native::{Fault, Profile, decode};
+use flac_native::{EncodeFault, Fault, Profile, decode};
 use std::alloc::Global;
 use std::fmt::Write;
 
@@ -86,6 +87,18 @@ fn refuse<E: Target>(err: &mut E, job: &Job<'_>, fault: Fault) -> u8
     1
 }
 
+/// Writes the line of a refused encoding, and answers the status 1. The path is that of the file at fault.
+fn refuse_encoding<E: Target>(err: &mut E, job: &Job<'_>, refusal: Refusal) -> u8
+    ensures { result ≡ 1 }
+{
+    let path = match job.output() {
+        Some(output) if refusal == Refusal::Output(EncodeFault::Write) => output,
+        _ => job.input(),
+    };
+    tell_refusal(err, path, refusal);
+    1
+}
+
 /// Does a job over its devices, and answers the status: 0 where it is done; 1 where it is refused, and then the fault's line
 /// was written to `err`. `target` is the file that the job writes, where there is one.
 pub fn run<R: Source, W: Target, O: Target, E: Target>(
@@ -96,8 +109,8 @@ pub fn run<R: Source, W: Target, O: Target, E: Target>(
     out: &mut O,
     err: &mut E,
 ) -> u8
-    // It is done only where the input is a stream.
-    ensures stream { result ≡ 0 → Tells R.Source source.old source.new → (parts : List Piece) × IsStream parts (R.coming source.old) (R.behind source.old) }
+    // It is done only where the input is a stream, or is to be encoded.
+    ensures stream { AsksStream job.now → result ≡ 0 → Tells R.Source source.old source.new → (parts : List Piece) × IsStream parts (R.coming source.old) (R.behind source.old) }
     // A decoding has then added to the file just the samples of its frames.
     ensures decoded { AsksDecode job.now → result ≡ 0 → Tells R.Source source.old source.new → W.known target.old ≡ true →
         (parts : List Piece) × IsStream parts (R.coming source.old) (R.behind source.old) × (W.sent target.new ≡ W.sent target.old ++ all_samples 0 parts) }
@@ -120,6 +133,14 @@ pub fn run<R: Source, W: Target, O: Target, E: Target>(
         Job::List { .. } => match list(alloc, source, out) {
             Ok(()) => 0,
             Err(fault) => refuse(err, job, fault),
+        },
+        Job::Encode {
+            format,
+            comments,
+            ..
+        } => match encode_raw(alloc, source, *format, comments.as_slice(), target) {
+            Ok(()) => 0,
+            Err(refusal) => refuse_encoding(err, job, refusal),
         },
     }
 }

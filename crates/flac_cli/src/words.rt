@@ -2,9 +2,11 @@
 
 ghost use Rattle.std.specs.Prelude.{◌≤◌, IfErr};
 
+use crate::encoding::Format;
 use crate::jobs::{Job, LineFault};
+use clap::builder::ValueParser;
 use clap::error::ErrorKind;
-use clap::{Arg, Command};
+use clap::{Arg, ArgAction, ArgMatches, Command};
 use std::alloc::{AllocError, Global};
 use std::borrow::CowStr;
 
@@ -12,6 +14,7 @@ const EXAMPLES: &str = "Examples:
   flac test song.flac             is the stream whole and right?
   flac list song.flac             what its metadata tells
   flac decode song.flac song.raw  its samples
+  flac encode song.raw song.flac --rate 44100 --channels 2 --bits 16
 
 The status is 0 where all is done. Where a stream is refused it is 1, and a line tells
 where and why, as in
@@ -32,6 +35,13 @@ const DECODE_EXAMPLE: &str = "Example, of a stream of 44100 Hz with two channels
 
 What was written before a fault stays in OUT.";
 
+const ENCODE_EXAMPLE: &str =
+    "Example, of raw samples of 44100 Hz with two channels of 16 bits, interleaved, little-endian:
+  $ flac encode song.raw song.flac --rate 44100 --channels 2 --bits 16 TITLE=Song
+
+A sample has whole bytes: of 12 bits two, of 20 bits three. What was written before a fault
+stays in OUT.";
+
 const LIST_EXAMPLE: &str = "Example:
   $ flac list song.flac
   block 0 STREAMINFO 34
@@ -51,12 +61,21 @@ pub fn job<'a>(alloc: Global, words: &'a [String]) -> Result<Job<'a>, LineFault>
     ensures { IfErr result (λ fault. fault.status ≤ 2) }
 {
     match parsed(alloc, words) {
+        Ok(Some(job)) if lacks_equals(&job) => Err(LineFault::no_equals()),
         Ok(Some(job)) => Ok(job),
         Ok(None) => Err(LineFault {
             text: CowStr::Borrowed("flac: command: a word is missing\n"),
             status: 2,
         }),
         Err(error) => Err(refused(alloc, &error)),
+    }
+}
+
+/// Whether a comment of the job has no `=`.
+fn lacks_equals(job: &Job<'_>) -> bool {
+    match job {
+        Job::Encode { comments, .. } => !comments.iter().all(|word| word.contains('=')),
+        _ => false,
     }
 }
 
@@ -92,18 +111,44 @@ fn parsed<'a>(alloc: Global, words: &'a [String]) -> Result<Option<Job<'a>>, cla
     let Some(output) = given.get_str("OUT") else {
         return Ok(None);
     };
-    Ok(Some(Job::Decode { input, output }))
+    if name == "decode" {
+        return Ok(Some(Job::Decode { input, output }));
+    }
+    let Some(format) = format_of(given) else {
+        return Ok(None);
+    };
+    let mut comments = Vec::new(alloc);
+    if let Some(words) = given.get_strs("COMMENT") {
+        comments.extend_from_slice(words)?;
+    }
+    Ok(Some(Job::Encode {
+        input,
+        output,
+        format,
+        comments,
+    }))
+}
+
+/// The format that the options tell.
+fn format_of(given: &ArgMatches<'_>) -> Option<Format> {
+    Some(Format {
+        rate: given.get_one("rate")?,
+        channels: given.get_one("channels")?,
+        bits: given.get_one("bits")?,
+        block: given.get_one("block")?,
+    })
 }
 
 /// The commands of the program.
 fn command<'a>(alloc: Global) -> Result<Command<'a>, AllocError> {
     Command::new(alloc, "flac")
-        .about("Tests, decodes and lists FLAC streams (RFC 9639)")
+        .about("Tests, decodes, lists and encodes FLAC streams (RFC 9639)")
         .after_help(EXAMPLES)
         .subcommand_required(true)
         .subcommand(test_command(alloc)?)?
         .subcommand(decode_command(alloc)?)?
-        .subcommand(list_command(alloc)?)
+        .subcommand(list_command(alloc)?)?
+        .subcommand(encode_command(alloc)?)
 }
 
 fn test_command<'a>(alloc: Global) -> Result<Command<'a>, AllocError> {
@@ -134,4 +179,49 @@ fn list_command<'a>(alloc: Global) -> Result<Command<'a>, AllocError> {
         .about("Decodes a stream, and lists its metadata blocks")
         .after_help(LIST_EXAMPLE)
         .arg(input)
+}
+
+fn encode_command<'a>(alloc: Global) -> Result<Command<'a>, AllocError> {
+    let input = Arg::new(alloc, "IN").required(true).help("The raw samples");
+    let output = Arg::new(alloc, "OUT")
+        .required(true)
+        .help("The file that the stream is written to");
+    let comments = Arg::new(alloc, "COMMENT")
+        .num_args(0..)
+        .help("Comments, each NAME=VALUE");
+    Command::new(alloc, "encode")
+        .about("Encodes raw samples: interleaved, signed little-endian, whole bytes a sample")
+        .after_help(ENCODE_EXAMPLE)
+        .arg(input)?
+        .arg(output)?
+        .arg(comments)?
+        .arg(
+            number(alloc, "rate")
+                .required(true)
+                .help("Samples a second"),
+        )?
+        .arg(
+            number(alloc, "channels")
+                .required(true)
+                .help("Channels, 1 to 8"),
+        )?
+        .arg(
+            number(alloc, "bits")
+                .required(true)
+                .help("Bits of a sample: 8, 12, 16, 20, 24 or 32"),
+        )?
+        .arg(
+            number(alloc, "block").default_value("4096").help(
+                "Samples of a block, 16 to 16384; to 4608 at rates up to 48000",
+            ),
+        )
+}
+
+/// An option whose value is a whole number.
+fn number<'a>(alloc: Global, name: &'a str) -> Arg<'a> {
+    Arg::new(alloc, name)
+        .long(name)
+        .value_name("N")
+        .action(ArgAction::Set)
+        .value_parser(ValueParser::unsigned(0, 4294967295))
 }
