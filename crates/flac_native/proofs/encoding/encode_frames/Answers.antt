@@ -44,7 +44,7 @@ pub overflow_sub-bytes : goal.overflow_sub-bytes
 overflow_sub-bytes c =
     let wrote = c.in_ok-encode_frame.ensures.wrote in
     let few : c.loop-start.writer.mark.bytes < 2 ^ 64 = omega (arith, c.bytes_written-before.ensures, c.bytes_written-before.type_inv) in
-    let grows = bytes_grow (frame_spelling c.args.audio.now.bits wrote.0) c.loop-start.writer c.encode_frame.new.writer c.loop-start.invariant.gathered.whole few wrote.2 in
+    let grows = bytes_grow (frame_spelling c.args.audio.now.bits wrote.0) c.loop-start.writer c.encode_frame.new.writer c.loop-start.invariant.gathered.whole few wrote.3 in
     omega (arith, grows, c.bytes_written-before.ensures, c.bytes_written.ensures)
 
 pub loop-start-preserved : goal.loop-start-preserved
@@ -72,7 +72,7 @@ loop-start-preserved c =
     let bytes_is : bytes ≡ c.encode_frame.new.writer.mark.bytes - c.loop-start.writer.mark.bytes = omega (arith, c.bytes_written.ensures, c.bytes_written-before.ensures) in
     let small : bytes ≤ 16777215 = c.if-bytes-gt16777215.false in
     let w = c.encode_frame.new.writer in
-    let g = gathered_more p a c.loop-start.writer w n c.loop-start.least c.loop-start.greatest bytes c.loop-start.start _ wrote.0 inv.gathered (omega (arith, few, blocks)) at part wrote.1 wrote.2 bytes_is small in
+    let g = gathered_more p a c.loop-start.writer w n c.loop-start.least c.loop-start.greatest bytes c.loop-start.start _ wrote.0 inv.gathered (omega (arith, few, blocks)) at part wrote.1 wrote.3 bytes_is small in
     let max_is : c.greatest_with-greatest.result ≡ max c.loop-start.greatest bytes = c.greatest_with-greatest.ensures in
     let least_is : c.least_with-least.result ≡ least_with n c.loop-start.least bytes = c.least_with-least.ensures in
     let made = subst (λ l. Gathered p a w (n + 1) l c.greatest_with-greatest.result) (sym least_is) (subst (λ m. Gathered p a w (n + 1) (least_with n c.loop-start.least bytes) m) (sym max_is) g) in
