@@ -9,6 +9,8 @@ mod digest;
 mod encode_fault;
 mod encoded_info;
 mod encoding;
+#[cfg(test)]
+mod encoding_tests;
 mod end;
 mod fault;
 mod format;
