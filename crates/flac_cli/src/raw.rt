@@ -1,5 +1,7 @@
 //! Raw samples, read from a source.
 
+ghost use Rattle.std.specs.Prelude.{◌≤◌};
+
 use flac_bits::{Source, Why};
 use std::alloc::Global;
 
