@@ -93,3 +93,43 @@ fn refused_encodings(rt: HostRuntime) {
         expect(&rt, rt.alloc(), job, &[0, 0, 0, 8, 0, 0], 1, &wanted);
     }
 }
+
+/// Bytes that rise, and begin anew behind 250.
+fn rising(alloc: Global, len: usize) -> Result<Vec<u8>, Fail> {
+    let mut bytes = Vec::new(alloc);
+    for i in 0..len {
+        bytes.push((i % 251) as u8)?;
+    }
+    Ok(bytes)
+}
+
+/// Seventeen samples of each channel, in blocks of sixteen: what is encoded is decoded to what was put in.
+#[test]
+fn comes_back(rt: HostRuntime) -> Result<(), Fail> {
+    let rows = [
+        (8, 1, 17),
+        (8, 8, 136),
+        (16, 2, 68),
+        (24, 1, 51),
+        (24, 2, 102),
+        (32, 2, 136),
+        (32, 8, 544),
+    ];
+    for (bits, channels, len) in rows {
+        let raw = rising(rt.alloc(), len)?;
+        let format = Format {
+            rate: 44100,
+            channels,
+            bits,
+            block: 16,
+        };
+        let stream = encoded(rt.alloc(), raw.as_slice(), format);
+        let wanted = Wanted {
+            file: raw.as_slice(),
+            out: "",
+            err: "",
+        };
+        expect(&rt, rt.alloc(), DECODE, stream.as_slice(), 0, &wanted);
+    }
+    Ok(())
+}

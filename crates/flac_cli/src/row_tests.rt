@@ -321,3 +321,35 @@ fn long_quotients(rt: HostRuntime) -> Result<(), Fail> {
     }
     Ok(())
 }
+
+/// Where two rules break at the end of a header, the reason of the lesser rank is told: the check, the subset, the format, the sequence, the size.
+#[test]
+fn ranks(rt: HostRuntime) -> Result<(), Fail> {
+    let rows: [(&[&[u8]], &str); 5] = [
+        (
+            &[&[0xFF, 0xF8, 0x69, 0x00, 0x00, 0x0F, 0x60]],
+            "frame 0: 16 HeaderCheck\n",
+        ),
+        (
+            &[&[0xFF, 0xF8, 0x69, 0x00, 0x00, 0x0F, 0x61]],
+            "frame 0: 14 NotSubset\n",
+        ),
+        (
+            &[&ZEROS, &[0xFF, 0xF8, 0x6A, 0x08, 0x05, 0x0F, 0x4B]],
+            "frame 1: 17 HeaderMismatch\n",
+        ),
+        (
+            &[&ZEROS, &[0xFF, 0xF8, 0x69, 0x08, 0x05, 0x1F, 0x01]],
+            "frame 1: 18 Sequence\n",
+        ),
+        (
+            &[&ZEROS, &[0xFF, 0xF8, 0x69, 0x08, 0x01, 0x1F, 0x55]],
+            "frame 1: 19 BlockSize\n",
+        ),
+    ];
+    for (frames, line) in rows {
+        let input = stream_of(rt.alloc(), 4096, 1, frames)?;
+        answers(&rt, rt.alloc(), input.as_slice(), line)?;
+    }
+    Ok(())
+}

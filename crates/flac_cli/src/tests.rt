@@ -1,5 +1,6 @@
 //! The program over memory.
 
+use crate::encoding::Format;
 use crate::jobs::Job;
 use crate::runs::run;
 use crate::words::job;
@@ -245,19 +246,19 @@ fn failing(rt: HostRuntime) {
     }
 }
 
+/// Reads words that ask for a job.
+fn reads(rt: &impl Abort, alloc: Global, words: &[&str], wanted: Job<'_>) -> Result<(), Fail> {
+    let given = texts(alloc, words)?;
+    assert!(rt; job(alloc, given.as_slice()).ok() == Some(wanted));
+    Ok(())
+}
+
 #[test]
 fn words(rt: HostRuntime) -> Result<(), Fail> {
     let alloc = rt.alloc();
-    let rows = [
-        (["flac", "test", "a.flac", ""], 3, TEST),
-        (["flac", "decode", "a.flac", "a.raw"], 4, DECODE),
-        (["flac", "list", "a.flac", ""], 3, LIST),
-    ];
-    for (row, count, wanted) in rows {
-        let given = texts(alloc, &row[..count])?;
-        assert!(rt; job(alloc, given.as_slice()).ok() == Some(wanted));
-    }
-    Ok(())
+    reads(&rt, alloc, &["flac", "test", "a.flac"], TEST)?;
+    reads(&rt, alloc, &["flac", "decode", "a.flac", "a.raw"], DECODE)?;
+    reads(&rt, alloc, &["flac", "list", "a.flac"], LIST)
 }
 
 fn texts(alloc: Global, words: &[&str]) -> Result<Vec<String>, Fail> {
@@ -283,5 +284,61 @@ fn refused_words(rt: HostRuntime) -> Result<(), Fail> {
         let given = texts(alloc, &row[..count])?;
         assert!(rt; job(alloc, given.as_slice()).err().map(|fault| fault.status) == Some(status));
     }
+    Ok(())
+}
+
+/// The words of an encoding.
+#[test]
+fn words_of_encoding(rt: HostRuntime) -> Result<(), Fail> {
+    let alloc = rt.alloc();
+    let mut comments = Vec::new(alloc);
+    comments.push("A=b")?;
+    let wanted = Job::Encode {
+        input: "a.raw",
+        output: "a.flac",
+        format: Format {
+            rate: 44100,
+            channels: 2,
+            bits: 16,
+            block: 4096,
+        },
+        comments,
+    };
+    let words = [
+        "flac",
+        "encode",
+        "a.raw",
+        "a.flac",
+        "--rate",
+        "44100",
+        "--channels",
+        "2",
+        "--bits",
+        "16",
+        "A=b",
+    ];
+    reads(&rt, alloc, &words, wanted)
+}
+
+/// A comment without `=`.
+#[test]
+fn words_without_equals(rt: HostRuntime) -> Result<(), Fail> {
+    let alloc = rt.alloc();
+    let words = [
+        "flac",
+        "encode",
+        "a.raw",
+        "a.flac",
+        "--rate",
+        "44100",
+        "--channels",
+        "2",
+        "--bits",
+        "16",
+        "none",
+    ];
+    let given = texts(alloc, &words)?;
+    let refusal = job(alloc, given.as_slice()).err();
+    assert_eq!(rt; refusal.map(|fault| fault.status), Some(2));
     Ok(())
 }

@@ -255,3 +255,19 @@ fn tables_refused(rt: HostRuntime) -> Result<(), Fail> {
     assert_eq!(rt; fault(alloc, Block::CueSheet(sheet))?, Some(Why::CueSheet));
     Ok(())
 }
+
+/// The longest content that a block may have, 16777215 bytes.
+#[test]
+fn longest_content(rt: HostRuntime) -> Result<(), Fail> {
+    let alloc = rt.alloc();
+    let bytes = vec![in alloc; 7u8; 16777211]?;
+    let block = Block::Application {
+        id: [1, 2, 3, 4],
+        bytes: Bytes::from_vec(bytes),
+    };
+    assert_eq!(rt; block.length(), 16777215);
+    let written = bytes_of(alloc, &block, true)?;
+    assert_eq!(rt; written.len(), 16777219);
+    assert!(rt; comes_back(alloc, written.as_slice(), 16777215)?);
+    Ok(())
+}

@@ -138,6 +138,8 @@ pub fn encode<W: Target>(
     requires { fits_plan plan.now audio.now ≡ true }
     ensures written { OnOk result (W.known target.old ≡ true → Encodes plan.now list.now audio.now (bits_of (W.sent target.old)) (bits_of (W.sent target.new))) }
     ensures failed { IfErr result (λ e. e ≡ EncodeFault.Write → W.known target.old ≡ true → W.errors target.old < W.errors target.new) }
+    ensures memory { IfErr result (λ e. e ≡ EncodeFault.Memory → target.new ≡ target.old) }
+    ensures names { W.names target.new ≡ W.names target.old }
 {
     let _size = plan.block_size();
     let _blocks = list.blocks();

@@ -4,7 +4,7 @@ use Rattle.flac_bits.specs.Written.{Written}
 use Rattle.flac_meta.specs.Info.{Info}
 use Rattle.flac_meta.specs.declared.block.Block.TheVariants as block_of
 use Rattle.flac_native.specs.Given.{info_of}
-use Rattle.flac_native.specs.Writing.{blocks_spelling, stream_spelling, Encodes}
+use Rattle.flac_native.specs.Writing.{blocks_spelling, Encodes}
 use Rattle.flac_native.proofs.Streams as streams
 use Rattle.flac_native.proofs.encoding.encode.Goals as goal
 
@@ -26,7 +26,9 @@ returns-in-Ok-outcome-clause-written g c = λ known.
     record {
       least = least;
       greatest = greatest;
-      text = stream_spelling p list a least greatest e.frames;
+      frames = e.frames;
+      are = e.are;
+      sizes = e.sizes;
       written = ap bits_of link ∙ sent ∙ ap (λ k. k ++ (front ++ (blocks c.info_of-info.result ++ bits_of c.as_slice.result.now))) before
           ∙ ap (λ i. bits_of (g.W.Target.sent c.args.target.now) ++ (front ++ (blocks i ++ bits_of c.as_slice.result.now))) c.info_of-info.ensures
           ∙ ap (λ k. bits_of (g.W.Target.sent c.args.target.now) ++ (front ++ (blocks (info_of p a least greatest) ++ k))) frames;
