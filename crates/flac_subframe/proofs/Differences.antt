@@ -8,27 +8,8 @@ use Rattle.std.proofs.lemmas.List.Elements.{All-from_get_or}
 use Rattle.flac_bits.specs.Signed.{FitsBits}
 use Rattle.flac_subframe.specs.Numbers.{sample_at}
 use Rattle.flac_subframe.specs.Prediction.{prediction, fixed_coefficients}
-use Rattle.flac_subframe.proofs.Restoring.{of_front}
 use Rattle.flac_bits.specs.Rice.{IsResidual}
 use Rattle.flac_subframe.specs.Bodies.{difference, differences}
-
-module _ (cs : List ℤ) (shift : ℕ) (s : List ℤ) where
-  -- the difference as the code has it
-  pub difference_is : (j : ℕ) (p : ℤ) → length cs + j ≤ length s → FitsBits 33 (sample_at s (length cs + j)) →
-      p ≡ prediction cs shift (take (length cs + j) s) (length (take (length cs + j) s)) → unsigned_abs p ≤ 2 ^ 51 →
-      to_z w64 (of_z w64 (to_z w64 (of_z w64 (sample_at s (length cs + j))) -ℤ to_z w64 (of_z w64 p))) ≡ difference cs shift s j
-  unfolding difference
-  difference_is j p within fit is small =
-      rw (← of_front cs shift s (length cs + j) (omega arith) within, ← is) (omega (arith, ints, fit.low, fit.high))
-
-  pub all_in_range : ((j : ℕ) → j < length s - length cs → IsResidual (difference cs shift s j)) → All IsResidual (differences cs shift s)
-  all_in_range all = All-from_get_or IsResidual (differences cs shift s) (pos 0) (λ k h.
-      let b : k < length s - length cs = omega (arith, length-map-range_with_len (difference cs shift s) 0 (length s - length cs)) in
-      rw (get_or-map-range_with_len (difference cs shift s) 0 (length s - length cs) k k (pos 0) b (omega arith)) (all k b))
-
-  pub in_range_at : (j : ℕ) → j < length s - length cs → All IsResidual (differences cs shift s) → IsResidual (difference cs shift s j)
-  in_range_at j b all =
-      rw (get_or-map-range_with_len (difference cs shift s) 0 (length s - length cs) j j (pos 0) b (omega arith)) at (all j (pos 0) (omega (arith, length-map-range_with_len (difference cs shift s) 0 (length s - length cs))))
 
 -- how many coefficients a fixed predictor has
 pub length-fixed : (order : ℕ) → order ≤ 4 → length (fixed_coefficients order) ≡ order
@@ -38,6 +19,13 @@ length-fixed (suc (suc zero)) h = refl
 length-fixed (suc (suc (suc zero))) h = refl
 length-fixed (suc (suc (suc (suc zero)))) h = refl
 length-fixed (suc (suc (suc (suc (suc n))))) h = absurd (omega arith)
+
+-- the difference as the code has it
+pub difference_at : (order : ℕ) (s : List ℤ) (j : ℕ) (p : ℤ) → order ≤ 4 → FitsBits 33 (sample_at s (order + j)) → p ≡ prediction (fixed_coefficients order) 0 s (order + j) → unsigned_abs p ≤ 2 ^ 51 →
+    to_z w64 (of_z w64 (to_z w64 (of_z w64 (sample_at s (order + j))) -ℤ to_z w64 (of_z w64 p))) ≡ difference (fixed_coefficients order) 0 s j
+unfolding difference
+difference_at order s j p few fit is small =
+    rw (length-fixed order few, ← is) (omega (arith, ints, fit.low, fit.high))
 
 pub all_first : (s : List ℤ) → ((k : ℕ) → k < length s → sample_at s k ≡ sample_at s 0) → s ≡ replicate (length s) (sample_at s 0)
 all_first s all = same_lists s (replicate (length s) (sample_at s 0)) (sym (length-replicate (length s) (sample_at s 0))) (λ k d h.

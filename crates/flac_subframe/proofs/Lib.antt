@@ -23,6 +23,7 @@ pub mod Entries
 pub mod Orders
 pub mod Greater
 pub mod Convex
+pub mod Enough
 pub mod Searching
 pub mod Lengths
 pub mod Differences

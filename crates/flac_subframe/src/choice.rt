@@ -10,7 +10,7 @@ ghost use Rattle.flac_subframe.specs.Chosen.{body_of, IsBest, fixed_below, price
 use crate::coding::Coding;
 use crate::cost::Priced;
 use crate::halving::ResidualChoice;
-use crate::predictors::{fixed_coefficients, predict_linear};
+use crate::leaving::take_differences;
 use crate::survey::least_residual_into;
 use arrayvec::ArrayVec;
 
@@ -46,33 +46,6 @@ pub struct Held {
 pub struct PricedChoice {
     pub kind: Kind,
     pub bits: u64,
-}
-
-/// What a predictor leaves of the samples. It stops with `false` at a value out of range.
-pub fn take_differences(
-    coefficients: &[i32],
-    shift: u32,
-    samples: &[i64],
-    values: &mut [i64],
-) -> bool
-    requires few { length coefficients.now ≤ 32 }
-    requires small { All (FitsBits 15) coefficients.now }
-    requires shift { shift < 16 }
-    requires fits { All (FitsBits 33) samples.now }
-    requires places { length values.old + length coefficients.now ≡ length samples.now }
-    ensures all { IsTrue result → values.new ≡ differences coefficients.now shift samples.now }
-    ensures range { IsTrue result ↔ All IsResidual (differences coefficients.now shift samples.now) }
-{
-    let order = coefficients.len();
-    for index in 0..values.len() {
-        let value = samples[order + index]
-            - predict_linear(coefficients, shift, &samples[..order + index]);
-        if value <= -0x8000_0000 || value >= 0x8000_0000 {
-            return false;
-        }
-        values[index] = value;
-    }
-    true
 }
 
 /// Whether all samples are the first one.
@@ -122,7 +95,7 @@ fn better_fixed(
         return;
     }
     let places = &mut values[..samples.len() - order];
-    if !take_differences(fixed_coefficients(order as u32), 0, samples, places) {
+    if !take_differences(order, samples, places) {
         return;
     }
     let before = u64::from(bits) * order as u64;

@@ -8,6 +8,7 @@ mod cost;
 mod folding;
 mod halves;
 mod halving;
+mod leaving;
 mod limits;
 mod numbers;
 mod predictors;

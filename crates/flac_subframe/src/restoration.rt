@@ -11,7 +11,7 @@ use crate::numbers::fits_bits;
 
 /// What the fixed predictor of an order says after four samples, the nearest first (RFC 9639, section 9.2.5).
 #[inline(always)]
-fn predict_after(order: usize, first: i64, second: i64, third: i64, fourth: i64) -> i64
+pub fn predict_after(order: usize, first: i64, second: i64, third: i64, fourth: i64) -> i64
     requires order { order ≤ 4 }
     requires first { FitsBits 33 first }
     requires second { FitsBits 33 second }

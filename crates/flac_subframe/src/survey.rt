@@ -180,6 +180,41 @@ fn best_order(
     best
 }
 
+/// Fills the tables of both methods. A parameter above the width of all values costs more for each of them, and so is not tried.
+fn tabulate(
+    values: &[i64],
+    order: usize,
+    halvings: u8,
+    sums: &mut [u64],
+    four: &mut [Priced],
+    five: &mut [Priced],
+    widths: &[u8],
+)
+    requires few { length values.now + order ≤ 65535 }
+    requires range { All IsResidual values.now }
+    requires most { halvings ≤ 8 }
+    requires halves { Halves order values.now halvings }
+    requires sums { 2 ^ halvings ≤ length sums.old }
+    requires four { 2 * 2 ^ halvings ≤ length four.old }
+    requires five { 2 * 2 ^ halvings ≤ length five.old }
+    requires places { 2 * 2 ^ halvings ≤ length widths.now }
+    requires widths { HasWidths order values.now 0 halvings widths.now }
+    ensures entries { (p j : ℕ) → p ≤ halvings → j < 2 ^ p → LeastBelow 15 (part order values.now p j) (entry four.new p j) }
+    ensures more { (p j : ℕ) → p ≤ halvings → j < 2 ^ p → LeastBelow 31 (part order values.now p j) (entry five.new p j) }
+    ensures sums_long { length sums.new ≡ length sums.old }
+    ensures four_long { length four.new ≡ length four.old }
+    ensures five_long { length five.new ≡ length five.old }
+{
+    let count = power(halvings);
+    let enough = widths[1].min(30) + 1;
+    let short = enough.min(15);
+    clear(four, 2 * count);
+    let row = &mut sums[..count];
+    compare(values, order, halvings, 0, short, row, four);
+    copy(four, five, 2 * count);
+    compare(values, order, halvings, short, enough, row, five);
+}
+
 /// The best method and partition order, with the tables of both methods filled.
 fn survey(
     values: &[i64],
@@ -211,13 +246,8 @@ fn survey(
     ensures five_long { length five.new ≡ length five.old }
     ensures widths_long { length widths.new ≡ length widths.old }
 {
-    let count = power(halvings);
     measure(values, order, halvings, widths);
-    clear(four, 2 * count);
-    let row = &mut sums[..count];
-    compare(values, order, halvings, 0, 15, row, four);
-    copy(four, five, 2 * count);
-    compare(values, order, halvings, 15, 31, row, five);
+    tabulate(values, order, halvings, sums, four, five, widths);
     let first = best_order(values, order, halvings, 4, four, widths);
     let second = best_order(values, order, halvings, 5, five, widths);
     if second.bits < first.bits {

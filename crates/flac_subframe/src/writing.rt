@@ -10,11 +10,12 @@ ghost use Rattle.flac_subframe.specs.Family.{form_of, IsMadeOf, OrderIsFew, kind
 ghost use Rattle.flac_subframe.specs.Cost.{MayCode, MayCodeEach, MayWrite, codings_of};
 ghost use Rattle.flac_subframe.specs.Spelling.{value_spelling, coding_spelling, partition_spelling, residual_spelling, content_spelling, header_spelling, subframe_spelling};
 
-use crate::choice::{Kind, take_differences};
+use crate::choice::Kind;
 use crate::chosen::Choice;
 use crate::coding::Coding;
 use crate::folding::fold;
 use crate::halving::{ResidualChoice, power};
+use crate::leaving::take_differences;
 use crate::predictors::fixed_coefficients;
 use crate::wasted::drop_wasted;
 use flac_bits::{BitWriter, Target, Why};
@@ -155,7 +156,7 @@ fn write_fixed<W: Target>(
     let coefficients = fixed_coefficients(order as u32);
     let count = coefficients.len();
     let places = &mut values[..samples.len() - count];
-    let _all = take_differences(coefficients, 0, samples, places);
+    let _all = take_differences(order, samples, places);
     write_signed(writer, depth, &samples[..count])?;
     write_residual(writer, residual, count, places)
 }

@@ -23,33 +23,33 @@ returns-then-order-samples-clause-best c =
 pub returns-then-not-take_differences-clause-best : goal.returns-then-not-take_differences-clause-best
 returns-then-not-take_differences-clause-best c =
     let o = c.args.order in
-    out_of_range c.args.most c.args.bits c.args.samples.now (fixed_below o) (fixed_below (o + 1)) (fixed o) (one_fixed_more o) c.fixed_coefficients.result.now 0 o (c.args.bits * o) c.fixed_coefficients.ensures refl (order_is o c.requires.order) (before_is c.args.bits o c.args.bits c.requires.order refl)
+    out_of_range c.args.most c.args.bits c.args.samples.now (fixed_below o) (fixed_below (o + 1)) (fixed o) (one_fixed_more o) (fixed_coefficients o) 0 o (c.args.bits * o) refl refl (order_is o c.requires.order) (before_is c.args.bits o c.args.bits c.requires.order refl)
     (priced_as c.args.best.now) c.requires.best (λ all. cc (c.take_differences.ensures.range.1 all, c.if-not-take_differences.true))
 
 pub returns-then-best-before-clause-best : goal.returns-then-best-before-clause-best
 returns-then-best-before-clause-best c =
     let o = c.args.order in
-    too_dear c.args.most c.args.bits c.args.samples.now (fixed_below o) (fixed_below (o + 1)) (fixed o) (one_fixed_more o) c.fixed_coefficients.result.now 0 o (c.from.result * o) c.fixed_coefficients.ensures refl (order_is o c.requires.order) (before_is c.args.bits o c.from.result c.requires.order c.from.ensures)
+    too_dear c.args.most c.args.bits c.args.samples.now (fixed_below o) (fixed_below (o + 1)) (fixed o) (one_fixed_more o) (fixed_coefficients o) 0 o (c.from.result * o) refl refl (order_is o c.requires.order) (before_is c.args.bits o c.from.result c.requires.order c.from.ensures)
     (priced_as c.args.best.now) c.requires.best c.if-best-before.true
 
 pub returns-then-least_residual_into-clause-best : goal.returns-then-least_residual_into-clause-best
 returns-then-least_residual_into-clause-best c =
     let o = c.args.order in
-    let is = c.take_differences.ensures.all c.if-not-take_differences.false in
+    let is = c.take_differences.ensures.all in
     let range = c.take_differences.ensures.range.0 c.if-not-take_differences.false in
     let r = c.least_residual_into.new.into in
     let least = rw is at (c.least_residual_into.ensures.least c.if-least_residual_into.true) in
     let bits = rw is at (c.least_residual_into.ensures.bits c.if-least_residual_into.true) in
     let less = c.least_residual_into.ensures.less c.if-least_residual_into.true in
     let small = c.least_residual_into.ensures.small c.if-least_residual_into.true in
-    better c.args.most c.args.bits c.args.samples.now (fixed_below o) (fixed_below (o + 1)) (fixed o) (one_fixed_more o) c.fixed_coefficients.result.now 0 o (c.from.result * o) c.fixed_coefficients.ensures refl (order_is o c.requires.order) (before_is c.args.bits o c.from.result c.requires.order c.from.ensures)
+    better c.args.most c.args.bits c.args.samples.now (fixed_below o) (fixed_below (o + 1)) (fixed o) (one_fixed_more o) (fixed_coefficients o) 0 o (c.from.result * o) refl refl (order_is o c.requires.order) (before_is c.args.bits o c.from.result c.requires.order c.from.ensures)
     (priced_as c.args.best.now) c.requires.best r _ (omega arith) range least bits small refl (omega arith) refl
 
 pub returns-else-least_residual_into-clause-best : goal.returns-else-least_residual_into-clause-best
 returns-else-least_residual_into-clause-best c =
     let o = c.args.order in
-    let is = c.take_differences.ensures.all c.if-not-take_differences.false in
+    let is = c.take_differences.ensures.all in
     let kept = c.if-least_residual_into.ensures.kept (λ t. cc) in
     let none = rw is at (c.if-least_residual_into.ensures.none (λ t. cc)) in
-    rw kept (no_better c.args.most c.args.bits c.args.samples.now (fixed_below o) (fixed_below (o + 1)) (fixed o) (one_fixed_more o) c.fixed_coefficients.result.now 0 o (c.from.result * o) c.fixed_coefficients.ensures refl (order_is o c.requires.order) (before_is c.args.bits o c.from.result c.requires.order c.from.ensures)
+    rw kept (no_better c.args.most c.args.bits c.args.samples.now (fixed_below o) (fixed_below (o + 1)) (fixed o) (one_fixed_more o) (fixed_coefficients o) 0 o (c.from.result * o) refl refl (order_is o c.requires.order) (before_is c.args.bits o c.from.result c.requires.order c.from.ensures)
     (priced_as c.args.best.now) c.requires.best (omega arith) none)

@@ -1,0 +1,85 @@
+//! What the fixed predictors leave of samples.
+
+ghost use Rattle.std.specs.Prelude.{◌≡◌, ◌<◌, ◌≤◌, ◌-◌, ◌+◌, length, All, IsTrue, ◌↔◌};
+ghost use Rattle.flac_bits.specs.Signed.{FitsBits};
+ghost use Rattle.flac_bits.specs.Rice.{IsResidual};
+ghost use Rattle.flac_subframe.specs.Numbers.{sample_at};
+ghost use Rattle.flac_subframe.specs.Prediction.{fixed_coefficients};
+ghost use Rattle.flac_subframe.specs.Bodies.{differences};
+
+use crate::restoration::predict_after;
+
+/// The sample so many places before an index, 0 where a predictor of the order does not read it.
+#[inline(always)]
+fn sample_before(samples: &[i64], order: usize, at: usize, back: usize) -> i64
+    requires some { 1 ≤ back }
+    requires enough { order ≤ at }
+    requires within { at ≤ length samples.now }
+    requires fits { All (FitsBits 33) samples.now }
+    ensures value { back ≤ order → result ≡ sample_at samples.now (at - back) }
+    ensures fits { FitsBits 33 result }
+{
+    if back <= order { samples[at - back] } else { 0 }
+}
+
+/// What the fixed predictor of an order leaves of the samples.
+#[inline(always)]
+fn take_order(order: usize, samples: &[i64], values: &mut [i64])
+    requires order { order ≤ 4 }
+    requires fits { All (FitsBits 33) samples.now }
+    requires places { length values.old + order ≡ length samples.now }
+    ensures { values.new ≡ differences (fixed_coefficients order) 0 samples.now }
+{
+    for index in 0..values.len() {
+        let at = order + index;
+        let first = sample_before(samples, order, at, 1);
+        let second = sample_before(samples, order, at, 2);
+        let third = sample_before(samples, order, at, 3);
+        let fourth = sample_before(samples, order, at, 4);
+        values[index] = samples[at] - predict_after(order, first, second, third, fourth);
+    }
+}
+
+/// Whether a value is one that a residual may have.
+#[inline(always)]
+fn is_residual(value: i64) -> bool
+    ensures { IsTrue result ↔ IsResidual value }
+{
+    -0x8000_0000 < value && value < 0x8000_0000
+}
+
+/// Whether each value is one that a residual may have.
+fn are_residual(values: &[i64]) -> bool
+    ensures { IsTrue result ↔ All IsResidual values.now }
+{
+    values.iter().all(|value| is_residual(*value))
+}
+
+/// What the fixed predictor of an order leaves of the samples, by a loop for each order.
+fn take_fixed(order: usize, samples: &[i64], values: &mut [i64])
+    requires order { order ≤ 4 }
+    requires fits { All (FitsBits 33) samples.now }
+    requires places { length values.old + order ≡ length samples.now }
+    ensures all { values.new ≡ differences (fixed_coefficients order) 0 samples.now }
+    ensures long { length values.new ≡ length values.old }
+{
+    match order {
+        0 => take_order(0, samples, values),
+        1 => take_order(1, samples, values),
+        2 => take_order(2, samples, values),
+        3 => take_order(3, samples, values),
+        _ => take_order(order, samples, values),
+    }
+}
+
+/// What the fixed predictor of an order leaves of the samples (RFC 9639, section 9.2.5), and whether a residual may have it all.
+pub fn take_differences(order: usize, samples: &[i64], values: &mut [i64]) -> bool
+    requires order { order ≤ 4 }
+    requires fits { All (FitsBits 33) samples.now }
+    requires places { length values.old + order ≡ length samples.now }
+    ensures all { values.new ≡ differences (fixed_coefficients order) 0 samples.now }
+    ensures range { IsTrue result ↔ All IsResidual (differences (fixed_coefficients order) 0 samples.now) }
+{
+    take_fixed(order, samples, values);
+    are_residual(values)
+}
