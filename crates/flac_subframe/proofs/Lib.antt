@@ -18,6 +18,12 @@ pub mod Digits
 pub mod Least
 pub mod CodingLeast
 pub mod Pricing
+pub mod Splits
+pub mod Entries
+pub mod Orders
+pub mod Greater
+pub mod Convex
+pub mod Searching
 pub mod Lengths
 pub mod Differences
 pub mod Bodies

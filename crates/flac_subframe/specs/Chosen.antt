@@ -10,6 +10,9 @@ use Rattle.flac_subframe.specs.Cost.{codings_of}
 use Rattle.flac_subframe.specs.declared.choice.PricedChoice.{PricedChoice}
 use Rattle.flac_subframe.specs.declared.choice.Kind.{Kind}
 use Rattle.flac_subframe.specs.declared.choice.Kind.TheVariants.{Constant, Verbatim, Fixed}
+use Rattle.flac_subframe.specs.declared.choice.HeldKind.{HeldKind}
+use Rattle.flac_subframe.specs.declared.choice.HeldKind.TheVariants.{AsConstant, AsVerbatim, AsFixed}
+use Rattle.flac_subframe.specs.declared.choice.Held.{Held}
 use Rattle.flac_subframe.specs.Numbers.{sample_at}
 use Rattle.flac_subframe.specs.Bodies.{Chooses, fixed, coefficients_of, shift_of, Body, constant, verbatim, predicted, differences, StandsFor, spelled}
 
@@ -25,6 +28,15 @@ abbrev pub body_of : Kind → List ℤ → Body
 body_of Constant s = constant (sample_at s 0)
 body_of Verbatim s = verbatim s
 body_of (Fixed order residual) s = body_by (fixed order) residual s
+
+-- the choice that is held
+abbrev pub kind_by : HeldKind → ResidualChoice → Kind
+kind_by AsConstant r = Constant
+kind_by AsVerbatim r = Verbatim
+kind_by (AsFixed order) r = Fixed order r
+
+abbrev pub priced_as : Held → PricedChoice
+priced_as h = record { kind = kind_by h.kind h.residual; bits = h.bits }
 
 -- a priced choice is the least by the predictors of the list
 pub record IsBest (most bits : ℕ) (s : List ℤ) (predictors : List Chooses) (p : PricedChoice) : Type 0 where

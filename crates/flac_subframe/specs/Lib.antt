@@ -6,6 +6,7 @@ pub mod Laws
 pub mod Spelling
 pub mod Least
 pub mod Cost
+pub mod Halves
 pub mod Bodies
 pub mod Chosen
 pub mod Wasted

@@ -1,14 +1,18 @@
 //! The least content of a subframe for some samples.
-ghost use Rattle.std.specs.Prelude.{◌≡◌, ◌<◌, ◌≤◌, ◌^◌, ◌+◌, ◌∷◌, [], ◌++◌, ℕ, length, All, IsTrue, IfSome, IfNone, ◌↔◌, replicate, take, map};
+ghost use Rattle.std.specs.Prelude.{◌≡◌, ◌<◌, ◌≤◌, ◌^◌, ◌+◌, ◌∷◌, [], ◌*◌, ℕ, length, All, IsTrue, ◌↔◌, replicate};
 ghost use Rattle.flac_bits.specs.Signed.{FitsBits};
 ghost use Rattle.flac_subframe.specs.Numbers.{sample_at};
 ghost use Rattle.flac_subframe.specs.Least.{IsLeast};
 ghost use Rattle.flac_bits.specs.Rice.{IsResidual};
 ghost use Rattle.flac_subframe.specs.Bodies.{differences, StandsFor, spelled};
-ghost use Rattle.flac_subframe.specs.Chosen.{body_of, IsBest, IsLeastOf, HasNone, fixed_below};
+ghost use Rattle.flac_subframe.specs.Chosen.{body_of, IsBest, fixed_below, priced_as};
 
-use crate::halving::{ResidualChoice, least_residual};
+use crate::coding::Coding;
+use crate::cost::Priced;
+use crate::halving::ResidualChoice;
 use crate::predictors::{fixed_coefficients, predict_linear};
+use crate::survey::least_residual_into;
+use arrayvec::ArrayVec;
 
 /// How the samples of a subframe are written.
 #[derive(Drop)]
@@ -19,6 +23,22 @@ pub enum Kind {
         order: usize,
         residual: ResidualChoice,
     },
+}
+
+/// How the best so far is written, but for its residual.
+#[derive(Drop)]
+pub enum HeldKind {
+    AsConstant,
+    AsVerbatim,
+    AsFixed(usize),
+}
+
+/// The best so far. Its residual stands in place and is written anew only by a better one.
+#[derive(Drop)]
+pub struct Held {
+    pub kind: HeldKind,
+    pub residual: ResidualChoice,
+    pub bits: u64,
 }
 
 /// A choice, and how many bits it takes.
@@ -67,35 +87,6 @@ pub fn all_equal(samples: &[i64]) -> bool
     true
 }
 
-/// The least residual of a predictor; none where the predictor cannot be used.
-fn least_of(
-    samples: &[i64],
-    most: u8,
-    coefficients: &[i32],
-    shift: u32,
-    values: &mut [i64],
-) -> Option<ResidualChoice>
-    requires few { length samples.now ≤ 65535 }
-    requires most { most ≤ 8 }
-    requires order { length coefficients.now ≤ 32 }
-    requires small { All (FitsBits 15) coefficients.now }
-    requires shift { shift < 16 }
-    requires fits { All (FitsBits 33) samples.now }
-    requires places { length samples.now ≤ length values.old }
-    ensures some { IfSome result (IsLeastOf most coefficients.now shift samples.now) }
-    ensures none { IfNone result (HasNone coefficients.now shift samples.now) }
-{
-    let order = coefficients.len();
-    if order >= samples.len() {
-        return None;
-    }
-    let places = &mut values[..samples.len() - order];
-    if !take_differences(coefficients, shift, samples, places) {
-        return None;
-    }
-    Some(least_residual(places, order, most))
-}
-
 /// The lesser of the best so far and what the fixed predictor of an order gives.
 fn better_fixed(
     samples: &[i64],
@@ -103,53 +94,111 @@ fn better_fixed(
     most: u8,
     order: usize,
     values: &mut [i64],
-    best: PricedChoice,
-) -> PricedChoice
+    sums: &mut [u64],
+    four: &mut [Priced],
+    five: &mut [Priced],
+    widths: &mut [u8],
+    best: &mut Held,
+)
     requires few { length samples.now ≤ 65535 }
     requires most { most ≤ 8 }
     requires bits { bits ≤ 33 }
     requires fits { All (FitsBits 33) samples.now }
     requires order { order ≤ 4 }
     requires places { length samples.now ≤ length values.old }
-    requires best { IsBest most bits samples.now (fixed_below order) best }
-    ensures { IsBest most bits samples.now (fixed_below (order + 1)) result }
+    requires sums { 2 ^ most ≤ length sums.old }
+    requires four { 2 * 2 ^ most ≤ length four.old }
+    requires five { 2 * 2 ^ most ≤ length five.old }
+    requires widths { 2 * 2 ^ most ≤ length widths.old }
+    requires best { IsBest most bits samples.now (fixed_below order) (priced_as best.old) }
+    ensures best { IsBest most bits samples.now (fixed_below (order + 1)) (priced_as best.new) }
+    ensures values_long { length values.new ≡ length values.old }
+    ensures sums_long { length sums.new ≡ length sums.old }
+    ensures four_long { length four.new ≡ length four.old }
+    ensures five_long { length five.new ≡ length five.old }
+    ensures widths_long { length widths.new ≡ length widths.old }
 {
-    let coefficients = fixed_coefficients(order as u32);
-    match least_of(samples, most, coefficients, 0, values) {
-        Some(residual) => {
-            let bits = u64::from(bits) * order as u64 + residual.bits;
-            if bits < best.bits {
-                PricedChoice {
-                    kind: Kind::Fixed { order, residual },
-                    bits,
-                }
-            } else {
-                best
-            }
-        }
-        None => best,
+    if order >= samples.len() {
+        return;
+    }
+    let places = &mut values[..samples.len() - order];
+    if !take_differences(fixed_coefficients(order as u32), 0, samples, places) {
+        return;
+    }
+    let before = u64::from(bits) * order as u64;
+    if best.bits <= before {
+        return;
+    }
+    let below = best.bits - before;
+    if least_residual_into(
+        places,
+        order,
+        most,
+        sums,
+        four,
+        five,
+        widths,
+        below,
+        &mut best.residual,
+    ) {
+        best.kind = HeldKind::AsFixed(order);
+        best.bits = before + best.residual.bits;
     }
 }
 
 /// The first choice to compare with.
-pub fn plainest(samples: &[i64], bits: u32, most: u8) -> PricedChoice
+fn begin(samples: &[i64], bits: u32) -> Held
     requires some { 0 < length samples.now }
     requires few { length samples.now ≤ 65535 }
     requires bits { bits ≤ 33 }
-    ensures { IsBest most bits samples.now [] result }
+    ensures { (most : ℕ) → IsBest most bits samples.now (fixed_below 0) (priced_as result) }
 {
+    let residual = ResidualChoice {
+        parameter_bits: 4,
+        halvings: 0,
+        codings: ArrayVec::new(),
+        bits: 0,
+    };
     let width = u64::from(bits);
     if all_equal(samples) {
-        PricedChoice {
-            kind: Kind::Constant,
+        Held {
+            kind: HeldKind::AsConstant,
+            residual,
             bits: width,
         }
     } else {
-        PricedChoice {
-            kind: Kind::Verbatim,
+        Held {
+            kind: HeldKind::AsVerbatim,
+            residual,
             bits: width * samples.len() as u64,
         }
     }
+}
+
+/// The choice that is held.
+fn release(held: Held) -> PricedChoice
+    ensures { result ≡ priced_as held }
+{
+    let Held {
+        kind,
+        residual,
+        bits,
+    } = held;
+    match kind {
+        HeldKind::AsConstant => plain(Kind::Constant, residual, bits),
+        HeldKind::AsVerbatim => plain(Kind::Verbatim, residual, bits),
+        HeldKind::AsFixed(order) => PricedChoice {
+            kind: Kind::Fixed { order, residual },
+            bits,
+        },
+    }
+}
+
+/// A choice that has no residual.
+fn plain(kind: Kind, _residual: ResidualChoice, bits: u64) -> PricedChoice
+    ensures { result ≡ record { kind = kind; bits = bits } }
+{
+    PricedChoice { kind, bits }
 }
 
 /// The least choice over the fixed predictors, with partition orders up to the greatest.
@@ -162,9 +211,28 @@ pub fn choose_body(samples: &[i64], bits: u32, most: u8, values: &mut [i64]) -> 
     requires places { length samples.now ≤ length values.old }
     ensures { IsBest most bits samples.now (fixed_below 5) result }
 {
-    let mut best = plainest(samples, bits, most);
+    let none = Priced {
+        coding: Coding::Rice(0),
+        bits: 0,
+    };
+    let mut sums = [0; 256];
+    let mut four = [none; 512];
+    let mut five = [none; 512];
+    let mut widths = [0; 512];
+    let mut best = begin(samples, bits);
     for order in 0..5 {
-        best = better_fixed(samples, bits, most, order, values, best);
+        better_fixed(
+            samples,
+            bits,
+            most,
+            order,
+            values,
+            &mut sums,
+            &mut four,
+            &mut five,
+            &mut widths,
+            &mut best,
+        );
     }
-    best
+    release(best)
 }

@@ -6,6 +6,7 @@ mod chosen;
 mod coding;
 mod cost;
 mod folding;
+mod halves;
 mod halving;
 mod limits;
 mod numbers;
@@ -14,9 +15,11 @@ mod promises;
 mod residual;
 mod restoration;
 mod subframe;
+mod survey;
 #[cfg(test)]
 mod tests;
 mod wasted;
+mod widths;
 mod writing;
 
 pub use chosen::{Choice, choose_into};

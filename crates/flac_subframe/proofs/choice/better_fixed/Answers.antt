@@ -1,28 +1,55 @@
-use Rattle.std.proofs.Common.{arith, refl}
+use Rattle.std.proofs.Common.{arith, ◌≡◌, ◌+◌, ◌*◌, ◌≤◌, length, refl, sym, ℕ}
+use Rattle.flac_subframe.specs.Prediction.{fixed_coefficients}
 use Rattle.flac_subframe.specs.Bodies.{fixed}
 use Rattle.flac_subframe.specs.Chosen.{fixed_below}
 use Rattle.flac_subframe.proofs.Differences.{length-fixed}
-use Rattle.flac_subframe.proofs.Best.{best_none, best_kept, best_taken, one_fixed_more}
+use Rattle.flac_subframe.proofs.Best.{one_fixed_more}
+use Rattle.flac_subframe.specs.Chosen.{priced_as}
+use Rattle.flac_subframe.proofs.Searching.{too_long, out_of_range, too_dear, no_better, better}
 use Rattle.flac_subframe.proofs.choice.better_fixed.Goals as goal
 
-pub returns-then-bits-best : goal.returns-then-bits-best
-returns-then-bits-best c =
-    let order = c.args.order in
-    let is = rw c.fixed_coefficients-coefficients.ensures at c.in-Some.ensures.some in
-    let long = length-fixed order c.requires.order in
-    rw (one_fixed_more order) (best_taken c.args.most c.args.bits c.args.samples.now (fixed_below order) (fixed order) c.args.best c.requires.best c.in-Some.residual _ is
-    (rw (long, c.from.ensures) (omega arith)) c.if-bits-best.true refl)
+order_is : (order : ℕ) → order ≤ 4 → order ≡ length (fixed_coefficients order)
+order_is order h = sym (length-fixed order h)
 
-pub returns-else-bits-best : goal.returns-else-bits-best
-returns-else-bits-best c =
-    let order = c.args.order in
-    let is = rw c.fixed_coefficients-coefficients.ensures at c.in-Some.ensures.some in
-    let long = length-fixed order c.requires.order in
-    rw (one_fixed_more order) (best_kept c.args.most c.args.bits c.args.samples.now (fixed_below order) (fixed order) c.args.best c.requires.best c.in-Some.residual is
-    (rw (long, ← c.from.ensures) (omega arith)))
+before_is : (bits order from : ℕ) → order ≤ 4 → from ≡ bits → from * order ≡ bits * length (fixed_coefficients order) + 0
+before_is bits order from h e = rw (e, length-fixed order h) (omega arith)
 
-pub returns-in-None : goal.returns-in-None
-returns-in-None c =
-    let order = c.args.order in
-    let none = rw c.fixed_coefficients-coefficients.ensures at c.in-None.ensures.none in
-    rw (one_fixed_more order) (best_none c.args.most c.args.bits c.args.samples.now (fixed_below order) (fixed order) c.args.best c.requires.best none)
+pub returns-then-order-samples-clause-best : goal.returns-then-order-samples-clause-best
+returns-then-order-samples-clause-best c =
+    let o = c.args.order in
+    too_long c.args.most c.args.bits c.args.samples.now (fixed_below o) (fixed_below (o + 1)) (fixed o) (one_fixed_more o) (fixed_coefficients o) 0 o (c.args.bits * o) refl refl (order_is o c.requires.order) (before_is c.args.bits o c.args.bits c.requires.order refl)
+    (priced_as c.args.best.now) c.requires.best c.if-order-samples.true
+
+pub returns-then-not-take_differences-clause-best : goal.returns-then-not-take_differences-clause-best
+returns-then-not-take_differences-clause-best c =
+    let o = c.args.order in
+    out_of_range c.args.most c.args.bits c.args.samples.now (fixed_below o) (fixed_below (o + 1)) (fixed o) (one_fixed_more o) c.fixed_coefficients.result.now 0 o (c.args.bits * o) c.fixed_coefficients.ensures refl (order_is o c.requires.order) (before_is c.args.bits o c.args.bits c.requires.order refl)
+    (priced_as c.args.best.now) c.requires.best (λ all. cc (c.take_differences.ensures.range.1 all, c.if-not-take_differences.true))
+
+pub returns-then-best-before-clause-best : goal.returns-then-best-before-clause-best
+returns-then-best-before-clause-best c =
+    let o = c.args.order in
+    too_dear c.args.most c.args.bits c.args.samples.now (fixed_below o) (fixed_below (o + 1)) (fixed o) (one_fixed_more o) c.fixed_coefficients.result.now 0 o (c.from.result * o) c.fixed_coefficients.ensures refl (order_is o c.requires.order) (before_is c.args.bits o c.from.result c.requires.order c.from.ensures)
+    (priced_as c.args.best.now) c.requires.best c.if-best-before.true
+
+pub returns-then-least_residual_into-clause-best : goal.returns-then-least_residual_into-clause-best
+returns-then-least_residual_into-clause-best c =
+    let o = c.args.order in
+    let is = c.take_differences.ensures.all c.if-not-take_differences.false in
+    let range = c.take_differences.ensures.range.0 c.if-not-take_differences.false in
+    let r = c.least_residual_into.new.into in
+    let least = rw is at (c.least_residual_into.ensures.least c.if-least_residual_into.true) in
+    let bits = rw is at (c.least_residual_into.ensures.bits c.if-least_residual_into.true) in
+    let less = c.least_residual_into.ensures.less c.if-least_residual_into.true in
+    let small = c.least_residual_into.ensures.small c.if-least_residual_into.true in
+    better c.args.most c.args.bits c.args.samples.now (fixed_below o) (fixed_below (o + 1)) (fixed o) (one_fixed_more o) c.fixed_coefficients.result.now 0 o (c.from.result * o) c.fixed_coefficients.ensures refl (order_is o c.requires.order) (before_is c.args.bits o c.from.result c.requires.order c.from.ensures)
+    (priced_as c.args.best.now) c.requires.best r _ (omega arith) range least bits small refl (omega arith) refl
+
+pub returns-else-least_residual_into-clause-best : goal.returns-else-least_residual_into-clause-best
+returns-else-least_residual_into-clause-best c =
+    let o = c.args.order in
+    let is = c.take_differences.ensures.all c.if-not-take_differences.false in
+    let kept = c.if-least_residual_into.ensures.kept (λ t. cc) in
+    let none = rw is at (c.if-least_residual_into.ensures.none (λ t. cc)) in
+    rw kept (no_better c.args.most c.args.bits c.args.samples.now (fixed_below o) (fixed_below (o + 1)) (fixed o) (one_fixed_more o) c.fixed_coefficients.result.now 0 o (c.from.result * o) c.fixed_coefficients.ensures refl (order_is o c.requires.order) (before_is c.args.bits o c.from.result c.requires.order c.from.ensures)
+    (priced_as c.args.best.now) c.requires.best (omega arith) none)

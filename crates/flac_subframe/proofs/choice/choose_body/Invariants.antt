@@ -1,5 +1,13 @@
-use Rattle.flac_subframe.specs.Chosen.{IsBest, fixed_below}
+use Rattle.std.proofs.Common.{◌≡◌, length}
+use Rattle.flac_subframe.specs.Chosen.{IsBest, fixed_below, priced_as}
 use Rattle.flac_subframe.proofs.choice.choose_body.Given as goal
 
 abbrev pub invariant-loop-order : goal.invariant-loop-order
-invariant-loop-order l = IsBest l.most l.bits l.samples (fixed_below l.order) l.best
+invariant-loop-order l = record {
+  best : IsBest l.most l.bits l.samples (fixed_below l.order) (priced_as l.best);
+  values : length l.values ≡ length l.fn.values;
+  sums : length l.sums ≡ 256;
+  four : length l.four ≡ 512;
+  five : length l.five ≡ 512;
+  widths : length l.widths ≡ 512;
+}

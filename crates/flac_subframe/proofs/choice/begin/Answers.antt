@@ -2,18 +2,18 @@ use Rattle.std.proofs.Common.{arith, ◌∙◌, sym, length}
 use Rattle.std.proofs.lemmas.Nat.{mul-le}
 use Rattle.flac_subframe.specs.Numbers.{sample_at}
 use Rattle.flac_subframe.proofs.Bodies.{constant_least, verbatim_least, length-constant, length-verbatim}
-use Rattle.flac_subframe.proofs.choice.plainest.Goals as goal
+use Rattle.flac_subframe.proofs.choice.begin.Goals as goal
 
 pub returns-then-all_equal : goal.returns-then-all_equal
-returns-then-all_equal c = record {
-  least = constant_least c.args.most c.args.bits c.args.samples.now c.requires.some (c.all_equal.ensures.0 c.if-all_equal.true);
+returns-then-all_equal c = λ most. record {
+  least = constant_least most c.args.bits c.args.samples.now c.requires.some (c.all_equal.ensures.0 c.if-all_equal.true);
   priced = c.from-width.ensures ∙ sym (length-constant c.args.bits (sample_at c.args.samples.now 0));
   small = omega arith;
 }
 
 pub returns-else-all_equal : goal.returns-else-all_equal
-returns-else-all_equal c = record {
-  least = verbatim_least c.args.most c.args.bits c.args.samples.now c.requires.some (λ same. cc (c.all_equal.ensures.1 same, c.if-all_equal.false));
+returns-else-all_equal c = λ most. record {
+  least = verbatim_least most c.args.bits c.args.samples.now c.requires.some (λ same. cc (c.all_equal.ensures.1 same, c.if-all_equal.false));
   priced = rw c.from-width.ensures (sym (length-verbatim c.args.bits c.args.samples.now));
   small = omega (arith, mul-le c.from-width.result (length c.args.samples.now) 33 65535 (omega arith) (omega arith));
 }

@@ -1,0 +1,15 @@
+use Rattle.std.proofs.Common.{◌≡◌, ◌≤◌, ◌*◌, ◌^◌}
+use Rattle.flac_subframe.specs.Cost.{HalvedTo}
+use Rattle.flac_subframe.specs.Cost.{residual_cost}
+use Rattle.flac_subframe.specs.Least.{IsLeastCost}
+use Rattle.flac_subframe.proofs.Orders.{BelowOrder}
+use Rattle.flac_subframe.proofs.survey.best_order.Given as goal
+
+abbrev pub invariant-loop-p : goal.invariant-loop-p
+invariant-loop-p l = record {
+  method : l.best.parameter_bits ≡ l.parameter_bits;
+  within : l.best.halvings ≤ l.halvings;
+  least : IsLeastCost (BelowOrder l.parameter_bits l.halvings l.order l.values l.p) (residual_cost l.order l.values) l.best.bits;
+  here : IsLeastCost (HalvedTo l.parameter_bits l.best.halvings l.halvings l.order l.values) (residual_cost l.order l.values) l.best.bits;
+  small : l.best.bits ≤ 2 ^ 33 * 2 ^ 16;
+}

@@ -1,0 +1,12 @@
+use Rattle.std.proofs.Common.{◌≡◌, ◌+◌, ◌-◌, List, drop, length}
+use Rattle.flac_subframe.specs.declared.coding.Coding.{Coding}
+use Rattle.flac_subframe.proofs.Pricing.{PricedTo}
+use Rattle.flac_subframe.specs.Halves.{start}
+use Rattle.flac_subframe.proofs.survey.total.Given as goal
+
+abbrev pub invariant-loop-j : goal.invariant-loop-j
+invariant-loop-j l = record {
+  priced : (done : List Coding) × PricedTo l.parameter_bits (l.size - l.order) l.size l.count l.values done l.bits l.long (l.count - l.j) l.rest;
+  rest : l.rest ≡ drop (start l.order (length l.values + l.order) l.halvings l.j) l.values;
+  long : l.long ≡ start l.order (length l.values + l.order) l.halvings (l.j + 1) - start l.order (length l.values + l.order) l.halvings l.j;
+}

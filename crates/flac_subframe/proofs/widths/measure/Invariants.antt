@@ -1,0 +1,13 @@
+use Rattle.std.proofs.Common.{◌^◌, ◌≤◌}
+use Rattle.flac_subframe.proofs.Greater.{WidthsFrom}
+use Rattle.flac_subframe.proofs.widths.measure.Given as goal
+
+abbrev pub invariant-loop-at : goal.invariant-loop-at
+invariant-loop-at l = record {
+  within : l.at ≤ 2 ^ l.halvings;
+  some : 1 ≤ l.at;
+  widths : WidthsFrom l.order l.values l.halvings l.at l.widths;
+}
+
+abbrev pub decreases-loop-at : goal.decreases-loop-at
+decreases-loop-at l = l.at

@@ -1,0 +1,150 @@
+//! The cost of each partition at each partition order, where each value's cost is worked out once for each parameter: a partition costs as much
+//! as its two halves.
+
+ghost use Rattle.std.specs.Prelude.{◌≡◌, ◌<◌, ◌≤◌, ◌^◌, ◌+◌, ◌-◌, ◌*◌, ◌/◌, ℕ, length, All, slice_index, slice_index_or, ◌⊎◌};
+ghost use Rattle.std.specs.List.{sum_by};
+ghost use Rattle.flac_bits.specs.Rice.{IsResidual};
+ghost use Rattle.flac_subframe.specs.Cost.{value_cost};
+ghost use Rattle.flac_subframe.specs.Halves.{part, Halves, lesser, entry, LeastBelow};
+
+use crate::coding::Coding;
+use crate::cost::{Priced, rice_bits};
+use crate::halving::power;
+
+/// What each partition costs under a parameter, at the finest partition order.
+fn price(values: &[i64], order: usize, halvings: u8, parameter: u8, sums: &mut [u64])
+    requires few { length values.now + order ≤ 65535 }
+    requires range { All IsResidual values.now }
+    requires parameter { parameter < 31 }
+    requires most { halvings ≤ 8 }
+    requires halves { Halves order values.now halvings }
+    requires places { length sums.old ≡ 2 ^ halvings }
+    ensures costs { (j : ℕ) → j < 2 ^ halvings → slice_index sums.new j ≡ sum_by (value_cost parameter) (part order values.now halvings j) }
+{
+    let size = (values.len() + order) >> halvings;
+    let mut from = 0;
+    let mut to = size - order;
+    for sum in sums.iter_mut() {
+        *sum = rice_bits(&values[from..to], parameter);
+        from = to;
+        to += size;
+    }
+}
+
+/// From the costs of partitions to those of the next coarser ones, in place.
+fn pair(sums: &mut [u64], count: usize)
+    requires room { 2 * count ≤ length sums.old }
+    requires small { (j : ℕ) → j < 2 * count → slice_index sums.old j < 2 ^ 60 }
+    ensures { (j : ℕ) → j < count → slice_index sums.new j ≡ slice_index sums.old (2 * j) + slice_index sums.old (2 * j + 1) }
+{
+    for j in 0..count {
+        sums[j] = sums[2 * j] + sums[2 * j + 1];
+    }
+}
+
+/// Compares the cost of each partition with the best so far.
+fn note(sums: &[u64], best: &mut [Priced], parameter: u8)
+    requires { length best.old ≤ length sums.now }
+    ensures { (j : ℕ) (d : Priced) → j < length best.old → slice_index_or best.new j d ≡ lesser parameter (slice_index sums.now j) (slice_index_or best.old j d) }
+{
+    for (j, entry) in best.iter_mut().enumerate() {
+        if sums[j] < entry.bits {
+            *entry = Priced {
+                coding: Coding::Rice(parameter),
+                bits: sums[j],
+            };
+        }
+    }
+}
+
+/// The same at one partition order, whose entries stand one after another in the table.
+fn note_level(sums: &[u64], table: &mut [Priced], halvings: u8, parameter: u8)
+    requires most { halvings ≤ 8 }
+    requires sums { 2 ^ halvings ≤ length sums.now }
+    requires table { 2 * 2 ^ halvings ≤ length table.old }
+    ensures level { (j : ℕ) → j < 2 ^ halvings → entry table.new halvings j ≡ lesser parameter (slice_index sums.now j) (entry table.old halvings j) }
+    ensures others { (i : ℕ) (d : Priced) → (i < 2 ^ halvings) ⊎ (2 * 2 ^ halvings ≤ i) → slice_index_or table.new i d ≡ slice_index_or table.old i d }
+{
+    let first = power(halvings);
+    note(sums, &mut table[first..2 * first], parameter);
+}
+
+/// Compares, at each partition order, each partition's cost under a parameter with the best so far.
+fn pass(
+    values: &[i64],
+    order: usize,
+    halvings: u8,
+    parameter: u8,
+    sums: &mut [u64],
+    table: &mut [Priced],
+)
+    requires few { length values.now + order ≤ 65535 }
+    requires range { All IsResidual values.now }
+    requires parameter { parameter < 31 }
+    requires most { halvings ≤ 8 }
+    requires halves { Halves order values.now halvings }
+    requires sums { length sums.old ≡ 2 ^ halvings }
+    requires table { 2 * 2 ^ halvings ≤ length table.old }
+    ensures kept { length table.new ≡ length table.old }
+    ensures entries { (p j : ℕ) → p ≤ halvings → j < 2 ^ p → entry table.new p j ≡ lesser parameter (sum_by (value_cost parameter) (part order values.now p j)) (entry table.old p j) }
+{
+    price(values, order, halvings, parameter, sums);
+    note_level(sums, table, halvings, parameter);
+    let mut level = halvings;
+    while level > 0 {
+        level -= 1;
+        pair(sums, power(level));
+        note_level(sums, table, level, parameter);
+    }
+}
+
+/// Fills the table with the least parameters of a method.
+pub fn compare(
+    values: &[i64],
+    order: usize,
+    halvings: u8,
+    from: u8,
+    parameters: u8,
+    sums: &mut [u64],
+    table: &mut [Priced],
+)
+    requires few { length values.now + order ≤ 65535 }
+    requires range { All IsResidual values.now }
+    requires from { from ≤ parameters }
+    requires parameters { parameters ≤ 31 }
+    requires most { halvings ≤ 8 }
+    requires halves { Halves order values.now halvings }
+    requires sums { length sums.old ≡ 2 ^ halvings }
+    requires table { 2 * 2 ^ halvings ≤ length table.old }
+    requires start { (p j : ℕ) → p ≤ halvings → j < 2 ^ p → LeastBelow from (part order values.now p j) (entry table.old p j) }
+    ensures entries { (p j : ℕ) → p ≤ halvings → j < 2 ^ p → LeastBelow parameters (part order values.now p j) (entry table.new p j) }
+    ensures long { length table.new ≡ length table.old }
+{
+    for parameter in from..parameters {
+        pass(values, order, halvings, parameter, sums, table);
+    }
+}
+
+/// Makes the first entries of a table ready, before any parameter is compared.
+pub fn clear(table: &mut [Priced], count: usize)
+    requires { count ≤ length table.old }
+    ensures { (i : ℕ) (d : Priced) → i < count → (slice_index_or table.new i d).bits ≡ 2 ^ 64 - 1 }
+{
+    for i in 0..count {
+        table[i] = Priced {
+            coding: Coding::Rice(0),
+            bits: 0xFFFF_FFFF_FFFF_FFFF,
+        };
+    }
+}
+
+/// The first entries of a table, in another.
+pub fn copy(from: &[Priced], to: &mut [Priced], count: usize)
+    requires from { count ≤ length from.now }
+    requires to { count ≤ length to.old }
+    ensures { (i : ℕ) (d : Priced) → i < count → slice_index_or to.new i d ≡ slice_index_or from.now i d }
+{
+    for i in 0..count {
+        to[i] = from[i];
+    }
+}
