@@ -1,13 +1,16 @@
 //! Bytes that were pulled, and the bits of them that are held in a word.
 
-ghost use Rattle.std.specs.Prelude.{◌≡◌, ◌≢◌, ◌<◌, ◌≤◌, ◌+◌, ◌-◌, ◌*◌, ◌/◌, ◌%◌, ◌^◌, ◌++◌, ◌∷◌, [], ℕ, List, Bool, true, false, length, take, drop, replicate, min, IfSome, IfOk, IfErr, OnOk, Some, None, Ok, is_some, IsTrue, ◌↔◌};
+ghost use Rattle.std.specs.Prelude.{◌≡◌, ◌≢◌, ◌<◌, ◌≤◌, ◌+◌, ◌-◌, ◌*◌, ◌/◌, ◌%◌, ◌^◌, ◌++◌, ◌∷◌, [], ℕ, List, Bool, true, false, length, take, drop, replicate, min, IfSome, IfOk, IfErr, OnOk, Some, None, Ok, is_some, IsTrue, ◌↔◌, get_or, pos};
 ghost use Rattle.flac_bits.specs.declared.why.Why.TheVariants.{Truncated};
 ghost use Rattle.flac_bits.specs.Bits.{unsigned, bits_of};
 ghost use Rattle.flac_bits.specs.Meaning.{unary_bits};
 ghost use Rattle.flac_bits.specs.State.{past};
+ghost use Rattle.flac_bits.specs.Rice.{IsResidual};
+ghost use Rattle.flac_bits.specs.Stretches.{IsRead};
 ghost use Rattle.flac_bits.specs.Store.{Store, passed, Takes, Passes, HoldsSame, four_at, allowed, forbidden, reached, seen as seen_bytes, room_behind as room_behind_bytes, hides_late, reason_of, Came};
 
 use crate::source::Source;
+use crate::stretch::{four_bytes, values_in};
 use crate::sums::{bits_checked8, bits_checked16, checked8, checked16};
 use crate::why::Why;
 use crate::word::Word;
@@ -51,20 +54,6 @@ impl Model for Held {
     ghost invariant = { λ h. (h.from ≤ h.place) × (h.place ≤ h.end) × (h.end ≤ 4096)
         × (passed (drop h.from (take h.place h.bytes)) h.word ++ h.word ≡ bits_of (drop h.from (take h.place h.bytes)))
         × (length h.bytes ≡ 4096) × (h.end ≤ h.filled) × (h.filled ≤ 4096) × (hides_late h.room h.end h.filled ≡ true) };
-}
-
-/// Four bytes as a number, the first of them highest.
-#[inline(always)]
-fn four_bytes(bytes: &[u8], place: usize) -> u32
-    requires { place + 4 ≤ length bytes.now }
-    ensures { unsigned 32 result ≡ bits_of (four_at bytes.now place) }
-{
-    u32::from_be_bytes([
-        bytes[place],
-        bytes[place + 1],
-        bytes[place + 2],
-        bytes[place + 3],
-    ])
 }
 
 /// How many of n bytes stand before a fence.
@@ -139,6 +128,29 @@ impl Held {
         ensures none { result ≡ None → self.new ≡ self.old }
     {
         self.word.rice(k, limit)
+    }
+
+    /// Fills the places from one on with residual values under the Rice parameter k, as far as the word and the bytes held have
+    /// them, and answers where it stopped.
+    #[inline(never)]
+    pub fn values(&mut self, k: u32, values: &mut [i64], from: usize) -> usize
+        requires k { k ≤ 26 }
+        requires from { from ≤ length values.old }
+        ensures within { (from ≤ result) × (result ≤ length values.old) }
+        ensures read { (text : List Bool) × Passes text self.old self.new × IsRead k text values.old from values.new result }
+        ensures fits { ((j : ℕ) → j < from → IsResidual (get_or values.old j (pos 0))) → (j : ℕ) → j < result → IsResidual (get_or values.new j (pos 0)) }
+    {
+        let mut word = self.word.copied();
+        let (used, next) = values_in(
+            &mut word,
+            &self.bytes[self.place..self.end],
+            k,
+            values,
+            from,
+        );
+        self.word = word;
+        self.place += used;
+        next
     }
 
     /// Four bytes more in the word, where it has room for them.

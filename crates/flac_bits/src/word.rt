@@ -28,6 +28,17 @@ impl Word {
         Word { word: 0, count: 0 }
     }
 
+    /// The same bits in a word of its own.
+    #[inline(always)]
+    pub fn copied(&self) -> Word
+        ensures { result ≡ self.now }
+    {
+        Word {
+            word: self.word,
+            count: self.count,
+        }
+    }
+
     /// How many bits are held.
     #[inline(always)]
     pub fn count(&self) -> u32
@@ -93,6 +104,19 @@ impl Word {
         self.count += 32;
     }
 
+    /// Puts so many of eight bytes behind the bits held as there is room for, and answers how many.
+    #[inline(always)]
+    pub fn fill(&mut self, eight: u64) -> u32
+        ensures few { result ≤ 7 }
+        ensures put { self.new ≡ self.old ++ unsigned (8 * result) (eight / 2 ^ (64 - 8 * result)) }
+    {
+        let n = (63 - self.count) / 8;
+        let value = eight >> 1 >> (63 - 8 * n);
+        self.word += value << (64 - 8 * n - self.count);
+        self.count += 8 * n;
+        n
+    }
+
     /// Takes zeros and a one, where they are held and the zeros are within the limit.
     #[inline(always)]
     pub fn unary(&mut self, limit: u64) -> Option<u64>
@@ -120,6 +144,25 @@ impl Word {
         let zeros = (self.word | 1).leading_zeros();
         let used = zeros + 1 + k;
         if used <= self.count && u64::from(zeros) <= limit {
+            let low = (self.word << (zeros + 1)) >> 1 >> (63 - k);
+            self.word <<= used;
+            self.count -= used;
+            Some((u64::from(zeros) << k) + low)
+        } else {
+            None
+        }
+    }
+    /// Zeros, a one and k bits, where all are held.
+    #[inline(always)]
+    pub fn code(&mut self, k: u32) -> Option<u64>
+        requires { k ≤ 26 }
+        ensures some { IfSome result (λ v. (q : ℕ) × (low : ℕ) × (q ≤ 62) × (low < 2 ^ k) × (v ≡ q * 2 ^ k + low) × (self.old ≡ (unary_bits q ++ unsigned k low) ++ self.new)) }
+        ensures small { IfSome result (λ v. v ≤ 0xFFFF_FFFE) }
+        ensures none { result ≡ None → self.new ≡ self.old }
+    {
+        let zeros = (self.word | 1).leading_zeros();
+        let used = zeros + 1 + k;
+        if used <= self.count {
             let low = (self.word << (zeros + 1)) >> 1 >> (63 - k);
             self.word <<= used;
             self.count -= used;
