@@ -9,5 +9,6 @@ pub mod FrameTie
 pub mod Sounds
 pub mod Stood
 pub mod Encoded
+pub mod Short
 pub mod Wholes
 pub mod Encodings

@@ -21,9 +21,10 @@ use Rattle.flac_frame.specs.Audio.{Sound, IsSound, samples_each}
 use Rattle.flac_frame.specs.Frame.{side_bit, limits_at, each_fits}
 use Rattle.flac_frame.specs.Stereo.{joined}
 use Rattle.flac_frame.specs.Spelling.{frame_spelling, subframes_spelling, filled, checked, AreSubframes, HaveSamples}
-use Rattle.flac_frame.specs.Encoding.{block_of, WritesFrame, AreForms, WritesForms, end_spelling, whole_text, WritesWhole}
+use Rattle.flac_frame.specs.Encoding.{block_of, WritesFrame, AreForms, AreLeast, WritesForms, end_spelling, whole_text, WritesWhole}
 use Rattle.flac_frame.proofs.FrameTie.{end_is}
 use Rattle.flac_frame.proofs.Encoded.{IsBlock, plain_forms, okay, failed, is_block}
+use Rattle.flac_frame.proofs.Short.{all_short, parts_few, frame_short}
 use Rattle.flac_frame.proofs.Sounds.{depth_small}
 
 -- ---- header, subframes and end, one after another
@@ -31,6 +32,10 @@ use Rattle.flac_frame.proofs.Sounds.{depth_small}
 on_ok : {X P : Type 0} (result : Result X Why) → P → OnOk result P
 on_ok (Ok x) p = p
 on_ok (Err e) p = tt
+
+on_ok_map : {X P Q : Type 0} (result : Result X Why) → (P → Q) → OnOk result P → OnOk result Q
+on_ok_map (Ok x) f p = f p
+on_ok_map (Err e) f p = tt
 
 module _ (depth size : ℕ) (deep : 1 ≤ depth) (some : 1 ≤ size) (h : Header) (block : List (List ℤ)) (old : Written) where
   pub header_fails : (new : Written) (e : Why) → IsBlock depth size deep some block → Fails ((restarted old).bits ++ header_spelling h) (restarted old) new e → WritesWhole depth size h block old new (failed e)
@@ -177,9 +182,9 @@ as_coded : (code : ℕ) → code ≤ 7 → channels_of code ≡ code + 1
 as_coded code few = let a : nat_lt code 8 ≡ true = grind (arith, nat_tests) in rw a refl
 
 pub frame_encoded : {X : Type 0} (sound : Sound) (code size number : ℕ) (block : List (List ℤ)) (h : Header) (old new : Written) (result : Result X Why) → code ≤ 7 → number < 2 ^ 31 → old.mark.unread ≡ 0
-    → chosen_header size sound.rate code sound.bits number ≡ Some h → IsHeader h → code + 1 ≡ length block → All (λ s. All (FitsBits sound.bits) s) block → WritesWhole sound.bits size h block old new result → WritesFrame sound size number block old new result
+    → (1 ≤ sound.bits) × (sound.bits ≤ 32) → 1 ≤ size → size ≤ 65535 → All (λ s. length s ≡ size) block → chosen_header size sound.rate code sound.bits number ≡ Some h → IsHeader h → code + 1 ≡ length block → All (λ s. All (FitsBits sound.bits) s) block → WritesWhole sound.bits size h block old new result → WritesFrame sound size number block old new result
 unfolding frame_spelling
-frame_encoded sound code size number block h old new result independent small whole chosen valid each fits (fs, are, leasts, writes) =
+frame_encoded sound code size number block h old new result independent small whole deep some few long chosen valid each fits (fs, are, leasts, writes) =
     let depth : ℕ = sound.bits in
     let codes = codes_are (size_choice size) (rate_choice sound.rate) (depth_choice depth) size sound.rate code number h (sym (chosen_as size sound.rate code depth number (omega (arith, independent)) small) ∙ chosen) in
     let body : List Bool = header_spelling h ++ flat_map (subframe_spelling depth) fs in
@@ -190,7 +195,10 @@ frame_encoded sound code size number block h old new result independent small wh
     sym (append_assoc (header_spelling h) (flat_map (subframe_spelling depth) fs) _) ∙ ap (λ k. body ++ end_spelling k) at ∙ end_is body m (fresh_unread old.mark whole) (fresh_check16 old.mark whole)
     ∙ ap (λ t. checked (filled t)) body_is in
     let limits : Limits = limits_at sound.rate in
-    let have = subst (λ k. HaveSamples depth k h.size 0 fs block) (sym codes.0) (subst (λ n. HaveSamples depth code n 0 fs block) (sym codes.1) (samples_are depth code size independent 0 fs block are)) in (
+    let have = subst (λ k. HaveSamples depth k h.size 0 fs block) (sym codes.0) (subst (λ n. HaveSamples depth code n 0 fs block) (sym codes.1) (samples_are depth code size independent 0 fs block are)) in
+    let parts_are : subframes_spelling depth h.channel_code 0 fs ≡ flat_map (subframe_spelling depth) fs = ap (λ k. subframes_spelling depth k 0 fs) codes.0 ∙ texts_are depth code size independent 0 fs in
+    let short = λ (least : AreLeast depth fs block). frame_short depth (record { header = h; subframes = fs })
+    (omega (arith, ap (λ (t : List Bool). length t) parts_are, all_short depth deep.0 size fs block some long fits least, parts_few (length block) depth size (omega (arith, independent, each)) deep.1 few)) in (
       record { header = h; subframes = fs },
       record {
         code = code;
@@ -206,7 +214,7 @@ frame_encoded sound code size number block h old new result independent small wh
           fit = all_fit_in depth code size independent block fits;
         };
       },
-      leasts,
+      on_ok_map result (λ least. (least, short least)) leasts,
       subst (λ t. Writes t (restarted old) new result) text writes,
     )
 
@@ -239,13 +247,14 @@ module _ {V : Type 0} (items : V → List ℤ) (xs : List V) (sound : Sound) (go
       chosen_there size rate code bits number some few (ap (λ k. is_some (rate_choice k)) r ∙ good.rate) (ap (λ k. is_some (depth_choice k)) b ∙ good.bits) (omega (arith, c, few_channels.1)) small (sym is ∙ none)
 
   pub encoded_block : {X : Type 0} (start size rate code bits depth number : ℕ) (o : Option Header) (h : Header) (old new : Written) (result : Result X Why) → rate ≡ sound.rate → bits ≡ sound.bits → depth ≡ sound.bits → code ≡ length xs - 1
-      → 1 ≤ size → start + size ≤ samples_each sound.channels → number < 2 ^ 31 → old.mark.unread ≡ 0 → o ≡ chosen_header size rate code bits number → o ≡ Some h → IsHeader h
+      → 1 ≤ size → size ≤ 65535 → start + size ≤ samples_each sound.channels → number < 2 ^ 31 → old.mark.unread ≡ 0 → o ≡ chosen_header size rate code bits number → o ≡ Some h → IsHeader h
       → WritesWhole depth size h (block_of start size (map items xs)) old new result → WritesFrame sound size number (block_of start size sound.channels) old new result
-  encoded_block start size rate code bits depth number o h old new result r b d c some within small whole is there valid wrote =
+  encoded_block start size rate code bits depth number o h old new result r b d c some few within small whole is there valid wrote =
       let deep = bits_small sound.bits refl in
       let chosen : chosen_header size sound.rate code sound.bits number ≡ Some h = ap (λ k. chosen_header size k code sound.bits number) (sym r) ∙ ap (λ k. chosen_header size rate code k number) (sym b) ∙ sym is ∙ there in
       let block = is_block items sound.bits start size deep.0 some xs (each_long start size within, each_fits_in sound.bits refl) in
       let fits = subst (λ k. All (λ s. All (FitsBits sound.bits) s) (block_of start size k)) are block.1 in
+      let long = subst (λ k. All (λ s. length s ≡ size) (block_of start size k)) are block.0 in
       let block_long : length (block_of start size sound.channels) ≡ length xs = length-map sound.channels (λ c. take size (drop start c)) ∙ ap (λ (l : List (List ℤ)). length l) (sym are) ∙ length-map xs items in
       let wrote' = subst (λ k. WritesWhole sound.bits size h (block_of start size k) old new result) are (subst (λ k. WritesWhole k size h (block_of start size (map items xs)) old new result) d wrote) in
-      frame_encoded sound code size number (block_of start size sound.channels) h old new result (omega (arith, c, few_channels.1)) small whole chosen valid (omega (arith, c, few_channels.0, block_long)) fits wrote'
+      frame_encoded sound code size number (block_of start size sound.channels) h old new result (omega (arith, c, few_channels.1)) small whole deep some few long chosen valid (omega (arith, c, few_channels.0, block_long)) fits wrote'

@@ -1,5 +1,5 @@
 -- What encoding a frame writes.
-use Rattle.std.specs.Prelude.{◌≡◌, ℕ, ◌≤◌, ◌<◌, Bool, ℤ, List, [], ◌∷◌, ◌++◌, length, map, take, drop, flat_map, Some, Option, All, Result, OnOk, true, false, ⊤}
+use Rattle.std.specs.Prelude.{◌≡◌, ℕ, ◌≤◌, ◌<◌, Bool, ℤ, List, [], ◌∷◌, ◌++◌, ◌*◌, length, map, take, drop, flat_map, Some, Option, All, Result, OnOk, true, false, ⊤}
 use Rattle.flac_bits.specs.Bits.{unsigned}
 use Rattle.flac_bits.specs.State.{Mark, past, fresh}
 use Rattle.flac_bits.specs.Signed.{FitsBits}
@@ -56,9 +56,13 @@ AreLeast depth [] (s ∷ ss) = ⊥
 AreLeast depth (f ∷ fs) [] = ⊥
 AreLeast depth (f ∷ fs) (s ∷ ss) = IsLeastFor depth s f × AreLeast depth fs ss
 
--- at a whole byte, where the checks begin, the spelling of such a frame was written; one that was written whole has the least subframes
+-- a frame of at most 16777215 bytes
+abbrev pub IsShort : ℕ → FrameForm → Type 0
+IsShort depth f = length (frame_spelling depth f) ≤ 8 * 16777215
+
+-- at a whole byte, where the checks begin, the spelling of such a frame was written; one that was written whole has the least subframes, and is short
 abbrev pub WritesFrame : {X : Type 0} → Sound → (size number : ℕ) → List (List ℤ) → Written → Written → Result X Why → Type 0
-WritesFrame sound size number block old new result = (f : FrameForm) × IsEncoding sound size number block f × OnOk result (AreLeast sound.bits f.subframes block) × Writes (frame_spelling sound.bits f) (restarted old) new result
+WritesFrame sound size number block old new result = (f : FrameForm) × IsEncoding sound size number block f × OnOk result (AreLeast sound.bits f.subframes block × IsShort sound.bits f) × Writes (frame_spelling sound.bits f) (restarted old) new result
 
 -- What is encoded of samples of the format that STREAMINFO tells has a header of that format, which the subset allows where the block is not too long for its
 -- rate; and where the header keeps the rules behind what the frames before leave, it is a frame of the block.

@@ -23,5 +23,5 @@ returns g c =
     let e = c.channels-channels.ensures in
     let n : ℕ = length c.args.samples.now in
     encoded_block (λ v. v.items) c.channels-channels.result.now c.args.audio.now e.sound e.items c.args.start n c.rate.result (length c.channels-channels.result.now - 1) c.bits.result c.bits-depth.result c.args.number c.chosen-header.result c.in-Some.header
-    c.args.writer.now c.write_frame.new.writer c.write_frame.result c.rate.ensures c.bits.ensures c.bits-depth.ensures refl (omega (arith, c.requires.some)) c.requires.within c.requires.number c.requires.whole c.chosen-header.ensures.chosen c.in-Some.is
+    c.args.writer.now c.write_frame.new.writer c.write_frame.result c.rate.ensures c.bits.ensures c.bits-depth.ensures refl (omega (arith, c.requires.some)) c.requires.few c.requires.within c.requires.number c.requires.whole c.chosen-header.ensures.chosen c.in-Some.is
     c.in-Some.ensures.valid c.write_frame.ensures
