@@ -174,3 +174,11 @@ bytes_grow t w v z small adds =
     let b = fresh_bytes w.mark z in
     let after : v.mark.bytes ≡ min (w.mark.bytes + (length t + 7 - 0) / 8) (2 ^ 64 - 1) = ap (λ (m : Mark). m.bytes) adds.mark ∙ past-bytes t 0 w.mark.bytes (fresh w.mark) u (omega arith) b (omega (arith, small)) in
     omega (arith, after, small)
+
+-- a short frame adds few bytes to the count
+pub short_bytes : (t : List Bool) (w v : Written) → w.mark.unread ≡ 0 → w.mark.bytes < 2 ^ 64 → Adds t (restarted w) v → length t ≤ 8 * 16777215 → v.mark.bytes - w.mark.bytes ≤ 16777215
+short_bytes t w v z small adds short =
+    let u = fresh_unread w.mark z in
+    let b = fresh_bytes w.mark z in
+    let after : v.mark.bytes ≡ min (w.mark.bytes + (length t + 7 - 0) / 8) (2 ^ 64 - 1) = ap (λ (m : Mark). m.bytes) adds.mark ∙ past-bytes t 0 w.mark.bytes (fresh w.mark) u (omega arith) b (omega (arith, small)) in
+    omega (arith, after, small, short)

@@ -5,6 +5,7 @@ use Rattle.flac_bits.specs.Sending.{Sends}
 use Rattle.flac_bits.specs.declared.target.Target as target
 use Rattle.flac_bits.proofs.Holding.{bits_of-append}
 use Rattle.flac_meta.specs.Listed.{list_fault, info_seen}
+use Rattle.flac_meta.specs.Valid.{AllAre, FitsFields}
 use Rattle.flac_meta.specs.declared.block.Block.{Block}
 use Rattle.flac_meta.specs.declared.block.Block.TheVariants as block_of
 use Rattle.flac_frame.specs.Audio.{Sound}
@@ -49,9 +50,9 @@ module _ {S : Type 0} (g : target.Ghosts S) where
   }
 
 -- these bytes are a stream of what was given
-pub given_encodes : (p : Cut) (list : List Block) (a : Sound) (least greatest : ℕ) (head frames : List ℕ) (before : List Bool) → plan_fault p ≡ None → fits_plan p a ≡ true → list_fault info_seen list ≡ None
+pub given_encodes : (p : Cut) (list : List Block) (a : Sound) (least greatest : ℕ) (head frames : List ℕ) (before : List Bool) → plan_fault p ≡ None → fits_plan p a ≡ true → list_fault info_seen list ≡ None → AllAre FitsFields list
     → bits_of head ≡ head_spelling (info_of p a least greatest) list → IsEncoded p a (bits_of frames) least greatest → Encodes p list a before (before ++ bits_of (head ++ frames))
-given_encodes p list a least greatest head frames before good fits may is e =
+given_encodes p list a least greatest head frames before good fits may fields is e =
     let marker : List Bool = unsigned 32 0x664C6143 in
     let blocks = blocks_spelling (block_of.StreamInfo (info_of p a least greatest) ∷ list) in
     record {
@@ -61,7 +62,7 @@ given_encodes p list a least greatest head frames before good fits may is e =
       are = e.are;
       sizes = e.sizes;
       written = ap (λ k. before ++ k) (bits_of-append head frames ∙ ap (λ k. k ++ bits_of frames) is ∙ append_assoc marker blocks (bits_of frames) ∙ ap (λ k. marker ++ (blocks ++ k)) e.spelled);
-      stream = λ fields. streams.encoded_are_streams p list a least greatest e.frames good fits may fields e.are e.sizes;
+      stream = streams.encoded_are_streams p list a least greatest e.frames good fits may fields e.are e.sizes;
     }
 
 -- all of its bytes were sent

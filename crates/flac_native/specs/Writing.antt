@@ -69,8 +69,7 @@ pub record IsEncoded (p : Cut) (a : Sound) (text : List Bool) (least greatest : 
   pub sizes : AreSizes frames least greatest
   pub spelled : text ≡ joined frames
 
--- Behind the bits that were there, a stream of what was given was written: all frames of the samples, whose least and greatest sizes STREAMINFO tells. It is a
--- stream where each field of the blocks is of its width.
+-- Behind the bits that were there, a stream of what was given was written: all frames of the samples, whose least and greatest sizes STREAMINFO tells.
 pub record Encodes (p : Cut) (list : List Block) (a : Sound) (before after : List Bool) : Type 0 where
   pub least : ℕ
   pub greatest : ℕ
@@ -78,7 +77,7 @@ pub record Encodes (p : Cut) (list : List Block) (a : Sound) (before after : Lis
   pub are : AreFrames p a frames
   pub sizes : AreSizes frames least greatest
   pub written : after ≡ before ++ stream_spelling p list a least greatest frames
-  pub stream : AllAre FitsFields list → Stream grammar opening (beginning Truncated) (given p list a least greatest) (stream_spelling p list a least greatest frames)
+  pub stream : Stream grammar opening (beginning Truncated) (given p list a least greatest) (stream_spelling p list a least greatest frames)
 
 -- What was written is a beginning of such a stream, behind the bits that were there.
 pub record BeginsEncoding (p : Cut) (list : List Block) (a : Sound) (before after : List Bool) : Type 0 where

@@ -97,9 +97,6 @@ fn encode_frames(alloc: Global, plan: &Plan, audio: &Audio) -> Result<Frames, Wh
         let before = writer.bytes_written();
         encode_frame(audio, start..end, number, &mut buffers, &mut writer)?;
         let bytes = writer.bytes_written() - before;
-        if bytes > 16777215 {
-            return Err(Why::Memory);
-        }
         least = least_with(number, least, bytes);
         greatest = greatest_with(greatest, bytes);
         number += 1;

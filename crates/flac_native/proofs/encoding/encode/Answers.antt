@@ -14,7 +14,7 @@ returns-in-Ok-send_stream-clause-written g c = λ known.
     let old = g.W.Target.sent c.args.target.now in
     let head = ap bits_of c.as_slice.ensures.value ∙ c.in-Ok-head_of.ensures ∙ ap (λ i. head_spelling i list) c.info_of-info.ensures in
     let frames = subst (λ k. IsEncoded p a (bits_of k) least greatest) (sym c.as_slice-2.ensures.value) c.in-Ok.ensures.encoded in
-    let whole = given_encodes p list a least greatest c.as_slice.result.now c.as_slice-2.result.now (bits_of old) c.block_size-size.ensures.good c.requires c.blocks-blocks.ensures.good head frames in
+    let whole = given_encodes p list a least greatest c.as_slice.result.now c.as_slice-2.result.now (bits_of old) c.block_size-size.ensures.good c.requires c.blocks-blocks.ensures.good c.blocks-blocks.ensures.fits head frames in
     all_sent p list a _ old _ whole (c.in-Ok-send_stream.ensures.sent known)
 
 pub returns-clause-begun : goal.returns-clause-begun
@@ -27,6 +27,6 @@ returns-clause-begun g c = λ is known.
     let old = g.W.Target.sent c.args.target.now in
     let head = ap bits_of c.as_slice.ensures.value ∙ c.in-Ok-head_of.ensures ∙ ap (λ i. head_spelling i list) c.info_of-info.ensures in
     let frames = subst (λ k. IsEncoded p a (bits_of k) least greatest) (sym c.as_slice-2.ensures.value) c.in-Ok.ensures.encoded in
-    let whole = given_encodes p list a least greatest c.as_slice.result.now c.as_slice-2.result.now (bits_of old) c.block_size-size.ensures.good c.requires c.blocks-blocks.ensures.good head frames in
+    let whole = given_encodes p list a least greatest c.as_slice.result.now c.as_slice-2.result.now (bits_of old) c.block_size-size.ensures.good c.requires c.blocks-blocks.ensures.good c.blocks-blocks.ensures.fits head frames in
     let begun = c.in-Err.ensures.begun known in
     some_sent p list a _ begun.0 begun.1 old _ whole begun.2 begun.3
