@@ -1,15 +1,15 @@
 -- Frames that are encoded one after another.
-use Rattle.std.proofs.Common.{◌≡◌, ℕ, zero, suc, ◌+◌, ◌-◌, ◌*◌, ◌/◌, ◌%◌, ◌^◌, ◌<◌, ◌≤◌, min, max, Bool, true, false, cond, nat_eq, List, [], ◌∷◌, ◌++◌, length, length-append, append_assoc, get_or, refl, sym, ap, subst, ◌∙◌, arith, ◌⊎◌, inl, inr}
+use Rattle.std.proofs.Common.{◌≡◌, ℕ, zero, suc, ◌+◌, ◌-◌, ◌*◌, ◌/◌, ◌%◌, ◌^◌, ◌<◌, ◌≤◌, min, max, Bool, true, false, cond, nat_eq, List, [], ◌∷◌, ◌++◌, length, length-append, get_or, refl, sym, ap, subst, ◌∙◌, arith, ◌⊎◌, inl, inr}
 use Rattle.std.proofs.lemmas.Bool.{cases_lt}
 use Rattle.std.proofs.lemmas.Bool.Decides.{nat_tests}
 use Rattle.std.proofs.lemmas.List.{append-nil}
 use Rattle.std.proofs.Math.ListN.{get_or-append}
 use Rattle.std.proofs.Math.Seq.{get_or-append_seam}
-use Rattle.std.proofs.Math.Nat.{mul-le-mul_left, mul-suc, lt_of_mul-lt-mul_left}
+use Rattle.std.proofs.Math.Nat.{lt_of_mul-lt-mul_left}
 use Rattle.std.specs.Borrow.{GName}
 use Rattle.flac_bits.specs.Bits.{bits_of}
 use Rattle.flac_bits.specs.declared.why.Why.TheVariants.{Truncated}
-use Rattle.flac_bits.specs.State.{Mark, past, fresh}
+use Rattle.flac_bits.specs.State.{Mark, fresh}
 use Rattle.flac_bits.specs.Forms.{joined}
 use Rattle.flac_bits.specs.Written.{Written, Adds}
 use Rattle.flac_bits.proofs.ItemSpellings.{fresh_unread, behind_whole}
@@ -21,7 +21,7 @@ use Rattle.flac_frame.specs.Encoding.{IsEncoding, block_of}
 use Rattle.flac_frame.specs.Spelling.{FrameForm, frame_spelling}
 use Rattle.flac_frame.proofs.FrameTie.{frames_bytes}
 use Rattle.flac_native.specs.Given.{Cut, blocks_in, size_of, frame_of}
-use Rattle.flac_native.specs.Writing.{SpellsFrame, AreFrames, AreSizes, IsEncoded}
+use Rattle.flac_native.specs.Writing.{SpellsFrame, AreSizes, IsEncoded}
 use Rattle.flac_native.proofs.Encoded.{least_part, all_parts}
 
 -- ---- sizes
@@ -174,3 +174,11 @@ bytes_grow t w v z small adds =
     let b = fresh_bytes w.mark z in
     let after : v.mark.bytes ≡ min (w.mark.bytes + (length t + 7 - 0) / 8) (2 ^ 64 - 1) = ap (λ (m : Mark). m.bytes) adds.mark ∙ past-bytes t 0 w.mark.bytes (fresh w.mark) u (omega arith) b (omega (arith, small)) in
     omega (arith, after, small)
+
+-- a short frame adds few bytes to the count
+pub short_bytes : (t : List Bool) (w v : Written) → w.mark.unread ≡ 0 → w.mark.bytes < 2 ^ 64 → Adds t (restarted w) v → length t ≤ 8 * 16777215 → v.mark.bytes - w.mark.bytes ≤ 16777215
+short_bytes t w v z small adds short =
+    let u = fresh_unread w.mark z in
+    let b = fresh_bytes w.mark z in
+    let after : v.mark.bytes ≡ min (w.mark.bytes + (length t + 7 - 0) / 8) (2 ^ 64 - 1) = ap (λ (m : Mark). m.bytes) adds.mark ∙ past-bytes t 0 w.mark.bytes (fresh w.mark) u (omega arith) b (omega (arith, small)) in
+    omega (arith, after, small, short)

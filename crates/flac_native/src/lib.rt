@@ -23,6 +23,7 @@ mod plan;
 mod promises;
 mod sink;
 mod steps;
+mod subset;
 mod track;
 
 pub use decoder::Decoder;
