@@ -186,6 +186,27 @@ rice_taken w z k c wide le is fits =
     ∙ ap (λ j. unary_bits z ++ (low ++ unsigned j (w * 2 ^ (z + 1 + k) % 2 ^ 64 / 2 ^ (64 - j)))) n
     ∙ sym (append_assoc (unary_bits z) low (unsigned (c - (z + 1 + k)) (w * 2 ^ (z + 1 + k) % 2 ^ 64 / 2 ^ (64 - (c - (z + 1 + k))))))
 
+-- the one and the k bits as one number
+module _ (w z k c : ℕ) (wide : w < 2 ^ 64) (le : c ≤ 63) (is : z ≡ leading_zeros w64 (bit_or w 1)) (fits : z + 1 + k ≤ c) where
+  abbrev both : ℕ
+  both = w / 2 ^ (64 - (z + 1 + k))
+
+  one : both / 2 ^ k ≡ 1
+  one =
+      let s : 64 - (z + 1 + k) + k ≡ 1 + (63 - (z + 1)) = omega (arith, fits, le) in
+      shr-shr w (64 - (z + 1 + k)) k ∙ ap (λ j. w / 2 ^ j) s ∙ sym (shr-shr w 1 (63 - (z + 1))) ∙ top_one w z c wide le is (omega (arith, fits))
+
+  pub both_is : both ≡ 2 ^ k + both % 2 ^ k
+  both_is = sym (shr_split both k) ∙ ap (λ q. q * 2 ^ k + both % 2 ^ k) one ∙ omega arith
+
+  pub code_taken : unsigned c (w / 2 ^ (64 - c)) ≡ (unary_bits z ++ unsigned k (both % 2 ^ k)) ++ unsigned (c - (z + 1 + k)) (w * 2 ^ (z + 1 + k) % 2 ^ 64 / 2 ^ (64 - (c - (z + 1 + k))))
+  code_taken =
+      let rest = unsigned (c - (z + 1 + k)) (w * 2 ^ (z + 1 + k) % 2 ^ 64 / 2 ^ (64 - (c - (z + 1 + k)))) in
+      let s : 1 + (63 - (z + 1 + k)) ≡ 64 - (z + 1 + k) = omega (arith, fits, le) in
+      let e : z + 1 ≡ suc z = omega arith in
+      taken w (z + 1 + k) c fits le ∙ ap (λ v. unsigned (z + 1 + k) v ++ rest) (shr-shr w 1 (63 - (z + 1 + k)) ∙ ap (λ j. w / 2 ^ j) s)
+      ∙ ap (λ bs. bs ++ rest) (split (z + 1) k both ∙ ap (λ v. unsigned (z + 1) v ++ unsigned k both) one ∙ ap (λ j. unsigned j 1 ++ unsigned k both) e ∙ ap (λ bs. bs ++ unsigned k both) (one_bits z) ∙ ap (λ bs. unary_bits z ++ bs) (sym (unsigned-mod k both)))
+
 pub shifted_small : (w n : ℕ) → w * 2 ^ n % 2 ^ 64 < 2 ^ 64
 shifted_small w n = mod_below (w * 2 ^ n) (2 ^ 64) (pow_pos 64)
 

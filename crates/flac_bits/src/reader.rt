@@ -181,9 +181,28 @@ impl<R: Source> BitReader<R> {
         self.take_more(n)
     }
 
+    /// The same where the word has not all of them: it is filled first, and above 32 bits twice.
     #[inline(never)]
+    #[tactic(auto, using(crate::proofs::Loops::number_halves))]
     fn take_more(&mut self, n: u32) -> Result<u64, Why>
         requires { n ≤ 64 }
+        ensures small { IfOk result (λ v. v < 2 ^ n) }
+        ensures spends { OnOk result (self.new.most + n ≤ self.old.most) }
+        ensures counts { Counts self.old self.new result }
+        ensures memory { IfErr result (λ e. e ≢ Why.Memory) }
+        ensures reads { Gives (λ v. v) (number_at n self.old.cursor) self.old self.new result }
+    {
+        if n <= 32 {
+            return self.take_few(n);
+        }
+        let high = self.take_few(n - 32)?;
+        let low = self.take_few(32)?;
+        Ok((high << 32) + low)
+    }
+
+    /// The next n bits, at most 32.
+    fn take_few(&mut self, n: u32) -> Result<u64, Why>
+        requires { n ≤ 32 }
         ensures small { IfOk result (λ v. v < 2 ^ n) }
         ensures spends { OnOk result (self.new.most + n ≤ self.old.most) }
         ensures counts { Counts self.old self.new result }

@@ -12,9 +12,6 @@ use crate::word::Word;
 /// The greatest Rice parameter under which a value is within its range wherever the word has all of its code.
 pub const MOST_READY: u32 = 26;
 
-/// How many values are taken at most before the word is filled again.
-const AT_ONCE: usize = 4;
-
 /// Four bytes as a number, the first of them highest.
 #[inline(always)]
 pub fn four_bytes(bytes: &[u8], place: usize) -> u32
@@ -80,11 +77,13 @@ pub fn values_in(
     ensures read { (text : List Bool) × (word.old ++ bits_of (take result.0 bytes.now) ≡ text ++ word.new) × IsRead k text values.old from values.new result.1 }
     ensures fits { ((j : ℕ) → j < from → IsResidual (get_or values.old j (pos 0))) → (j : ℕ) → j < result.1 → IsResidual (get_or values.new j (pos 0)) }
 {
+    // so many values as a filled word nearly always has: where it has fewer, a jump is foretold wrongly
+    let at_once = 56 / (k as usize + 3);
     let mut used = 0;
     let mut i = from;
     while bytes.len() - used >= 8 && i < values.len() {
         used += word.fill(eight_bytes(bytes, used)) as usize;
-        let to = i + AT_ONCE.min(values.len() - i);
+        let to = i + at_once.min(values.len() - i);
         let next = values_held(word, k, values, i, to);
         if next == i {
             return (used, i);

@@ -163,10 +163,10 @@ impl Word {
         let zeros = (self.word | 1).leading_zeros();
         let used = zeros + 1 + k;
         if used <= self.count {
-            let low = (self.word << (zeros + 1)) >> 1 >> (63 - k);
+            let one_and_low = self.word >> (64 - used);
             self.word <<= used;
             self.count -= used;
-            Some((u64::from(zeros) << k) + low)
+            Some((u64::from(zeros) << k) + (one_and_low - (1 << k)))
         } else {
             None
         }
