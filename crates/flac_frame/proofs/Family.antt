@@ -1,7 +1,7 @@
 -- The frames of the family, and the least of them.
-use Rattle.std.proofs.Common.{◌≡◌, ◌∙◌, refl, sym, ap, subst, ℕ, suc, ◌+◌, ◌-◌, ◌*◌, ◌%◌, ◌≤◌, ◌<◌, ◌^◌, arith, ℤ, Bool, true, false, cond, ◌||◌, nat_eq, nat_lt, nat_le, List, [], ◌∷◌, ◌++◌, length, length-append, Option, Some, None, flat_map}
+use Rattle.std.proofs.Common.{◌≡◌, ◌∙◌, refl, sym, ap, subst, ℕ, ◌+◌, ◌-◌, ◌%◌, ◌≤◌, ◌<◌, ◌^◌, arith, ℤ, Bool, true, false, cond, ◌||◌, nat_lt, nat_le, List, [], ◌∷◌, ◌++◌, length, length-append, Option, Some, None, flat_map}
 use Rattle.std.proofs.lemmas.Bool.Decides.{nat_tests}
-use Rattle.flac_header.specs.Header.{Header, channels_of}
+use Rattle.flac_header.specs.Header.{Header}
 use Rattle.flac_header.specs.Choice.{size_choice, rate_choice, depth_choice, with_codes, chosen_header}
 use Rattle.flac_header.specs.Spelling.{header_spelling}
 use Rattle.flac_subframe.specs.Spelling.{subframe_spelling}

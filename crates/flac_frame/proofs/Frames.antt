@@ -1,28 +1,21 @@
 -- A frame of channels each by itself, as it is written.
-use Rattle.std.proofs.Common.{◌≡◌, ◌∙◌, refl, sym, ap, subst, ℕ, suc, ◌+◌, ◌-◌, ◌≤◌, ◌<◌, ◌^◌, arith, ℤ, Bool, true, false, cond, nat_eq, nat_lt, nat_le, List, [], ◌∷◌, ◌++◌, append_assoc, length, map, Option, Some, None, is_some, Result, Ok, Err, OnOk, All, flat_map, take, drop, get_or}
+use Rattle.std.proofs.Common.{◌≡◌, ◌∙◌, refl, sym, ap, subst, ℕ, ◌+◌, ◌-◌, ◌≤◌, ◌<◌, ◌^◌, arith, ℤ, Bool, true, nat_lt, List, [], ◌∷◌, length, map, Option, Some, None, is_some, Result, All, flat_map, take, drop, get_or}
 use Rattle.std.proofs.lemmas.Bool.Decides.{nat_tests}
 use Rattle.std.proofs.lemmas.List.Elements.{All-nil, All-cons, All-head, All-tail}
 use Rattle.std.proofs.lemmas.List.{length-map}
-use Rattle.flac_bits.specs.State.{Mark, past, fresh}
 use Rattle.flac_bits.specs.Signed.{FitsBits}
-use Rattle.flac_bits.specs.Written.{Written, Adds, Fails, Writes}
+use Rattle.flac_bits.specs.Written.{Written, Writes}
 use Rattle.flac_bits.specs.declared.why.Why.{Why}
-use Rattle.flac_bits.proofs.Laws.{past-append}
-use Rattle.flac_bits.proofs.Writing.{fails_first, fails_then, writes_then}
-use Rattle.flac_bits.proofs.ItemSpellings.{fresh_unread, fresh_check16}
 use Rattle.flac_header.specs.Header.{Header, IsHeader, channels_of}
-use Rattle.flac_header.specs.Choice.{size_choice, rate_choice, depth_choice, with_codes, chosen_header}
-use Rattle.flac_header.specs.Spelling.{header_spelling, restarted}
+use Rattle.flac_header.specs.Choice.{size_choice, rate_choice, depth_choice, chosen_header}
+use Rattle.flac_header.specs.Spelling.{restarted}
 use Rattle.flac_subframe.specs.declared.limits.Limits.{Limits}
-use Rattle.flac_subframe.specs.Spelling.{subframe_spelling, IsSubframe}
-use Rattle.flac_subframe.specs.Subframe.{Form, samples_of}
-use Rattle.flac_subframe.proofs.Samples.{all_fit_is}
+use Rattle.flac_subframe.specs.Spelling.{subframe_spelling}
 use Rattle.flac_frame.specs.Audio.{Sound, IsSound, samples_each}
-use Rattle.flac_frame.specs.Frame.{side_bit, limits_at, each_fits}
+use Rattle.flac_frame.specs.Frame.{limits_at}
 use Rattle.flac_frame.specs.Stereo.{joined}
-use Rattle.flac_frame.specs.Spelling.{frame_spelling, subframes_spelling, filled, checked, AreSubframes, HaveSamples}
-use Rattle.flac_frame.specs.Encoding.{block_of, IsEncoding, WritesFrame, AreForms, AreLeast, WritesForms, end_spelling, whole_text, WritesWhole}
-use Rattle.flac_frame.proofs.FrameTie.{end_is}
+use Rattle.flac_frame.specs.Spelling.{subframes_spelling, HaveSamples}
+use Rattle.flac_frame.specs.Encoding.{block_of, IsEncoding, WritesFrame, AreLeast, WritesWhole}
 use Rattle.flac_frame.proofs.Encoded.{is_block, part_fits}
 use Rattle.flac_frame.proofs.Short.{all_short, parts_few, frame_short}
 use Rattle.flac_frame.proofs.Family.{independent_least}

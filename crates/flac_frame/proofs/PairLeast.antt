@@ -1,5 +1,5 @@
 -- The least frame of two channels.
-use Rattle.std.proofs.Common.{◌≡◌, ◌∙◌, refl, sym, ap, subst, inl, inr, ℕ, suc, ◌+◌, ◌-◌, ◌*◌, ◌≤◌, ◌<◌, ◌^◌, ◌⊎◌, arith, ℤ, Bool, true, false, cond, nat_eq, nat_lt, List, [], ◌∷◌, ◌++◌, length, length-append, Option, Some, None, Result, All}
+use Rattle.std.proofs.Common.{◌≡◌, ◌∙◌, refl, sym, ap, subst, inl, inr, ℕ, ◌+◌, ◌*◌, ◌≤◌, ◌<◌, arith, ℤ, Bool, true, false, cond, nat_eq, nat_lt, List, [], ◌∷◌, ◌++◌, length, length-append, Option, Some, Result, All}
 use Rattle.std.proofs.lemmas.Bool.Decides.{nat_tests}
 use Rattle.std.proofs.lemmas.List.{append-nil}
 use Rattle.std.proofs.lemmas.Nat.{mul-le}
@@ -15,8 +15,8 @@ use Rattle.flac_subframe.specs.Spelling.{subframe_spelling, IsSubframe}
 use Rattle.flac_subframe.specs.Subframe.{Form, samples_of}
 use Rattle.flac_subframe.proofs.Samples.{all_fit_is}
 use Rattle.flac_frame.specs.Audio.{Sound}
-use Rattle.flac_frame.specs.Encoding.{EachStands, IsEncoding, IsOfFamily, IsLeastFrame, IsShort, WritesFrame, behind_header, subframes_cost}
-use Rattle.flac_frame.specs.Frame.{side_bit, limits_at, each_fits}
+use Rattle.flac_frame.specs.Encoding.{EachStands, IsEncoding, IsLeastFrame, IsShort, WritesFrame, behind_header, subframes_cost}
+use Rattle.flac_frame.specs.Frame.{side_bit, limits_at}
 use Rattle.flac_frame.specs.Pair.{IsPairCode, pair_cost, IsFirstLeast, IsChosen}
 use Rattle.flac_frame.specs.Spelling.{FrameForm, frame_spelling, subframes_spelling, HaveSamples}
 use Rattle.flac_frame.specs.Stereo.{joined, kept_as, side_of, middle_of, ChannelsAreKept}

@@ -1,8 +1,7 @@
 -- A whole frame, as it is written.
-use Rattle.std.proofs.Common.{◌≡◌, ◌∙◌, refl, sym, ap, subst, ℕ, suc, ◌+◌, ◌-◌, ◌≤◌, ◌<◌, ◌^◌, arith, ℤ, Bool, true, false, cond, nat_eq, nat_lt, nat_le, List, [], ◌∷◌, ◌++◌, append_assoc, length, map, Option, Some, None, is_some, Result, Ok, Err, OnOk, All, flat_map, take, drop}
+use Rattle.std.proofs.Common.{◌≡◌, ◌∙◌, refl, sym, ap, subst, ℕ, suc, ◌+◌, ◌≤◌, ◌<◌, ◌^◌, arith, ℤ, Bool, true, false, cond, nat_eq, nat_lt, nat_le, List, [], ◌∷◌, ◌++◌, append_assoc, length, Option, Some, None, is_some, Result, Ok, Err, OnOk, All, flat_map}
 use Rattle.std.proofs.lemmas.Bool.Decides.{nat_tests}
-use Rattle.std.proofs.lemmas.List.Elements.{All-nil, All-cons, All-head, All-tail}
-use Rattle.std.proofs.lemmas.List.{length-map}
+use Rattle.std.proofs.lemmas.List.Elements.{All-head, All-tail}
 use Rattle.flac_bits.specs.State.{Mark, past, fresh}
 use Rattle.flac_bits.specs.Signed.{FitsBits}
 use Rattle.flac_bits.specs.Written.{Written, Adds, Fails, Writes}
@@ -10,21 +9,19 @@ use Rattle.flac_bits.specs.declared.why.Why.{Why}
 use Rattle.flac_bits.proofs.Laws.{past-append}
 use Rattle.flac_bits.proofs.Writing.{fails_first, fails_then, writes_then}
 use Rattle.flac_bits.proofs.ItemSpellings.{fresh_unread, fresh_check16}
-use Rattle.flac_header.specs.Header.{Header, IsHeader, channels_of}
+use Rattle.flac_header.specs.Header.{Header}
 use Rattle.flac_header.specs.Choice.{size_choice, rate_choice, depth_choice, with_codes, chosen_header}
 use Rattle.flac_header.specs.Spelling.{header_spelling, restarted}
 use Rattle.flac_subframe.specs.declared.limits.Limits.{Limits}
 use Rattle.flac_subframe.specs.Spelling.{subframe_spelling, IsSubframe}
 use Rattle.flac_subframe.specs.Subframe.{Form, samples_of}
 use Rattle.flac_subframe.proofs.Samples.{all_fit_is}
-use Rattle.flac_frame.specs.Audio.{Sound, IsSound, samples_each}
-use Rattle.flac_frame.specs.Frame.{side_bit, limits_at, each_fits}
+use Rattle.flac_frame.specs.Frame.{side_bit, each_fits}
 use Rattle.flac_frame.specs.Stereo.{joined}
 use Rattle.flac_frame.specs.Spelling.{frame_spelling, subframes_spelling, filled, checked, AreSubframes, HaveSamples}
-use Rattle.flac_frame.specs.Encoding.{block_of, WritesFrame, AreForms, AreLeast, WritesForms, end_spelling, behind_header, WritesWhole}
+use Rattle.flac_frame.specs.Encoding.{AreForms, WritesForms, end_spelling, behind_header, WritesWhole}
 use Rattle.flac_frame.proofs.FrameTie.{end_is}
-use Rattle.flac_frame.proofs.Encoded.{IsBlock, plain_forms, okay, failed, is_block}
-use Rattle.flac_frame.proofs.Sounds.{depth_small}
+use Rattle.flac_frame.proofs.Encoded.{IsBlock, plain_forms, okay, failed}
 
 -- ---- header, subframes and end, one after another
 

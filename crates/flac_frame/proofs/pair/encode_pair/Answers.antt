@@ -1,4 +1,4 @@
-use Rattle.std.proofs.Common.{◌≡◌, ◌∙◌, ap, subst, sym, ℕ, List, [], ◌∷◌, length, take, drop, All, arith}
+use Rattle.std.proofs.Common.{◌≡◌, ◌∙◌, ap, subst, sym, ℕ, [], ◌∷◌, length, take, drop, All, arith}
 use Rattle.flac_bits.specs.Signed.{FitsBits}
 use Rattle.flac_frame.specs.Encoding.{block_of, WritesFrame}
 use Rattle.flac_frame.proofs.Frames.{two_blocks, part_small, part_wide}

@@ -1,4 +1,4 @@
-use Rattle.std.proofs.Common.{◌≡◌, ◌∙◌, ap, subst, sym, refl, ◌+◌, ◌≤◌, ℕ, length, is_some, All, arith}
+use Rattle.std.proofs.Common.{◌∙◌, ap, subst, sym, refl, ◌+◌, ℕ, length, is_some, All, arith}
 use Rattle.flac_header.specs.Choice.{rate_choice, depth_choice}
 use Rattle.flac_bits.specs.Signed.{FitsBits}
 use Rattle.flac_frame.specs.Stereo.{side_of, middle_of}
