@@ -11,4 +11,8 @@ pub mod Stood
 pub mod Encoded
 pub mod Short
 pub mod Wholes
+pub mod Family
+pub mod Frames
+pub mod Pairs
+pub mod PairLeast
 pub mod Encodings

@@ -8,7 +8,7 @@ use Rattle.flac_bits.specs.Bits.{unsigned, bit_value}
 use Rattle.flac_bits.specs.Check.{remainder}
 use Rattle.flac_bits.specs.Coded.{six_bits, in_bytes, number_spelling}
 use Rattle.flac_bits.specs.Forms.{joined}
-use Rattle.flac_bits.specs.Signed.{signed, FitsBits}
+use Rattle.flac_bits.specs.Signed.{FitsBits}
 use Rattle.flac_bits.proofs.Words.{length-unsigned}
 use Rattle.flac_header.specs.Header.{Header}
 use Rattle.flac_header.specs.Spelling.{size_spelling, rate_spelling, header_parts, header_front, header_spelling}
