@@ -1,14 +1,10 @@
-//! Every change of one byte and every cut of small streams, samples at the ends of 32 bits, and a quotient that does not end.
-
-ghost use Rattle.std.specs.Prelude.{◌+◌, length, false, []};
-ghost use Rattle.flac_bits.specs.State.{the_end};
+//! Every change of one bit and every cut of small streams, and samples at the ends of 32 bits.
 
 use crate::row_tests::{ALTERNATING, HEAD, LEFT_SIDE, RAMP, answers, stream_of};
 use crate::runs::run;
-use crate::tests::{DECODE, TEST, Wanted, expect};
-use flac_bits::{Collected, Memory, Source};
+use crate::tests::{DECODE, Wanted, expect};
+use flac_bits::{Collected, Memory};
 use std::alloc::Global;
-use std::io;
 use std::process::Abort;
 use std::test::Fail;
 
@@ -27,14 +23,14 @@ fn refused_in_frame(rt: &impl Abort, alloc: Global, input: &[u8], place: usize, 
     );
 }
 
-/// Each change of one byte of a frame to each other value.
+/// Each change of one bit, and of all bits of one byte, of a frame.
 #[test]
 fn each_change(rt: HostRuntime) -> Result<(), Fail> {
     let rows: [(u8, &[u8]); 3] = [(1, &RAMP), (1, &ALTERNATING), (2, &LEFT_SIDE)];
     for (channels, frame) in rows {
         let mut input = stream_of(rt.alloc(), 4096, channels, &[frame])?;
         for place in HEAD.len()..input.len() {
-            for change in 1..=255u8 {
+            for change in [1, 2, 4, 8, 16, 32, 64, 128, 255] {
                 input[place] ^= change;
                 refused_in_frame(&rt, rt.alloc(), input.as_slice(), place, change);
                 input[place] ^= change;
@@ -90,75 +86,5 @@ fn extremes(rt: HostRuntime) -> Result<(), Fail> {
         err: "",
     };
     expect(&rt, rt.alloc(), DECODE, input.as_slice(), 0, &wanted);
-    Ok(())
-}
-
-/// Some bytes, and zeros behind them.
-#[derive(Drop)]
-struct Zeros<'a> {
-    front: &'a [u8],
-    zeros: u64,
-}
-
-impl Source for Zeros<'_> {
-    ghost known = { λ _. false };
-
-    ghost coming = { λ _. [] };
-
-    ghost behind = { λ _. the_end };
-
-    ghost errors = { λ _. 0 };
-
-    ghost raised = { λ _. 0 };
-
-    ghost most = { λ s. length s.front.now + s.zeros };
-
-    ghost names = { λ _. [] };
-
-    fn pull(&mut self, buf: &mut [u8]) -> io::Result<usize> {
-        let front = self.front;
-        let n = front.len().min(buf.len());
-        if n > 0 {
-            buf[..n].copy_from_slice(&front[..n]);
-            self.front = &front[n..];
-            return Ok(n);
-        }
-        let most = self.zeros.min(buf.len() as u64);
-        buf[..most as usize].fill(0);
-        self.zeros -= most;
-        Ok(most as usize)
-    }
-}
-
-/// How many zeros stand behind the front: more than a frame may have bytes.
-const ZEROS: u64 = 1 << 25;
-
-/// The greatest number of bytes of a frame.
-const LONGEST: u64 = 16777215;
-
-/// A quotient whose zeros do not end within the longest frame. No more is read of it than the reader holds at once.
-#[test]
-fn endless_quotient(rt: HostRuntime) -> Result<(), Fail> {
-    let start: [u8; 9] = [0xFF, 0xF8, 0x69, 0x08, 0x00, 0x0F, 0x30, 0x10, 0x00];
-    let front = stream_of(rt.alloc(), 4096, 1, &[&start])?;
-    let mut source = Zeros {
-        front: front.as_slice(),
-        zeros: ZEROS,
-    };
-    let mut file = Collected::new(rt.alloc());
-    let mut out = Collected::new(rt.alloc());
-    let mut err = Collected::new(rt.alloc());
-    let status = run(
-        rt.alloc(),
-        &TEST,
-        &mut source,
-        &mut file,
-        &mut out,
-        &mut err,
-    );
-    assert!(rt; status == 1);
-    assert!(rt; err.bytes() == b"flac: a.flac: frame 0: 25 FrameTooLong\n".as_slice());
-    assert!(rt; source.zeros <= ZEROS - (LONGEST - 9));
-    assert!(rt; source.zeros >= ZEROS - LONGEST - 4096);
     Ok(())
 }

@@ -1,4 +1,4 @@
-use Rattle.std.proofs.Common.{◌≡◌, ◌∙◌, None, subst, map}
+use Rattle.std.proofs.Common.{rules, ◌≡◌, ◌∙◌, None, subst, map}
 use Rattle.flac_bits.specs.Bits.{bits_of}
 use Rattle.flac_native.specs.Given.{cut_of, plan_fault}
 use Rattle.flac_native.specs.Writing.{Encodes}
@@ -12,7 +12,7 @@ returns g c = λ known told.
     let words = map (λ word. word.now) c.args.comments.now in
     let before = bits_of (g.W.Target.sent c.args.target.now) in
     let after = bits_of (g.W.Target.sent c.encode.new.target) in
-    let plan = c.in_ok-plan.ensures in
+    let plan : c.in_ok-plan.plan ≡ cut_of c.args.format.block audio = search rules in
     let raw = c.in_ok-audio.ensures known in
     let good : plan_fault (cut_of c.args.format.block audio) ≡ None = subst (λ p. plan_fault p ≡ None) plan c.block_size-size.ensures.good in
     let all : Encodes (cut_of c.args.format.block audio) (comment_list words) audio before after =
