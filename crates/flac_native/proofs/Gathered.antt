@@ -17,7 +17,7 @@ use Rattle.flac_bits.proofs.Marks.{past-bytes}
 use Rattle.flac_meta.proofs.Tied.{joined_append}
 use Rattle.flac_header.specs.Spelling.{restarted}
 use Rattle.flac_frame.specs.Audio.{Sound, samples_each}
-use Rattle.flac_frame.specs.Encoding.{IsEncoding, block_of}
+use Rattle.flac_frame.specs.Encoding.{IsEncoding, IsLeastFrame, block_of}
 use Rattle.flac_frame.specs.Spelling.{FrameForm, frame_spelling}
 use Rattle.flac_frame.proofs.FrameTie.{frames_bytes}
 use Rattle.flac_native.specs.Given.{Cut, blocks_in, size_of, frame_of}
@@ -129,18 +129,20 @@ sizes_with (x ∷ xs) t (suc n) least greatest bytes many e s =
     subst (λ b. AreSizes (snoc (x ∷ xs) t) (cond b bytes (min least bytes)) (max greatest bytes)) (sym later) (more_sizes (x ∷ xs) t least greatest bytes (omega arith) e s)
 
 pub gathered_more : (p : Cut) (a : Sound) (w v : Written) (number least greatest bytes start n : ℕ) (f : FrameForm) → Gathered p a w number least greatest → number < 2 ^ 31
-    → start ≡ p.block_size * number → n ≡ size_of p.block_size (samples_each a.channels) number → IsEncoding a n number (block_of start n a.channels) f
+    → start ≡ p.block_size * number → n ≡ size_of p.block_size (samples_each a.channels) number → IsEncoding a n number (block_of start n a.channels) f → IsLeastFrame a n number (block_of start n a.channels) f
     → Adds (frame_spelling a.bits f) (restarted w) v → bytes ≡ v.mark.bytes - w.mark.bytes → bytes ≤ 16777215 → Gathered p a v (number + 1) (least_with number least bytes) (max greatest bytes)
-gathered_more p a w v number least greatest bytes start n f g small start_is n_is encoded adds is few =
+gathered_more p a w v number least greatest bytes start n f g small start_is n_is encoded chosen adds is few =
     let encoding : IsEncoding a (size_of p.block_size (samples_each a.channels) number) number (block_of (p.block_size * number) (size_of p.block_size (samples_each a.channels) number) a.channels) f =
     subst (λ k. IsEncoding a k number (block_of (p.block_size * number) k a.channels) f) n_is (subst (λ k. IsEncoding a n number (block_of k n a.channels) f) start_is encoded) in
+    let least_frame : IsLeastFrame a (size_of p.block_size (samples_each a.channels) number) number (block_of (p.block_size * number) (size_of p.block_size (samples_each a.channels) number) a.channels) f =
+    subst (λ k. IsLeastFrame a k number (block_of (p.block_size * number) k a.channels) f) n_is (subst (λ k. IsLeastFrame a n number (block_of k n a.channels) f) start_is chosen) in
     let t = frame_spelling a.bits f in
     let whole = frames_bytes a.bits f in
     let u = fresh_unread w.mark g.whole in
     let b = fresh_bytes w.mark g.whole in
     let after : v.mark.bytes ≡ min (w.mark.bytes + (length t + 7 - 0) / 8) (2 ^ 64 - 1) = ap (λ (m : Mark). m.bytes) adds.mark ∙ past-bytes t 0 w.mark.bytes (fresh w.mark) u (omega arith) b (omega (arith, g.count, small)) in
     let k = counted w.mark.bytes (length t) v.mark.bytes bytes (omega (arith, g.count, small)) whole after is few in
-    let here : SpellsFrame a (frame_of p.block_size a number) t = record { form = f; encoding = encoding; spelling = refl; short = omega (arith, k.0, few) } in
+    let here : SpellsFrame a (frame_of p.block_size a number) t = record { form = f; encoding = encoding; least = least_frame; spelling = refl; short = omega (arith, k.0, few) } in
     record {
       frames = snoc g.frames t;
       many = omega (arith, length-snoc g.frames t, g.many);

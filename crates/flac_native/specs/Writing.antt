@@ -11,7 +11,7 @@ use Rattle.flac_meta.specs.Valid.{AllAre, FitsFields}
 use Rattle.flac_meta.specs.declared.block.Block.{Block}
 use Rattle.flac_meta.specs.declared.block.Block.TheVariants as blocks
 use Rattle.flac_frame.specs.Audio.{Sound, samples_each}
-use Rattle.flac_frame.specs.Encoding.{IsEncoding}
+use Rattle.flac_frame.specs.Encoding.{IsEncoding, IsLeastFrame}
 use Rattle.flac_frame.specs.Frame.{Frame}
 use Rattle.flac_frame.specs.Spelling.{FrameForm, frame_spelling}
 use Rattle.flac_native.specs.Decoding.{beginning}
@@ -20,10 +20,11 @@ use Rattle.flac_native.specs.Given.{Cut, fits_plan, blocks_in, plan_fault, info_
 
 -- ---- frames
 
--- The bits spell a frame of a block of samples, in at most 16777215 bytes, as STREAMINFO tells (RFC 9639, section 8.2).
+-- The bits spell a frame of a block of samples, the least of its family, in at most 16777215 bytes, as STREAMINFO tells (RFC 9639, section 8.2).
 pub record SpellsFrame (a : Sound) (f : Frame) (text : List Bool) : Type 0 where
   pub form : FrameForm
   pub encoding : IsEncoding a f.size f.number f.channels form
+  pub least : IsLeastFrame a f.size f.number f.channels form
   pub spelling : text ≡ frame_spelling a.bits form
   pub short : length text ≤ 8 * 16777215
 
