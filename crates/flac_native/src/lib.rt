@@ -21,6 +21,7 @@ mod part;
 mod phase;
 mod plan;
 mod promises;
+mod rows;
 mod sink;
 mod steps;
 mod subset;
