@@ -14,7 +14,7 @@ pub const MOST_READY: u32 = 26;
 
 /// Four bytes as a number, the first of them highest.
 #[inline(always)]
-pub fn four_bytes(bytes: &[u8], place: usize) -> u32
+pub(crate) fn four_bytes(bytes: &[u8], place: usize) -> u32
     requires { place + 4 ≤ length bytes.now }
     ensures { unsigned 32 result ≡ bits_of (four_at bytes.now place) }
 {
@@ -63,7 +63,7 @@ fn values_held(word: &mut Word, k: u32, values: &mut [i64], from: usize, to: usi
 /// Fills the places from one on with residual values, as far as the word and the bytes behind it have them, and answers how many
 /// bytes came into the word, and where it stopped.
 #[inline(always)]
-pub fn values_in(
+pub(crate) fn values_in(
     word: &mut Word,
     bytes: &[u8],
     k: u32,

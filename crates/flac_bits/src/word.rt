@@ -22,7 +22,7 @@ impl Model for Word {
 }
 
 impl Word {
-    pub fn empty() -> Word
+    pub(crate) fn empty() -> Word
         ensures { result ≡ [] }
     {
         Word { word: 0, count: 0 }
@@ -30,7 +30,7 @@ impl Word {
 
     /// The same bits in a word of its own.
     #[inline(always)]
-    pub fn copied(&self) -> Word
+    pub(crate) fn copied(&self) -> Word
         ensures { result ≡ self.now }
     {
         Word {
@@ -41,7 +41,7 @@ impl Word {
 
     /// How many bits are held.
     #[inline(always)]
-    pub fn count(&self) -> u32
+    pub(crate) fn count(&self) -> u32
         ensures { (result ≡ length self.now) × (result ≤ 63) }
     {
         self.count
@@ -49,7 +49,7 @@ impl Word {
 
     /// The first n bits as a number.
     #[inline(always)]
-    pub fn take(&mut self, n: u32) -> u64
+    pub(crate) fn take(&mut self, n: u32) -> u64
         requires { n ≤ length self.old }
         ensures { (self.old ≡ unsigned n result ++ self.new) × (result < 2 ^ n) }
     {
@@ -74,7 +74,7 @@ impl Word {
 
     /// Keeps the first n bits alone.
     #[inline(always)]
-    pub fn keep(&mut self, n: u32)
+    pub(crate) fn keep(&mut self, n: u32)
         requires few { n ≤ 63 }
         requires held { n ≤ length self.old }
         ensures { (rest : List Bool) × (self.old ≡ self.new ++ rest) × (length self.new ≡ n) }
@@ -85,7 +85,7 @@ impl Word {
 
     /// Holds one byte.
     #[inline(always)]
-    pub fn of_byte(byte: u8) -> Word
+    pub(crate) fn of_byte(byte: u8) -> Word
         ensures { result ≡ unsigned 8 byte }
     {
         Word {
@@ -96,7 +96,7 @@ impl Word {
 
     /// Puts 32 bits behind those held.
     #[inline(always)]
-    pub fn put(&mut self, value: u32)
+    pub(crate) fn put(&mut self, value: u32)
         requires { length self.old < 32 }
         ensures { self.new ≡ self.old ++ unsigned 32 value }
     {
@@ -106,7 +106,7 @@ impl Word {
 
     /// Puts so many of eight bytes behind the bits held as there is room for, and answers how many.
     #[inline(always)]
-    pub fn fill(&mut self, eight: u64) -> u32
+    pub(crate) fn fill(&mut self, eight: u64) -> u32
         ensures few { result ≤ 7 }
         ensures put { self.new ≡ self.old ++ unsigned (8 * result) (eight / 2 ^ (64 - 8 * result)) }
     {
@@ -119,7 +119,7 @@ impl Word {
 
     /// Takes zeros and a one, where they are held and the zeros are within the limit.
     #[inline(always)]
-    pub fn unary(&mut self, limit: u64) -> Option<u64>
+    pub(crate) fn unary(&mut self, limit: u64) -> Option<u64>
         ensures some { IfSome result (λ q. (q ≤ limit) × (self.old ≡ unary_bits q ++ self.new)) }
         ensures none { result ≡ None → self.new ≡ self.old }
     {
@@ -135,7 +135,7 @@ impl Word {
 
     /// Zeros, a one and k bits, where all are held and the zeros are within the limit.
     #[inline(always)]
-    pub fn rice(&mut self, k: u32, limit: u64) -> Option<u64>
+    pub(crate) fn rice(&mut self, k: u32, limit: u64) -> Option<u64>
         requires k { k ≤ 30 }
         requires limit { limit < 2 ^ 32 }
         ensures some { IfSome result (λ v. (q : ℕ) × (low : ℕ) × (q ≤ limit) × (low < 2 ^ k) × (v ≡ q * 2 ^ k + low) × (self.old ≡ (unary_bits q ++ unsigned k low) ++ self.new)) }
@@ -154,7 +154,7 @@ impl Word {
     }
     /// Zeros, a one and k bits, where all are held.
     #[inline(always)]
-    pub fn code(&mut self, k: u32) -> Option<u64>
+    pub(crate) fn code(&mut self, k: u32) -> Option<u64>
         requires { k ≤ 26 }
         ensures some { IfSome result (λ v. (q : ℕ) × (low : ℕ) × (q ≤ 62) × (low < 2 ^ k) × (v ≡ q * 2 ^ k + low) × (self.old ≡ (unary_bits q ++ unsigned k low) ++ self.new)) }
         ensures small { IfSome result (λ v. v ≤ 0xFFFF_FFFE) }

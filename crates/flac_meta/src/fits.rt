@@ -125,7 +125,7 @@ fn block_fits(block: &Block)
 }
 
 /// The numbers and bytes of all blocks.
-pub fn blocks_fit(blocks: &[Block])
+pub(crate) fn blocks_fit(blocks: &[Block])
     ensures { AllAre FitsFields blocks.now }
 {
     for block in blocks {
