@@ -3,3 +3,4 @@ pub mod PageReads
 pub mod Turns
 pub mod Stepping
 pub mod Exits
+pub mod PacketMeaning

@@ -37,7 +37,7 @@ the_ahead lacing bytes fault stop = record { lacing = lacing; bytes = bytes; fau
 abbrev pub the_behind : Option (ℕ × Why) → Bool → List ℕ → List ℕ → Option (ℕ × Why) → Behind
 the_behind fails cut pieces bytes stop = record { fails = fails; cut = cut; pieces = pieces; bytes = bytes; stop = stop; fenced = [] }
 
-behind_is : (f f' : Option (ℕ × Why)) (cut cut' : Bool) (pieces pieces' bytes bytes' : List ℕ) (s s' : Option (ℕ × Why)) → f ≡ f' → cut ≡ cut' → pieces ≡ pieces' → bytes ≡ bytes' → s ≡ s' → the_behind f cut pieces bytes s ≡ the_behind f' cut' pieces' bytes' s'
+pub behind_is : (f f' : Option (ℕ × Why)) (cut cut' : Bool) (pieces pieces' bytes bytes' : List ℕ) (s s' : Option (ℕ × Why)) → f ≡ f' → cut ≡ cut' → pieces ≡ pieces' → bytes ≡ bytes' → s ≡ s' → the_behind f cut pieces bytes s ≡ the_behind f' cut' pieces' bytes' s'
 behind_is f f' cut cut' pieces pieces' bytes bytes' s s' e1 e2 e3 e4 e5 = rw (e1, e2, e3, e4, e5) refl
 
 -- within a packet the next lacing value takes the place of what it says
@@ -130,10 +130,10 @@ closed_ahead old o small l la e = (rw (l, la) refl, rw (la, e) (go o))
 
 -- ---- the packet's bytes, by what good pages give
 
-rest_same : (r r' : ℕ) (m m' : Bool) (a a' : Ahead) → r ≡ r' → m ≡ m' → a ≡ a' → rest_in r m a ≡ rest_in r' m' a'
+pub rest_same : (r r' : ℕ) (m m' : Bool) (a a' : Ahead) → r ≡ r' → m ≡ m' → a ≡ a' → rest_in r m a ≡ rest_in r' m' a'
 rest_same r r' m m' a a' e1 e2 e3 = ap (λ k. rest_in k m a) e1 ∙ ap (λ k. rest_in r' k a) e2 ∙ ap (λ k. rest_in r' m' k) e3
 
-behind_same : (r r' : ℕ) (m m' : Bool) (a a' : Ahead) → r ≡ r' → m ≡ m' → a ≡ a' → behind_in r m a ≡ behind_in r' m' a'
+pub behind_same : (r r' : ℕ) (m m' : Bool) (a a' : Ahead) → r ≡ r' → m ≡ m' → a ≡ a' → behind_in r m a ≡ behind_in r' m' a'
 behind_same r r' m m' a a' e1 e2 e3 = ap (λ k. behind_in k m a) e1 ∙ ap (λ k. behind_in r' k a) e2 ∙ ap (λ k. behind_in r' m' k) e3
 
 pub same_ahead : (old new : Place) → new.rest ≡ old.rest → new.more ≡ old.more → ahead new ≡ ahead old → Same old new

@@ -1,3 +1,4 @@
 pub mod Page
 pub mod Pages
 pub mod Packets
+pub mod Given
