@@ -233,7 +233,8 @@ impl<R: Source> Pages<R> {
 
     /// Whether the bytes that were taken end with a packet, or none was begun.
     pub fn is_between_packets(&self) -> bool
-        ensures { result ≡ true → (self.now.rest ≡ 0) × (self.now.more ≡ false) }
+        ensures between { result ≡ true → (self.now.rest ≡ 0) × (self.now.more ≡ false) }
+        ensures exact { self.now.rest ≡ 0 → self.now.more ≡ false → result ≡ true }
     {
         self.rest == 0 && !self.more
     }
