@@ -145,9 +145,6 @@ pub(crate) fn encode_raw<R: Source, W: Target>(
     let plan = Plan::new(format.block, &audio)?;
     let _size = plan.block_size();
     let list = comment_list(alloc, comments)?;
-    if !plan.fits(&audio) {
-        return Err(Refusal::RawLength);
-    }
     encode(alloc, &plan, &list, &audio, target)?;
     Ok(())
 }
