@@ -1,6 +1,6 @@
 -- Whole bytes of the word that are given back to the array, and bytes that are copied out of it.
-use Rattle.std.proofs.Common.{◌≡◌, ℕ, ◌+◌, ◌-◌, ◌*◌, ◌<◌, ◌≤◌, Bool, List, [], ◌∷◌, ◌++◌, length, drop, take, refl, sym, ap, ◌∙◌, arith, append_assoc}
-use Rattle.std.proofs.lemmas.List.{append-nil, drop-take, length-take, length-drop, length-append, take_at, take-append-drop, drop-append-le, append_cancel_left, drop-drop, take-take}
+use Rattle.std.proofs.Common.{◌≡◌, ℕ, ◌+◌, ◌-◌, ◌*◌, ◌≤◌, Bool, List, [], ◌++◌, length, drop, take, refl, sym, ap, ◌∙◌, arith, append_assoc}
+use Rattle.std.proofs.lemmas.List.{append-nil, drop-take, length-append, take_at, take-append-drop, append_cancel_left, drop-drop}
 use Rattle.std.specs.List.{slice_range}
 use Rattle.flac_bits.specs.Bits.{bits_of}
 use Rattle.flac_bits.specs.State.{Mark, past}
@@ -9,7 +9,7 @@ use Rattle.flac_bits.proofs.Holding.{length-bits_of, bits_of-append, passed_is}
 use Rattle.flac_bits.proofs.Laws.{past-append}
 use Rattle.flac_bits.proofs.Partly.{held_fits, slice_is, begun_long}
 
-same_parts : (a b c d : List Bool) → a ++ b ≡ c ++ d → length b ≡ length d → (a ≡ c) × (b ≡ d)
+pub same_parts : (a b c d : List Bool) → a ++ b ≡ c ++ d → length b ≡ length d → (a ≡ c) × (b ≡ d)
 same_parts a b c d e same =
     let long : length a ≡ length c = omega (arith, length-append a b, length-append c d, ap (λ (x : List Bool). length x) e, same) in
     let front : a ≡ c = sym (take_at a b (length a) refl) ∙ ap (take (length a)) e ∙ take_at c d (length a) (sym long) in

@@ -14,7 +14,7 @@ use Rattle.flac_bits.proofs.Appending.{shl_kept}
 abbrev whole : ℕ
 whole = 18446744073709551616
 
-one_shifted : (k : ℕ) → k ≤ 32 → 1 * 2 ^ k % whole ≡ 2 ^ k
+pub one_shifted : (k : ℕ) → k ≤ 32 → 1 * 2 ^ k % whole ≡ 2 ^ k
 one_shifted k le = let e : 1 * 2 ^ k ≡ 2 ^ k = omega arith in shl_whole 1 1 k 64 (omega arith) (omega (arith, le)) ∙ e
 
 pub low_is : (k v : ℕ) → k ≤ 32 → v % (1 * 2 ^ k % whole) ≡ v % 2 ^ k

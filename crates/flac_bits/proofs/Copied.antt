@@ -5,7 +5,7 @@ use Rattle.std.proofs.Math.Seq.{take-add}
 use borrow.Rule.Slice.PartMut.{put_mid}
 use Rattle.flac_bits.specs.Bits.{unsigned, bits_of}
 use Rattle.flac_bits.specs.State.{Mark, Cursor, past, Consumes}
-use Rattle.flac_bits.specs.Layout.{bits, run, and_then, because, Reason, number_at}
+use Rattle.flac_bits.specs.Layout.{bits, run, because, Reason}
 use Rattle.flac_bits.specs.declared.why.Why.{Why}
 use Rattle.flac_bits.specs.Lists.{list_of}
 use Rattle.flac_bits.proofs.Holding.{length-bits_of, bits_of-append}

@@ -1,9 +1,9 @@
 -- The remainder after eight bytes, and after one, by the tables.
-use Rattle.std.proofs.Common.{◌≡◌, ℕ, zero, suc, ◌+◌, ◌-◌, ◌*◌, ◌/◌, ◌%◌, ◌^◌, ◌<◌, ◌≤◌, List, [], ◌∷◌, ◌++◌, length, take, drop, get_or, bit_xor, refl, sym, ap, ◌∙◌, arith}
+use Rattle.std.proofs.Common.{◌≡◌, ℕ, ◌+◌, ◌-◌, ◌*◌, ◌/◌, ◌%◌, ◌^◌, ◌<◌, ◌≤◌, List, [], ◌∷◌, ◌++◌, length, take, drop, get_or, bit_xor, refl, sym, ap, ◌∙◌, arith}
 use Rattle.std.specs.List.{slice_range}
 use Rattle.std.specs.Int.Bits.{xor_zero_l}
-use Rattle.std.proofs.lemmas.Nat.{xor_lt, shr_below}
-use Rattle.std.proofs.lemmas.List.{drop-take, take-append-drop, length-take, length-drop, take_all}
+use Rattle.std.proofs.lemmas.Nat.{xor_lt}
+use Rattle.std.proofs.lemmas.List.{take-append-drop, length-drop, take_all}
 use Rattle.std.proofs.Math.Seq.{take-add}
 use Rattle.flac_bits.specs.Bits.{unsigned, bits_of}
 use Rattle.flac_bits.specs.Check.{remainder, fed}

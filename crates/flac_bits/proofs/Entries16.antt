@@ -1,5 +1,5 @@
 -- The tables of remainders at width 16, checked by computation.
-use Rattle.std.proofs.Common.{◌≡◌, ℕ, ◌<◌, List, [], ◌∷◌, length, get_or, refl}
+use Rattle.std.proofs.Common.{◌≡◌, ℕ, ◌<◌, List, [], ◌∷◌, get_or, refl}
 use Rattle.flac_bits.proofs.Slicing.{entry, moved, entries, run_of, table_start, table_next}
 use Rattle.flac_bits.proofs.Check.{times}
 

@@ -1,15 +1,13 @@
 -- A fence in what a reader stands at.
-use Rattle.std.proofs.Common.{◌≡◌, ℕ, zero, suc, ◌+◌, ◌-◌, ◌*◌, ◌<◌, ◌≤◌, Bool, true, false, cond, List, [], ◌∷◌, ◌++◌, length, take, drop, Option, Some, None, refl, sym, ap, ◌∙◌, arith, append_assoc}
+use Rattle.std.proofs.Common.{◌≡◌, ℕ, zero, suc, ◌+◌, ◌-◌, ◌*◌, Bool, true, false, cond, List, [], ◌∷◌, ◌++◌, length, take, drop, Some, None, refl, sym, ap, ◌∙◌, arith, append_assoc}
 use Rattle.std.specs.Prelude.{nat_le}
 use Rattle.std.specs.Borrow.{GName}
-use Rattle.std.proofs.lemmas.List.{length-append, length-take, length-drop, append-nil}
+use Rattle.std.proofs.lemmas.List.{length-append, length-take, length-drop}
 use Rattle.std.proofs.Math.Seq.{take-append-add, drop-append-add}
 use Rattle.flac_bits.specs.Bits.{unsigned, bits_of}
-use Rattle.flac_bits.specs.State.{Mark, Cursor, State, Behind, with_short, short_of}
-use Rattle.flac_bits.specs.Fence.{fenced}
-use Rattle.flac_bits.specs.Fencing.{all_left, lifted, fence_at}
-use Rattle.flac_bits.specs.Store.{Store, Fence, allowed, forbidden, reached, left_of, fenced_of, most_of, reason_of, state_of}
-use Rattle.flac_bits.specs.declared.why.Why.{Why}
+use Rattle.flac_bits.specs.State.{State, Behind, short_of}
+use Rattle.flac_bits.specs.Fencing.{lifted, fence_at}
+use Rattle.flac_bits.specs.Store.{Store, allowed, forbidden, left_of, fenced_of, most_of, reason_of, state_of}
 use Rattle.flac_bits.specs.declared.why.Why.TheVariants.{FrameTooLong}
 use Rattle.flac_bits.proofs.Holding.{length-bits_of, bits_of-append}
 use Rattle.flac_bits.proofs.Coming.{take_over, drop_over, same_test}

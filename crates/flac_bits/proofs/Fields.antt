@@ -1,15 +1,14 @@
 -- Fields that are held.
-use Rattle.std.proofs.Common.{◌≡◌, ℕ, zero, suc, ◌+◌, ◌-◌, ◌*◌, ◌/◌, ◌%◌, ◌^◌, ◌<◌, ◌≤◌, Bool, true, false, nat_eq, List, [], ◌∷◌, ◌++◌, length, Option, Some, None, Result, Ok, Err, refl, sym, ap, ◌∙◌, arith, append_assoc}
+use Rattle.std.proofs.Common.{◌≡◌, ℕ, zero, suc, ◌+◌, ◌*◌, ◌^◌, ◌<◌, ◌≤◌, Bool, nat_eq, List, [], ◌∷◌, ◌++◌, length, Some, Ok, Err, refl, sym, ap, ◌∙◌, arith, append_assoc}
 use Rattle.std.proofs.lemmas.List.{length-append}
 use Rattle.flac_bits.specs.Bits.{unsigned, bits_of}
 use Rattle.flac_bits.specs.State.{Mark, Cursor, step, past, with_short}
 use Rattle.flac_bits.specs.declared.why.Why.{Why}
 use Rattle.flac_bits.specs.Store.{Store, Takes}
 use Rattle.flac_bits.specs.Meaning.{unary_bits}
-use Rattle.flac_bits.specs.Layout.{next_bit, number_at, zeros_at, Reason, run}
+use Rattle.flac_bits.specs.Layout.{next_bit, number_at, zeros_at, run}
 use Rattle.flac_bits.specs.Rice.{rice}
-use Rattle.flac_bits.proofs.Laws.{at_, number_again, zeros_again, past-append}
-use Rattle.flac_bits.proofs.Words.{length-unsigned}
+use Rattle.flac_bits.proofs.Laws.{number_again, zeros_again, past-append}
 
 -- what a store and the bits behind it stand at
 abbrev pub cursor_of : Why → Store → List Bool → Cursor

@@ -1,10 +1,10 @@
 -- Bytes that were pulled, and the word.
-use Rattle.std.proofs.Common.{◌≡◌, ℕ, zero, suc, ◌+◌, ◌-◌, ◌*◌, ◌/◌, ◌%◌, ◌^◌, ◌<◌, ◌≤◌, Bool, true, false, nat_eq, List, [], ◌∷◌, ◌++◌, length, take, drop, get_or, min, refl, sym, ap, ◌∙◌, arith, append_assoc}
+use Rattle.std.proofs.Common.{◌≡◌, ℕ, suc, ◌+◌, ◌-◌, ◌*◌, ◌^◌, ◌<◌, ◌≤◌, Bool, List, [], ◌∷◌, ◌++◌, length, take, drop, get_or, refl, sym, ap, ◌∙◌, arith, append_assoc}
 use Rattle.std.proofs.lemmas.List.{take_at, take_more, drop-append-le, get_or-take, length-take, length-append, append-nil}
 use Rattle.std.proofs.Math.Seq.{drop-cons}
-use Rattle.std.proofs.lemmas.Nat.{pow_pos, pow-add, shr_high}
+use Rattle.std.proofs.lemmas.Nat.{shr_high}
 use Rattle.flac_bits.specs.Bits.{unsigned, bits_of}
-use Rattle.flac_bits.specs.State.{Mark, past, step}
+use Rattle.flac_bits.specs.State.{Mark, past}
 use Rattle.flac_bits.specs.Store.{passed, four_at}
 use Rattle.flac_bits.proofs.Laws.{unsigned_low, past-append}
 use Rattle.flac_bits.proofs.Words.{split, length-unsigned}

@@ -34,3 +34,4 @@ pub mod Entries8
 pub mod Entries16
 pub mod Entries32
 pub mod Eights
+pub mod Stretches

@@ -1,8 +1,11 @@
 -- One more turn of a loop that reads.
-use Rattle.std.proofs.Common.{◌≡◌, ℕ, suc, ◌+◌, ◌-◌, ◌*◌, ◌<◌, ◌≤◌, true, cond, Result, Ok, Some, None, refl, sym, ap, ◌∙◌, arith}
+use Rattle.std.proofs.Common.{◌≡◌, ℕ, zero, suc, ◌+◌, ◌-◌, ◌*◌, ◌%◌, ◌^◌, ◌<◌, ◌≤◌, Bool, List, [], ◌∷◌, true, cond, Result, Ok, Err, Some, None, refl, sym, ap, ◌∙◌, arith}
 use Rattle.flac_bits.specs.Bits.{bit_value}
-use Rattle.flac_bits.specs.State.{Cursor, State}
-use Rattle.flac_bits.specs.Layout.{next_bit, number_from, zeros_from, and_then, Reason}
+use Rattle.std.proofs.Math.Nat.{pow-suc}
+use Rattle.std.proofs.lemmas.Nat.{pow-add, shl_whole, mul-add-lt}
+use Rattle.flac_bits.specs.State.{Mark, Cursor, State, step}
+use Rattle.flac_bits.proofs.Laws.{at_}
+use Rattle.flac_bits.specs.Layout.{next_bit, number_at, number_from, zeros_from, and_then, Reason}
 use Rattle.flac_bits.specs.Reading.{Goes}
 
 pub number_more : (n i value : ℕ) (c : Cursor) → i < n → number_from (n - i) value c ≡ and_then (next_bit c) (λ b d. number_from (n - (i + 1)) (2 * value + bit_value b) d)
@@ -10,6 +13,46 @@ unfolding number_from
 number_more n i value c lt =
     let k : n - i ≡ suc (n - (i + 1)) = omega arith in
     rw k refl
+
+abbrev read : ℕ × Cursor → Result (ℕ × Cursor) Reason
+read x = Ok x
+
+-- what stands before a number counts by its place
+behind_number : (b value : ℕ) (left : List Bool) (m : Mark) → number_from b value (at_ left m) ≡ and_then (number_from b 0 (at_ left m)) (λ low e. read (value * 2 ^ b + low, e))
+unfolding number_from next_bit
+behind_number zero value left m = ap (λ k. read (k, at_ left m)) (omega arith)
+behind_number (suc b) value [] m = refl
+behind_number (suc b) value (x ∷ left) m =
+    behind_number b (2 * value + bit_value x) left (step x m) ∙ twice (number_from b 0 (at_ left (step x m)))
+    ∙ sym (ap (λ r. and_then r (λ low e. read (value * 2 ^ suc b + low, e))) (behind_number b (2 * 0 + bit_value x) left (step x m)))
+  where
+    place : (low : ℕ) → (2 * value + bit_value x) * 2 ^ b + low ≡ value * 2 ^ suc b + ((2 * 0 + bit_value x) * 2 ^ b + low)
+    place low = rw pow-suc (grind arith)
+
+    twice : (r : Result (ℕ × Cursor) Reason) → and_then r (λ low e. read ((2 * value + bit_value x) * 2 ^ b + low, e)) ≡ and_then (and_then r (λ low e. read ((2 * 0 + bit_value x) * 2 ^ b + low, e))) (λ low e. read (value * 2 ^ suc b + low, e))
+    twice (Ok y) = ap (λ k. read (k, y.1)) (place y.0)
+    twice (Err e) = refl
+
+halves : (a b value : ℕ) (left : List Bool) (m : Mark) → number_from (a + b) value (at_ left m) ≡ and_then (number_from a value (at_ left m)) (λ high d. and_then (number_from b 0 d) (λ low e. read (high * 2 ^ b + low, e)))
+unfolding number_from next_bit
+halves zero b value left m = let k : 0 + b ≡ b = omega arith in rw k (behind_number b value left m)
+halves (suc a) b value [] m = let k : suc a + b ≡ suc (a + b) = omega arith in rw k refl
+halves (suc a) b value (x ∷ left) m = let k : suc a + b ≡ suc (a + b) = omega arith in rw k (halves a b (2 * value + bit_value x) left (step x m))
+
+-- a number of more than 32 bits is read in two parts
+pub number_halves : (n : ℕ) (c : Cursor) → 32 < n → number_at n c ≡ and_then (number_at (n - 32) c) (λ high d. and_then (number_at 32 d) (λ low e. Ok (high * 2 ^ 32 + low, e)))
+unfolding number_at
+number_halves n c lt = let k : n ≡ n - 32 + 32 = omega (arith, lt) in ap (λ j. number_from j 0 c) k ∙ halves (n - 32) 32 0 c.left c.mark
+
+pub halves_joined : (n high low : ℕ) → n ≤ 64 → high < 2 ^ (n - 32) → high * 4294967296 % 18446744073709551616 + low ≡ high * 2 ^ 32 + low
+halves_joined n high low few fits = ap (λ v. v + low) (shl_whole high (n - 32) 32 64 fits (omega (arith, few)))
+
+pub halves_fit : (n high low : ℕ) → 32 < n → n ≤ 64 → high < 2 ^ (n - 32) → low < 2 ^ 32 → high * 4294967296 % 18446744073709551616 + low < 2 ^ n
+halves_fit n high low more few fits lt =
+    let p : 2 ^ (n - 32 + 32) ≡ 2 ^ (n - 32) * 2 ^ 32 = pow-add 2 (n - 32) 32 in
+    let k : n - 32 + 32 ≡ n = omega (arith, more) in
+    let below : high * 2 ^ 32 + low < 2 ^ 32 * 2 ^ (n - 32) = mul-add-lt high (2 ^ 32) low (2 ^ (n - 32)) fits lt in
+    rw (halves_joined n high low few fits, ← k, p) (grind (arith, below))
 
 pub zeros_more : (n i count : ℕ) (c : Cursor) → i < n → zeros_from (n - i) count c ≡ and_then (next_bit c) (λ b d. cond b (Ok (Some count, d)) (zeros_from (n - (i + 1)) (count + 1) d))
 unfolding zeros_from

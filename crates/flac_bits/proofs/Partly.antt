@@ -1,6 +1,6 @@
 -- The bits of the array that passed, as whole bytes and a part of one.
-use Rattle.std.proofs.Common.{◌≡◌, ℕ, zero, suc, ◌+◌, ◌-◌, ◌*◌, ◌/◌, ◌%◌, ◌^◌, ◌<◌, ◌≤◌, Bool, List, [], ◌∷◌, ◌++◌, length, drop, take, get_or, min, refl, sym, ap, ◌∙◌, arith, append_assoc}
-use Rattle.std.proofs.lemmas.List.{append-nil, drop-take, length-take, length-drop, length-append, take_at, take-append-drop, take-append-le, get_or-drop, get_or-take, append_cancel_left, drop-drop}
+use Rattle.std.proofs.Common.{◌≡◌, ℕ, suc, ◌+◌, ◌-◌, ◌*◌, ◌/◌, ◌%◌, ◌^◌, ◌<◌, ◌≤◌, Bool, List, [], ◌++◌, length, drop, take, get_or, min, refl, sym, ap, ◌∙◌, arith, append_assoc}
+use Rattle.std.proofs.lemmas.List.{drop-take, length-take, length-drop, length-append, take_at, take-append-drop, take-append-le, get_or-drop, get_or-take, append_cancel_left, drop-drop}
 use Rattle.std.proofs.Math.Seq.{drop-cons}
 use Rattle.std.specs.List.{slice_range}
 use Rattle.flac_bits.specs.Bits.{unsigned, bits_of}
@@ -8,7 +8,7 @@ use Rattle.flac_bits.specs.State.{Mark, past}
 use Rattle.flac_bits.specs.Check.{fed}
 use Rattle.flac_bits.specs.Store.{Store, Fence, passed}
 use Rattle.flac_bits.specs.declared.why.Why.TheVariants.{Truncated}
-use Rattle.flac_bits.proofs.Check.{fed-append, past-check8, past-check16}
+use Rattle.flac_bits.proofs.Check.{fed-append}
 use Rattle.flac_bits.proofs.Meaning.{past-short}
 use Rattle.flac_bits.proofs.Marks.{past-unread, past-bytes}
 use Rattle.flac_bits.proofs.Words.{split, length-unsigned}

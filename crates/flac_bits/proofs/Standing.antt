@@ -1,16 +1,19 @@
 -- What a reader stands at, by what it holds and the source behind it.
-use Rattle.std.proofs.Common.{◌≡◌, ℕ, zero, suc, ◌+◌, ◌-◌, ◌*◌, ◌^◌, ◌<◌, ◌≤◌, Bool, true, false, List, [], ◌∷◌, ◌++◌, length, Option, Some, None, Result, Ok, Err, IfSome, refl, sym, ap, ◌∙◌, arith, append_assoc}
+use Rattle.std.proofs.Common.{◌≡◌, ℕ, ℤ, take, zero, suc, ◌+◌, ◌-◌, ◌*◌, ◌^◌, ◌<◌, ◌≤◌, Bool, false, List, [], ◌∷◌, ◌++◌, length, Option, Some, None, Ok, IfSome, refl, sym, ap, ◌∙◌, arith}
 use Rattle.std.specs.Borrow.{GName}
 use Rattle.std.proofs.Math.Dec.{leb-zero}
 use Rattle.std.proofs.lemmas.Bool.Decides.{nat_tests}
 use Rattle.std.specs.Prelude.{nat_le}
 use Rattle.std.proofs.lemmas.List.{length-append}
 use Rattle.flac_bits.specs.Bits.{unsigned, bits_of}
-use Rattle.flac_bits.specs.State.{Mark, Cursor, State, Behind, past, with_short, short_of}
-use Rattle.flac_bits.specs.Layout.{number_at, zeros_at, run}
+use Rattle.flac_bits.specs.State.{State, Behind, short_of}
+use Rattle.flac_bits.specs.Layout.{number_at, zeros_at, run, and_then}
+use Rattle.flac_bits.specs.Lists.{list_of, behind as put_behind}
+use Rattle.flac_bits.specs.Stretches.{IsRead}
+use Rattle.flac_bits.proofs.Stretches.{stretch_read}
 use Rattle.flac_bits.specs.Meaning.{unary_bits}
-use Rattle.flac_bits.specs.Rice.{rice}
-use Rattle.flac_bits.specs.Store.{Store, Fence, Takes, HoldsSame, Passes, Came, SameBits, allowed, forbidden, reached, left_of, fenced_of, most_of, reason_of, state_of}
+use Rattle.flac_bits.specs.Rice.{rice, rice_value}
+use Rattle.flac_bits.specs.Store.{Store, Fence, Takes, HoldsSame, Passes, Came, SameBits, allowed, forbidden, reached, most_of, reason_of, state_of}
 use Rattle.flac_bits.specs.declared.why.Why.{Why}
 use Rattle.flac_bits.specs.declared.why.Why.TheVariants.{Read, Truncated, FrameTooLong}
 use Rattle.flac_bits.proofs.Words.{length-unsigned}
@@ -40,6 +43,13 @@ module _ (known : Bool) (errors raised most : ℕ) (behind : Behind) (names : Li
   rice_took k limit (Some v) (q, low, le, lt, e, takes) =
       let spent = taken_spends (unary_bits q ++ unsigned k low) old new takes in
       rw (← is, takes.3) (omega (arith, spent), refl, refl, refl, refl, refl, rice_read k limit q low v _ old new _ le lt e takes)
+
+  pub values_took : (k : ℕ) (text : List Bool) (us vs : List ℤ) (i j : ℕ) → Passes text old new → IsRead k text us i vs j
+      → ((t.most ≤ s.most) × (t.known ≡ s.known) × (t.errors ≡ s.errors) × (t.raised ≡ s.raised) × (t.behind ≡ s.behind) × (t.names ≡ s.names))
+      × (and_then (run (list_of (length us - i) (rice_value k)) s.cursor) (put_behind (take i us)) ≡ and_then (run (list_of (length us - j) (rice_value k)) t.cursor) (put_behind (take j vs)))
+  values_took k text us vs i j passes read =
+      let spent = ap (λ (bs : List Bool). length bs) passes.0 ∙ length-append text (new.word ++ bits_of new.bytes) in
+      rw (← is, passes.2) ((omega (arith, spent), refl, refl, refl, refl, refl), stretch_read k text us vs i j _ old new _ passes read)
 
   pub held_same : HoldsSame old new → t ≡ s
   held_same same = rw (← is, same.0, same.1, same.2) refl

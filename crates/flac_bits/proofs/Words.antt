@@ -1,7 +1,7 @@
 -- Bits held in a word.
-use Rattle.std.proofs.Common.{◌≡◌, ℕ, zero, suc, ◌+◌, ◌-◌, ◌*◌, ◌/◌, ◌%◌, ◌^◌, ◌<◌, ◌≤◌, Bool, true, false, nat_eq, List, [], ◌∷◌, ◌++◌, length, replicate, bit_and, bit_or, refl, sym, ap, ◌∙◌, arith}
+use Rattle.std.proofs.Common.{◌≡◌, ℕ, zero, suc, ◌+◌, ◌-◌, ◌*◌, ◌/◌, ◌%◌, ◌^◌, ◌<◌, ◌≤◌, false, nat_eq, ◌∷◌, ◌++◌, length, bit_and, bit_or, refl, sym, ap, ◌∙◌, arith}
 use Rattle.std.specs.Int.{bit_at}
-use Rattle.std.proofs.lemmas.Nat.{pow_pos, pow-add, shl-shr, shr-shr, shr_split, mod-pow-add, field_of, shl_below, shr_below, shl_whole, shr_high, mod_low, leading_length, or_shr, or_lt, le_or_r, mod_below, mul-add-lt, mul-mod_first}
+use Rattle.std.proofs.lemmas.Nat.{pow_pos, pow-add, shl-shr, shr-shr, shr_split, mod-pow-add, field_of, shl_below, shr_below, shl_whole, shr_high, mod_low, or_shr, or_lt, le_or_r, mod_below, mul-add-lt, mul-mod_first}
 use Rattle.std.proofs.lemmas.Nat.Bits.{shr_and_one, bit_at-suc, bit_at-zero}
 use Rattle.std.specs.Int.Bits.{or_zero_r}
 use Rattle.std.specs.Int.{w64, leading_zeros}
@@ -74,51 +74,61 @@ taken_clean w n c le lt e =
     ap (λ j. w * 2 ^ n % 2 ^ j % 2 ^ k) a ∙ ap (λ j. j % 2 ^ k) (mod-pow-add (w * 2 ^ n) (c - n) k) ∙ mod_low (w * 2 ^ n / 2 ^ k % 2 ^ (c - n)) k (w * 2 ^ n % 2 ^ k) (mod_below (w * 2 ^ n) (2 ^ k) (pow_pos k)) in
     inner ∙ ap (λ j. j % 2 ^ k) is ∙ mod_low h k 0 (pow_pos k)
 
--- four bytes more, as one number: what the word is then
-put_is : (w x c : ℕ) → c < 32 → x < 2 ^ 32 → w % 2 ^ (64 - c) ≡ 0 → w + x * 2 ^ (32 - c) % 2 ^ 64 ≡ (w / 2 ^ (64 - c) * 2 ^ 32 + x) * 2 ^ (32 - c)
-put_is w x c lt fits e =
-    let h = w / 2 ^ (64 - c) in
-    let a : 64 - c ≡ 32 + (32 - c) = omega arith in
-    let p : 2 ^ (32 + (32 - c)) ≡ 2 ^ 32 * 2 ^ (32 - c) = pow-add 2 32 (32 - c) in
-    let is : w ≡ h * (2 ^ 32 * 2 ^ (32 - c)) = sym (clean_part w (64 - c) e) ∙ ap (λ k. h * 2 ^ k) a ∙ ap (λ k. h * k) p in
-    let whole : x * 2 ^ (32 - c) % 2 ^ 64 ≡ x * 2 ^ (32 - c) = shl_whole x 32 (32 - c) 64 fits (omega arith) in
-    let q = 2 ^ (32 - c) in
-    let t = 2 ^ 32 in
-    let sum : (j u : ℕ) → h * (u * j) + x * j ≡ (h * u + x) * j = λ j u. grind arith in
-    ap (λ k. w + k) whole ∙ ap (λ k. k + x * 2 ^ (32 - c)) is ∙ sum (2 ^ (32 - c)) (2 ^ 32)
-
 below_top : (w c : ℕ) → w < 2 ^ 64 → c ≤ 64 → w / 2 ^ (64 - c) < 2 ^ c
 below_top w c lt le =
     let a : 64 ≡ c + (64 - c) = omega arith in
     let b : w < 2 ^ (c + (64 - c)) = rw (← a) lt in
     shr_below w c (64 - c) b
 
-joined_below : (h x c : ℕ) → h < 2 ^ c → x < 2 ^ 32 → h * 2 ^ 32 + x < 2 ^ (c + 32)
-joined_below h x c a b =
-    let p : 2 ^ (c + 32) ≡ 2 ^ c * 2 ^ 32 = pow-add 2 c 32 in
-    rw p (grind (arith, mul-add-lt h (2 ^ 32) x (2 ^ c) a b))
+-- n bits more: what the word is then
+module _ (w x c n s : ℕ) (sum : c + n + s ≡ 64) (fits : x < 2 ^ n) (clean : w % 2 ^ (64 - c) ≡ 0) where
+  more_is : w + x * 2 ^ s % 2 ^ 64 ≡ (w / 2 ^ (64 - c) * 2 ^ n + x) * 2 ^ s
+  more_is =
+      let h = w / 2 ^ (64 - c) in
+      let a : 64 - c ≡ n + s = omega (arith, sum) in
+      let p : 2 ^ (n + s) ≡ 2 ^ n * 2 ^ s = pow-add 2 n s in
+      let is : w ≡ h * (2 ^ n * 2 ^ s) = sym (clean_part w (64 - c) clean) ∙ ap (λ k. h * 2 ^ k) a ∙ ap (λ k. h * k) p in
+      let whole : x * 2 ^ s % 2 ^ 64 ≡ x * 2 ^ s = shl_whole x n s 64 fits (omega (arith, sum)) in
+      let both : (j u : ℕ) → h * (u * j) + x * j ≡ (h * u + x) * j = λ j u. grind arith in
+      ap (λ k. w + k) whole ∙ ap (λ k. k + x * 2 ^ s) is ∙ both (2 ^ s) (2 ^ n)
 
+  room : 64 - (c + n) ≡ s
+  room = omega (arith, sum)
+
+  pub more_fits : w < 2 ^ 64 → w + x * 2 ^ s % 2 ^ 64 < 2 ^ 64
+  more_fits wide =
+      let h = w / 2 ^ (64 - c) in
+      let p : 2 ^ (c + n) ≡ 2 ^ c * 2 ^ n = pow-add 2 c n in
+      let joined : h * 2 ^ n + x < 2 ^ (c + n) = rw p (grind (arith, mul-add-lt h (2 ^ n) x (2 ^ c) (below_top w c wide (omega (arith, sum))) fits)) in
+      let below : (h * 2 ^ n + x) * 2 ^ s < 2 ^ (c + n + s) = shl_below (h * 2 ^ n + x) (c + n) s joined in
+      rw more_is (rw sum at below)
+
+  pub more_clean : (w + x * 2 ^ s % 2 ^ 64) % 2 ^ (64 - (c + n)) ≡ 0
+  more_clean =
+      let h = w / 2 ^ (64 - c) in
+      let z : (h * 2 ^ n + x) * 2 ^ s ≡ (h * 2 ^ n + x) * 2 ^ s + 0 = omega arith in
+      rw (more_is, room, z) (mod_low (h * 2 ^ n + x) s 0 (pow_pos s))
+
+  pub more_bits : unsigned (c + n) ((w + x * 2 ^ s % 2 ^ 64) / 2 ^ (64 - (c + n))) ≡ unsigned c (w / 2 ^ (64 - c)) ++ unsigned n x
+  more_bits =
+      let h = w / 2 ^ (64 - c) in
+      rw (more_is, room, shl-shr (h * 2 ^ n + x) s)
+      (split c n (h * 2 ^ n + x) ∙ ap (λ k. unsigned c k ++ unsigned n (h * 2 ^ n + x)) (shr_high h n x fits) ∙ ap (λ bs. unsigned c h ++ bs) (unsigned_low n h n x (omega arith)))
+
+-- four bytes more
 pub put_fits : (w x c : ℕ) → c < 32 → x < 2 ^ 32 → w < 2 ^ 64 → w % 2 ^ (64 - c) ≡ 0 → w + x * 2 ^ (32 - c) % 2 ^ 64 < 2 ^ 64
-put_fits w x c lt fits wide e =
-    let h = w / 2 ^ (64 - c) in
-    let sum : c + 32 + (32 - c) ≡ 64 = omega arith in
-    let below : (h * 2 ^ 32 + x) * 2 ^ (32 - c) < 2 ^ (c + 32 + (32 - c)) = shl_below (h * 2 ^ 32 + x) (c + 32) (32 - c) (joined_below h x c (below_top w c wide (omega arith)) fits) in
-    rw (put_is w x c lt fits e) (rw sum at below)
+put_fits w x c lt fits wide e = more_fits w x c 32 (32 - c) (omega (arith, lt)) fits e wide
 
 pub put_clean : (w x c : ℕ) → c < 32 → x < 2 ^ 32 → w % 2 ^ (64 - c) ≡ 0 → (w + x * 2 ^ (32 - c) % 2 ^ 64) % 2 ^ (64 - (c + 32)) ≡ 0
-put_clean w x c lt fits e =
-    let a : 64 - (c + 32) ≡ 32 - c = omega arith in
-    let h = w / 2 ^ (64 - c) in
-    let z : (h * 2 ^ 32 + x) * 2 ^ (32 - c) ≡ (h * 2 ^ 32 + x) * 2 ^ (32 - c) + 0 = omega arith in
-    rw (put_is w x c lt fits e, a, z) (mod_low (h * 2 ^ 32 + x) (32 - c) 0 (pow_pos (32 - c)))
+put_clean w x c lt fits e = more_clean w x c 32 (32 - c) (omega (arith, lt)) fits e
 
 pub put_bits : (w x c : ℕ) → c < 32 → x < 2 ^ 32 → w % 2 ^ (64 - c) ≡ 0
     → unsigned (c + 32) ((w + x * 2 ^ (32 - c) % 2 ^ 64) / 2 ^ (64 - (c + 32))) ≡ unsigned c (w / 2 ^ (64 - c)) ++ unsigned 32 x
-put_bits w x c lt fits e =
-    let a : 64 - (c + 32) ≡ 32 - c = omega arith in
-    let h = w / 2 ^ (64 - c) in
-    rw (put_is w x c lt fits e, a, shl-shr (h * 2 ^ 32 + x) (32 - c))
-    (split c 32 (h * 2 ^ 32 + x) ∙ ap (λ k. unsigned c k ++ unsigned 32 (h * 2 ^ 32 + x)) (shr_high h 32 x fits) ∙ ap (λ bs. unsigned c h ++ bs) (unsigned_low 32 h 32 x (omega arith)))
+put_bits w x c lt fits e = more_bits w x c 32 (32 - c) (omega (arith, lt)) fits e
+
+-- the first bits of eight bytes
+pub first_bits : (x n : ℕ) → n ≤ 63 → x / 2 ^ 1 / 2 ^ (63 - n) ≡ x / 2 ^ (64 - n)
+first_bits x n le = let e : 1 + (63 - n) ≡ 64 - n = omega (arith, le) in shr-shr x 1 (63 - n) ∙ ap (λ k. x / 2 ^ k) e
 
 -- one is zeros and a one
 pub one_bits : (z : ℕ) → unsigned (suc z) 1 ≡ unary_bits z
@@ -175,6 +185,27 @@ rice_taken w z k c wide le is fits =
     ∙ ap (λ v. unary_bits z ++ (low ++ unsigned (d - k) (v / 2 ^ (64 - (d - k))))) twice
     ∙ ap (λ j. unary_bits z ++ (low ++ unsigned j (w * 2 ^ (z + 1 + k) % 2 ^ 64 / 2 ^ (64 - j)))) n
     ∙ sym (append_assoc (unary_bits z) low (unsigned (c - (z + 1 + k)) (w * 2 ^ (z + 1 + k) % 2 ^ 64 / 2 ^ (64 - (c - (z + 1 + k))))))
+
+-- the one and the k bits as one number
+module _ (w z k c : ℕ) (wide : w < 2 ^ 64) (le : c ≤ 63) (is : z ≡ leading_zeros w64 (bit_or w 1)) (fits : z + 1 + k ≤ c) where
+  abbrev both : ℕ
+  both = w / 2 ^ (64 - (z + 1 + k))
+
+  one : both / 2 ^ k ≡ 1
+  one =
+      let s : 64 - (z + 1 + k) + k ≡ 1 + (63 - (z + 1)) = omega (arith, fits, le) in
+      shr-shr w (64 - (z + 1 + k)) k ∙ ap (λ j. w / 2 ^ j) s ∙ sym (shr-shr w 1 (63 - (z + 1))) ∙ top_one w z c wide le is (omega (arith, fits))
+
+  pub both_is : both ≡ 2 ^ k + both % 2 ^ k
+  both_is = sym (shr_split both k) ∙ ap (λ q. q * 2 ^ k + both % 2 ^ k) one ∙ omega arith
+
+  pub code_taken : unsigned c (w / 2 ^ (64 - c)) ≡ (unary_bits z ++ unsigned k (both % 2 ^ k)) ++ unsigned (c - (z + 1 + k)) (w * 2 ^ (z + 1 + k) % 2 ^ 64 / 2 ^ (64 - (c - (z + 1 + k))))
+  code_taken =
+      let rest = unsigned (c - (z + 1 + k)) (w * 2 ^ (z + 1 + k) % 2 ^ 64 / 2 ^ (64 - (c - (z + 1 + k)))) in
+      let s : 1 + (63 - (z + 1 + k)) ≡ 64 - (z + 1 + k) = omega (arith, fits, le) in
+      let e : z + 1 ≡ suc z = omega arith in
+      taken w (z + 1 + k) c fits le ∙ ap (λ v. unsigned (z + 1 + k) v ++ rest) (shr-shr w 1 (63 - (z + 1 + k)) ∙ ap (λ j. w / 2 ^ j) s)
+      ∙ ap (λ bs. bs ++ rest) (split (z + 1) k both ∙ ap (λ v. unsigned (z + 1) v ++ unsigned k both) one ∙ ap (λ j. unsigned j 1 ++ unsigned k both) e ∙ ap (λ bs. bs ++ unsigned k both) (one_bits z) ∙ ap (λ bs. unary_bits z ++ bs) (sym (unsigned-mod k both)))
 
 pub shifted_small : (w n : ℕ) → w * 2 ^ n % 2 ^ 64 < 2 ^ 64
 shifted_small w n = mod_below (w * 2 ^ n) (2 ^ 64) (pow_pos 64)

@@ -1,8 +1,8 @@
 -- The spelling of a form, and what ties it to a layout.
 use Rattle.std.specs.Prelude.{◌≡◌, ℕ, ◌<◌, ◌^◌, Bool, List, [], ◌∷◌, ◌++◌, length}
-use Rattle.flac_bits.specs.State.{Mark, past}
-use Rattle.flac_bits.specs.Layout.{Layout, done, bind, bits, unary, judge, refuse, mark}
-use Rattle.flac_bits.specs.Meaning.{Spells, AllKept, IsWithin, zeros_bits}
+use Rattle.flac_bits.specs.State.{Mark}
+use Rattle.flac_bits.specs.Layout.{Layout}
+use Rattle.flac_bits.specs.Meaning.{Spells}
 
 -- parts, one after another
 abbrev pub joined : List (List Bool) → List Bool

@@ -21,3 +21,4 @@ pub mod Standing
 pub mod Fencing
 pub mod Reasons
 pub mod Meant
+pub mod Stretches

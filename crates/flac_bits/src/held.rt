@@ -1,13 +1,16 @@
 //! Bytes that were pulled, and the bits of them that are held in a word.
 
-ghost use Rattle.std.specs.Prelude.{◌≡◌, ◌≢◌, ◌<◌, ◌≤◌, ◌+◌, ◌-◌, ◌*◌, ◌/◌, ◌%◌, ◌^◌, ◌++◌, ◌∷◌, [], ℕ, List, Bool, true, false, length, take, drop, replicate, min, IfSome, IfOk, IfErr, OnOk, Some, None, Ok, is_some, IsTrue, ◌↔◌};
+ghost use Rattle.std.specs.Prelude.{◌≡◌, ◌≢◌, ◌<◌, ◌≤◌, ◌+◌, ◌-◌, ◌*◌, ◌/◌, ◌%◌, ◌^◌, ◌++◌, ◌∷◌, [], ℕ, List, Bool, true, false, length, take, drop, replicate, min, IfSome, IfOk, IfErr, OnOk, Some, None, Ok, is_some, IsTrue, ◌↔◌, get_or, pos};
 ghost use Rattle.flac_bits.specs.declared.why.Why.TheVariants.{Truncated};
 ghost use Rattle.flac_bits.specs.Bits.{unsigned, bits_of};
 ghost use Rattle.flac_bits.specs.Meaning.{unary_bits};
 ghost use Rattle.flac_bits.specs.State.{past};
+ghost use Rattle.flac_bits.specs.Rice.{IsResidual};
+ghost use Rattle.flac_bits.specs.Stretches.{IsRead};
 ghost use Rattle.flac_bits.specs.Store.{Store, passed, Takes, Passes, HoldsSame, four_at, allowed, forbidden, reached, seen as seen_bytes, room_behind as room_behind_bytes, hides_late, reason_of, Came};
 
 use crate::source::Source;
+use crate::stretch::{four_bytes, values_in};
 use crate::sums::{bits_checked8, bits_checked16, checked8, checked16};
 use crate::why::Why;
 use crate::word::Word;
@@ -53,20 +56,6 @@ impl Model for Held {
         × (length h.bytes ≡ 4096) × (h.end ≤ h.filled) × (h.filled ≤ 4096) × (hides_late h.room h.end h.filled ≡ true) };
 }
 
-/// Four bytes as a number, the first of them highest.
-#[inline(always)]
-fn four_bytes(bytes: &[u8], place: usize) -> u32
-    requires { place + 4 ≤ length bytes.now }
-    ensures { unsigned 32 result ≡ bits_of (four_at bytes.now place) }
-{
-    u32::from_be_bytes([
-        bytes[place],
-        bytes[place + 1],
-        bytes[place + 2],
-        bytes[place + 3],
-    ])
-}
-
 /// How many of n bytes stand before a fence.
 fn seen(room: Option<u64>, n: usize) -> usize
     ensures { result ≡ seen_bytes room n }
@@ -88,7 +77,7 @@ fn room_behind(room: Option<u64>, n: usize) -> Option<u64>
 }
 
 impl Held {
-    pub fn new() -> Held
+    pub(crate) fn new() -> Held
         ensures { result ≡ record { word = []; bytes = []; mark = record { unread = 0; bytes = 0; check8 = 0; check16 = 0; short = Truncated }; fence = record { room = None; hidden = [] } } }
     {
         Held {
@@ -107,14 +96,14 @@ impl Held {
 
     /// How many bits the word has.
     #[inline(always)]
-    pub fn ready(&self) -> u32
+    pub(crate) fn ready(&self) -> u32
         ensures { (result ≡ length self.now.word) × (result ≤ 63) }
     {
         self.word.count()
     }
 
     #[inline(always)]
-    pub fn take(&mut self, n: u32) -> u64
+    pub(crate) fn take(&mut self, n: u32) -> u64
         requires { n ≤ length self.old.word }
         ensures { Takes (unsigned n result) self.old self.new × (result < 2 ^ n) }
     {
@@ -123,7 +112,7 @@ impl Held {
 
     /// Zeros and a one, where the word has them and the zeros are within the limit.
     #[inline(always)]
-    pub fn unary(&mut self, limit: u64) -> Option<u64>
+    pub(crate) fn unary(&mut self, limit: u64) -> Option<u64>
         ensures some { IfSome result (λ q. (q ≤ limit) × Takes (unary_bits q) self.old self.new) }
         ensures none { result ≡ None → self.new ≡ self.old }
     {
@@ -132,7 +121,7 @@ impl Held {
 
     /// Zeros, a one and k bits, where the word has them and the zeros are within the limit.
     #[inline(always)]
-    pub fn rice(&mut self, k: u32, limit: u64) -> Option<u64>
+    pub(crate) fn rice(&mut self, k: u32, limit: u64) -> Option<u64>
         requires k { k ≤ 30 }
         requires limit { limit < 2 ^ 32 }
         ensures some { IfSome result (λ v. (q : ℕ) × (low : ℕ) × (q ≤ limit) × (low < 2 ^ k) × (v ≡ q * 2 ^ k + low) × Takes (unary_bits q ++ unsigned k low) self.old self.new) }
@@ -141,9 +130,32 @@ impl Held {
         self.word.rice(k, limit)
     }
 
+    /// Fills the places from one on with residual values under the Rice parameter k, as far as the word and the bytes held have
+    /// them, and answers where it stopped.
+    #[inline(never)]
+    pub(crate) fn values(&mut self, k: u32, values: &mut [i64], from: usize) -> usize
+        requires k { k ≤ 26 }
+        requires from { from ≤ length values.old }
+        ensures within { (from ≤ result) × (result ≤ length values.old) }
+        ensures read { (text : List Bool) × Passes text self.old self.new × IsRead k text values.old from values.new result }
+        ensures fits { ((j : ℕ) → j < from → IsResidual (get_or values.old j (pos 0))) → (j : ℕ) → j < result → IsResidual (get_or values.new j (pos 0)) }
+    {
+        let mut word = self.word.copied();
+        let (used, next) = values_in(
+            &mut word,
+            &self.bytes[self.place..self.end],
+            k,
+            values,
+            from,
+        );
+        self.word = word;
+        self.place += used;
+        next
+    }
+
     /// Four bytes more in the word, where it has room for them.
     #[inline(always)]
-    pub fn top_up(&mut self)
+    pub(crate) fn top_up(&mut self)
         ensures { HoldsSame self.old self.new }
     {
         let place = self.place;
@@ -155,7 +167,7 @@ impl Held {
 
     /// A byte in the word, which is empty; false where no byte is held.
     #[inline(never)]
-    pub fn begin_byte(&mut self) -> bool
+    pub(crate) fn begin_byte(&mut self) -> bool
         requires { self.old.word ≡ [] }
         ensures more { result ≡ true → HoldsSame self.old self.new × (length self.new.word ≡ 8) }
         ensures none { result ≡ false → (self.new ≡ self.old) × (self.old.bytes ≡ []) }
@@ -171,7 +183,7 @@ impl Held {
 
     /// Gives the whole bytes of the word back to the array.
     #[inline(never)]
-    pub fn put_back(&mut self)
+    pub(crate) fn put_back(&mut self)
         ensures same { HoldsSame self.old self.new }
         ensures part { length self.new.word ≡ self.old.mark.unread }
     {
@@ -181,7 +193,7 @@ impl Held {
     }
 
     /// The reason where no byte is left, but for an error of the source: the fence, or the end.
-    pub fn short(&self) -> Why
+    pub(crate) fn short(&self) -> Why
         ensures fence { self.now.fence.room ≡ Some 0 → result ≡ Why.FrameTooLong }
         ensures over { (self.now.fence.room ≡ Some 0 → ⊥) → result ≡ Why.Truncated }
         ensures memory { result ≢ Why.Memory }
@@ -194,14 +206,14 @@ impl Held {
 
     /// Whether no byte is held behind the word.
     #[inline(always)]
-    pub fn is_drained(&self) -> bool
+    pub(crate) fn is_drained(&self) -> bool
         ensures { IsTrue result ↔ (self.now.bytes ≡ []) }
     {
         self.place == self.end
     }
 
     /// Copies the bytes that come next, as many as are held and have a place.
-    pub fn copy(&mut self, out: &mut [u8]) -> usize
+    pub(crate) fn copy(&mut self, out: &mut [u8]) -> usize
         requires { self.old.word ≡ [] }
         ensures bound { result ≤ length out.new }
         ensures taken { Passes (bits_of (take result out.new)) self.old self.new }
@@ -216,7 +228,7 @@ impl Held {
 
     /// Bytes of the source, where all that were held are taken; false at the end, and at a fence.
     #[inline(never)]
-    pub fn pull<R: Source>(&mut self, source: &mut R) -> Result<bool, Why>
+    pub(crate) fn pull<R: Source>(&mut self, source: &mut R) -> Result<bool, Why>
         requires { (self.old.word ≡ []) × (self.old.bytes ≡ []) }
         ensures names { R.names source.new ≡ R.names source.old }
         ensures mark { self.new.mark ≡ self.old.mark }
@@ -284,7 +296,7 @@ impl Held {
     }
 
     /// Takes the fence away.
-    pub fn lift(&mut self)
+    pub(crate) fn lift(&mut self)
         ensures held { (self.new.word ≡ self.old.word) × (self.new.bytes ≡ self.old.bytes ++ self.old.fence.hidden) × (self.new.mark ≡ self.old.mark) × (self.new.fence ≡ record { room = None; hidden = [] }) }
         ensures behind { (coming : List ℕ) → allowed self.old.fence.room coming ++ (self.old.fence.hidden ++ forbidden self.old.fence.room coming) ≡ self.old.fence.hidden ++ coming }
     {
@@ -293,7 +305,7 @@ impl Held {
     }
 
     /// Puts a fence so many bytes behind the byte that was begun, in place of one that stands.
-    pub fn fence(&mut self, bytes: u64)
+    pub(crate) fn fence(&mut self, bytes: u64)
         ensures mark { self.new.mark ≡ self.old.mark }
         ensures part { length self.new.word ≡ self.old.mark.unread }
         ensures held { (held : List ℕ) × (self.new.word ++ bits_of held ≡ self.old.word ++ bits_of (self.old.bytes ++ self.old.fence.hidden))
@@ -322,20 +334,20 @@ impl Held {
 
     /// How many bits of the byte that was begun are still to come.
     #[inline(always)]
-    pub fn unread(&self) -> u32
+    pub(crate) fn unread(&self) -> u32
         ensures { (result ≡ self.now.mark.unread) × (result < 8) }
     {
         self.word.count() % 8
     }
 
-    pub fn bytes_taken(&self) -> u64
+    pub(crate) fn bytes_taken(&self) -> u64
         ensures { result ≡ self.now.mark.bytes }
     {
         self.before
             .saturating_add((self.place - self.word.count() as usize / 8) as u64)
     }
 
-    pub fn check8(&self) -> u8
+    pub(crate) fn check8(&self) -> u8
         ensures { result ≡ self.now.mark.check8 }
     {
         let count = self.word.count();
@@ -348,7 +360,7 @@ impl Held {
         bits_checked8(check, self.bytes[whole] >> rest, 8 - rest)
     }
 
-    pub fn check16(&self) -> u16
+    pub(crate) fn check16(&self) -> u16
         ensures { result ≡ self.now.mark.check16 }
     {
         let count = self.word.count();
@@ -361,7 +373,7 @@ impl Held {
         bits_checked16(check, self.bytes[whole] >> rest, 8 - rest)
     }
 
-    pub fn start_checks(&mut self)
+    pub(crate) fn start_checks(&mut self)
         requires { self.old.mark.unread ≡ 0 }
         ensures { self.new ≡ record self.old { mark = record self.old.mark { check8 = 0; check16 = 0 } } }
     {

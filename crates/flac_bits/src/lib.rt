@@ -15,6 +15,7 @@ mod rest;
 mod send;
 mod signed;
 mod source;
+mod stretch;
 mod sums;
 mod target;
 mod unsent;

@@ -17,6 +17,7 @@ ghost use Rattle.flac_bits.specs.Reading.{Counts, Gives, Reads};
 use crate::held::Held;
 use crate::signed::{MOST_FOLDED, to_signed, unfolded};
 use crate::source::Source;
+use crate::stretch::MOST_READY;
 use crate::why::Why;
 use std::marker::Model;
 
@@ -91,15 +92,6 @@ fn refill<R: Source>(held: &mut Held, source: &mut R) -> Result<bool, Why>
         return Ok(true);
     }
     held.pull(source)
-}
-
-/// A quotient below the greatest of a residual value under the Rice parameter k: whatever the lowest bits are, the value is within its range.
-#[inline(always)]
-fn ready_limit(k: u32) -> u64
-    requires { k ≤ 30 }
-    ensures { (result + 1) * 2 ^ k ≤ 0xFFFF_FFFE }
-{
-    (MOST_FOLDED >> k) - 1
 }
 
 impl<R: Source> BitReader<R> {
@@ -189,9 +181,28 @@ impl<R: Source> BitReader<R> {
         self.take_more(n)
     }
 
+    /// The same where the word has not all of them: it is filled first, and above 32 bits twice.
     #[inline(never)]
+    #[tactic(auto, using(crate::proofs::Loops::number_halves))]
     fn take_more(&mut self, n: u32) -> Result<u64, Why>
         requires { n ≤ 64 }
+        ensures small { IfOk result (λ v. v < 2 ^ n) }
+        ensures spends { OnOk result (self.new.most + n ≤ self.old.most) }
+        ensures counts { Counts self.old self.new result }
+        ensures memory { IfErr result (λ e. e ≢ Why.Memory) }
+        ensures reads { Gives (λ v. v) (number_at n self.old.cursor) self.old self.new result }
+    {
+        if n <= 32 {
+            return self.take_few(n);
+        }
+        let high = self.take_few(n - 32)?;
+        let low = self.take_few(32)?;
+        Ok((high << 32) + low)
+    }
+
+    /// The next n bits, at most 32.
+    fn take_few(&mut self, n: u32) -> Result<u64, Why>
+        requires { n ≤ 32 }
         ensures small { IfOk result (λ v. v < 2 ^ n) }
         ensures spends { OnOk result (self.new.most + n ≤ self.old.most) }
         ensures counts { Counts self.old self.new result }
@@ -332,45 +343,20 @@ impl<R: Source> BitReader<R> {
         Ok(unfolded(folded))
     }
 
-    /// A residual value, where the word has all of it and its quotient is within the limit.
+    /// Fills the places from one on with residual values, as far as the bytes held have them, and answers where it stopped.
     #[inline(always)]
-    #[tactic(auto, unfolding(crate::specs::Rice::rice_value))]
-    fn ready_value(&mut self, k: u32, limit: u64) -> Option<i64>
-        requires k { k ≤ 30 }
-        requires limit { (limit + 1) * 2 ^ k ≤ 0xFFFF_FFFE }
-        ensures some { IfSome result (λ v. IsResidual v × (self.new.most ≤ self.old.most) × (self.new.known ≡ self.old.known) × (self.new.errors ≡ self.old.errors) × (self.new.raised ≡ self.old.raised) × (self.new.behind ≡ self.old.behind) × (self.new.names ≡ self.old.names)
-            × (run (rice_value k) self.old.cursor ≡ Ok (v, self.new.cursor))) }
-        ensures none { result ≡ None → self.new ≡ self.old }
-    {
-        match self.held.rice(k, limit) {
-            Some(folded) => Some(unfolded(folded)),
-            None => None,
-        }
-    }
-
-    /// Fills the places from one on with residual values, as far as the word has them, and answers where it stopped.
-    #[inline(always)]
-    fn ready_values(&mut self, k: u32, limit: u64, values: &mut [i64], from: usize) -> usize
-        requires k { k ≤ 30 }
-        requires limit { (limit + 1) * 2 ^ k ≤ 0xFFFF_FFFE }
-        requires from { from ≤ length values.old }
+    fn ready_values(&mut self, k: u32, values: &mut [i64], from: usize) -> usize
+        requires { from ≤ length values.old }
         ensures within { (from ≤ result) × (result ≤ length values.old) }
         ensures went { (self.new.most ≤ self.old.most) × (self.new.known ≡ self.old.known) × (self.new.errors ≡ self.old.errors) × (self.new.raised ≡ self.old.raised) × (self.new.behind ≡ self.old.behind) × (self.new.names ≡ self.old.names) }
         ensures reads { and_then (run (list_of (length values.old - from) (rice_value k)) self.old.cursor) (behind (take from values.old))
             ≡ and_then (run (list_of (length values.old - result) (rice_value k)) self.new.cursor) (behind (take result values.new)) }
         ensures fits { ((j : ℕ) → j < from → IsResidual (get_or values.old j (pos 0))) → (j : ℕ) → j < result → IsResidual (get_or values.new j (pos 0)) }
     {
-        let mut i = from;
-        while i < values.len() {
-            match self.ready_value(k, limit) {
-                Some(value) => {
-                    values[i] = value;
-                    i += 1;
-                }
-                None => return i,
-            }
+        if k > MOST_READY {
+            return from;
         }
-        i
+        self.held.values(k, values, from)
     }
 
     /// Fills the places with the residual values that come next under the Rice parameter k (RFC 9639, section 9.2.7.3).
@@ -387,11 +373,10 @@ impl<R: Source> BitReader<R> {
         ensures memory { IfErr result (λ e. e ≢ Why.Memory) }
         ensures reads { Reads (λ _. values.new) (list_of (length values.old) (rice_value k)) self.old self.new result }
     {
-        let limit = ready_limit(k);
         let mut i = 0;
         while i < values.len() {
             self.top_up();
-            let next = self.ready_values(k, limit, values, i);
+            let next = self.ready_values(k, values, i);
             if next > i {
                 i = next;
             } else {

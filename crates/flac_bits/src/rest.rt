@@ -49,7 +49,7 @@ fn word_checked16(check: u16, word: u64, count: u32) -> u16
 }
 
 impl Rest {
-    pub fn empty() -> Rest
+    pub(crate) fn empty() -> Rest
         ensures { result ≡ [] }
     {
         Rest { word: 0, count: 0 }
@@ -57,7 +57,7 @@ impl Rest {
 
     /// How many bits are held.
     #[inline(always)]
-    pub fn count(&self) -> u32
+    pub(crate) fn count(&self) -> u32
         ensures { (result ≡ length self.now) × (result ≤ 63) }
     {
         self.count
@@ -65,7 +65,7 @@ impl Rest {
 
     /// Puts the n bits of a number behind those held, where there is room for them.
     #[inline(always)]
-    pub fn put(&mut self, n: u32, value: u64)
+    pub(crate) fn put(&mut self, n: u32, value: u64)
         requires room { length self.old + n ≤ 63 }
         requires fits { value < 2 ^ n }
         ensures { self.new ≡ self.old ++ unsigned n value }
@@ -76,7 +76,7 @@ impl Rest {
 
     /// Takes a whole word, where the n bits of a number make it full.
     #[inline(always)]
-    pub fn fill(&mut self, n: u32, value: u64) -> u64
+    pub(crate) fn fill(&mut self, n: u32, value: u64) -> u64
         requires enough { 64 ≤ length self.old + n }
         requires few { n ≤ 64 }
         requires fits { value < 2 ^ n }
@@ -91,7 +91,7 @@ impl Rest {
     }
 
     /// Takes the first eight bits.
-    pub fn take_byte(&mut self) -> u8
+    pub(crate) fn take_byte(&mut self) -> u8
         requires { 8 ≤ length self.old }
         ensures { self.old ≡ unsigned 8 result ++ self.new }
     {
@@ -102,14 +102,14 @@ impl Rest {
     }
 
     /// The remainder after the bits held.
-    pub fn checked8(&self, check: u8) -> u8
+    pub(crate) fn checked8(&self, check: u8) -> u8
         ensures { result ≡ fed 8 7 check self.now }
     {
         word_checked8(check, self.word, self.count)
     }
 
     /// The remainder after the bits held.
-    pub fn checked16(&self, check: u16) -> u16
+    pub(crate) fn checked16(&self, check: u16) -> u16
         ensures { result ≡ fed 16 32773 check self.now }
     {
         word_checked16(check, self.word, self.count)

@@ -9,7 +9,7 @@ pub const MOST_FOLDED: u64 = 0xFFFF_FFFE;
 
 /// The value that was folded: 2r stands for r, and 2r + 1 for -r - 1.
 #[inline(always)]
-pub fn unfolded(folded: u64) -> i64
+pub(crate) fn unfolded(folded: u64) -> i64
     requires { folded ≤ 0xFFFF_FFFE }
     ensures value { result ≡ unfolded_value folded }
     ensures fits { IsResidual result }
@@ -20,7 +20,7 @@ pub fn unfolded(folded: u64) -> i64
 
 /// The number that n bits are in two's complement.
 #[inline(always)]
-pub fn to_signed(value: u64, n: u32) -> i64
+pub(crate) fn to_signed(value: u64, n: u32) -> i64
     requires some { 1 ≤ n }
     requires few { n ≤ 64 }
     requires small { value < 2 ^ n }

@@ -33,7 +33,7 @@ fn fed16(check: u16, bit: bool) -> u16
 
 /// The remainder after the lowest n bits of a value.
 #[tactic(auto, unfolding(crate::specs::Check::fed), using(crate::proofs::Check::fed_bit))]
-pub fn bits_checked8(check: u8, value: u8, n: u32) -> u8
+pub(crate) fn bits_checked8(check: u8, value: u8, n: u32) -> u8
     requires { n ≤ 8 }
     ensures { result ≡ fed 8 7 check (unsigned n value) }
 {
@@ -45,7 +45,7 @@ pub fn bits_checked8(check: u8, value: u8, n: u32) -> u8
 }
 
 #[tactic(auto, unfolding(crate::specs::Check::fed), using(crate::proofs::Check::fed_bit))]
-pub fn bits_checked16(check: u16, value: u8, n: u32) -> u16
+pub(crate) fn bits_checked16(check: u16, value: u8, n: u32) -> u16
     requires { n ≤ 8 }
     ensures { result ≡ fed 16 32773 check (unsigned n value) }
 {
@@ -93,7 +93,7 @@ fn each_checked8(check: u8, bytes: &[u8]) -> u8
 
 /// The remainder after more bytes, at generator x^8 + x^2 + x + 1.
 #[tactic(auto, unfolding(crate::specs::Check::fed))]
-pub fn checked8(check: u8, bytes: &[u8]) -> u8
+pub(crate) fn checked8(check: u8, bytes: &[u8]) -> u8
     ensures { result ≡ fed 8 7 check (bits_of bytes.now) }
 {
     let eights = bytes.len() / 8;
@@ -141,7 +141,7 @@ fn each_checked16(check: u16, bytes: &[u8]) -> u16
 
 /// The remainder after more bytes, at generator x^16 + x^15 + x^2 + 1.
 #[tactic(auto, unfolding(crate::specs::Check::fed))]
-pub fn checked16(check: u16, bytes: &[u8]) -> u16
+pub(crate) fn checked16(check: u16, bytes: &[u8]) -> u16
     ensures { result ≡ fed 16 32773 check (bits_of bytes.now) }
 {
     let eights = bytes.len() / 8;

@@ -58,7 +58,7 @@ fn put_word(bytes: &mut [u8], place: usize, word: u64)
 }
 
 impl Unsent {
-    pub fn new() -> Unsent
+    pub(crate) fn new() -> Unsent
         ensures { result ≡ record { bytes = []; rest = []; mark = record { unread = 0; bytes = 0; check8 = 0; check16 = 0; short = Truncated } } }
     {
         Unsent {
@@ -74,7 +74,7 @@ impl Unsent {
 
     /// Puts the n bits of a number behind those held, where they do not fill a word; false where they do.
     #[inline(always)]
-    pub fn put(&mut self, n: u32, value: u64) -> bool
+    pub(crate) fn put(&mut self, n: u32, value: u64) -> bool
         requires few { n ≤ 64 }
         requires fits { value < 2 ^ n }
         ensures put { result ≡ true → Puts (unsigned n value) self.old self.new }
@@ -88,7 +88,7 @@ impl Unsent {
     }
 
     /// Whether one more word has room.
-    pub fn has_room(&self) -> bool
+    pub(crate) fn has_room(&self) -> bool
         ensures { result ≡ true → length self.now.bytes + 8 ≤ 4096 }
     {
         self.end <= HOLD - 8
@@ -96,7 +96,7 @@ impl Unsent {
 
     /// Puts the n bits of a number behind those held, where they fill a word.
     #[inline(always)]
-    pub fn fill(&mut self, n: u32, value: u64)
+    pub(crate) fn fill(&mut self, n: u32, value: u64)
         requires room { length self.old.bytes + 8 ≤ 4096 }
         requires enough { 64 ≤ length self.old.rest + n }
         requires few { n ≤ 64 }
@@ -109,28 +109,28 @@ impl Unsent {
     }
 
     /// How many bits of the byte that was begun are still to come.
-    pub fn unread(&self) -> u32
+    pub(crate) fn unread(&self) -> u32
         ensures { (result ≡ self.now.mark.unread) × (result < 8) }
     {
         (64 - self.rest.count()) % 8
     }
 
     /// How many bytes were begun.
-    pub fn bytes_begun(&self) -> u64
+    pub(crate) fn bytes_begun(&self) -> u64
         ensures { result ≡ self.now.mark.bytes }
     {
         let begun = (self.rest.count() as usize + 7) / 8;
         self.before.saturating_add((self.end + begun) as u64)
     }
 
-    pub fn check8(&self) -> u8
+    pub(crate) fn check8(&self) -> u8
         ensures { result ≡ self.now.mark.check8 }
     {
         let check = checked8(self.check8, &self.bytes[self.from..self.end]);
         self.rest.checked8(check)
     }
 
-    pub fn check16(&self) -> u16
+    pub(crate) fn check16(&self) -> u16
         ensures { result ≡ self.now.mark.check16 }
     {
         let check = checked16(self.check16, &self.bytes[self.from..self.end]);
@@ -159,7 +159,7 @@ impl Unsent {
     }
 
     /// All whole bytes of the bits held, as bytes.
-    pub fn settle(&mut self)
+    pub(crate) fn settle(&mut self)
         requires { length self.old.bytes + 8 ≤ 4096 }
         ensures kept { KeepsBits self.old self.new }
         ensures left { self.new.mark.unread ≡ 0 → self.new.rest ≡ [] }
@@ -171,7 +171,7 @@ impl Unsent {
     }
 
     /// Begins the checks anew, where no bits stand behind the whole bytes.
-    pub fn start_checks(&mut self)
+    pub(crate) fn start_checks(&mut self)
         requires { self.old.rest ≡ [] }
         ensures { self.new ≡ record self.old { mark = record self.old.mark { check8 = 0; check16 = 0 } } }
     {
@@ -182,7 +182,7 @@ impl Unsent {
 
     /// Sends the whole bytes.
     #[inline(never)]
-    pub fn send_to<W: Target>(&mut self, target: &mut W) -> Result<(), Why>
+    pub(crate) fn send_to<W: Target>(&mut self, target: &mut W) -> Result<(), Why>
         ensures sends { Sends W.Target self.old.bytes target.old target.new result }
         ensures kept { (self.new.rest ≡ self.old.rest) × (self.new.mark ≡ self.old.mark) }
         ensures sent { result ≡ Ok tt → self.new.bytes ≡ [] }

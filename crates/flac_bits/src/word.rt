@@ -22,15 +22,26 @@ impl Model for Word {
 }
 
 impl Word {
-    pub fn empty() -> Word
+    pub(crate) fn empty() -> Word
         ensures { result ≡ [] }
     {
         Word { word: 0, count: 0 }
     }
 
+    /// The same bits in a word of its own.
+    #[inline(always)]
+    pub(crate) fn copied(&self) -> Word
+        ensures { result ≡ self.now }
+    {
+        Word {
+            word: self.word,
+            count: self.count,
+        }
+    }
+
     /// How many bits are held.
     #[inline(always)]
-    pub fn count(&self) -> u32
+    pub(crate) fn count(&self) -> u32
         ensures { (result ≡ length self.now) × (result ≤ 63) }
     {
         self.count
@@ -38,7 +49,7 @@ impl Word {
 
     /// The first n bits as a number.
     #[inline(always)]
-    pub fn take(&mut self, n: u32) -> u64
+    pub(crate) fn take(&mut self, n: u32) -> u64
         requires { n ≤ length self.old }
         ensures { (self.old ≡ unsigned n result ++ self.new) × (result < 2 ^ n) }
     {
@@ -63,7 +74,7 @@ impl Word {
 
     /// Keeps the first n bits alone.
     #[inline(always)]
-    pub fn keep(&mut self, n: u32)
+    pub(crate) fn keep(&mut self, n: u32)
         requires few { n ≤ 63 }
         requires held { n ≤ length self.old }
         ensures { (rest : List Bool) × (self.old ≡ self.new ++ rest) × (length self.new ≡ n) }
@@ -74,7 +85,7 @@ impl Word {
 
     /// Holds one byte.
     #[inline(always)]
-    pub fn of_byte(byte: u8) -> Word
+    pub(crate) fn of_byte(byte: u8) -> Word
         ensures { result ≡ unsigned 8 byte }
     {
         Word {
@@ -85,7 +96,7 @@ impl Word {
 
     /// Puts 32 bits behind those held.
     #[inline(always)]
-    pub fn put(&mut self, value: u32)
+    pub(crate) fn put(&mut self, value: u32)
         requires { length self.old < 32 }
         ensures { self.new ≡ self.old ++ unsigned 32 value }
     {
@@ -93,9 +104,22 @@ impl Word {
         self.count += 32;
     }
 
+    /// Puts so many of eight bytes behind the bits held as there is room for, and answers how many.
+    #[inline(always)]
+    pub(crate) fn fill(&mut self, eight: u64) -> u32
+        ensures few { result ≤ 7 }
+        ensures put { self.new ≡ self.old ++ unsigned (8 * result) (eight / 2 ^ (64 - 8 * result)) }
+    {
+        let n = (63 - self.count) / 8;
+        let value = eight >> 1 >> (63 - 8 * n);
+        self.word += value << (64 - 8 * n - self.count);
+        self.count += 8 * n;
+        n
+    }
+
     /// Takes zeros and a one, where they are held and the zeros are within the limit.
     #[inline(always)]
-    pub fn unary(&mut self, limit: u64) -> Option<u64>
+    pub(crate) fn unary(&mut self, limit: u64) -> Option<u64>
         ensures some { IfSome result (λ q. (q ≤ limit) × (self.old ≡ unary_bits q ++ self.new)) }
         ensures none { result ≡ None → self.new ≡ self.old }
     {
@@ -111,7 +135,7 @@ impl Word {
 
     /// Zeros, a one and k bits, where all are held and the zeros are within the limit.
     #[inline(always)]
-    pub fn rice(&mut self, k: u32, limit: u64) -> Option<u64>
+    pub(crate) fn rice(&mut self, k: u32, limit: u64) -> Option<u64>
         requires k { k ≤ 30 }
         requires limit { limit < 2 ^ 32 }
         ensures some { IfSome result (λ v. (q : ℕ) × (low : ℕ) × (q ≤ limit) × (low < 2 ^ k) × (v ≡ q * 2 ^ k + low) × (self.old ≡ (unary_bits q ++ unsigned k low) ++ self.new)) }
@@ -124,6 +148,25 @@ impl Word {
             self.word <<= used;
             self.count -= used;
             Some((u64::from(zeros) << k) + low)
+        } else {
+            None
+        }
+    }
+    /// Zeros, a one and k bits, where all are held.
+    #[inline(always)]
+    pub(crate) fn code(&mut self, k: u32) -> Option<u64>
+        requires { k ≤ 26 }
+        ensures some { IfSome result (λ v. (q : ℕ) × (low : ℕ) × (q ≤ 62) × (low < 2 ^ k) × (v ≡ q * 2 ^ k + low) × (self.old ≡ (unary_bits q ++ unsigned k low) ++ self.new)) }
+        ensures small { IfSome result (λ v. v ≤ 0xFFFF_FFFE) }
+        ensures none { result ≡ None → self.new ≡ self.old }
+    {
+        let zeros = (self.word | 1).leading_zeros();
+        let used = zeros + 1 + k;
+        if used <= self.count {
+            let one_and_low = self.word >> (64 - used);
+            self.word <<= used;
+            self.count -= used;
+            Some((u64::from(zeros) << k) + (one_and_low - (1 << k)))
         } else {
             None
         }

@@ -1,3 +1,6 @@
+pub mod Back
 pub mod Outcomes
+pub mod Rows
 pub mod Sent
+pub mod Wide
 pub mod Written

@@ -5,7 +5,7 @@ use Rattle.flac_bits.specs.Handing.{TakesAll}
 use Rattle.flac_native.specs.Message.{frame_message}
 use Rattle.flac_native.specs.Item.{Item}
 use Rattle.flac_native.specs.Decoding.{taken}
-use Rattle.flac_cli.specs.Samples.{depth_after, all_samples}
+use Rattle.flac_cli.specs.Samples.{all_samples}
 use Rattle.flac_cli.specs.Taking.{depth_behind, samples_in}
 
 module _ {S : Type 0} (is_known : S → Bool) (bytes : S → List ℕ) (bits : S → ℕ) where

@@ -1,4 +1,6 @@
 pub mod Asks
+pub mod Encoded
+pub mod Raw
 pub mod Samples
 pub mod Streams
 pub mod Taking

@@ -1,5 +1,10 @@
 //! Raw samples, encoded.
 
+ghost use Rattle.std.specs.Prelude.{◌≡◌, ◌≤◌, true, map, IfOk, OnOk, None};
+ghost use Rattle.flac_bits.specs.Bits.{bits_of};
+ghost use Rattle.flac_cli.specs.Encoded.{comment_list, EncodesRaw};
+ghost use Rattle.flac_cli.specs.Raw.{IsRaw};
+
 use crate::raw::{channels_of, read_all};
 use flac_bits::{Source, Target, Why};
 use flac_frame::{Audio, SetupFault};
@@ -70,7 +75,11 @@ impl fmt::Display for Refusal {
 }
 
 /// The first reason, if there is one, for which samples of a format cannot be encoded, whatever they are.
-fn format_fault(format: Format) -> Option<SetupFault> {
+#[tactic(auto, using(crate::proofs::Rows::depth_range))]
+fn format_fault(format: Format) -> Option<SetupFault>
+    ensures bits { result ≡ None → (1 ≤ format.bits) × (format.bits ≤ 32) }
+    ensures channels { result ≡ None → (1 ≤ format.channels) × (format.channels ≤ 8) }
+{
     if rate_code(format.rate).is_none() {
         return Some(SetupFault::BadRate);
     }
@@ -83,24 +92,29 @@ fn format_fault(format: Format) -> Option<SetupFault> {
     None
 }
 
-/// The samples of a source.
-fn audio_of<R: Source>(alloc: Global, source: &mut R, format: Format) -> Result<Audio, Refusal> {
+/// The samples of a source: just its bytes.
+fn audio_of<R: Source>(alloc: Global, source: &mut R, format: Format) -> Result<Audio, Refusal>
+    ensures { IfOk result (λ a. R.known source.old ≡ true → IsRaw format (R.coming source.old) a) }
+{
     if let Some(fault) = format_fault(format) {
         return Err(Refusal::Setup(fault));
     }
     let bytes = read_all(alloc, source)?;
     let channels = format.channels as usize;
-    let width = format.bits as usize / 8 + usize::from(format.bits % 8 > 0);
-    let row = channels.saturating_mul(width).max(1);
-    if bytes.len() % row != 0 {
+    let width = (format.bits as usize + 7) / 8;
+    if bytes.len() % (channels * width) != 0 {
         return Err(Refusal::RawLength);
     }
     let lists = channels_of(alloc, &bytes, channels, width)?;
-    Ok(Audio::new(format.rate, format.bits, lists)?)
+    let audio = Audio::new(format.rate, format.bits, lists)?;
+    let _channels = audio.channels();
+    Ok(audio)
 }
 
 /// The one block behind STREAMINFO: comments of these words.
-fn comment_list(alloc: Global, words: &[&str]) -> Result<BlockList, Why> {
+fn comment_list(alloc: Global, words: &[&str]) -> Result<BlockList, Why>
+    ensures { IfOk result (λ list. list ≡ comment_list (map (λ word. word.now) words.now)) }
+{
     let mut texts = Vec::with_capacity(alloc, words.len())?;
     for word in words {
         let text = Vec::from_slice(alloc, word.as_bytes())?;
@@ -123,13 +137,14 @@ pub(crate) fn encode_raw<R: Source, W: Target>(
     format: Format,
     comments: &[&str],
     target: &mut W,
-) -> Result<(), Refusal> {
+) -> Result<(), Refusal>
+    ensures { OnOk result (R.known source.old ≡ true → W.known target.old ≡ true →
+        EncodesRaw format (map (λ word. word.now) comments.now) (R.coming source.old) (bits_of (W.sent target.old)) (bits_of (W.sent target.new))) }
+{
     let audio = audio_of(alloc, source, format)?;
     let plan = Plan::new(format.block, &audio)?;
+    let _size = plan.block_size();
     let list = comment_list(alloc, comments)?;
-    if !plan.fits(&audio) {
-        return Err(Refusal::RawLength);
-    }
     encode(alloc, &plan, &list, &audio, target)?;
     Ok(())
 }

@@ -19,6 +19,8 @@ mod row_tests;
 mod runs;
 mod samples;
 #[cfg(test)]
+mod sweep_tests;
+#[cfg(test)]
 mod tests;
 mod texts;
 mod words;

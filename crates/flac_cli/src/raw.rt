@@ -1,6 +1,9 @@
 //! Raw samples, read from a source.
 
-ghost use Rattle.std.specs.Prelude.{◌≤◌};
+ghost use Rattle.std.specs.Prelude.{◌≡◌, ◌≤◌, ◌+◌, ◌*◌, ◌%◌, true, length, map, IfOk};
+ghost use Rattle.flac_bits.specs.Signed.{FitsBits};
+ghost use Rattle.flac_native.specs.Message.{sample_bytes};
+ghost use Rattle.flac_cli.specs.Raw.{IsChannel, AreChannels};
 
 use flac_bits::{Source, Why};
 use std::alloc::Global;
@@ -12,10 +15,12 @@ const PIECE: usize = 16384;
 ///
 /// # Errors
 /// [`Why::Read`] where the source answers an error, [`Why::Memory`] where a growth is refused.
-pub(crate) fn read_all<R: Source>(alloc: Global, source: &mut R) -> Result<Vec<u8>, Why> {
+pub(crate) fn read_all<R: Source>(alloc: Global, source: &mut R) -> Result<Vec<u8>, Why>
+    ensures { IfOk result (λ bytes. R.known source.old ≡ true → bytes.items ≡ R.coming source.old) }
+{
     let mut bytes = Vec::new(alloc);
     let mut piece = [0u8; PIECE];
-    for _ in 0..u64::MAX {
+    'pulls: loop {
         let Ok(count) = source.pull(&mut piece) else {
             return Err(Why::Read);
         };
@@ -24,35 +29,42 @@ pub(crate) fn read_all<R: Source>(alloc: Global, source: &mut R) -> Result<Vec<u
         }
         bytes.extend_from_slice(&piece[..count])?;
     }
-    Ok(bytes)
 }
 
 /// The number of 1 to 4 bytes in two's complement, the lowest byte first.
-fn sample(bytes: &[u8]) -> i32 {
-    match bytes.len() {
-        1 => i32::from(i8::from_le_bytes([bytes[0]])),
-        2 => i32::from(i16::from_le_bytes([bytes[0], bytes[1]])),
-        3 => i32::from_le_bytes([0, bytes[0], bytes[1], bytes[2]]) >> 8,
-        4 => i32::from_le_bytes([bytes[0], bytes[1], bytes[2], bytes[3]]),
-        _ => 0,
-    }
+fn sample(bytes: &[u8]) -> i32
+    requires { (1 ≤ length bytes.now) × (length bytes.now ≤ 4) }
+    ensures bytes { sample_bytes (length bytes.now) result ≡ bytes.now }
+    ensures fits { FitsBits (8 * length bytes.now) result }
+{
+    let fill = if bytes[bytes.len() - 1] < 0x80 {
+        0
+    } else {
+        0xFF
+    };
+    let mut whole = [fill; 4];
+    whole[..bytes.len()].copy_from_slice(bytes);
+    i32::from_le_bytes(whole)
 }
 
 /// The samples of one channel of rows of samples, which begin at this byte of each row and have so many bytes.
 fn channel_of(
     alloc: Global,
     bytes: &[u8],
+    rows: usize,
     row: usize,
     start: usize,
     width: usize,
 ) -> Result<Vec<i32>, Why>
-    requires { 1 ≤ row }
+    requires whole { length bytes.now ≡ rows * row }
+    requires width { (1 ≤ width) × (width ≤ 4) }
+    requires within { start + width ≤ row }
+    ensures { IfOk result (λ c. IsChannel bytes.now rows row start width c.items) }
 {
-    let mut samples = Vec::with_capacity(alloc, bytes.len() / row)?;
-    for samples_there in bytes.chunks_exact(row) {
-        if let Some(own) = samples_there.get(start..start.saturating_add(width)) {
-            samples.push(sample(own))?;
-        }
+    let mut samples = Vec::with_capacity(alloc, rows)?;
+    for i in 0..rows {
+        let at = i * row + start;
+        samples.push(sample(&bytes[at..at + width]))?;
     }
     Ok(samples)
 }
@@ -66,12 +78,17 @@ pub(crate) fn channels_of(
     bytes: &[u8],
     channels: usize,
     width: usize,
-) -> Result<Vec<Vec<i32>>, Why> {
-    let row = channels.saturating_mul(width).max(1);
+) -> Result<Vec<Vec<i32>>, Why>
+    requires channels { (1 ≤ channels) × (channels ≤ 8) }
+    requires width { (1 ≤ width) × (width ≤ 4) }
+    requires whole { length bytes.now % (channels * width) ≡ 0 }
+    ensures { IfOk result (λ lists. AreChannels bytes.now channels width (map (λ c. c.items) lists.items)) }
+{
+    let row = channels * width;
+    let rows = bytes.len() / row;
     let mut lists = Vec::with_capacity(alloc, channels)?;
     for channel in 0..channels {
-        let start = channel.saturating_mul(width);
-        lists.push(channel_of(alloc, bytes, row, start, width)?)?;
+        lists.push(channel_of(alloc, bytes, rows, row, channel * width, width)?)?;
     }
     Ok(lists)
 }

@@ -196,7 +196,7 @@ const ROWS: [Row<'static>; 17] = [
 ];
 
 /// The bytes of a stream of one or two channels.
-fn stream_of(
+pub(crate) fn stream_of(
     alloc: Global,
     greatest: u16,
     channels: u8,
@@ -243,7 +243,7 @@ fn streams(rt: HostRuntime) -> Result<(), Fail> {
 }
 
 /// One frame, of one channel: 0 to 15 by a fixed predictor of order 2.
-const RAMP: [u8; 16] = [
+pub(crate) const RAMP: [u8; 16] = [
     0xFF, 0xF8, 0x69, 0x08, 0x00, 0x0F, 0x30, 0x14, 0x00, 0x00, 0x00, 0x01, 0x03, 0xC0, 0xEF, 0xC9,
 ];
 
@@ -253,12 +253,12 @@ const ZEROS: [u8; 12] = [
 ];
 
 /// One frame, of one channel: 1001 and -1001 in turn, eight times, by a linear predictor with the coefficient -1.
-const ALTERNATING: [u8; 16] = [
+pub(crate) const ALTERNATING: [u8; 16] = [
     0xFF, 0xF8, 0x69, 0x08, 0x00, 0x0F, 0x30, 0x40, 0x03, 0xE9, 0x00, 0x40, 0xF0, 0x00, 0xB5, 0xAA,
 ];
 
 /// One frame, of two channels kept as left and side: 0 to 15 in both.
-const LEFT_SIDE: [u8; 19] = [
+pub(crate) const LEFT_SIDE: [u8; 19] = [
     0xFF, 0xF8, 0x69, 0x88, 0x00, 0x0F, 0x3B, 0x14, 0x00, 0x00, 0x00, 0x01, 0x03, 0xC0, 0x20, 0x07,
     0x80, 0x3D, 0x83,
 ];

@@ -5,6 +5,8 @@ ghost use Rattle.flac_native.specs.Stream.{Piece};
 ghost use Rattle.flac_cli.specs.Streams.{IsStream, Tells};
 ghost use Rattle.flac_cli.specs.Asks.{AsksDecode, AsksStream};
 ghost use Rattle.flac_cli.specs.Samples.{all_samples};
+ghost use Rattle.flac_cli.specs.Encoded.{HasEncoded};
+ghost use Rattle.flac_bits.specs.Bits.{bits_of};
 
 use crate::counts::Counts;
 use crate::encoding::{Refusal, encode_raw};
@@ -114,6 +116,8 @@ pub fn run<R: Source, W: Target, O: Target, E: Target>(
     // A decoding has then added to the file just the samples of its frames.
     ensures decoded { AsksDecode job.now → result ≡ 0 → Tells R.Source source.old source.new → W.known target.old ≡ true →
         (parts : List Piece) × IsStream parts (R.coming source.old) (R.behind source.old) × (W.sent target.new ≡ W.sent target.old ++ all_samples 0 parts) }
+    // An encoding has then added to the file a stream of just the samples that the input is.
+    ensures encoded { result ≡ 0 → R.known source.old ≡ true → W.known target.old ≡ true → HasEncoded job.now (R.coming source.old) (bits_of (W.sent target.old)) (bits_of (W.sent target.new)) }
 {
     match job {
         Job::Test { input } => match count(alloc, source) {

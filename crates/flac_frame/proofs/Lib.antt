@@ -9,5 +9,10 @@ pub mod FrameTie
 pub mod Sounds
 pub mod Stood
 pub mod Encoded
+pub mod Short
 pub mod Wholes
+pub mod Family
+pub mod Frames
+pub mod Pairs
+pub mod PairLeast
 pub mod Encodings

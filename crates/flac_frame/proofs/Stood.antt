@@ -73,7 +73,7 @@ cut_each w (c ∷ cs) first size rs e m all =
 up : (n m : ℕ) → n ≤ m → 2 ^ (n - 1) ≤ 2 ^ (m - 1)
 up n m few = pow-le-pow_right {n = 2} (omega arith) {i = n - 1} {j = m - 1} (omega arith)
 
-fits_more : (n m : ℕ) (z : ℤ) → n ≤ m → FitsBits n z → FitsBits m z
+pub fits_more : (n m : ℕ) (z : ℤ) → n ≤ m → FitsBits n z → FitsBits m z
 fits_more n m z few f = record { low = omega (arith, ints, f.low, up n m few); high = omega (arith, ints, f.high, up n m few) }
 
 less : (a m n : ℕ) → a * n < m * n → a < m

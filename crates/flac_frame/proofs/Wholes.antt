@@ -1,8 +1,7 @@
 -- A whole frame, as it is written.
-use Rattle.std.proofs.Common.{◌≡◌, ◌∙◌, refl, sym, ap, subst, ℕ, suc, ◌+◌, ◌-◌, ◌≤◌, ◌<◌, ◌^◌, arith, ℤ, Bool, true, false, cond, nat_eq, nat_lt, nat_le, List, [], ◌∷◌, ◌++◌, append_assoc, length, map, Option, Some, None, is_some, Result, Ok, Err, OnOk, All, flat_map, take, drop}
+use Rattle.std.proofs.Common.{◌≡◌, ◌∙◌, refl, sym, ap, subst, ℕ, suc, ◌+◌, ◌≤◌, ◌<◌, ◌^◌, arith, ℤ, Bool, true, false, cond, nat_eq, nat_lt, nat_le, List, [], ◌∷◌, ◌++◌, append_assoc, length, Option, Some, None, is_some, Result, Ok, Err, OnOk, All, flat_map}
 use Rattle.std.proofs.lemmas.Bool.Decides.{nat_tests}
-use Rattle.std.proofs.lemmas.List.Elements.{All-nil, All-cons, All-head, All-tail}
-use Rattle.std.proofs.lemmas.List.{length-map}
+use Rattle.std.proofs.lemmas.List.Elements.{All-head, All-tail}
 use Rattle.flac_bits.specs.State.{Mark, past, fresh}
 use Rattle.flac_bits.specs.Signed.{FitsBits}
 use Rattle.flac_bits.specs.Written.{Written, Adds, Fails, Writes}
@@ -10,27 +9,29 @@ use Rattle.flac_bits.specs.declared.why.Why.{Why}
 use Rattle.flac_bits.proofs.Laws.{past-append}
 use Rattle.flac_bits.proofs.Writing.{fails_first, fails_then, writes_then}
 use Rattle.flac_bits.proofs.ItemSpellings.{fresh_unread, fresh_check16}
-use Rattle.flac_header.specs.Header.{Header, IsHeader, channels_of}
+use Rattle.flac_header.specs.Header.{Header}
 use Rattle.flac_header.specs.Choice.{size_choice, rate_choice, depth_choice, with_codes, chosen_header}
 use Rattle.flac_header.specs.Spelling.{header_spelling, restarted}
 use Rattle.flac_subframe.specs.declared.limits.Limits.{Limits}
 use Rattle.flac_subframe.specs.Spelling.{subframe_spelling, IsSubframe}
 use Rattle.flac_subframe.specs.Subframe.{Form, samples_of}
 use Rattle.flac_subframe.proofs.Samples.{all_fit_is}
-use Rattle.flac_frame.specs.Audio.{Sound, IsSound, samples_each}
-use Rattle.flac_frame.specs.Frame.{side_bit, limits_at, each_fits}
+use Rattle.flac_frame.specs.Frame.{side_bit, each_fits}
 use Rattle.flac_frame.specs.Stereo.{joined}
 use Rattle.flac_frame.specs.Spelling.{frame_spelling, subframes_spelling, filled, checked, AreSubframes, HaveSamples}
-use Rattle.flac_frame.specs.Encoding.{block_of, WritesFrame, AreForms, WritesForms, end_spelling, whole_text, WritesWhole}
+use Rattle.flac_frame.specs.Encoding.{AreForms, WritesForms, end_spelling, behind_header, WritesWhole}
 use Rattle.flac_frame.proofs.FrameTie.{end_is}
-use Rattle.flac_frame.proofs.Encoded.{IsBlock, plain_forms, okay, failed, is_block}
-use Rattle.flac_frame.proofs.Sounds.{depth_small}
+use Rattle.flac_frame.proofs.Encoded.{IsBlock, plain_forms, okay, failed}
 
 -- ---- header, subframes and end, one after another
 
-on_ok : {X P : Type 0} (result : Result X Why) → P → OnOk result P
+pub on_ok : {X P : Type 0} (result : Result X Why) → P → OnOk result P
 on_ok (Ok x) p = p
 on_ok (Err e) p = tt
+
+pub on_ok_map : {X P Q : Type 0} (result : Result X Why) → (P → Q) → OnOk result P → OnOk result Q
+on_ok_map (Ok x) f p = f p
+on_ok_map (Err e) f p = tt
 
 module _ (depth size : ℕ) (deep : 1 ≤ depth) (some : 1 ≤ size) (h : Header) (block : List (List ℤ)) (old : Written) where
   pub header_fails : (new : Written) (e : Why) → IsBlock depth size deep some block → Fails ((restarted old).bits ++ header_spelling h) (restarted old) new e → WritesWhole depth size h block old new (failed e)
@@ -48,6 +49,33 @@ module _ (depth size : ℕ) (deep : 1 ≤ depth) (some : 1 ≤ size) (h : Header
       let last' = subst (λ m. Writes (end_spelling m) end new result) is last in
       (fs, are, on_ok result leasts, writes_then _ new result adds (writes_then _ new result more last'))
 
+-- what stands behind the header was written, and then the end
+pub ends : {X : Type 0} (h : Header) (parts : List Bool) (old mid end new : Written) (result : Result X Why) → Adds (header_spelling h) (restarted old) mid → Adds parts mid end → Writes (end_spelling end.mark) end new result
+    → Writes (behind_header h parts old.mark) (restarted old) new result
+ends h parts old mid end new result adds more last =
+    let is : end.mark ≡ past parts (past (header_spelling h) (fresh old.mark)) = more.mark ∙ ap (past parts) adds.mark in
+    writes_then _ new result adds (writes_then _ new result more (subst (λ m. Writes (end_spelling m) end new result) is last))
+
+-- the header was not written
+pub header_stops : (h : Header) (parts : List Bool) (old new : Written) (e : Why) → Fails ((restarted old).bits ++ header_spelling h) (restarted old) new e → Writes (behind_header h parts old.mark) (restarted old) new (failed e)
+header_stops h parts old new e fails = fails_first (header_spelling h) (parts ++ end_spelling (past parts (past (header_spelling h) (fresh old.mark)))) fails
+
+-- one of two subframes was not written
+pub first_fails : (h : Header) (a b : List Bool) (old mid new : Written) (e : Why) → Adds (header_spelling h) (restarted old) mid → Fails (mid.bits ++ a) mid new e → Writes (behind_header h (a ++ b) old.mark) (restarted old) new (failed e)
+first_fails h a b old mid new e adds fails = fails_then _ adds (fails_first (a ++ b) _ (fails_first a b fails))
+
+pub second_fails : (h : Header) (a b : List Bool) (old mid end new : Written) (e : Why) → Adds (header_spelling h) (restarted old) mid → Adds a mid end → Fails (end.bits ++ b) end new e → Writes (behind_header h (a ++ b) old.mark) (restarted old) new (failed e)
+second_fails h a b old mid end new e adds first fails = fails_then _ adds (fails_first (a ++ b) _ (fails_then b first fails))
+
+-- it is the spelling of a frame
+pub text_is : (depth : ℕ) (h : Header) (parts : List Bool) (fs : List Form) (m : Mark) → m.unread ≡ 0 → parts ≡ subframes_spelling depth h.channel_code 0 fs → behind_header h parts m ≡ frame_spelling depth (record { header = h; subframes = fs })
+unfolding frame_spelling
+text_is depth h parts fs old whole is =
+    let body : List Bool = header_spelling h ++ parts in
+    let m : Mark = fresh old in
+    let at : past parts (past (header_spelling h) m) ≡ past body m = sym (past-append (header_spelling h) parts m) in
+    sym (append_assoc (header_spelling h) parts _) ∙ ap (λ k. body ++ end_spelling k) at ∙ end_is body m (fresh_unread old whole) (fresh_check16 old whole) ∙ ap (λ t. checked (filled (header_spelling h ++ t))) is
+
 -- ---- the form that they spell
 
 module _ (depth code size : ℕ) (independent : code ≤ 7) where
@@ -58,34 +86,34 @@ module _ (depth code size : ℕ) (independent : code ≤ 7) where
       let b : nat_lt 7 code ≡ false = grind (arith, nat_tests) in
       rw (a, b) (omega arith)
 
-  texts_are : (channel : ℕ) (fs : List Form) → subframes_spelling depth code channel fs ≡ flat_map (subframe_spelling depth) fs
+  pub texts_are : (channel : ℕ) (fs : List Form) → subframes_spelling depth code channel fs ≡ flat_map (subframe_spelling depth) fs
   unfolding subframes_spelling
   texts_are channel [] = refl
   texts_are channel (f ∷ fs) = ap (λ n. subframe_spelling n f ++ subframes_spelling depth code (channel + 1) fs) (no_side channel) ∙ ap (λ t. subframe_spelling depth f ++ t) (texts_are (channel + 1) fs)
 
-  subframes_are : (limits : Limits) → 8 ≤ limits.partition → (channel : ℕ) (fs : List Form) (block : List (List ℤ)) → AreForms depth size fs block → AreSubframes depth code size limits channel fs
+  pub subframes_are : (limits : Limits) → 8 ≤ limits.partition → (channel : ℕ) (fs : List Form) (block : List (List ℤ)) → AreForms depth size fs block → AreSubframes depth code size limits channel fs
   subframes_are limits few channel [] [] h = tt
   subframes_are limits few channel [] (s ∷ ss) h = absurd h
   subframes_are limits few channel (f ∷ fs) [] h = absurd h
   subframes_are limits few channel (f ∷ fs) (s ∷ ss) h = (subst (λ n. IsSubframe n size limits f) (sym (no_side channel)) (h.0 limits few), subframes_are limits few (channel + 1) fs ss h.2)
 
-  samples_are : (channel : ℕ) (fs : List Form) (block : List (List ℤ)) → AreForms depth size fs block → HaveSamples depth code size channel fs block
+  pub samples_are : (channel : ℕ) (fs : List Form) (block : List (List ℤ)) → AreForms depth size fs block → HaveSamples depth code size channel fs block
   samples_are channel [] [] h = tt
   samples_are channel [] (s ∷ ss) h = absurd h
   samples_are channel (f ∷ fs) [] h = absurd h
   samples_are channel (f ∷ fs) (s ∷ ss) h = (subst (λ n. samples_of n size f ≡ Some s) (sym (no_side channel)) h.1, samples_are (channel + 1) fs ss h.2)
 
-  as_many : (fs : List Form) (block : List (List ℤ)) → AreForms depth size fs block → length fs ≡ length block
+  pub as_many : (fs : List Form) (block : List (List ℤ)) → AreForms depth size fs block → length fs ≡ length block
   as_many [] [] h = refl
   as_many [] (s ∷ ss) h = absurd h
   as_many (f ∷ fs) [] h = absurd h
   as_many (f ∷ fs) (s ∷ ss) h = ap suc (as_many fs ss h.2)
 
-  not_joined : (block : List (List ℤ)) → joined code block ≡ block
+  pub not_joined : (block : List (List ℤ)) → joined code block ≡ block
   unfolding joined
   not_joined block = let a : nat_lt code 8 ≡ true = grind (arith, nat_tests) in rw a refl
 
-  all_fit_in : (block : List (List ℤ)) → All (λ s. All (FitsBits depth) s) block → each_fits depth block ≡ true
+  pub all_fit_in : (block : List (List ℤ)) → All (λ s. All (FitsBits depth) s) block → each_fits depth block ≡ true
   all_fit_in [] h = refl
   all_fit_in (s ∷ ss) h = rw (all_fit_is depth s (All-head (λ s. All (FitsBits depth) s) s ss h)) (all_fit_in ss (All-tail (λ s. All (FitsBits depth) s) s ss h))
 
@@ -149,7 +177,7 @@ codes_there None r d size rate code number a b c e = absurd cc
 codes_there (Some s) None d size rate code number a b c e = absurd cc
 codes_there (Some s) (Some r) None size rate code number a b c e = absurd cc
 
-codes_are : (s r d : Option ℕ) (size rate code number : ℕ) (h : Header) → with_codes s r d size rate code number ≡ Some h → (h.channel_code ≡ code) × (h.size ≡ size)
+pub codes_are : (s r d : Option ℕ) (size rate code number : ℕ) (h : Header) → with_codes s r d size rate code number ≡ Some h → (h.channel_code ≡ code) × (h.size ≡ size)
 codes_are (Some s) (Some r) (Some d) size rate code number h e =
     let form : Header = record { variable = false; size_code = s; size = size; rate_code = r; rate = rate; channel_code = code; depth_code = d; number = number } in
     let same : form ≡ h = inner form h e in (sym (ap (λ (k : Header). k.channel_code) same), sym (ap (λ (k : Header). k.size) same))
@@ -160,7 +188,7 @@ codes_are None r d size rate code number h e = absurd cc
 codes_are (Some s) None d size rate code number h e = absurd cc
 codes_are (Some s) (Some r) None size rate code number h e = absurd cc
 
-chosen_as : (size rate code bits number : ℕ) → code ≤ 10 → number < 2 ^ 31 → chosen_header size rate code bits number ≡ with_codes (size_choice size) (rate_choice rate) (depth_choice bits) size rate code number
+pub chosen_as : (size rate code bits number : ℕ) → code ≤ 10 → number < 2 ^ 31 → chosen_header size rate code bits number ≡ with_codes (size_choice size) (rate_choice rate) (depth_choice bits) size rate code number
 unfolding chosen_header
 chosen_as size rate code bits number few small =
     let a : nat_lt 10 code ≡ false = grind (arith, nat_tests) in
@@ -170,82 +198,3 @@ chosen_as size rate code bits number few small =
 pub chosen_there : (size rate code bits number : ℕ) → 1 ≤ size → size ≤ 65535 → is_some (rate_choice rate) ≡ true → is_some (depth_choice bits) ≡ true → code ≤ 10 → number < 2 ^ 31 → chosen_header size rate code bits number ≡ None → ⊥
 chosen_there size rate code bits number some less r d few small e =
     codes_there (size_choice size) (rate_choice rate) (depth_choice bits) size rate code number (size_has_code size some less) r d (sym (chosen_as size rate code bits number few small) ∙ e)
-
--- ---- the whole
-
-as_coded : (code : ℕ) → code ≤ 7 → channels_of code ≡ code + 1
-as_coded code few = let a : nat_lt code 8 ≡ true = grind (arith, nat_tests) in rw a refl
-
-pub frame_encoded : {X : Type 0} (sound : Sound) (code size number : ℕ) (block : List (List ℤ)) (h : Header) (old new : Written) (result : Result X Why) → code ≤ 7 → number < 2 ^ 31 → old.mark.unread ≡ 0
-    → chosen_header size sound.rate code sound.bits number ≡ Some h → IsHeader h → code + 1 ≡ length block → All (λ s. All (FitsBits sound.bits) s) block → WritesWhole sound.bits size h block old new result → WritesFrame sound size number block old new result
-unfolding frame_spelling
-frame_encoded sound code size number block h old new result independent small whole chosen valid each fits (fs, are, leasts, writes) =
-    let depth : ℕ = sound.bits in
-    let codes = codes_are (size_choice size) (rate_choice sound.rate) (depth_choice depth) size sound.rate code number h (sym (chosen_as size sound.rate code depth number (omega (arith, independent)) small) ∙ chosen) in
-    let body : List Bool = header_spelling h ++ flat_map (subframe_spelling depth) fs in
-    let m : Mark = fresh old.mark in
-    let at : past (flat_map (subframe_spelling depth) fs) (past (header_spelling h) m) ≡ past body m = sym (past-append (header_spelling h) (flat_map (subframe_spelling depth) fs) m) in
-    let body_is : body ≡ header_spelling h ++ subframes_spelling depth h.channel_code 0 fs = ap (λ t. header_spelling h ++ t) (sym (texts_are depth code size independent 0 fs) ∙ ap (λ k. subframes_spelling depth k 0 fs) (sym codes.0)) in
-    let text : whole_text depth h fs old.mark ≡ checked (filled (header_spelling h ++ subframes_spelling depth h.channel_code 0 fs)) =
-    sym (append_assoc (header_spelling h) (flat_map (subframe_spelling depth) fs) _) ∙ ap (λ k. body ++ end_spelling k) at ∙ end_is body m (fresh_unread old.mark whole) (fresh_check16 old.mark whole)
-    ∙ ap (λ t. checked (filled t)) body_is in
-    let limits : Limits = limits_at sound.rate in
-    let have = subst (λ k. HaveSamples depth k h.size 0 fs block) (sym codes.0) (subst (λ n. HaveSamples depth code n 0 fs block) (sym codes.1) (samples_are depth code size independent 0 fs block are)) in (
-      record { header = h; subframes = fs },
-      record {
-        code = code;
-        header = chosen;
-        valid = valid;
-        channels = ap channels_of codes.0 ∙ as_coded code independent ∙ each;
-        many = as_many depth code size independent fs block are;
-        subframes = subframes_are depth code size independent limits (omega arith) 0 fs block are;
-        samples = record {
-          kept = block;
-          subframes = have;
-          joined = ap (λ k. joined k block) codes.0 ∙ not_joined depth code size independent block;
-          fit = all_fit_in depth code size independent block fits;
-        };
-      },
-      leasts,
-      subst (λ t. Writes t (restarted old) new result) text writes,
-    )
-
--- ---- the samples of vectors
-
-from_map : {V X : Type 0} (P : X → Type 0) (f : V → X) (xs : List V) → All P (map f xs) → All (λ v. P (f v)) xs
-from_map P f [] h = All-nil (λ v. P (f v))
-from_map P f (x ∷ xs) h = All-cons (λ v. P (f v)) x xs (All-head P (f x) (map f xs) h) (from_map P f xs (All-tail P (f x) (map f xs) h))
-
-module _ {V : Type 0} (items : V → List ℤ) (xs : List V) (sound : Sound) (good : IsSound sound) (are : map items xs ≡ sound.channels) where
-  pub few_channels : (1 ≤ length xs) × (length xs ≤ 8)
-  few_channels =
-      let e : length xs ≡ length sound.channels = sym (length-map xs items) ∙ ap (λ (l : List (List ℤ)). length l) are in
-      (omega (arith, e, good.some), omega (arith, e, good.few))
-
-  pub each_long : (start size : ℕ) → start + size ≤ samples_each sound.channels → All (λ v. start + size ≤ length (items v)) xs
-  each_long start size within =
-      let all = from_map (λ c. length c ≡ samples_each sound.channels) items xs (subst (λ k. All (λ c. length c ≡ samples_each sound.channels) k) (sym are) good.long) in
-      λ k d lt. omega (arith, all k d lt, within)
-
-  pub each_fits_in : (bits : ℕ) → bits ≡ sound.bits → All (λ v. All (FitsBits bits) (items v)) xs
-  each_fits_in bits e = from_map (λ c. All (FitsBits bits) c) items xs (subst (λ k. All (λ c. All (FitsBits bits) c) k) (sym are) (subst (λ b. All (λ c. All (FitsBits b) c) sound.channels) (sym e) good.small))
-
-  pub bits_small : (bits : ℕ) → bits ≡ sound.bits → (1 ≤ bits) × (bits ≤ 32)
-  bits_small bits e = depth_small bits (ap (λ b. is_some (depth_choice b)) e ∙ good.bits)
-
-  pub never_none : (size rate code bits number : ℕ) (o : Option Header) → rate ≡ sound.rate → bits ≡ sound.bits → code ≡ length xs - 1 → 1 ≤ size → size ≤ 65535 → number < 2 ^ 31
-      → o ≡ chosen_header size rate code bits number → o ≡ None → ⊥
-  never_none size rate code bits number o r b c some few small is none =
-      chosen_there size rate code bits number some few (ap (λ k. is_some (rate_choice k)) r ∙ good.rate) (ap (λ k. is_some (depth_choice k)) b ∙ good.bits) (omega (arith, c, few_channels.1)) small (sym is ∙ none)
-
-  pub encoded_block : {X : Type 0} (start size rate code bits depth number : ℕ) (o : Option Header) (h : Header) (old new : Written) (result : Result X Why) → rate ≡ sound.rate → bits ≡ sound.bits → depth ≡ sound.bits → code ≡ length xs - 1
-      → 1 ≤ size → start + size ≤ samples_each sound.channels → number < 2 ^ 31 → old.mark.unread ≡ 0 → o ≡ chosen_header size rate code bits number → o ≡ Some h → IsHeader h
-      → WritesWhole depth size h (block_of start size (map items xs)) old new result → WritesFrame sound size number (block_of start size sound.channels) old new result
-  encoded_block start size rate code bits depth number o h old new result r b d c some within small whole is there valid wrote =
-      let deep = bits_small sound.bits refl in
-      let chosen : chosen_header size sound.rate code sound.bits number ≡ Some h = ap (λ k. chosen_header size k code sound.bits number) (sym r) ∙ ap (λ k. chosen_header size rate code k number) (sym b) ∙ sym is ∙ there in
-      let block = is_block items sound.bits start size deep.0 some xs (each_long start size within, each_fits_in sound.bits refl) in
-      let fits = subst (λ k. All (λ s. All (FitsBits sound.bits) s) (block_of start size k)) are block.1 in
-      let block_long : length (block_of start size sound.channels) ≡ length xs = length-map sound.channels (λ c. take size (drop start c)) ∙ ap (λ (l : List (List ℤ)). length l) (sym are) ∙ length-map xs items in
-      let wrote' = subst (λ k. WritesWhole sound.bits size h (block_of start size k) old new result) are (subst (λ k. WritesWhole k size h (block_of start size (map items xs)) old new result) d wrote) in
-      frame_encoded sound code size number (block_of start size sound.channels) h old new result (omega (arith, c, few_channels.1)) small whole chosen valid (omega (arith, c, few_channels.0, block_long)) fits wrote'

@@ -1,5 +1,5 @@
 -- What encoding a frame writes.
-use Rattle.std.specs.Prelude.{◌≡◌, ℕ, ◌≤◌, ◌<◌, Bool, ℤ, List, [], ◌∷◌, ◌++◌, length, map, take, drop, flat_map, Some, Option, All, Result, OnOk, true, false, ⊤}
+use Rattle.std.specs.Prelude.{◌≡◌, ℕ, ◌≤◌, ◌<◌, Bool, ℤ, List, [], ◌∷◌, ◌++◌, ◌*◌, length, map, take, drop, flat_map, Some, Option, All, Result, OnOk, true, false, ⊤}
 use Rattle.flac_bits.specs.Bits.{unsigned}
 use Rattle.flac_bits.specs.State.{Mark, past, fresh}
 use Rattle.flac_bits.specs.Signed.{FitsBits}
@@ -19,7 +19,8 @@ use Rattle.flac_subframe.specs.Subframe.{Form, samples_of}
 use Rattle.flac_frame.specs.Audio.{Sound}
 use Rattle.flac_frame.specs.Follows.{HasFormat}
 use Rattle.flac_frame.specs.Frame.{limits_at, header_rules}
-use Rattle.flac_frame.specs.Spelling.{FrameForm, frame_spelling, AreSubframes, IsFrame, FrameSamples}
+use Rattle.flac_frame.specs.Stereo.{kept_as}
+use Rattle.flac_frame.specs.Spelling.{FrameForm, frame_spelling, subframes_spelling, AreSubframes, IsFrame, FrameSamples}
 use Rattle.flac_frame.specs.declared.before.Before.{Before}
 
 -- a form that stands for samples of a depth may be spelled in a block of as many, and has these samples
@@ -56,9 +57,35 @@ AreLeast depth [] (s ∷ ss) = ⊥
 AreLeast depth (f ∷ fs) [] = ⊥
 AreLeast depth (f ∷ fs) (s ∷ ss) = IsLeastFor depth s f × AreLeast depth fs ss
 
--- at a whole byte, where the checks begin, the spelling of such a frame was written; one that was written whole has the least subframes
+-- a frame of at most 16777215 bytes
+abbrev pub IsShort : ℕ → FrameForm → Type 0
+IsShort depth f = length (frame_spelling depth f) ≤ 8 * 16777215
+
+-- each form stands for one of the channels, in the family above
+abbrev pub EachStands : List Form → List (List ℤ) → Type 0
+EachStands [] [] = ⊤
+EachStands [] (s ∷ ss) = ⊥
+EachStands (f ∷ fs) [] = ⊥
+EachStands (f ∷ fs) (s ∷ ss) = Stands 8 (fixed_below 5) f s × EachStands fs ss
+
+-- The frames of a block among which the least is chosen: under any channel code for as many channels, the subframes are forms of the family for what the code
+-- keeps of the block.
+pub record IsOfFamily (sound : Sound) (size number : ℕ) (block : List (List ℤ)) (f : FrameForm) : Type 0 where
+  pub encoding : IsEncoding sound size number block f
+  pub stand : EachStands f.subframes (kept_as f.header.channel_code block)
+
+-- the bits of the subframes
+abbrev pub subframes_cost : ℕ → FrameForm → ℕ
+subframes_cost depth f = length (subframes_spelling depth f.header.channel_code 0 f.subframes)
+
+-- No frame of the family is shorter; and where the channel code is lower, the subframes take more bits.
+pub record IsLeastFrame (sound : Sound) (size number : ℕ) (block : List (List ℤ)) (f : FrameForm) : Type 0 where
+  pub least : IsLeast (IsOfFamily sound size number block) (λ g. length (frame_spelling sound.bits g)) f
+  pub first : (g : FrameForm) → IsOfFamily sound size number block g → g.header.channel_code < f.header.channel_code → subframes_cost sound.bits f < subframes_cost sound.bits g
+
+-- at a whole byte, where the checks begin, the spelling of such a frame was written; one that was written whole is the least of the family, and short
 abbrev pub WritesFrame : {X : Type 0} → Sound → (size number : ℕ) → List (List ℤ) → Written → Written → Result X Why → Type 0
-WritesFrame sound size number block old new result = (f : FrameForm) × IsEncoding sound size number block f × OnOk result (AreLeast sound.bits f.subframes block) × Writes (frame_spelling sound.bits f) (restarted old) new result
+WritesFrame sound size number block old new result = (f : FrameForm) × IsEncoding sound size number block f × OnOk result (IsLeastFrame sound size number block f × IsShort sound.bits f) × Writes (frame_spelling sound.bits f) (restarted old) new result
 
 -- What is encoded of samples of the format that STREAMINFO tells has a header of that format, which the subset allows where the block is not too long for its
 -- rate; and where the header keeps the rules behind what the frames before leave, it is a frame of the block.
@@ -95,9 +122,11 @@ abbrev pub end_spelling : Mark → List Bool
 end_spelling m = unsigned m.unread 0 ++ unsigned 16 (past (unsigned m.unread 0) m).check16
 
 -- behind the header of a frame come its subframes, zeros up to a whole byte, and the check
+abbrev pub behind_header : Header → List Bool → Mark → List Bool
+behind_header h parts m = header_spelling h ++ (parts ++ end_spelling (past parts (past (header_spelling h) (fresh m))))
+
 abbrev pub whole_text : ℕ → Header → List Form → Mark → List Bool
-whole_text depth h fs m =
-    header_spelling h ++ (flat_map (subframe_spelling depth) fs ++ end_spelling (past (flat_map (subframe_spelling depth) fs) (past (header_spelling h) (fresh m))))
+whole_text depth h fs m = behind_header h (flat_map (subframe_spelling depth) fs) m
 
 abbrev pub WritesWhole : {X : Type 0} → (depth size : ℕ) → Header → List (List ℤ) → Written → Written → Result X Why → Type 0
 WritesWhole depth size h block old new result = (fs : List Form) × AreForms depth size fs block × OnOk result (AreLeast depth fs block) × Writes (whole_text depth h fs old.mark) (restarted old) new result

@@ -44,3 +44,25 @@ joined code channels = cond (nat_lt code 8) channels (joined_pair code channels)
 abbrev pub ChannelsAreJoined : Type 0
 ChannelsAreJoined = (code : ℕ) (first second left right : List ℤ) → 7 < code → code < 11 → length second ≡ length first
     → Joined code first second left right ↔ (joined code (first ∷ second ∷ []) ≡ left ∷ right ∷ [])
+
+-- ---- what a code keeps
+
+-- the side of two channels, and their middle (section 4.2)
+abbrev pub side_of : List ℤ → List ℤ → List ℤ
+side_of left right = zip2 (λ l r. l -ℤ r) left right
+
+abbrev pub middle_of : List ℤ → List ℤ → List ℤ
+middle_of left right = zip2 (λ l r. int_shr (l +ℤ r) 1) left right
+
+abbrev pub kept_pair : ℕ → List (List ℤ) → List (List ℤ)
+kept_pair code (left ∷ right ∷ []) =
+    cond (nat_eq code 8) (left ∷ side_of left right ∷ []) (cond (nat_eq code 9) (side_of left right ∷ right ∷ []) (middle_of left right ∷ side_of left right ∷ []))
+kept_pair code channels = channels
+
+-- What channels are kept as: under the codes below 8 they are what they are (section 9.1.3).
+unfoldable pub kept_as : ℕ → List (List ℤ) → List (List ℤ)
+kept_as code channels = cond (nat_lt code 8) channels (kept_pair code channels)
+
+-- joining what two channels are kept as gives them back
+abbrev pub ChannelsAreKept : Type 0
+ChannelsAreKept = (code : ℕ) (left right : List ℤ) → code < 11 → length right ≡ length left → joined code (kept_as code (left ∷ right ∷ [])) ≡ left ∷ right ∷ []

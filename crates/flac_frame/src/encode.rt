@@ -7,6 +7,7 @@ ghost use Rattle.flac_frame.specs.Audio.{samples_each};
 ghost use Rattle.flac_frame.specs.Encoding.{block_of, end_spelling, WritesLeast, WritesForms, WritesWhole, WritesFrame};
 
 use crate::audio::Audio;
+use crate::pair::encode_pair;
 use flac_bits::{BitWriter, Target, Why};
 use flac_header::{FrameHeader, write_header};
 use flac_subframe::{choose_into, write_subframe_into};
@@ -18,6 +19,9 @@ use std::ops::Range;
 #[derive(Drop)]
 pub struct EncodeBuffers {
     samples: Vec<i64>,
+    right: Vec<i64>,
+    side: Vec<i64>,
+    middle: Vec<i64>,
     shortened: Vec<i64>,
     values: Vec<i64>,
     max_block: usize,
@@ -32,6 +36,9 @@ impl Model for EncodeBuffers {
 
     ghost invariant = { λ b. record {
       samples : vec_len b.samples ≡ b.max_block;
+      right : vec_len b.right ≡ b.max_block;
+      side : vec_len b.side ≡ b.max_block;
+      middle : vec_len b.middle ≡ b.max_block;
       shortened : vec_len b.shortened ≡ b.max_block;
       values : vec_len b.values ≡ b.max_block;
       max_block : b.max_block ≤ 65535;
@@ -49,10 +56,16 @@ impl EncodeBuffers {
     {
         let max_block = max_block as usize;
         let samples = vec![in alloc; 0i64; max_block]?;
+        let right = vec![in alloc; 0i64; max_block]?;
+        let side = vec![in alloc; 0i64; max_block]?;
+        let middle = vec![in alloc; 0i64; max_block]?;
         let shortened = vec![in alloc; 0i64; max_block]?;
         let values = vec![in alloc; 0i64; max_block]?;
         Ok(EncodeBuffers {
             samples,
+            right,
+            side,
+            middle,
             shortened,
             values,
             max_block,
@@ -61,7 +74,7 @@ impl EncodeBuffers {
 }
 
 /// Puts samples into places of 64 bits.
-fn widen(samples: &[i32], out: &mut [i64])
+pub(crate) fn widen(samples: &[i32], out: &mut [i64])
     requires { length out.old ≡ length samples.now }
     ensures { out.new ≡ samples.now }
 {
@@ -118,7 +131,7 @@ fn write_channels<W: Target>(
 }
 
 /// Writes the zeros up to a whole byte, and CRC-16 (RFC 9639, section 9.3).
-fn write_end<W: Target>(writer: &mut BitWriter<W>) -> Result<(), Why>
+pub(crate) fn write_end<W: Target>(writer: &mut BitWriter<W>) -> Result<(), Why>
     ensures { Writes (end_spelling writer.old.mark) writer.old writer.new result }
 {
     writer.align()?;
@@ -152,7 +165,7 @@ fn write_frame<W: Target>(
     write_end(writer)
 }
 
-/// Writes so many of the samples from one on as the frame of a number.
+/// Writes so many of the samples from one on, of channels other than two, as the frame of a number.
 fn encode_into<W: Target>(
     audio: &Audio,
     start: usize,
@@ -164,6 +177,7 @@ fn encode_into<W: Target>(
 ) -> Result<(), Why>
     requires some { 0 < length samples.old }
     requires few { length samples.old ≤ 65535 }
+    requires other { length audio.now.channels ≡ 2 → ⊥ }
     requires within { start + length samples.old ≤ samples_each audio.now.channels }
     requires places { length samples.old ≤ length shortened.old }
     requires values { length samples.old ≤ length values.old }
@@ -184,13 +198,16 @@ fn encode_into<W: Target>(
     )
 }
 
-/// Writes so many of the samples from one on as the frame of a number, with the first places of an array that may have more.
+/// Writes so many of the samples from one on as the frame of a number, with the first places of arrays that may have more.
 fn encode_first<W: Target>(
     audio: &Audio,
     start: usize,
     size: usize,
     number: u64,
     samples: &mut [i64],
+    right: &mut [i64],
+    side: &mut [i64],
+    middle: &mut [i64],
     shortened: &mut [i64],
     values: &mut [i64],
     writer: &mut BitWriter<W>,
@@ -199,17 +216,27 @@ fn encode_first<W: Target>(
     requires few { size ≤ 65535 }
     requires within { start + size ≤ samples_each audio.now.channels }
     requires samples { size ≤ length samples.old }
+    requires right { size ≤ length right.old }
+    requires side { size ≤ length side.old }
+    requires middle { size ≤ length middle.old }
     requires places { size ≤ length shortened.old }
     requires values { size ≤ length values.old }
     requires number { number < 2 ^ 31 }
     requires whole { writer.old.mark.unread ≡ 0 }
     ensures { WritesFrame audio.now size number (block_of start size audio.now.channels) writer.old writer.new result }
 {
-    encode_into(
+    let samples = &mut samples[..size];
+    if audio.channels().len() != 2 {
+        return encode_into(audio, start, number, samples, shortened, values, writer);
+    }
+    encode_pair(
         audio,
         start,
         number,
-        &mut samples[..size],
+        samples,
+        &mut right[..size],
+        &mut side[..size],
+        &mut middle[..size],
         shortened,
         values,
         writer,
@@ -217,6 +244,9 @@ fn encode_first<W: Target>(
 }
 
 /// Writes a block of the samples as the frame of a number, at a whole byte (RFC 9639, section 9).
+///
+/// Each subframe is the least of its family. Two channels are kept as they are, as left and side, as side and right, or as middle and side
+/// (section 9.1.3), whichever takes the fewest bits; among equals the first of these.
 ///
 /// The range lies in the samples and has 1 sample at least, and as many as the buffers have places for at most; the number is below 2^31.
 /// Refuses [`Why::Write`] alone, where the target does.
@@ -241,6 +271,9 @@ pub fn encode_frame<W: Target>(
         range.end - range.start,
         number,
         &mut buffers.samples,
+        &mut buffers.right,
+        &mut buffers.side,
+        &mut buffers.middle,
         &mut buffers.shortened,
         &mut buffers.values,
         writer,

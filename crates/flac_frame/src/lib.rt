@@ -8,6 +8,8 @@ mod channels;
 mod encode;
 mod end;
 mod fill;
+mod pair;
+mod plane;
 mod promises;
 mod samples;
 mod setup;

@@ -3,11 +3,13 @@
 ghost use Rattle.flac_frame.specs.Encoding.{FormsStand, EncodingsAreFrames};
 ghost use Rattle.flac_frame.specs.Follows.{AcceptedFollow, FramesFollow};
 ghost use Rattle.flac_frame.specs.Spelling.{FramesAreSpelled, FramesAreReadAgain, FramesAreBytes};
-ghost use Rattle.flac_frame.specs.Stereo.{ChannelsAreJoined};
+ghost use Rattle.flac_frame.specs.Stereo.{ChannelsAreJoined, ChannelsAreKept};
 
-/// The channels that are read are the only ones of which the equations of left, right, middle and side hold.
+/// The channels that are read are the only ones of which the equations of left, right, middle and side hold; and what two channels are kept as
+/// under a code gives them back.
 pub fn channels_are_joined()
-    ensures { ChannelsAreJoined }
+    ensures joined { ChannelsAreJoined }
+    ensures kept { ChannelsAreKept }
 {}
 
 /// What a reader judges of one header after another is what the standard asks of the list of all headers, and the frames that it

@@ -192,3 +192,49 @@ fn frames_are_written(rt: HostRuntime) -> Result<(), Fail> {
     assert_eq!(rt; writer.into_target().bytes(), frame.as_slice());
     Ok(())
 }
+
+/// The bytes of the frame of two channels.
+fn written(alloc: Global, bits: u32, left: &[i32], right: &[i32]) -> Result<Vec<u8>, Why> {
+    let Ok(audio) = two_channels(alloc, 44100, bits, left, right)? else {
+        return Err(Why::Write);
+    };
+    let mut writer = BitWriter::new(Collected::new(alloc));
+    write_all(alloc, &audio, &mut writer)?;
+    Ok(writer.into_target().into_bytes())
+}
+
+#[test]
+fn equal_channels_are_left_and_side(rt: HostRuntime) -> Result<(), Fail> {
+    let ramp = [0, 1, 2, 3, 4, 5, 6, 7, 8, 9, 10, 11, 12, 13, 14, 15];
+    let frame = [
+        0xFF, 0xF8, 0x69, 0x88, 0x00, 0x0F, 0x3B, 0x14, 0x00, 0x00, 0x00, 0x01, 0x03, 0xC0, 0x20,
+        0x07, 0x80, 0x3D, 0x83,
+    ];
+    let bytes = written(rt.alloc(), 16, &ramp, &ramp)?;
+    assert_eq!(rt; bytes.as_slice(), frame.as_slice());
+    Ok(())
+}
+
+#[test]
+fn widest_side(rt: HostRuntime) -> Result<(), Fail> {
+    let alloc = rt.alloc();
+    let high = 2147483647;
+    let low = -2147483648;
+    let left = [
+        high, low, high, low, high, low, high, low, high, low, high, low, high, low, high, low,
+    ];
+    let right = [
+        low, high, low, high, low, high, low, high, low, high, low, high, low, high, low, high,
+    ];
+    let bytes = written(alloc, 32, &left, &right)?;
+    let mut bits = BitReader::new(Memory::new(bytes.as_slice()));
+    let mut buffers = FrameBuffers::new(alloc, 2, 16)?;
+    let info = StreamInfo::new(16, 16, 0, 0, 44100, 2, 32, 0, [0; 16])?;
+    let view = buffers.read_frame(&mut bits, &info, Profile::Subset)?;
+    assert_eq!(rt; (view.channels(), view.len()), (2, 16));
+    for i in 0..16 {
+        assert_eq!(rt; sample(&view, 0, i), left.get(i).copied());
+        assert_eq!(rt; sample(&view, 1, i), right.get(i).copied());
+    }
+    Ok(())
+}

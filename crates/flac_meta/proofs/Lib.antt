@@ -9,3 +9,4 @@ pub mod Contents
 pub mod Pictures
 pub mod Sheets
 pub mod Blocks
+pub mod Small

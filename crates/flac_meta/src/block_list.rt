@@ -2,9 +2,11 @@
 
 ghost use Rattle.std.specs.Prelude.{◌≡◌, MatchResult, OnOk, None, Some};
 ghost use Rattle.flac_meta.specs.Listed.{fault_behind, list_fault, info_seen};
+ghost use Rattle.flac_meta.specs.Valid.{AllAre, FitsFields};
 
 use crate::block::Block;
 use crate::faults::fault_of;
+use crate::fits::blocks_fit;
 use crate::seen::Seen;
 use flac_bits::Why;
 use std::marker::Model;
@@ -24,10 +26,11 @@ impl Model for BlockList {
 
     ghost use Rattle.std.specs.Prelude.{◌≡◌, None};
     ghost use Rattle.flac_meta.specs.Listed.{list_fault, info_seen};
+    ghost use Rattle.flac_meta.specs.Valid.{AllAre, FitsFields};
 
     ghost view = { λ b. b.blocks.items };
 
-    ghost invariant = { λ b. list_fault info_seen b.blocks.items ≡ None };
+    ghost invariant = { λ b. (list_fault info_seen b.blocks.items ≡ None) × AllAre FitsFields b.blocks.items };
 }
 
 /// Why a block may not stand behind those that came, if it may not.
@@ -73,7 +76,10 @@ impl BlockList {
     {
         match first_fault(&blocks) {
             Some(why) => Err(why),
-            None => Ok(BlockList { blocks }),
+            None => {
+                blocks_fit(&blocks);
+                Ok(BlockList { blocks })
+            }
         }
     }
 
@@ -81,6 +87,7 @@ impl BlockList {
     pub fn blocks(&self) -> &[Block]
         ensures items { result.now ≡ self.now }
         ensures good { list_fault info_seen self.now ≡ None }
+        ensures fits { AllAre FitsFields self.now }
     {
         self.blocks.as_slice()
     }

@@ -64,7 +64,7 @@ pub struct CueTrack {
 /// The tracks of a cue sheet.
 #[derive(Debug, Drop)]
 pub struct CueTracks {
-    items: Vec<CueTrack>,
+    tracks: Vec<CueTrack>,
 }
 
 impl Model for CueTracks {
@@ -73,22 +73,22 @@ impl Model for CueTracks {
 
     ghost Value = { List CueTrack };
 
-    ghost view = { λ t. t.items.items };
+    ghost view = { λ t. t.tracks.items };
 }
 
 impl CueTracks {
     /// The tracks of a vector.
-    pub fn from_vec(items: Vec<CueTrack>) -> CueTracks
-        ensures { result ≡ items.items }
+    pub fn from_vec(tracks: Vec<CueTrack>) -> CueTracks
+        ensures { result ≡ tracks.items }
     {
-        CueTracks { items }
+        CueTracks { tracks }
     }
 
     /// The tracks.
     pub fn as_slice(&self) -> &[CueTrack]
         ensures { result.now ≡ self.now }
     {
-        self.items.as_slice()
+        self.tracks.as_slice()
     }
 }
 

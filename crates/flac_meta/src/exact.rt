@@ -10,7 +10,7 @@ use flac_bits::{BitReader, Source, Why};
 
 /// Fills the places with the bytes that come next.
 #[tactic(auto, using(flac_bits::proofs::Lists::list_more, flac_bits::proofs::Lists::list_end, flac_bits::proofs::Lists::list_start))]
-pub fn read_exact<R: Source>(bits: &mut BitReader<R>, out: &mut [u8]) -> Result<(), Why>
+pub(crate) fn read_exact<R: Source>(bits: &mut BitReader<R>, out: &mut [u8]) -> Result<(), Why>
     ensures spends { OnOk result (bits.new.most ≤ bits.old.most) }
     ensures counts { Counts bits.old bits.new result }
     ensures reads { Reads (λ _. out.new) (list_of (length out.old) (number 8)) bits.old bits.new result }
@@ -23,7 +23,7 @@ pub fn read_exact<R: Source>(bits: &mut BitReader<R>, out: &mut [u8]) -> Result<
 
 /// Passes over so many bytes.
 #[tactic(auto, using(crate::proofs::Skips::skip_more, crate::proofs::Skips::skip_last))]
-pub fn skip_bytes<R: Source>(bits: &mut BitReader<R>, length: u32) -> Result<(), Why>
+pub(crate) fn skip_bytes<R: Source>(bits: &mut BitReader<R>, length: u32) -> Result<(), Why>
     requires { length < 2 ^ 24 }
     ensures spends { OnOk result (bits.new.most ≤ bits.old.most) }
     ensures counts { Counts bits.old bits.new result }

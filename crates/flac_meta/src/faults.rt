@@ -59,7 +59,7 @@ fn is_of_forbidden_kind(block: &Block) -> bool
 }
 
 /// Why a block may not be written, if it may not.
-pub fn fault_of(block: &Block) -> Option<Why>
+pub(crate) fn fault_of(block: &Block) -> Option<Why>
     ensures { result ≡ block_fault block.now }
 {
     if is_of_forbidden_kind(block) {

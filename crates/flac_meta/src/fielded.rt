@@ -13,7 +13,7 @@ pub struct Field {
 }
 
 /// A flag as a number of one bit.
-pub fn flag(set: bool) -> u64
+pub(crate) fn flag(set: bool) -> u64
     ensures value { result ≡ bit_value set }
     ensures fits { result < 2 ^ 1 }
 {

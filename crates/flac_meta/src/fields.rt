@@ -13,7 +13,7 @@ use std::alloc::Global;
 
 /// A number of 32 bits, its lowest byte first.
 #[tactic(auto, unfolding(crate::specs::Fields::little_endian))]
-pub fn read_little_endian<R: Source>(bits: &mut BitReader<R>) -> Result<u32, Why>
+pub(crate) fn read_little_endian<R: Source>(bits: &mut BitReader<R>) -> Result<u32, Why>
     ensures spends { OnOk result (bits.new.most ≤ bits.old.most) }
     ensures counts { Counts bits.old bits.new result }
     ensures reads { Reads (λ v. v) little_endian bits.old bits.new result }
@@ -27,7 +27,11 @@ pub fn read_little_endian<R: Source>(bits: &mut BitReader<R>) -> Result<u32, Why
 
 /// So many bytes. Memory is asked for as they come.
 #[tactic(auto, using(flac_bits::proofs::Lists::list_more, flac_bits::proofs::Lists::list_end, flac_bits::proofs::Lists::list_start))]
-pub fn read_raw<R: Source>(alloc: Global, bits: &mut BitReader<R>, size: u32) -> Result<Bytes, Why>
+pub(crate) fn read_raw<R: Source>(
+    alloc: Global,
+    bits: &mut BitReader<R>,
+    size: u32,
+) -> Result<Bytes, Why>
     ensures size { IfOk result (λ b. length b ≡ size) }
     ensures spends { OnOk result (bits.new.most ≤ bits.old.most) }
     ensures counts { Counts bits.old bits.new result }
@@ -43,7 +47,7 @@ pub fn read_raw<R: Source>(alloc: Global, bits: &mut BitReader<R>, size: u32) ->
 
 /// Bytes behind their number, whose lowest byte comes first, in a content of which so many bytes are left.
 #[tactic(auto, unfolding(crate::specs::Fields::sized))]
-pub fn read_sized_little<R: Source>(
+pub(crate) fn read_sized_little<R: Source>(
     alloc: Global,
     bits: &mut BitReader<R>,
     left: u32,
@@ -67,7 +71,7 @@ pub fn read_sized_little<R: Source>(
 
 /// Bytes behind their number, in a content of which so many bytes are left.
 #[tactic(auto, unfolding(crate::specs::Fields::sized))]
-pub fn read_sized<R: Source>(
+pub(crate) fn read_sized<R: Source>(
     alloc: Global,
     bits: &mut BitReader<R>,
     left: u32,
@@ -91,7 +95,7 @@ pub fn read_sized<R: Source>(
 
 /// A number of 32 bits, in a content of which so many bytes are left.
 #[tactic(auto, unfolding(crate::specs::Fields::number_32))]
-pub fn read_number_32<R: Source>(bits: &mut BitReader<R>, left: u32) -> Result<u32, Why>
+pub(crate) fn read_number_32<R: Source>(bits: &mut BitReader<R>, left: u32) -> Result<u32, Why>
     requires { left < 2 ^ 24 }
     ensures fits { OnOk result (4 ≤ left) }
     ensures spends { OnOk result (bits.new.most ≤ bits.old.most) }
@@ -107,7 +111,7 @@ pub fn read_number_32<R: Source>(bits: &mut BitReader<R>, left: u32) -> Result<u
 
 /// Whether so many bits are zeros.
 #[tactic(auto, using(crate::proofs::Zeros::zeros_first, crate::proofs::Zeros::zeros_more, crate::proofs::Zeros::zeros_end))]
-pub fn read_zeros<R: Source>(bits: &mut BitReader<R>, count: u32) -> Result<bool, Why>
+pub(crate) fn read_zeros<R: Source>(bits: &mut BitReader<R>, count: u32) -> Result<bool, Why>
     ensures spends { OnOk result (bits.new.most ≤ bits.old.most) }
     ensures counts { Counts bits.old bits.new result }
     ensures reads { Reads (λ z. z) (zeros count) bits.old bits.new result }

@@ -17,7 +17,7 @@ pub struct BlockHeader {
 
 /// Reads the header of the next block.
 #[tactic(auto, unfolding(crate::specs::Header::block_header))]
-pub fn read_block_header<R: Source>(
+pub(crate) fn read_block_header<R: Source>(
     bits: &mut BitReader<R>,
     seen: &Seen,
 ) -> Result<BlockHeader, Why>

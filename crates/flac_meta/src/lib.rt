@@ -10,6 +10,7 @@ mod exact;
 mod faults;
 mod fielded;
 mod fields;
+mod fits;
 mod header;
 mod lists;
 mod picture;

@@ -49,34 +49,34 @@ impl Bytes {
 /// Texts, each of bytes that need not be UTF-8.
 #[derive(Debug, Drop)]
 pub struct Texts {
-    items: Vec<Bytes>,
+    texts: Vec<Bytes>,
 }
 
 impl Model for Texts {
     ghost Value = { List (List ℕ) };
 
-    ghost view = { λ t. t.items.items };
+    ghost view = { λ t. t.texts.items };
 }
 
 impl Texts {
     /// The texts of a vector.
-    pub fn from_vec(items: Vec<Bytes>) -> Texts
-        ensures { result ≡ items.items }
+    pub fn from_vec(texts: Vec<Bytes>) -> Texts
+        ensures { result ≡ texts.items }
     {
-        Texts { items }
+        Texts { texts }
     }
 
     /// The texts as a vector.
     pub fn into_vec(self) -> Vec<Bytes>
         ensures { result.items ≡ self }
     {
-        self.items
+        self.texts
     }
 
     /// The texts.
     pub fn as_slice(&self) -> &[Bytes]
         ensures { result.now ≡ self.now }
     {
-        self.items.as_slice()
+        self.texts.as_slice()
     }
 }

@@ -10,7 +10,7 @@ use crate::stream_info::StreamInfo;
 use flac_bits::{BitWriter, Target, Why};
 
 /// Writes these fields, one after another.
-pub fn put_fields<W: Target>(writer: &mut BitWriter<W>, fields: &[Field]) -> Result<(), Why>
+pub(crate) fn put_fields<W: Target>(writer: &mut BitWriter<W>, fields: &[Field]) -> Result<(), Why>
     ensures { Writes (fields_spelling fields.now) writer.old writer.new result }
 {
     for field in fields {
@@ -20,7 +20,7 @@ pub fn put_fields<W: Target>(writer: &mut BitWriter<W>, fields: &[Field]) -> Res
 }
 
 /// Writes so many zeros.
-pub fn put_zeros<W: Target>(writer: &mut BitWriter<W>, count: u32) -> Result<(), Why>
+pub(crate) fn put_zeros<W: Target>(writer: &mut BitWriter<W>, count: u32) -> Result<(), Why>
     ensures { Writes (zero_bits count) writer.old writer.new result }
 {
     writer.put(count % 64, 0)?;
@@ -33,7 +33,7 @@ pub fn put_zeros<W: Target>(writer: &mut BitWriter<W>, count: u32) -> Result<(),
 
 /// Writes the content of STREAMINFO (RFC 9639, section 8.2).
 #[tactic(auto, unfolding(crate::specs::Spelling::info_spelling))]
-pub fn put_info<W: Target>(writer: &mut BitWriter<W>, info: &StreamInfo) -> Result<(), Why>
+pub(crate) fn put_info<W: Target>(writer: &mut BitWriter<W>, info: &StreamInfo) -> Result<(), Why>
     ensures { Writes (info_spelling info.now) writer.old writer.new result }
 {
     put_fields(
@@ -79,7 +79,7 @@ pub fn put_info<W: Target>(writer: &mut BitWriter<W>, info: &StreamInfo) -> Resu
 
 /// Writes a number of 32 bits, its lowest byte first.
 #[tactic(auto, unfolding(crate::specs::Spelling::little_bits, crate::specs::Spelling::each_spelled))]
-pub fn put_little<W: Target>(writer: &mut BitWriter<W>, value: u32) -> Result<(), Why>
+pub(crate) fn put_little<W: Target>(writer: &mut BitWriter<W>, value: u32) -> Result<(), Why>
     ensures { Writes (little_bits value) writer.old writer.new result }
 {
     put_fields(
@@ -106,7 +106,10 @@ pub fn put_little<W: Target>(writer: &mut BitWriter<W>, value: u32) -> Result<()
 }
 
 /// Writes bytes behind their number, whose lowest byte comes first.
-pub fn put_little_sized<W: Target>(writer: &mut BitWriter<W>, bytes: &[u8]) -> Result<(), Why>
+pub(crate) fn put_little_sized<W: Target>(
+    writer: &mut BitWriter<W>,
+    bytes: &[u8],
+) -> Result<(), Why>
     requires { length bytes.now < 2 ^ 24 }
     ensures { Writes (little_sized bytes.now) writer.old writer.new result }
 {
@@ -116,7 +119,7 @@ pub fn put_little_sized<W: Target>(writer: &mut BitWriter<W>, bytes: &[u8]) -> R
 }
 
 /// Writes bytes behind their number.
-pub fn put_sized<W: Target>(writer: &mut BitWriter<W>, bytes: &[u8]) -> Result<(), Why>
+pub(crate) fn put_sized<W: Target>(writer: &mut BitWriter<W>, bytes: &[u8]) -> Result<(), Why>
     requires { length bytes.now < 2 ^ 24 }
     ensures { Writes (sized_bits bytes.now) writer.old writer.new result }
 {
@@ -126,7 +129,7 @@ pub fn put_sized<W: Target>(writer: &mut BitWriter<W>, bytes: &[u8]) -> Result<(
 }
 
 /// Writes the header of a block (RFC 9639, section 8.1).
-pub fn put_header<W: Target>(
+pub(crate) fn put_header<W: Target>(
     writer: &mut BitWriter<W>,
     last: bool,
     kind: u8,

@@ -72,7 +72,7 @@ fn put_tracks<W: Target>(writer: &mut BitWriter<W>, tracks: &[CueTrack]) -> Resu
 }
 
 /// Writes a cue sheet (RFC 9639, section 8.7).
-pub fn put_sheet<W: Target>(writer: &mut BitWriter<W>, sheet: &CueSheet) -> Result<(), Why>
+pub(crate) fn put_sheet<W: Target>(writer: &mut BitWriter<W>, sheet: &CueSheet) -> Result<(), Why>
     requires { is_bad_sheet sheet.now ≡ false }
     ensures { Writes (sheet_spelling sheet.now) writer.old writer.new result }
 {

@@ -23,7 +23,10 @@ fn put_point<W: Target>(writer: &mut BitWriter<W>, point: &SeekPoint) -> Result<
 }
 
 /// Writes seek points (RFC 9639, section 8.5).
-pub fn put_points<W: Target>(writer: &mut BitWriter<W>, points: &[SeekPoint]) -> Result<(), Why>
+pub(crate) fn put_points<W: Target>(
+    writer: &mut BitWriter<W>,
+    points: &[SeekPoint],
+) -> Result<(), Why>
     ensures { Writes (each_spelled point_spelling points.now) writer.old writer.new result }
 {
     for point in points {
@@ -45,7 +48,10 @@ fn put_texts<W: Target>(writer: &mut BitWriter<W>, texts: &[Bytes]) -> Result<()
 
 /// Writes a Vorbis comment (RFC 9639, section 8.6).
 #[tactic(auto, using(crate::proofs::Lengths::texts_many))]
-pub fn put_comments<W: Target>(writer: &mut BitWriter<W>, comments: &Comments) -> Result<(), Why>
+pub(crate) fn put_comments<W: Target>(
+    writer: &mut BitWriter<W>,
+    comments: &Comments,
+) -> Result<(), Why>
     requires { comments_length comments.now < 2 ^ 24 }
     ensures { Writes (comments_spelling comments.now) writer.old writer.new result }
 {
@@ -58,7 +64,10 @@ pub fn put_comments<W: Target>(writer: &mut BitWriter<W>, comments: &Comments) -
 }
 
 /// Writes a picture (RFC 9639, section 8.8).
-pub fn put_picture<W: Target>(writer: &mut BitWriter<W>, picture: &Picture) -> Result<(), Why>
+pub(crate) fn put_picture<W: Target>(
+    writer: &mut BitWriter<W>,
+    picture: &Picture,
+) -> Result<(), Why>
     requires { 32 + length picture.now.media + length picture.now.text + length picture.now.bytes < 2 ^ 24 }
     ensures { Writes (picture_spelling picture.now) writer.old writer.new result }
 {

@@ -159,7 +159,7 @@ fn read_sheet_front<R: Source>(bits: &mut BitReader<R>) -> Result<([u8; 128], u6
 
 /// A cue sheet of so many bytes (RFC 9639, section 8.7).
 #[tactic(auto, unfolding(crate::specs::CueSheet::cue_sheet))]
-pub fn read_cue_sheet<R: Source>(
+pub(crate) fn read_cue_sheet<R: Source>(
     alloc: Global,
     bits: &mut BitReader<R>,
     left: u32,

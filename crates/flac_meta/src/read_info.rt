@@ -10,7 +10,7 @@ use flac_bits::{BitReader, Source, Why};
 
 /// Reads the content of a STREAMINFO block (RFC 9639, section 8.2).
 #[tactic(auto, unfolding(crate::specs::Info::stream_info))]
-pub fn read_stream_info<R: Source>(bits: &mut BitReader<R>) -> Result<StreamInfo, Why>
+pub(crate) fn read_stream_info<R: Source>(bits: &mut BitReader<R>) -> Result<StreamInfo, Why>
     ensures spends { OnOk result (bits.new.most ≤ bits.old.most) }
     ensures counts { Counts bits.old bits.new result }
     ensures reads { Reads (λ i. i) stream_info bits.old bits.new result }

@@ -16,7 +16,7 @@ use flac_bits::{BitReader, Source, Why};
 use std::alloc::Global;
 
 /// Whether a point of this sample number may stand behind one of that.
-pub fn may_follow(before: Option<u64>, sample: u64) -> bool
+pub(crate) fn may_follow(before: Option<u64>, sample: u64) -> bool
     ensures { result ≡ follows before sample }
 {
     match before {
@@ -47,7 +47,7 @@ fn read_point<R: Source>(bits: &mut BitReader<R>, before: Option<u64>) -> Result
 
 /// A seek table of so many points.
 #[tactic(auto, using(crate::proofs::Turns::points_more, crate::proofs::Turns::points_end, crate::proofs::Turns::turn_start))]
-pub fn read_seek_table<R: Source>(
+pub(crate) fn read_seek_table<R: Source>(
     alloc: Global,
     bits: &mut BitReader<R>,
     count: u32,
@@ -96,7 +96,7 @@ fn read_texts<R: Source>(
 
 /// A Vorbis comment of so many bytes (RFC 9639, section 8.6).
 #[tactic(auto, unfolding(crate::specs::Comments::comments))]
-pub fn read_comments<R: Source>(
+pub(crate) fn read_comments<R: Source>(
     alloc: Global,
     bits: &mut BitReader<R>,
     left: u32,
@@ -138,7 +138,7 @@ fn read_sizes<R: Source>(bits: &mut BitReader<R>, left: u32) -> Result<(u32, u32
 
 /// A picture of so many bytes (RFC 9639, section 8.8).
 #[tactic(auto, unfolding(crate::specs::Picture::picture))]
-pub fn read_picture<R: Source>(
+pub(crate) fn read_picture<R: Source>(
     alloc: Global,
     bits: &mut BitReader<R>,
     left: u32,

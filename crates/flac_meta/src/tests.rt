@@ -7,6 +7,7 @@ use crate::{
 use flac_bits::{BitReader, BitWriter, Collected, Memory, Why};
 use std::alloc::Global;
 use std::test::Fail;
+use std::{fs, io};
 
 /// The block that comes behind STREAMINFO, and whether it is the last.
 fn read(alloc: Global, bytes: &[u8]) -> Result<(bool, Block), Why> {
@@ -253,6 +254,47 @@ fn tables_refused(rt: HostRuntime) -> Result<(), Fail> {
         tracks: CueTracks::from_vec(Vec::new(alloc)),
     };
     assert_eq!(rt; fault(alloc, Block::CueSheet(sheet))?, Some(Why::CueSheet));
+    Ok(())
+}
+
+/// The most memory in KiB that this process ever had, as the system counts it; 0 where it does not say.
+fn peak(rt: &HostRuntime) -> io::Result<u64> {
+    let status = fs::read_to_string(rt, "/proc/self/status")?;
+    let mut words = status
+        .split_whitespace()
+        .skip_while(|word| *word != "VmPeak:");
+    let _name = words.next();
+    let number = words.next().and_then(|word| word.parse::<u64>().ok());
+    Ok(number.unwrap_or(0))
+}
+
+/// A length, a count of comments or a count of points asks for no memory before what it announces came, whether it fits the
+/// block or not.
+#[test]
+fn claims_take_no_memory(rt: HostRuntime) -> Result<(), Fail> {
+    let alloc = rt.alloc();
+    let before = peak(&rt)?;
+    let four_thousand_million = [0x84, 0, 0, 8, 0, 0, 0, 0, 0xFF, 0xFF, 0xFF, 0xFF];
+    assert_eq!(rt;
+        refusal(alloc, &four_thousand_million),
+        Some(Why::BlockLength)
+    );
+    let heads: [&[u8]; 6] = [
+        &[0x82, 0xFF, 0xFF, 0xFF, 1, 2, 3, 4],
+        &[0x83, 0xFF, 0xFF, 0xF6],
+        &[0x84, 0xFF, 0xFF, 0xFF, 0xF0, 0xFF, 0xFF, 0],
+        &[0x84, 0xFF, 0xFF, 0xFF, 0, 0, 0, 0, 0xFD, 0xFF, 0x3F, 0],
+        &[0x86, 0xFF, 0xFF, 0xFF, 0, 0, 0, 3, 0, 0xFF, 0xFF, 0xD0],
+        &[0x87, 0xFF, 0xFF, 0xFF],
+    ];
+    for head in heads {
+        assert_eq!(rt; refusal(alloc, head), Some(Why::Truncated));
+    }
+    let after = peak(&rt)?;
+    assert!(rt;
+        before > 0 && after.saturating_sub(before) < 1024,
+        "{before} {after}"
+    );
     Ok(())
 }
 

@@ -4,10 +4,10 @@ use Rattle.flac_bits.specs.Bits.{is_nil}
 use Rattle.flac_bits.specs.State.{Cursor}
 use Rattle.flac_bits.specs.Layout.{Rule}
 use Rattle.flac_bits.specs.Meaning.{AllKept, BreaksFirst}
-use Rattle.flac_bits.specs.Items.{step_at, over, refused, judged, Step}
+use Rattle.flac_bits.specs.Items.{step_at, over, refused, judged}
 use Rattle.flac_bits.specs.declared.why.Why.{Why}
 use Rattle.flac_native.specs.Stream.{Piece, Progress, Stand, grammar, may_end_in, end_rules}
-use Rattle.flac_native.specs.Track.{IsAt, stand_of, info_in}
+use Rattle.flac_native.specs.Track.{IsAt, info_in}
 use Rattle.flac_native.specs.declared.track.Track.{Track}
 use Rattle.flac_native.specs.declared.fault.Place.{Place}
 use Rattle.flac_native.specs.declared.fault.Place.TheVariants as place

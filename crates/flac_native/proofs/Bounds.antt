@@ -1,14 +1,13 @@
 -- A fence round one item, and no fence between items.
-use Rattle.std.proofs.Common.{◌≡◌, ℕ, ◌+◌, ◌*◌, ◌<◌, ◌≤◌, Bool, true, false, nat_eq, List, [], ◌++◌, Option, Some, None, Result, Ok, Err, refl, sym, ap, subst, ◌∙◌}
+use Rattle.std.proofs.Common.{◌≡◌, ℕ, ◌<◌, ◌≤◌, Bool, true, false, nat_eq, List, ◌++◌, Some, Result, Ok, Err, refl, sym, ap, subst, ◌∙◌}
 use Rattle.std.proofs.lemmas.List.{append-nil}
-use Rattle.flac_bits.specs.State.{State, Mark, Cursor, Behind, past, fresh, with_short, without_fence, started, short_of}
+use Rattle.flac_bits.specs.State.{State, Mark, Cursor, Behind, fresh, with_short, without_fence, started, short_of}
 use Rattle.flac_bits.specs.Layout.{Layout, Reason, run, done, ◌>>=◌, and_then}
-use Rattle.flac_bits.specs.Reading.{Reads, Counts, Answers}
+use Rattle.flac_bits.specs.Reading.{Reads, Counts}
 use Rattle.flac_bits.specs.Fence.{fenced, unfenced, read_in}
 use Rattle.flac_bits.specs.Fencing.{lifted, fence_at, all_left}
 use Rattle.flac_bits.specs.Items.{Grammar, step_at, item}
 use Rattle.flac_bits.specs.declared.why.Why.{Why}
-use Rattle.flac_bits.proofs.Laws.{at_}
 use Rattle.flac_bits.proofs.Meaning.{past-short}
 use Rattle.flac_bits.proofs.Fences.{answers_in}
 use Rattle.flac_bits.proofs.Items.{step_spelled}

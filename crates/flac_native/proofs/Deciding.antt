@@ -9,7 +9,7 @@ use Rattle.flac_bits.proofs.Handing.{one_reading}
 use Rattle.flac_frame.specs.Frame.{frame, stream_header}
 use Rattle.flac_header.specs.Header.{header}
 use Rattle.flac_meta.specs.Info.{Info}
-use Rattle.flac_native.specs.Stream.{Stand, grammar, layout, layout_in, frame_behind, may_end_in}
+use Rattle.flac_native.specs.Stream.{grammar, layout, layout_in, frame_behind, may_end_in}
 use Rattle.flac_native.specs.declared.phase.Phase.{Phase}
 use Rattle.flac_native.specs.declared.phase.Phase.TheVariants.{Opening, Blocks, Frames}
 

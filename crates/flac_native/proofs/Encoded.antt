@@ -1,49 +1,31 @@
 -- What is written is a stream of what was given.
-use Rattle.std.proofs.Common.{◌≡◌, ℕ, zero, suc, ◌+◌, ◌-◌, ◌*◌, ◌/◌, ◌%◌, ◌^◌, ◌<◌, ◌≤◌, min, ℤ, pos, Bool, true, false, not, cond, ◌&&◌, ◌||◌, nat_eq, nat_lt, List, [], ◌∷◌, ◌++◌, length, length-append, append_assoc, map, take, drop, get_or, Option, Some, None, ◌⊎◌, inl, inr, refl, sym, ap, subst, ◌∙◌, arith}
+use Rattle.std.proofs.Common.{◌≡◌, ℕ, zero, suc, ◌+◌, ◌-◌, ◌*◌, ◌%◌, ◌^◌, ◌<◌, ◌≤◌, min, ℤ, pos, Bool, true, false, not, ◌&&◌, ◌||◌, nat_eq, nat_lt, List, [], ◌∷◌, ◌++◌, length, map, take, drop, Option, Some, None, ◌⊎◌, inl, inr, refl, sym, ap, subst, ◌∙◌, arith}
 use Rattle.std.specs.Prelude.{slice_index_or}
-use Rattle.std.specs.Str.{bytes_eq}
-use Rattle.std.proofs.lemmas.Bool.{cases_lt}
 use Rattle.std.proofs.lemmas.Bool.Decides.{nat_tests}
 use Rattle.std.proofs.lemmas.List.{append-nil, length-map, get_or-take, get_or-drop}
 use Rattle.std.proofs.Math.Nat.{div-add-mod, mul-le-mul_left, mul-suc}
-use Rattle.flac_bits.specs.Bits.{unsigned, is_nil}
 use Rattle.flac_bits.specs.State.{Mark, past, fresh}
 use Rattle.flac_bits.specs.Forms.{joined}
 use Rattle.flac_bits.specs.Meaning.{Spells, AllKept}
 use Rattle.flac_bits.specs.Fence.{InRoom}
-use Rattle.flac_bits.specs.Items.{Stream, Joined, after}
-use Rattle.flac_bits.specs.declared.why.Why.{Why}
-use Rattle.flac_bits.specs.declared.why.Why.TheVariants.{Truncated}
+use Rattle.flac_bits.specs.Items.{Joined, after}
 use Rattle.flac_bits.proofs.ItemSpellings.{fresh_unread, fresh_check8, fresh_check16, behind_whole}
-use Rattle.flac_bits.proofs.Words.{length-unsigned}
 use Rattle.flac_meta.specs.Info.{Info, KeepsRules}
-use Rattle.flac_meta.specs.Header.{nothing_seen}
-use Rattle.flac_meta.specs.Block.{seen_after, block as block_layout}
-use Rattle.flac_meta.specs.Listed.{came, block_fault, fault_behind, list_fault, info_seen}
-use Rattle.flac_meta.specs.Spelling.{block_spelling}
-use Rattle.flac_meta.specs.Valid.{AllAre, FitsFields, IsBlock}
 use Rattle.flac_meta.specs.declared.seen.Seen.{Seen}
-use Rattle.flac_meta.specs.declared.block.Block.{Block}
-use Rattle.flac_meta.specs.declared.block.Block.TheVariants as blocks
-use Rattle.flac_header.specs.Header.{Header, channels_of, depth_of, allowed, greatest_block}
-use Rattle.flac_header.specs.Choice.{chosen_header}
+use Rattle.flac_header.specs.Header.{Header, channels_of, depth_of, greatest_block}
 use Rattle.flac_frame.specs.Audio.{Sound, samples_each}
-use Rattle.flac_frame.specs.Frame.{Frame, frame, header_rules, left_by, breaks_sequence, breaks_size, limits_of}
-use Rattle.flac_frame.specs.Spelling.{frame_spelling, frame_with, AreSubframes, IsSpelled, IsFrame}
+use Rattle.flac_frame.specs.Frame.{Frame, frame, header_rules, left_by, breaks_sequence, breaks_size}
 use Rattle.flac_frame.specs.declared.before.Before.{Before}
 use Rattle.flac_frame.specs.Encoding.{block_of}
 use Rattle.flac_frame.proofs.Encodings.{encodings_are_frames}
 use Rattle.flac_frame.proofs.FrameTie.{frames_spelled, frames_bytes}
-use Rattle.flac_native.specs.Decoding.{beginning}
 use Rattle.flac_native.specs.Message.{sample_width, sample_bytes, row_bytes, rows_bytes}
-use Rattle.flac_native.specs.Stream.{Piece, marked, block, framed, Stand, Progress, grammar, opening, layout, layout_in, marker, frame_behind, next, raised, stand_after, phase_behind, info_after, before_behind, end_rules, is_unknown, may_end_in, room_in}
-use Rattle.flac_native.specs.declared.phase.Phase.TheVariants.{Opening, Blocks, Frames}
-use Rattle.flac_native.specs.Given.{Cut, fits_plan, blocks_in, plan_fault, info_of, sound_message, size_of, frame_of, frames_from, frames_of, closing, given}
-use Rattle.flac_native.specs.Writing.{SpellsFrame, AreFrames, AreSizes, blocks_spelling, stream_spelling, EncodedAreStreams}
+use Rattle.flac_native.specs.Stream.{Piece, framed, Progress, grammar, layout, frame_behind, next, raised, room_in}
+use Rattle.flac_native.specs.declared.phase.Phase.TheVariants.{Frames}
+use Rattle.flac_native.specs.Given.{Cut, blocks_in, info_of, sound_message, size_of, frame_of, frames_from}
+use Rattle.flac_native.specs.Writing.{SpellsFrame}
 use Rattle.flac_native.proofs.Messages.{rows_split}
-use Rattle.flac_native.proofs.Digests.{digest_is_bytes}
-use Rattle.flac_native.proofs.Planned.{Planned, planned, Fit, fit, keeps_rules}
-use Rattle.flac_native.proofs.WholeBytes.{block_whole}
+use Rattle.flac_native.proofs.Planned.{Planned, Fit, keeps_rules}
 
 -- ---- items one after another, and where they end
 

@@ -1,15 +1,15 @@
 -- Frames that are encoded one after another.
-use Rattle.std.proofs.Common.{◌≡◌, ℕ, zero, suc, ◌+◌, ◌-◌, ◌*◌, ◌/◌, ◌%◌, ◌^◌, ◌<◌, ◌≤◌, min, max, Bool, true, false, cond, nat_eq, List, [], ◌∷◌, ◌++◌, length, length-append, append_assoc, get_or, refl, sym, ap, subst, ◌∙◌, arith, ◌⊎◌, inl, inr}
+use Rattle.std.proofs.Common.{◌≡◌, ℕ, zero, suc, ◌+◌, ◌-◌, ◌*◌, ◌/◌, ◌%◌, ◌^◌, ◌<◌, ◌≤◌, min, max, Bool, true, false, cond, nat_eq, List, [], ◌∷◌, ◌++◌, length, length-append, get_or, refl, sym, ap, subst, ◌∙◌, arith, ◌⊎◌, inl, inr}
 use Rattle.std.proofs.lemmas.Bool.{cases_lt}
 use Rattle.std.proofs.lemmas.Bool.Decides.{nat_tests}
 use Rattle.std.proofs.lemmas.List.{append-nil}
 use Rattle.std.proofs.Math.ListN.{get_or-append}
 use Rattle.std.proofs.Math.Seq.{get_or-append_seam}
-use Rattle.std.proofs.Math.Nat.{mul-le-mul_left, mul-suc, lt_of_mul-lt-mul_left}
+use Rattle.std.proofs.Math.Nat.{lt_of_mul-lt-mul_left}
 use Rattle.std.specs.Borrow.{GName}
 use Rattle.flac_bits.specs.Bits.{bits_of}
 use Rattle.flac_bits.specs.declared.why.Why.TheVariants.{Truncated}
-use Rattle.flac_bits.specs.State.{Mark, past, fresh}
+use Rattle.flac_bits.specs.State.{Mark, fresh}
 use Rattle.flac_bits.specs.Forms.{joined}
 use Rattle.flac_bits.specs.Written.{Written, Adds}
 use Rattle.flac_bits.proofs.ItemSpellings.{fresh_unread, behind_whole}
@@ -17,11 +17,11 @@ use Rattle.flac_bits.proofs.Marks.{past-bytes}
 use Rattle.flac_meta.proofs.Tied.{joined_append}
 use Rattle.flac_header.specs.Spelling.{restarted}
 use Rattle.flac_frame.specs.Audio.{Sound, samples_each}
-use Rattle.flac_frame.specs.Encoding.{IsEncoding, block_of}
+use Rattle.flac_frame.specs.Encoding.{IsEncoding, IsLeastFrame, block_of}
 use Rattle.flac_frame.specs.Spelling.{FrameForm, frame_spelling}
 use Rattle.flac_frame.proofs.FrameTie.{frames_bytes}
 use Rattle.flac_native.specs.Given.{Cut, blocks_in, size_of, frame_of}
-use Rattle.flac_native.specs.Writing.{SpellsFrame, AreFrames, AreSizes, IsEncoded}
+use Rattle.flac_native.specs.Writing.{SpellsFrame, AreSizes, IsEncoded}
 use Rattle.flac_native.proofs.Encoded.{least_part, all_parts}
 
 -- ---- sizes
@@ -129,18 +129,20 @@ sizes_with (x ∷ xs) t (suc n) least greatest bytes many e s =
     subst (λ b. AreSizes (snoc (x ∷ xs) t) (cond b bytes (min least bytes)) (max greatest bytes)) (sym later) (more_sizes (x ∷ xs) t least greatest bytes (omega arith) e s)
 
 pub gathered_more : (p : Cut) (a : Sound) (w v : Written) (number least greatest bytes start n : ℕ) (f : FrameForm) → Gathered p a w number least greatest → number < 2 ^ 31
-    → start ≡ p.block_size * number → n ≡ size_of p.block_size (samples_each a.channels) number → IsEncoding a n number (block_of start n a.channels) f
+    → start ≡ p.block_size * number → n ≡ size_of p.block_size (samples_each a.channels) number → IsEncoding a n number (block_of start n a.channels) f → IsLeastFrame a n number (block_of start n a.channels) f
     → Adds (frame_spelling a.bits f) (restarted w) v → bytes ≡ v.mark.bytes - w.mark.bytes → bytes ≤ 16777215 → Gathered p a v (number + 1) (least_with number least bytes) (max greatest bytes)
-gathered_more p a w v number least greatest bytes start n f g small start_is n_is encoded adds is few =
+gathered_more p a w v number least greatest bytes start n f g small start_is n_is encoded chosen adds is few =
     let encoding : IsEncoding a (size_of p.block_size (samples_each a.channels) number) number (block_of (p.block_size * number) (size_of p.block_size (samples_each a.channels) number) a.channels) f =
     subst (λ k. IsEncoding a k number (block_of (p.block_size * number) k a.channels) f) n_is (subst (λ k. IsEncoding a n number (block_of k n a.channels) f) start_is encoded) in
+    let least_frame : IsLeastFrame a (size_of p.block_size (samples_each a.channels) number) number (block_of (p.block_size * number) (size_of p.block_size (samples_each a.channels) number) a.channels) f =
+    subst (λ k. IsLeastFrame a k number (block_of (p.block_size * number) k a.channels) f) n_is (subst (λ k. IsLeastFrame a n number (block_of k n a.channels) f) start_is chosen) in
     let t = frame_spelling a.bits f in
     let whole = frames_bytes a.bits f in
     let u = fresh_unread w.mark g.whole in
     let b = fresh_bytes w.mark g.whole in
     let after : v.mark.bytes ≡ min (w.mark.bytes + (length t + 7 - 0) / 8) (2 ^ 64 - 1) = ap (λ (m : Mark). m.bytes) adds.mark ∙ past-bytes t 0 w.mark.bytes (fresh w.mark) u (omega arith) b (omega (arith, g.count, small)) in
     let k = counted w.mark.bytes (length t) v.mark.bytes bytes (omega (arith, g.count, small)) whole after is few in
-    let here : SpellsFrame a (frame_of p.block_size a number) t = record { form = f; encoding = encoding; spelling = refl; short = omega (arith, k.0, few) } in
+    let here : SpellsFrame a (frame_of p.block_size a number) t = record { form = f; encoding = encoding; least = least_frame; spelling = refl; short = omega (arith, k.0, few) } in
     record {
       frames = snoc g.frames t;
       many = omega (arith, length-snoc g.frames t, g.many);
@@ -174,3 +176,11 @@ bytes_grow t w v z small adds =
     let b = fresh_bytes w.mark z in
     let after : v.mark.bytes ≡ min (w.mark.bytes + (length t + 7 - 0) / 8) (2 ^ 64 - 1) = ap (λ (m : Mark). m.bytes) adds.mark ∙ past-bytes t 0 w.mark.bytes (fresh w.mark) u (omega arith) b (omega (arith, small)) in
     omega (arith, after, small)
+
+-- a short frame adds few bytes to the count
+pub short_bytes : (t : List Bool) (w v : Written) → w.mark.unread ≡ 0 → w.mark.bytes < 2 ^ 64 → Adds t (restarted w) v → length t ≤ 8 * 16777215 → v.mark.bytes - w.mark.bytes ≤ 16777215
+short_bytes t w v z small adds short =
+    let u = fresh_unread w.mark z in
+    let b = fresh_bytes w.mark z in
+    let after : v.mark.bytes ≡ min (w.mark.bytes + (length t + 7 - 0) / 8) (2 ^ 64 - 1) = ap (λ (m : Mark). m.bytes) adds.mark ∙ past-bytes t 0 w.mark.bytes (fresh w.mark) u (omega arith) b (omega (arith, small)) in
+    omega (arith, after, small, short)

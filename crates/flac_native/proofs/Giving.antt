@@ -1,6 +1,5 @@
 -- Each call gives the first of what is still to come.
-use Rattle.std.proofs.Common.{◌≡◌, ◌≢◌, ℕ, Bool, true, false, List, [], ◌∷◌, ◌++◌, append_assoc, Option, Some, None, is_some, Result, Ok, Err, IfOk, IfSome, refl, sym, ap, subst, ◌∙◌}
-use Rattle.std.proofs.lemmas.List.{append-nil}
+use Rattle.std.proofs.Common.{◌≡◌, true, List, [], ◌∷◌, ◌++◌, append_assoc, Option, Some, None, is_some, Result, Ok, Err, IfOk, IfSome, refl, sym, ap, subst, ◌∙◌}
 use Rattle.flac_bits.specs.State.{State, Cursor, past, fresh}
 use Rattle.flac_bits.specs.Fencing.{lifted}
 use Rattle.flac_bits.specs.Reading.{Counts}
@@ -12,7 +11,7 @@ use Rattle.flac_bits.proofs.Laws.{at_}
 use Rattle.flac_bits.proofs.Items.{final, spelled_step, over_step, stops_step}
 use Rattle.flac_native.specs.Stream.{Piece, marked, block, framed, Progress, grammar, next}
 use Rattle.flac_native.specs.Track.{IsAt, is_made, IsMadeAs, piece_of, block_in}
-use Rattle.flac_native.specs.Item.{Item, metadata, frame, told}
+use Rattle.flac_native.specs.Item.{Item, told}
 use Rattle.flac_native.specs.Giving.{handed, before, items_of, PartsCome, StillGives, IsFirst, seen_by, found, Stage, Goes, MovesFrom, Moves}
 use Rattle.flac_native.specs.Within.{IsOpen}
 use Rattle.flac_meta.specs.declared.block.Block.{Block}

@@ -10,3 +10,4 @@ pub mod Encoded
 pub mod Streams
 pub mod BlocksWritten
 pub mod Gathered
+pub mod Sendings

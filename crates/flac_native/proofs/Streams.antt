@@ -1,24 +1,23 @@
 -- What is written is a stream of what was given.
-use Rattle.std.proofs.Common.{◌≡◌, ℕ, zero, suc, ◌+◌, ◌*◌, ◌^◌, ◌<◌, ◌≤◌, min, Bool, true, false, not, cond, ◌&&◌, nat_eq, nat_lt, List, [], ◌∷◌, ◌++◌, length, append_assoc, map, Option, Some, None, inl, refl, sym, ap, subst, ◌∙◌, arith}
+use Rattle.std.proofs.Common.{◌≡◌, ℕ, ◌+◌, ◌*◌, ◌^◌, ◌<◌, min, Bool, true, false, not, cond, ◌&&◌, nat_eq, List, [], ◌∷◌, ◌++◌, length, append_assoc, map, Option, Some, None, inl, refl, sym, ap, subst, arith}
 use Rattle.std.specs.Prelude.{slice_index_or}
 use Rattle.std.specs.Str.{bytes_eq}
 use Rattle.std.proofs.lemmas.Bool.Decides.{nat_tests}
 use Rattle.std.proofs.lemmas.List.{append-nil}
 use Rattle.std.proofs.lemmas.Nat.{pow_pos}
 use Rattle.std.proofs.lemmas.Slice.Eq.{bytes_eq-Decides}
-use Rattle.flac_bits.specs.Bits.{unsigned, is_nil}
+use Rattle.flac_bits.specs.Bits.{unsigned}
 use Rattle.flac_bits.specs.State.{Mark, past, fresh}
 use Rattle.flac_bits.specs.Forms.{joined}
 use Rattle.flac_bits.specs.Meaning.{Spells, AllKept}
-use Rattle.flac_bits.specs.Items.{Stream, after}
 use Rattle.flac_bits.specs.declared.why.Why.{Why}
 use Rattle.flac_bits.specs.declared.why.Why.TheVariants.{Truncated}
 use Rattle.flac_bits.proofs.ItemSpellings.{fresh_unread, behind_whole}
-use Rattle.flac_meta.specs.Info.{Info, KeepsRules}
+use Rattle.flac_meta.specs.Info.{Info}
 use Rattle.flac_meta.specs.Header.{nothing_seen}
-use Rattle.flac_meta.specs.Block.{seen_after, block as block_layout}
+use Rattle.flac_meta.specs.Block.{seen_after}
 use Rattle.flac_meta.specs.Listed.{came, block_fault, fault_behind, or_else, list_fault, info_seen}
-use Rattle.flac_meta.specs.Spelling.{content_spelling, block_spelling, kind_of}
+use Rattle.flac_meta.specs.Spelling.{content_spelling, block_spelling}
 use Rattle.flac_meta.specs.Valid.{AllAre, FitsFields, IsInfo, IsBlock, ContentSpelled, BlockSpelled}
 use Rattle.flac_meta.specs.declared.seen.Seen.{Seen}
 use Rattle.flac_meta.specs.declared.block.Block.{Block}
@@ -26,19 +25,18 @@ use Rattle.flac_meta.specs.declared.block.Block.TheVariants as blocks
 use Rattle.flac_meta.proofs.Blocks.{blocks_spelled}
 use Rattle.flac_meta.proofs.Steps.{zeros_are}
 use Rattle.flac_frame.specs.Audio.{Sound, samples_each}
-use Rattle.flac_frame.specs.declared.before.Before.{Before}
 use Rattle.flac_native.specs.Decoding.{beginning}
 use Rattle.flac_native.specs.Message.{rows_bytes, sample_width}
-use Rattle.flac_native.specs.Stream.{Piece, marked, block, framed, Stand, Progress, grammar, opening, layout, layout_in, marker, next, raised, phase_behind, end_rules, is_unknown, may_end_in}
+use Rattle.flac_native.specs.Stream.{Piece, marked, block, framed, Stand, Progress, opening, layout, layout_in, marker, next, raised, phase_behind, end_rules, is_unknown, may_end_in}
 use Rattle.flac_native.specs.declared.phase.Phase.{Phase}
 use Rattle.flac_native.specs.declared.phase.Phase.TheVariants.{Opening, Blocks, Frames}
 use Rattle.md5.specs.Md5.{md5}
-use Rattle.flac_native.specs.Given.{Cut, fits_plan, blocks_in, plan_fault, info_of, sound_message, frame_of, frames_from, frames_of, closing, given}
+use Rattle.flac_native.specs.Given.{Cut, info_of, sound_message, frame_of, frames_from, closing, given}
 use Rattle.flac_native.specs.Writing.{SpellsFrame, AreFrames, AreSizes, blocks_spelling, stream_spelling, EncodedAreStreams}
 use Rattle.flac_native.proofs.Digests.{digest_is_bytes}
-use Rattle.flac_native.proofs.Planned.{Planned, planned, Fit, fit, keeps_rules}
-use Rattle.flac_native.proofs.WholeBytes.{Whole, block_whole}
-use Rattle.flac_native.proofs.Encoded.{Ended, Runs, one_more, at_frame, frames_run}
+use Rattle.flac_native.proofs.Planned.{planned, fit, keeps_rules}
+use Rattle.flac_native.proofs.WholeBytes.{block_whole}
+use Rattle.flac_native.proofs.Encoded.{Ended, Runs, one_more, frames_run}
 
 two : (b : Bool) → b ≡ true → b ≡ false → ⊥
 two true e f = absurd cc

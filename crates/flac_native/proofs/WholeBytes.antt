@@ -1,7 +1,7 @@
 -- Blocks are spelled in whole bytes.
 use Rattle.std.proofs.Common.{◌≡◌, ℕ, ◌+◌, ◌-◌, ◌*◌, ◌/◌, ◌%◌, Bool, false, not, List, [], ◌∷◌, ◌++◌, length, length-append, refl, arith}
 use Rattle.std.proofs.lemmas.List.{length-replicate}
-use Rattle.flac_bits.specs.Bits.{unsigned, bits_of, bit_value}
+use Rattle.flac_bits.specs.Bits.{unsigned, bits_of, bit_value, is_nil}
 use Rattle.flac_bits.specs.Forms.{joined}
 use Rattle.flac_bits.proofs.Words.{length-unsigned}
 use Rattle.flac_bits.proofs.Holding.{length-bits_of}
@@ -15,6 +15,7 @@ use Rattle.flac_meta.specs.declared.cue_sheet.CueSheet.{CueSheet}
 use Rattle.flac_meta.specs.declared.picture.Picture.{Picture}
 use Rattle.flac_meta.specs.declared.block.Block.{Block}
 use Rattle.flac_meta.specs.declared.block.Block.TheVariants as block_of
+use Rattle.flac_native.specs.Writing.{blocks_spelling, head_spelling}
 
 -- how many bits parts have together
 abbrev bits_in : List (List Bool) → ℕ
@@ -182,3 +183,12 @@ unfolding s.block_spelling
 block_whole last b =
     let content = content_whole b in
     record { bytes = omega (arith, length-joined (s.header_spelling last (s.kind_of b) (s.length_of b) ∷ s.content_spelling b ∷ []), header_long last (s.kind_of b) (s.length_of b), content.bytes) }
+
+pub blocks_whole : (bs : List Block) → Whole (blocks_spelling bs)
+blocks_whole [] = whole_nil
+blocks_whole (b ∷ bs) = whole_append (s.block_spelling (is_nil bs) b) (blocks_spelling bs) (block_whole (is_nil bs) b) (blocks_whole bs)
+
+pub head_whole : (info : Info) (list : List Block) → Whole (head_spelling info list)
+head_whole info list =
+    let marker : Whole (unsigned 32 0x664C6143) = record { bytes = refl } in
+    whole_append (unsigned 32 0x664C6143) (blocks_spelling (block_of.StreamInfo info ∷ list)) marker (blocks_whole (block_of.StreamInfo info ∷ list))

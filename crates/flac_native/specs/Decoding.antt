@@ -1,12 +1,9 @@
 -- What decoding a stream answers, and what it hands out.
-use Rattle.std.specs.Prelude.{◌≡◌, ℕ, List, Option}
-use Rattle.flac_bits.specs.Bits.{bits_of}
+use Rattle.std.specs.Prelude.{◌≡◌}
 use Rattle.flac_bits.specs.State.{Mark}
-use Rattle.flac_bits.specs.Handing.{Hands, Decides}
 use Rattle.flac_bits.specs.declared.why.Why.{Why}
-use Rattle.flac_native.specs.Stream.{Piece, marked, block, framed, grammar, opening}
+use Rattle.flac_native.specs.Stream.{Piece, marked, block, framed}
 use Rattle.flac_native.specs.Item.{Item, metadata, frame}
-use Rattle.flac_native.specs.declared.fault.Place.{Place}
 
 -- a sink takes the blocks and frames; of the marker it hears nothing
 abbrev pub taken : {S : Type 0} → (S → Item → S → Type 0) → S → Piece → S → Type 0

@@ -1,5 +1,5 @@
 -- What is encoded: STREAMINFO, blocks, and samples that are cut into frames.
-use Rattle.std.specs.Prelude.{ℕ, zero, suc, ◌+◌, ◌-◌, ◌*◌, ◌/◌, ◌^◌, min, Bool, false, cond, ◌&&◌, ◌||◌, nat_eq, nat_lt, nat_le, ℤ, List, [], ◌∷◌, ◌++◌, length, map, Option, Some, None, is_none}
+use Rattle.std.specs.Prelude.{ℕ, zero, suc, ◌+◌, ◌-◌, ◌*◌, ◌/◌, ◌^◌, min, Bool, false, cond, ◌&&◌, ◌||◌, nat_eq, nat_lt, nat_le, List, [], ◌∷◌, ◌++◌, length, map, Option, Some, None, is_none}
 use Rattle.flac_bits.specs.Bits.{is_nil}
 use Rattle.flac_meta.specs.Info.{Info}
 use Rattle.flac_meta.specs.declared.block.Block.{Block}

@@ -1,5 +1,5 @@
 -- What a decoder has still to give, and that each call gives the first of it.
-use Rattle.std.specs.Prelude.{◌≡◌, ◌≢◌, true, List, [], ◌∷◌, Option, Some, None, Result, Ok, Err, IfOk, IfErr, IfSome, ⊤}
+use Rattle.std.specs.Prelude.{◌≡◌, ◌≢◌, true, List, [], ◌∷◌, Option, Some, None, Result, Ok, Err, IfOk, IfErr, IfSome}
 use Rattle.flac_bits.specs.declared.source.Source as source
 use Rattle.flac_bits.specs.State.{Cursor, State}
 use Rattle.flac_bits.specs.Fencing.{lifted}

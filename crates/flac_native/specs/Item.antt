@@ -1,5 +1,4 @@
 -- What is handed out of a stream: blocks and frames, not the marker.
-use Rattle.std.specs.Prelude.{◌≡◌, ℕ, Bool}
 use Rattle.flac_bits.specs.declared.why.Why.{Why}
 use Rattle.flac_meta.specs.declared.block.Block.{Block}
 use Rattle.flac_frame.specs.Frame.{Frame}

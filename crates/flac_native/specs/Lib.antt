@@ -8,3 +8,4 @@ pub mod Ends
 pub mod Giving
 pub mod Given
 pub mod Writing
+pub mod Numbers

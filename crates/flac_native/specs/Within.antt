@@ -1,5 +1,5 @@
 -- Reading with no fence set before, of an item that may have so many bytes at most.
-use Rattle.std.specs.Prelude.{◌≡◌, ℕ, List, [], Option, Result, Err}
+use Rattle.std.specs.Prelude.{◌≡◌, ℕ, [], Option, Result, Err}
 use Rattle.flac_bits.specs.State.{State, started, short_of}
 use Rattle.flac_bits.specs.Layout.{Layout}
 use Rattle.flac_bits.specs.Reading.{Gives}

@@ -1,16 +1,17 @@
 -- What encoding writes, and that it is a stream of what was given.
-use Rattle.std.specs.Prelude.{◌≡◌, ℕ, ◌+◌, ◌*◌, ◌<◌, ◌≤◌, Bool, true, List, [], ◌∷◌, ◌++◌, length, slice_index_or, Some, None}
+use Rattle.std.specs.Prelude.{◌≡◌, ℕ, ◌*◌, ◌<◌, ◌≤◌, Bool, true, List, [], ◌∷◌, ◌++◌, length, slice_index_or, None}
 use Rattle.flac_bits.specs.Bits.{unsigned, is_nil}
 use Rattle.flac_bits.specs.Forms.{joined}
 use Rattle.flac_bits.specs.Items.{Stream}
 use Rattle.flac_bits.specs.declared.why.Why.TheVariants.{Truncated}
+use Rattle.flac_meta.specs.Info.{Info}
 use Rattle.flac_meta.specs.Listed.{list_fault, info_seen}
 use Rattle.flac_meta.specs.Spelling.{block_spelling}
 use Rattle.flac_meta.specs.Valid.{AllAre, FitsFields}
 use Rattle.flac_meta.specs.declared.block.Block.{Block}
 use Rattle.flac_meta.specs.declared.block.Block.TheVariants as blocks
 use Rattle.flac_frame.specs.Audio.{Sound, samples_each}
-use Rattle.flac_frame.specs.Encoding.{IsEncoding}
+use Rattle.flac_frame.specs.Encoding.{IsEncoding, IsLeastFrame}
 use Rattle.flac_frame.specs.Frame.{Frame}
 use Rattle.flac_frame.specs.Spelling.{FrameForm, frame_spelling}
 use Rattle.flac_native.specs.Decoding.{beginning}
@@ -19,10 +20,11 @@ use Rattle.flac_native.specs.Given.{Cut, fits_plan, blocks_in, plan_fault, info_
 
 -- ---- frames
 
--- The bits spell a frame of a block of samples, in at most 16777215 bytes, as STREAMINFO tells (RFC 9639, section 8.2).
+-- The bits spell a frame of a block of samples, the least of its family, in at most 16777215 bytes, as STREAMINFO tells (RFC 9639, section 8.2).
 pub record SpellsFrame (a : Sound) (f : Frame) (text : List Bool) : Type 0 where
   pub form : FrameForm
   pub encoding : IsEncoding a f.size f.number f.channels form
+  pub least : IsLeastFrame a f.size f.number f.channels form
   pub spelling : text ≡ frame_spelling a.bits form
   pub short : length text ≤ 8 * 16777215
 
@@ -45,7 +47,11 @@ abbrev pub blocks_spelling : List Block → List Bool
 blocks_spelling [] = []
 blocks_spelling (b ∷ bs) = block_spelling (is_nil bs) b ++ blocks_spelling bs
 
--- the marker fLaC (section 6), STREAMINFO, the blocks and the frames
+-- before the frames stand the marker fLaC (section 6), STREAMINFO and the blocks
+abbrev pub head_spelling : Info → List Block → List Bool
+head_spelling info list = unsigned 32 0x664C6143 ++ blocks_spelling (blocks.StreamInfo info ∷ list)
+
+-- all of it, and the frames
 abbrev pub stream_spelling : Cut → List Block → Sound → (least greatest : ℕ) → List (List Bool) → List Bool
 stream_spelling p list a least greatest frames =
     unsigned 32 0x664C6143 ++ (blocks_spelling (blocks.StreamInfo (info_of p a least greatest) ∷ list) ++ joined frames)
@@ -64,8 +70,7 @@ pub record IsEncoded (p : Cut) (a : Sound) (text : List Bool) (least greatest : 
   pub sizes : AreSizes frames least greatest
   pub spelled : text ≡ joined frames
 
--- Behind the bits that were there, a stream of what was given was written: all frames of the samples, whose least and greatest sizes STREAMINFO tells. It is a
--- stream where each field of the blocks is of its width.
+-- Behind the bits that were there, a stream of what was given was written: all frames of the samples, whose least and greatest sizes STREAMINFO tells.
 pub record Encodes (p : Cut) (list : List Block) (a : Sound) (before after : List Bool) : Type 0 where
   pub least : ℕ
   pub greatest : ℕ
@@ -73,4 +78,11 @@ pub record Encodes (p : Cut) (list : List Block) (a : Sound) (before after : Lis
   pub are : AreFrames p a frames
   pub sizes : AreSizes frames least greatest
   pub written : after ≡ before ++ stream_spelling p list a least greatest frames
-  pub stream : AllAre FitsFields list → Stream grammar opening (beginning Truncated) (given p list a least greatest) (stream_spelling p list a least greatest frames)
+  pub stream : Stream grammar opening (beginning Truncated) (given p list a least greatest) (stream_spelling p list a least greatest frames)
+
+-- What was written is a beginning of such a stream, behind the bits that were there.
+pub record BeginsEncoding (p : Cut) (list : List Block) (a : Sound) (before after : List Bool) : Type 0 where
+  pub front : List Bool
+  pub rest : List Bool
+  pub written : after ≡ before ++ front
+  pub encodes : Encodes p list a before (before ++ (front ++ rest))

@@ -1,18 +1,15 @@
 //! One part of a stream after another.
 
-ghost use Rattle.std.specs.Prelude.{◌≡◌, ◌≢◌, ◌≤◌, ◌+◌, ◌++◌, ◌&&◌, ℕ, List, min, true, is_some, OnOk, IfOk, IfErr, IfSome, MatchOption};
+ghost use Rattle.std.specs.Prelude.{◌≡◌, ◌≢◌, ◌≤◌, ◌+◌, ◌&&◌, true, OnOk, IfOk, IfErr, IfSome, MatchOption};
 ghost use Rattle.flac_bits.specs.Bits.{is_nil};
 ghost use Rattle.flac_bits.specs.Fencing.{lifted};
-ghost use Rattle.flac_bits.specs.Meaning.{AllKept, BreaksFirst};
 ghost use Rattle.flac_bits.specs.Reading.{Counts, Reads};
 ghost use Rattle.flac_bits.specs.Items.{step_at};
 ghost use Rattle.flac_bits.specs.Handing.{StepsTo, reason_of};
-ghost use Rattle.flac_native.specs.Stream.{marker, layout, room_in, Progress, grammar, may_end_in, place_in, next, stand_after, samples_in, message_in, end_rules};
+ghost use Rattle.flac_native.specs.Stream.{marker, layout, room_in, Progress, grammar, may_end_in, next};
 ghost use Rattle.flac_native.specs.Within.{ReadsWithinInRoom};
 ghost use Rattle.flac_native.specs.Track.{IsAt, IsMadeAs, piece_of, stand_of, info_in};
 ghost use Rattle.flac_native.specs.Item.{told};
-ghost use Rattle.flac_native.specs.Ends.{EndsBy};
-ghost use Rattle.md5.specs.Md5.{Holds};
 
 use crate::fault::{Fault, Place};
 use crate::part::Part;
@@ -40,12 +37,9 @@ fn read_part<R: Source>(reader: &mut BitReader<R>, track: &mut Track) -> Result<
     ensures counts { Counts (lifted reader.old) reader.new result }
     ensures memory { track.old.phase ≡ Phase.Frames → IfErr result (λ e. e ≢ Why.Memory) }
     ensures reads { ReadsWithinInRoom (room_in track.old.phase) (λ part. piece_of track.new part) (layout (stand_of track.old)) reader.old reader.new result }
-    ensures stand { IfOk result (λ part. stand_of track.new ≡ stand_after (stand_of track.old) (piece_of track.new part)) }
-    ensures samples { IfOk result (λ part. track.new.samples ≡ min (track.old.samples + samples_in (piece_of track.new part)) 18446744073709551615) }
     ensures made { IfOk result (λ part. IsMadeAs part track.old track.new) }
-    ensures digest { IfOk result (λ part. (m : List ℕ) → Holds track.old.hasher m → Holds track.new.hasher (m ++ message_in (info_in track.old.format) (piece_of track.new part))) }
+    ensures next { IfOk result (λ part. (p : Progress) → IsAt track.old p → IsAt track.new (next p (piece_of track.new part))) }
 {
-    let _samples = track.samples;
     match track.phase {
         Phase::Opening => {
             reader.lift();
@@ -57,7 +51,7 @@ fn read_part<R: Source>(reader: &mut BitReader<R>, track: &mut Track) -> Result<
         Phase::Blocks => {
             reader.lift();
             reader.start_checks();
-            let (last, block) = track.next_block(reader)?;
+            let (last, block) = track.block(reader)?;
             track.last = last;
             track.block = Some(block);
             Ok(Part::Block)
@@ -86,17 +80,6 @@ fn ends_here<R: Source>(reader: &mut BitReader<R>, track: &Track) -> Result<bool
     }
 }
 
-/// Where the next part stands.
-pub(crate) fn place_of(track: &Track) -> Place
-    ensures { result ≡ place_in track.now.phase track.now.index }
-{
-    match track.phase {
-        Phase::Opening => Place::Marker,
-        Phase::Blocks => Place::Block(track.index),
-        Phase::Frames => Place::Frame(track.index),
-    }
-}
-
 /// Reads the next part, and keeps it in the track; nothing where the stream is over. Where it refuses, the fault is told
 /// with its place, and the track is of no use any more.
 pub(crate) fn advance<R: Source>(
@@ -112,13 +95,13 @@ pub(crate) fn advance<R: Source>(
     ensures next { IfOk result (λ o. IfSome o (λ part. (p : Progress) → IsAt track.old p → IsAt track.new (next p (piece_of track.new part)))) }
 {
     reader.lift();
-    let at = place_of(track);
+    let at = track.place();
     match ends_here(reader, track) {
         Ok(false) => match read_part(reader, track) {
             Ok(part) => Ok(Some(part)),
             Err(why) => Err(Fault { at, why }),
         },
-        Ok(true) => match track.close() {
+        Ok(true) => match track.end() {
             Ok(()) => Ok(None),
             Err(why) => Err(Fault {
                 at: Place::End,

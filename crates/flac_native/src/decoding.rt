@@ -11,7 +11,7 @@ ghost use Rattle.flac_native.specs.Track.{IsAt, piece_of};
 ghost use Rattle.flac_native.specs.Item.{told};
 ghost use Rattle.flac_native.specs.Decoding.{taken, beginning};
 
-use crate::advance::{advance, place_of};
+use crate::advance::advance;
 use crate::fault::{Fault, Place};
 use crate::part::Part;
 use crate::sink::{Sink, SinkFault};
@@ -69,7 +69,7 @@ pub(crate) fn hand_out<R: Source, S: Sink>(
     ensures names { S.names sink.new ≡ S.names sink.old }
 {
     loop {
-        let at = place_of(track);
+        let at = track.place();
         let part = match advance(reader, track) {
             Ok(Some(part)) => part,
             Ok(None) => return Ok(()),

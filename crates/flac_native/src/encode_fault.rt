@@ -1,17 +1,26 @@
 //! Why samples were not encoded.
 
+ghost use Rattle.std.specs.Prelude.{◌≡◌};
+ghost use Rattle.flac_native.specs.Numbers.{fault_number};
+
+use thiserror::Error;
+
 /// Why encoding was refused.
-#[derive(Clone, Copy, Debug, PartialEq, Eq)]
+#[derive(Clone, Copy, Debug, PartialEq, Eq, Error)]
 pub enum EncodeFault {
     /// A growth was refused in this call.
+    #[error("2 Memory")]
     Memory,
     /// The writer answered an error in this call.
+    #[error("39 Write")]
     Write,
 }
 
 impl EncodeFault {
-    /// The number of the fault.
-    pub fn number(self) -> u8 {
+    /// The number of the fault: 2 or 39.
+    pub fn number(self) -> u8
+        ensures { result ≡ fault_number self }
+    {
         match self {
             EncodeFault::Memory => 2,
             EncodeFault::Write => 39,

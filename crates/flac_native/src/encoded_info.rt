@@ -1,27 +1,12 @@
 //! STREAMINFO of samples that are encoded.
 
-ghost use Rattle.std.specs.Prelude.{◌≡◌, ◌<◌, ◌≤◌, ◌^◌, length, true};
-ghost use Rattle.flac_native.specs.Given.{fits_plan, info_of, sound_message};
-ghost use Rattle.md5.specs.Md5.{md5};
+ghost use Rattle.std.specs.Prelude.{◌≡◌, ◌<◌, ◌≤◌, ◌^◌, true};
+ghost use Rattle.flac_native.specs.Given.{fits_plan, info_of};
 
-use crate::digest::feed_channels;
+use crate::digest::digest_of;
 use crate::plan::Plan;
 use flac_frame::Audio;
 use flac_meta::StreamInfo;
-use md5::{Digest, Md5};
-
-/// The digest of all samples, which STREAMINFO states (RFC 9639, section 8.2).
-#[tactic(auto, unfolding(crate::specs::Given::sound_message))]
-fn digest_of(audio: &Audio) -> [u8; 16]
-    requires few { length audio.now.channels ≤ 8 }
-    requires bits { audio.now.bits ≤ 32 }
-    ensures { result ≡ md5 (sound_message audio.now) }
-{
-    let mut hasher = Md5::new();
-    let width = (audio.bits() as usize + 7) / 8;
-    feed_channels(&mut hasher, audio.channels(), audio.len(), width);
-    hasher.finalize()
-}
 
 /// STREAMINFO of samples that a plan was made for, where the least and the greatest frame have so many bytes, below 2^24; 0 where there is no frame.
 pub fn info_of(plan: &Plan, audio: &Audio, least: u32, greatest: u32) -> StreamInfo

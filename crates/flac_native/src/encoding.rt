@@ -1,16 +1,17 @@
 //! Writes native streams.
 
 ghost use Rattle.std.specs.Prelude.{◌≡◌, ◌∷◌, ◌++◌, ◌≤◌, ◌<◌, ◌^◌, min, max, cond, nat_eq, true, IfOk, IfErr, OnOk};
-ghost use Rattle.flac_bits.specs.Bits.{unsigned, bits_of};
+ghost use Rattle.flac_bits.specs.Bits.{bits_of};
+ghost use Rattle.flac_bits.specs.Sending.{Sends};
 ghost use Rattle.flac_bits.specs.Written.{Writes};
 ghost use Rattle.flac_meta.specs.declared.block.Block.TheVariants as block_of;
 ghost use Rattle.flac_native.specs.Given.{fits_plan};
-ghost use Rattle.flac_native.specs.Writing.{blocks_spelling, IsEncoded, Encodes};
+ghost use Rattle.flac_native.specs.Writing.{blocks_spelling, head_spelling, IsEncoded, Encodes, BeginsEncoding};
 
 use crate::encode_fault::EncodeFault;
 use crate::encoded_info::info_of;
 use crate::plan::Plan;
-use flac_bits::{BitWriter, Collected, Target, Why};
+use flac_bits::{BitWriter, Collected, Target, Why, send_all};
 use flac_frame::{Audio, EncodeBuffers, encode_frame};
 use flac_meta::{Block, BlockList, StreamInfo, write_block};
 use std::alloc::Global;
@@ -32,18 +33,27 @@ pub(crate) fn write_blocks<W: Target>(
     Ok(())
 }
 
-/// Writes the marker fLaC, STREAMINFO, the blocks, and the frames, whose bytes are these (RFC 9639, section 6).
-pub(crate) fn write_stream<W: Target>(
+/// Writes what stands before the frames: the marker fLaC, STREAMINFO and the blocks (RFC 9639, section 6).
+fn write_head<W: Target>(
     info: StreamInfo,
     list: &BlockList,
-    frames: &[u8],
     writer: &mut BitWriter<W>,
 ) -> Result<(), Why>
-    ensures { Writes (unsigned 32 0x664C6143 ++ (blocks_spelling (block_of.StreamInfo info ∷ list.now) ++ bits_of frames.now)) writer.old writer.new result }
+    ensures { Writes (head_spelling info list.now) writer.old writer.new result }
 {
     writer.put(32, 0x664C6143)?;
-    write_blocks(info, list, writer)?;
-    writer.put_bytes(frames)
+    write_blocks(info, list, writer)
+}
+
+/// The bytes before the frames, in memory. Refuses where a growth is.
+fn head_of(alloc: Global, info: StreamInfo, list: &BlockList) -> Result<Vec<u8>, Why>
+    ensures { IfOk result (λ head. bits_of head.items ≡ head_spelling info list.now) }
+{
+    let mut writer = BitWriter::new(Collected::new(alloc));
+    write_head(info, list, &mut writer)?;
+    writer.finish()?;
+    let target = writer.into_target();
+    Ok(target.into_bytes())
 }
 
 /// Frames in memory, and the least and the greatest number of bytes of one; 0 where there is none.
@@ -87,9 +97,6 @@ fn encode_frames(alloc: Global, plan: &Plan, audio: &Audio) -> Result<Frames, Wh
         let before = writer.bytes_written();
         encode_frame(audio, start..end, number, &mut buffers, &mut writer)?;
         let bytes = writer.bytes_written() - before;
-        if bytes > 16777215 {
-            return Err(Why::Memory);
-        }
         least = least_with(number, least, bytes);
         greatest = greatest_with(greatest, bytes);
         number += 1;
@@ -105,29 +112,22 @@ fn encode_frames(alloc: Global, plan: &Plan, audio: &Audio) -> Result<Frames, Wh
     })
 }
 
-/// Writes a whole stream, and sends what is held.
-fn send_stream<W: Target>(
-    info: StreamInfo,
-    list: &BlockList,
-    frames: &[u8],
-    writer: &mut BitWriter<W>,
-) -> Result<(), Why>
-    requires { writer.old.mark.unread ≡ 0 }
-    ensures writes { Writes (unsigned 32 0x664C6143 ++ (blocks_spelling (block_of.StreamInfo info ∷ list.now) ++ bits_of frames.now)) writer.old writer.new result }
-    ensures sent { OnOk result (writer.old.known ≡ true → bits_of writer.new.sent ≡ writer.old.bits ++ (unsigned 32 0x664C6143 ++ (blocks_spelling (block_of.StreamInfo info ∷ list.now) ++ bits_of frames.now))) }
+/// Sends the bytes before the frames and those of the frames. After an error a beginning of them was sent.
+fn send_stream<W: Target>(head: &[u8], frames: &[u8], target: &mut W) -> Result<(), Why>
+    ensures { Sends W.Target (head.now ++ frames.now) target.old target.new result }
 {
-    write_stream(info, list, frames, writer)?;
-    writer.finish()
+    send_all(target, head)?;
+    send_all(target, frames)
 }
 
 /// Writes samples as a native stream: STREAMINFO with the number of samples, the sizes of the frames and the digest, the blocks of the list, and a frame
-/// for each block of the plan (RFC 9639, section 6). The frames are held in memory before the first byte is written.
+/// for each block of the plan (RFC 9639, section 6). The whole stream is held in memory before its first byte is sent.
 ///
 /// The plan fits the samples: see [`Plan::fits`].
 ///
 /// # Errors
-/// [`EncodeFault::Memory`] where a growth was refused; then nothing was written. [`EncodeFault::Write`] where the target answered an error; then it was sent a
-/// beginning of the stream.
+/// [`EncodeFault::Memory`] where a growth was refused; then nothing was sent. [`EncodeFault::Write`] where the target answered an error; then it was sent a
+/// beginning of the stream, behind what it had.
 pub fn encode<W: Target>(
     alloc: Global,
     plan: &Plan,
@@ -137,6 +137,7 @@ pub fn encode<W: Target>(
 ) -> Result<(), EncodeFault>
     requires { fits_plan plan.now audio.now ≡ true }
     ensures written { OnOk result (W.known target.old ≡ true → Encodes plan.now list.now audio.now (bits_of (W.sent target.old)) (bits_of (W.sent target.new))) }
+    ensures begun { IfErr result (λ e. e ≡ EncodeFault.Write → W.known target.old ≡ true → BeginsEncoding plan.now list.now audio.now (bits_of (W.sent target.old)) (bits_of (W.sent target.new))) }
     ensures failed { IfErr result (λ e. e ≡ EncodeFault.Write → W.known target.old ≡ true → W.errors target.old < W.errors target.new) }
     ensures memory { IfErr result (λ e. e ≡ EncodeFault.Memory → target.new ≡ target.old) }
     ensures names { W.names target.new ≡ W.names target.old }
@@ -147,10 +148,10 @@ pub fn encode<W: Target>(
         return Err(EncodeFault::Memory);
     };
     let info = info_of(plan, audio, frames.least, frames.greatest);
-    let mut writer = BitWriter::new(target);
-    let outcome = send_stream(info, list, frames.bytes.as_slice(), &mut writer);
-    let _target = writer.into_target();
-    match outcome {
+    let Ok(head) = head_of(alloc, info, list) else {
+        return Err(EncodeFault::Memory);
+    };
+    match send_stream(head.as_slice(), frames.bytes.as_slice(), target) {
         Ok(()) => Ok(()),
         Err(_) => Err(EncodeFault::Write),
     }

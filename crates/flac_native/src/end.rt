@@ -49,9 +49,12 @@ impl Track {
     ghost use Rattle.flac_native.specs.Stream.{Progress};
     ghost use Rattle.flac_native.specs.Track.{IsAt};
 
+    /// Judges what STREAMINFO states of all samples, behind the last frame; nothing where no STREAMINFO was read. The digest begins anew: it is asked once.
+    ///
+    /// # Errors
+    /// [`Why::TotalMismatch`] where another number of samples is stated, then [`Why::Md5Mismatch`] where another digest is.
     #[tactic(auto, unfolding(crate::specs::Stream::end_rules))]
-    /// Judges what STREAMINFO states of all samples, behind the last frame. The digest begins anew.
-    pub(crate) fn close(&mut self) -> Result<(), Why>
+    pub fn end(&mut self) -> Result<(), Why>
         ensures judged { (p : Progress) → IsAt self.old p → EndsBy (end_rules p.stand.info p.samples p.message) result }
         ensures quiet { IfErr result (λ e. e ≢ Why.Read) }
         ensures memory { IfErr result (λ e. e ≢ Why.Memory) }

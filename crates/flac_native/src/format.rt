@@ -3,6 +3,7 @@
 ghost use Rattle.std.specs.Prelude.{◌≡◌, ◌≢◌, ◌≤◌, ◌+◌, OnOk, IfOk, IfErr, Some, None, min};
 ghost use Rattle.flac_header.specs.Header.{greatest_block};
 
+use crate::subset::greatest_block;
 use flac_bits::{BitReader, Source, Why};
 use flac_frame::{FrameBuffers, FrameView};
 use flac_header::Profile;
@@ -33,8 +34,7 @@ impl Format {
         ensures ok { IfOk result (λ f. (f.info ≡ info) × (f.buffers.before ≡ None)) }
         ensures err { IfErr result (λ e. e ≡ Why.Memory) }
     {
-        let profile = if info.rate() <= 48000 { 4608 } else { 16384 };
-        let block = u32::from(info.greatest_block()).min(profile);
+        let block = u32::from(info.greatest_block()).min(greatest_block(info.rate()));
         let buffers = FrameBuffers::new(alloc, u32::from(info.channels()), block)?;
         Ok(Format { info, buffers })
     }

@@ -21,8 +21,10 @@ mod part;
 mod phase;
 mod plan;
 mod promises;
+mod rows;
 mod sink;
 mod steps;
+mod subset;
 mod track;
 
 pub use decoder::Decoder;

@@ -1,9 +1,9 @@
 //! How samples are cut into frames.
 
-ghost use Rattle.std.specs.Prelude.{◌≡◌, MatchResult, Some, None};
-ghost use Rattle.flac_header.specs.Header.{greatest_block};
+ghost use Rattle.std.specs.Prelude.{◌≡◌, MatchResult, IfOk, true, Some, None};
 ghost use Rattle.flac_native.specs.Given.{cut_of, fits_plan, plan_fault};
 
+use crate::subset::greatest_block;
 use flac_frame::{Audio, SetupFault};
 use flac_header::{depth_code, rate_code};
 use std::marker::Model;
@@ -29,13 +29,6 @@ impl Model for Plan {
     ghost invariant = { λ p. plan_fault (record { block_size = p.block_size; rate = p.rate; bits = p.bits; channels = p.channels; total = p.total }) ≡ None };
 
     ghost inverse = { λ c. record { block_size = c.block_size; rate = c.rate; bits = c.bits; channels = c.channels; total = c.total } };
-}
-
-/// The greatest block size in samples that the streamable subset allows at a rate (RFC 9639, section 7).
-fn greatest_block(rate: u32) -> u32
-    ensures { result ≡ greatest_block rate }
-{
-    if rate <= 48000 { 4608 } else { 16384 }
 }
 
 /// Why samples of this format and length cannot be cut into blocks, if so.
@@ -69,7 +62,8 @@ impl Plan {
     /// `BadBlockSize` where a block has not 16 to 16384 samples, or more than 4608 at a rate of 48000 Hz or less; `TooLong` where there would be more
     /// than 2^31 frames.
     pub fn new(block_size: u32, audio: &Audio) -> Result<Plan, SetupFault>
-        ensures { MatchResult result (λ p. p ≡ cut_of block_size audio.now) (λ e. plan_fault (cut_of block_size audio.now) ≡ Some e) }
+        ensures made { MatchResult result (λ p. p ≡ cut_of block_size audio.now) (λ e. plan_fault (cut_of block_size audio.now) ≡ Some e) }
+        ensures fits { IfOk result (λ p. fits_plan p audio.now ≡ true) }
     {
         let rate = audio.rate();
         let bits = audio.bits();

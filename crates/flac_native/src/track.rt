@@ -1,26 +1,31 @@
 //! What the parts of a stream so far leave for those behind them.
 
-ghost use Rattle.std.specs.Prelude.{◌≡◌, ◌≢◌, ◌≤◌, ◌+◌, ◌++◌, ℕ, List, [], min, cond, OnOk, IfOk, IfErr, IfSome, Some, None, is_some, true};
+ghost use Rattle.std.specs.Prelude.{◌≡◌, ◌≢◌, ◌≤◌, ◌+◌, cond, OnOk, IfOk, IfErr, Some, is_some, true, ⊤};
+ghost use Rattle.std.specs.Borrow.{sem, follows_so};
+ghost use mathlib.Core.Option.{none};
 ghost use Rattle.flac_bits.specs.Reading.{Counts, ReadsInRoom};
 ghost use Rattle.flac_bits.specs.Fencing.{lifted};
 ghost use Rattle.flac_native.specs.Within.{ReadsWithin};
-ghost use Rattle.flac_meta.specs.Block.{block as block_layout, seen_after};
-ghost use Rattle.flac_meta.specs.Header.{nothing_seen};
+ghost use Rattle.flac_meta.specs.Block.{block as block_layout};
 ghost use Rattle.flac_frame.specs.Lent.{frame_of};
-ghost use Rattle.flac_native.specs.Stream.{Progress, block as block_piece, framed, phase_behind, raised, info_after, before_behind, stand_after, message_in, frame_behind, next, opening};
+ghost use Rattle.flac_native.specs.Stream.{Progress, marked, block as block_piece, framed, phase_behind, raised, info_after, before_behind, frame_behind, place_in, next, opening};
 ghost use Rattle.flac_native.specs.Track.{IsAt, stand_of, info_in, before_in, shown};
-ghost use Rattle.md5.specs.Md5.{Holds};
+ghost use Rattle.flac_native.specs.contracts.track.Track.{the_row};
 
+use crate::fault::Place;
 use crate::format::Format;
 use crate::message::feed;
 use crate::phase::Phase;
 use flac_bits::{BitReader, Source, Why};
+use flac_frame::FrameView;
 use flac_header::Profile;
 use flac_meta::{Block, Seen, read_block};
 use md5::{Digest, Md5};
 use std::alloc::Global;
 
-/// What the parts of a stream so far leave for those behind them.
+/// What the parts of a stream so far leave for those behind them, with which its blocks and frames are read one by one from any source: a metadata
+/// block by [`Track::block`], and behind the last of them a frame by [`Track::frame`] or [`Track::next_frame`]; where the stream ends [`Track::end`] judges
+/// what STREAMINFO states of all samples (RFC 9639, section 6).
 #[derive(Drop)]
 pub struct Track {
     pub(crate) alloc: Global,
@@ -36,6 +41,15 @@ pub struct Track {
 }
 
 impl Track {
+    /// Behind the marker of a stream, where the first metadata block comes next. It takes memory where it reads metadata: at STREAMINFO, for one frame.
+    pub fn new(alloc: Global, profile: Profile) -> Track
+        ensures { IsAt result (next opening marked) }
+    {
+        let mut track = Track::opening(alloc, profile);
+        track.phase = Phase::Blocks;
+        track
+    }
+
     /// Before the first part of a stream.
     pub(crate) fn opening(alloc: Global, profile: Profile) -> Track
         ensures { IsAt result opening }
@@ -78,34 +92,36 @@ impl Track {
         Ok(())
     }
 
-    /// Reads the next block, and notes it.
-    pub(crate) fn next_block<R: Source>(
-        &mut self,
-        bits: &mut BitReader<R>,
-    ) -> Result<(bool, Block), Why>
+    /// Reads the next metadata block, and answers whether it is marked as the last (RFC 9639, section 8).
+    ///
+    /// # Errors
+    /// Each reason of a block: [`Why::NotStreamInfoFirst`] and [`Why::RepeatedBlock`] are judged by the blocks that this track read before.
+    /// [`Why::Memory`] where a growth was refused, [`Why::Read`] where the source answered an error. After a refusal the track is of no use any more.
+    pub fn block<R: Source>(&mut self, bits: &mut BitReader<R>) -> Result<(bool, Block), Why>
         ensures spends { OnOk result (bits.new.most + 32 ≤ bits.old.most) }
         ensures counts { Counts bits.old bits.new result }
-        ensures reads { ReadsInRoom (λ x. x) (block_layout self.old.seen) bits.old bits.new result }
-        ensures stand { IfOk result (λ x. stand_of self.new ≡ stand_after (stand_of self.old) (block_piece x.0 x.1)) }
-        ensures samples { self.new.samples ≡ self.old.samples }
-        ensures hasher { self.new.hasher ≡ self.old.hasher }
+        ensures reads { ReadsInRoom (λ x. x) (block_layout (stand_of self.old).seen) bits.old bits.new result }
+        ensures next { IfOk result (λ x. (p : Progress) → IsAt self.old p → IsAt self.new (next p (block_piece x.0 x.1))) }
     {
         let (last, block) = read_block(self.alloc, bits, &mut self.seen)?;
         self.note(last, &block)?;
         Ok((last, block))
     }
 
-    /// Reads the next frame into the buffers, and notes it.
+    /// Reads the next frame, which [`Track::view`] shows then. It has at most 16777215 bytes, and is judged by STREAMINFO and the frames that this track read
+    /// before (RFC 9639, section 9). No fence stands behind it.
+    ///
+    /// # Errors
+    /// Each reason of a frame, and [`Why::NotStreamInfoFirst`] where no STREAMINFO was read; [`Why::Read`] where the source answered an error, and never
+    /// [`Why::Memory`]. After a refusal the track is of no use any more.
     #[tactic(auto, unfolding(crate::specs::Stream::frame_behind))]
-    pub(crate) fn next_frame<R: Source>(&mut self, bits: &mut BitReader<R>) -> Result<(), Why>
+    pub fn next_frame<R: Source>(&mut self, bits: &mut BitReader<R>) -> Result<(), Why>
         ensures spends { OnOk result (bits.new.most + 40 ≤ bits.old.most) }
         ensures counts { Counts (lifted bits.old) bits.new result }
         ensures memory { IfErr result (λ e. e ≢ Why.Memory) }
-        ensures reads { ReadsWithin (Some 16777215) (λ _. shown self.new) (frame_behind (info_in self.old.format) (before_in self.old.format)) bits.old bits.new result }
-        ensures stand { OnOk result (stand_of self.new ≡ stand_after (stand_of self.old) (framed (shown self.new))) }
-        ensures samples { OnOk result (self.new.samples ≡ min (self.old.samples + (shown self.new).size) 18446744073709551615) }
-        ensures digest { OnOk result ((m : List ℕ) → Holds self.old.hasher m → Holds self.new.hasher (m ++ message_in (info_in self.old.format) (framed (shown self.new)))) }
-        ensures made { OnOk result (is_some self.new.format ≡ true) }
+        ensures reads { ReadsWithin (Some 16777215) (λ _. shown self.new) (frame_behind (stand_of self.old).info (stand_of self.old).before) bits.old bits.new result }
+        ensures next { OnOk result ((p : Progress) → IsAt self.old p → IsAt self.new (next p (framed (shown self.new)))) }
+        ensures made { OnOk result (is_some (stand_of self.new).info ≡ true) }
     {
         let Some(format) = &mut self.format else {
             bits.lift();
@@ -118,5 +134,40 @@ impl Track {
         self.samples = self.samples.saturating_add(view.len() as u64);
         self.index = self.index.saturating_add(1);
         Ok(())
+    }
+
+    /// The frame that was read last, one of no channels where none was. A STREAMINFO was read.
+    pub fn view(&self) -> FrameView<'_>
+        requires { is_some (stand_of self.now).info ≡ true }
+        ensures { frame_of result ≡ shown self.now }
+    {
+        match &self.format {
+            Some(format) => format.view(),
+            None => unreachable!(),
+        }
+    }
+
+    /// Reads the next frame as [`Track::next_frame`] does, and lends it. After a refusal nothing is lent.
+    pub fn frame<R: Source>(&mut self, bits: &mut BitReader<R>) -> Result<FrameView<'_>, Why>
+        ensures spends { OnOk result (bits.new.most + 40 ≤ bits.old.most) }
+        ensures counts { Counts (lifted bits.old) bits.new result }
+        ensures memory { IfErr result (λ e. e ≢ Why.Memory) }
+        ensures reads { ReadsWithin (Some 16777215) frame_of (frame_behind (stand_of self.old).info (stand_of self.old).before) bits.old bits.new result }
+        ensures* after { sem 𝓛 (follows_so the_row the_row self.entry.ghost_name none (λ _ _. ⊤)
+            (λ last. IfOk result (λ v. (p : Progress) → IsAt self.old p → IsAt last (next p (framed (frame_of v)))))) }
+    {
+        self.next_frame(bits)?;
+        Ok(self.view())
+    }
+
+    /// Where the next part stands: the marker, a block, or a frame, counted from 0 up to 2^64 - 1.
+    pub fn place(&self) -> Place
+        ensures { result ≡ place_in (stand_of self.now).phase (stand_of self.now).index }
+    {
+        match self.phase {
+            Phase::Opening => Place::Marker,
+            Phase::Blocks => Place::Block(self.index),
+            Phase::Frames => Place::Frame(self.index),
+        }
     }
 }

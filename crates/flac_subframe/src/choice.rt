@@ -49,7 +49,7 @@ pub struct PricedChoice {
 }
 
 /// Whether all samples are the first one.
-pub fn all_equal(samples: &[i64]) -> bool
+pub(crate) fn all_equal(samples: &[i64]) -> bool
     ensures { IsTrue result ↔ (samples.now ≡ replicate (length samples.now) (sample_at samples.now 0)) }
 {
     for sample in samples {
@@ -175,7 +175,7 @@ fn plain(kind: Kind, _residual: ResidualChoice, bits: u64) -> PricedChoice
 }
 
 /// The least choice over the fixed predictors, with partition orders up to the greatest.
-pub fn choose_body(samples: &[i64], bits: u32, most: u8, values: &mut [i64]) -> PricedChoice
+pub(crate) fn choose_body(samples: &[i64], bits: u32, most: u8, values: &mut [i64]) -> PricedChoice
     requires some { 0 < length samples.now }
     requires few { length samples.now ≤ 65535 }
     requires most { most ≤ 8 }

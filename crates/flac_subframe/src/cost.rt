@@ -17,7 +17,7 @@ pub struct Priced {
 }
 
 /// How many bits the values take under a Rice parameter.
-pub fn rice_bits(values: &[i64], parameter: u8) -> u64
+pub(crate) fn rice_bits(values: &[i64], parameter: u8) -> u64
     requires few { length values.now ≤ 65535 }
     requires range { All IsResidual values.now }
     requires parameter { parameter < 31 }
@@ -32,7 +32,7 @@ pub fn rice_bits(values: &[i64], parameter: u8) -> u64
 }
 
 /// The fewest bits that hold each value as a signed number, 0 where all are 0.
-pub fn width(values: &[i64]) -> u8
+pub(crate) fn width(values: &[i64]) -> u8
     requires range { All IsResidual values.now }
     ensures small { result ≤ 32 }
     ensures least { (n : ℕ) → All (FitsWidth n) values.now ↔ (result ≤ n) }

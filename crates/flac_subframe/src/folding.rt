@@ -5,7 +5,7 @@ ghost use Rattle.flac_subframe.specs.Spelling.{folded};
 ghost use Rattle.flac_bits.specs.Rice.{IsResidual};
 
 /// 2r where r is not negative, else -2r - 1.
-pub fn fold(value: i64) -> u64
+pub(crate) fn fold(value: i64) -> u64
     requires { IsResidual value }
     ensures value { result ≡ folded value }
     ensures small { result < 2 ^ 32 }

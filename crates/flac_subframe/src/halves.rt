@@ -99,7 +99,7 @@ fn pass(
 }
 
 /// Fills the table with the least parameters of a method.
-pub fn compare(
+pub(crate) fn compare(
     values: &[i64],
     order: usize,
     halvings: u8,
@@ -126,7 +126,7 @@ pub fn compare(
 }
 
 /// Makes the first entries of a table ready, before any parameter is compared.
-pub fn clear(table: &mut [Priced], count: usize)
+pub(crate) fn clear(table: &mut [Priced], count: usize)
     requires { count ≤ length table.old }
     ensures { (i : ℕ) (d : Priced) → i < count → (slice_index_or table.new i d).bits ≡ 2 ^ 64 - 1 }
 {
@@ -139,7 +139,7 @@ pub fn clear(table: &mut [Priced], count: usize)
 }
 
 /// The first entries of a table, in another.
-pub fn copy(from: &[Priced], to: &mut [Priced], count: usize)
+pub(crate) fn copy(from: &[Priced], to: &mut [Priced], count: usize)
     requires from { count ≤ length from.now }
     requires to { count ≤ length to.old }
     ensures { (i : ℕ) (d : Priced) → i < count → slice_index_or to.new i d ≡ slice_index_or from.now i d }

@@ -15,7 +15,7 @@ pub struct ResidualChoice {
 }
 
 /// A power of two.
-pub fn power(exponent: u8) -> usize
+pub(crate) fn power(exponent: u8) -> usize
     requires { exponent ≤ 15 }
     ensures { result ≡ 2 ^ exponent }
 {

@@ -6,7 +6,7 @@ ghost use Rattle.flac_bits.specs.Signed.{FitsBits};
 /// Whether a number has a two's complement form of so many bits: moved up by half the range, it is within the range, and so one
 /// comparison tells.
 #[inline(always)]
-pub fn fits_bits(number: i64, bits: u32) -> bool
+pub(crate) fn fits_bits(number: i64, bits: u32) -> bool
     requires positive { 1 ≤ bits }
     requires small { bits ≤ 63 }
     ensures { IsTrue result ↔ FitsBits bits number }
@@ -17,7 +17,7 @@ pub fn fits_bits(number: i64, bits: u32) -> bool
 
 /// Two to the power of so much.
 #[inline(always)]
-pub fn power_of_two(exponent: u32) -> i64
+pub(crate) fn power_of_two(exponent: u32) -> i64
     requires { exponent ≤ 33 }
     ensures { result ≡ pos (2 ^ exponent) }
 {
@@ -25,7 +25,7 @@ pub fn power_of_two(exponent: u32) -> i64
 }
 
 /// Fills the places with one number.
-pub fn repeat(number: i64, places: &mut [i64])
+pub(crate) fn repeat(number: i64, places: &mut [i64])
     ensures { places.new ≡ replicate (length places.old) number }
 {
     for place in places.iter_mut() {

@@ -6,7 +6,7 @@ ghost use Rattle.flac_bits.specs.Signed.{FitsBits};
 ghost use Rattle.flac_subframe.specs.Prediction.{prediction, weighted, fixed_coefficients};
 
 /// The coefficients of the fixed predictor of an order, for the nearest sample first (RFC 9639, section 9.2.5).
-pub fn fixed_coefficients(order: u32) -> &'static [i32]
+pub(crate) fn fixed_coefficients(order: u32) -> &'static [i32]
     requires { order ≤ 4 }
     ensures { result.now ≡ fixed_coefficients order }
 {

@@ -116,7 +116,7 @@ fn read_residual_header<R: Source>(
 
 /// Fills the places behind the warm-up samples of a block with the residual of a predictor of an order (RFC 9639, section 9.2.7).
 #[tactic(auto, unfolding(crate::specs::Residual::residual))]
-pub fn read_residual<R: Source>(
+pub(crate) fn read_residual<R: Source>(
     bits: &mut BitReader<R>,
     limit: u32,
     order: usize,

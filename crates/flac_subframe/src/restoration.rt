@@ -11,7 +11,7 @@ use crate::numbers::fits_bits;
 
 /// What the fixed predictor of an order says after four samples, the nearest first (RFC 9639, section 9.2.5).
 #[inline(always)]
-pub fn predict_after(order: usize, first: i64, second: i64, third: i64, fourth: i64) -> i64
+pub(crate) fn predict_after(order: usize, first: i64, second: i64, third: i64, fourth: i64) -> i64
     requires order { order ≤ 4 }
     requires first { FitsBits 33 first }
     requires second { FitsBits 33 second }
@@ -79,7 +79,7 @@ fn restore_order(order: usize, bits: u32, samples: &mut [i64]) -> bool
 /// Turns warm-up samples and the residual of the fixed predictor of an order into samples, from the front (RFC 9639, section 9.2.5).
 /// It stops with `false` at a sample that does not fit.
 #[inline(never)]
-pub fn restore_fixed(order: usize, bits: u32, samples: &mut [i64]) -> bool
+pub(crate) fn restore_fixed(order: usize, bits: u32, samples: &mut [i64]) -> bool
     requires order { order ≤ 4 }
     requires enough { order ≤ length samples.old }
     requires positive { 1 ≤ bits }
@@ -166,7 +166,12 @@ fn restore_by(
 /// Turns warm-up samples and the residual of a linear predictor into samples, from the front (RFC 9639, section 9.2.6).
 /// It stops with `false` at a sample that does not fit.
 #[inline(never)]
-pub fn restore_linear(coefficients: &[i64], shift: u32, bits: u32, samples: &mut [i64]) -> bool
+pub(crate) fn restore_linear(
+    coefficients: &[i64],
+    shift: u32,
+    bits: u32,
+    samples: &mut [i64],
+) -> bool
     requires some { 1 ≤ length coefficients.now }
     requires few { length coefficients.now ≤ 32 }
     requires small { All (FitsBits 15) coefficients.now }

@@ -296,7 +296,7 @@ fn take_up(
 }
 
 /// The least form of all for the residual of a predictor of an order, where it takes fewer bits than so many.
-pub fn least_residual_into(
+pub(crate) fn least_residual_into(
     values: &[i64],
     order: usize,
     most: u8,

@@ -34,7 +34,7 @@ fn halve(samples: &mut [i64])
 }
 
 /// How many low bits all samples lack, and the samples without them.
-pub fn drop_wasted(samples: &[i64], bits: u32, shortened: &mut [i64]) -> u32
+pub(crate) fn drop_wasted(samples: &[i64], bits: u32, shortened: &mut [i64]) -> u32
     requires positive { 1 ≤ bits }
     requires bits { bits ≤ 33 }
     requires fits { All (FitsBits bits) samples.now }

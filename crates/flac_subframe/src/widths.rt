@@ -42,7 +42,7 @@ fn lowest(values: &[i64], order: usize, halvings: u8, widths: &mut [u8])
 }
 
 /// The width of each partition at each partition order: the greater of its two halves'.
-pub fn measure(values: &[i64], order: usize, halvings: u8, widths: &mut [u8])
+pub(crate) fn measure(values: &[i64], order: usize, halvings: u8, widths: &mut [u8])
     requires few { length values.now + order ≤ 65535 }
     requires range { All IsResidual values.now }
     requires most { halvings ≤ 8 }

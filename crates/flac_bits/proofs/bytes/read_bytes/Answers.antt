@@ -1,9 +1,9 @@
-use Rattle.std.proofs.Common.{◌≡◌, ◌<◌, ◌≤◌, ◌++◌, ℕ, List, Bool, [], length, take, get_or, Fits, w8, Err, subst, refl, sym, ap, ◌∙◌, arith}
+use Rattle.std.proofs.Common.{◌≡◌, ℕ, List, length, take, get_or, Fits, w8, Err, subst, sym, ap, ◌∙◌, arith}
 use Rattle.std.proofs.lemmas.List.{take_all, length-take}
 use Rattle.std.proofs.Math.Facts.{Fits-lt-pow}
 use Rattle.flac_bits.specs.Bits.{bits_of}
-use Rattle.flac_bits.specs.State.{Cursor, Consumes}
-use Rattle.flac_bits.specs.Layout.{because, Reason}
+use Rattle.flac_bits.specs.State.{Consumes}
+use Rattle.flac_bits.specs.Layout.{because}
 use Rattle.flac_bits.specs.declared.why.Why.{Why}
 use Rattle.flac_bits.proofs.Copied.{exact, missing, bits_cut}
 use Rattle.flac_bits.proofs.bytes.read_bytes.Goals as goal

@@ -1,5 +1,4 @@
-use Rattle.std.proofs.Common.{◌≡◌, ◌++◌, ◌∷◌, ◌+◌, ◌*◌, ◌≤◌, ℕ, List, Bool, true, false, length, [], Result, Ok, Err, IfOk, sym, ap, ◌∙◌, arith, refl}
-use Rattle.flac_bits.specs.Store.{Store, HoldsSame}
+use Rattle.std.proofs.Common.{◌≡◌, ◌∷◌, List, Bool, length, [], Result, Ok, Err, IfOk, ◌∙◌, arith, refl}
 use Rattle.flac_bits.specs.declared.why.Why.{Why}
 use Rattle.flac_bits.proofs.Standing.{same_bits, then_same, came_bits, same_most, came_most}
 use Rattle.flac_bits.proofs.reader.refill.Goals as goal

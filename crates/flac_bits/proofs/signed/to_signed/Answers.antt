@@ -1,4 +1,4 @@
-use Rattle.std.proofs.Common.{◌≡◌, ◌-◌, ◌/◌, ◌^◌, ◌≤◌, arith}
+use Rattle.std.proofs.Common.{arith}
 use Rattle.flac_bits.proofs.Signs.{all_ones, half_or_more, rest_fits, high_value, high_fits}
 use Rattle.flac_bits.proofs.signed.to_signed.Goals as goal
 

@@ -1,5 +1,5 @@
-use Rattle.std.proofs.Common.{◌≡◌, ◌-◌, ◌≤◌, length, take}
-use Rattle.flac_bits.specs.Bits.{unsigned, bits_of}
+use Rattle.std.proofs.Common.{◌≡◌, ◌-◌}
+use Rattle.flac_bits.specs.Bits.{unsigned}
 use Rattle.flac_bits.specs.Check.{fed}
 use Rattle.flac_bits.proofs.sums.bits_checked16.Given as goal
 

@@ -1,4 +1,4 @@
-use Rattle.std.proofs.Common.{ℕ, ◌<◌, ◌^◌, rules}
+use Rattle.std.proofs.Common.{◌<◌, ◌^◌, rules}
 use Rattle.flac_bits.proofs.Eights.{byte16}
 use Rattle.flac_bits.proofs.sums.byte_checked16.Goals as goal
 

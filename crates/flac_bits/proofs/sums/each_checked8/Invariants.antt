@@ -1,4 +1,4 @@
-use Rattle.std.proofs.Common.{◌≡◌, ◌*◌, take}
+use Rattle.std.proofs.Common.{◌≡◌, take}
 use Rattle.flac_bits.specs.Bits.{bits_of}
 use Rattle.flac_bits.specs.Check.{fed}
 use Rattle.flac_bits.proofs.sums.each_checked8.Given as goal

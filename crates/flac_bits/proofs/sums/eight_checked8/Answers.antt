@@ -1,4 +1,4 @@
-use Rattle.std.proofs.Common.{ℕ, ◌<◌, ◌^◌, get_or, Fits, w8, rules}
+use Rattle.std.proofs.Common.{◌<◌, ◌^◌, get_or, Fits, w8, rules}
 use Rattle.std.proofs.Math.Facts.{Fits-lt-pow}
 use Rattle.flac_bits.proofs.Eights.{eight8}
 use Rattle.flac_bits.proofs.sums.eight_checked8.Goals as goal

@@ -1,4 +1,4 @@
-use Rattle.std.proofs.Common.{◌+◌, ◌-◌, List, ℕ, ◌++◌, ◌∷◌, [], length, sym, ap, ◌∙◌}
+use Rattle.std.proofs.Common.{arith, ◌+◌, ◌-◌, List, ℕ, ◌++◌, ◌∷◌, [], length, sym, ap, ◌∙◌}
 use Rattle.std.proofs.lemmas.Result.{err_from_is_err_and}
 use Rattle.flac_bits.specs.State.{Cursor}
 use Rattle.flac_bits.specs.Layout.{run, and_then}
@@ -14,3 +14,6 @@ returns-in_err-text-clause-reads g c = λ room known same.
     let more : List ℕ → Cursor → _ = λ x d. and_then (run (texts (c.args.count - (c.loop-i.i + 1)) (c.loop-i.left - (4 + length x))) d) (behind (c.loop-i.list.items ++ x ∷ [])) in
     rw (p.1, p.2) (sym (now.reads known) ∙ texts_more c.args.count c.loop-i.i c.loop-i.left c.loop-i.bits.cursor c.loop-i.list.items c.loop-i-test.true
     ∙ ap (λ r. and_then r more) (c.in_err-text.ensures.reads (λ q. room cc) (now.known known) (same ∙ sym now.errors)))
+
+pub loop-i-preserved : goal.loop-i-preserved
+loop-i-preserved g c = grind (arith, texts_more)

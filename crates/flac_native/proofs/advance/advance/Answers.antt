@@ -1,4 +1,3 @@
-use Rattle.std.proofs.Common.{◌≡◌}
 use Rattle.flac_bits.specs.Fencing.{lifted}
 use Rattle.flac_native.proofs.Advancing.{over_here, refused_here}
 use Rattle.flac_native.proofs.advance.advance.Goals as goal
@@ -8,7 +7,7 @@ returns-in-Ok-clause-steps g c = λ p at known same quiet.
     let ends = rw c.lift.ensures at c.in-Ok-true.ensures in
     over_here c.args.track.now p (lifted c.args.reader.now).cursor c.in-Ok-true.field-0 at c.in-Ok-true.field-0-test (ends.over known).1 (c.in-Ok.ensures.judged p at)
 
-pub returns-in-Err-close-clause-steps : goal.returns-in-Err-close-clause-steps
-returns-in-Err-close-clause-steps g c = λ p at known same quiet room.
+pub returns-in-Err-end-clause-steps : goal.returns-in-Err-end-clause-steps
+returns-in-Err-end-clause-steps g c = λ p at known same quiet room.
     let ends = rw c.lift.ensures at c.in-Ok-true.ensures in
-    refused_here c.args.track.now p (lifted c.args.reader.now).cursor c.in-Ok-true.field-0 c.in-Err-close.why at c.in-Ok-true.field-0-test (ends.over known).1 (c.in-Err-close.ensures.judged p at)
+    refused_here c.args.track.now p (lifted c.args.reader.now).cursor c.in-Ok-true.field-0 c.in-Err-end.why at c.in-Ok-true.field-0-test (ends.over known).1 (c.in-Err-end.ensures.judged p at)

@@ -1,8 +1,8 @@
-use Rattle.std.proofs.Common.{rules, ◌≡◌, ℕ, arith, refl, sym, ap, ◌∙◌, subst}
+use Rattle.std.proofs.Common.{rules, ap}
 use Rattle.std.proofs.lemmas.List.{append-nil}
 use Rattle.flac_bits.specs.Bits.{bits_of}
-use Rattle.flac_bits.specs.State.{State, Cursor, short_of}
-use Rattle.flac_bits.specs.Handing.{Hands, IsCalm, outcome_of}
+use Rattle.flac_bits.specs.State.{State, short_of}
+use Rattle.flac_bits.specs.Handing.{outcome_of}
 use Rattle.flac_native.specs.Stream.{grammar, opening}
 use Rattle.flac_native.specs.Item.{told}
 use Rattle.flac_native.specs.Decoding.{taken, beginning}

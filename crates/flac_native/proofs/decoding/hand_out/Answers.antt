@@ -1,10 +1,10 @@
-use Rattle.std.proofs.Common.{◌≡◌, refl, sym, ap, ◌∙◌}
+use Rattle.std.proofs.Common.{refl, ap, ◌∙◌}
 use Rattle.std.proofs.lemmas.Result.{err_from_is_err_and}
 use Rattle.flac_bits.specs.State.{without_fence}
 use Rattle.flac_bits.specs.Fencing.{lifted}
 use Rattle.flac_bits.specs.Handing.{IsCalm}
 use Rattle.flac_bits.proofs.Handing.{one_more, all_done, step_refused, sink_failed}
-use Rattle.flac_native.specs.Stream.{Progress, Stand, grammar, next, place_in}
+use Rattle.flac_native.specs.Stream.{Stand, grammar, next, place_in}
 use Rattle.flac_native.specs.Track.{piece_of}
 use Rattle.flac_native.specs.Decoding.{taken}
 use Rattle.flac_native.proofs.Bounds.{so_far_lifted, open_on, lifted_open, step_short}
@@ -30,7 +30,7 @@ returns-in_err-hand_at-clause-hands g c =
     rw (p.1, p.2) (λ first at known receives.
     let far = c.loop-part.invariant.far first at in
     sink_failed grammar (taken g.S.Sink.takes) g.S.Sink.errors first far.0 (lifted c.args.reader.now) (lifted c.loop-part.reader) _ c.args.sink.now c.loop-part.sink c.hand_at.new.sink _ _
-    (far.2 receives) (failed.0 (c.loop-part.invariant.known receives)) failed.1 (failed.2 ∙ c.place_of-at.ensures ∙ ap (λ (s : Stand). place_in s.phase s.index) far.1.stand) known)
+    (far.2 receives) (failed.0 (c.loop-part.invariant.known receives)) failed.1 (failed.2 ∙ c.place-at.ensures ∙ ap (λ (s : Stand). place_in s.phase s.index) far.1.stand) known)
 
 pub loop-part-preserved : goal.loop-part-preserved
 loop-part-preserved g c =

@@ -1,4 +1,4 @@
-use Rattle.std.proofs.Common.{◌≡◌, ◌≤◌, ◌<◌, ◌-◌, ◌*◌, ◌+◌, ◌^◌, min, max, length, refl, sym, ap, subst, ◌∙◌, arith, nat_lt, Vec, Global, ℕ}
+use Rattle.std.proofs.Common.{◌≡◌, ◌≤◌, ◌<◌, ◌-◌, ◌*◌, ◌+◌, ◌^◌, min, max, sym, ap, subst, ◌∙◌, arith, nat_lt, Vec, Global, ℕ}
 use Rattle.std.proofs.Math.Nat.{mul-suc}
 use Rattle.std.proofs.lemmas.Bool.Decides.{nat_tests}
 use Rattle.flac_bits.specs.Bits.{bits_of}
@@ -6,7 +6,7 @@ use Rattle.flac_frame.specs.Audio.{samples_each}
 use Rattle.flac_frame.specs.Spelling.{frame_spelling}
 use Rattle.flac_native.specs.Given.{blocks_in}
 use Rattle.flac_native.proofs.Planned.{planned, fit, block_small}
-use Rattle.flac_native.proofs.Gathered.{Gathered, least_with, gathered_new, gathered_more, still_some, all_gathered, all_encoded, bytes_grow}
+use Rattle.flac_native.proofs.Gathered.{Gathered, least_with, gathered_new, gathered_more, still_some, all_gathered, all_encoded, bytes_grow, short_bytes}
 use Rattle.flac_native.proofs.encoding.encode_frames.Goals as goal
 
 ordered : (n least greatest bytes : ℕ) {l m : ℕ} → least ≤ greatest → l ≡ least_with n least bytes → m ≡ max greatest bytes → l ≤ m
@@ -70,9 +70,10 @@ loop-start-preserved c =
     let wrote = c.in_ok-encode_frame.ensures.wrote in
     let bytes : ℕ = c.bytes_written.result - c.bytes_written-before.result in
     let bytes_is : bytes ≡ c.encode_frame.new.writer.mark.bytes - c.loop-start.writer.mark.bytes = omega (arith, c.bytes_written.ensures, c.bytes_written-before.ensures) in
-    let small : bytes ≤ 16777215 = c.if-bytes-gt16777215.false in
     let w = c.encode_frame.new.writer in
-    let g = gathered_more p a c.loop-start.writer w n c.loop-start.least c.loop-start.greatest bytes c.loop-start.start _ wrote.0 inv.gathered (omega (arith, few, blocks)) at part wrote.1 wrote.3 bytes_is small in
+    let held : c.loop-start.writer.mark.bytes < 2 ^ 64 = omega (arith, c.bytes_written-before.ensures, c.bytes_written-before.type_inv) in
+    let small : bytes ≤ 16777215 = omega (arith, bytes_is, short_bytes (frame_spelling a.bits wrote.0) c.loop-start.writer w inv.gathered.whole held wrote.3 wrote.2.1) in
+    let g = gathered_more p a c.loop-start.writer w n c.loop-start.least c.loop-start.greatest bytes c.loop-start.start _ wrote.0 inv.gathered (omega (arith, few, blocks)) at part wrote.1 wrote.2.0 wrote.3 bytes_is small in
     let max_is : c.greatest_with-greatest.result ≡ max c.loop-start.greatest bytes = c.greatest_with-greatest.ensures in
     let least_is : c.least_with-least.result ≡ least_with n c.loop-start.least bytes = c.least_with-least.ensures in
     let made = subst (λ l. Gathered p a w (n + 1) l c.greatest_with-greatest.result) (sym least_is) (subst (λ m. Gathered p a w (n + 1) (least_with n c.loop-start.least bytes) m) (sym max_is) g) in

@@ -1,4 +1,4 @@
-use Rattle.std.proofs.Common.{◌≡◌, ◌<◌, ◌+◌, ◌∷◌, [], ◌++◌, length, drop, get_or, refl, ap, subst, sym, ◌∙◌, arith, List, None}
+use Rattle.std.proofs.Common.{◌≡◌, ◌<◌, ◌+◌, length, drop, refl, subst, sym, arith, List, None}
 use Rattle.std.proofs.lemmas.Result.{err_from_is_err_and}
 use Rattle.flac_bits.proofs.Writing.{towards_start, towards_more, towards_end, towards_fail}
 use Rattle.flac_meta.specs.Listed.{list_fault, info_seen}

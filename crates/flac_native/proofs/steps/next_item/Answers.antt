@@ -1,7 +1,5 @@
-use Rattle.std.proofs.Common.{◌≡◌, Ok, Some, sym, ap, ◌∙◌}
-use Rattle.flac_native.specs.Stream.{Piece, Progress, marked, next}
-use Rattle.flac_native.specs.Track.{IsAt, piece_of, is_made}
-use Rattle.flac_native.specs.declared.part.Part.{Part}
+use Rattle.std.proofs.Common.{Ok, Some, sym, ap, ◌∙◌}
+use Rattle.flac_native.specs.Stream.{marked, next}
 use Rattle.flac_native.proofs.Giving.{item_first, behind_marker, inside, made_as, made_behind}
 use Rattle.flac_native.proofs.steps.next_item.Goals as goal
 

@@ -1,10 +1,8 @@
-use Rattle.std.proofs.Common.{rules, ◌≡◌, ◌<◌, ◌≤◌, ◌+◌, ◌-◌, ◌*◌, ◌/◌, ◌%◌, ◌^◌, ◌++◌, ◌∷◌, [], ℕ, List, Bool, true, false, length, take, drop, get_or, min, Option, Some, None, IfSome, sym, ap, ◌∙◌, arith, refl, append_assoc}
+use Rattle.std.proofs.Common.{◌≡◌, ◌<◌, ◌≤◌, ◌++◌, [], List, Bool, length, take, drop, get_or, ap, ◌∙◌, arith}
 use Rattle.flac_bits.specs.Bits.{unsigned, bits_of}
-use Rattle.flac_bits.specs.Meaning.{unary_bits}
-use Rattle.flac_bits.specs.Store.{Store, passed, Takes, HoldsSame, four_at}
-use Rattle.flac_bits.specs.State.{Mark, past}
+use Rattle.flac_bits.specs.Store.{Store}
 use Rattle.flac_bits.proofs.Words.{length-unsigned}
-use Rattle.flac_bits.proofs.Holding.{took_tie, took_mark, came_tie, came_passed, came_four, came_four_mark, came_four_left, came_one, came_one_mark, came_one_left, one_begun, one_left, four_begun, four_left, four_bits}
+use Rattle.flac_bits.proofs.Holding.{came_one, came_one_mark, came_one_left}
 use Rattle.flac_bits.proofs.held.Held.begin_byte.Goals as goal
 
 pub invariant_of-self : goal.invariant_of-self

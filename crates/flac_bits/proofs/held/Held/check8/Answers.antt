@@ -1,11 +1,11 @@
-use Rattle.std.proofs.Common.{rules, ◌≡◌, ◌<◌, ◌≤◌, ◌+◌, ◌-◌, ◌*◌, ◌/◌, ◌%◌, ◌^◌, ◌++◌, ◌∷◌, [], ℕ, List, Bool, true, false, length, take, drop, get_or, min, sym, ap, ◌∙◌, arith, refl, append_assoc}
+use Rattle.std.proofs.Common.{rules, ◌≡◌, ◌≤◌, ◌+◌, ◌-◌, ◌/◌, ◌%◌, ◌^◌, length, take, drop, get_or, sym, ap, ◌∙◌, arith}
 use Rattle.std.proofs.lemmas.List.{length-drop, length-take}
-use Rattle.flac_bits.specs.Bits.{unsigned, bits_of}
+use Rattle.flac_bits.specs.Bits.{unsigned}
 use Rattle.flac_bits.specs.Check.{fed}
 use Rattle.flac_bits.specs.Store.{Store, passed}
-use Rattle.flac_bits.specs.State.{Mark, past}
-use Rattle.flac_bits.proofs.Check.{past-check8, past-check16}
-use Rattle.flac_bits.proofs.Partly.{held_fits, unread_is, bytes_are, checked_whole, checked_part}
+use Rattle.flac_bits.specs.State.{Mark}
+use Rattle.flac_bits.proofs.Check.{past-check8}
+use Rattle.flac_bits.proofs.Partly.{held_fits, checked_whole, checked_part}
 use Rattle.flac_bits.proofs.held.Held.check8.Goals as goal
 
 pub overflow_sub-whole : goal.overflow_sub-whole

@@ -1,9 +1,9 @@
-use Rattle.std.proofs.Common.{◌≡◌, ◌≤◌, ◌-◌, ◌+◌, ◌++◌, ℕ, List, Bool, [], length, take, drop, refl, sym, ap, ◌∙◌, arith}
+use Rattle.std.proofs.Common.{◌≡◌, ◌≤◌, ◌-◌, ◌+◌, ◌++◌, ℕ, List, length, take, drop, sym, ap, ◌∙◌, arith}
 use Rattle.std.proofs.lemmas.List.{take_at, length-drop, length-take}
 use Rattle.std.specs.List.{slice_range}
 use Rattle.flac_bits.specs.Bits.{bits_of}
 use Rattle.flac_bits.specs.State.{past}
-use Rattle.flac_bits.specs.Store.{Store, Passes}
+use Rattle.flac_bits.specs.Store.{Store}
 use Rattle.flac_bits.proofs.Back.{copied_tie, copied_mark, copied_left}
 use Rattle.flac_bits.proofs.held.Held.copy.Goals as goal
 

@@ -1,7 +1,5 @@
-use Rattle.std.proofs.Common.{◌≡◌, ◌<◌, ◌≤◌, ◌+◌, ◌-◌, ◌++◌, ◌∷◌, [], ℕ, List, Bool, true, length, take, drop, Option, Some, None, refl, sym, ap, ◌∙◌, arith, append_assoc}
+use Rattle.std.proofs.Common.{◌++◌, ap, ◌∙◌}
 use Rattle.flac_bits.specs.Bits.{bits_of}
-use Rattle.flac_bits.specs.State.{Mark}
-use Rattle.flac_bits.specs.Store.{Store, Fence, allowed, forbidden, hides_late}
 use Rattle.flac_bits.proofs.held.Held.fence.Goals as goal
 
 pub returns-clause-held : goal.returns-clause-held

@@ -1,5 +1,5 @@
-use Rattle.std.proofs.Common.{◌≡◌, ◌≤◌, ◌++◌, ◌∷◌, [], ℕ, List, length, take, drop, Option, None, refl, sym, ap, ◌∙◌, arith}
-use Rattle.flac_bits.specs.Store.{Store, Fence, allowed, forbidden}
+use Rattle.std.proofs.Common.{◌++◌, None, sym, ap, ◌∙◌, arith}
+use Rattle.flac_bits.specs.Store.{Store, allowed, forbidden}
 use Rattle.flac_bits.proofs.Back.{begun_more}
 use Rattle.flac_bits.proofs.Coming.{lifted_list, drop_end}
 use Rattle.flac_bits.proofs.held.Held.lift.Goals as goal

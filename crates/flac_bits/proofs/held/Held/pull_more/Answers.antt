@@ -1,13 +1,6 @@
-use Rattle.std.proofs.Common.{rules, ◌≡◌, ◌<◌, ◌≤◌, ◌+◌, ◌-◌, ◌*◌, ◌/◌, ◌%◌, ◌^◌, ◌++◌, ◌∷◌, [], ℕ, List, Bool, true, false, length, take, drop, get_or, min, Option, Some, None, Result, Ok, Err, IfSome, sym, ap, ◌∙◌, arith, refl, append_assoc}
-use Rattle.flac_bits.specs.Bits.{unsigned, bits_of}
-use Rattle.flac_bits.specs.Meaning.{unary_bits}
-use Rattle.flac_bits.specs.Layout.{number_at, zeros_at, next_bit}
-use Rattle.flac_bits.specs.Store.{Store, Fence, passed, Takes, HoldsSame, four_at, seen, room_behind}
-use Rattle.flac_bits.specs.State.{Mark, State, Cursor, past}
+use Rattle.std.proofs.Common.{◌≡◌, [], take, drop, Some, sym, ap, ◌∙◌, arith}
+use Rattle.flac_bits.specs.Store.{Store, Fence, seen}
 use Rattle.flac_bits.proofs.Marks.{pulled_mark}
-use Rattle.flac_bits.proofs.Meaning.{past-short}
-use Rattle.flac_bits.proofs.Words.{length-unsigned}
-use Rattle.flac_bits.proofs.Fields.{cursor_of, taken_read, taken_spends, unary_read, left_is, bit_read, bit_none}
 use Rattle.std.proofs.lemmas.List.{length-take, length-drop}
 use Rattle.flac_bits.proofs.Coming.{came_is, hidden_none, seen_fits}
 use Rattle.flac_bits.proofs.held.Held.pull_more.Goals as goal

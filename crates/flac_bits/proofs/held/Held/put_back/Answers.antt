@@ -1,8 +1,7 @@
-use Rattle.std.proofs.Common.{◌≡◌, ◌<◌, ◌≤◌, ◌+◌, ◌-◌, ◌*◌, ◌/◌, ◌%◌, ◌++◌, ℕ, List, Bool, length, take, drop, refl, sym, ap, ◌∙◌, arith}
+use Rattle.std.proofs.Common.{◌≡◌, ◌≤◌, ◌*◌, ◌/◌, ◌%◌, ◌++◌, ℕ, List, Bool, length, take, drop, refl, ap, ◌∙◌, arith}
 use Rattle.std.proofs.lemmas.List.{length-append}
 use Rattle.flac_bits.specs.Bits.{bits_of}
-use Rattle.flac_bits.specs.Store.{Store, passed, HoldsSame}
-use Rattle.flac_bits.specs.State.{Mark}
+use Rattle.flac_bits.specs.Store.{Store}
 use Rattle.flac_bits.proofs.Partly.{held_fits, unread_is, begun_long}
 use Rattle.flac_bits.proofs.Back.{back_fits, back_tie, back_mark, back_left}
 use Rattle.flac_bits.proofs.held.Held.put_back.Goals as goal

@@ -1,9 +1,8 @@
-use Rattle.std.proofs.Common.{rules, ◌≡◌, ◌<◌, ◌≤◌, ◌+◌, ◌-◌, ◌*◌, ◌/◌, ◌%◌, ◌^◌, ◌++◌, ◌∷◌, [], ℕ, List, Bool, true, false, length, take, drop, get_or, min, Some, None, sym, ap, ◌∙◌, arith, refl, append_assoc}
-use Rattle.flac_bits.specs.Bits.{unsigned, bits_of}
-use Rattle.flac_bits.specs.Meaning.{unary_bits}
-use Rattle.flac_bits.specs.Store.{Store, passed, Takes, HoldsSame}
-use Rattle.flac_bits.specs.State.{Mark, past}
-use Rattle.flac_bits.proofs.Holding.{took_tie, took_mark, came_tie, came_passed, one_begun, one_left, four_begun, four_left, four_bits}
+use Rattle.std.proofs.Common.{◌≡◌, take, drop, sym, ap, ◌∙◌}
+use Rattle.flac_bits.specs.Bits.{unsigned}
+use Rattle.flac_bits.specs.Store.{Store}
+use Rattle.flac_bits.specs.State.{past}
+use Rattle.flac_bits.proofs.Holding.{took_tie, took_mark}
 use Rattle.flac_bits.proofs.held.Held.take.Goals as goal
 
 pub invariant_of-self : goal.invariant_of-self

@@ -1,9 +1,9 @@
-use Rattle.std.proofs.Common.{rules, ◌≡◌, ◌<◌, ◌≤◌, ◌+◌, ◌-◌, ◌*◌, ◌/◌, ◌%◌, ◌^◌, ◌++◌, ◌∷◌, [], ℕ, List, Bool, true, false, length, take, drop, get_or, min, Option, Some, None, IfSome, sym, ap, ◌∙◌, arith, refl, append_assoc}
-use Rattle.flac_bits.specs.Bits.{unsigned, bits_of}
+use Rattle.std.proofs.Common.{◌≡◌, ◌≤◌, ◌++◌, ℕ, List, Bool, Option, Some, None, IfSome, sym, ap, ◌∙◌, refl}
+use Rattle.flac_bits.specs.Bits.{bits_of}
 use Rattle.flac_bits.specs.Meaning.{unary_bits}
-use Rattle.flac_bits.specs.Store.{Store, Fence, passed, Takes, HoldsSame}
+use Rattle.flac_bits.specs.Store.{Store, Fence, passed, Takes}
 use Rattle.flac_bits.specs.State.{Mark, past}
-use Rattle.flac_bits.proofs.Holding.{took_tie, took_mark, came_tie, came_passed, came_four, came_four_mark, came_four_left, one_begun, one_left, four_begun, four_left, four_bits}
+use Rattle.flac_bits.proofs.Holding.{took_tie, took_mark}
 use Rattle.flac_bits.proofs.held.Held.unary.Goals as goal
 
 tied : (xs : List ℕ) (limit : ℕ) (o : Option ℕ) (old new : List Bool) → IfSome o (λ q. (q ≤ limit) × (old ≡ unary_bits q ++ new)) → (o ≡ None → new ≡ old) → passed xs old ++ old ≡ bits_of xs

@@ -1,16 +1,8 @@
-use Rattle.std.proofs.Common.{◌≡◌, ◌++◌, ◌+◌, ◌-◌, ◌*◌, ◌%◌, ◌<◌, ◌≤◌, ℕ, List, Bool, true, false, not, [], ◌∷◌, length, take, Option, Some, None, Ok, Err, sym, ap, ◌∙◌, arith, refl, append_assoc}
-use Rattle.std.proofs.lemmas.List.{length-append, length-take}
+use Rattle.std.proofs.Common.{◌≡◌, ◌++◌, ◌≤◌, List, Bool, true, false, not, [], ◌∷◌, length, Ok, sym, ap, ◌∙◌, arith, refl}
 use Rattle.flac_bits.specs.Bits.{bits_of, is_nil}
-use Rattle.flac_bits.specs.Store.{Store, Passes, Fence, allowed, reached, reason_of, left_of, most_of, SameBits}
-use Rattle.flac_bits.specs.State.{State, Mark, Cursor, Behind, past, with_short}
-use Rattle.flac_bits.specs.Layout.{because}
-use Rattle.flac_bits.specs.declared.why.Why.{Why}
-use Rattle.flac_bits.specs.declared.why.Why.TheVariants.{Read}
-use Rattle.flac_bits.proofs.Fields.{past-with_short, bit_read, bit_none}
-use Rattle.flac_bits.proofs.Holding.{length-bits_of}
-use Rattle.flac_bits.proofs.Marks.{past-unread}
-use Rattle.flac_bits.proofs.Standing.{short_is, no_bytes, same_reason, same_behind}
-use Rattle.std.proofs.lemmas.List.{append-nil}
+use Rattle.flac_bits.specs.Store.{allowed}
+use Rattle.flac_bits.specs.State.{State, Cursor}
+use Rattle.flac_bits.proofs.Standing.{same_reason}
 use Rattle.flac_bits.proofs.reader.BitReader.at_end.Goals as goal
 use Rattle.flac_bits.proofs.reader.BitReader.at_end.Goals.{in-Ok, in-Err}
 

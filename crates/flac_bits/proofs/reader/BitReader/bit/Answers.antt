@@ -1,15 +1,10 @@
-use Rattle.std.proofs.Common.{◌≡◌, ◌++◌, ◌+◌, ◌-◌, ◌*◌, ◌%◌, ◌<◌, ◌≤◌, ℕ, List, Bool, true, false, not, [], ◌∷◌, length, take, Option, Some, None, Ok, Err, sym, ap, ◌∙◌, arith, refl, append_assoc}
-use Rattle.std.proofs.lemmas.List.{length-append, length-take}
-use Rattle.flac_bits.specs.Bits.{bits_of, is_nil}
-use Rattle.flac_bits.specs.Store.{Store, Passes, Fence, allowed, reached, reason_of, left_of, most_of, SameBits}
-use Rattle.flac_bits.specs.State.{State, Mark, Cursor, Behind, past, with_short}
+use Rattle.std.proofs.Common.{◌++◌, Ok, Err, sym, ap, ◌∙◌}
+use Rattle.flac_bits.specs.Bits.{bits_of}
+use Rattle.flac_bits.specs.Store.{allowed}
+use Rattle.flac_bits.specs.State.{State}
 use Rattle.flac_bits.specs.Layout.{because}
-use Rattle.flac_bits.specs.declared.why.Why.{Why}
-use Rattle.flac_bits.specs.declared.why.Why.TheVariants.{Read}
-use Rattle.flac_bits.proofs.Fields.{past-with_short, bit_read, bit_none}
-use Rattle.flac_bits.proofs.Holding.{length-bits_of}
-use Rattle.flac_bits.proofs.Marks.{past-unread}
-use Rattle.flac_bits.proofs.Standing.{short_is, no_bytes, same_reason, same_behind}
+use Rattle.flac_bits.proofs.Fields.{bit_read, bit_none}
+use Rattle.flac_bits.proofs.Standing.{short_is, no_bytes, same_reason}
 use Rattle.flac_bits.proofs.reader.BitReader.bit.Goals as goal
 
 pub returns-in-Err-clause-reads : goal.returns-in-Err-clause-reads

@@ -1,7 +1,7 @@
-use Rattle.std.proofs.Common.{◌≡◌, ◌<◌, ◌≤◌, ◌+◌, ◌-◌, ◌++◌, ◌*◌, ℕ, List, Bool, [], length, take, drop, refl, sym, ap, ◌∙◌, arith}
+use Rattle.std.proofs.Common.{◌≡◌, ◌-◌, List, Bool, length, take, drop, sym, ap, ◌∙◌, arith}
 use Rattle.std.proofs.lemmas.List.{length-append, length-take, length-drop}
 use Rattle.flac_bits.specs.Bits.{bits_of}
-use Rattle.flac_bits.specs.State.{Mark, Cursor}
+use Rattle.flac_bits.specs.State.{Mark}
 use Rattle.flac_bits.proofs.Copied.{consumes_more, put_taken, put_long}
 use Rattle.flac_bits.proofs.Holding.{length-bits_of}
 use Rattle.flac_bits.proofs.Meaning.{past-short}

@@ -1,5 +1,4 @@
-use Rattle.std.proofs.Common.{◌≡◌, ◌++◌, List, Bool, length, sym, ap, ◌∙◌}
-use Rattle.flac_bits.specs.Bits.{unsigned}
+use Rattle.std.proofs.Common.{◌++◌, List, Bool, length, sym, ap, ◌∙◌}
 use Rattle.flac_bits.proofs.Words.{length-unsigned}
 use Rattle.flac_bits.proofs.word.Word.keep.Goals as goal
 

@@ -1,6 +1,4 @@
-use Rattle.std.proofs.Common.{◌≡◌, ◌-◌, ◌*◌, ◌/◌, ◌%◌, ◌^◌, ◌≤◌, ap, sym, ◌∙◌, arith}
-use Rattle.flac_bits.specs.Bits.{unsigned}
-use Rattle.flac_bits.proofs.Words.{at_top, at_top_clean, at_top_bits}
+use Rattle.flac_bits.proofs.Words.{at_top_clean, at_top_bits}
 use Rattle.flac_bits.proofs.word.Word.of_bits.Goals as goal
 
 pub invariant_of-result : goal.invariant_of-result

@@ -1,5 +1,4 @@
-use Rattle.std.proofs.Common.{rules, ◌≡◌, ◌<◌, ◌≤◌, ◌+◌, ◌-◌, ◌*◌, ◌/◌, ◌%◌, ◌^◌, ◌++◌, ◌∷◌, [], ℕ, List, Bool, true, false, length, replicate, sym, ap, ◌∙◌, arith, refl}
-use Rattle.flac_bits.specs.Bits.{unsigned}
+use Rattle.std.proofs.Common.{rules, ◌<◌, ◌^◌}
 use Rattle.flac_bits.proofs.Words.{of_byte_bits}
 use Rattle.flac_bits.proofs.word.Word.of_byte.Goals as goal
 

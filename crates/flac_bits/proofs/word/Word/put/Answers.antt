@@ -1,4 +1,4 @@
-use Rattle.std.proofs.Common.{rules, ◌≡◌, ◌<◌, ◌≤◌, ◌+◌, ◌-◌, ◌*◌, ◌/◌, ◌%◌, ◌^◌, ◌++◌, ◌∷◌, [], ℕ, List, Bool, true, false, length, replicate, sym, ap, ◌∙◌, arith, refl}
+use Rattle.std.proofs.Common.{rules, ◌<◌, ◌-◌, ◌/◌, ◌^◌, ◌++◌, List, Bool, length, ap, ◌∙◌, arith}
 use Rattle.flac_bits.specs.Bits.{unsigned}
 use Rattle.flac_bits.proofs.Words.{length-unsigned, put_fits, put_clean, put_bits}
 use Rattle.flac_bits.proofs.word.Word.put.Goals as goal

@@ -1,5 +1,4 @@
-use Rattle.std.proofs.Common.{rules, ◌≡◌, ◌<◌, ◌≤◌, ◌+◌, ◌-◌, ◌*◌, ◌/◌, ◌%◌, ◌^◌, ◌++◌, ◌∷◌, [], ℕ, List, Bool, true, false, length, replicate, sym, ap, ◌∙◌, arith, refl}
-use Rattle.flac_bits.specs.Bits.{unsigned}
+use Rattle.std.proofs.Common.{rules, ◌<◌, ◌+◌, ◌-◌, ◌*◌, ◌/◌, ◌%◌, ◌^◌, sym, ap, ◌∙◌, arith, refl}
 use Rattle.std.specs.Int.{w64, leading_zeros}
 use Rattle.std.proofs.Common.{bit_or}
 use Rattle.flac_bits.proofs.Words.{rice_taken, taken_clean, taken_small, shifted_small}

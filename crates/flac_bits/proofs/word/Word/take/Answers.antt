@@ -1,5 +1,4 @@
-use Rattle.std.proofs.Common.{rules, ◌≡◌, ◌<◌, ◌≤◌, ◌+◌, ◌-◌, ◌*◌, ◌/◌, ◌%◌, ◌^◌, ◌++◌, ◌∷◌, [], ℕ, List, Bool, true, false, length, replicate, sym, ap, ◌∙◌, arith, refl}
-use Rattle.flac_bits.specs.Bits.{unsigned}
+use Rattle.std.proofs.Common.{rules, ◌<◌, ◌≤◌, ◌-◌, ◌/◌, ◌^◌, List, Bool, length, sym, ap, ◌∙◌, arith}
 use Rattle.flac_bits.proofs.Words.{length-unsigned, taken, taken_small, taken_clean}
 use Rattle.flac_bits.proofs.word.Word.take.Goals as goal
 

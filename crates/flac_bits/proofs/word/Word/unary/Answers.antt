@@ -1,5 +1,4 @@
-use Rattle.std.proofs.Common.{rules, ◌≡◌, ◌<◌, ◌≤◌, ◌+◌, ◌-◌, ◌*◌, ◌/◌, ◌%◌, ◌^◌, ◌++◌, ◌∷◌, [], ℕ, List, Bool, true, false, length, replicate, sym, ap, ◌∙◌, arith, refl}
-use Rattle.flac_bits.specs.Bits.{unsigned}
+use Rattle.std.proofs.Common.{rules, ◌<◌, ◌^◌, sym, ◌∙◌, arith, refl}
 use Rattle.flac_bits.proofs.Words.{zeros_taken, taken_clean}
 use Rattle.flac_bits.proofs.word.Word.unary.Goals as goal
 

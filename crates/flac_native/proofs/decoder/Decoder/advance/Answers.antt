@@ -1,4 +1,4 @@
-use Rattle.std.proofs.Common.{◌≡◌, refl}
+use Rattle.std.proofs.Common.{refl}
 use Rattle.flac_native.proofs.decoder.Decoder.advance.Goals as goal
 
 pub returns-in-Ok-None : goal.returns-in-Ok-None

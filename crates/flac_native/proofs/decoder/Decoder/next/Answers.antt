@@ -1,4 +1,4 @@
-use Rattle.std.proofs.Common.{◌≡◌, refl}
+use Rattle.std.proofs.Common.{refl}
 use Rattle.std.proofs.lemmas.Result.{err_from_is_err_and}
 use Rattle.flac_native.specs.Giving.{stage_of, shown_of}
 use Rattle.flac_native.proofs.Giving.{moves_refused}

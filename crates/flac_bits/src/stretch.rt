@@ -1,0 +1,94 @@
+//! Values under a Rice code off a word and the bytes behind it.
+
+ghost use Rattle.std.specs.Prelude.{◌≡◌, ◌<◌, ◌≤◌, ◌+◌, ◌++◌, ℕ, List, Bool, length, take, drop, get_or, pos};
+ghost use Rattle.flac_bits.specs.Bits.{unsigned, bits_of};
+ghost use Rattle.flac_bits.specs.Rice.{IsResidual};
+ghost use Rattle.flac_bits.specs.Store.{four_at};
+ghost use Rattle.flac_bits.specs.Stretches.{IsRead};
+
+use crate::signed::unfolded;
+use crate::word::Word;
+
+/// The greatest Rice parameter under which a value is within its range wherever the word has all of its code.
+pub const MOST_READY: u32 = 26;
+
+/// Four bytes as a number, the first of them highest.
+#[inline(always)]
+pub(crate) fn four_bytes(bytes: &[u8], place: usize) -> u32
+    requires { place + 4 ≤ length bytes.now }
+    ensures { unsigned 32 result ≡ bits_of (four_at bytes.now place) }
+{
+    u32::from_be_bytes([
+        bytes[place],
+        bytes[place + 1],
+        bytes[place + 2],
+        bytes[place + 3],
+    ])
+}
+
+/// Eight bytes as a number, the first of them highest.
+#[inline(always)]
+fn eight_bytes(bytes: &[u8], place: usize) -> u64
+    requires { place + 8 ≤ length bytes.now }
+    ensures { unsigned 64 result ≡ bits_of (take 8 (drop place bytes.now)) }
+{
+    let high = four_bytes(bytes, place);
+    let low = four_bytes(bytes, place + 4);
+    (u64::from(high) << 32) + u64::from(low)
+}
+
+/// Fills the places from one up to another with residual values, as far as the word has them, and answers where it stopped.
+#[inline(always)]
+fn values_held(word: &mut Word, k: u32, values: &mut [i64], from: usize, to: usize) -> usize
+    requires k { k ≤ 26 }
+    requires from { from ≤ to }
+    requires to { to ≤ length values.old }
+    ensures within { (from ≤ result) × (result ≤ to) }
+    ensures read { (text : List Bool) × (word.old ≡ text ++ word.new) × IsRead k text values.old from values.new result }
+    ensures fits { ((j : ℕ) → j < from → IsResidual (get_or values.old j (pos 0))) → (j : ℕ) → j < result → IsResidual (get_or values.new j (pos 0)) }
+{
+    let mut i = from;
+    while i < to {
+        match word.code(k) {
+            Some(folded) => {
+                values[i] = unfolded(folded);
+                i += 1;
+            }
+            None => return i,
+        }
+    }
+    i
+}
+
+/// Fills the places from one on with residual values, as far as the word and the bytes behind it have them, and answers how many
+/// bytes came into the word, and where it stopped.
+#[inline(always)]
+pub(crate) fn values_in(
+    word: &mut Word,
+    bytes: &[u8],
+    k: u32,
+    values: &mut [i64],
+    from: usize,
+) -> (usize, usize)
+    requires k { k ≤ 26 }
+    requires from { from ≤ length values.old }
+    ensures used { result.0 ≤ length bytes.now }
+    ensures within { (from ≤ result.1) × (result.1 ≤ length values.old) }
+    ensures read { (text : List Bool) × (word.old ++ bits_of (take result.0 bytes.now) ≡ text ++ word.new) × IsRead k text values.old from values.new result.1 }
+    ensures fits { ((j : ℕ) → j < from → IsResidual (get_or values.old j (pos 0))) → (j : ℕ) → j < result.1 → IsResidual (get_or values.new j (pos 0)) }
+{
+    // so many values as a filled word nearly always has: where it has fewer, a jump is foretold wrongly
+    let at_once = 56 / (k as usize + 3);
+    let mut used = 0;
+    let mut i = from;
+    while bytes.len() - used >= 8 && i < values.len() {
+        used += word.fill(eight_bytes(bytes, used)) as usize;
+        let to = i + at_once.min(values.len() - i);
+        let next = values_held(word, k, values, i, to);
+        if next == i {
+            return (used, i);
+        }
+        i = next;
+    }
+    (used, i)
+}

@@ -1,0 +1,116 @@
+-- The frames of the family, and the least of them.
+use Rattle.std.proofs.Common.{◌≡◌, ◌∙◌, refl, sym, ap, subst, ℕ, ◌+◌, ◌-◌, ◌%◌, ◌≤◌, ◌<◌, ◌^◌, arith, ℤ, Bool, true, false, cond, ◌||◌, nat_lt, nat_le, List, [], ◌∷◌, ◌++◌, length, length-append, Option, Some, None, flat_map}
+use Rattle.std.proofs.lemmas.Bool.Decides.{nat_tests}
+use Rattle.flac_header.specs.Header.{Header}
+use Rattle.flac_header.specs.Choice.{size_choice, rate_choice, depth_choice, with_codes, chosen_header}
+use Rattle.flac_header.specs.Spelling.{header_spelling}
+use Rattle.flac_subframe.specs.Spelling.{subframe_spelling}
+use Rattle.flac_subframe.specs.Subframe.{Form}
+use Rattle.flac_frame.specs.Audio.{Sound}
+use Rattle.flac_frame.specs.Encoding.{IsEncoding, AreLeast, EachStands, IsOfFamily, IsLeastFrame, subframes_cost}
+use Rattle.flac_frame.specs.Spelling.{FrameForm, frame_spelling, subframes_spelling}
+use Rattle.flac_frame.specs.Stereo.{kept_as}
+use Rattle.flac_frame.proofs.Short.{header_long, whole_long}
+use Rattle.flac_frame.proofs.Wholes.{texts_are, codes_are}
+
+-- ---- headers that differ by their channel code alone
+
+some_of : Header → Option Header
+some_of h = Some h
+
+pub opened : (size rate code bits number : ℕ) (h : Header) → chosen_header size rate code bits number ≡ Some h → with_codes (size_choice size) (rate_choice rate) (depth_choice bits) size rate code number ≡ Some h
+unfolding chosen_header
+opened size rate code bits number h e = go (nat_lt 10 code || nat_le (2 ^ 31) number) e
+  where
+    go : (b : Bool) → cond b None (with_codes (size_choice size) (rate_choice rate) (depth_choice bits) size rate code number) ≡ Some h → with_codes (size_choice size) (rate_choice rate) (depth_choice bits) size rate code number ≡ Some h
+    go true e = absurd cc
+    go false e = e
+
+pub coded_as : (size rate code bits number : ℕ) (h : Header) → chosen_header size rate code bits number ≡ Some h → (h.channel_code ≡ code) × (h.size ≡ size)
+coded_as size rate code bits number h e = codes_are (size_choice size) (rate_choice rate) (depth_choice bits) size rate code number h (opened size rate code bits number h e)
+
+inner : (a b : Header) → Some a ≡ Some b → a ≡ b
+inner a b e = cc
+
+same_long : (s r d : Option ℕ) (size rate a b number : ℕ) (h k : Header) → with_codes s r d size rate a number ≡ Some h → with_codes s r d size rate b number ≡ Some k → length (header_spelling h) ≡ length (header_spelling k)
+same_long (Some s) (Some r) (Some d) size rate a b number h k e f =
+    let x : Header = record { variable = false; size_code = s; size = size; rate_code = r; rate = rate; channel_code = a; depth_code = d; number = number } in
+    let y : Header = record { variable = false; size_code = s; size = size; rate_code = r; rate = rate; channel_code = b; depth_code = d; number = number } in
+    ap (λ z. length (header_spelling z)) (sym (inner x h e)) ∙ header_long x ∙ sym (header_long y) ∙ ap (λ z. length (header_spelling z)) (inner y k f)
+same_long None r d size rate a b number h k e f = absurd cc
+same_long (Some s) None d size rate a b number h k e f = absurd cc
+same_long (Some s) (Some r) None size rate a b number h k e f = absurd cc
+
+-- ---- frames of fewer bits
+
+filled_less : (a b : ℕ) → a ≤ b → a + (8 - a % 8) % 8 ≤ b + (8 - b % 8) % 8
+filled_less a b h = omega (arith, h)
+
+frame_less : (depth : ℕ) (f g : FrameForm) → length (header_spelling f.header) ≡ length (header_spelling g.header) → subframes_cost depth f ≤ subframes_cost depth g → length (frame_spelling depth f) ≤ length (frame_spelling depth g)
+unfolding frame_spelling
+frame_less depth f g e le =
+    let p = subframes_spelling depth f.header.channel_code 0 f.subframes in
+    let q = subframes_spelling depth g.header.channel_code 0 g.subframes in
+    let a : ℕ = length (header_spelling f.header ++ p) in
+    let b : ℕ = length (header_spelling g.header ++ q) in
+    let few : a ≤ b = omega (arith, length-append (header_spelling f.header) p, length-append (header_spelling g.header) q, e, le) in
+    omega (arith, whole_long (header_spelling f.header ++ p), whole_long (header_spelling g.header ++ q), filled_less a b few)
+
+module _ (sound : Sound) (size number : ℕ) (block : List (List ℤ)) where
+  abbrev pub IsBelow : FrameForm → Type 0
+  IsBelow f = (g : FrameForm) → IsOfFamily sound size number block g
+      → (subframes_cost sound.bits f ≤ subframes_cost sound.bits g) × (g.header.channel_code < f.header.channel_code → subframes_cost sound.bits f < subframes_cost sound.bits g)
+
+  pub least_frame : (f : FrameForm) → IsOfFamily sound size number block f → IsBelow f → IsLeastFrame sound size number block f
+  least_frame f m below = record {
+    least = record {
+      member = m;
+      least = λ g n. frame_less sound.bits f g
+          (same_long (size_choice size) (rate_choice sound.rate) (depth_choice sound.bits) size sound.rate m.encoding.code n.encoding.code number f.header g.header
+          (opened size sound.rate m.encoding.code sound.bits number f.header m.encoding.header) (opened size sound.rate n.encoding.code sound.bits number g.header n.encoding.header))
+          (below g n).0;
+    };
+    first = λ g n lower. (below g n).1 lower;
+  }
+
+-- ---- channels each by itself
+
+pub kept_same : (code : ℕ) (block : List (List ℤ)) → code ≤ 7 → kept_as code block ≡ block
+unfolding kept_as
+kept_same code block few = let a : nat_lt code 8 ≡ true = grind (arith, nat_tests) in rw a refl
+
+all_less : (depth : ℕ) (fs gs : List Form) (block : List (List ℤ)) → AreLeast depth fs block → EachStands gs block → length (flat_map (subframe_spelling depth) fs) ≤ length (flat_map (subframe_spelling depth) gs)
+all_less depth [] [] [] a b = omega arith
+all_less depth [] (g ∷ gs) [] a b = absurd b
+all_less depth (f ∷ fs) gs [] a b = absurd a
+all_less depth [] gs (s ∷ ss) a b = absurd a
+all_less depth (f ∷ fs) [] (s ∷ ss) a b = absurd b
+all_less depth (f ∷ fs) (g ∷ gs) (s ∷ ss) a b =
+    let one : length (subframe_spelling depth f) ≤ length (subframe_spelling depth g) = a.0.least g b.0 in
+    let rest = all_less depth fs gs ss a.1 b.1 in
+    omega (arith, length-append (subframe_spelling depth f) (flat_map (subframe_spelling depth) fs), length-append (subframe_spelling depth g) (flat_map (subframe_spelling depth) gs), one, rest)
+
+stands_of : (depth : ℕ) (fs : List Form) (block : List (List ℤ)) → AreLeast depth fs block → EachStands fs block
+stands_of depth [] [] a = tt
+stands_of depth [] (s ∷ ss) a = absurd a
+stands_of depth (f ∷ fs) [] a = absurd a
+stands_of depth (f ∷ fs) (s ∷ ss) a = (a.0.member, stands_of depth fs ss a.1)
+
+code_once : (b : Bool) (c n : ℕ) → cond b (c + 1) 2 ≡ n → (n ≡ 2 → ⊥) → c + 1 ≡ n
+code_once true c n e other = e
+code_once false c n e other = absurd (other (sym e))
+
+pub independent_least : (sound : Sound) (size number : ℕ) (block : List (List ℤ)) (f : FrameForm) → (length block ≡ 2 → ⊥) → length block ≤ 8 → IsEncoding sound size number block f → AreLeast sound.bits f.subframes block
+    → IsLeastFrame sound size number block f
+independent_least sound size number block f other few encoding least =
+    let depth : ℕ = sound.bits in
+    let code = code_once (nat_lt f.header.channel_code 8) f.header.channel_code (length block) encoding.channels other in
+    let low : f.header.channel_code ≤ 7 = omega (arith, code, few) in
+    let cost : subframes_cost depth f ≡ length (flat_map (subframe_spelling depth) f.subframes) = ap (λ (t : List Bool). length t) (texts_are depth f.header.channel_code size low 0 f.subframes) in
+    least_frame sound size number block f (record { encoding = encoding; stand = subst (EachStands f.subframes) (sym (kept_same f.header.channel_code block low)) (stands_of depth f.subframes block least) })
+    (λ g m.
+    let code' = code_once (nat_lt g.header.channel_code 8) g.header.channel_code (length block) m.encoding.channels other in
+    let low' : g.header.channel_code ≤ 7 = omega (arith, code', few) in
+    let cost' : subframes_cost depth g ≡ length (flat_map (subframe_spelling depth) g.subframes) = ap (λ (t : List Bool). length t) (texts_are depth g.header.channel_code size low' 0 g.subframes) in
+    let less = all_less depth f.subframes g.subframes block least (subst (EachStands g.subframes) (kept_same g.header.channel_code block low') m.stand) in
+    (omega (arith, cost, cost', less), λ lower. absurd (omega (arith, lower, code, code'))))

@@ -1,0 +1,129 @@
+-- A frame of channels each by itself, as it is written.
+use Rattle.std.proofs.Common.{◌≡◌, ◌∙◌, refl, sym, ap, subst, ℕ, ◌+◌, ◌-◌, ◌≤◌, ◌<◌, ◌^◌, arith, ℤ, Bool, true, nat_lt, List, [], ◌∷◌, length, map, Option, Some, None, is_some, Result, All, flat_map, take, drop, get_or}
+use Rattle.std.proofs.lemmas.Bool.Decides.{nat_tests}
+use Rattle.std.proofs.lemmas.List.Elements.{All-nil, All-cons, All-head, All-tail}
+use Rattle.std.proofs.lemmas.List.{length-map}
+use Rattle.flac_bits.specs.Signed.{FitsBits}
+use Rattle.flac_bits.specs.Written.{Written, Writes}
+use Rattle.flac_bits.specs.declared.why.Why.{Why}
+use Rattle.flac_header.specs.Header.{Header, IsHeader, channels_of}
+use Rattle.flac_header.specs.Choice.{size_choice, rate_choice, depth_choice, chosen_header}
+use Rattle.flac_header.specs.Spelling.{restarted}
+use Rattle.flac_subframe.specs.declared.limits.Limits.{Limits}
+use Rattle.flac_subframe.specs.Spelling.{subframe_spelling}
+use Rattle.flac_frame.specs.Audio.{Sound, IsSound, samples_each}
+use Rattle.flac_frame.specs.Frame.{limits_at}
+use Rattle.flac_frame.specs.Stereo.{joined}
+use Rattle.flac_frame.specs.Spelling.{subframes_spelling, HaveSamples}
+use Rattle.flac_frame.specs.Encoding.{block_of, IsEncoding, WritesFrame, AreLeast, WritesWhole}
+use Rattle.flac_frame.proofs.Encoded.{is_block, part_fits}
+use Rattle.flac_frame.proofs.Short.{all_short, parts_few, frame_short}
+use Rattle.flac_frame.proofs.Family.{independent_least}
+use Rattle.flac_frame.proofs.Sounds.{depth_small}
+use Rattle.flac_frame.proofs.Stood.{fits_more}
+use Rattle.flac_frame.proofs.Wholes.{on_ok_map, text_is, texts_are, subframes_are, samples_are, as_many, not_joined, all_fit_in, codes_are, chosen_as, chosen_there}
+
+-- ---- the whole
+
+as_coded : (code : ℕ) → code ≤ 7 → channels_of code ≡ code + 1
+as_coded code few = let a : nat_lt code 8 ≡ true = grind (arith, nat_tests) in rw a refl
+
+pub frame_encoded : {X : Type 0} (sound : Sound) (code size number : ℕ) (block : List (List ℤ)) (h : Header) (old new : Written) (result : Result X Why) → (length block ≡ 2 → ⊥) → code ≤ 7 → number < 2 ^ 31 → old.mark.unread ≡ 0
+    → (1 ≤ sound.bits) × (sound.bits ≤ 32) → 1 ≤ size → size ≤ 65535 → All (λ s. length s ≡ size) block → chosen_header size sound.rate code sound.bits number ≡ Some h → IsHeader h → code + 1 ≡ length block → All (λ s. All (FitsBits sound.bits) s) block → WritesWhole sound.bits size h block old new result → WritesFrame sound size number block old new result
+frame_encoded sound code size number block h old new result other independent small whole deep some few long chosen valid each fits (fs, are, leasts, writes) =
+    let depth : ℕ = sound.bits in
+    let codes = codes_are (size_choice size) (rate_choice sound.rate) (depth_choice depth) size sound.rate code number h (sym (chosen_as size sound.rate code depth number (omega (arith, independent)) small) ∙ chosen) in
+    let parts_are : flat_map (subframe_spelling depth) fs ≡ subframes_spelling depth h.channel_code 0 fs = sym (ap (λ k. subframes_spelling depth k 0 fs) codes.0 ∙ texts_are depth code size independent 0 fs) in
+    let text = text_is depth h (flat_map (subframe_spelling depth) fs) fs old.mark whole parts_are in
+    let limits : Limits = limits_at sound.rate in
+    let have = subst (λ k. HaveSamples depth k h.size 0 fs block) (sym codes.0) (subst (λ n. HaveSamples depth code n 0 fs block) (sym codes.1) (samples_are depth code size independent 0 fs block are)) in
+    let short = λ (least : AreLeast depth fs block). frame_short depth (record { header = h; subframes = fs })
+    (omega (arith, ap (λ (t : List Bool). length t) parts_are, all_short depth deep.0 size fs block some long fits least, parts_few (length block) depth size (omega (arith, independent, each)) deep.1 few)) in
+    let encoding : IsEncoding sound size number block (record { header = h; subframes = fs }) =
+    record {
+      code = code;
+      header = chosen;
+      valid = valid;
+      channels = ap channels_of codes.0 ∙ as_coded code independent ∙ each;
+      many = as_many depth code size independent fs block are;
+      subframes = subframes_are depth code size independent limits (omega arith) 0 fs block are;
+      samples = record {
+        kept = block;
+        subframes = have;
+        joined = ap (λ k. joined k block) codes.0 ∙ not_joined depth code size independent block;
+        fit = all_fit_in depth code size independent block fits;
+      };
+    } in (
+      record { header = h; subframes = fs },
+      encoding,
+      on_ok_map result (λ least. (independent_least sound size number block (record { header = h; subframes = fs }) other (omega (arith, independent, each)) encoding least, short least)) leasts,
+      subst (λ t. Writes t (restarted old) new result) text writes,
+    )
+
+-- ---- the samples of vectors
+
+from_map : {V X : Type 0} (P : X → Type 0) (f : V → X) (xs : List V) → All P (map f xs) → All (λ v. P (f v)) xs
+from_map P f [] h = All-nil (λ v. P (f v))
+from_map P f (x ∷ xs) h = All-cons (λ v. P (f v)) x xs (All-head P (f x) (map f xs) h) (from_map P f xs (All-tail P (f x) (map f xs) h))
+
+module _ {V : Type 0} (items : V → List ℤ) (xs : List V) (sound : Sound) (good : IsSound sound) (are : map items xs ≡ sound.channels) where
+  pub few_channels : (1 ≤ length xs) × (length xs ≤ 8)
+  few_channels =
+      let e : length xs ≡ length sound.channels = sym (length-map xs items) ∙ ap (λ (l : List (List ℤ)). length l) are in
+      (omega (arith, e, good.some), omega (arith, e, good.few))
+
+  pub each_long : (start size : ℕ) → start + size ≤ samples_each sound.channels → All (λ v. start + size ≤ length (items v)) xs
+  each_long start size within =
+      let all = from_map (λ c. length c ≡ samples_each sound.channels) items xs (subst (λ k. All (λ c. length c ≡ samples_each sound.channels) k) (sym are) good.long) in
+      λ k d lt. omega (arith, all k d lt, within)
+
+  pub each_fits_in : (bits : ℕ) → bits ≡ sound.bits → All (λ v. All (FitsBits bits) (items v)) xs
+  each_fits_in bits e = from_map (λ c. All (FitsBits bits) c) items xs (subst (λ k. All (λ c. All (FitsBits bits) c) k) (sym are) (subst (λ b. All (λ c. All (FitsBits b) c) sound.channels) (sym e) good.small))
+
+  pub bits_small : (bits : ℕ) → bits ≡ sound.bits → (1 ≤ bits) × (bits ≤ 32)
+  bits_small bits e = depth_small bits (ap (λ b. is_some (depth_choice b)) e ∙ good.bits)
+
+  pub never_none : (size rate code bits number : ℕ) (o : Option Header) → rate ≡ sound.rate → bits ≡ sound.bits → code ≤ 10 → 1 ≤ size → size ≤ 65535 → number < 2 ^ 31
+      → o ≡ chosen_header size rate code bits number → o ≡ None → ⊥
+  never_none size rate code bits number o r b c some few small is none =
+      chosen_there size rate code bits number some few (ap (λ k. is_some (rate_choice k)) r ∙ good.rate) (ap (λ k. is_some (depth_choice k)) b ∙ good.bits) c small (sym is ∙ none)
+
+  pub encoded_block : {X : Type 0} (start size rate code bits depth number : ℕ) (o : Option Header) (h : Header) (old new : Written) (result : Result X Why) → rate ≡ sound.rate → bits ≡ sound.bits → depth ≡ sound.bits → (length sound.channels ≡ 2 → ⊥) → code ≡ length xs - 1
+      → 1 ≤ size → size ≤ 65535 → start + size ≤ samples_each sound.channels → number < 2 ^ 31 → old.mark.unread ≡ 0 → o ≡ chosen_header size rate code bits number → o ≡ Some h → IsHeader h
+      → WritesWhole depth size h (block_of start size (map items xs)) old new result → WritesFrame sound size number (block_of start size sound.channels) old new result
+  encoded_block start size rate code bits depth number o h old new result r b d other c some few within small whole is there valid wrote =
+      let deep = bits_small sound.bits refl in
+      let chosen : chosen_header size sound.rate code sound.bits number ≡ Some h = ap (λ k. chosen_header size k code sound.bits number) (sym r) ∙ ap (λ k. chosen_header size rate code k number) (sym b) ∙ sym is ∙ there in
+      let block = is_block items sound.bits start size deep.0 some xs (each_long start size within, each_fits_in sound.bits refl) in
+      let fits = subst (λ k. All (λ s. All (FitsBits sound.bits) s) (block_of start size k)) are block.1 in
+      let long = subst (λ k. All (λ s. length s ≡ size) (block_of start size k)) are block.0 in
+      let block_long : length (block_of start size sound.channels) ≡ length xs = length-map sound.channels (λ c. take size (drop start c)) ∙ ap (λ (l : List (List ℤ)). length l) (sym are) ∙ length-map xs items in
+      let lengths_are : length sound.channels ≡ length xs = ap (λ (l : List (List ℤ)). length l) (sym are) ∙ length-map xs items in
+      let wrote' = subst (λ k. WritesWhole sound.bits size h (block_of start size k) old new result) are (subst (λ k. WritesWhole k size h (block_of start size (map items xs)) old new result) d wrote) in
+      frame_encoded sound code size number (block_of start size sound.channels) h old new result (λ e. other (omega (arith, e, block_long, lengths_are))) (omega (arith, c, few_channels.1)) small whole deep some few long chosen valid (omega (arith, c, few_channels.0, block_long)) fits wrote'
+
+-- ---- two channels of vectors
+
+two_of : {V : Type 0} (xs : List V) (x y : V) → length xs ≡ 2 → x ≡ get_or xs 0 x → y ≡ get_or xs 1 y → xs ≡ x ∷ y ∷ []
+two_of [] x y e p q = absurd (omega (arith, e))
+two_of (a ∷ []) x y e p q = absurd (omega (arith, e))
+two_of (a ∷ b ∷ []) x y e p q = ap (λ k. k ∷ b ∷ []) (sym p) ∙ ap (λ k. x ∷ k ∷ []) (sym q)
+two_of (a ∷ b ∷ d ∷ ds) x y e p q = absurd (omega (arith, e))
+
+module _ {V : Type 0} (items : V → List ℤ) (xs : List V) (sound : Sound) (good : IsSound sound) (are : map items xs ≡ sound.channels) where
+  pub two_blocks : (start size : ℕ) (x y : V) → length sound.channels ≡ 2 → x ≡ get_or xs 0 x → y ≡ get_or xs 1 y → take size (drop start (items x)) ∷ take size (drop start (items y)) ∷ [] ≡ block_of start size sound.channels
+  two_blocks start size x y two p q =
+      let many : length xs ≡ 2 = sym (length-map xs items) ∙ ap (λ (l : List (List ℤ)). length l) are ∙ two in
+      ap (λ k. block_of start size (map items k)) (sym (two_of xs x y many p q)) ∙ ap (block_of start size) are
+
+  pub part_small : (start size i : ℕ) (x : V) → length sound.channels ≡ 2 → i < 2 → x ≡ get_or xs i x → All (FitsBits sound.bits) (take size (drop start (items x)))
+  part_small start size i x two low is =
+      let many : length xs ≡ 2 = sym (length-map xs items) ∙ ap (λ (l : List (List ℤ)). length l) are ∙ two in
+      let all = each_fits_in items xs sound good are sound.bits refl in
+      part_fits items sound.bits start size (items x) (subst (λ v. All (FitsBits sound.bits) (items v)) (sym is) (all i x (omega (arith, many, low))))
+
+  pub part_wide : (start size i : ℕ) (x : V) → length sound.channels ≡ 2 → i < 2 → x ≡ get_or xs i x → All (FitsBits 34) (take size (drop start (items x)))
+  part_wide start size i x two low is =
+      let few = (bits_small items xs sound good are sound.bits refl).1 in
+      let all = part_small start size i x two low is in
+      λ k d h. fits_more sound.bits 34 _ (omega (arith, few)) (all k d h)

@@ -1,0 +1,346 @@
+-- The least frame of two channels.
+use Rattle.std.proofs.Common.{◌≡◌, ◌∙◌, refl, sym, ap, subst, inl, inr, ℕ, ◌+◌, ◌*◌, ◌≤◌, ◌<◌, arith, ℤ, Bool, true, false, cond, nat_eq, nat_lt, List, [], ◌∷◌, ◌++◌, length, length-append, Option, Some, Result, All}
+use Rattle.std.proofs.lemmas.Bool.Decides.{nat_tests}
+use Rattle.std.proofs.lemmas.List.{append-nil}
+use Rattle.std.proofs.lemmas.Nat.{mul-le}
+use Rattle.flac_bits.specs.Signed.{FitsBits}
+use Rattle.flac_bits.specs.Written.{Written, Writes}
+use Rattle.flac_bits.specs.declared.why.Why.{Why}
+use Rattle.flac_header.specs.Header.{Header, IsHeader, channels_of}
+use Rattle.flac_header.specs.Choice.{chosen_header}
+use Rattle.flac_header.specs.Spelling.{restarted}
+use Rattle.flac_subframe.specs.declared.chosen.Choice.{Choice}
+use Rattle.flac_subframe.specs.Family.{form_of}
+use Rattle.flac_subframe.specs.Spelling.{subframe_spelling, IsSubframe}
+use Rattle.flac_subframe.specs.Subframe.{Form, samples_of}
+use Rattle.flac_subframe.proofs.Samples.{all_fit_is}
+use Rattle.flac_frame.specs.Audio.{Sound}
+use Rattle.flac_frame.specs.Encoding.{EachStands, IsEncoding, IsLeastFrame, IsShort, WritesFrame, behind_header, subframes_cost}
+use Rattle.flac_frame.specs.Frame.{side_bit, limits_at}
+use Rattle.flac_frame.specs.Pair.{IsPairCode, pair_cost, IsFirstLeast, IsChosen}
+use Rattle.flac_frame.specs.Spelling.{FrameForm, frame_spelling, subframes_spelling, HaveSamples}
+use Rattle.flac_frame.specs.Stereo.{joined, kept_as, side_of, middle_of, ChannelsAreKept}
+use Rattle.flac_frame.proofs.Family.{coded_as, least_frame, kept_same}
+use Rattle.flac_frame.proofs.Pairs.{side_long, middle_long, left_side, side_right, middle_side}
+use Rattle.flac_frame.proofs.Short.{one_short, frame_short}
+use Rattle.flac_frame.proofs.Wholes.{on_ok, text_is, not_joined}
+
+by_test : {R : Type 0} (b : Bool) → (b ≡ true → R) → (b ≡ false → R) → R
+by_test true f g = f refl
+by_test false f g = g refl
+
+-- ---- the codes of two channels
+
+pub two_channels : (code : ℕ) → IsPairCode code → channels_of code ≡ 2
+two_channels code (inl e) = rw e refl
+two_channels code (inr (inl e)) = rw e refl
+two_channels code (inr (inr (inl e))) = rw e refl
+two_channels code (inr (inr (inr e))) = rw e refl
+
+pub few_codes : (code : ℕ) → IsPairCode code → code ≤ 10
+few_codes code (inl e) = omega (arith, e)
+few_codes code (inr (inl e)) = omega (arith, e)
+few_codes code (inr (inr (inl e))) = omega (arith, e)
+few_codes code (inr (inr (inr e))) = omega (arith, e)
+
+pair_codes : (code : ℕ) → code < 11 → channels_of code ≡ 2 → IsPairCode code
+pair_codes code few e = go (nat_lt code 8) refl e
+  where
+    go : (b : Bool) → nat_lt code 8 ≡ b → cond b (code + 1) 2 ≡ 2 → IsPairCode code
+    go true t e = inl (omega (arith, e))
+    go false t e =
+        let over : 8 ≤ code = grind (arith, nat_tests) in
+        by_test (nat_eq code 8)
+        (λ a. inr (inl (grind (arith, nat_tests))))
+        (λ a. by_test (nat_eq code 9)
+        (λ b. inr (inr (inl (grind (arith, nat_tests)))))
+        (λ b. inr (inr (inr (grind (arith, nat_tests))))))
+
+bits_1 : (side_bit 1 0 ≡ 0) × (side_bit 1 1 ≡ 0)
+unfolding side_bit
+bits_1 = (refl, refl)
+
+bits_8 : (side_bit 8 0 ≡ 0) × (side_bit 8 1 ≡ 1)
+unfolding side_bit
+bits_8 = (refl, refl)
+
+bits_9 : (side_bit 9 0 ≡ 1) × (side_bit 9 1 ≡ 0)
+unfolding side_bit
+bits_9 = (refl, refl)
+
+bits_10 : (side_bit 10 0 ≡ 0) × (side_bit 10 1 ≡ 1)
+unfolding side_bit
+bits_10 = (refl, refl)
+
+kept_1 : (left right : List ℤ) → kept_as 1 (left ∷ right ∷ []) ≡ left ∷ right ∷ []
+unfolding kept_as
+kept_1 left right = refl
+
+kept_8 : (left right : List ℤ) → kept_as 8 (left ∷ right ∷ []) ≡ left ∷ side_of left right ∷ []
+unfolding kept_as
+kept_8 left right = refl
+
+kept_9 : (left right : List ℤ) → kept_as 9 (left ∷ right ∷ []) ≡ side_of left right ∷ right ∷ []
+unfolding kept_as
+kept_9 left right = refl
+
+kept_10 : (left right : List ℤ) → kept_as 10 (left ∷ right ∷ []) ≡ middle_of left right ∷ side_of left right ∷ []
+unfolding kept_as
+kept_10 left right = refl
+
+joined_1 : (left right : List ℤ) → joined 1 (left ∷ right ∷ []) ≡ left ∷ right ∷ []
+unfolding joined
+joined_1 left right = refl
+
+abbrev Back : List ℤ → List ℤ → ℕ → Type 0
+Back left right k = joined k (kept_as k (left ∷ right ∷ [])) ≡ left ∷ right ∷ []
+
+pub channels_kept : ChannelsAreKept
+channels_kept code left right few long = by_test (nat_lt code 8)
+    (λ t. let small : code ≤ 7 = grind (arith, nat_tests) in ap (joined code) (kept_same code (left ∷ right ∷ []) small) ∙ not_joined 1 code 1 small (left ∷ right ∷ []))
+    (λ f. let over : 8 ≤ code = grind (arith, nat_tests) in by_test (nat_eq code 8)
+    (λ a. let e : 8 ≡ code = grind (arith, nat_tests) in subst (Back left right) e (ap (joined 8) (kept_8 left right) ∙ left_side left right long))
+    (λ a. by_test (nat_eq code 9)
+    (λ b. let e : 9 ≡ code = grind (arith, nat_tests) in subst (Back left right) e (ap (joined 9) (kept_9 left right) ∙ side_right left right long))
+    (λ b. let e : 10 ≡ code = grind (arith, nat_tests) in subst (Back left right) e (ap (joined 10) (kept_10 left right) ∙ middle_side left right long))))
+
+-- ---- two subframes
+
+module _ (d code : ℕ) (a b : List ℤ) (f g : Form) (n k : ℕ) (p : IsChosen (d + side_bit code 0) a f n) (q : IsChosen (d + side_bit code 1) b g k) where
+  two_long : (x y : Form) → length (subframes_spelling d code 0 (x ∷ y ∷ [])) ≡ length (subframe_spelling (d + side_bit code 0) x) + length (subframe_spelling (d + side_bit code 1) y)
+  unfolding subframes_spelling
+  two_long x y =
+      let t : List Bool = subframe_spelling (d + side_bit code 0) x in
+      let u : List Bool = subframe_spelling (d + side_bit code 1) y in
+      length-append t (u ++ []) ∙ ap (λ (v : List Bool). length t + length v) (append-nil u)
+
+  two_cost : length (subframes_spelling d code 0 (f ∷ g ∷ [])) ≡ n + k
+  two_cost = omega (arith, two_long f g, p.cost, q.cost)
+
+  two_least : (fs : List Form) → EachStands fs (a ∷ b ∷ []) → n + k ≤ length (subframes_spelling d code 0 fs)
+  two_least [] h = absurd h
+  two_least (x ∷ []) h = absurd h.1
+  two_least (x ∷ y ∷ []) h =
+      let u : length (subframe_spelling (d + side_bit code 0) f) ≤ length (subframe_spelling (d + side_bit code 0) x) = p.least.least x h.0 in
+      let v : length (subframe_spelling (d + side_bit code 1) g) ≤ length (subframe_spelling (d + side_bit code 1) y) = q.least.least y h.1.0 in
+      omega (arith, two_long x y, u, v, p.cost, q.cost)
+  two_least (x ∷ y ∷ z ∷ zs) h = absurd h.1.1
+
+  two_text : subframes_spelling d code 0 (f ∷ g ∷ []) ≡ subframe_spelling (d + side_bit code 0) f ++ subframe_spelling (d + side_bit code 1) g
+  unfolding subframes_spelling
+  two_text = ap (λ t. subframe_spelling (d + side_bit code 0) f ++ t) (append-nil (subframe_spelling (d + side_bit code 1) g))
+
+abbrev HasSamples : ℕ → ℕ → List ℤ → Form → Type 0
+HasSamples d size s f = samples_of d size f ≡ Some s
+
+more : (d b n : ℕ) → b ≡ n → d + n ≡ d + b
+more d b n e = omega (arith, e)
+
+same : (d b : ℕ) → b ≡ 0 → d ≡ d + b
+same d b e = omega (arith, e)
+
+module _ (sound : Sound) (size number : ℕ) (left right : List ℤ) (lf rf sf mf : Form) (l r s m : ℕ)
+    (cl : IsChosen sound.bits left lf l) (cr : IsChosen sound.bits right rf r) (cs : IsChosen (sound.bits + 1) (side_of left right) sf s) (cm : IsChosen sound.bits (middle_of left right) mf m) where
+  pub l1 : IsChosen (sound.bits + side_bit 1 0) left lf l
+  l1 = subst (λ d. IsChosen d left lf l) (same sound.bits _ bits_1.0) cl
+
+  pub r1 : IsChosen (sound.bits + side_bit 1 1) right rf r
+  r1 = subst (λ d. IsChosen d right rf r) (same sound.bits _ bits_1.1) cr
+
+  pub l8 : IsChosen (sound.bits + side_bit 8 0) left lf l
+  l8 = subst (λ d. IsChosen d left lf l) (same sound.bits _ bits_8.0) cl
+
+  pub s8 : IsChosen (sound.bits + side_bit 8 1) (side_of left right) sf s
+  s8 = subst (λ d. IsChosen d (side_of left right) sf s) (more sound.bits _ 1 bits_8.1) cs
+
+  pub s9 : IsChosen (sound.bits + side_bit 9 0) (side_of left right) sf s
+  s9 = subst (λ d. IsChosen d (side_of left right) sf s) (more sound.bits _ 1 bits_9.0) cs
+
+  pub r9 : IsChosen (sound.bits + side_bit 9 1) right rf r
+  r9 = subst (λ d. IsChosen d right rf r) (same sound.bits _ bits_9.1) cr
+
+  pub m10 : IsChosen (sound.bits + side_bit 10 0) (middle_of left right) mf m
+  m10 = subst (λ d. IsChosen d (middle_of left right) mf m) (same sound.bits _ bits_10.0) cm
+
+  pub s10 : IsChosen (sound.bits + side_bit 10 1) (side_of left right) sf s
+  s10 = subst (λ d. IsChosen d (side_of left right) sf s) (more sound.bits _ 1 bits_10.1) cs
+
+  abbrev cost : ℕ → ℕ
+  cost = pair_cost l r s m
+
+  abbrev block : List (List ℤ)
+  block = left ∷ right ∷ []
+
+  cost_of : (c : ℕ) → IsPairCode c → (fs : List Form) → EachStands fs (kept_as c block) → cost c ≤ length (subframes_spelling sound.bits c 0 fs)
+  cost_of c (inl e) fs h = subst (λ k. cost k ≤ length (subframes_spelling sound.bits k 0 fs)) (sym e)
+      (two_least sound.bits 1 left right lf rf l r l1 r1 fs (subst (EachStands fs) (ap (λ k. kept_as k block) e ∙ kept_1 left right) h))
+  cost_of c (inr (inl e)) fs h = subst (λ k. cost k ≤ length (subframes_spelling sound.bits k 0 fs)) (sym e)
+      (two_least sound.bits 8 left (side_of left right) lf sf l s l8 s8 fs (subst (EachStands fs) (ap (λ k. kept_as k block) e ∙ kept_8 left right) h))
+  cost_of c (inr (inr (inl e))) fs h = subst (λ k. cost k ≤ length (subframes_spelling sound.bits k 0 fs)) (sym e)
+      (two_least sound.bits 9 (side_of left right) right sf rf s r s9 r9 fs (subst (EachStands fs) (ap (λ k. kept_as k block) e ∙ kept_9 left right) h))
+  cost_of c (inr (inr (inr e))) fs h = subst (λ k. cost k ≤ length (subframes_spelling sound.bits k 0 fs)) (sym e)
+      (two_least sound.bits 10 (middle_of left right) (side_of left right) mf sf m s m10 s10 fs (subst (EachStands fs) (ap (λ k. kept_as k block) e ∙ kept_10 left right) h))
+
+  module _ (code : ℕ) (best : IsFirstLeast cost code) (first second : List ℤ) (f g : Form) (n k : ℕ) (p : IsChosen (sound.bits + side_bit code 0) first f n) (q : IsChosen (sound.bits + side_bit code 1) second g k)
+      (sum : n + k ≡ cost code) (kept : kept_as code block ≡ first ∷ second ∷ []) (back : joined code (first ∷ second ∷ []) ≡ block)
+      (depth : (1 ≤ sound.bits) × (sound.bits ≤ 32)) (some : 1 ≤ size) (few : size ≤ 65535) (left_long : length left ≡ size) (right_long : length right ≡ size) (first_long : length first ≡ size) (second_long : length second ≡ size)
+      (left_fits : All (FitsBits sound.bits) left) (right_fits : All (FitsBits sound.bits) right) (h : Header) (chosen : chosen_header size sound.rate code sound.bits number ≡ Some h) (valid : IsHeader h) where
+    abbrev form : FrameForm
+    form = record { header = h; subframes = f ∷ g ∷ [] }
+
+    codes : (h.channel_code ≡ code) × (h.size ≡ size)
+    codes = coded_as size sound.rate code sound.bits number h chosen
+
+    form_cost : subframes_cost sound.bits form ≡ cost code
+    form_cost = ap (λ c. length (subframes_spelling sound.bits c 0 (f ∷ g ∷ []))) codes.0 ∙ two_cost sound.bits code first second f g n k p q ∙ sum
+
+    encoding : IsEncoding sound size number block form
+    encoding =
+        let limits = limits_at sound.rate in
+        let u = subst (λ z. HasSamples (sound.bits + side_bit code 0) z first f) first_long p.samples in
+        let v = subst (λ z. HasSamples (sound.bits + side_bit code 1) z second g) second_long q.samples in
+        let have : HaveSamples sound.bits code size 0 (f ∷ g ∷ []) (first ∷ second ∷ []) = (u, (v, tt)) in
+        record {
+          code = code;
+          header = chosen;
+          valid = valid;
+          channels = ap channels_of codes.0 ∙ two_channels code best.one;
+          many = refl;
+          subframes = (subst (λ z. IsSubframe (sound.bits + side_bit code 0) z limits f) first_long (p.valid limits (omega arith)), (subst (λ z. IsSubframe (sound.bits + side_bit code 1) z limits g) second_long (q.valid limits (omega arith)), tt));
+          samples = record {
+            kept = first ∷ second ∷ [];
+            subframes = subst (λ c. HaveSamples sound.bits c h.size 0 (f ∷ g ∷ []) (first ∷ second ∷ [])) (sym codes.0) (subst (λ z. HaveSamples sound.bits code z 0 (f ∷ g ∷ []) (first ∷ second ∷ [])) (sym codes.1) have);
+            joined = ap (λ c. joined c (first ∷ second ∷ [])) codes.0 ∙ back;
+            fit = rw (all_fit_is sound.bits left left_fits, all_fit_is sound.bits right right_fits) refl;
+          };
+        }
+
+    least : IsLeastFrame sound size number block form
+    least =
+        let stand : EachStands (f ∷ g ∷ []) (first ∷ second ∷ []) = (p.least.member, (q.least.member, tt)) in
+        least_frame sound size number block form (record { encoding = encoding; stand = subst (EachStands (f ∷ g ∷ [])) (sym (ap (λ c. kept_as c block) codes.0 ∙ kept)) stand })
+        (λ x member.
+        let c : ℕ = x.header.channel_code in
+        let one = pair_codes c member.encoding.valid.channel_code member.encoding.channels in
+        let above : cost c ≤ subframes_cost sound.bits x = cost_of c one x.subframes member.stand in
+        let below : cost code ≤ cost c = best.least c one in
+        (omega (arith, above, below, form_cost), λ lower. let lower' : cost code < cost c = best.first c one (omega (arith, lower, codes.0)) in omega (arith, above, lower', form_cost)))
+
+    one_few : (n : ℕ) → n ≡ size → 8 + sound.bits + sound.bits * n ≤ 2097160
+    one_few n e = omega (arith, depth.1, mul-le sound.bits n 32 65535 depth.1 (omega (arith, e, few)))
+
+    short : IsShort sound.bits form
+    short =
+        let a = one_short sound.bits depth.0 lf left (omega (arith, some, left_long)) left_fits cl.least in
+        let b = one_short sound.bits depth.0 rf right (omega (arith, some, right_long)) right_fits cr.least in
+        let under : cost code ≤ l + r = best.least 1 (inl refl) in
+        frame_short sound.bits form (omega (arith, form_cost, under, a, b, cl.cost, cr.cost, one_few (length left) left_long, one_few (length right) right_long))
+
+    pub pair_encoded : {X : Type 0} (old new : Written) (result : Result X Why) → old.mark.unread ≡ 0
+        → Writes (behind_header h (subframe_spelling (sound.bits + side_bit code 0) f ++ subframe_spelling (sound.bits + side_bit code 1) g) old.mark) (restarted old) new result → WritesFrame sound size number block old new result
+    unfolding frame_spelling
+    pair_encoded old new result whole writes =
+        let parts : List Bool = subframe_spelling (sound.bits + side_bit code 0) f ++ subframe_spelling (sound.bits + side_bit code 1) g in
+        let is : parts ≡ subframes_spelling sound.bits h.channel_code 0 (f ∷ g ∷ []) = sym (two_text sound.bits code first second f g n k p q) ∙ ap (λ c. subframes_spelling sound.bits c 0 (f ∷ g ∷ [])) (sym codes.0) in
+        (form, encoding, on_ok result (least, short), subst (λ t. Writes t (restarted old) new result) (text_is sound.bits h parts (f ∷ g ∷ []) old.mark whole is) writes)
+
+-- ---- as the code chooses
+
+-- a channel with its depth, its samples, how they are written, and the bits that this takes
+pub record OfPlane (depth : ℕ) (s : List ℤ) (d : ℕ) (t : List ℤ) (c : Choice) (n : ℕ) : Type 0 where
+  pub deep : d ≡ depth
+  pub samples : t ≡ s
+  pub chosen : IsChosen depth s (form_of c s) n
+
+abbrev pub text_of : ℕ → List ℤ → Choice → List Bool
+text_of d t c = subframe_spelling d (form_of c t)
+
+same_text : (depth : ℕ) (s : List ℤ) (d : ℕ) (t : List ℤ) (c : Choice) (n : ℕ) → OfPlane depth s d t c n → text_of d t c ≡ text_of depth s c
+same_text depth s d t c n p = ap (λ k. text_of k t c) p.deep ∙ ap (λ k. text_of depth k c) p.samples
+
+module _ (sound : Sound) (size number : ℕ) (left right : List ℤ) (dl dr ds dm : ℕ) (tl tr ts tm : List ℤ) (kl kr ks km : Choice) (nl nr ns nm : ℕ)
+    (l : OfPlane sound.bits left dl tl kl nl) (r : OfPlane sound.bits right dr tr kr nr) (s : OfPlane (sound.bits + 1) (side_of left right) ds ts ks ns) (m : OfPlane sound.bits (middle_of left right) dm tm km nm)
+    (depth : (1 ≤ sound.bits) × (sound.bits ≤ 32)) (some : 1 ≤ size) (few : size ≤ 65535) (left_long : length left ≡ size) (right_long : length right ≡ size)
+    (left_fits : All (FitsBits sound.bits) left) (right_fits : All (FitsBits sound.bits) right) (code : ℕ) (best : IsFirstLeast (pair_cost nl nr ns nm) code) (h : Header)
+    (chosen : chosen_header size sound.rate code sound.bits number ≡ Some h) (valid : IsHeader h) where
+  abbrev lf : Form
+  lf = form_of kl left
+
+  abbrev rf : Form
+  rf = form_of kr right
+
+  abbrev sf : Form
+  sf = form_of ks (side_of left right)
+
+  abbrev mf : Form
+  mf = form_of km (middle_of left right)
+
+  long : length right ≡ length left
+  long = right_long ∙ sym left_long
+
+  side_size : length (side_of left right) ≡ size
+  side_size = side_long left right long ∙ left_long
+
+  middle_size : length (middle_of left right) ≡ size
+  middle_size = middle_long left right long ∙ left_long
+
+  module _ {X : Type 0} (old new : Written) (result : Result X Why) (whole : old.mark.unread ≡ 0) where
+    abbrev WritesTwo : List Bool → List Bool → Type 0
+    WritesTwo a b = Writes (behind_header h (a ++ b) old.mark) (restarted old) new result
+
+    abbrev Wrote : Type 0
+    Wrote = WritesFrame sound size number (left ∷ right ∷ []) old new result
+
+    abbrev best_at : (c : ℕ) → code ≡ c → IsFirstLeast (pair_cost nl nr ns nm) c
+    best_at c e = subst (IsFirstLeast (pair_cost nl nr ns nm)) e best
+
+    chosen_at : (c : ℕ) → code ≡ c → chosen_header size sound.rate c sound.bits number ≡ Some h
+    chosen_at c e = ap (λ k. chosen_header size sound.rate k sound.bits number) (sym e) ∙ chosen
+
+    texts : (a b x y : List Bool) → a ≡ x → b ≡ y → WritesTwo a b → WritesTwo x y
+    texts a b x y e f w = subst (λ k. WritesTwo x k) f (subst (λ k. WritesTwo k b) e w)
+
+    deeper : (d e : ℕ) (c : Choice) (z : List ℤ) → d ≡ e → text_of d z c ≡ text_of e z c
+    deeper d e c z is = ap (λ k. text_of k z c) is
+
+    pub by_1 : code ≡ 1 → WritesTwo (text_of dl tl kl) (text_of dr tr kr) → Wrote
+    by_1 e w = pair_encoded sound size number left right lf rf sf mf nl nr ns nm l.chosen r.chosen s.chosen m.chosen 1 (best_at 1 e) left right lf rf nl nr
+        (l1 sound size number left right lf rf sf mf nl nr ns nm l.chosen r.chosen s.chosen m.chosen) (r1 sound size number left right lf rf sf mf nl nr ns nm l.chosen r.chosen s.chosen m.chosen)
+        refl (kept_1 left right) (joined_1 left right) depth some few left_long right_long left_long right_long left_fits right_fits h (chosen_at 1 e) valid old new result whole
+        (texts _ _ _ _ (same_text _ _ _ _ _ _ l ∙ deeper _ _ kl left (same sound.bits _ bits_1.0)) (same_text _ _ _ _ _ _ r ∙ deeper _ _ kr right (same sound.bits _ bits_1.1)) w)
+
+    pub by_8 : code ≡ 8 → WritesTwo (text_of dl tl kl) (text_of ds ts ks) → Wrote
+    by_8 e w = pair_encoded sound size number left right lf rf sf mf nl nr ns nm l.chosen r.chosen s.chosen m.chosen 8 (best_at 8 e) left (side_of left right) lf sf nl ns
+        (l8 sound size number left right lf rf sf mf nl nr ns nm l.chosen r.chosen s.chosen m.chosen) (s8 sound size number left right lf rf sf mf nl nr ns nm l.chosen r.chosen s.chosen m.chosen)
+        refl (kept_8 left right) (left_side left right long) depth some few left_long right_long left_long side_size left_fits right_fits h (chosen_at 8 e) valid old new result whole
+        (texts _ _ _ _ (same_text _ _ _ _ _ _ l ∙ deeper _ _ kl left (same sound.bits _ bits_8.0)) (same_text _ _ _ _ _ _ s ∙ deeper _ _ ks (side_of left right) (more sound.bits _ 1 bits_8.1)) w)
+
+    pub by_9 : code ≡ 9 → WritesTwo (text_of ds ts ks) (text_of dr tr kr) → Wrote
+    by_9 e w = pair_encoded sound size number left right lf rf sf mf nl nr ns nm l.chosen r.chosen s.chosen m.chosen 9 (best_at 9 e) (side_of left right) right sf rf ns nr
+        (s9 sound size number left right lf rf sf mf nl nr ns nm l.chosen r.chosen s.chosen m.chosen) (r9 sound size number left right lf rf sf mf nl nr ns nm l.chosen r.chosen s.chosen m.chosen)
+        refl (kept_9 left right) (side_right left right long) depth some few left_long right_long side_size right_long left_fits right_fits h (chosen_at 9 e) valid old new result whole
+        (texts _ _ _ _ (same_text _ _ _ _ _ _ s ∙ deeper _ _ ks (side_of left right) (more sound.bits _ 1 bits_9.0)) (same_text _ _ _ _ _ _ r ∙ deeper _ _ kr right (same sound.bits _ bits_9.1)) w)
+
+    pub by_10 : code ≡ 10 → WritesTwo (text_of dm tm km) (text_of ds ts ks) → Wrote
+    by_10 e w = pair_encoded sound size number left right lf rf sf mf nl nr ns nm l.chosen r.chosen s.chosen m.chosen 10 (best_at 10 e) (middle_of left right) (side_of left right) mf sf nm ns
+        (m10 sound size number left right lf rf sf mf nl nr ns nm l.chosen r.chosen s.chosen m.chosen) (s10 sound size number left right lf rf sf mf nl nr ns nm l.chosen r.chosen s.chosen m.chosen)
+        refl (kept_10 left right) (middle_side left right long) depth some few left_long right_long middle_size side_size left_fits right_fits h (chosen_at 10 e) valid old new result whole
+        (texts _ _ _ _ (same_text _ _ _ _ _ _ m ∙ deeper _ _ km (middle_of left right) (same sound.bits _ bits_10.0)) (same_text _ _ _ _ _ _ s ∙ deeper _ _ ks (side_of left right) (more sound.bits _ 1 bits_10.1)) w)
+
+-- ---- what the code knows
+
+pub plane_of : (depth e : ℕ) (s z : List ℤ) (d : ℕ) (t : List ℤ) (c : Choice) (n : ℕ) → e ≡ depth → z ≡ s → d ≡ e → t ≡ z → IsChosen e z (form_of c z) c.bits → n ≡ c.bits → OfPlane depth s d t c n
+plane_of depth e s z d t c n ed zs de tz chosen nb = record {
+  deep = de ∙ ed;
+  samples = tz ∙ zs;
+  chosen = subst (λ k. IsChosen depth s (form_of c s) k) (sym nb) (subst (λ k. IsChosen k s (form_of c s) c.bits) ed (subst (λ k. IsChosen e k (form_of c k) c.bits) zs chosen));
+}
+
+pub header_at : (sound : Sound) (size rate code bits number : ℕ) (o : Option Header) (h : Header) → rate ≡ sound.rate → bits ≡ sound.bits → o ≡ chosen_header size rate code bits number → o ≡ Some h → chosen_header size sound.rate code sound.bits number ≡ Some h
+header_at sound size rate code bits number o h r b is there = ap (λ k. chosen_header size k code sound.bits number) (sym r) ∙ ap (λ k. chosen_header size rate code k number) (sym b) ∙ sym is ∙ there
+
+pub only_1 : (code : ℕ) → IsPairCode code → (code ≡ 8 → ⊥) → (code ≡ 9 → ⊥) → (code ≡ 10 → ⊥) → code ≡ 1
+only_1 code (inl e) a b d = e
+only_1 code (inr (inl e)) a b d = absurd (a e)
+only_1 code (inr (inr (inl e))) a b d = absurd (b e)
+only_1 code (inr (inr (inr e))) a b d = absurd (d e)

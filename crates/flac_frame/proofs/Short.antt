@@ -1,0 +1,161 @@
+-- How long a frame of least subframes is at most.
+use Rattle.std.proofs.Common.{◌≡◌, ◌∙◌, refl, sym, ap, subst, ℕ, zero, suc, ◌+◌, ◌-◌, ◌*◌, ◌/◌, ◌%◌, ◌^◌, ◌≤◌, ◌<◌, arith, ℤ, Bool, true, false, cond, nat_eq, nat_lt, List, [], ◌∷◌, ◌++◌, length, length-append, map, All, flat_map}
+use Rattle.std.proofs.lemmas.List.{length-map}
+use Rattle.std.proofs.lemmas.List.Elements.{All-head, All-tail}
+use Rattle.std.proofs.lemmas.Nat.{mul-le}
+use Rattle.std.proofs.Math.Nat.{mul-le-mul_right}
+use Rattle.flac_bits.specs.Bits.{unsigned, bit_value}
+use Rattle.flac_bits.specs.Check.{remainder}
+use Rattle.flac_bits.specs.Coded.{six_bits, in_bytes, number_spelling}
+use Rattle.flac_bits.specs.Forms.{joined}
+use Rattle.flac_bits.specs.Signed.{FitsBits}
+use Rattle.flac_bits.proofs.Words.{length-unsigned}
+use Rattle.flac_header.specs.Header.{Header}
+use Rattle.flac_header.specs.Spelling.{size_spelling, rate_spelling, header_parts, header_front, header_spelling}
+use Rattle.flac_subframe.specs.declared.limits.Limits.{Limits}
+use Rattle.flac_subframe.specs.Bodies.{verbatim}
+use Rattle.flac_subframe.specs.Chosen.{fixed_below}
+use Rattle.flac_subframe.specs.Family.{Stands}
+use Rattle.flac_subframe.specs.Spelling.{content_spelling, subframe_spelling}
+use Rattle.flac_subframe.specs.Subframe.{Form, Verbatim}
+use Rattle.flac_subframe.specs.Wasted.{times_power}
+use Rattle.flac_subframe.proofs.Lengths.{length-samples}
+use Rattle.flac_subframe.proofs.WholeLeast.{length-subframe}
+use Rattle.flac_frame.specs.Encoding.{IsLeastFor, AreLeast, IsShort}
+use Rattle.flac_frame.specs.Spelling.{FrameForm, subframes_spelling, filled, checked, frame_spelling}
+use Rattle.flac_frame.proofs.Stood.{forms_stand}
+
+-- ---- a header
+
+six_long : (n v : ℕ) → length (six_bits n v) ≡ 8 * n
+unfolding six_bits
+six_long zero v = refl
+six_long (suc n) v = omega (arith, length-append (unsigned 8 (128 + v / 64 ^ n % 64)) (six_bits n v), length-unsigned 8 (128 + v / 64 ^ n % 64), six_long n v)
+
+either_few : (b : Bool) (n : ℕ) (xs ys : List Bool) → length xs ≤ n → length ys ≤ n → length (cond b xs ys) ≤ n
+either_few true n xs ys h k = h
+either_few false n xs ys h k = k
+
+bytes_few : (lead n v : ℕ) → n ≤ 6 → length (in_bytes lead n v) ≤ 56
+bytes_few lead n v few = omega (arith, length-append (unsigned 8 (lead + v / 64 ^ n)) (six_bits n v), length-unsigned 8 (lead + v / 64 ^ n), six_long n v, few)
+
+number_few : (v : ℕ) → length (number_spelling v) ≤ 56
+unfolding number_spelling
+number_few v =
+    let b1 = bytes_few 0xC0 1 v (omega arith) in
+    let b2 = bytes_few 0xE0 2 v (omega arith) in
+    let b3 = bytes_few 0xF0 3 v (omega arith) in
+    let b4 = bytes_few 0xF8 4 v (omega arith) in
+    let b5 = bytes_few 0xFC 5 v (omega arith) in
+    let b6 = bytes_few 0xFE 6 v (omega arith) in
+    let one : length (unsigned 8 v) ≤ 56 = omega (arith, length-unsigned 8 v) in
+    let a5 = either_few (nat_lt v (2 ^ 31)) 56 _ _ b5 b6 in
+    let a4 = either_few (nat_lt v (2 ^ 26)) 56 _ _ b4 a5 in
+    let a3 = either_few (nat_lt v (2 ^ 21)) 56 _ _ b3 a4 in
+    let a2 = either_few (nat_lt v (2 ^ 16)) 56 _ _ b2 a3 in
+    let a1 = either_few (nat_lt v (2 ^ 11)) 56 _ _ b1 a2 in
+    either_few (nat_lt v (2 ^ 7)) 56 _ _ one a1
+
+abbrev nothing : List Bool
+nothing = []
+
+no_bits : length nothing ≤ 16
+no_bits = omega arith
+
+size_few : (code size : ℕ) → length (size_spelling code size) ≤ 16
+unfolding size_spelling
+size_few code size =
+    let a : length (unsigned 8 (size - 1)) ≤ 16 = omega (arith, length-unsigned 8 (size - 1)) in
+    let b : length (unsigned 16 (size - 1)) ≤ 16 = omega (arith, length-unsigned 16 (size - 1)) in
+    either_few (nat_eq code 6) 16 _ _ a (either_few (nat_eq code 7) 16 _ _ b no_bits)
+
+rate_few : (code rate : ℕ) → length (rate_spelling code rate) ≤ 16
+unfolding rate_spelling
+rate_few code rate =
+    let a : length (unsigned 8 (rate / 1000)) ≤ 16 = omega (arith, length-unsigned 8 (rate / 1000)) in
+    let b : length (unsigned 16 rate) ≤ 16 = omega (arith, length-unsigned 16 rate) in
+    let d : length (unsigned 16 (rate / 10)) ≤ 16 = omega (arith, length-unsigned 16 (rate / 10)) in
+    either_few (nat_eq code 12) 16 _ _ a (either_few (nat_eq code 13) 16 _ _ b (either_few (nat_eq code 14) 16 _ _ d no_bits))
+
+abbrev pub lengths : List (List Bool) → ℕ
+lengths [] = 0
+lengths (part ∷ parts) = length part + lengths parts
+
+pub length-joined : (parts : List (List Bool)) → length (joined parts) ≡ lengths parts
+length-joined [] = refl
+length-joined (part ∷ parts) = length-append part (joined parts) ∙ ap (λ n. length part + n) (length-joined parts)
+
+-- all of it but the number and what the codes ask for takes 40 bits
+pub header_long : (h : Header) → length (header_spelling h) ≡ 40 + length (number_spelling h.number) + length (size_spelling h.size_code h.size) + length (rate_spelling h.rate_code h.rate)
+unfolding header_parts
+header_long h = omega (
+  arith,
+  length-append (header_front h) (unsigned 8 (remainder 8 7 (header_front h))),
+  length-unsigned 8 (remainder 8 7 (header_front h)),
+  length-joined (header_parts h),
+  length-unsigned 15 0x7FFC,
+  length-unsigned 1 (bit_value h.variable),
+  length-unsigned 4 h.size_code,
+  length-unsigned 4 h.rate_code,
+  length-unsigned 4 h.channel_code,
+  length-unsigned 3 h.depth_code,
+  length-unsigned 1 0,
+)
+
+header_few : (h : Header) → length (header_spelling h) ≤ 128
+header_few h = omega (arith, header_long h, number_few h.number, size_few h.size_code h.size, rate_few h.rate_code h.rate)
+
+-- ---- a subframe
+
+module _ (depth : ℕ) (deep : 1 ≤ depth) where
+  plain_long : (k : ℕ) (t : List ℤ) → length (subframe_spelling depth (record { wasted = k; content = Verbatim t })) ≡ 8 + k + (depth - k) * length t
+  unfolding content_spelling
+  plain_long k t = length-subframe depth (record { wasted = k; content = Verbatim t }) ∙ ap (λ n. 8 + k + n) (length-samples (depth - k) t)
+
+  -- the samples themselves, without the bits that all lack, take no fewer bits
+  pub one_short : (f : Form) (s : List ℤ) → 0 < length s → All (FitsBits depth) s → IsLeastFor depth s f → length (subframe_spelling depth f) ≤ 8 + depth + depth * length s
+  one_short f s some fits least =
+      let k : ℕ = f.wasted in
+      let t : List ℤ = least.member.body.1 in
+      let so : s ≡ map (times_power k) t = least.member.body.3 in
+      let stands : Stands 8 (fixed_below 5) (record { wasted = k; content = Verbatim t }) s = record { wasted = least.member.wasted; body = (verbatim t, t, refl, so, refl) } in
+      let limits : Limits = record { partition = 8; linear = 0 } in
+      let left : k < depth = (forms_stand depth limits f s deep some (omega arith) fits least.member).0.left in
+      let long : length t ≡ length s = sym (length-map t (times_power k)) ∙ ap (λ (l : List ℤ). length l) (sym so) in
+      let le = least.least (record { wasted = k; content = Verbatim t }) stands in
+      let few : (depth - k) * length t ≤ depth * length s = subst (λ n. (depth - k) * length t ≤ depth * n) long (mul-le-mul_right (length t) (omega arith)) in
+      omega (arith, le, plain_long k t, few, left)
+
+  one_more : (n m a b c : ℕ) → c ≡ a + b → a ≤ m → b ≤ n * m → c ≤ suc n * m
+  one_more n m a b c e h k = omega (arith, e, h, k)
+
+  pub all_short : (size : ℕ) (fs : List Form) (block : List (List ℤ)) → 0 < size → All (λ s. length s ≡ size) block → All (λ s. All (FitsBits depth) s) block → AreLeast depth fs block
+      → length (flat_map (subframe_spelling depth) fs) ≤ length block * (8 + depth + depth * size)
+  all_short size [] [] some long fits least = omega arith
+  all_short size [] (s ∷ ss) some long fits least = absurd least
+  all_short size (f ∷ fs) [] some long fits least = absurd least
+  all_short size (f ∷ fs) (s ∷ ss) some long fits least =
+      let here = All-head (λ s. length s ≡ size) s ss long in
+      let one = one_short f s (omega (arith, some, here)) (All-head (λ s. All (FitsBits depth) s) s ss fits) least.0 in
+      let one' : length (subframe_spelling depth f) ≤ 8 + depth + depth * size = subst (λ n. length (subframe_spelling depth f) ≤ 8 + depth + depth * n) here one in
+      let rest = all_short size fs ss some (All-tail (λ s. length s ≡ size) s ss long) (All-tail (λ s. All (FitsBits depth) s) s ss fits) least.1 in
+      one_more (length ss) (8 + depth + depth * size) _ _ _ (length-append (subframe_spelling depth f) (flat_map (subframe_spelling depth) fs)) one' rest
+
+-- ---- a frame
+
+pub whole_long : (text : List Bool) → length (checked (filled text)) ≡ 16 + length text + (8 - length text % 8) % 8
+whole_long text =
+    let n : ℕ = (8 - length text % 8) % 8 in
+    omega (arith, length-append (filled text) (unsigned 16 (remainder 16 32773 (filled text))), length-append text (unsigned n 0), length-unsigned n 0, length-unsigned 16 (remainder 16 32773 (filled text)))
+
+pub frame_short : (depth : ℕ) (f : FrameForm) → length (subframes_spelling depth f.header.channel_code 0 f.subframes) ≤ 16777280 → IsShort depth f
+unfolding frame_spelling
+frame_short depth f few =
+    let parts = subframes_spelling depth f.header.channel_code 0 f.subframes in
+    let text = header_spelling f.header ++ parts in
+    omega (arith, whole_long text, length-append (header_spelling f.header) parts, header_few f.header, few)
+
+pub parts_few : (n depth size : ℕ) → n ≤ 8 → depth ≤ 32 → size ≤ 65535 → n * (8 + depth + depth * size) ≤ 16777280
+parts_few n depth size many shallow few =
+    let one : 8 + depth + depth * size ≤ 2097160 = omega (arith, shallow, mul-le depth size 32 65535 shallow few) in
+    omega (arith, mul-le n (8 + depth + depth * size) 8 2097160 many one)

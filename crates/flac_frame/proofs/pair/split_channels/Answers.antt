@@ -1,0 +1,25 @@
+use Rattle.std.proofs.Common.{◌≡◌, ◌∙◌, ℤ, pos, get_or, SFits, to_z, of_z, w64, rules, arith}
+use Rattle.std.proofs.lemmas.Int.{to_z-of_z}
+use Rattle.flac_frame.proofs.Pairs.{side_all, middle_all, split_more, less_read, half_read}
+use Rattle.flac_frame.proofs.pair.split_channels.Goals as goal
+
+pub returns-clause-side : goal.returns-clause-side
+returns-clause-side c = side_all c.args.left.now c.args.right.now c.loop-i.side c.loop-i.middle c.loop-i.i c.requires.right (omega (arith, c.loop-i-test.false)) c.loop-i.invariant
+
+pub returns-clause-middle : goal.returns-clause-middle
+returns-clause-middle c = middle_all c.args.left.now c.args.right.now c.loop-i.side c.loop-i.middle c.loop-i.i c.requires.right (omega (arith, c.loop-i-test.false)) c.loop-i.invariant
+
+pub loop-i-preserved : goal.loop-i-preserved
+loop-i-preserved c =
+    let l : ℤ = get_or c.args.left.now c.loop-i.i (pos 0) in
+    let r : ℤ = get_or c.args.right.now c.loop-i.i (pos 0) in
+    let x : ℤ = c.split_samples-difference.result.0 in
+    let y : ℤ = c.split_samples-difference.result.1 in
+    let lf : SFits w64 l = search rules in
+    let rf : SFits w64 r = search rules in
+    let xf : SFits w64 x = search rules in
+    let yf : SFits w64 y = search rules in
+    let le : to_z w64 (of_z w64 l) ≡ l = to_z-of_z w64 l lf in
+    let re : to_z w64 (of_z w64 r) ≡ r = to_z-of_z w64 r rf in
+    split_more c.args.left.now c.args.right.now c.loop-i.side c.loop-i.middle c.loop-i.i _ _ c.requires.right c.loop-i-test.true c.loop-i.invariant
+    (to_z-of_z w64 x xf ∙ less_read x l r _ _ le re c.split_samples-difference.ensures.side) (to_z-of_z w64 y yf ∙ half_read y l r _ _ le re c.split_samples-difference.ensures.middle)

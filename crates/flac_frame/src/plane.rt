@@ -1,0 +1,72 @@
+//! A channel as it is kept, and its least subframe.
+
+ghost use Rattle.std.specs.Prelude.{◌≡◌, ◌<◌, ◌≤◌, ◌^◌, length, All};
+ghost use Rattle.flac_bits.specs.Signed.{FitsBits};
+ghost use Rattle.flac_bits.specs.Written.{Writes};
+ghost use Rattle.flac_subframe.specs.Family.{IsMadeOf, form_of};
+ghost use Rattle.flac_subframe.specs.Spelling.{subframe_spelling};
+ghost use Rattle.flac_frame.specs.Pair.{IsChosen};
+
+use flac_bits::{BitWriter, Target, Why};
+use flac_subframe::{Choice, choose_into, write_subframe_into};
+
+/// A channel as it is kept: its samples, their depth, and how they are written.
+#[derive(Drop)]
+pub(crate) struct Plane<'a> {
+    pub(crate) samples: &'a [i64],
+    pub(crate) depth: u32,
+    pub(crate) choice: Choice,
+    ghost some: { 0 < length samples.now },
+    ghost few: { length samples.now ≤ 65535 },
+    ghost deep: { (1 ≤ depth) × (depth ≤ 33) },
+    ghost fits: { All (FitsBits depth) samples.now },
+}
+
+/// Chooses the least subframe of some samples.
+pub(crate) fn choose_plane<'a>(
+    samples: &'a [i64],
+    depth: u32,
+    shortened: &mut [i64],
+    values: &mut [i64],
+) -> Plane<'a>
+    requires some { 0 < length samples.now }
+    requires few { length samples.now ≤ 65535 }
+    requires depth { (1 ≤ depth) × (depth ≤ 33) }
+    requires fits { All (FitsBits depth) samples.now }
+    requires places { length samples.now ≤ length shortened.old }
+    requires values { length samples.now ≤ length values.old }
+    ensures samples { result.samples.now ≡ samples.now }
+    ensures depth { result.depth ≡ depth }
+    ensures chosen { IsChosen depth samples.now (form_of result.choice samples.now) result.choice.bits }
+    ensures made { IsMadeOf result.choice result.samples.now }
+    ensures small { result.choice.bits ≤ 2 ^ 61 }
+{
+    let choice = choose_into(samples, depth, shortened, values);
+    Plane {
+        samples,
+        depth,
+        choice,
+    }
+}
+
+/// Writes the subframe that was chosen.
+pub(crate) fn write_plane<W: Target>(
+    plane: &Plane,
+    shortened: &mut [i64],
+    values: &mut [i64],
+    writer: &mut BitWriter<W>,
+) -> Result<(), Why>
+    requires made { IsMadeOf plane.now.choice plane.now.samples.now }
+    requires places { length plane.now.samples.now ≤ length shortened.old }
+    requires values { length plane.now.samples.now ≤ length values.old }
+    ensures { Writes (subframe_spelling plane.now.depth (form_of plane.now.choice plane.now.samples.now)) writer.old writer.new result }
+{
+    write_subframe_into(
+        &plane.choice,
+        plane.samples,
+        plane.depth,
+        shortened,
+        values,
+        writer,
+    )
+}

@@ -1,0 +1,8 @@
+-- The numbers by which faults of encoding are told.
+use Rattle.std.specs.Prelude.{ℕ}
+use Rattle.flac_native.specs.declared.encode_fault.EncodeFault.{EncodeFault}
+use Rattle.flac_native.specs.declared.encode_fault.EncodeFault.TheVariants.{Memory, Write}
+
+abbrev pub fault_number : EncodeFault → ℕ
+fault_number Memory = 2
+fault_number Write = 39

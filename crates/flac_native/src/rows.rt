@@ -1,0 +1,175 @@
+//! Samples of channels as bytes, interleaved (RFC 9639, section 8.2).
+
+ghost use Rattle.std.specs.Prelude.{◌≡◌, ◌≤◌, ◌<◌, ◌+◌, ◌*◌, ◌++◌, length, take, List, [], ℕ, ℤ, slice_index_or, pos};
+ghost use Rattle.flac_native.specs.Message.{sample_bytes, row_bytes, rows_bytes};
+ghost use Rattle.md5.specs.Md5.{Holds};
+
+use md5::{Digest, Md5};
+
+/// How many bytes are gathered at once.
+const CHUNK: usize = 16384;
+
+/// How many rows are gathered at once: each has at most 8 samples of 4 bytes. They are whole blocks of the digest.
+const ROWS: usize = 512;
+
+/// Samples of channels.
+pub(crate) trait Channels {
+    /// The samples of each channel.
+    ghost lists: { Self → List (List ℤ) };
+
+    /// How many samples each channel has at least.
+    ghost size: { Self → ℕ };
+
+    /// The sample of a channel at an index.
+    fn sample(&self, channel: usize, index: usize) -> i32
+        requires channel { channel < length (lists self.now) }
+        requires index { index < size self.now }
+        ensures { result ≡ slice_index_or (slice_index_or (lists self.now) channel []) index (pos 0) };
+}
+
+/// Writes the lowest bytes of a sample at a place, the lowest first.
+#[inline(always)]
+fn put_sample(sample: i32, width: usize, out: &mut [u8], at: usize)
+    requires width { width ≤ 4 }
+    requires room { at + width ≤ length out.old }
+    ensures { take (at + width) out.new ≡ take at out.old ++ sample_bytes width sample }
+{
+    let bytes = sample.to_le_bytes();
+    for i in 0..width {
+        out[at + i] = bytes[i];
+    }
+}
+
+/// Writes the samples of all channels at one index behind the first `at` bytes, each in `width` bytes, and answers where they end.
+#[inline(always)]
+#[tactic(auto, unfolding(crate::specs::Message::row_bytes), using(crate::proofs::Messages::row_more))]
+fn put_row<C: Channels>(
+    samples: &C,
+    channels: usize,
+    width: usize,
+    index: usize,
+    out: &mut [u8],
+    at: usize,
+) -> usize
+    requires channels { channels ≡ length (C.lists samples.now) }
+    requires few { channels ≤ 8 }
+    requires width { width ≤ 4 }
+    requires index { index < C.size samples.now }
+    requires room { at + 32 ≤ length out.old }
+    ensures bytes { take result out.new ≡ take at out.old ++ row_bytes width (C.lists samples.now) index }
+    ensures end { result ≤ at + 32 }
+{
+    let mut place = at;
+    for i in 0..channels {
+        put_sample(samples.sample(i, index), width, out, place);
+        place += width;
+    }
+    place
+}
+
+/// What [`put_rows_in`] does, for a count of channels and a width that its callers fix: it is made anew for each of them.
+#[inline(always)]
+#[tactic(auto, unfolding(crate::specs::Message::rows_bytes), using(crate::proofs::Messages::rows_more))]
+fn put_rows_of<C: Channels>(
+    samples: &C,
+    channels: usize,
+    width: usize,
+    start: usize,
+    count: usize,
+    out: &mut [u8],
+) -> usize
+    requires channels { channels ≡ length (C.lists samples.now) }
+    requires few { channels ≤ 8 }
+    requires width { width ≤ 4 }
+    requires rows { start + count ≤ C.size samples.now }
+    requires end { start + count ≤ usize.MAX }
+    requires room { 32 * count ≤ length out.old }
+    ensures bytes { take result out.new ≡ rows_bytes width (C.lists samples.now) count start }
+    ensures end { result ≤ 32 * count }
+{
+    let mut at = 0;
+    for i in 0..count {
+        at = put_row(samples, channels, width, start + i, out, at);
+    }
+    at
+}
+
+/// [`put_rows_in`] for a count of channels that its callers fix.
+#[inline(always)]
+fn put_channels<C: Channels>(
+    samples: &C,
+    channels: usize,
+    width: usize,
+    start: usize,
+    count: usize,
+    out: &mut [u8],
+) -> usize
+    requires channels { channels ≡ length (C.lists samples.now) }
+    requires few { channels ≤ 8 }
+    requires width { width ≤ 4 }
+    requires rows { start + count ≤ C.size samples.now }
+    requires end { start + count ≤ usize.MAX }
+    requires room { 32 * count ≤ length out.old }
+    ensures bytes { take result out.new ≡ rows_bytes width (C.lists samples.now) count start }
+    ensures end { result ≤ 32 * count }
+{
+    match width {
+        1 => put_rows_of(samples, channels, 1, start, count, out),
+        2 => put_rows_of(samples, channels, 2, start, count, out),
+        3 => put_rows_of(samples, channels, 3, start, count, out),
+        width => put_rows_of(samples, channels, width, start, count, out),
+    }
+}
+
+/// Writes the samples of all channels at `count` indices from `start` on, interleaved, each in its lowest `width` bytes, the
+/// lowest first, to the front of `out`, and answers how many bytes these are. A row has at most 32 bytes.
+#[inline(always)]
+pub(crate) fn put_rows_in<C: Channels>(
+    samples: &C,
+    channels: usize,
+    width: usize,
+    start: usize,
+    count: usize,
+    out: &mut [u8],
+) -> usize
+    requires channels { channels ≡ length (C.lists samples.now) }
+    requires few { channels ≤ 8 }
+    requires width { width ≤ 4 }
+    requires rows { start + count ≤ C.size samples.now }
+    requires end { start + count ≤ usize.MAX }
+    requires room { 32 * count ≤ length out.old }
+    ensures bytes { take result out.new ≡ rows_bytes width (C.lists samples.now) count start }
+    ensures end { result ≤ 32 * count }
+{
+    match channels {
+        1 => put_channels(samples, 1, width, start, count, out),
+        2 => put_channels(samples, 2, width, start, count, out),
+        channels => put_channels(samples, channels, width, start, count, out),
+    }
+}
+
+/// Feeds so many samples of each channel to a digest, interleaved, each in its lowest `width` bytes.
+#[inline(always)]
+#[tactic(auto, unfolding(crate::specs::Message::rows_bytes), using(crate::proofs::Messages::rows_split))]
+pub(crate) fn feed_rows<C: Channels>(
+    hasher: &mut Md5,
+    samples: &C,
+    channels: usize,
+    len: usize,
+    width: usize,
+)
+    requires channels { channels ≡ length (C.lists samples.now) }
+    requires few { channels ≤ 8 }
+    requires width { width ≤ 4 }
+    requires len { len ≤ C.size samples.now }
+    ensures { (m : List ℕ) → Holds hasher.old m → Holds hasher.new (m ++ rows_bytes width (C.lists samples.now) len 0) }
+{
+    let mut chunk = [0u8; CHUNK];
+    let mut start = 0;
+    while start < len {
+        let count = (len - start).min(ROWS);
+        let end = put_rows_in(samples, channels, width, start, count, &mut chunk);
+        hasher.update(&chunk[..end]);
+        start += count;
+    }
+}

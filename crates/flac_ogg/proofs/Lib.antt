@@ -1,0 +1,6 @@
+pub mod PageSum
+pub mod PageReads
+pub mod Turns
+pub mod Stepping
+pub mod Exits
+pub mod PacketMeaning

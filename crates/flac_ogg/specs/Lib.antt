@@ -1,0 +1,4 @@
+pub mod Page
+pub mod Pages
+pub mod Packets
+pub mod Given
