@@ -1,15 +1,12 @@
 -- What a predictor leaves.
-use Rattle.std.proofs.Common.{◌≡◌, ◌∙◌, refl, sym, ap, ℕ, zero, suc, ◌+◌, ◌-◌, ◌^◌, ◌≤◌, ◌<◌, arith, ℤ, pos, ◌-ℤ◌, List, length, take, All, to_z, of_z, w64, replicate}
+use Rattle.std.proofs.Common.{◌≡◌, ◌∙◌, refl, sym, ap, ℕ, zero, suc, ◌+◌, ◌^◌, ◌≤◌, ◌<◌, arith, ℤ, pos, ◌-ℤ◌, List, length, to_z, of_z, w64, replicate}
 use Rattle.std.specs.Int.RustNames.{unsigned_abs}
 use Rattle.std.proofs.lemmas.Int.{ints}
 use Rattle.std.proofs.lemmas.List.{same_lists, get_or-replicate, length-replicate, get_or_default}
-use Rattle.std.proofs.lemmas.List.FromFn.{length-map-range_with_len, get_or-map-range_with_len}
-use Rattle.std.proofs.lemmas.List.Elements.{All-from_get_or}
 use Rattle.flac_bits.specs.Signed.{FitsBits}
 use Rattle.flac_subframe.specs.Numbers.{sample_at}
 use Rattle.flac_subframe.specs.Prediction.{prediction, fixed_coefficients}
-use Rattle.flac_bits.specs.Rice.{IsResidual}
-use Rattle.flac_subframe.specs.Bodies.{difference, differences}
+use Rattle.flac_subframe.specs.Bodies.{difference}
 
 -- how many coefficients a fixed predictor has
 pub length-fixed : (order : ℕ) → order ≤ 4 → length (fixed_coefficients order) ≡ order

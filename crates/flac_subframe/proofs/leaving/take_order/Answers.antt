@@ -1,12 +1,12 @@
 use Rattle.std.proofs.Common.{arith, ◌≡◌, ◌∙◌, ◌<◌, ◌+◌, pos, length, sym, to_z, of_z, w64, ℤ, ◌-ℤ◌}
 use Rattle.std.proofs.lemmas.Int.{ints}
 use Rattle.flac_bits.specs.Signed.{FitsBits}
-use Rattle.std.proofs.lemmas.List.{take_more_set, take_all}
+use Rattle.std.proofs.lemmas.List.{take_more_set}
 use Rattle.std.proofs.lemmas.List.FromFn.{map-range_with_len_more}
 use Rattle.flac_subframe.specs.Numbers.{sample_at}
 use Rattle.flac_subframe.specs.Prediction.{fixed_coefficients}
 use Rattle.flac_subframe.specs.Bodies.{difference}
-use Rattle.flac_subframe.proofs.Differences.{difference_at, length-fixed}
+use Rattle.flac_subframe.proofs.Differences.{difference_at}
 use Rattle.flac_subframe.proofs.Nearest.{HoldsLast, predicted_after}
 use Rattle.flac_subframe.proofs.leaving.take_order.Goals as goal
 
