@@ -70,6 +70,7 @@ module _ (sound : Sound) (size number : ℕ) (block : List (List ℤ)) where
           (opened size sound.rate m.encoding.code sound.bits number f.header m.encoding.header) (opened size sound.rate n.encoding.code sound.bits number g.header n.encoding.header))
           (below g n).0;
     };
+    fewest = λ g n. (below g n).0;
     first = λ g n lower. (below g n).1 lower;
   }
 

@@ -78,9 +78,10 @@ pub record IsOfFamily (sound : Sound) (size number : ℕ) (block : List (List �
 abbrev pub subframes_cost : ℕ → FrameForm → ℕ
 subframes_cost depth f = length (subframes_spelling depth f.header.channel_code 0 f.subframes)
 
--- No frame of the family is shorter; and where the channel code is lower, the subframes take more bits.
+-- No frame of the family is shorter; none takes fewer bits for its subframes, which the zeros up to a whole byte may hide; and where the channel code is lower, they take more.
 pub record IsLeastFrame (sound : Sound) (size number : ℕ) (block : List (List ℤ)) (f : FrameForm) : Type 0 where
   pub least : IsLeast (IsOfFamily sound size number block) (λ g. length (frame_spelling sound.bits g)) f
+  pub fewest : (g : FrameForm) → IsOfFamily sound size number block g → subframes_cost sound.bits f ≤ subframes_cost sound.bits g
   pub first : (g : FrameForm) → IsOfFamily sound size number block g → g.header.channel_code < f.header.channel_code → subframes_cost sound.bits f < subframes_cost sound.bits g
 
 -- at a whole byte, where the checks begin, the spelling of such a frame was written; one that was written whole is the least of the family, and short

@@ -21,7 +21,7 @@ use Rattle.flac_frame.specs.Encoding.{IsEncoding, IsLeastFrame, block_of}
 use Rattle.flac_frame.specs.Spelling.{FrameForm, frame_spelling}
 use Rattle.flac_frame.proofs.FrameTie.{frames_bytes}
 use Rattle.flac_native.specs.Given.{Cut, blocks_in, size_of, frame_of}
-use Rattle.flac_native.specs.Writing.{SpellsFrame, AreSizes, IsEncoded}
+use Rattle.flac_native.specs.Writing.{SpellsFrame, SpellsLeast, AreSizes, IsEncoded}
 use Rattle.flac_native.proofs.Encoded.{least_part, all_parts}
 
 -- ---- sizes
@@ -96,6 +96,7 @@ pub record Gathered (p : Cut) (a : Sound) (w : Written) (number least greatest :
   pub frames : List (List Bool)
   pub many : length frames ≡ number
   pub each : (i : ℕ) → i < length frames → SpellsFrame a (frame_of p.block_size a i) (nth frames i)
+  pub each_least : (i : ℕ) → i < length frames → SpellsLeast a (frame_of p.block_size a i) (nth frames i)
   pub sizes : AreSizes frames least greatest
   pub known : w.known ≡ true
   pub bits : w.bits ≡ joined frames
@@ -103,7 +104,7 @@ pub record Gathered (p : Cut) (a : Sound) (w : Written) (number least greatest :
   pub count : w.mark.bytes ≤ 16777215 * number
 
 pub gathered_none : (p : Cut) (a : Sound) (w : Written) → w.known ≡ true → w.bits ≡ [] → w.mark.unread ≡ 0 → w.mark.bytes ≡ 0 → Gathered p a w 0 0 0
-gathered_none p a w known bits whole count = record { frames = []; many = refl; each = λ i h. absurd (omega arith); sizes = no_sizes; known = known; bits = bits; whole = whole; count = omega (arith, count) }
+gathered_none p a w known bits whole count = record { frames = []; many = refl; each = λ i h. absurd (omega arith); each_least = λ i h. absurd (omega arith); sizes = no_sizes; known = known; bits = bits; whole = whole; count = omega (arith, count) }
 
 pub gathered_new : (p : Cut) (a : Sound) (w : Written) (k : Bool) (e : ℕ) (names : List GName) (s : List ℕ) → w ≡ record { known = k; errors = e; names = names; sent = s; bits = bits_of s; mark = record { unread = 0; bytes = 0; check8 = 0; check16 = 0; short = Truncated } }
     → k ≡ true → s ≡ [] → Gathered p a w 0 0 0
@@ -142,11 +143,13 @@ gathered_more p a w v number least greatest bytes start n f g small start_is n_i
     let b = fresh_bytes w.mark g.whole in
     let after : v.mark.bytes ≡ min (w.mark.bytes + (length t + 7 - 0) / 8) (2 ^ 64 - 1) = ap (λ (m : Mark). m.bytes) adds.mark ∙ past-bytes t 0 w.mark.bytes (fresh w.mark) u (omega arith) b (omega (arith, g.count, small)) in
     let k = counted w.mark.bytes (length t) v.mark.bytes bytes (omega (arith, g.count, small)) whole after is few in
-    let here : SpellsFrame a (frame_of p.block_size a number) t = record { form = f; encoding = encoding; least = least_frame; spelling = refl; short = omega (arith, k.0, few) } in
+    let here : SpellsFrame a (frame_of p.block_size a number) t = record { form = f; encoding = encoding; spelling = refl; short = omega (arith, k.0, few) } in
+    let here_least : SpellsLeast a (frame_of p.block_size a number) t = record { form = f; least = least_frame; spelling = refl } in
     record {
       frames = snoc g.frames t;
       many = omega (arith, length-snoc g.frames t, g.many);
       each = each_more (λ i k. SpellsFrame a (frame_of p.block_size a i) k) g.frames t g.each (subst (λ n. SpellsFrame a (frame_of p.block_size a n) t) (sym g.many) here);
+      each_least = each_more (λ i k. SpellsLeast a (frame_of p.block_size a i) k) g.frames t g.each_least (subst (λ n. SpellsLeast a (frame_of p.block_size a n) t) (sym g.many) here_least);
       sizes = sizes_with g.frames t number least greatest bytes g.many k.0 g.sizes;
       known = adds.known g.known;
       bits = adds.bits g.known ∙ ap (λ k. k ++ t) g.bits ∙ ap (λ k. joined g.frames ++ k) (sym (append-nil t)) ∙ joined_append g.frames (t ∷ []);
@@ -167,7 +170,7 @@ all_gathered b total number some few h = elim (cases_lt number (blocks_in b tota
 
 -- all frames
 pub all_encoded : (p : Cut) (a : Sound) (w : Written) (number least greatest : ℕ) (text : List Bool) → Gathered p a w number least greatest → number ≡ blocks_in p.block_size (samples_each a.channels) → text ≡ w.bits → IsEncoded p a text least greatest
-all_encoded p a w number least greatest text g all is = record { frames = g.frames; are = record { many = g.many ∙ all; each = g.each }; sizes = g.sizes; spelled = is ∙ g.bits }
+all_encoded p a w number least greatest text g all is = record { frames = g.frames; are = record { many = g.many ∙ all; each = g.each }; are_least = g.each_least; sizes = g.sizes; spelled = is ∙ g.bits }
 
 -- the count of bytes does not fall
 pub bytes_grow : (t : List Bool) (w v : Written) → w.mark.unread ≡ 0 → w.mark.bytes < 2 ^ 64 → Adds t (restarted w) v → w.mark.bytes ≤ v.mark.bytes

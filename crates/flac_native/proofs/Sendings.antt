@@ -60,6 +60,7 @@ given_encodes p list a least greatest head frames before good fits may fields is
       greatest = greatest;
       frames = e.frames;
       are = e.are;
+      are_least = e.are_least;
       sizes = e.sizes;
       written = ap (λ k. before ++ k) (bits_of-append head frames ∙ ap (λ k. k ++ bits_of frames) is ∙ append_assoc marker blocks (bits_of frames) ∙ ap (λ k. marker ++ (blocks ++ k)) e.spelled);
       stream = streams.encoded_are_streams p list a least greatest e.frames good fits may fields e.are e.sizes;

@@ -20,11 +20,10 @@ use Rattle.flac_native.specs.Given.{Cut, fits_plan, blocks_in, plan_fault, info_
 
 -- ---- frames
 
--- The bits spell a frame of a block of samples, the least of its family, in at most 16777215 bytes, as STREAMINFO tells (RFC 9639, section 8.2).
+-- The bits spell a frame of a block of samples in at most 16777215 bytes, as STREAMINFO tells (RFC 9639, section 8.2).
 pub record SpellsFrame (a : Sound) (f : Frame) (text : List Bool) : Type 0 where
   pub form : FrameForm
   pub encoding : IsEncoding a f.size f.number f.channels form
-  pub least : IsLeastFrame a f.size f.number f.channels form
   pub spelling : text ≡ frame_spelling a.bits form
   pub short : length text ≤ 8 * 16777215
 
@@ -32,6 +31,16 @@ pub record SpellsFrame (a : Sound) (f : Frame) (text : List Bool) : Type 0 where
 pub record AreFrames (p : Cut) (a : Sound) (frames : List (List Bool)) : Type 0 where
   pub many : length frames ≡ blocks_in p.block_size (samples_each a.channels)
   pub each : (i : ℕ) → i < length frames → SpellsFrame a (frame_of p.block_size a i) (slice_index_or frames i [])
+
+-- the bits spell the least frame of a block of samples
+pub record SpellsLeast (a : Sound) (f : Frame) (text : List Bool) : Type 0 where
+  pub form : FrameForm
+  pub least : IsLeastFrame a f.size f.number f.channels form
+  pub spelling : text ≡ frame_spelling a.bits form
+
+-- each frame is the least of its block
+abbrev pub AreLeastFrames : Cut → Sound → List (List Bool) → Type 0
+AreLeastFrames p a frames = (i : ℕ) → i < length frames → SpellsLeast a (frame_of p.block_size a i) (slice_index_or frames i [])
 
 -- the least and the greatest size of the frames in bytes, 0 where there is no frame
 pub record AreSizes (frames : List (List Bool)) (least greatest : ℕ) : Type 0 where
@@ -63,19 +72,21 @@ EncodedAreStreams =
     → AreFrames p a frames → AreSizes frames least greatest
     → Stream grammar opening (beginning Truncated) (given p list a least greatest) (stream_spelling p list a least greatest frames)
 
--- the bits are all frames of the samples, of which the least and the greatest have so many bytes
+-- the bits are all frames of the samples, each the least of its block, of which the shortest and the longest have so many bytes
 pub record IsEncoded (p : Cut) (a : Sound) (text : List Bool) (least greatest : ℕ) : Type 0 where
   pub frames : List (List Bool)
   pub are : AreFrames p a frames
+  pub are_least : AreLeastFrames p a frames
   pub sizes : AreSizes frames least greatest
   pub spelled : text ≡ joined frames
 
--- Behind the bits that were there, a stream of what was given was written: all frames of the samples, whose least and greatest sizes STREAMINFO tells.
+-- Behind the bits that were there, a stream of what was given was written: all frames of the samples, each the least of its block, whose least and greatest sizes STREAMINFO tells.
 pub record Encodes (p : Cut) (list : List Block) (a : Sound) (before after : List Bool) : Type 0 where
   pub least : ℕ
   pub greatest : ℕ
   pub frames : List (List Bool)
   pub are : AreFrames p a frames
+  pub are_least : AreLeastFrames p a frames
   pub sizes : AreSizes frames least greatest
   pub written : after ≡ before ++ stream_spelling p list a least greatest frames
   pub stream : Stream grammar opening (beginning Truncated) (given p list a least greatest) (stream_spelling p list a least greatest frames)

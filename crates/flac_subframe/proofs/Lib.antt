@@ -22,7 +22,6 @@ pub mod Splits
 pub mod Entries
 pub mod Orders
 pub mod Greater
-pub mod Convex
 pub mod Enough
 pub mod Searching
 pub mod Lengths
