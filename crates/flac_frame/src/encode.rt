@@ -24,6 +24,7 @@ pub struct EncodeBuffers {
     middle: Vec<i64>,
     shortened: Vec<i64>,
     values: Vec<i64>,
+    folds: Vec<u64>,
     max_block: usize,
 }
 
@@ -41,6 +42,7 @@ impl Model for EncodeBuffers {
       middle : vec_len b.middle ≡ b.max_block;
       shortened : vec_len b.shortened ≡ b.max_block;
       values : vec_len b.values ≡ b.max_block;
+      folds : vec_len b.folds ≡ b.max_block;
       max_block : b.max_block ≤ 65535;
     } };
 }
@@ -61,6 +63,7 @@ impl EncodeBuffers {
         let middle = vec![in alloc; 0i64; max_block]?;
         let shortened = vec![in alloc; 0i64; max_block]?;
         let values = vec![in alloc; 0i64; max_block]?;
+        let folds = vec![in alloc; 0u64; max_block]?;
         Ok(EncodeBuffers {
             samples,
             right,
@@ -68,6 +71,7 @@ impl EncodeBuffers {
             middle,
             shortened,
             values,
+            folds,
             max_block,
         })
     }
@@ -89,6 +93,7 @@ fn write_least<W: Target>(
     depth: u32,
     shortened: &mut [i64],
     values: &mut [i64],
+    folds: &mut [u64],
     writer: &mut BitWriter<W>,
 ) -> Result<(), Why>
     requires some { 0 < length samples.now }
@@ -97,9 +102,10 @@ fn write_least<W: Target>(
     requires fits { All (FitsBits depth) samples.now }
     requires places { length samples.now ≤ length shortened.old }
     requires values { length samples.now ≤ length values.old }
+    requires folds { length samples.now ≤ length folds.old }
     ensures { WritesLeast depth samples.now writer.old writer.new result }
 {
-    let choice = choose_into(samples, depth, shortened, values);
+    let choice = choose_into(samples, depth, shortened, values, folds);
     write_subframe_into(&choice, samples, depth, shortened, values, writer)
 }
 
@@ -111,6 +117,7 @@ fn write_channels<W: Target>(
     samples: &mut [i64],
     shortened: &mut [i64],
     values: &mut [i64],
+    folds: &mut [u64],
     writer: &mut BitWriter<W>,
 ) -> Result<(), Why>
     requires some { 0 < length samples.old }
@@ -120,12 +127,13 @@ fn write_channels<W: Target>(
     requires fits { All (λ c. All (FitsBits depth) c.items) channels.now }
     requires places { length samples.old ≤ length shortened.old }
     requires values { length samples.old ≤ length values.old }
+    requires folds { length samples.old ≤ length folds.old }
     ensures { WritesForms depth (length samples.old) (block_of start (length samples.old) (map (λ c. c.items) channels.now)) writer.old writer.new result }
 {
     let size = samples.len();
     for channel in channels {
         widen(&channel[start..start + size], samples);
-        write_least(samples, depth, shortened, values, writer)?;
+        write_least(samples, depth, shortened, values, folds, writer)?;
     }
     Ok(())
 }
@@ -148,6 +156,7 @@ fn write_frame<W: Target>(
     samples: &mut [i64],
     shortened: &mut [i64],
     values: &mut [i64],
+    folds: &mut [u64],
     writer: &mut BitWriter<W>,
 ) -> Result<(), Why>
     requires some { 0 < length samples.old }
@@ -157,11 +166,14 @@ fn write_frame<W: Target>(
     requires fits { All (λ c. All (FitsBits depth) c.items) channels.now }
     requires places { length samples.old ≤ length shortened.old }
     requires values { length samples.old ≤ length values.old }
+    requires folds { length samples.old ≤ length folds.old }
     requires whole { writer.old.mark.unread ≡ 0 }
     ensures { WritesWhole depth (length samples.old) header.now (block_of start (length samples.old) (map (λ c. c.items) channels.now)) writer.old writer.new result }
 {
     write_header(header, writer)?;
-    write_channels(channels, start, depth, samples, shortened, values, writer)?;
+    write_channels(
+        channels, start, depth, samples, shortened, values, folds, writer,
+    )?;
     write_end(writer)
 }
 
@@ -173,6 +185,7 @@ fn encode_into<W: Target>(
     samples: &mut [i64],
     shortened: &mut [i64],
     values: &mut [i64],
+    folds: &mut [u64],
     writer: &mut BitWriter<W>,
 ) -> Result<(), Why>
     requires some { 0 < length samples.old }
@@ -181,6 +194,7 @@ fn encode_into<W: Target>(
     requires within { start + length samples.old ≤ samples_each audio.now.channels }
     requires places { length samples.old ≤ length shortened.old }
     requires values { length samples.old ≤ length values.old }
+    requires folds { length samples.old ≤ length folds.old }
     requires number { number < 2 ^ 31 }
     requires whole { writer.old.mark.unread ≡ 0 }
     ensures { WritesFrame audio.now (length samples.old) number (block_of start (length samples.old) audio.now.channels) writer.old writer.new result }
@@ -194,7 +208,7 @@ fn encode_into<W: Target>(
     };
     let depth = audio.bits();
     write_frame(
-        &header, channels, start, depth, samples, shortened, values, writer,
+        &header, channels, start, depth, samples, shortened, values, folds, writer,
     )
 }
 
@@ -210,6 +224,7 @@ fn encode_first<W: Target>(
     middle: &mut [i64],
     shortened: &mut [i64],
     values: &mut [i64],
+    folds: &mut [u64],
     writer: &mut BitWriter<W>,
 ) -> Result<(), Why>
     requires some { 0 < size }
@@ -221,13 +236,16 @@ fn encode_first<W: Target>(
     requires middle { size ≤ length middle.old }
     requires places { size ≤ length shortened.old }
     requires values { size ≤ length values.old }
+    requires folds { size ≤ length folds.old }
     requires number { number < 2 ^ 31 }
     requires whole { writer.old.mark.unread ≡ 0 }
     ensures { WritesFrame audio.now size number (block_of start size audio.now.channels) writer.old writer.new result }
 {
     let samples = &mut samples[..size];
     if audio.channels().len() != 2 {
-        return encode_into(audio, start, number, samples, shortened, values, writer);
+        return encode_into(
+            audio, start, number, samples, shortened, values, folds, writer,
+        );
     }
     encode_pair(
         audio,
@@ -239,6 +257,7 @@ fn encode_first<W: Target>(
         &mut middle[..size],
         shortened,
         values,
+        folds,
         writer,
     )
 }
@@ -276,6 +295,7 @@ pub fn encode_frame<W: Target>(
         &mut buffers.middle,
         &mut buffers.shortened,
         &mut buffers.values,
+        &mut buffers.folds,
         writer,
     )
 }

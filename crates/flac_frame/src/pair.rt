@@ -105,6 +105,7 @@ fn write_least_pair<W: Target>(
     middle: &[i64],
     shortened: &mut [i64],
     values: &mut [i64],
+    folds: &mut [u64],
     writer: &mut BitWriter<W>,
 ) -> Result<(), Why>
     requires sound { IsSound audio.now }
@@ -119,16 +120,17 @@ fn write_least_pair<W: Target>(
     requires right_fits { All (FitsBits audio.now.bits) right.now }
     requires places { length left.now ≤ length shortened.old }
     requires values { length left.now ≤ length values.old }
+    requires folds { length left.now ≤ length folds.old }
     requires number { number < 2 ^ 31 }
     requires whole { writer.old.mark.unread ≡ 0 }
     ensures { WritesFrame audio.now (length left.now) number (left.now ∷ right.now ∷ []) writer.old writer.new result }
 {
     let size = left.len() as u32;
     let depth = audio.bits();
-    let lefts = choose_plane(left, depth, shortened, values);
-    let rights = choose_plane(right, depth, shortened, values);
-    let sides = choose_plane(side, depth + 1, shortened, values);
-    let middles = choose_plane(middle, depth, shortened, values);
+    let lefts = choose_plane(left, depth, shortened, values, folds);
+    let rights = choose_plane(right, depth, shortened, values, folds);
+    let sides = choose_plane(side, depth + 1, shortened, values, folds);
+    let middles = choose_plane(middle, depth, shortened, values, folds);
     let code = least_code(
         lefts.choice.bits(),
         rights.choice.bits(),
@@ -171,6 +173,7 @@ pub(crate) fn encode_pair<W: Target>(
     middle: &mut [i64],
     shortened: &mut [i64],
     values: &mut [i64],
+    folds: &mut [u64],
     writer: &mut BitWriter<W>,
 ) -> Result<(), Why>
     requires two { length audio.now.channels ≡ 2 }
@@ -182,6 +185,7 @@ pub(crate) fn encode_pair<W: Target>(
     requires middle { length middle.old ≡ length left.old }
     requires places { length left.old ≤ length shortened.old }
     requires values { length left.old ≤ length values.old }
+    requires folds { length left.old ≤ length folds.old }
     requires number { number < 2 ^ 31 }
     requires whole { writer.old.mark.unread ≡ 0 }
     ensures { WritesFrame audio.now (length left.old) number (block_of start (length left.old) audio.now.channels) writer.old writer.new result }
@@ -191,6 +195,6 @@ pub(crate) fn encode_pair<W: Target>(
     widen_from(&channels[1], start, right);
     split_channels(left, right, side, middle);
     write_least_pair(
-        audio, number, left, right, side, middle, shortened, values, writer,
+        audio, number, left, right, side, middle, shortened, values, folds, writer,
     )
 }

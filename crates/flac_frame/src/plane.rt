@@ -28,6 +28,7 @@ pub(crate) fn choose_plane<'a>(
     depth: u32,
     shortened: &mut [i64],
     values: &mut [i64],
+    folds: &mut [u64],
 ) -> Plane<'a>
     requires some { 0 < length samples.now }
     requires few { length samples.now ≤ 65535 }
@@ -35,13 +36,14 @@ pub(crate) fn choose_plane<'a>(
     requires fits { All (FitsBits depth) samples.now }
     requires places { length samples.now ≤ length shortened.old }
     requires values { length samples.now ≤ length values.old }
+    requires folds { length samples.now ≤ length folds.old }
     ensures samples { result.samples.now ≡ samples.now }
     ensures depth { result.depth ≡ depth }
     ensures chosen { IsChosen depth samples.now (form_of result.choice samples.now) result.choice.bits }
     ensures made { IsMadeOf result.choice result.samples.now }
     ensures small { result.choice.bits ≤ 2 ^ 61 }
 {
-    let choice = choose_into(samples, depth, shortened, values);
+    let choice = choose_into(samples, depth, shortened, values, folds);
     Plane {
         samples,
         depth,

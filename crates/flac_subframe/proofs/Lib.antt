@@ -15,6 +15,7 @@ pub mod RiceTies
 pub mod SubframeTie
 pub mod HeaderTie
 pub mod Digits
+pub mod Folds
 pub mod Least
 pub mod CodingLeast
 pub mod Pricing

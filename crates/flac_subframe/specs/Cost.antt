@@ -31,8 +31,12 @@ pub record MayWrite (most order : ℕ) (rs : List ℤ) (f : Codings) : Type 0 wh
   pub each : length f.codings ≡ 2 ^ f.halvings
   pub codings : MayCodeEach f.parameter_bits ((length rs + order) / 2 ^ f.halvings - order) ((length rs + order) / 2 ^ f.halvings) rs f.codings
 
+-- a folded number under a Rice parameter: its quotient in zeros, a one, and k bits
+abbrev pub folded_cost : ℕ → ℕ → ℕ
+folded_cost k n = n / 2 ^ k + 1 + k
+
 abbrev pub value_cost : ℕ → ℤ → ℕ
-value_cost k r = folded r / 2 ^ k + 1 + k
+value_cost k r = folded_cost k (folded r)
 
 -- a partition beside its parameter
 abbrev pub coding_cost : Coding → List ℤ → ℕ

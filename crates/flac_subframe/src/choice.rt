@@ -67,6 +67,7 @@ fn better_fixed(
     most: u8,
     order: usize,
     values: &mut [i64],
+    folds: &mut [u64],
     sums: &mut [u64],
     four: &mut [Priced],
     five: &mut [Priced],
@@ -79,6 +80,7 @@ fn better_fixed(
     requires fits { All (FitsBits 33) samples.now }
     requires order { order ≤ 4 }
     requires places { length samples.now ≤ length values.old }
+    requires folds { length samples.now ≤ length folds.old }
     requires sums { 2 ^ most ≤ length sums.old }
     requires four { 2 * 2 ^ most ≤ length four.old }
     requires five { 2 * 2 ^ most ≤ length five.old }
@@ -86,6 +88,7 @@ fn better_fixed(
     requires best { IsBest most bits samples.now (fixed_below order) (priced_as best.old) }
     ensures best { IsBest most bits samples.now (fixed_below (order + 1)) (priced_as best.new) }
     ensures values_long { length values.new ≡ length values.old }
+    ensures folds_long { length folds.new ≡ length folds.old }
     ensures sums_long { length sums.new ≡ length sums.old }
     ensures four_long { length four.new ≡ length four.old }
     ensures five_long { length five.new ≡ length five.old }
@@ -105,6 +108,7 @@ fn better_fixed(
     let below = best.bits - before;
     if least_residual_into(
         places,
+        folds,
         order,
         most,
         sums,
@@ -175,13 +179,20 @@ fn plain(kind: Kind, _residual: ResidualChoice, bits: u64) -> PricedChoice
 }
 
 /// The least choice over the fixed predictors, with partition orders up to the greatest.
-pub(crate) fn choose_body(samples: &[i64], bits: u32, most: u8, values: &mut [i64]) -> PricedChoice
+pub(crate) fn choose_body(
+    samples: &[i64],
+    bits: u32,
+    most: u8,
+    values: &mut [i64],
+    folds: &mut [u64],
+) -> PricedChoice
     requires some { 0 < length samples.now }
     requires few { length samples.now ≤ 65535 }
     requires most { most ≤ 8 }
     requires bits { bits ≤ 33 }
     requires fits { All (FitsBits 33) samples.now }
     requires places { length samples.now ≤ length values.old }
+    requires folds { length samples.now ≤ length folds.old }
     ensures { IsBest most bits samples.now (fixed_below 5) result }
 {
     let none = Priced {
@@ -200,6 +211,7 @@ pub(crate) fn choose_body(samples: &[i64], bits: u32, most: u8, values: &mut [i6
             most,
             order,
             values,
+            folds,
             &mut sums,
             &mut four,
             &mut five,

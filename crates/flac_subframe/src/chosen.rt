@@ -36,13 +36,20 @@ pub const MOST_HALVINGS: u8 = 8;
 ///
 /// The family is constant, verbatim, and the fixed predictors of order 0 to 4 with either coding method, partition orders up to 8 and every
 /// parameter and escape; the wasted bits are as many as all samples lack. Among equals the first of this order is chosen.
-pub fn choose_into(samples: &[i64], depth: u32, shortened: &mut [i64], values: &mut [i64]) -> Choice
+pub fn choose_into(
+    samples: &[i64],
+    depth: u32,
+    shortened: &mut [i64],
+    values: &mut [i64],
+    folds: &mut [u64],
+) -> Choice
     requires some { 0 < length samples.now }
     requires few { length samples.now ≤ 65535 }
     requires depth { (1 ≤ depth) × (depth ≤ 33) }
     requires fits { All (FitsBits depth) samples.now }
     requires places { length samples.now ≤ length shortened.old }
     requires values { length samples.now ≤ length values.old }
+    requires folds { length samples.now ≤ length folds.old }
     ensures least { IsLeast (λ f. Stands 8 (fixed_below 5) f samples.now) (λ f. length (subframe_spelling depth f)) (form_of result samples.now) }
     ensures bits { result.bits ≡ length (subframe_spelling depth (form_of result samples.now)) }
     ensures made { IsMadeOf result samples.now }
@@ -52,7 +59,7 @@ pub fn choose_into(samples: &[i64], depth: u32, shortened: &mut [i64], values: &
 {
     let places = &mut shortened[..samples.len()];
     let wasted = drop_wasted(samples, depth, places);
-    let best = choose_body(places, depth - wasted, MOST_HALVINGS, values);
+    let best = choose_body(places, depth - wasted, MOST_HALVINGS, values, folds);
     Choice {
         wasted,
         kind: best.kind,

@@ -2,12 +2,9 @@
 
 ghost use Rattle.std.specs.Prelude.{◌≡◌, ◌<◌, ◌≤◌, ◌^◌, ◌*◌, ◌↔◌, ℕ, length, All};
 ghost use Rattle.std.specs.List.{sum_by};
-ghost use Rattle.flac_subframe.specs.Spelling.{folded, FitsWidth};
-ghost use Rattle.flac_bits.specs.Rice.{IsResidual};
-ghost use Rattle.flac_subframe.specs.Cost.{value_cost};
+ghost use Rattle.flac_subframe.specs.Cost.{folded_cost};
 
 use crate::coding::Coding;
-use crate::folding::fold;
 
 /// A coding, and how many bits it takes beside its parameter.
 #[derive(Clone, Copy)]
@@ -16,30 +13,30 @@ pub struct Priced {
     pub bits: u64,
 }
 
-/// How many bits the values take under a Rice parameter.
-pub(crate) fn rice_bits(values: &[i64], parameter: u8) -> u64
-    requires few { length values.now ≤ 65535 }
-    requires range { All IsResidual values.now }
+/// How many bits values take under a Rice parameter, by their folded numbers.
+pub(crate) fn rice_bits(folds: &[u64], parameter: u8) -> u64
+    requires few { length folds.now ≤ 65535 }
+    requires small { All (λ n. n < 2 ^ 32) folds.now }
     requires parameter { parameter < 31 }
-    ensures value { result ≡ sum_by (value_cost parameter) values.now }
-    ensures small { result ≤ 2 ^ 33 * length values.now }
+    ensures value { result ≡ sum_by (folded_cost parameter) folds.now }
+    ensures small { result ≤ 2 ^ 33 * length folds.now }
 {
     let mut bits = 0;
-    for value in values {
-        bits += (fold(*value) >> parameter) + 1 + u64::from(parameter);
+    for number in folds {
+        bits += (*number >> parameter) + 1 + u64::from(parameter);
     }
     bits
 }
 
-/// The fewest bits that hold each value as a signed number, 0 where all are 0.
-pub(crate) fn width(values: &[i64]) -> u8
-    requires range { All IsResidual values.now }
+/// The fewest bits that hold each value as a signed number, by their folded numbers; 0 where all are 0.
+pub(crate) fn width(folds: &[u64]) -> u8
+    requires small { All (λ n. n < 2 ^ 32) folds.now }
     ensures small { result ≤ 32 }
-    ensures least { (n : ℕ) → All (FitsWidth n) values.now ↔ (result ≤ n) }
+    ensures least { (n : ℕ) → All (λ k. k < 2 ^ n) folds.now ↔ (result ≤ n) }
 {
     let mut greatest: u64 = 0;
-    for value in values {
-        greatest = greatest.max(fold(*value));
+    for number in folds {
+        greatest = greatest.max(*number);
     }
     (64 - greatest.leading_zeros()) as u8
 }

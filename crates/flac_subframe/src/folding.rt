@@ -1,6 +1,6 @@
 //! Signed residual values as unsigned numbers.
 
-ghost use Rattle.std.specs.Prelude.{◌≡◌, ◌<◌, ◌+◌, ◌^◌, neg_ℤ, pos, ◌<ℤ◌};
+ghost use Rattle.std.specs.Prelude.{◌≡◌, ◌<◌, ◌+◌, ◌^◌, neg_ℤ, pos, ◌<ℤ◌, length, map, All};
 ghost use Rattle.flac_subframe.specs.Spelling.{folded};
 ghost use Rattle.flac_bits.specs.Rice.{IsResidual};
 
@@ -14,5 +14,17 @@ pub(crate) fn fold(value: i64) -> u64
         value as u64 * 2
     } else {
         (-(value + 1)) as u64 * 2 + 1
+    }
+}
+
+/// Each value as an unsigned number.
+pub(crate) fn fold_each(values: &[i64], folds: &mut [u64])
+    requires range { All IsResidual values.now }
+    requires places { length folds.old ≡ length values.now }
+    ensures folded { folds.new ≡ map folded values.now }
+    ensures small { All (λ n. n < 2 ^ 32) folds.new }
+{
+    for i in 0..values.len() {
+        folds[i] = fold(values[i]);
     }
 }

@@ -1,10 +1,11 @@
 //! The cost of each partition at each partition order, where each value's cost is worked out once for each parameter: a partition costs as much
 //! as its two halves.
 
-ghost use Rattle.std.specs.Prelude.{◌≡◌, ◌<◌, ◌≤◌, ◌^◌, ◌+◌, ◌-◌, ◌*◌, ◌/◌, ℕ, length, All, slice_index, slice_index_or, ◌⊎◌};
+ghost use Rattle.std.specs.Prelude.{◌≡◌, ◌<◌, ◌≤◌, ◌^◌, ◌+◌, ◌-◌, ◌*◌, ◌/◌, ℕ, length, map, All, slice_index, slice_index_or, ◌⊎◌};
 ghost use Rattle.std.specs.List.{sum_by};
 ghost use Rattle.flac_bits.specs.Rice.{IsResidual};
 ghost use Rattle.flac_subframe.specs.Cost.{value_cost};
+ghost use Rattle.flac_subframe.specs.Spelling.{folded};
 ghost use Rattle.flac_subframe.specs.Halves.{part, Halves, lesser, entry, LeastBelow};
 
 use crate::coding::Coding;
@@ -12,9 +13,19 @@ use crate::cost::{Priced, rice_bits};
 use crate::halving::power;
 
 /// What each partition costs under a parameter, at the finest partition order.
-fn price(values: &[i64], order: usize, halvings: u8, parameter: u8, sums: &mut [u64])
+fn price(
+    values: &[i64],
+    folds: &[u64],
+    order: usize,
+    halvings: u8,
+    parameter: u8,
+    sums: &mut [u64],
+)
     requires few { length values.now + order ≤ 65535 }
     requires range { All IsResidual values.now }
+    requires folded { folds.now ≡ map folded values.now }
+    requires small { All (λ n. n < 2 ^ 32) folds.now }
+    requires long { length folds.now ≡ length values.now }
     requires parameter { parameter < 31 }
     requires most { halvings ≤ 8 }
     requires halves { Halves order values.now halvings }
@@ -25,7 +36,7 @@ fn price(values: &[i64], order: usize, halvings: u8, parameter: u8, sums: &mut [
     let mut from = 0;
     let mut to = size - order;
     for sum in sums.iter_mut() {
-        *sum = rice_bits(&values[from..to], parameter);
+        *sum = rice_bits(&folds[from..to], parameter);
         from = to;
         to += size;
     }
@@ -72,6 +83,7 @@ fn note_level(sums: &[u64], table: &mut [Priced], halvings: u8, parameter: u8)
 /// Compares, at each partition order, each partition's cost under a parameter with the best so far.
 fn pass(
     values: &[i64],
+    folds: &[u64],
     order: usize,
     halvings: u8,
     parameter: u8,
@@ -80,6 +92,9 @@ fn pass(
 )
     requires few { length values.now + order ≤ 65535 }
     requires range { All IsResidual values.now }
+    requires folded { folds.now ≡ map folded values.now }
+    requires small { All (λ n. n < 2 ^ 32) folds.now }
+    requires long { length folds.now ≡ length values.now }
     requires parameter { parameter < 31 }
     requires most { halvings ≤ 8 }
     requires halves { Halves order values.now halvings }
@@ -88,7 +103,7 @@ fn pass(
     ensures kept { length table.new ≡ length table.old }
     ensures entries { (p j : ℕ) → p ≤ halvings → j < 2 ^ p → entry table.new p j ≡ lesser parameter (sum_by (value_cost parameter) (part order values.now p j)) (entry table.old p j) }
 {
-    price(values, order, halvings, parameter, sums);
+    price(values, folds, order, halvings, parameter, sums);
     note_level(sums, table, halvings, parameter);
     let mut level = halvings;
     while level > 0 {
@@ -101,6 +116,7 @@ fn pass(
 /// Fills the table with the least parameters of a method.
 pub(crate) fn compare(
     values: &[i64],
+    folds: &[u64],
     order: usize,
     halvings: u8,
     from: u8,
@@ -110,6 +126,9 @@ pub(crate) fn compare(
 )
     requires few { length values.now + order ≤ 65535 }
     requires range { All IsResidual values.now }
+    requires folded { folds.now ≡ map folded values.now }
+    requires small { All (λ n. n < 2 ^ 32) folds.now }
+    requires long { length folds.now ≡ length values.now }
     requires from { from ≤ parameters }
     requires parameters { parameters ≤ 31 }
     requires most { halvings ≤ 8 }
@@ -121,7 +140,7 @@ pub(crate) fn compare(
     ensures long { length table.new ≡ length table.old }
 {
     for parameter in from..parameters {
-        pass(values, order, halvings, parameter, sums, table);
+        pass(values, folds, order, halvings, parameter, sums, table);
     }
 }
 

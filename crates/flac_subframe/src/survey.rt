@@ -1,13 +1,15 @@
 //! The least way to write a residual, found from tables and gathered once.
 
-ghost use Rattle.std.specs.Prelude.{◌≡◌, ◌<◌, ◌≤◌, ◌^◌, ◌+◌, ◌-◌, ◌*◌, ◌/◌, ℕ, length, All, IsTrue, ◌⊎◌, []};
+ghost use Rattle.std.specs.Prelude.{◌≡◌, ◌<◌, ◌≤◌, ◌^◌, ◌+◌, ◌-◌, ◌*◌, ◌/◌, ℕ, length, map, All, IsTrue, ◌⊎◌, []};
 ghost use Rattle.flac_bits.specs.Rice.{IsResidual};
 ghost use Rattle.flac_subframe.specs.Least.{IsLeast, IsLeastCost};
 ghost use Rattle.flac_subframe.specs.Cost.{MayCode, MayWrite, Codings, codings_of, HalvedTo, ByMethod, coding_cost, partitions_cost, residual_cost, Partitioned};
+ghost use Rattle.flac_subframe.specs.Spelling.{folded};
 ghost use Rattle.flac_subframe.specs.Halves.{part, Halves, entry, LeastBelow, IsWidth, HasWidths};
 
 use crate::coding::Coding;
 use crate::cost::Priced;
+use crate::folding::fold_each;
 use crate::halves::{clear, compare, copy};
 use crate::halving::{ResidualChoice, power};
 use crate::widths::measure;
@@ -183,6 +185,7 @@ fn best_order(
 /// Fills the tables of both methods. A parameter above the width of all values costs more for each of them, and so is not tried.
 fn tabulate(
     values: &[i64],
+    folds: &[u64],
     order: usize,
     halvings: u8,
     sums: &mut [u64],
@@ -192,6 +195,9 @@ fn tabulate(
 )
     requires few { length values.now + order ≤ 65535 }
     requires range { All IsResidual values.now }
+    requires folded { folds.now ≡ map folded values.now }
+    requires small { All (λ n. n < 2 ^ 32) folds.now }
+    requires long { length folds.now ≡ length values.now }
     requires most { halvings ≤ 8 }
     requires halves { Halves order values.now halvings }
     requires sums { 2 ^ halvings ≤ length sums.old }
@@ -210,14 +216,15 @@ fn tabulate(
     let short = enough.min(15);
     clear(four, 2 * count);
     let row = &mut sums[..count];
-    compare(values, order, halvings, 0, short, row, four);
+    compare(values, folds, order, halvings, 0, short, row, four);
     copy(four, five, 2 * count);
-    compare(values, order, halvings, short, enough, row, five);
+    compare(values, folds, order, halvings, short, enough, row, five);
 }
 
 /// The best method and partition order, with the tables of both methods filled.
 fn survey(
     values: &[i64],
+    folds: &[u64],
     order: usize,
     halvings: u8,
     sums: &mut [u64],
@@ -227,6 +234,9 @@ fn survey(
 ) -> Found
     requires few { length values.now + order ≤ 65535 }
     requires range { All IsResidual values.now }
+    requires folded { folds.now ≡ map folded values.now }
+    requires small { All (λ n. n < 2 ^ 32) folds.now }
+    requires long { length folds.now ≡ length values.now }
     requires most { halvings ≤ 8 }
     requires halves { Halves order values.now halvings }
     requires sums { 2 ^ halvings ≤ length sums.old }
@@ -246,8 +256,8 @@ fn survey(
     ensures five_long { length five.new ≡ length five.old }
     ensures widths_long { length widths.new ≡ length widths.old }
 {
-    measure(values, order, halvings, widths);
-    tabulate(values, order, halvings, sums, four, five, widths);
+    measure(values, folds, order, halvings, widths);
+    tabulate(values, folds, order, halvings, sums, four, five, widths);
     let first = best_order(values, order, halvings, 4, four, widths);
     let second = best_order(values, order, halvings, 5, five, widths);
     if second.bits < first.bits {
@@ -298,6 +308,7 @@ fn take_up(
 /// The least form of all for the residual of a predictor of an order, where it takes fewer bits than so many.
 pub(crate) fn least_residual_into(
     values: &[i64],
+    folds: &mut [u64],
     order: usize,
     most: u8,
     sums: &mut [u64],
@@ -311,6 +322,7 @@ pub(crate) fn least_residual_into(
     requires range { All IsResidual values.now }
     requires room { 0 < length values.now }
     requires most { most ≤ 8 }
+    requires folds { length values.now ≤ length folds.old }
     requires sums { 2 ^ most ≤ length sums.old }
     requires four { 2 * 2 ^ most ≤ length four.old }
     requires five { 2 * 2 ^ most ≤ length five.old }
@@ -321,13 +333,16 @@ pub(crate) fn least_residual_into(
     ensures small { IsTrue result → into.new.bits ≤ 2 ^ 49 }
     ensures kept { (IsTrue result → ⊥) → into.new ≡ into.old }
     ensures none { (IsTrue result → ⊥) → (f : Codings) → MayWrite most order values.now f → below ≤ residual_cost order values.now f }
+    ensures folds_long { length folds.new ≡ length folds.old }
     ensures sums_long { length sums.new ≡ length sums.old }
     ensures four_long { length four.new ≡ length four.old }
     ensures five_long { length five.new ≡ length five.old }
     ensures widths_long { length widths.new ≡ length widths.old }
 {
     let halvings = greatest_halvings(values, order, most);
-    let found = survey(values, order, halvings, sums, four, five, widths);
+    let folds = &mut folds[..values.len()];
+    fold_each(values, folds);
+    let found = survey(values, folds, order, halvings, sums, four, five, widths);
     if found.bits >= below {
         return false;
     }

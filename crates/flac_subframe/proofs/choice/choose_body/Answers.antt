@@ -5,6 +5,7 @@ pub loop-order-init : goal.loop-order-init
 loop-order-init c = record {
   best = c.begin-best.ensures c.args.most;
   values = refl;
+  folds = refl;
   sums = refl;
   four = refl;
   five = refl;

@@ -1,9 +1,8 @@
 use Rattle.std.proofs.Common.{◌<◌, ◌^◌, ◌↔◌, ℕ, take, All}
-use Rattle.flac_subframe.specs.Spelling.{folded}
 use Rattle.flac_subframe.proofs.cost.width.Given as goal
 
-abbrev pub invariant-loop-value : goal.invariant-loop-value
-invariant-loop-value l = record {
+abbrev pub invariant-loop-number : goal.invariant-loop-number
+invariant-loop-number l = record {
   small : l.greatest < 2 ^ 32;
-  most : (n : ℕ) → (All (λ r. folded r < 2 ^ n) (take l.value-index l.values) ↔ (l.greatest < 2 ^ n));
+  most : (n : ℕ) → (All (λ k. k < 2 ^ n) (take l.number-index l.folds) ↔ (l.greatest < 2 ^ n));
 }

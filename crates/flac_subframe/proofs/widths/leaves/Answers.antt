@@ -3,6 +3,7 @@ use Rattle.std.proofs.lemmas.Bool.{cases_lt}
 use Rattle.std.proofs.lemmas.List.{get_or-set_same, get_or-set_other}
 use Rattle.flac_subframe.specs.Halves.{part}
 use Rattle.flac_subframe.proofs.Splits.{start_next}
+use Rattle.flac_subframe.proofs.Folds.{segment_width}
 use Rattle.flac_subframe.proofs.widths.leaves.Goals as goal
 
 pub loop-bits-preserved : goal.loop-bits-preserved
@@ -17,7 +18,7 @@ loop-bits-preserved c =
       done = λ j h. elim (cases_lt j i) [
         | inl b ↦ rw (get_or-set_other c.loop-bits.widths i j w 0 (λ e. omega arith)) (so.done j b)
         | inr b ↦ let e : j ≡ i = omega arith in
-            rw (e, get_or-set_same c.loop-bits.widths i w 0 (omega arith), ← so.from, ← so.to) c.width.ensures.least
+            rw (e, get_or-set_same c.loop-bits.widths i w 0 (omega arith), ← so.from, ← so.to) (segment_width w c.loop-bits.from c.loop-bits.to c.args.values.now c.args.folds.now c.requires.folded c.width.ensures.least)
       ];
       small = λ j h. elim (cases_lt j i) [
         | inl b ↦ rw (get_or-set_other c.loop-bits.widths i j w 0 (λ e. omega arith)) (so.small j b)

@@ -1,0 +1,6 @@
+use Rattle.std.proofs.Common.{◌≡◌, take, map}
+use Rattle.flac_subframe.specs.Spelling.{folded}
+use Rattle.flac_subframe.proofs.folding.fold_each.Given as goal
+
+abbrev pub invariant-loop-i : goal.invariant-loop-i
+invariant-loop-i l = take l.i l.folds ≡ map folded (take l.i l.values)
