@@ -6,7 +6,6 @@ use Rattle.std.proofs.Math.Nat.{div-eq_of_lt}
 use Rattle.std.proofs.lemmas.List.{take_all}
 use Rattle.std.proofs.lemmas.List.Sums.{sum_by-cons}
 use Rattle.std.proofs.lemmas.List.Elements.{All-take, All-drop, All-weaker}
-use Rattle.flac_subframe.specs.declared.cost.Priced.{Priced}
 use Rattle.flac_subframe.specs.Spelling.{folded, FitsWidth}
 use Rattle.flac_subframe.specs.Cost.{value_cost}
 use Rattle.flac_subframe.specs.Halves.{start, part, LeastBelow, IsWidth}
@@ -48,11 +47,11 @@ module _ (order w : ℕ) (rs : List ℤ) (width : IsWidth (part order rs 0 0) w)
       All-take (λ r. folded r < 2 ^ w) (to - from) (drop from rs) (All-drop (λ r. folded r < 2 ^ w) from rs all_below)
 
   -- the least of some parameters is the least of more of them
-  pub enough_tried : (k most p j : ℕ) (e : Priced) → 0 < k → k ≤ most → (k ≡ most) ⊎ (w < k) → LeastBelow k (part order rs p j) e → LeastBelow most (part order rs p j) e
+  pub enough_tried : (k most p j e : ℕ) → 0 < k → k ≤ most → (k ≡ most) ⊎ (w < k) → LeastBelow k (part order rs p j) e → LeastBelow most (part order rs p j) e
   enough_tried k most p j e some le (inl same) so = rw same at so
   enough_tried k most p j e some le (inr over) so = record {
     none = λ none. absurd (omega arith);
-    some = λ _. let was = so.some some in (was.0, omega (arith, was.1), was.2, was.3);
+    some = λ _. let was = so.some some in (was.0, omega (arith, was.1), was.2);
     least = λ n h. elim (cases_lt n k) [
       | inl b ↦ so.least n b
       | inr b ↦ omega (arith, so.least w over, each_costs w n (part order rs p j) (part_below p j) (omega arith))

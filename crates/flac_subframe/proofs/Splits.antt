@@ -1,5 +1,5 @@
 -- Partitions are made of two of the next finer order.
-use Rattle.std.proofs.Common.{◌≡◌, ◌∙◌, refl, sym, ap, inl, inr, ℕ, zero, suc, ◌+◌, ◌-◌, ◌*◌, ◌/◌, ◌%◌, ◌^◌, ◌≤◌, ◌<◌, ◌⊎◌, slice_index_or, arith, ℤ, pos, negsuc, add-one, List, ◌++◌, length, take, drop, All}
+use Rattle.std.proofs.Common.{◌≡◌, ◌∙◌, refl, sym, ap, inl, inr, ℕ, zero, suc, ◌+◌, ◌-◌, ◌*◌, ◌/◌, ◌%◌, ◌^◌, ◌≤◌, ◌<◌, ◌⊎◌, slice_index, min, arith, ℤ, pos, negsuc, add-one, List, ◌++◌, length, take, drop, All}
 use Rattle.std.specs.List.{sum_by}
 use Rattle.std.proofs.Math.Nat.{suc-mul, mul_assoc, pow-suc, mul_comm}
 use Rattle.std.proofs.lemmas.List.{take-append-drop, drop-drop, take-take, drop-take, length-take, length-drop}
@@ -7,13 +7,11 @@ use Rattle.std.proofs.lemmas.Nat.{shr-shr, mod-pow-add, pow_pos, shr_le, mul-le}
 use Rattle.std.proofs.lemmas.Int.{ints}
 use Rattle.std.proofs.lemmas.List.Elements.{All-take, All-drop, All-weaker}
 use Rattle.std.proofs.Math.Pow.{mod-mod-pow}
-use Rattle.std.proofs.Math.Nat.{zero-mod, le_refl, div-add-mod}
-use Rattle.std.proofs.lemmas.Bool.{cases_eq, cases_lt, lt-ltb, le-ltb}
+use Rattle.std.proofs.Math.Nat.{zero-mod, div-add-mod}
+use Rattle.std.proofs.lemmas.Bool.{cases_eq, cases_lt}
 use Rattle.std.proofs.lemmas.List.Sums.{sum_by-append, sum_by-le}
 use Rattle.flac_subframe.specs.Cost.{value_cost}
-use Rattle.flac_subframe.specs.Halves.{start, segment, part, Halves, entry, lesser, LeastBelow}
-use Rattle.flac_subframe.specs.declared.cost.Priced.{Priced}
-use Rattle.flac_subframe.specs.declared.coding.Coding.TheVariants.{Rice}
+use Rattle.flac_subframe.specs.Halves.{start, segment, part, Halves, entry, priced, LeastBelow}
 use Rattle.std.proofs.Math.Nat.{pow-le-pow_right}
 use Rattle.flac_bits.specs.Rice.{IsResidual}
 
@@ -88,7 +86,7 @@ pub value_small : (k : ℕ) (x : ℤ) → k < 31 → IsResidual x → value_cost
 value_small k (pos a) small r = omega (arith, ints, r.high, shr_le (2 * a) k)
 value_small k (negsuc a) small r = omega (arith, ints, r.low, shr_le (2 * a + 1) k)
 
-pub part_small : (order k : ℕ) (rs : List ℤ) (p j : ℕ) → k < 31 → length rs ≤ 65535 → All IsResidual rs → sum_by (value_cost k) (part order rs p j) < 2 ^ 60
+pub part_small : (order k : ℕ) (rs : List ℤ) (p j : ℕ) → k < 31 → length rs ≤ 65535 → All IsResidual rs → sum_by (value_cost k) (part order rs p j) < 2 ^ 50
 unfolding part
 part_small order k rs p j small few all =
     let from = start order (length rs + order) p j in
@@ -109,31 +107,41 @@ cost_splits_at order k rs (suc l) j some h =
     rw (e, t) (sym (cost_splits order k rs l j h'))
 
 -- the entry of a table at one partition order is none of the entries at another
-pub entry_kept : (old new : List Priced) (m p j : ℕ) → ((i : ℕ) (d : Priced) → (i < 2 ^ m) ⊎ (2 * 2 ^ m ≤ i) → slice_index_or new i d ≡ slice_index_or old i d) → m < p → entry new p j ≡ entry old p j
-entry_kept old new m p j others h = others (2 ^ p + j) (record { coding = Rice 0; bits = 0 }) (inr (let e : 2 ^ (m + 1) ≤ 2 ^ p = pow-le-pow_right {n = 2} (omega arith) {i = m + 1} {j = p} (omega arith) in omega (arith, power_more (m + 1) (omega arith), ap (λ (n : ℕ). 2 ^ n) (one m))))
+pub entry_kept : (old new : List ℕ) (m p j : ℕ) → ((i : ℕ) → (i < 2 ^ m) ⊎ (2 * 2 ^ m ≤ i) → slice_index new i ≡ slice_index old i) → m < p → entry new p j ≡ entry old p j
+entry_kept old new m p j others h = others (2 ^ p + j) (inr (let e : 2 ^ (m + 1) ≤ 2 ^ p = pow-le-pow_right {n = 2} (omega arith) {i = m + 1} {j = p} (omega arith) in omega (arith, power_more (m + 1) (omega arith), ap (λ (n : ℕ). 2 ^ n) (one m))))
   where
     one : (n : ℕ) → n + 1 - 1 ≡ n
     one n = omega arith
 
 -- one parameter more
-pub least_more : (k : ℕ) (rs : List ℤ) (old : Priced) → sum_by (value_cost k) rs < 2 ^ 60 → LeastBelow k rs old → LeastBelow (k + 1) rs (lesser k (sum_by (value_cost k) rs) old)
+pub least_more : (k : ℕ) (rs : List ℤ) (old : ℕ) → sum_by (value_cost k) rs < 2 ^ 50 → LeastBelow k rs old → LeastBelow (k + 1) rs (min old (priced k (sum_by (value_cost k) rs)))
 least_more k rs old small so =
     let n = sum_by (value_cost k) rs in
-    let same : (m : ℕ) → k ≤ m → m < k + 1 → n ≤ sum_by (value_cost m) rs = λ m g h. let e : m ≡ k = omega arith in rw e (le_refl n) in
-    elim (cases_lt n old.bits) [
-      | inl b ↦ rw (lt-ltb n old.bits b) (record {
-        none = λ e. absurd (omega arith);
-        some = λ _. (k, omega arith, refl, refl);
-        least = λ m h. elim (cases_lt m k) [ inl c ↦ omega (arith, so.least m c) | inr c ↦ same m c h ];
-      })
+    let same : (m : ℕ) → k ≤ m → m < k + 1 → priced m (sum_by (value_cost m) rs) ≡ priced k n = λ m g h. let e : m ≡ k = omega arith in rw e refl in
+    elim (cases_lt (priced k n) old) [
+      | inl b ↦
+          let e : min old (priced k n) ≡ priced k n = omega (arith, b) in
+          rw e (record {
+            none = λ z. absurd (omega arith);
+            some = λ _. (k, omega arith, refl);
+            least = λ m h. elim (cases_lt m k) [ inl c ↦ omega (arith, b, so.least m c) | inr c ↦ omega (arith, same m c h) ];
+          })
       | inr b ↦
-          let some : 0 < k = elim (cases_lt 0 k) [ inl c ↦ c | inr c ↦ absurd (omega (arith, so.none (omega arith))) ] in
-          rw (le-ltb n old.bits b) (record {
-            none = λ e. absurd (omega arith);
-            some = λ _. let was = so.some some in (was.0, omega (arith, was.1), was.2, was.3);
-            least = λ m h. elim (cases_lt m k) [ inl c ↦ so.least m c | inr c ↦ omega (arith, same m c h) ];
+          let some : 0 < k = elim (cases_lt 0 k) [ inl c ↦ c | inr c ↦ absurd (omega (arith, b, small, so.none (omega arith))) ] in
+          let e : min old (priced k n) ≡ old = omega (arith, b) in
+          rw e (record {
+            none = λ z. absurd (omega arith);
+            some = λ _. let was = so.some some in (was.0, omega (arith, was.1), was.2);
+            least = λ m h. elim (cases_lt m k) [ inl c ↦ so.least m c | inr c ↦ omega (arith, b, same m c h) ];
           })
     ]
+
+-- what the pairs of parts of one partition order cost is what the parts of the next coarser one cost
+pub paired : (order k l : ℕ) (rs : List ℤ) (old new : List ℕ) → 0 < l → Halves order rs l → ((j : ℕ) → j < 2 ^ l → slice_index old j ≡ sum_by (value_cost k) (part order rs l j))
+    → ((j : ℕ) → j < 2 ^ (l - 1) → slice_index new j ≡ slice_index old (2 * j) + slice_index old (2 * j + 1)) → (j : ℕ) → j < 2 ^ (l - 1) → slice_index new j ≡ sum_by (value_cost k) (part order rs (l - 1) j)
+paired order k l rs old new some half costs pairs j h =
+    let twice' = power_more l some in
+    pairs j h ∙ rw (costs (2 * j) (omega arith), costs (2 * j + 1) (omega arith)) (cost_splits_at order k rs l j some half)
 
 pub start_rises : (order block p j : ℕ) → start order block p j ≤ start order block p (j + 1)
 start_rises order block p j = let e : (j + 1) * (block / 2 ^ p) ≡ j * (block / 2 ^ p) + block / 2 ^ p = rw add-one (suc-mul j (block / 2 ^ p)) in omega arith

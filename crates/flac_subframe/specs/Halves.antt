@@ -1,8 +1,6 @@
 -- The partitions of a residual at each partition order, and the best coding of each so far.
-use Rattle.std.specs.Prelude.{ℕ, ℤ, ◌≡◌, ◌+◌, ◌-◌, ◌*◌, ◌/◌, ◌%◌, ◌^◌, ◌<◌, ◌≤◌, List, length, take, drop, slice_index_or, slice_index, All, ◌↔◌, if◌then◌else◌, nat_lt}
+use Rattle.std.specs.Prelude.{ℕ, ℤ, ◌≡◌, ◌+◌, ◌-◌, ◌*◌, ◌/◌, ◌%◌, ◌^◌, ◌<◌, ◌≤◌, List, length, take, drop, slice_index, All, ◌↔◌}
 use Rattle.std.specs.List.{sum_by}
-use Rattle.flac_subframe.specs.declared.coding.Coding.TheVariants.{Rice}
-use Rattle.flac_subframe.specs.declared.cost.Priced.{Priced}
 use Rattle.flac_subframe.specs.Cost.{value_cost}
 use Rattle.flac_subframe.specs.Spelling.{FitsWidth}
 
@@ -22,19 +20,19 @@ pub record Halves (order : ℕ) (rs : List ℤ) (p : ℕ) : Type 0 where
   pub even : (length rs + order) % 2 ^ p ≡ 0
   pub room : order < (length rs + order) / 2 ^ p
 
--- an entry of the table after a coding that takes n bits was compared with it
-abbrev pub lesser : ℕ → ℕ → Priced → Priced
-lesser k n old = if nat_lt n old.bits then record { coding = Rice k; bits = n } else old
+-- A Rice parameter and the bits that it takes, in one number: of two, the lesser is the one of fewer bits, and of equals the one of the lower parameter.
+abbrev pub priced : ℕ → ℕ → ℕ
+priced parameter bits = 32 * bits + parameter
 
--- the entry for the partition j at the partition order p
-abbrev pub entry : List Priced → ℕ → ℕ → Priced
-entry table p j = slice_index_or table (2 ^ p + j) (record { coding = Rice 0; bits = 0 })
+-- the number for the partition j at the partition order p
+abbrev pub entry : List ℕ → ℕ → ℕ → ℕ
+entry table p j = slice_index table (2 ^ p + j)
 
--- the entry is the least of the Rice parameters below k; before the first it has the greatest number
-pub record LeastBelow (k : ℕ) (rs : List ℤ) (e : Priced) : Type 0 where
-  pub none : k ≡ 0 → e.bits ≡ 2 ^ 64 - 1
-  pub some : 0 < k → (n : ℕ) × (n < k) × (e.coding ≡ Rice n) × (e.bits ≡ sum_by (value_cost n) rs)
-  pub least : (n : ℕ) → n < k → e.bits ≤ sum_by (value_cost n) rs
+-- the number is the least of the Rice parameters below k; before the first it is the greatest
+pub record LeastBelow (k : ℕ) (rs : List ℤ) (e : ℕ) : Type 0 where
+  pub none : k ≡ 0 → e ≡ 2 ^ 64 - 1
+  pub some : 0 < k → (n : ℕ) × (n < k) × (e ≡ priced n (sum_by (value_cost n) rs))
+  pub least : (n : ℕ) → n < k → e ≤ priced n (sum_by (value_cost n) rs)
 
 -- just the numbers of bits from w on hold each value
 abbrev pub IsWidth : List ℤ → ℕ → Type 0

@@ -7,8 +7,6 @@ ghost use Rattle.flac_bits.specs.Rice.{IsResidual};
 ghost use Rattle.flac_subframe.specs.Bodies.{differences, StandsFor, spelled};
 ghost use Rattle.flac_subframe.specs.Chosen.{body_of, IsBest, fixed_below, priced_as};
 
-use crate::coding::Coding;
-use crate::cost::Priced;
 use crate::halving::ResidualChoice;
 use crate::leaving::take_differences;
 use crate::survey::least_residual_into;
@@ -69,8 +67,8 @@ fn better_fixed(
     values: &mut [i64],
     folds: &mut [u64],
     sums: &mut [u64],
-    four: &mut [Priced],
-    five: &mut [Priced],
+    four: &mut [u64],
+    five: &mut [u64],
     widths: &mut [u8],
     best: &mut Held,
 )
@@ -195,13 +193,9 @@ pub(crate) fn choose_body(
     requires folds { length samples.now ≤ length folds.old }
     ensures { IsBest most bits samples.now (fixed_below 5) result }
 {
-    let none = Priced {
-        coding: Coding::Rice(0),
-        bits: 0,
-    };
     let mut sums = [0; 256];
-    let mut four = [none; 512];
-    let mut five = [none; 512];
+    let mut four = [0; 512];
+    let mut five = [0; 512];
     let mut widths = [0; 512];
     let mut best = begin(samples, bits);
     for order in 0..5 {

@@ -1,15 +1,14 @@
 //! The cost of each partition at each partition order, where each value's cost is worked out once for each parameter: a partition costs as much
 //! as its two halves.
 
-ghost use Rattle.std.specs.Prelude.{◌≡◌, ◌<◌, ◌≤◌, ◌^◌, ◌+◌, ◌-◌, ◌*◌, ◌/◌, ℕ, length, map, All, slice_index, slice_index_or, ◌⊎◌};
+ghost use Rattle.std.specs.Prelude.{◌≡◌, ◌<◌, ◌≤◌, ◌^◌, ◌+◌, ◌-◌, ◌*◌, ◌/◌, ℕ, length, map, min, All, slice_index, ◌⊎◌};
 ghost use Rattle.std.specs.List.{sum_by};
 ghost use Rattle.flac_bits.specs.Rice.{IsResidual};
 ghost use Rattle.flac_subframe.specs.Cost.{value_cost};
 ghost use Rattle.flac_subframe.specs.Spelling.{folded};
-ghost use Rattle.flac_subframe.specs.Halves.{part, Halves, lesser, entry, LeastBelow};
+ghost use Rattle.flac_subframe.specs.Halves.{part, Halves, priced, entry, LeastBelow};
 
-use crate::coding::Coding;
-use crate::cost::{Priced, rice_bits};
+use crate::cost::rice_bits;
 use crate::halving::power;
 
 /// What each partition costs under a parameter, at the finest partition order.
@@ -45,7 +44,7 @@ fn price(
 /// From the costs of partitions to those of the next coarser ones, in place.
 fn pair(sums: &mut [u64], count: usize)
     requires room { 2 * count ≤ length sums.old }
-    requires small { (j : ℕ) → j < 2 * count → slice_index sums.old j < 2 ^ 60 }
+    requires small { (j : ℕ) → j < 2 * count → slice_index sums.old j < 2 ^ 50 }
     ensures { (j : ℕ) → j < count → slice_index sums.new j ≡ slice_index sums.old (2 * j) + slice_index sums.old (2 * j + 1) }
 {
     for j in 0..count {
@@ -54,27 +53,26 @@ fn pair(sums: &mut [u64], count: usize)
 }
 
 /// Compares the cost of each partition with the best so far.
-fn note(sums: &[u64], best: &mut [Priced], parameter: u8)
-    requires { length best.old ≤ length sums.now }
-    ensures { (j : ℕ) (d : Priced) → j < length best.old → slice_index_or best.new j d ≡ lesser parameter (slice_index sums.now j) (slice_index_or best.old j d) }
+fn note(sums: &[u64], best: &mut [u64], parameter: u8)
+    requires few { parameter < 32 }
+    requires places { length best.old ≤ length sums.now }
+    requires small { (j : ℕ) → j < length best.old → slice_index sums.now j < 2 ^ 50 }
+    ensures { (j : ℕ) → j < length best.old → slice_index best.new j ≡ min (slice_index best.old j) (priced parameter (slice_index sums.now j)) }
 {
     for (j, entry) in best.iter_mut().enumerate() {
-        if sums[j] < entry.bits {
-            *entry = Priced {
-                coding: Coding::Rice(parameter),
-                bits: sums[j],
-            };
-        }
+        *entry = (*entry).min(32 * sums[j] + u64::from(parameter));
     }
 }
 
 /// The same at one partition order, whose entries stand one after another in the table.
-fn note_level(sums: &[u64], table: &mut [Priced], halvings: u8, parameter: u8)
+fn note_level(sums: &[u64], table: &mut [u64], halvings: u8, parameter: u8)
+    requires few { parameter < 32 }
     requires most { halvings ≤ 8 }
     requires sums { 2 ^ halvings ≤ length sums.now }
+    requires small { (j : ℕ) → j < 2 ^ halvings → slice_index sums.now j < 2 ^ 50 }
     requires table { 2 * 2 ^ halvings ≤ length table.old }
-    ensures level { (j : ℕ) → j < 2 ^ halvings → entry table.new halvings j ≡ lesser parameter (slice_index sums.now j) (entry table.old halvings j) }
-    ensures others { (i : ℕ) (d : Priced) → (i < 2 ^ halvings) ⊎ (2 * 2 ^ halvings ≤ i) → slice_index_or table.new i d ≡ slice_index_or table.old i d }
+    ensures level { (j : ℕ) → j < 2 ^ halvings → entry table.new halvings j ≡ min (entry table.old halvings j) (priced parameter (slice_index sums.now j)) }
+    ensures others { (i : ℕ) → (i < 2 ^ halvings) ⊎ (2 * 2 ^ halvings ≤ i) → slice_index table.new i ≡ slice_index table.old i }
 {
     let first = power(halvings);
     note(sums, &mut table[first..2 * first], parameter);
@@ -88,7 +86,7 @@ fn pass(
     halvings: u8,
     parameter: u8,
     sums: &mut [u64],
-    table: &mut [Priced],
+    table: &mut [u64],
 )
     requires few { length values.now + order ≤ 65535 }
     requires range { All IsResidual values.now }
@@ -101,7 +99,7 @@ fn pass(
     requires sums { length sums.old ≡ 2 ^ halvings }
     requires table { 2 * 2 ^ halvings ≤ length table.old }
     ensures kept { length table.new ≡ length table.old }
-    ensures entries { (p j : ℕ) → p ≤ halvings → j < 2 ^ p → entry table.new p j ≡ lesser parameter (sum_by (value_cost parameter) (part order values.now p j)) (entry table.old p j) }
+    ensures entries { (p j : ℕ) → p ≤ halvings → j < 2 ^ p → entry table.new p j ≡ min (entry table.old p j) (priced parameter (sum_by (value_cost parameter) (part order values.now p j))) }
 {
     price(values, folds, order, halvings, parameter, sums);
     note_level(sums, table, halvings, parameter);
@@ -122,7 +120,7 @@ pub(crate) fn compare(
     from: u8,
     parameters: u8,
     sums: &mut [u64],
-    table: &mut [Priced],
+    table: &mut [u64],
 )
     requires few { length values.now + order ≤ 65535 }
     requires range { All IsResidual values.now }
@@ -145,23 +143,20 @@ pub(crate) fn compare(
 }
 
 /// Makes the first entries of a table ready, before any parameter is compared.
-pub(crate) fn clear(table: &mut [Priced], count: usize)
+pub(crate) fn clear(table: &mut [u64], count: usize)
     requires { count ≤ length table.old }
-    ensures { (i : ℕ) (d : Priced) → i < count → (slice_index_or table.new i d).bits ≡ 2 ^ 64 - 1 }
+    ensures { (i : ℕ) → i < count → slice_index table.new i ≡ 2 ^ 64 - 1 }
 {
     for i in 0..count {
-        table[i] = Priced {
-            coding: Coding::Rice(0),
-            bits: 0xFFFF_FFFF_FFFF_FFFF,
-        };
+        table[i] = 0xFFFF_FFFF_FFFF_FFFF;
     }
 }
 
 /// The first entries of a table, in another.
-pub(crate) fn copy(from: &[Priced], to: &mut [Priced], count: usize)
+pub(crate) fn copy(from: &[u64], to: &mut [u64], count: usize)
     requires from { count ≤ length from.now }
     requires to { count ≤ length to.old }
-    ensures { (i : ℕ) (d : Priced) → i < count → slice_index_or to.new i d ≡ slice_index_or from.now i d }
+    ensures { (i : ℕ) → i < count → slice_index to.new i ≡ slice_index from.now i }
 {
     for i in 0..count {
         to[i] = from[i];

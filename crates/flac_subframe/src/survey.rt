@@ -41,8 +41,8 @@ fn greatest_halvings(values: &[i64], order: usize, most: u8) -> u8
     most
 }
 
-/// The least coding of a partition, from its least parameter and its width.
-fn finish(values: &[i64], parameter_bits: u8, best: Priced, width: u8) -> Priced
+/// The least coding of a partition, from its entry in the table and its width.
+fn finish(values: &[i64], parameter_bits: u8, best: u64, width: u8) -> Priced
     requires few { length values.now ≤ 65535 }
     requires range { All IsResidual values.now }
     requires method { (parameter_bits ≡ 4) ⊎ (parameter_bits ≡ 5) }
@@ -54,13 +54,17 @@ fn finish(values: &[i64], parameter_bits: u8, best: Priced, width: u8) -> Priced
     ensures small { result.bits ≤ 2 ^ 33 * length values.now + 5 }
 {
     let bits = 5 + u64::from(width) * values.len() as u64;
-    if width < 32 && bits < best.bits {
+    let least = best / 32;
+    if width < 32 && bits < least {
         Priced {
             coding: Coding::Escape(width),
             bits,
         }
     } else {
-        best
+        Priced {
+            coding: Coding::Rice((best % 32) as u8),
+            bits: least,
+        }
     }
 }
 
@@ -70,7 +74,7 @@ fn total(
     order: usize,
     halvings: u8,
     parameter_bits: u8,
-    table: &[Priced],
+    table: &[u64],
     widths: &[u8],
 ) -> u64
     requires few { length values.now + order ≤ 65535 }
@@ -106,7 +110,7 @@ fn gather(
     order: usize,
     halvings: u8,
     parameter_bits: u8,
-    table: &[Priced],
+    table: &[u64],
     widths: &[u8],
     codings: &mut ArrayVec<Coding, 256>,
 ) -> u64
@@ -146,7 +150,7 @@ fn best_order(
     order: usize,
     halvings: u8,
     parameter_bits: u8,
-    table: &[Priced],
+    table: &[u64],
     widths: &[u8],
 ) -> Found
     requires few { length values.now + order ≤ 65535 }
@@ -189,8 +193,8 @@ fn tabulate(
     order: usize,
     halvings: u8,
     sums: &mut [u64],
-    four: &mut [Priced],
-    five: &mut [Priced],
+    four: &mut [u64],
+    five: &mut [u64],
     widths: &[u8],
 )
     requires few { length values.now + order ≤ 65535 }
@@ -228,8 +232,8 @@ fn survey(
     order: usize,
     halvings: u8,
     sums: &mut [u64],
-    four: &mut [Priced],
-    five: &mut [Priced],
+    four: &mut [u64],
+    five: &mut [u64],
     widths: &mut [u8],
 ) -> Found
     requires few { length values.now + order ≤ 65535 }
@@ -273,7 +277,7 @@ fn take_up(
     order: usize,
     found: Found,
     most: u8,
-    table: &[Priced],
+    table: &[u64],
     widths: &[u8],
     into: &mut ResidualChoice,
 )
@@ -312,8 +316,8 @@ pub(crate) fn least_residual_into(
     order: usize,
     most: u8,
     sums: &mut [u64],
-    four: &mut [Priced],
-    five: &mut [Priced],
+    four: &mut [u64],
+    five: &mut [u64],
     widths: &mut [u8],
     below: u64,
     into: &mut ResidualChoice,

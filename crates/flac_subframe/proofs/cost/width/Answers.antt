@@ -1,4 +1,4 @@
-use Rattle.std.proofs.Common.{arith, ◌≡◌, ◌<◌, ◌≤◌, ◌^◌, length}
+use Rattle.std.proofs.Common.{arith, ◌<◌, ◌≤◌, ◌^◌, length}
 use Rattle.std.proofs.lemmas.List.{take_all}
 use Rattle.flac_subframe.proofs.Digits.{All_step, digits_least}
 use Rattle.flac_subframe.proofs.cost.width.Goals as goal

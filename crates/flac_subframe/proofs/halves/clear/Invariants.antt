@@ -1,6 +1,5 @@
 use Rattle.std.proofs.Common.{◌≡◌, ◌-◌, ◌^◌, ◌<◌, ℕ, get_or}
-use Rattle.flac_subframe.specs.declared.cost.Priced.{Priced}
 use Rattle.flac_subframe.proofs.halves.clear.Given as goal
 
 abbrev pub invariant-loop-i : goal.invariant-loop-i
-invariant-loop-i l = (j : ℕ) (d : Priced) → j < l.i → (get_or l.table j d).bits ≡ 2 ^ 64 - 1
+invariant-loop-i l = (j : ℕ) → j < l.i → get_or l.table j 0 ≡ 2 ^ 64 - 1

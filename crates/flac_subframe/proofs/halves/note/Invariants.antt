@@ -1,10 +1,9 @@
-use Rattle.std.proofs.Common.{◌≡◌, ◌≤◌, ◌<◌, ℕ, get_or}
-use Rattle.flac_subframe.specs.declared.cost.Priced.{Priced}
-use Rattle.flac_subframe.specs.Halves.{lesser}
+use Rattle.std.proofs.Common.{◌≡◌, ◌≤◌, ◌<◌, ℕ, get_or, min}
+use Rattle.flac_subframe.specs.Halves.{priced}
 use Rattle.flac_subframe.proofs.halves.note.Given as goal
 
 abbrev pub invariant-loop-j : goal.invariant-loop-j
 invariant-loop-j l = record {
-  done : (i : ℕ) (d : Priced) → i < l.j → get_or l.best i d ≡ lesser l.parameter (get_or l.sums i 0) (get_or l.fn.best i d);
-  rest : (i : ℕ) (d : Priced) → l.j ≤ i → get_or l.best i d ≡ get_or l.fn.best i d;
+  done : (i : ℕ) → i < l.j → get_or l.best i 0 ≡ min (get_or l.fn.best i 0) (priced l.parameter (get_or l.sums i 0));
+  rest : (i : ℕ) → l.j ≤ i → get_or l.best i 0 ≡ get_or l.fn.best i 0;
 }

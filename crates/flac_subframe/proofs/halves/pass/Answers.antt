@@ -1,10 +1,7 @@
-use Rattle.std.proofs.Common.{arith, ◌≡◌, ◌∙◌, ◌+◌, ◌-◌, ◌*◌, ◌^◌, ◌≤◌, ◌<◌, ℕ, slice_index, inl, inr, refl}
-use Rattle.std.specs.List.{sum_by}
+use Rattle.std.proofs.Common.{arith, ◌≡◌, ◌∙◌, ◌+◌, ◌-◌, ◌*◌, ◌^◌, ◌≤◌, ◌<◌, ℕ, inl, inr, refl}
 use Rattle.std.proofs.lemmas.Bool.{cases_lt}
 use Rattle.std.proofs.Math.Nat.{pow-le-pow_right}
-use Rattle.flac_subframe.specs.Cost.{value_cost}
-use Rattle.flac_subframe.specs.Halves.{part}
-use Rattle.flac_subframe.proofs.Splits.{power_more, halves_at, cost_splits_at, part_small, entry_kept}
+use Rattle.flac_subframe.proofs.Splits.{power_more, halves_at, paired, part_small, entry_kept}
 use Rattle.flac_subframe.proofs.halves.pass.Goals as goal
 
 room : (a b : ℕ) → 0 < a → a ≤ b → 2 * 2 ^ (a - 1) ≤ 2 ^ b
@@ -24,6 +21,18 @@ note_level-requires-in-loop-level-clause-sums c = omega (arith, room c.loop-leve
 pub note_level-requires-in-loop-level-clause-table : goal.note_level-requires-in-loop-level-clause-table
 note_level-requires-in-loop-level-clause-table c = omega (arith, room c.loop-level.level c.args.halvings c.loop-level-test.true c.loop-level.invariant.within)
 
+pub note_level-requires-clause-small : goal.note_level-requires-clause-small
+note_level-requires-clause-small c = λ j h.
+    rw (c.price.ensures.costs j h) (part_small c.args.order c.args.parameter c.args.values.now c.args.halvings j c.requires.parameter (omega arith) c.requires.range)
+
+pub note_level-requires-in-loop-level-clause-small : goal.note_level-requires-in-loop-level-clause-small
+note_level-requires-in-loop-level-clause-small c = λ j h.
+    let l = c.loop-level.level in
+    let k = c.args.parameter in let order = c.args.order in let rs = c.args.values.now in
+    let so = c.loop-level.invariant in
+    let half = halves_at order rs c.args.halvings l so.within c.requires.halves in
+    rw (paired order k l rs c.loop-level.sums c.pair.new.sums c.loop-level-test.true half so.costs (λ i b. c.pair.ensures i (omega arith)) j h) (part_small order k rs (l - 1) j c.requires.parameter (omega arith) c.requires.range)
+
 pub loop-level-preserved : goal.loop-level-preserved
 loop-level-preserved c =
     let l = c.loop-level.level in let m = l - 1 in
@@ -31,9 +40,7 @@ loop-level-preserved c =
     let so = c.loop-level.invariant in
     let half = halves_at order rs c.args.halvings l so.within c.requires.halves in
     let twice = power_more l c.loop-level-test.true in
-    let costs : (j : ℕ) → j < 2 ^ m → slice_index c.pair.new.sums j ≡ sum_by (value_cost k) (part order rs m j) = λ j h.
-    c.pair.ensures j (omega arith)
-    ∙ rw (so.costs (2 * j) (omega arith), so.costs (2 * j + 1) (omega arith)) (cost_splits_at order k rs l j c.loop-level-test.true half) in
+    let costs = paired order k l rs c.loop-level.sums c.pair.new.sums c.loop-level-test.true half so.costs (λ i b. c.pair.ensures i (omega arith)) in
     let n = c.note_level-in-loop-level.ensures in
     record {
       within = omega arith;
@@ -41,7 +48,7 @@ loop-level-preserved c =
       noted = λ p j g h b. elim (cases_lt m p) [
         | inl more ↦ entry_kept c.loop-level.table c.note_level-in-loop-level.new.table m p j n.others more ∙ so.noted p j (omega arith) h b
         | inr same ↦ let is : p ≡ m = omega arith in
-            rw is (n.level j (rw is at b) ∙ rw (costs j (rw is at b), so.rest (2 ^ m + j) _ (let b' : j < 2 ^ m = rw is at b in omega arith)) refl)
+            rw is (n.level j (rw is at b) ∙ rw (costs j (rw is at b), so.rest (2 ^ m + j) (let b' : j < 2 ^ m = rw is at b in omega arith)) refl)
       ];
-      rest = λ i d h. n.others i d (inl h) ∙ so.rest i d (omega arith);
+      rest = λ i h. n.others i (inl h) ∙ so.rest i (omega arith);
     }

@@ -1,20 +1,21 @@
-use Rattle.std.proofs.Common.{arith, inl, inr}
+use Rattle.std.proofs.Common.{arith, inl, inr, ◌%◌}
+use Rattle.flac_subframe.specs.declared.coding.Coding.TheVariants.{Rice}
 use Rattle.flac_subframe.proofs.CodingLeast.{rice_is_least, escape_is_least}
 use Rattle.flac_subframe.proofs.Entries.{entry_member, entry_bits, entry_least, entry_small}
 use Rattle.flac_subframe.proofs.survey.finish.Goals as goal
 
-pub returns-then-bits-best-clause-least : goal.returns-then-bits-best-clause-least
-returns-then-bits-best-clause-least c =
+pub returns-then-bits-least-clause-least : goal.returns-then-bits-least-clause-least
+returns-then-bits-least-clause-least c =
     let w = c.args.parameter_bits in let rs = c.args.values.now in let e = c.args.best in
     let m = c.requires.method in let so = c.requires.best in
-    escape_is_least w rs e.coding c.args.width (entry_member w rs e m so) (entry_least w rs e m so) c.requires.width c.if-width-lt32.true
+    escape_is_least w rs (Rice (e % 32)) c.args.width (entry_member w rs e m so) (entry_least w rs e m so) c.requires.width c.if-width-lt32.true
     (rw (← c.from.ensures, ← entry_bits w rs e m so) (omega arith))
 
 pub returns-else-width-lt32-clause-least : goal.returns-else-width-lt32-clause-least
 returns-else-width-lt32-clause-least c =
     let w = c.args.parameter_bits in let rs = c.args.values.now in let e = c.args.best in
     let m = c.requires.method in let so = c.requires.best in
-    rice_is_least w rs e.coding c.args.width (entry_member w rs e m so) (entry_least w rs e m so) c.requires.width
+    rice_is_least w rs (Rice (e % 32)) c.args.width (entry_member w rs e m so) (entry_least w rs e m so) c.requires.width
     (elim c.else-width-lt32.either [ inl h ↦ inr (rw (← c.from.ensures, ← entry_bits w rs e m so) h.1) | inr h ↦ inl h ])
 
 pub returns-else-width-lt32-clause-small : goal.returns-else-width-lt32-clause-small
