@@ -4,3 +4,5 @@ pub mod Turns
 pub mod Stepping
 pub mod Exits
 pub mod PacketMeaning
+pub mod Cut
+pub mod PageTie

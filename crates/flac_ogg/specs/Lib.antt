@@ -2,3 +2,4 @@ pub mod Page
 pub mod Pages
 pub mod Packets
 pub mod Given
+pub mod Written

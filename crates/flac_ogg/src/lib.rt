@@ -7,12 +7,14 @@ mod page;
 mod pages;
 mod promises;
 mod room;
+mod writing;
 
 pub use packet_bytes::PacketBytes;
 pub use page::{Before, Head};
 pub use pages::Pages;
-pub use promises::packets_are_given;
+pub use promises::{packets_are_given, pages_are_spelled, pages_have_packets};
 pub use room::{PageRoom, next_page};
+pub use writing::{PacketMarks, page_sum, write_packet, write_page};
 
 #[cfg(test)]
 mod tests;

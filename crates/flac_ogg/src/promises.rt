@@ -1,8 +1,20 @@
 //! What holds of the definitions.
 
 ghost use Rattle.flac_ogg.specs.Given.{PacketsAreGiven};
+ghost use Rattle.flac_ogg.specs.Written.{PagesAreSpelled, PagesAreReadAgain, PagesHavePackets};
 
 /// Where pages have packets (RFC 3533, section 6), the one that was begun gives its bytes, and behind it are the further ones.
 pub fn packets_are_given()
     ensures { PacketsAreGiven }
+{}
+
+/// At each place bits spell just the pages that may stand there, each in one way; and what is spelled is read again, whatever follows.
+pub fn pages_are_spelled()
+    ensures spelled { PagesAreSpelled }
+    ensures again { PagesAreReadAgain }
+{}
+
+/// The pages of a packet, as [`crate::write_packet`] writes them, have just this packet.
+pub fn pages_have_packets()
+    ensures { PagesHavePackets }
 {}

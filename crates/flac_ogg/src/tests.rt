@@ -1,6 +1,7 @@
 use crate::packet_bytes::PacketBytes;
 use crate::pages::Pages;
-use flac_bits::{BitReader, Memory, Pieces, Source, Why};
+use crate::writing::{PacketMarks, write_packet};
+use flac_bits::{BitReader, BitWriter, Collected, Memory, Pieces, Source, Why};
 use std::alloc::Global;
 use std::test::Fail;
 
@@ -120,5 +121,59 @@ fn packets_of_full_segments(rt: HostRuntime) -> Result<(), Fail> {
     two[368] = 1;
     let broken = packets(rt.alloc(), Memory::new(&two))?;
     assert_eq!(rt; broken, ([51, 0, 0, 0, 0], Some((2, Why::PageCheck))));
+    Ok(())
+}
+
+#[test]
+fn writes_the_pages_of_a_stream(rt: HostRuntime) -> Result<(), Fail> {
+    let mut writer = BitWriter::new(Collected::new(rt.alloc()));
+    let mut marks = PacketMarks {
+        serial: 1,
+        sequence: 0,
+        granule: 0,
+        first: true,
+        last: false,
+    };
+    for range in [28..79, 107..151, 179..201] {
+        marks.sequence = write_packet(marks, &STREAM[range], &mut writer)?;
+        marks.first = false;
+    }
+    marks.granule = 16;
+    marks.last = true;
+    assert_eq!(rt; write_packet(marks, &STREAM[229..], &mut writer)?, 4);
+    writer.finish()?;
+    assert_eq!(rt; writer.into_target().bytes(), STREAM.as_slice());
+    Ok(())
+}
+
+/// The flags, granule, number and lacing values of a page, which begins so.
+fn front(bytes: &[u8]) -> (u8, u8, u8, u8, u8) {
+    (bytes[5], bytes[6], bytes[18], bytes[26], bytes[27])
+}
+
+#[test]
+fn writes_packets_of_whole_segments(rt: HostRuntime) -> Result<(), Fail> {
+    let zeros = vec![in rt.alloc(); 0u8; 65025]?;
+    let marks = PacketMarks {
+        serial: 1,
+        sequence: 7,
+        granule: 5,
+        first: false,
+        last: true,
+    };
+    let mut writer = BitWriter::new(Collected::new(rt.alloc()));
+    assert_eq!(rt; write_packet(marks, &zeros.as_slice()[..255], &mut writer)?, 8);
+    assert_eq!(rt; write_packet(marks, &zeros.as_slice()[..510], &mut writer)?, 8);
+    assert_eq!(rt; write_packet(marks, &zeros, &mut writer)?, 9);
+    writer.finish()?;
+    let target = writer.into_target();
+    let bytes = target.bytes();
+    assert_eq!(rt; bytes.len(), 27 + 2 + 255 + 27 + 3 + 510 + 27 + 255 + 65025 + 27 + 1);
+    assert_eq!(rt; (front(bytes), bytes[28]), ((4, 5, 7, 2, 255), 0));
+    let second = &bytes[284..];
+    assert_eq!(rt; (front(second), second[28], second[29]), ((4, 5, 7, 3, 255), 255, 0));
+    let third = &second[540..];
+    assert_eq!(rt; (front(third), third[281]), ((0, 255, 7, 255, 255), 255));
+    assert_eq!(rt; front(&third[65307..]), (5, 5, 8, 1, 0));
     Ok(())
 }
