@@ -5,11 +5,10 @@ use Rattle.std.proofs.Math.Nat.{mul_comm, suc-mul}
 use Rattle.std.proofs.Math.Seq.{take-add}
 use Rattle.std.proofs.lemmas.List.Concat.{flat_map-cons}
 use Rattle.std.proofs.lemmas.List.{append-nil, drop-drop, take-replicate, drop-replicate, drop-append-le, take-append-le, take_more_set, take_all, length-replicate, length-drop}
-
 use Rattle.flac_ogg.specs.declared.page.Head.{Head}
 use Rattle.flac_ogg.specs.declared.writing.PacketMarks.{PacketMarks}
 use Rattle.flac_ogg.specs.Page.{Page, page_spelling}
-use Rattle.flac_ogg.specs.Packets.{Packets, lacing_of}
+use Rattle.flac_ogg.specs.Packets.{lacing_of}
 use Rattle.flac_ogg.specs.Written.{page_at, head_at, summed, PagesHavePackets}
 
 -- where no more than whole pages are taken off, the lacing values behind them

@@ -1,9 +1,9 @@
 -- The exits of the calls of a reader of packets.
-use Rattle.std.proofs.Common.{◌≡◌, ℕ, ◌+◌, ◌*◌, ◌<◌, ◌≤◌, Bool, true, false, List, [], ◌∷◌, length, Option, Some, None, Result, Ok, Err, refl, sym, ap, subst, ◌∙◌, arith, ◌^◌}
+use Rattle.std.proofs.Common.{◌≡◌, ℕ, ◌<◌, ◌≤◌, Bool, true, false, List, [], ◌∷◌, length, Option, Some, None, Result, Ok, Err, refl, sym, ap, subst, ◌∙◌, arith, ◌^◌}
 use Rattle.std.specs.Prelude.{⊤}
 use Rattle.flac_bits.specs.declared.why.Why.{Why}
 use Rattle.flac_ogg.specs.Pages.{end_fault}
-use Rattle.flac_ogg.specs.Packets.{Place, Ahead, ahead, rest_of, behind_of, only_fault, next_segment, Turns, Steps, Begins, ended}
+use Rattle.flac_ogg.specs.Packets.{Place, Ahead, ahead, only_fault, next_segment, Turns, Steps, Begins, ended}
 use Rattle.flac_ogg.proofs.Stepping.{Same, Waits, segment_same, same_ahead, packet_over, pages_over, broken_ahead, closed_ahead}
 
 abbrev turn_ok : Result ⊤ Why

@@ -1,9 +1,7 @@
 -- The bytes of a packet that was begun are the first packet's.
-use Rattle.std.proofs.Common.{◌≡◌, ℕ, zero, suc, ◌+◌, ◌*◌, ◌/◌, ◌%◌, ◌<◌, Bool, true, false, cond, nat_eq, List, [], ◌∷◌, ◌++◌, length, take, drop, replicate, Option, Some, None, refl, sym, ap, ◌∙◌, arith, append_assoc}
+use Rattle.std.proofs.Common.{◌≡◌, ℕ, zero, suc, ◌+◌, ◌*◌, ◌/◌, ◌%◌, ◌<◌, true, false, nat_eq, List, [], ◌∷◌, ◌++◌, length, take, drop, replicate, refl, ap, ◌∙◌, arith, append_assoc}
 use Rattle.std.specs.List.{flat_map}
 use Rattle.std.proofs.Math.Seq.{take-append_seam, drop-append_seam}
-use Rattle.flac_bits.specs.State.{Behind}
-use Rattle.flac_bits.specs.declared.why.Why.{Why}
 use Rattle.flac_ogg.specs.Page.{Page}
 use Rattle.flac_ogg.specs.Packets.{Place, Ahead, Packets, ahead, size, ends, past_packet, left_in, lacing_of, rest_of, behind_of, rest_in, behind_in, to_come}
 use Rattle.flac_ogg.specs.Given.{whole_packet}

@@ -1,9 +1,9 @@
 -- A page behind its first byte.
-use Rattle.std.proofs.Common.{◌≡◌, ℕ, Bool, true, false, cond, List, [], ◌∷◌, Option, Some, None, Result, Ok, Err, refl, sym, ap, ◌∙◌}
+use Rattle.std.proofs.Common.{◌≡◌, ℕ, Bool, true, false, cond, List, [], ◌∷◌, Option, Some, None, Result, Ok, Err, refl, ap, ◌∙◌}
 use Rattle.std.specs.Prelude.{⊤}
 use Rattle.std.specs.List.{sum}
 use Rattle.flac_bits.specs.State.{Cursor}
-use Rattle.flac_bits.specs.Layout.{Layout, bits, run, and_then, unless_broken, Rule, Reason, because}
+use Rattle.flac_bits.specs.Layout.{bits, run, and_then, unless_broken, Rule, Reason, because}
 use Rattle.flac_bits.specs.Lists.{list_of}
 use Rattle.flac_bits.specs.declared.why.Why.{Why}
 use Rattle.flac_ogg.specs.declared.page.Before.{Before}

@@ -1,5 +1,5 @@
 -- The sum of a page, part by part.
-use Rattle.std.proofs.Common.{◌≡◌, ℕ, List, [], ◌∷◌, ◌++◌, Bool, refl, sym, ap, ◌∙◌}
+use Rattle.std.proofs.Common.{◌≡◌, ℕ, List, [], ◌∷◌, Bool, refl, sym, ◌∙◌}
 use Rattle.std.proofs.Common.{length}
 use Rattle.std.specs.Int.{to_le_bytes, w32, w64}
 use Rattle.flac_bits.specs.Bits.{bits_of}

@@ -1,19 +1,19 @@
 -- The layout of a page spells pages, and each of them in one way.
-use Rattle.std.proofs.Common.{◌≡◌, ℕ, ◌+◌, ◌*◌, ◌/◌, ◌%◌, ◌<◌, ◌^◌, Bool, true, false, not, ◌||◌, nat_eq, List, [], ◌∷◌, ◌++◌, length, Option, Ok, ◌↔◌, refl, sym, ap, subst, ◌∙◌, arith}
+use Rattle.std.proofs.Common.{◌≡◌, ℕ, ◌+◌, ◌*◌, ◌/◌, ◌%◌, ◌<◌, ◌^◌, Bool, false, not, ◌||◌, nat_eq, List, [], ◌∷◌, ◌++◌, length, Option, refl, sym, subst, arith}
 use Rattle.std.specs.Int.{to_le_bytes, byte_at, w32, w64}
 use Rattle.std.specs.List.{sum}
 use Rattle.std.proofs.lemmas.Bool.Decides.{nat_tests}
 use Rattle.flac_bits.specs.Bits.{unsigned, bits_of}
-use Rattle.flac_bits.specs.State.{Mark, past}
+use Rattle.flac_bits.specs.State.{Mark}
 use Rattle.flac_bits.specs.Layout.{bits}
 use Rattle.flac_bits.specs.Lists.{list_of}
 use Rattle.flac_bits.specs.Forms.{Ties, IsBytes}
-use Rattle.flac_bits.specs.Meaning.{Spells, AllKept}
+use Rattle.flac_bits.specs.Meaning.{Spells}
 use Rattle.flac_bits.proofs.Meaning.{again}
 use Rattle.flac_bits.proofs.Ties.{tie, each_tied, some_tied, bytes_tie}
 use Rattle.flac_ogg.specs.declared.page.Before.{Before}
 use Rattle.flac_ogg.specs.declared.page.Head.{Head}
-use Rattle.flac_ogg.specs.Page.{Page, page, page_behind, head_behind, little_32, little_64, page_spelling, end_rules}
+use Rattle.flac_ogg.specs.Page.{Page, page, page_behind, head_behind, little_32, little_64, page_spelling}
 use Rattle.flac_ogg.specs.Written.{IsPage, PagesAreSpelled, PagesAreReadAgain}
 
 -- ---- numbers, the lowest byte first
@@ -70,7 +70,7 @@ little_64_tie m = tie little_64 m (λ v. v < 2 ^ 64) le64
     (omega arith, eight (l + 4294967296 * h) l h (omega arith) (omega arith) (omega arith)))))
     (λ v small.
     some_tied little_32 _ (λ v. v < 2 ^ 32) le32 _ (low v) (little_32_tie _) (omega arith)
-        (some_tied little_32 _ (λ v. v < 2 ^ 32) le32 _ (high v) (little_32_tie _) (omega arith) (eight v (low v) (high v) refl refl small, omega arith)))
+    (some_tied little_32 _ (λ v. v < 2 ^ 32) le32 _ (high v) (little_32_tie _) (omega arith) (eight v (low v) (high v) refl refl small, omega arith)))
 
 -- ---- the fixed fields
 

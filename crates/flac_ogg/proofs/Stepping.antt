@@ -1,17 +1,15 @@
 -- What a step of a reader of packets keeps.
-use Rattle.std.proofs.Common.{◌≡◌, ℕ, zero, suc, ◌+◌, ◌*◌, ◌<◌, ◌≤◌, Bool, true, false, cond, nat_eq, List, [], ◌∷◌, ◌++◌, length, take, drop, get_or, Option, Some, None, Result, Ok, Err, refl, sym, ap, ◌∙◌, arith, ◌^◌, ◌-◌, add-one, append_assoc, length-drop}
-use Rattle.std.specs.Prelude.{◌&&◌, not, min}
+use Rattle.std.proofs.Common.{◌≡◌, ℕ, zero, suc, ◌+◌, ◌<◌, ◌≤◌, Bool, true, false, cond, nat_eq, List, [], ◌∷◌, ◌++◌, length, take, drop, get_or, Option, Some, None, Ok, Err, refl, sym, ap, ◌∙◌, arith, ◌^◌, ◌-◌, add-one, append_assoc, length-drop}
+use Rattle.std.specs.Prelude.{◌&&◌, not}
 use Rattle.std.specs.List.{sum, fold, flat_map}
 use Rattle.std.proofs.Math.Seq.{take-suc, drop-cons, take-append-add, drop-append_seam}
-use Rattle.std.proofs.lemmas.List.{drop_all, length-take, take-append-drop, drop-take}
-use Rattle.std.specs.Borrow.{GName}
-use Rattle.flac_bits.specs.State.{Cursor, Behind}
+use Rattle.std.proofs.lemmas.List.{drop_all, length-take, take-append-drop}
+use Rattle.flac_bits.specs.State.{Behind}
 use Rattle.flac_bits.specs.Layout.{because}
 use Rattle.flac_bits.specs.declared.why.Why.{Why}
-use Rattle.flac_ogg.specs.declared.page.Before.{Before}
 use Rattle.flac_ogg.specs.Page.{Page, is_last, after, goes_on_behind}
-use Rattle.flac_ogg.specs.Pages.{Run, Stop, closed, broken, one, none, next_page, pages_of, pages_behind, end_fault}
-use Rattle.flac_ogg.specs.Packets.{Place, Ahead, ahead, size, ends, past_packet, to_come, rest_of, behind_of, rest_in, behind_in, left_in, only_fault, broken_off, fault_of, stop_of, at_page, page_index, next_segment, Copies}
+use Rattle.flac_ogg.specs.Pages.{Stop, closed, broken, one, next_page, pages_of, pages_behind, end_fault}
+use Rattle.flac_ogg.specs.Packets.{Place, Ahead, ahead, size, ends, past_packet, to_come, rest_of, behind_of, rest_in, behind_in, only_fault, broken_off, fault_of, stop_of, at_page, page_index, next_segment, Copies}
 use Rattle.flac_ogg.proofs.Turns.{good_turn, bad_turn}
 
 -- what a step keeps

@@ -1,14 +1,13 @@
 -- One page more.
-use Rattle.std.proofs.Common.{◌≡◌, ℕ, zero, suc, ◌+◌, ◌<◌, ◌≤◌, Bool, true, false, cond, List, [], ◌∷◌, ◌++◌, length, Option, Some, None, Result, Ok, Err, refl, sym, ap, ◌∙◌, arith}
+use Rattle.std.proofs.Common.{◌≡◌, ℕ, zero, suc, ◌+◌, ◌<◌, Bool, true, false, cond, List, ◌++◌, length, Option, Some, Result, Ok, Err, refl, ap, ◌∙◌, arith}
 use Rattle.std.proofs.lemmas.List.{length-append}
 use Rattle.flac_bits.specs.Bits.{unsigned}
-use Rattle.flac_bits.specs.State.{Mark, Cursor, past}
-use Rattle.flac_bits.specs.Layout.{Layout, bits, run, number_at, and_then, Reason, because}
-use Rattle.flac_bits.specs.Meaning.{Spells}
+use Rattle.flac_bits.specs.State.{Cursor}
+use Rattle.flac_bits.specs.Layout.{run, number_at, and_then, Reason}
 use Rattle.flac_bits.proofs.Meaning.{takes}
 use Rattle.flac_ogg.specs.declared.page.Before.{Before}
 use Rattle.flac_ogg.specs.Page.{Page, page, page_behind, is_last, after}
-use Rattle.flac_ogg.specs.Pages.{Run, Stop, closed, broken, one, none, between, page_or_end, next_page, went_on, pages_in, pages_of, pages_behind}
+use Rattle.flac_ogg.specs.Pages.{closed, broken, one, none, page_or_end, next_page, went_on, pages_in, pages_of, pages_behind}
 
 -- a good next page is a page
 pub is_page : (before : Option Before) (c : Cursor) (p : Page) (d : Cursor) → next_page before c ≡ Ok (p, d) → run (page before) c ≡ Ok (p, d)

@@ -1,8 +1,8 @@
 -- A page of an Ogg stream (RFC 3533, section 6).
-use Rattle.std.specs.Prelude.{ℕ, ◌+◌, ◌*◌, ◌/◌, ◌%◌, ◌^◌, Bool, true, false, not, ◌&&◌, ◌||◌, cond, List, [], ◌∷◌, length, Option, Some, None, nat_eq}
+use Rattle.std.specs.Prelude.{ℕ, ◌+◌, ◌*◌, ◌/◌, ◌%◌, ◌^◌, Bool, false, not, ◌||◌, cond, List, [], ◌∷◌, length, Option, Some, None, nat_eq}
 use Rattle.std.specs.Int.{to_le_bytes, w32, w64}
 use Rattle.std.specs.List.{sum}
-use Rattle.flac_bits.specs.Bits.{unsigned, bits_of}
+use Rattle.flac_bits.specs.Bits.{bits_of}
 use Rattle.flac_bits.specs.Check.{remainder}
 use Rattle.flac_bits.specs.Forms.{joined}
 use Rattle.flac_bits.specs.Layout.{Layout, done, judge, ◌>>=◌, bits, Rule}

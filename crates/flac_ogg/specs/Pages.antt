@@ -1,7 +1,7 @@
 -- Pages one after another, to the last one or to a fault (RFC 3533, section 6).
 use Rattle.std.specs.Prelude.{◌≡◌, ℕ, zero, suc, ◌+◌, Bool, true, false, cond, List, [], ◌∷◌, ◌++◌, length, Option, Some, None, Result, Ok, Err}
 use Rattle.flac_bits.specs.State.{Mark, Cursor, past}
-use Rattle.flac_bits.specs.Layout.{Layout, run, number_at, Reason, because}
+use Rattle.flac_bits.specs.Layout.{run, number_at, Reason, because}
 use Rattle.flac_bits.specs.Meaning.{Spells}
 use Rattle.flac_bits.specs.declared.why.Why.{Why}
 use Rattle.flac_bits.specs.declared.why.Why.TheVariants.{NoEndPage, PageOrder, Truncated}

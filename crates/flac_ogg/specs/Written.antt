@@ -1,5 +1,5 @@
 -- Packets written in pages (RFC 3533, sections 5 and 6).
-use Rattle.std.specs.Prelude.{◌≡◌, ◌↔◌, ℕ, ◌+◌, ◌*◌, ◌/◌, ◌%◌, ◌-◌, ◌^◌, ◌<◌, Bool, cond, ◌&&◌, List, [], ◌∷◌, ◌++◌, length, take, drop, map, nat_eq, Option, Result, Ok}
+use Rattle.std.specs.Prelude.{◌≡◌, ◌↔◌, ℕ, ◌+◌, ◌*◌, ◌/◌, ◌%◌, ◌-◌, ◌^◌, ◌<◌, Bool, cond, ◌&&◌, List, [], ◌∷◌, ◌++◌, length, take, drop, map, nat_eq, Option, Ok}
 use Rattle.std.specs.List.{flat_map, range_with_len, sum}
 use Rattle.flac_bits.specs.Forms.{AreBytes}
 use Rattle.flac_bits.specs.Layout.{run}

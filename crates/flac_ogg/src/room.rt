@@ -10,7 +10,8 @@ ghost use Rattle.flac_ogg.specs.Page.{page_sum, page_behind, end_rules, first_br
 
 use crate::fields::read_head;
 use crate::page::{Before, Head};
-use flac_bits::{BitReader, Source, Why, crc32_sum, read_bytes};
+use crate::writing::{MOST_BYTES, page_sum};
+use flac_bits::{BitReader, Source, Why, read_bytes};
 use std::alloc::Global;
 use std::marker::Model;
 
@@ -34,9 +35,6 @@ impl Model for PageRoom {
 
     ghost invariant = { λ p. (vec_len p.body ≡ 65025) × (p.bytes ≤ 65025) × (length p.lacing ≡ 255) };
 }
-
-/// The greatest number of bytes in a page.
-const MOST_BYTES: usize = 65025;
 
 impl PageRoom {
     /// Room that holds an empty page.
@@ -80,7 +78,8 @@ impl PageRoom {
 
     /// The length of each segment in bytes.
     pub fn lacing(&self) -> &[u8]
-        ensures { result.now ≡ self.now.lacing }
+        ensures values { result.now ≡ self.now.lacing }
+        ensures few { length result.now ≤ 255 }
     {
         &self.lacing[..self.count as usize]
     }
@@ -105,15 +104,7 @@ impl PageRoom {
     fn sum(&self) -> u32
         ensures { result ≡ page_sum self.now }
     {
-        let count = self.count();
-        let check = crc32_sum(0, &[0x4F, 0x67, 0x67, 0x53, 0, self.head.flags]);
-        let check = crc32_sum(check, &self.head.granule.to_le_bytes());
-        let check = crc32_sum(check, &self.head.serial.to_le_bytes());
-        let check = crc32_sum(check, &self.head.sequence.to_le_bytes());
-        let check = crc32_sum(check, &0u32.to_le_bytes());
-        let check = crc32_sum(check, &[count]);
-        let check = crc32_sum(check, self.lacing());
-        crc32_sum(check, self.body())
+        page_sum(self.head, self.lacing(), self.body())
     }
 
     /// The reason of the first rule that is broken at the page's end, in the order of their rank.

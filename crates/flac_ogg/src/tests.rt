@@ -1,3 +1,5 @@
+ghost use Rattle.std.specs.Prelude.{◌≤◌};
+
 use crate::packet_bytes::PacketBytes;
 use crate::pages::Pages;
 use crate::writing::{PacketMarks, write_packet};
@@ -146,9 +148,25 @@ fn writes_the_pages_of_a_stream(rt: HostRuntime) -> Result<(), Fail> {
     Ok(())
 }
 
-/// The flags, granule, number and lacing values of a page, which begins so.
-fn front(bytes: &[u8]) -> (u8, u8, u8, u8, u8) {
-    (bytes[5], bytes[6], bytes[18], bytes[26], bytes[27])
+/// The byte at a place, 0 behind the end.
+fn byte(bytes: &[u8], at: usize) -> u8 {
+    match bytes.get(at) {
+        Some(byte) => *byte,
+        None => 0,
+    }
+}
+
+/// Of the page that begins at a place: its flags, the lowest bytes of its granule and number, how many lacing values it has, and the first.
+fn front(bytes: &[u8], at: usize) -> [u8; 5]
+    requires { at ≤ 100000 }
+{
+    [
+        byte(bytes, at + 5),
+        byte(bytes, at + 6),
+        byte(bytes, at + 18),
+        byte(bytes, at + 26),
+        byte(bytes, at + 27),
+    ]
 }
 
 #[test]
@@ -162,18 +180,26 @@ fn writes_packets_of_whole_segments(rt: HostRuntime) -> Result<(), Fail> {
         last: true,
     };
     let mut writer = BitWriter::new(Collected::new(rt.alloc()));
-    assert_eq!(rt; write_packet(marks, &zeros.as_slice()[..255], &mut writer)?, 8);
-    assert_eq!(rt; write_packet(marks, &zeros.as_slice()[..510], &mut writer)?, 8);
+    assert_eq!(rt;
+        write_packet(marks, &zeros.as_slice()[..255], &mut writer)?,
+        8
+    );
+    assert_eq!(rt;
+        write_packet(marks, &zeros.as_slice()[..510], &mut writer)?,
+        8
+    );
     assert_eq!(rt; write_packet(marks, &zeros, &mut writer)?, 9);
     writer.finish()?;
     let target = writer.into_target();
     let bytes = target.bytes();
-    assert_eq!(rt; bytes.len(), 27 + 2 + 255 + 27 + 3 + 510 + 27 + 255 + 65025 + 27 + 1);
-    assert_eq!(rt; (front(bytes), bytes[28]), ((4, 5, 7, 2, 255), 0));
-    let second = &bytes[284..];
-    assert_eq!(rt; (front(second), second[28], second[29]), ((4, 5, 7, 3, 255), 255, 0));
-    let third = &second[540..];
-    assert_eq!(rt; (front(third), third[281]), ((0, 255, 7, 255, 255), 255));
-    assert_eq!(rt; front(&third[65307..]), (5, 5, 8, 1, 0));
+    assert_eq!(rt;
+        bytes.len(),
+        27 + 2 + 255 + 27 + 3 + 510 + 27 + 255 + 65025 + 27 + 1
+    );
+    assert_eq!(rt; (front(bytes, 0), byte(bytes, 28)), ([4, 5, 7, 2, 255], 0));
+    assert_eq!(rt; front(bytes, 284), [4, 5, 7, 3, 255]);
+    assert_eq!(rt; (byte(bytes, 312), byte(bytes, 313)), (255, 0));
+    assert_eq!(rt; front(bytes, 824), [0, 255, 7, 255, 255]);
+    assert_eq!(rt; front(bytes, 66131), [5, 5, 8, 1, 0]);
     Ok(())
 }

@@ -1,5 +1,4 @@
-use Rattle.std.proofs.Common.{◌≡◌, ◌∷◌, [], List, ℕ, ap, ◌∙◌}
-use Rattle.std.specs.Int.{to_le_bytes, w32, w64}
+use Rattle.std.proofs.Common.{◌≡◌, List, ℕ, ap, ◌∙◌}
 use Rattle.flac_bits.specs.Bits.{bits_of}
 use Rattle.flac_ogg.proofs.PageSum.{page_sum_is, step}
 use Rattle.flac_ogg.proofs.writing.page_sum.Goals as goal

@@ -1,4 +1,4 @@
-use Rattle.std.proofs.Common.{ℕ, ◌+◌, ◌-◌, ◌/◌, length}
+use Rattle.std.proofs.Common.{◌+◌, ◌-◌, ◌/◌, length}
 use Rattle.std.specs.List.{flat_map, range_with_len}
 use Rattle.flac_bits.proofs.Writing.{Towards}
 use Rattle.flac_ogg.specs.Page.{page_spelling}

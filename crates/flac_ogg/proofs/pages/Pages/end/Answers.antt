@@ -1,4 +1,4 @@
-use Rattle.std.proofs.Common.{◌≡◌, ap, sym, ◌∙◌, arith}
+use Rattle.std.proofs.Common.{ap, sym, ◌∙◌, arith}
 use Rattle.flac_ogg.specs.Pages.{end_fault}
 use Rattle.flac_ogg.specs.Packets.{Place, ended}
 use Rattle.flac_ogg.proofs.Exits.{closes}

@@ -1,4 +1,4 @@
-use Rattle.std.proofs.Common.{◌≡◌, ◌+◌, ◌≤◌, ◌<◌, drop, length, ap, sym, ◌∙◌, arith, length-drop}
+use Rattle.std.proofs.Common.{◌+◌, ◌<◌, drop, length, ap, sym, ◌∙◌, arith, length-drop}
 use Rattle.std.specs.List.{sum}
 use Rattle.flac_ogg.specs.Packets.{Place, next_segment}
 use Rattle.flac_ogg.proofs.Stepping.{segment_is, next_value, sum_more}

@@ -1,11 +1,11 @@
-use Rattle.std.proofs.Common.{◌≡◌, ◌+◌, ◌≤◌, drop, length, true, Some, [], ap, sym, ◌∙◌, refl, arith, length-drop}
+use Rattle.std.proofs.Common.{◌≡◌, ◌+◌, drop, Some, [], ap, sym, ◌∙◌, refl, arith}
 use Rattle.std.specs.Prelude.{min}
 use Rattle.std.specs.List.{sum}
 use Rattle.std.proofs.lemmas.List.{drop_all}
 use Rattle.flac_ogg.specs.declared.page.Head.{Head}
-use Rattle.flac_ogg.specs.Page.{Page, after, went_on, goes_on_behind, is_last}
+use Rattle.flac_ogg.specs.Page.{after, went_on, goes_on_behind, is_last}
 use Rattle.flac_ogg.specs.Pages.{next_page}
-use Rattle.flac_ogg.specs.Packets.{Place, ahead, only_fault}
+use Rattle.flac_ogg.specs.Packets.{Place}
 use Rattle.flac_ogg.proofs.Stepping.{turned, refused}
 use Rattle.flac_ogg.proofs.pages.Pages.turn.Goals as goal
 
@@ -19,7 +19,7 @@ returns-in-Ok-clause-turns g c =
     let no_body : drop inside.at inside.page.body ≡ [] = drop_all inside.at inside.page.body (omega (arith, ap sum none, rest, c.self.invariant.2)) in
     let counts = c.in-Ok.ensures.counts in
     let went : c.went_on-went_on.result ≡ went_on c.args.self.now.before = c.went_on-went_on.ensures ∙ ap (λ (p : Place). went_on p.before) is in
-    let going : c.goes_on_behind-goes_on.result ≡ goes_on_behind (went_on c.args.self.now.before) page.lacing = c.goes_on_behind-goes_on.ensures ∙ ap (goes_on_behind c.went_on-went_on.result) c.lacing.ensures ∙ ap (λ b. goes_on_behind b page.lacing) went in
+    let going : c.goes_on_behind-goes_on.result ≡ goes_on_behind (went_on c.args.self.now.before) page.lacing = c.goes_on_behind-goes_on.ensures ∙ ap (goes_on_behind c.went_on-went_on.result) c.lacing.ensures.values ∙ ap (λ b. goes_on_behind b page.lacing) went in
     let before_is : Some record { serial = c.head-head.result.serial; sequence = c.head-head.result.sequence; goes_on = c.goes_on_behind-goes_on.result } ≡ Some (after c.args.self.now.before page) = rw (c.head-head.ensures, going) refl in
     record {
       known = λ known. counts.0 (ap (λ (p : Place). p.known) is ∙ known);

@@ -1,4 +1,4 @@
-use Rattle.std.proofs.Common.{◌≡◌, length, ap, sym, ◌∙◌, arith}
+use Rattle.std.proofs.Common.{length, ap, arith}
 use Rattle.std.proofs.lemmas.List.{length-take}
 use Rattle.flac_ogg.specs.Page.{Page}
 use Rattle.flac_ogg.proofs.room.PageRoom.count.Goals as goal

@@ -1,4 +1,4 @@
-use Rattle.std.proofs.Common.{Some, None, sym, ◌∙◌}
+use Rattle.std.proofs.Common.{Some, None, sym}
 use Rattle.flac_ogg.proofs.PageReads.{page_end}
 use Rattle.flac_ogg.proofs.room.PageRoom.read_behind.Goals as goal
 
