@@ -16,3 +16,4 @@ pub mod Frames
 pub mod Pairs
 pub mod PairLeast
 pub mod Encodings
+pub mod WholeFamily

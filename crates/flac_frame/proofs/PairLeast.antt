@@ -25,7 +25,7 @@ use Rattle.flac_frame.proofs.Pairs.{side_long, middle_long, left_side, side_righ
 use Rattle.flac_frame.proofs.Short.{one_short, frame_short}
 use Rattle.flac_frame.proofs.Wholes.{on_ok, text_is, not_joined}
 
-by_test : {R : Type 0} (b : Bool) → (b ≡ true → R) → (b ≡ false → R) → R
+pub by_test : {R : Type 0} (b : Bool) → (b ≡ true → R) → (b ≡ false → R) → R
 by_test true f g = f refl
 by_test false f g = g refl
 
@@ -76,15 +76,15 @@ kept_1 : (left right : List ℤ) → kept_as 1 (left ∷ right ∷ []) ≡ left 
 unfolding kept_as
 kept_1 left right = refl
 
-kept_8 : (left right : List ℤ) → kept_as 8 (left ∷ right ∷ []) ≡ left ∷ side_of left right ∷ []
+pub kept_8 : (left right : List ℤ) → kept_as 8 (left ∷ right ∷ []) ≡ left ∷ side_of left right ∷ []
 unfolding kept_as
 kept_8 left right = refl
 
-kept_9 : (left right : List ℤ) → kept_as 9 (left ∷ right ∷ []) ≡ side_of left right ∷ right ∷ []
+pub kept_9 : (left right : List ℤ) → kept_as 9 (left ∷ right ∷ []) ≡ side_of left right ∷ right ∷ []
 unfolding kept_as
 kept_9 left right = refl
 
-kept_10 : (left right : List ℤ) → kept_as 10 (left ∷ right ∷ []) ≡ middle_of left right ∷ side_of left right ∷ []
+pub kept_10 : (left right : List ℤ) → kept_as 10 (left ∷ right ∷ []) ≡ middle_of left right ∷ side_of left right ∷ []
 unfolding kept_as
 kept_10 left right = refl
 

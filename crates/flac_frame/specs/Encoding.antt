@@ -13,6 +13,7 @@ use Rattle.flac_header.specs.Spelling.{restarted, header_spelling}
 use Rattle.flac_subframe.specs.declared.limits.Limits.{Limits}
 use Rattle.flac_subframe.specs.Chosen.{fixed_below}
 use Rattle.flac_subframe.specs.Family.{Stands}
+use Rattle.flac_subframe.specs.Laws.{InFamily}
 use Rattle.flac_subframe.specs.Least.{IsLeast}
 use Rattle.flac_subframe.specs.Spelling.{subframe_spelling, IsSubframe}
 use Rattle.flac_subframe.specs.Subframe.{Form, samples_of}
@@ -73,6 +74,17 @@ EachStands (f ∷ fs) (s ∷ ss) = Stands 8 (fixed_below 5) f s × EachStands fs
 pub record IsOfFamily (sound : Sound) (size number : ℕ) (block : List (List ℤ)) (f : FrameForm) : Type 0 where
   pub encoding : IsEncoding sound size number block f
   pub stand : EachStands f.subframes (kept_as f.header.channel_code block)
+
+-- the subframes are of the family, each for its samples: constant, verbatim or by a fixed predictor, and without all the bits that these lack
+abbrev pub EachInFamily : List Form → List (List ℤ) → Type 0
+EachInFamily [] [] = ⊤
+EachInFamily [] (s ∷ ss) = ⊥
+EachInFamily (f ∷ fs) [] = ⊥
+EachInFamily (f ∷ fs) (s ∷ ss) = InFamily f s × EachInFamily fs ss
+
+-- every encoding of a block, under any channel code, whose subframes are of the family is one of these frames
+abbrev pub FrameFamilyIsWhole : Type 0
+FrameFamilyIsWhole = (sound : Sound) (size number : ℕ) (block : List (List ℤ)) (f : FrameForm) (e : IsEncoding sound size number block f) → EachInFamily f.subframes e.samples.kept → IsOfFamily sound size number block f
 
 -- the bits of the subframes
 abbrev pub subframes_cost : ℕ → FrameForm → ℕ

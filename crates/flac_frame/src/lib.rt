@@ -24,8 +24,8 @@ pub use before::Before;
 pub use buffers::FrameBuffers;
 pub use encode::{EncodeBuffers, encode_frame};
 pub use promises::{
-    channels_are_joined, encodings_are_frames, forms_stand_for_samples, frames_are_spelled,
-    frames_follow,
+    channels_are_joined, encodings_are_frames, forms_stand_for_samples, frame_family_is_whole,
+    frames_are_spelled, frames_follow,
 };
 pub use setup::SetupFault;
 pub use view::FrameView;

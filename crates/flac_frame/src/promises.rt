@@ -1,6 +1,6 @@
 //! What holds of the definitions.
 
-ghost use Rattle.flac_frame.specs.Encoding.{FormsStand, EncodingsAreFrames};
+ghost use Rattle.flac_frame.specs.Encoding.{FormsStand, EncodingsAreFrames, FrameFamilyIsWhole};
 ghost use Rattle.flac_frame.specs.Follows.{AcceptedFollow, FramesFollow};
 ghost use Rattle.flac_frame.specs.Spelling.{FramesAreSpelled, FramesAreReadAgain, FramesAreBytes};
 ghost use Rattle.flac_frame.specs.Stereo.{ChannelsAreJoined, ChannelsAreKept};
@@ -35,4 +35,10 @@ pub fn forms_stand_for_samples()
 /// What is encoded of a block of samples is a frame of that block, in a stream of the samples' format.
 pub fn encodings_are_frames()
     ensures { EncodingsAreFrames }
+{}
+
+/// The family among which a frame is the least is every encoding of the block, under any channel code, whose subframes are constant, verbatim or by a fixed
+/// predictor, and leave out all the lowest bits that their samples lack.
+pub fn frame_family_is_whole()
+    ensures { FrameFamilyIsWhole }
 {}

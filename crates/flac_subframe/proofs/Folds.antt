@@ -1,10 +1,11 @@
 -- Values by their folded numbers.
-use Rattle.std.proofs.Common.{◌≡◌, ◌∙◌, sym, ap, refl, ℕ, ◌+◌, ◌-◌, ◌^◌, ◌<◌, ◌≤◌, ◌↔◌, arith, ℤ, pos, negsuc, List, [], ◌∷◌, length, map, take, drop, get_or, set, All}
+use Rattle.std.proofs.Common.{◌≡◌, ◌∙◌, sym, ap, refl, ℕ, ◌+◌, ◌-◌, ◌*◌, ◌/◌, ◌^◌, ◌<◌, ◌≤◌, ◌↔◌, arith, ℤ, pos, negsuc, List, [], ◌∷◌, length, map, take, drop, get_or, set, All}
 use Rattle.std.specs.List.{sum_by}
 use Rattle.std.proofs.lemmas.Int.{ints}
 use Rattle.std.proofs.lemmas.List.{take_more, take_more_set, map-append, take-map, drop-map, length-map, get_or-map}
 use Rattle.std.proofs.lemmas.List.Elements.{All-map, All-weaker, All-from_get_or, All-get_or}
 use Rattle.std.proofs.lemmas.List.Sums.{sum_by-cons}
+use Rattle.std.proofs.Math.Nat.{suc-mul}
 use Rattle.flac_bits.specs.Rice.{IsResidual}
 use Rattle.flac_subframe.specs.Cost.{folded_cost, value_cost}
 use Rattle.flac_subframe.specs.Halves.{segment, IsWidth}
@@ -47,3 +48,8 @@ pub segment_width : (w a b : ℕ) (rs : List ℤ) (ns : List ℕ) → ns ≡ map
 segment_width w a b rs ns is h n =
     let both = rw (segment_folded a b rs ns is) at (h n) in
     (λ fit. both.0 (below_of n (segment a b rs) fit), λ wide. fits_of n (segment a b rs) (both.1 wide))
+
+-- what numbers cost is their quotients, and for each a one and k bits
+pub cost_split : (k : ℕ) (ns : List ℕ) → sum_by (folded_cost k) ns ≡ sum_by (λ n. n / 2 ^ k) ns + length ns * (1 + k)
+cost_split k [] = omega arith
+cost_split k (n ∷ ns) = omega (arith, sum_by-cons (folded_cost k) n ns, sum_by-cons (λ n. n / 2 ^ k) n ns, suc-mul (length ns) (1 + k), cost_split k ns)

@@ -23,7 +23,8 @@ pub mod Splits
 pub mod Entries
 pub mod Orders
 pub mod Greater
-pub mod Enough
+pub mod Convex
+pub mod Walks
 pub mod Searching
 pub mod Lengths
 pub mod Differences
@@ -35,3 +36,4 @@ pub mod WriteSteps
 pub mod Made
 pub mod Cuts
 pub mod Valid
+pub mod Complete

@@ -1,14 +1,17 @@
 -- What the samples of a form are, as equations, and the laws.
-use Rattle.std.specs.Prelude.{◌≡◌, ℕ, ◌<◌, ◌≤◌, ◌↔◌, Bool, ℤ, List, ◌++◌, length, Ok}
+use Rattle.std.specs.Prelude.{◌≡◌, ℕ, ◌<◌, ◌≤◌, ◌↔◌, Bool, ℤ, List, ◌++◌, length, Ok, Some}
 use Rattle.flac_bits.specs.State.{Mark, past}
 use Rattle.flac_bits.specs.Layout.{run}
 use Rattle.flac_bits.specs.Meaning.{Spells}
 use Rattle.flac_subframe.specs.declared.limits.Limits.{Limits}
+use Rattle.flac_subframe.specs.Chosen.{fixed_below}
+use Rattle.flac_subframe.specs.Family.{Stands}
 use Rattle.flac_subframe.specs.Spelling.{subframe_spelling, IsSubframe}
 use Rattle.flac_subframe.specs.Numbers.{sample_at}
 use Rattle.flac_subframe.specs.Prediction.{fixed_coefficients, Restored}
 use Rattle.flac_subframe.specs.Residual.{residual_values}
-use Rattle.flac_subframe.specs.Subframe.{Content, Constant, Verbatim, Fixed, Linear, Form, subframe, restored_samples}
+use Rattle.flac_subframe.specs.Subframe.{Content, Constant, Verbatim, Fixed, Linear, Form, subframe, restored_samples, samples_of}
+use Rattle.flac_subframe.specs.Wasted.{IsWasted}
 
 -- s are the samples of a content in a block of a size, before the wasted bits are put back (RFC 9639, sections 9.2.3 to 9.2.6).
 abbrev pub RestoredBy : ℕ → Content → List ℤ → Type 0
@@ -37,3 +40,22 @@ SubframesAreSpelled = (depth block : ℕ) (limits : Limits) (m : Mark) (text : L
 abbrev pub SubframesAreReadAgain : Type 0
 SubframesAreReadAgain = (depth block : ℕ) (limits : Limits) (m : Mark) (rest : List Bool) (f : Form) → 1 ≤ depth → 1 ≤ block → limits.linear ≤ 32 → IsSubframe depth block limits f
     → run (subframe depth block limits) (record { left = subframe_spelling depth f ++ rest; mark = m }) ≡ Ok (f, record { left = rest; mark = past (subframe_spelling depth f) m })
+
+-- ---- the family among which the least is sought
+
+-- one sample for all, all samples, or a fixed predictor
+abbrev pub WithoutLinear : Content → Type 0
+WithoutLinear (Constant sample) = Unit {0}
+WithoutLinear (Verbatim samples) = Unit {0}
+WithoutLinear (Fixed warm_up rest) = Unit {0}
+WithoutLinear (Linear warm_up chosen rest) = ⊥
+
+-- a form of the family, for its samples: it leaves out as many lowest bits as they all lack
+pub record InFamily (f : Form) (s : List ℤ) : Type 0 where
+  pub plain : WithoutLinear f.content
+  pub wasted : IsWasted f.wasted s
+
+-- each form of the family that may be spelled stands for its samples: it is one of those among which a choice is the least
+abbrev pub FamilyIsWhole : Type 0
+FamilyIsWhole = (depth block : ℕ) (limits : Limits) (f : Form) (s : List ℤ) → limits.partition ≤ 8 → IsSubframe depth block limits f → samples_of depth block f ≡ Some s → InFamily f s
+    → Stands 8 (fixed_below 5) f s

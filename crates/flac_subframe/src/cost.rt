@@ -21,11 +21,11 @@ pub(crate) fn rice_bits(folds: &[u64], parameter: u8) -> u64
     ensures value { result ≡ sum_by (folded_cost parameter) folds.now }
     ensures small { result ≤ 2 ^ 33 * length folds.now }
 {
-    let mut bits = 0;
+    let mut quotients = 0;
     for number in folds {
-        bits += (*number >> parameter) + 1 + u64::from(parameter);
+        quotients += *number >> parameter;
     }
-    bits
+    quotients + folds.len() as u64 * (1 + u64::from(parameter))
 }
 
 /// The fewest bits that hold each value as a signed number, by their folded numbers; 0 where all are 0.

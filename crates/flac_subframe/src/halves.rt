@@ -1,7 +1,7 @@
 //! The cost of each partition at each partition order, where each value's cost is worked out once for each parameter: a partition costs as much
 //! as its two halves.
 
-ghost use Rattle.std.specs.Prelude.{◌≡◌, ◌<◌, ◌≤◌, ◌^◌, ◌+◌, ◌-◌, ◌*◌, ◌/◌, ℕ, length, map, min, All, slice_index, ◌⊎◌};
+ghost use Rattle.std.specs.Prelude.{◌≡◌, ◌<◌, ◌≤◌, ◌^◌, ◌+◌, ◌-◌, ◌*◌, ◌/◌, ℕ, true, false, length, map, min, All, slice_index, ◌⊎◌};
 ghost use Rattle.std.specs.List.{sum_by};
 ghost use Rattle.flac_bits.specs.Rice.{IsResidual};
 ghost use Rattle.flac_subframe.specs.Cost.{value_cost};
@@ -71,7 +71,22 @@ fn note_level(sums: &[u64], table: &mut [u64], halvings: u8, parameter: u8)
     note(sums, &mut table[first..2 * first], parameter);
 }
 
-/// Compares, at each partition order, each partition's cost under a parameter with the best so far.
+/// Whether a parameter lowers the best cost of a partition.
+fn gains(sums: &[u64], best: &[u64], parameter: u8) -> bool
+    requires few { parameter < 32 }
+    requires places { length best.now ≤ length sums.now }
+    requires small { (j : ℕ) → j < length best.now → slice_index sums.now j < 2 ^ 50 }
+    ensures none { result ≡ false → (j : ℕ) → j < length best.now → slice_index best.now j ≤ priced parameter (slice_index sums.now j) }
+{
+    for j in 0..best.len() {
+        if 32 * sums[j] + u64::from(parameter) < best[j] {
+            return true;
+        }
+    }
+    false
+}
+
+/// Compares, at each partition order, each partition's cost under a parameter with the best so far: whether it lowers that of one of the finest.
 fn pass(
     values: &[i64],
     folds: &[u64],
@@ -80,7 +95,7 @@ fn pass(
     parameter: u8,
     sums: &mut [u64],
     table: &mut [u64],
-)
+) -> bool
     requires few { length values.now + order ≤ 65535 }
     requires range { All IsResidual values.now }
     requires folded { folds.now ≡ map folded values.now }
@@ -93,8 +108,11 @@ fn pass(
     requires table { 2 * 2 ^ halvings ≤ length table.old }
     ensures kept { length table.new ≡ length table.old }
     ensures entries { (p j : ℕ) → p ≤ halvings → j < 2 ^ p → entry table.new p j ≡ min (entry table.old p j) (priced parameter (sum_by (value_cost parameter) (part order values.now p j))) }
+    ensures none { result ≡ false → (j : ℕ) → j < 2 ^ halvings → entry table.old halvings j ≤ priced parameter (sum_by (value_cost parameter) (part order values.now halvings j)) }
 {
     price(values, folds, order, halvings, parameter, sums);
+    let first = power(halvings);
+    let gained = gains(sums, &table[first..2 * first], parameter);
     note_level(sums, table, halvings, parameter);
     let mut level = halvings;
     while level > 0 {
@@ -102,9 +120,43 @@ fn pass(
         pair(sums, power(level));
         note_level(sums, table, level, parameter);
     }
+    gained
 }
 
-/// Fills the table with the least parameters of a method.
+/// Fills an empty table with the least of the parameters below one: tries them downwards, as long as one of the finest partitions gains by it.
+pub(crate) fn compare_down(
+    values: &[i64],
+    folds: &[u64],
+    order: usize,
+    halvings: u8,
+    from: u8,
+    sums: &mut [u64],
+    table: &mut [u64],
+)
+    requires few { length values.now + order ≤ 65535 }
+    requires range { All IsResidual values.now }
+    requires folded { folds.now ≡ map folded values.now }
+    requires small { All (λ n. n < 2 ^ 32) folds.now }
+    requires long { length folds.now ≡ length values.now }
+    requires from { from ≤ 31 }
+    requires most { halvings ≤ 8 }
+    requires halves { Halves order values.now halvings }
+    requires sums { length sums.old ≡ 2 ^ halvings }
+    requires table { 2 * 2 ^ halvings ≤ length table.old }
+    requires start { (p j : ℕ) → p ≤ halvings → j < 2 ^ p → entry table.old p j ≡ 2 ^ 64 - 1 }
+    ensures entries { (p j : ℕ) → p ≤ halvings → j < 2 ^ p → LeastBelow from (part order values.now p j) (entry table.new p j) }
+    ensures long { length table.new ≡ length table.old }
+{
+    let mut low = from;
+    while low > 0 {
+        low -= 1;
+        if !pass(values, folds, order, halvings, low, sums, table) {
+            return;
+        }
+    }
+}
+
+/// Goes on with a table of the parameters below one, upwards, as long as one of the finest partitions gains by it: whether none gains by any above.
 pub(crate) fn compare(
     values: &[i64],
     folds: &[u64],
@@ -114,7 +166,7 @@ pub(crate) fn compare(
     parameters: u8,
     sums: &mut [u64],
     table: &mut [u64],
-)
+) -> bool
     requires few { length values.now + order ≤ 65535 }
     requires range { All IsResidual values.now }
     requires folded { folds.now ≡ map folded values.now }
@@ -128,11 +180,15 @@ pub(crate) fn compare(
     requires table { 2 * 2 ^ halvings ≤ length table.old }
     requires start { (p j : ℕ) → p ≤ halvings → j < 2 ^ p → LeastBelow from (part order values.now p j) (entry table.old p j) }
     ensures entries { (p j : ℕ) → p ≤ halvings → j < 2 ^ p → LeastBelow parameters (part order values.now p j) (entry table.new p j) }
+    ensures settled { result ≡ true → (p j : ℕ) → p ≤ halvings → j < 2 ^ p → LeastBelow 31 (part order values.now p j) (entry table.new p j) }
     ensures long { length table.new ≡ length table.old }
 {
     for parameter in from..parameters {
-        pass(values, folds, order, halvings, parameter, sums, table);
+        if !pass(values, folds, order, halvings, parameter, sums, table) {
+            return true;
+        }
     }
+    false
 }
 
 /// Makes the first entries of a table ready, before any parameter is compared.

@@ -8,9 +8,9 @@ ghost use Rattle.flac_subframe.specs.Spelling.{folded};
 ghost use Rattle.flac_subframe.specs.Halves.{part, Halves, entry, LeastBelow, IsWidth, HasWidths};
 
 use crate::coding::Coding;
-use crate::cost::Priced;
+use crate::cost::{Priced, rice_bits};
 use crate::folding::fold_each;
-use crate::halves::{clear, compare, copy};
+use crate::halves::{clear, compare, compare_down, copy};
 use crate::halving::{ResidualChoice, power};
 use crate::widths::measure;
 use arrayvec::ArrayVec;
@@ -186,7 +186,17 @@ fn best_order(
     best
 }
 
-/// Fills the tables of both methods. A parameter above the width of all values costs more for each of them, and so is not tried.
+/// A parameter near the best one of most partitions.
+fn middle(folds: &[u64]) -> u8
+    requires few { length folds.now ≤ 65535 }
+    requires small { All (λ n. n < 2 ^ 32) folds.now }
+    ensures { result ≤ 15 }
+{
+    let mean = rice_bits(folds, 0) / (folds.len() as u64).max(1);
+    ((64 - mean.leading_zeros()) as u8).min(15)
+}
+
+/// Fills the tables of both methods.
 fn tabulate(
     values: &[i64],
     folds: &[u64],
@@ -195,7 +205,6 @@ fn tabulate(
     sums: &mut [u64],
     four: &mut [u64],
     five: &mut [u64],
-    widths: &[u8],
 )
     requires few { length values.now + order ≤ 65535 }
     requires range { All IsResidual values.now }
@@ -207,8 +216,6 @@ fn tabulate(
     requires sums { 2 ^ halvings ≤ length sums.old }
     requires four { 2 * 2 ^ halvings ≤ length four.old }
     requires five { 2 * 2 ^ halvings ≤ length five.old }
-    requires places { 2 * 2 ^ halvings ≤ length widths.now }
-    requires widths { HasWidths order values.now 0 halvings widths.now }
     ensures entries { (p j : ℕ) → p ≤ halvings → j < 2 ^ p → LeastBelow 15 (part order values.now p j) (entry four.new p j) }
     ensures more { (p j : ℕ) → p ≤ halvings → j < 2 ^ p → LeastBelow 31 (part order values.now p j) (entry five.new p j) }
     ensures sums_long { length sums.new ≡ length sums.old }
@@ -216,13 +223,15 @@ fn tabulate(
     ensures five_long { length five.new ≡ length five.old }
 {
     let count = power(halvings);
-    let enough = widths[1].min(30) + 1;
-    let short = enough.min(15);
+    let middle = middle(folds);
     clear(four, 2 * count);
     let row = &mut sums[..count];
-    compare(values, folds, order, halvings, 0, short, row, four);
+    compare_down(values, folds, order, halvings, middle, row, four);
+    let settled = compare(values, folds, order, halvings, middle, 15, row, four);
     copy(four, five, 2 * count);
-    compare(values, folds, order, halvings, short, enough, row, five);
+    if !settled {
+        compare(values, folds, order, halvings, 15, 31, row, five);
+    }
 }
 
 /// The best method and partition order, with the tables of both methods filled.
@@ -261,7 +270,7 @@ fn survey(
     ensures widths_long { length widths.new ≡ length widths.old }
 {
     measure(values, folds, order, halvings, widths);
-    tabulate(values, folds, order, halvings, sums, four, five, widths);
+    tabulate(values, folds, order, halvings, sums, four, five);
     let first = best_order(values, order, halvings, 4, four, widths);
     let second = best_order(values, order, halvings, 5, five, widths);
     if second.bits < first.bits {

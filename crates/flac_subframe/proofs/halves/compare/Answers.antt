@@ -1,6 +1,7 @@
-use Rattle.std.proofs.Common.{arith, ◌≡◌}
+use Rattle.std.proofs.Common.{arith, ◌≡◌, ℕ, refl}
 use Rattle.flac_subframe.specs.Halves.{part}
 use Rattle.flac_subframe.proofs.Splits.{least_more, part_small}
+use Rattle.flac_subframe.proofs.Walks.{settled}
 use Rattle.flac_subframe.proofs.halves.compare.Goals as goal
 
 pub loop-parameter-preserved : goal.loop-parameter-preserved
@@ -14,3 +15,19 @@ loop-parameter-preserved c =
 
 pub returns-clause-entries : goal.returns-clause-entries
 returns-clause-entries c = λ p j h b. let e : c.loop-parameter.parameter ≡ c.args.parameters = omega arith in rw e at (c.loop-parameter.invariant.entries p j h b)
+
+pub returns-then-not-pass-clause-entries : goal.returns-then-not-pass-clause-entries
+returns-then-not-pass-clause-entries c = λ p j le b.
+    let k : ℕ = c.loop-parameter.parameter in
+    let rs = c.args.values.now in let order = c.args.order in let h = c.args.halvings in
+    let so = c.loop-parameter.invariant in
+    settled order h k rs c.requires.halves (omega arith) (omega arith) c.requires.range c.loop-parameter.table (c.if-not-pass.ensures.none refl) (λ i d. so.entries h i (omega arith) d) p j _ c.args.parameters le b (omega arith)
+    (rw (c.pass.ensures.entries p j le b) (least_more k (part order rs p j) _ (part_small order k rs p j (omega arith) (omega arith) c.requires.range) (so.entries p j le b)))
+
+pub returns-then-not-pass-clause-settled : goal.returns-then-not-pass-clause-settled
+returns-then-not-pass-clause-settled c = λ _ p j le b.
+    let k : ℕ = c.loop-parameter.parameter in
+    let rs = c.args.values.now in let order = c.args.order in let h = c.args.halvings in
+    let so = c.loop-parameter.invariant in
+    settled order h k rs c.requires.halves (omega arith) (omega arith) c.requires.range c.loop-parameter.table (c.if-not-pass.ensures.none refl) (λ i d. so.entries h i (omega arith) d) p j _ 31 le b (omega arith)
+    (rw (c.pass.ensures.entries p j le b) (least_more k (part order rs p j) _ (part_small order k rs p j (omega arith) (omega arith) c.requires.range) (so.entries p j le b)))

@@ -1,5 +1,6 @@
-use Rattle.std.proofs.Common.{arith, ◌≡◌, ◌∙◌, ◌+◌, ◌-◌, ◌*◌, ◌^◌, ◌≤◌, ◌<◌, ℕ, inl, inr, refl}
+use Rattle.std.proofs.Common.{arith, ◌≡◌, ◌∙◌, ◌+◌, ◌-◌, ◌*◌, ◌^◌, ◌≤◌, ◌<◌, ℕ, inl, inr, refl, drop}
 use Rattle.std.proofs.lemmas.Bool.{cases_lt}
+use Rattle.std.proofs.lemmas.List.{length-take}
 use Rattle.std.proofs.Math.Nat.{pow-le-pow_right}
 use Rattle.flac_subframe.proofs.Splits.{power_more, halves_at, paired, part_small, entry_kept}
 use Rattle.flac_subframe.proofs.halves.pass.Goals as goal
@@ -20,6 +21,12 @@ note_level-requires-in-loop-level-clause-sums c = omega (arith, room c.loop-leve
 
 pub note_level-requires-in-loop-level-clause-table : goal.note_level-requires-in-loop-level-clause-table
 note_level-requires-in-loop-level-clause-table c = omega (arith, room c.loop-level.level c.args.halvings c.loop-level-test.true c.loop-level.invariant.within)
+
+pub gains-gained-requires-clause-small : goal.gains-gained-requires-clause-small
+gains-gained-requires-clause-small c = λ j h.
+    let n : ℕ = c.power-first.result in
+    let b : j < 2 ^ c.args.halvings = omega (arith, h, length-take (2 * n - n) (drop n c.args.table.now), c.power-first.ensures) in
+    rw (c.price.ensures.costs j b) (part_small c.args.order c.args.parameter c.args.values.now c.args.halvings j c.requires.parameter (omega arith) c.requires.range)
 
 pub note_level-requires-clause-small : goal.note_level-requires-clause-small
 note_level-requires-clause-small c = λ j h.

@@ -1,0 +1,114 @@
+-- Each encoding whose subframes are of the family is a frame of the family.
+use Rattle.std.proofs.Common.{◌≡◌, ◌∙◌, refl, sym, ap, subst, ℕ, ◌+◌, ◌≤◌, ◌<◌, arith, ℤ, pos, ◌+ℤ◌, ◌-ℤ◌, Bool, true, false, cond, nat_eq, nat_lt, List, [], ◌∷◌, length, Option, Some, ⊤}
+use Rattle.std.specs.Int.{int_shr}
+use Rattle.std.proofs.lemmas.Bool.Decides.{nat_tests}
+use Rattle.std.proofs.lemmas.List.{ext_get_or}
+use Rattle.flac_header.specs.Header.{channels_of}
+use Rattle.flac_subframe.specs.declared.limits.Limits.{Limits}
+use Rattle.flac_subframe.specs.Laws.{InFamily}
+use Rattle.flac_subframe.specs.Subframe.{Form}
+use Rattle.flac_subframe.proofs.Complete.{family_whole, samples_long}
+use Rattle.flac_frame.specs.Audio.{Sound}
+use Rattle.flac_frame.specs.Encoding.{IsEncoding, EachStands, EachInFamily, IsOfFamily, FrameFamilyIsWhole}
+use Rattle.flac_frame.specs.Frame.{limits_at}
+use Rattle.flac_frame.specs.Spelling.{FrameForm, AreSubframes, HaveSamples}
+use Rattle.flac_frame.specs.Stereo.{sample_at, Joined, joined, kept_as, side_of, middle_of}
+use Rattle.flac_frame.proofs.Family.{coded_as, kept_same}
+use Rattle.flac_frame.proofs.Joins.{channels_joined}
+use Rattle.flac_frame.proofs.PairLeast.{by_test, kept_8, kept_9, kept_10}
+use Rattle.flac_frame.proofs.Pairs.{side_long, middle_long, side_at, middle_at}
+use Rattle.flac_frame.proofs.Wholes.{not_joined}
+
+-- ---- two channels are kept in one way
+
+both : {a b c d : List ℤ} → a ≡ b → c ≡ d → a ∷ c ∷ [] ≡ b ∷ d ∷ []
+both e f = rw (e, f) refl
+
+module _ (code : ℕ) (first second left right : List ℤ) (long : length second ≡ length first) (j : Joined code first second left right) where
+  as_long : length right ≡ length left
+  as_long = j.right_long ∙ sym j.left_long
+
+  side_is : (x : List ℤ) → length x ≡ length first → ((i : ℕ) → i < length first → sample_at x i ≡ sample_at left i -ℤ sample_at right i) → side_of left right ≡ x
+  side_is x same each = ext_get_or (pos 0) (side_of left right) x (side_long left right as_long ∙ j.left_long ∙ sym same)
+      (λ i h. let lt : i < length left = omega (arith, side_long left right as_long, h) in side_at left right as_long i lt ∙ sym (each i (omega (arith, lt, j.left_long))))
+
+  middle_is : ((i : ℕ) → i < length first → sample_at first i ≡ int_shr (sample_at left i +ℤ sample_at right i) 1) → middle_of left right ≡ first
+  middle_is each = ext_get_or (pos 0) (middle_of left right) first (middle_long left right as_long ∙ j.left_long)
+      (λ i h. let lt : i < length left = omega (arith, middle_long left right as_long, h) in middle_at left right as_long i lt ∙ sym (each i (omega (arith, lt, j.left_long))))
+
+  left_is : ((i : ℕ) → i < length first → sample_at first i ≡ sample_at left i) → left ≡ first
+  left_is each = ext_get_or (pos 0) left first j.left_long (λ i h. sym (each i (omega (arith, h, j.left_long))))
+
+  right_is : ((i : ℕ) → i < length first → sample_at second i ≡ sample_at right i) → right ≡ second
+  right_is each = ext_get_or (pos 0) right second (j.right_long ∙ sym long) (λ i h. sym (each i (omega (arith, h, j.right_long))))
+
+  kept_back : 7 < code → code < 11 → kept_as code (left ∷ right ∷ []) ≡ first ∷ second ∷ []
+  kept_back over few = by_test (nat_eq code 8)
+      (λ a. let e : 8 ≡ code = grind (arith, nat_tests) in
+      subst (λ k. kept_as k (left ∷ right ∷ []) ≡ first ∷ second ∷ []) e
+      (kept_8 left right ∙ both (left_is (λ i h. ((j.each i h).left_side (sym e)).0)) (side_is second long (λ i h. ((j.each i h).left_side (sym e)).1))))
+      (λ a. by_test (nat_eq code 9)
+      (λ b. let e : 9 ≡ code = grind (arith, nat_tests) in
+      subst (λ k. kept_as k (left ∷ right ∷ []) ≡ first ∷ second ∷ []) e
+      (kept_9 left right ∙ both (side_is first refl (λ i h. ((j.each i h).side_right (sym e)).0)) (right_is (λ i h. ((j.each i h).side_right (sym e)).1))))
+      (λ b. let e : 10 ≡ code = grind (arith, nat_tests) in
+      subst (λ k. kept_as k (left ∷ right ∷ []) ≡ first ∷ second ∷ []) e
+      (kept_10 left right ∙ both (middle_is (λ i h. ((j.each i h).middle_side (sym e)).0)) (side_is second long (λ i h. ((j.each i h).middle_side (sym e)).1)))))
+
+-- ---- each subframe
+
+abbrev EachLong : ℕ → List (List ℤ) → Type 0
+EachLong n [] = ⊤
+EachLong n (s ∷ ss) = (length s ≡ n) × EachLong n ss
+
+module _ (depth code size : ℕ) (limits : Limits) (small : limits.partition ≤ 8) where
+  each_stands : (channel : ℕ) (fs : List Form) (ss : List (List ℤ)) → AreSubframes depth code size limits channel fs → HaveSamples depth code size channel fs ss → EachInFamily fs ss
+      → EachStands fs ss × EachLong size ss × (length ss ≡ length fs)
+  each_stands channel [] [] valid have family = (tt, tt, refl)
+  each_stands channel [] (s ∷ ss) valid have family = absurd have
+  each_stands channel (f ∷ fs) [] valid have family = absurd have
+  each_stands channel (f ∷ fs) (s ∷ ss) valid have family =
+      let rest = each_stands (channel + 1) fs ss valid.1 have.1 family.1 in (
+        (family_whole _ size limits f s small valid.0 have.0 family.0, rest.0),
+        (samples_long _ size limits f s small valid.0 have.0 family.0, rest.1),
+        omega (arith, rest.2),
+      )
+
+pair_back : (code size : ℕ) (kept block : List (List ℤ)) → 7 < code → code < 11 → length kept ≡ 2 → length block ≡ 2 → EachLong size kept → joined code kept ≡ block → kept_as code block ≡ kept
+pair_back code size [] block over few two two' long e = absurd (omega (arith, two))
+pair_back code size (a ∷ []) block over few two two' long e = absurd (omega (arith, two))
+pair_back code size (a ∷ b ∷ c ∷ ds) block over few two two' long e = absurd (omega (arith, two))
+pair_back code size (a ∷ b ∷ []) [] over few two two' long e = absurd (omega (arith, two'))
+pair_back code size (a ∷ b ∷ []) (l ∷ []) over few two two' long e = absurd (omega (arith, two'))
+pair_back code size (a ∷ b ∷ []) (l ∷ r ∷ m ∷ ns) over few two two' long e = absurd (omega (arith, two'))
+pair_back code size (a ∷ b ∷ []) (l ∷ r ∷ []) over few two two' long e =
+    let same : length b ≡ length a = long.1.0 ∙ sym long.0 in
+    kept_back code a b l r same ((channels_joined code a b l r over few same).1 e) over few
+
+-- ---- the frame
+
+paired : (code n : ℕ) → nat_lt code 8 ≡ false → channels_of code ≡ n → n ≡ 2
+paired code n t e = go (nat_lt code 8) t e
+  where
+    go : (b : Bool) → b ≡ false → cond b (code + 1) 2 ≡ n → n ≡ 2
+    go true t e = absurd (no t)
+      where
+        no : true ≡ false → ⊥
+        no z = cc
+    go false t e = sym e
+
+pub frame_family_whole : FrameFamilyIsWhole
+frame_family_whole sound size number block f e family =
+    let code : ℕ = f.header.channel_code in
+    let kept : List (List ℤ) = e.samples.kept in
+    let limits = limits_at sound.rate in
+    let codes = coded_as size sound.rate e.code sound.bits number f.header e.header in
+    let valid : AreSubframes sound.bits code f.header.size limits 0 f.subframes =
+    subst (λ z. AreSubframes sound.bits code z limits 0 f.subframes) (sym codes.1) (subst (λ c. AreSubframes sound.bits c size limits 0 f.subframes) (sym codes.0) e.subframes) in
+    let each = each_stands sound.bits code f.header.size limits (omega arith) 0 f.subframes kept valid e.samples.subframes family in
+    let back : kept_as code block ≡ kept = by_test (nat_lt code 8)
+    (λ t. let low : code ≤ 7 = grind (arith, nat_tests) in kept_same code block low ∙ sym e.samples.joined ∙ not_joined 1 code 1 low kept)
+    (λ t. let over : 7 < code = grind (arith, nat_tests) in
+    let two : length block ≡ 2 = paired code (length block) t e.channels in
+    pair_back code f.header.size kept block over (omega (arith, e.valid.channel_code)) (each.2 ∙ e.many ∙ two) two each.1 e.samples.joined) in
+    record { encoding = e; stand = subst (EachStands f.subframes) (sym back) each.0 }

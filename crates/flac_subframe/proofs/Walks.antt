@@ -1,0 +1,120 @@
+-- Parameters are tried from a middle one downwards and upwards, as long as one of the finest partitions gains by it: so none that is left out costs less.
+use Rattle.std.proofs.Common.{◌≡◌, inl, inr, refl, ℕ, zero, suc, ◌+◌, ◌-◌, ◌*◌, ◌^◌, ◌≤◌, ◌<◌, arith, ℤ, List, ◌++◌, length, All, min}
+use Rattle.std.specs.List.{sum_by}
+use Rattle.std.proofs.lemmas.Bool.{cases_lt}
+use Rattle.std.proofs.lemmas.List.Sums.{sum_by-append}
+use Rattle.flac_bits.specs.Rice.{IsResidual}
+use Rattle.flac_subframe.specs.Cost.{value_cost}
+use Rattle.flac_subframe.specs.Halves.{part, Halves, entry, priced, LeastBelow}
+use Rattle.flac_subframe.proofs.Convex.{no_less_after, more_before}
+use Rattle.flac_subframe.proofs.Splits.{part_splits, coarser, part_small, power_more}
+
+-- the number is the least of the Rice parameters from low on and below high; where there are none it is the greatest
+pub record LeastWithin (low high : ℕ) (rs : List ℤ) (e : ℕ) : Type 0 where
+  pub none : high ≤ low → e ≡ 2 ^ 64 - 1
+  pub some : low < high → (n : ℕ) × (low ≤ n) × (n < high) × (e ≡ priced n (sum_by (value_cost n) rs))
+  pub least : (n : ℕ) → low ≤ n → n < high → e ≤ priced n (sum_by (value_cost n) rs)
+
+pub within_none : (k : ℕ) (rs : List ℤ) (e : ℕ) → e ≡ 2 ^ 64 - 1 → LeastWithin k k rs e
+within_none k rs e is = record { none = λ h. is; some = λ h. absurd (omega arith); least = λ n h g. absurd (omega arith) }
+
+pub within_all : (high : ℕ) (rs : List ℤ) (e : ℕ) → LeastWithin 0 high rs e → LeastBelow high rs e
+within_all high rs e so = record {
+  none = λ h. so.none (omega arith);
+  some = λ h. let was = so.some h in (was.0, was.2, was.3);
+  least = λ n h. so.least n (omega arith) h;
+}
+
+-- one parameter more, below those that were tried
+pub within_more : (k high : ℕ) (rs : List ℤ) (old : ℕ) → k < high → sum_by (value_cost k) rs < 2 ^ 50 → k < 32 → LeastWithin (k + 1) high rs old → LeastWithin k high rs (min old (priced k (sum_by (value_cost k) rs)))
+within_more k high rs old lt small few so =
+    let c = sum_by (value_cost k) rs in
+    let same : (m : ℕ) → k ≤ m → m < k + 1 → priced m (sum_by (value_cost m) rs) ≡ priced k c = λ m g h. let e : m ≡ k = omega arith in rw e refl in
+    elim (cases_lt (priced k c) old) [
+      | inl b ↦
+          let e : min old (priced k c) ≡ priced k c = omega (arith, b) in
+          rw e (record {
+            none = λ z. absurd (omega arith);
+            some = λ _. (k, omega arith, lt, refl);
+            least = λ m g h. elim (cases_lt m (k + 1)) [ inl d ↦ omega (arith, same m g d) | inr d ↦ omega (arith, b, so.least m d h) ];
+          })
+      | inr b ↦
+          let some : k + 1 < high = elim (cases_lt (k + 1) high) [ inl d ↦ d | inr d ↦ absurd (omega (arith, b, small, few, so.none d)) ] in
+          let e : min old (priced k c) ≡ old = omega (arith, b) in
+          rw e (record {
+            none = λ z. absurd (omega arith);
+            some = λ _. let was = so.some some in (was.0, omega (arith, was.1), was.2, was.3);
+            least = λ m g h. elim (cases_lt m (k + 1)) [ inl d ↦ omega (arith, b, same m g d) | inr d ↦ so.least m d h ];
+          })
+    ]
+
+doubled : (m : ℕ) → 2 ^ (m + 1) ≡ 2 * 2 ^ m
+doubled m = let e : m + 1 - 1 ≡ m = omega arith in rw e at (power_more (m + 1) (omega arith))
+
+-- what holds of each of the finest partitions, and of two joined where it holds of both, holds of all
+module _ (order : ℕ) (rs : List ℤ) (P : List ℤ → Type 0) (joins : (xs ys : List ℤ) → P xs → P ys → P (xs ++ ys)) where
+  up_to : (n p : ℕ) → Halves order rs (n + p) → ((j : ℕ) → j < 2 ^ (n + p) → P (part order rs (n + p) j)) → (j : ℕ) → j < 2 ^ p → P (part order rs p j)
+  up_to zero p half leaves j h =
+      let e : 0 + p ≡ p = omega arith in
+      let one : P (part order rs (0 + p) j) = leaves j (rw e h) in
+      rw e at one
+  up_to (suc n) p half leaves j h =
+      let e : suc n + p ≡ n + p + 1 = omega arith in
+      let half' : Halves order rs (n + p + 1) = rw e at half in
+      let leaves' : (i : ℕ) → i < 2 ^ (n + p + 1) → P (part order rs (n + p + 1) i) = rw e at leaves in
+      up_to n p (coarser order rs (n + p) half') (λ i b.
+      rw (part_splits order rs (n + p) i half') (joins (part order rs (n + p + 1) (2 * i)) (part order rs (n + p + 1) (2 * i + 1)) (leaves' (2 * i) (omega (arith, doubled (n + p), b))) (leaves' (2 * i + 1) (omega (arith, doubled (n + p), b))))) j h
+
+  pub of_all : (h p : ℕ) → p ≤ h → Halves order rs h → ((j : ℕ) → j < 2 ^ h → P (part order rs h j)) → (j : ℕ) → j < 2 ^ p → P (part order rs p j)
+  of_all h p le half leaves =
+      let e : h - p + p ≡ h = omega arith in
+      up_to (h - p) p (rw e half) (rw e leaves)
+
+module _ (order h k : ℕ) (rs : List ℤ) (half : Halves order rs h) (few : length rs ≤ 65535) (small : k < 31) (all : All IsResidual rs) (old : List ℕ)
+    (kept : (j : ℕ) → j < 2 ^ h → entry old h j ≤ priced k (sum_by (value_cost k) (part order rs h j))) where
+  below : (p j : ℕ) → sum_by (value_cost k) (part order rs p j) < 2 ^ 50
+  below p j = part_small order k rs p j small few all
+
+  -- upwards: the parameter k gains nothing for the finest partitions, so no higher one gains anything
+  module _ (leaves : (j : ℕ) → j < 2 ^ h → LeastBelow k (part order rs h j) (entry old h j)) where
+    leaf_rises : (l : ℕ) → k ≤ l → (j : ℕ) → j < 2 ^ h → sum_by (value_cost k) (part order rs h j) ≤ sum_by (value_cost l) (part order rs h j)
+    leaf_rises l g j b =
+        let so = leaves j b in
+        let some : 0 < k = elim (cases_lt 0 k) [ inl c ↦ c | inr c ↦ absurd (omega (arith, kept j b, below h j, small, so.none (omega arith))) ] in
+        let was = so.some some in
+        no_less_after (part order rs h j) was.0 k l was.1 (omega (arith, kept j b, was.1, was.2, small)) g
+
+    rises : (l : ℕ) → k ≤ l → (p j : ℕ) → p ≤ h → j < 2 ^ p → sum_by (value_cost k) (part order rs p j) ≤ sum_by (value_cost l) (part order rs p j)
+    rises l g p j le b = of_all order rs (λ xs. sum_by (value_cost k) xs ≤ sum_by (value_cost l) xs) (λ xs ys a c. omega (arith, a, c, sum_by-append (value_cost k) xs ys, sum_by-append (value_cost l) xs ys)) h p le half (leaf_rises l g) j b
+
+    pub settled : (p j e m : ℕ) → p ≤ h → j < 2 ^ p → k < m → LeastBelow (k + 1) (part order rs p j) e → LeastBelow m (part order rs p j) e
+    settled p j e m le b more so = record {
+      none = λ z. absurd (omega arith);
+      some = λ z. let was = so.some (omega arith) in (was.0, omega (arith, was.1, more), was.2);
+      least = λ n c. elim (cases_lt n (k + 1)) [
+        | inl d ↦ so.least n d
+        | inr d ↦ omega (arith, so.least k (omega arith), rises n (omega arith) p j le b)
+      ];
+    }
+
+  -- downwards: the parameter k gains nothing for the finest partitions, so no lower one gains anything
+  module _ (high : ℕ) (leaves : (j : ℕ) → j < 2 ^ h → LeastWithin (k + 1) high (part order rs h j) (entry old h j)) where
+    leaf_falls : (m : ℕ) → m < k → (j : ℕ) → j < 2 ^ h → sum_by (value_cost k) (part order rs h j) < sum_by (value_cost m) (part order rs h j)
+    leaf_falls m g j b =
+        let so = leaves j b in
+        let some : k + 1 < high = elim (cases_lt (k + 1) high) [ inl c ↦ c | inr c ↦ absurd (omega (arith, kept j b, below h j, small, so.none c)) ] in
+        let was = so.some some in
+        more_before (part order rs h j) m k was.0 g (omega (arith, was.1)) (omega (arith, kept j b, was.1, was.3))
+
+    falls : (m : ℕ) → m < k → (p j : ℕ) → p ≤ h → j < 2 ^ p → sum_by (value_cost k) (part order rs p j) < sum_by (value_cost m) (part order rs p j)
+    falls m g p j le b = of_all order rs (λ xs. sum_by (value_cost k) xs < sum_by (value_cost m) xs) (λ xs ys a c. omega (arith, a, c, sum_by-append (value_cost k) xs ys, sum_by-append (value_cost m) xs ys)) h p le half (leaf_falls m g) j b
+
+    pub fallen : (p j e : ℕ) → p ≤ h → j < 2 ^ p → k < high → LeastWithin k high (part order rs p j) e → LeastBelow high (part order rs p j) e
+    fallen p j e le b lt so = record {
+      none = λ z. absurd (omega arith);
+      some = λ z. let was = so.some lt in (was.0, was.2, was.3);
+      least = λ n c. elim (cases_lt n k) [
+        | inl d ↦ omega (arith, so.least k (omega arith) lt, falls n d p j le b, small)
+        | inr d ↦ so.least n d c
+      ];
+    }

@@ -1,0 +1,13 @@
+use Rattle.std.proofs.Common.{◌^◌, ◌≤◌, ◌<◌, ℕ}
+use Rattle.flac_subframe.specs.Halves.{part, entry}
+use Rattle.flac_subframe.proofs.Walks.{LeastWithin}
+use Rattle.flac_subframe.proofs.halves.compare_down.Given as goal
+
+abbrev pub invariant-loop-low : goal.invariant-loop-low
+invariant-loop-low l = record {
+  within : l.low ≤ l.from;
+  entries : (p j : ℕ) → p ≤ l.halvings → j < 2 ^ p → LeastWithin l.low l.from (part l.order l.values p j) (entry l.table p j);
+}
+
+abbrev pub decreases-loop-low : goal.decreases-loop-low
+decreases-loop-low l = l.low
