@@ -35,8 +35,3 @@ pub use sums::{checks_are_remainders, crc8, crc16, crc32_sum};
 pub use target::{Collected, Target};
 pub use why::Why;
 pub use writer::BitWriter;
-
-#[cfg(test)]
-mod reader_tests;
-#[cfg(test)]
-mod writer_tests;

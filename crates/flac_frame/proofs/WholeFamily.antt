@@ -1,17 +1,16 @@
 -- Each encoding whose subframes are of the family is a frame of the family.
-use Rattle.std.proofs.Common.{◌≡◌, ◌∙◌, refl, sym, ap, subst, ℕ, ◌+◌, ◌≤◌, ◌<◌, arith, ℤ, pos, ◌+ℤ◌, ◌-ℤ◌, Bool, true, false, cond, nat_eq, nat_lt, List, [], ◌∷◌, length, Option, Some, ⊤}
+use Rattle.std.proofs.Common.{◌≡◌, ◌∙◌, refl, sym, subst, ℕ, ◌+◌, ◌≤◌, ◌<◌, arith, ℤ, pos, ◌+ℤ◌, ◌-ℤ◌, Bool, true, false, cond, nat_eq, nat_lt, List, [], ◌∷◌, length}
+use Rattle.std.specs.Bool.{⊤}
 use Rattle.std.specs.Int.{int_shr}
 use Rattle.std.proofs.lemmas.Bool.Decides.{nat_tests}
 use Rattle.std.proofs.lemmas.List.{ext_get_or}
 use Rattle.flac_header.specs.Header.{channels_of}
 use Rattle.flac_subframe.specs.declared.limits.Limits.{Limits}
-use Rattle.flac_subframe.specs.Laws.{InFamily}
 use Rattle.flac_subframe.specs.Subframe.{Form}
 use Rattle.flac_subframe.proofs.Complete.{family_whole, samples_long}
-use Rattle.flac_frame.specs.Audio.{Sound}
-use Rattle.flac_frame.specs.Encoding.{IsEncoding, EachStands, EachInFamily, IsOfFamily, FrameFamilyIsWhole}
+use Rattle.flac_frame.specs.Encoding.{EachStands, EachInFamily, FrameFamilyIsWhole}
 use Rattle.flac_frame.specs.Frame.{limits_at}
-use Rattle.flac_frame.specs.Spelling.{FrameForm, AreSubframes, HaveSamples}
+use Rattle.flac_frame.specs.Spelling.{AreSubframes, HaveSamples}
 use Rattle.flac_frame.specs.Stereo.{sample_at, Joined, joined, kept_as, side_of, middle_of}
 use Rattle.flac_frame.proofs.Family.{coded_as, kept_same}
 use Rattle.flac_frame.proofs.Joins.{channels_joined}

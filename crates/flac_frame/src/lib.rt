@@ -15,8 +15,6 @@ mod samples;
 mod setup;
 mod start;
 mod stereo;
-#[cfg(test)]
-mod tests;
 mod view;
 
 pub use audio::Audio;

@@ -6,8 +6,6 @@ mod frame_header;
 mod promises;
 mod read;
 mod subset;
-#[cfg(test)]
-mod tests;
 mod write;
 
 pub use choice::{depth_code, rate_code};

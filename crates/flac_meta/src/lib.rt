@@ -25,8 +25,6 @@ mod reading;
 mod seek_table;
 mod seen;
 mod stream_info;
-#[cfg(test)]
-mod tests;
 mod writing;
 
 pub use block::Block;

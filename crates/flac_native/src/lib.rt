@@ -9,8 +9,6 @@ mod digest;
 mod encode_fault;
 mod encoded_info;
 mod encoding;
-#[cfg(test)]
-mod encoding_tests;
 mod end;
 mod fault;
 mod format;
@@ -44,6 +42,3 @@ pub use plan::Plan;
 pub use promises::encoded_are_streams;
 pub use sink::{Sink, SinkFault};
 pub use track::Track;
-
-#[cfg(test)]
-mod tests;

@@ -15,6 +15,3 @@ pub use pages::Pages;
 pub use promises::{packets_are_given, pages_are_spelled, pages_have_packets};
 pub use room::{PageRoom, next_page};
 pub use writing::{PacketMarks, page_sum, write_packet, write_page};
-
-#[cfg(test)]
-mod tests;

@@ -17,8 +17,6 @@ mod residual;
 mod restoration;
 mod subframe;
 mod survey;
-#[cfg(test)]
-mod tests;
 mod wasted;
 mod widths;
 mod writing;

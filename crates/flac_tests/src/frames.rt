@@ -2,12 +2,11 @@
 
 ghost use Rattle.std.specs.Prelude.{◌≡◌, IfOk};
 
-use crate::stereo::join_samples;
-use crate::{
+use flac_bits::{BitReader, BitWriter, Collected, Memory, Target, Why};
+use flac_frame::{
     Audio, EncodeBuffers, FrameBuffers, FrameView, SetupFault, channels_are_joined, encode_frame,
     encodings_are_frames, forms_stand_for_samples, frames_are_spelled, frames_follow,
 };
-use flac_bits::{BitReader, BitWriter, Collected, Memory, Target, Why};
 use flac_header::Profile;
 use flac_meta::StreamInfo;
 use std::alloc::{AllocError, Global};
@@ -85,19 +84,48 @@ fn out_of_range(rt: HostRuntime) -> Result<(), Fail> {
     Ok(())
 }
 
+/// STREAMINFO of two channels of 32 bits.
+fn wide_info() -> Result<StreamInfo, Why>
+    ensures { IfOk result (λ i. (i.channels ≡ 2) × (i.greatest_block ≡ 16)) }
+{
+    StreamInfo::new(16, 16, 0, 0, 44100, 2, 32, 0, [0; 16])
+}
+
+/// The left and the right sample of a frame of one sample a channel.
+fn pair(alloc: Global, bytes: &[u8]) -> Result<(Option<i32>, Option<i32>), Why> {
+    let info = wide_info()?;
+    let mut buffers = FrameBuffers::new(alloc, 2, 16)?;
+    let mut bits = BitReader::new(Memory::new(bytes));
+    buffers.fill(&mut bits, &info, Profile::Subset)?;
+    let view = buffers.view();
+    Ok((sample(&view, 0, 0), sample(&view, 1, 0)))
+}
+
 #[test]
 fn pairs_of_samples(rt: HostRuntime) {
     channels_are_joined();
     frames_follow();
     frames_are_spelled();
-    assert_eq!(rt; join_samples(10, -1, -1), (-1, 0));
+    let middle_and_side = [
+        0xFF, 0xF8, 0x69, 0xAE, 0x00, 0x00, 0x28, 0x02, 0xFF, 0xFF, 0xFF, 0xFF, 0x02, 0xFF, 0xFF,
+        0xFF, 0xFF, 0x80, 0xB5, 0x63,
+    ];
+    assert_eq!(rt; pair(rt.alloc(), &middle_and_side), Ok((Some(-1), Some(0))));
+    let left_and_side = [
+        0xFF, 0xF8, 0x69, 0x8E, 0x00, 0x00, 0x6B, 0x02, 0x7F, 0xFF, 0xFF, 0xFF, 0x02, 0x7F, 0xFF,
+        0xFF, 0xFF, 0x80, 0xFC, 0x62,
+    ];
     assert_eq!(rt;
-        join_samples(8, 2147483647, 4294967295),
-        (2147483647, -2147483648)
+        pair(rt.alloc(), &left_and_side),
+        Ok((Some(2147483647), Some(-2147483648)))
     );
+    let side_and_right = [
+        0xFF, 0xF8, 0x69, 0x9E, 0x00, 0x00, 0xC9, 0x02, 0x7F, 0xFF, 0xFF, 0xFF, 0x81, 0x40, 0x00,
+        0x00, 0x00, 0x00, 0x5F, 0x45,
+    ];
     assert_eq!(rt;
-        join_samples(9, 4294967295, -2147483648),
-        (2147483647, -2147483648)
+        pair(rt.alloc(), &side_and_right),
+        Ok((Some(2147483647), Some(-2147483648)))
     );
 }
 

@@ -1,10 +1,10 @@
 //! Blocks from outside, worked by hand from RFC 9639, section 8.
 
-use crate::{
+use flac_bits::{BitReader, BitWriter, Collected, Memory, Why};
+use flac_meta::{
     Block, BlockList, Bytes, Comments, CueSheet, CueTracks, SeekPoint, SeekTable, Seen, StreamInfo,
     Texts, blocks_are_spelled, read_block, write_block, write_comments,
 };
-use flac_bits::{BitReader, BitWriter, Collected, Memory, Why};
 use std::alloc::Global;
 use std::test::Fail;
 use std::{fs, io};

@@ -3,12 +3,11 @@
 ghost use Rattle.std.specs.Prelude.{◌≤◌, length, All, IsTrue};
 ghost use Rattle.flac_bits.specs.Signed.{FitsBits};
 
-use crate::numbers::fits_bits;
-use crate::{
+use flac_bits::{BitReader, BitWriter, Collected, Memory, Target, Why};
+use flac_subframe::{
     Limits, choose_into, predict_fixed, predict_linear, read_subframe, samples_are_restored,
     subframes_are_read_again, subframes_are_spelled, write_subframe_into,
 };
-use flac_bits::{BitReader, BitWriter, Collected, Memory, Target, Why};
 use std::test::Fail;
 
 fn read(bytes: &[u8], depth: u32, samples: &mut [i64]) -> Result<bool, Why>
@@ -132,6 +131,15 @@ fn restores_by_each_order(rt: HostRuntime) {
         Ok(true)
     );
     assert_eq!(rt; (block[12], block[13], block[15]), (13, 1, 3));
+}
+
+/// Whether a number fits so many bits.
+fn fits_bits(number: i64, bits: u32) -> bool
+    requires { (1 ≤ bits) × (bits ≤ 33) }
+    ensures { IsTrue result → FitsBits bits number }
+{
+    let limit = 1i64 << (bits - 1);
+    -limit <= number && number < limit
 }
 
 fn all_fit(samples: &[i64], depth: u32) -> bool

@@ -1,8 +1,4 @@
-use crate::coded::write_number;
-use crate::counted::Counted;
-use crate::target::Collected;
-use crate::why::Why;
-use crate::writer::BitWriter;
+use flac_bits::{BitWriter, Collected, Counted, Why, write_number};
 use std::io;
 use std::io::{ErrorKind, Write};
 use std::test::Fail;

@@ -1,9 +1,7 @@
 ghost use Rattle.std.specs.Prelude.{◌≤◌};
 
-use crate::packet_bytes::PacketBytes;
-use crate::pages::Pages;
-use crate::writing::{PacketMarks, write_packet};
 use flac_bits::{BitReader, BitWriter, Collected, Memory, Pieces, Source, Why};
+use flac_ogg::{PacketBytes, PacketMarks, Pages, write_packet};
 use std::alloc::Global;
 use std::test::Fail;
 

@@ -1,7 +1,7 @@
 //! Headers from outside, worked by hand from RFC 9639, section 9.1.
 
-use crate::{FrameHeader, headers_are_spelled, read_header, subset_allows, write_header};
 use flac_bits::{BitReader, BitWriter, Collected, Memory, Why};
+use flac_header::{FrameHeader, headers_are_spelled, read_header, subset_allows, write_header};
 use std::test::Fail;
 
 fn read(bytes: &[u8]) -> Result<FrameHeader, Why> {

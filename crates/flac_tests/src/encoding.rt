@@ -1,9 +1,9 @@
 //! Streams that are written: samples of RFC 9639, appendix D.1, no samples, and blocks of 16 samples whose least subframe is known.
 
-use crate::{Plan, encode};
 use flac_bits::Collected;
 use flac_frame::Audio;
 use flac_meta::BlockList;
+use flac_native::{Plan, encode};
 use std::alloc::Global;
 use std::process::Abort;
 use std::test::Fail;

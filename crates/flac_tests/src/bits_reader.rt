@@ -1,10 +1,7 @@
-use crate::bytes::read_bytes;
-use crate::counted::Counted;
-use crate::number::read_number;
-use crate::reader::BitReader;
-use crate::source::{Memory, Pieces, Source};
-use crate::sums::{crc8, crc16, crc32_sum};
-use crate::why::Why;
+use flac_bits::{
+    BitReader, Counted, Memory, Pieces, Source, Why, crc8, crc16, crc32_sum, read_bytes,
+    read_number,
+};
 use std::io;
 use std::io::{ErrorKind, Read};
 use std::test::Fail;

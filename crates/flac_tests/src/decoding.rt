@@ -1,8 +1,8 @@
 //! A stream item by item: the example of RFC 9639, appendix D.1, its digest unknown.
 
-use crate::{Decoder, Fault, Item, Place, Profile, Source, Why};
 use flac_bits::{Memory, Pieces};
 use flac_frame::FrameView;
+use flac_native::{Decoder, Fault, Item, Place, Profile, Source, Why};
 use std::test::Fail;
 
 /// One frame of one sample of two channels.
