@@ -11,11 +11,10 @@ use std::{fs, io};
 
 /// The block that comes behind STREAMINFO, and whether it is the last.
 fn read(alloc: Global, bytes: &[u8]) -> Result<(bool, Block), Why> {
-    let mut seen = Seen {
-        stream_info: true,
-        seek_table: false,
-        comments: false,
-    };
+    let mut seen = Seen::new();
+    let mut info = info_bytes();
+    info[0] = 0x00;
+    read_block(alloc, &mut BitReader::new(Memory::new(&info)), &mut seen)?;
     let mut bits = BitReader::new(Memory::new(bytes));
     read_block(alloc, &mut bits, &mut seen)
 }
