@@ -480,12 +480,13 @@ impl<R: Source> BitReader<R> {
         self.held.unread()
     }
 
-    /// Whether no bit is left.
+    /// Whether no bit is left. An end at which the source is to answer an error is no end: it is refused by `Read`.
     pub fn at_end(&mut self) -> Result<bool, Why>
         ensures spends { OnOk result (self.new.most ≤ self.old.most) }
         ensures counts { Counts self.old self.new result }
         ensures memory { IfErr result (λ e. e ≢ Why.Memory) }
         ensures over { IfOk result (λ over. self.old.known ≡ true → (self.new.cursor ≡ self.old.cursor) × (over ≡ is_nil self.old.cursor.left)) }
+        ensures ended { result ≡ Ok true → self.old.known ≡ true → self.old.cursor.mark.short ≡ Why.Read → ⊥ }
         ensures read { IfErr result (λ e. (e ≡ Why.Read) × (self.old.known ≡ true → self.new.errors ≡ self.old.errors → (self.old.cursor.left ≡ []) × (self.old.cursor.mark.short ≡ Why.Read))) }
     {
         match fill(&mut self.held, &mut self.source) {

@@ -18,8 +18,8 @@ const LONGEST_FRAME: u64 = 16777215;
 pub(crate) struct Format {
     pub(crate) info: StreamInfo,
     pub(crate) buffers: FrameBuffers,
-    ghost channels: { info.channels ≤ buffers.channels },
-    ghost block: { min info.greatest_block (greatest_block info.rate) ≤ buffers.max_block },
+    ghost channels: { buffers.channels ≡ info.channels },
+    ghost block: { buffers.max_block ≡ min info.greatest_block (greatest_block info.rate) },
 }
 
 impl Format {
