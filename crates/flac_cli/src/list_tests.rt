@@ -109,20 +109,49 @@ const SHEET: [(usize, u8); 22] = [
     (469, 0x80),
 ];
 
-/// A cue sheet of a disc: a zero inside its catalogue stays, those at the ends of texts do not.
-#[test]
-fn cue_sheet(rt: HostRuntime) -> Result<(), Fail> {
+/// The bytes of that cue sheet.
+fn sheet() -> [u8; 484] {
     let mut block = [0u8; 484];
     for (place, byte) in SHEET {
         if let Some(other) = block.get_mut(place) {
             *other = byte;
         }
     }
-    let sheet = "block 1 CUESHEET 480\n  catalogue 1\\x00\\x5c lead_in 88200 cd 1\n";
+    block
+}
+
+/// A cue sheet of a disc: a zero inside its catalogue stays, those at the ends of texts do not.
+#[test]
+fn cue_sheet(rt: HostRuntime) -> Result<(), Fail> {
+    let first = "block 1 CUESHEET 480\n  catalogue 1\\x00\\x5c lead_in 88200 cd 1\n";
     let tracks =
         "  track 1 offset 0 isrc AB type audio pre 1\n  index 1 offset 588\n  track 170 offset 2352 isrc  type data pre 0\n";
-    let lines = format!(in rt.alloc(); "{sheet}{tracks}")?;
-    lists(&rt, rt.alloc(), &block, lines.as_str())
+    let lines = format!(in rt.alloc(); "{first}{tracks}")?;
+    lists(&rt, rt.alloc(), &sheet(), lines.as_str())
+}
+
+const EVERY_KIND: &str =
+    "block 1 APPLICATION 6\n  id 616243ff\nblock 2 SEEKTABLE 54\n  point 0 0 4096\n  point 4096 258 16\n  placeholder\nblock 3 VORBIS_COMMENT 28\n  vendor a\\x5cb\n  comment X=\\x7f~ \\xc3\\xa9\\x0a[\n  comment \nblock 4 PICTURE 46\n  type 3 media image/png text a\\x0ab size 2x5 depth 24 colours 0 data 2\nblock 5 TYPE_126 3\nblock 6 PADDING 2\nblock 7 CUESHEET 480\n  catalogue 1\\x00\\x5c lead_in 88200 cd 1\n  track 1 offset 0 isrc AB type audio pre 1\n  index 1 offset 588\n  track 170 offset 2352 isrc  type data pre 0\n";
+
+/// A stream with a block of every kind.
+#[test]
+fn every_kind(rt: HostRuntime) -> Result<(), Fail> {
+    let mut input = with_block(rt.alloc(), &[])?;
+    for (block, _) in LISTED {
+        if let Some((first, rest)) = block.split_first() {
+            input.push(*first & 0x7F)?;
+            input.extend_from_slice(rest)?;
+        }
+    }
+    input.extend_from_slice(&sheet())?;
+    let out = format!(in rt.alloc(); "{INFO}{EVERY_KIND}")?;
+    let wanted = Wanted {
+        file: &[],
+        out: out.as_str(),
+        err: "",
+    };
+    expect(&rt, rt.alloc(), LIST, input.as_slice(), 0, &wanted);
+    Ok(())
 }
 
 /// Second blocks that are refused: a forbidden type; lengths that a table and an application cannot have; a second
@@ -156,6 +185,17 @@ fn refused_blocks(rt: HostRuntime) -> Result<(), Fail> {
     for (block, line) in REFUSED {
         let input = with_block(rt.alloc(), block)?;
         answers(&rt, rt.alloc(), input.as_slice(), line)?;
+    }
+    Ok(())
+}
+
+/// Each of them needs the last byte that was given.
+#[test]
+fn blocks_refused_at_the_last_byte(rt: HostRuntime) -> Result<(), Fail> {
+    for (block, _) in REFUSED {
+        let mut input = with_block(rt.alloc(), block)?;
+        let _last = input.pop();
+        answers(&rt, rt.alloc(), input.as_slice(), "block 1: 3 Truncated\n")?;
     }
     Ok(())
 }

@@ -322,34 +322,145 @@ fn long_quotients(rt: HostRuntime) -> Result<(), Fail> {
     Ok(())
 }
 
+/// Each refusal of a first frame needs the last byte that was given: without it the input ends too early.
+#[test]
+fn refused_at_the_last_byte(rt: HostRuntime) -> Result<(), Fail> {
+    for row in ROWS {
+        if row.line.starts_with("frame 0: ") {
+            let mut input = stream_of(rt.alloc(), row.greatest, row.channels, row.frames)?;
+            let _last = input.pop();
+            answers(&rt, rt.alloc(), input.as_slice(), "frame 0: 3 Truncated\n")?;
+        }
+    }
+    Ok(())
+}
+
 /// Where two rules break at the end of a header, the reason of the lesser rank is told: the check, the subset, the format, the sequence, the size.
 #[test]
 fn ranks(rt: HostRuntime) -> Result<(), Fail> {
-    let rows: [(&[&[u8]], &str); 5] = [
+    let rows: [([u8; 7], &str); 11] = [
+        // a depth as in STREAMINFO, 48000 Hz, number 5, 32 samples, each with a wrong check
         (
-            &[&[0xFF, 0xF8, 0x69, 0x00, 0x00, 0x0F, 0x60]],
-            "frame 0: 16 HeaderCheck\n",
+            [0xFF, 0xF8, 0x69, 0x00, 0x01, 0x0F, 0x75],
+            "frame 1: 16 HeaderCheck\n",
         ),
         (
-            &[&[0xFF, 0xF8, 0x69, 0x00, 0x00, 0x0F, 0x61]],
-            "frame 0: 14 NotSubset\n",
+            [0xFF, 0xF8, 0x6A, 0x08, 0x01, 0x0F, 0x1E],
+            "frame 1: 16 HeaderCheck\n",
         ),
         (
-            &[&ZEROS, &[0xFF, 0xF8, 0x6A, 0x08, 0x05, 0x0F, 0x4B]],
+            [0xFF, 0xF8, 0x69, 0x08, 0x05, 0x0F, 0x70],
+            "frame 1: 16 HeaderCheck\n",
+        ),
+        (
+            [0xFF, 0xF8, 0x69, 0x08, 0x01, 0x1F, 0x54],
+            "frame 1: 16 HeaderCheck\n",
+        ),
+        // a depth as in STREAMINFO, with two channels, number 5, 32 samples
+        (
+            [0xFF, 0xF8, 0x69, 0x10, 0x01, 0x0F, 0xD6],
+            "frame 1: 14 NotSubset\n",
+        ),
+        (
+            [0xFF, 0xF8, 0x69, 0x00, 0x05, 0x0F, 0x20],
+            "frame 1: 14 NotSubset\n",
+        ),
+        (
+            [0xFF, 0xF8, 0x69, 0x00, 0x01, 0x1F, 0x04],
+            "frame 1: 14 NotSubset\n",
+        ),
+        // 48000 Hz, with number 5, 32 samples
+        (
+            [0xFF, 0xF8, 0x6A, 0x08, 0x05, 0x0F, 0x4B],
             "frame 1: 17 HeaderMismatch\n",
         ),
         (
-            &[&ZEROS, &[0xFF, 0xF8, 0x69, 0x08, 0x05, 0x1F, 0x01]],
+            [0xFF, 0xF8, 0x6A, 0x08, 0x01, 0x1F, 0x6F],
+            "frame 1: 17 HeaderMismatch\n",
+        ),
+        // number 5 with 32 samples, and 32 samples alone
+        (
+            [0xFF, 0xF8, 0x69, 0x08, 0x05, 0x1F, 0x01],
             "frame 1: 18 Sequence\n",
         ),
         (
-            &[&ZEROS, &[0xFF, 0xF8, 0x69, 0x08, 0x01, 0x1F, 0x55]],
+            [0xFF, 0xF8, 0x69, 0x08, 0x01, 0x1F, 0x55],
             "frame 1: 19 BlockSize\n",
         ),
     ];
-    for (frames, line) in rows {
-        let input = stream_of(rt.alloc(), 4096, 1, frames)?;
+    for (header, line) in rows {
+        let input = stream_of(rt.alloc(), 4096, 1, &[&ZEROS, &header])?;
         answers(&rt, rt.alloc(), input.as_slice(), line)?;
+    }
+    Ok(())
+}
+
+/// A depth, bytes 20 and 21 of STREAMINFO for it and one channel, the digest of one sample, its frame, and the raw sample: -1 of 12 bits, -2 of 20, 127 of 8.
+pub(crate) const DEPTHS: [(u32, [u8; 2], [u8; 16], &[u8], &[u8]); 3] = [
+    (
+        12,
+        [0x40, 0xB0],
+        [
+            0xAB, 0x2A, 0x0D, 0x28, 0xDE, 0x6B, 0x77, 0xFF, 0xDD, 0x6C, 0x72, 0xAF, 0xEA, 0xD0,
+            0x99, 0xAB,
+        ],
+        &[
+            0xFF, 0xF8, 0x69, 0x04, 0x00, 0x00, 0xE7, 0x00, 0xFF, 0xF0, 0x64, 0xE0,
+        ],
+        &[0xFF, 0xFF],
+    ),
+    (
+        20,
+        [0x41, 0x30],
+        [
+            0x96, 0xF8, 0x7E, 0x53, 0x16, 0x0A, 0xD1, 0x41, 0x25, 0x50, 0x05, 0x0A, 0x1E, 0x6F,
+            0x57, 0xD1,
+        ],
+        &[
+            0xFF, 0xF8, 0x69, 0x0A, 0x00, 0x00, 0xCB, 0x00, 0xFF, 0xFF, 0xE0, 0xAC, 0x1F,
+        ],
+        &[0xFE, 0xFF, 0xFF],
+    ),
+    (
+        8,
+        [0x40, 0x70],
+        [
+            0x83, 0xAC, 0xB6, 0xE6, 0x7E, 0x50, 0xE3, 0x1D, 0xB6, 0xED, 0x34, 0x1D, 0xD2, 0xDE,
+            0x15, 0x95,
+        ],
+        &[
+            0xFF, 0xF8, 0x69, 0x02, 0x00, 0x00, 0x9A, 0x00, 0x7F, 0xB5, 0x47,
+        ],
+        &[0x7F],
+    ),
+];
+
+/// The digest is compared at each depth, behind the total.
+#[test]
+fn digests(rt: HostRuntime) -> Result<(), Fail> {
+    let ends = [
+        (0, 1, 0, ""),
+        (1, 1, 1, "flac: a.flac: end: 29 Md5Mismatch\n"),
+        (1, 2, 1, "flac: a.flac: end: 28 TotalMismatch\n"),
+    ];
+    for (_, depth, digest, frame, raw) in DEPTHS {
+        for (change, total, status, err) in ends {
+            let mut head = HEAD;
+            head[20] = depth[0];
+            head[21] = depth[1];
+            head[25] = total;
+            head[26..].copy_from_slice(&digest);
+            head[41] ^= change;
+            let mut input = Vec::new(rt.alloc());
+            input.extend_from_slice(&head)?;
+            input.extend_from_slice(frame)?;
+            let wanted = Wanted {
+                file: raw,
+                out: "",
+                err,
+            };
+            expect(&rt, rt.alloc(), DECODE, input.as_slice(), status, &wanted);
+        }
     }
     Ok(())
 }

@@ -2,7 +2,7 @@
 
 use crate::row_tests::{ALTERNATING, HEAD, LEFT_SIDE, RAMP, answers, stream_of};
 use crate::runs::run;
-use crate::tests::{DECODE, Wanted, expect};
+use crate::tests::{DECODE, ROW, Wanted, expect};
 use flac_bits::{Collected, Memory};
 use std::alloc::Global;
 use std::process::Abort;
@@ -100,4 +100,106 @@ fn extremes(rt: HostRuntime) -> Result<(), Fail> {
     };
     expect(&rt, rt.alloc(), DECODE, input.as_slice(), 0, &wanted);
     Ok(())
+}
+
+const CUT: &str = "frame 0: 3 Truncated\n";
+
+const SYNC: &str = "frame 0: 12 BadSync\n";
+
+const CODE: &str = "frame 0: 13 ReservedCode\n";
+
+const NUMBER: &str = "frame 0: 15 BadNumber\n";
+
+const HEADER: &str = "frame 0: 16 HeaderCheck\n";
+
+const OTHER: &str = "frame 0: 17 HeaderMismatch\n";
+
+const SUBFRAME: &str = "frame 0: 20 BadSubframe\n";
+
+const PARTITION: &str = "frame 0: 22 BadPartition\n";
+
+const SUBSET: &str = "frame 0: 14 NotSubset\n";
+
+const CHECK: &str = "frame 0: 26 FrameCheck\n";
+
+const INFO: &str = "block 0: 8 BadStreamInfo\n";
+
+const FIRST: &str = "block 0: 5 NotStreamInfoFirst\n";
+
+const TOTAL: &str = "end: 28 TotalMismatch\n";
+
+const ONE: &str = "frames 1 samples 1\n";
+
+const SIXTEEN: &str = "frames 1 samples 16\n";
+
+/// Places from one up to another, and the lines where a byte's lowest bit, its highest bit, and all its bits are turned: those that the two streams share.
+const BOTH: [(usize, usize, [&str; 3]); 13] = [
+    (0, 4, ["marker: 4 BadMarker\n"; 3]),
+    (4, 5, [FIRST, "block 1: 6 ForbiddenType\n", FIRST]),
+    (5, 8, ["block 0: 7 BlockLength\n"; 3]),
+    (18, 21, [OTHER; 3]),
+    (21, 22, [TOTAL, OTHER, INFO]),
+    (22, 25, [TOTAL; 3]),
+    (26, 42, ["end: 29 Md5Mismatch\n"; 3]),
+    (42, 43, [SYNC; 3]),
+    (43, 44, [HEADER, SYNC, SYNC]),
+    (44, 45, [HEADER; 3]),
+    (45, 46, [CODE, HEADER, CODE]),
+    (46, 47, [HEADER, NUMBER, NUMBER]),
+    (47, 49, [HEADER; 3]),
+];
+
+/// The other places of the standard's example.
+const OF_ROW: [(usize, usize, [&str; 3]); 7] = [
+    (8, 10, [INFO; 3]),
+    (10, 18, [ONE; 3]),
+    (25, 26, [ONE, TOTAL, TOTAL]),
+    (49, 50, [CHECK, SUBFRAME, SUBFRAME]),
+    (50, 52, [CHECK; 3]),
+    (52, 53, [CHECK, SUBFRAME, SUBFRAME]),
+    (53, 57, [CHECK; 3]),
+];
+
+/// The other places of a stream of left and side.
+const OF_PAIR: [(usize, usize, [&str; 3]); 11] = [
+    (8, 9, [SIXTEEN, INFO, INFO]),
+    (9, 18, [SIXTEEN; 3]),
+    (25, 26, [TOTAL; 3]),
+    (49, 50, [SUBFRAME; 3]),
+    (50, 54, [CHECK; 3]),
+    (54, 55, [CUT, PARTITION, PARTITION]),
+    (55, 56, [SUBFRAME, CUT, CUT]),
+    (56, 57, [PARTITION, CUT, SUBSET]),
+    (57, 58, [CUT, "frame 0: 23 ResidualRange\n", SUBSET]),
+    (58, 59, ["frame 0: 24 NonzeroPadding\n", CUT, CUT]),
+    (59, 61, [CHECK; 3]),
+];
+
+/// Changes the bytes at these places, each to three other values.
+fn sweep(
+    rt: &impl Abort,
+    alloc: Global,
+    input: &[u8],
+    rows: &[(usize, usize, [&str; 3])],
+) -> Result<(), Fail> {
+    for row in rows {
+        let (from, to, lines) = *row;
+        for place in from..to {
+            for (change, line) in [(0x01, lines[0]), (0x80, lines[1]), (0xFF, lines[2])] {
+                let other = changed(alloc, input, place, change)?;
+                answers(rt, alloc, other.as_slice(), line)?;
+            }
+        }
+    }
+    Ok(())
+}
+
+/// Every change of one byte of two small streams to three other values, each answered by its place and reason.
+#[test]
+fn each_changed_byte(rt: HostRuntime) -> Result<(), Fail> {
+    let pair = stream_of(rt.alloc(), 4096, 2, &[&LEFT_SIDE])?;
+    sweep(&rt, rt.alloc(), &ROW, &BOTH)?;
+    sweep(&rt, rt.alloc(), &ROW, &OF_ROW)?;
+    sweep(&rt, rt.alloc(), pair.as_slice(), &BOTH)?;
+    sweep(&rt, rt.alloc(), pair.as_slice(), &OF_PAIR)
 }

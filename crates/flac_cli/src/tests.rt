@@ -6,13 +6,14 @@ use crate::runs::run;
 use crate::words::job;
 use flac_bits::{Collected, Counted, Memory};
 use std::alloc::Global;
+use std::borrow::CowStr;
 use std::io;
 use std::io::Write;
 use std::process::Abort;
 use std::test::Fail;
 
 /// The example of RFC 9639, appendix D.1, its digest unknown: one frame of one sample of two channels.
-const ROW: [u8; 57] = [
+pub(crate) const ROW: [u8; 57] = [
     0x66, 0x4C, 0x61, 0x43, 0x80, 0x00, 0x00, 0x22, 0x10, 0x00, 0x10, 0x00, 0x00, 0x00, 0x0F, 0x00,
     0x00, 0x0F, 0x0A, 0xC4, 0x42, 0xF0, 0x00, 0x00, 0x00, 0x01, 0x00, 0x00, 0x00, 0x00, 0x00, 0x00,
     0x00, 0x00, 0x00, 0x00, 0x00, 0x00, 0x00, 0x00, 0x00, 0x00, 0xFF, 0xF8, 0x69, 0x18, 0x00, 0x00,
@@ -339,6 +340,9 @@ fn words_without_equals(rt: HostRuntime) -> Result<(), Fail> {
     ];
     let given = texts(alloc, &words)?;
     let refusal = job(alloc, given.as_slice()).err();
-    assert_eq!(rt; refusal.map(|fault| fault.status), Some(2));
+    assert!(rt;
+        refusal.map(|fault| fault.text)
+            == Some(CowStr::Borrowed("flac: command: comment without =\n"))
+    );
     Ok(())
 }

@@ -43,6 +43,21 @@ fn numbers(rt: HostRuntime) -> Result<(), Fail> {
     );
     assert_eq!(rt; number(&[0xC1, 0xBF]), Err(Why::BadNumber));
     assert_eq!(rt; number(&[0xC1]), Err(Why::Truncated));
+    let mut counted = BitReader::new(Memory::new(&[0xFD, 0xBF, 0xBF, 0xBF, 0xBF, 0xBF, 0xFE]));
+    assert_eq!(rt; read_number(&mut counted, 31)?, 0x7FFF_FFFF);
+    assert_eq!(rt; read_number(&mut counted, 31), Err(Why::BadNumber));
+    Ok(())
+}
+
+/// A quotient of four million zeros is a value.
+#[test]
+fn millions_of_zeros(rt: HostRuntime) -> Result<(), Fail> {
+    let mut bytes = vec![in rt.alloc(); 0u8; 500000]?;
+    bytes.push(0x80)?;
+    let mut one = [0i64; 1];
+    let mut bits = BitReader::new(Memory::new(bytes.as_slice()));
+    bits.rice_partition(0, &mut one)?;
+    assert_eq!(rt; (one[0], bits.bytes_taken()), (2000000, 500001));
     Ok(())
 }
 

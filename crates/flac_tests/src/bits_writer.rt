@@ -39,6 +39,21 @@ fn number(rt: HostRuntime) -> Result<(), Fail> {
 }
 
 #[test]
+fn greatest_numbers(rt: HostRuntime) -> Result<(), Fail> {
+    let mut writer = BitWriter::new(Collected::new(rt.alloc()));
+    for number in [127, 128, 65535, 65536, 0x7FFF_FFFF, 0xF_FFFF_FFFF] {
+        write_number(&mut writer, number)?;
+    }
+    writer.finish()?;
+    let bytes = [
+        0x7F, 0xC2, 0x80, 0xEF, 0xBF, 0xBF, 0xF0, 0x90, 0x80, 0x80, 0xFD, 0xBF, 0xBF, 0xBF, 0xBF,
+        0xBF, 0xFE, 0xBF, 0xBF, 0xBF, 0xBF, 0xBF, 0xBF,
+    ];
+    assert_eq!(rt; writer.into_target().bytes(), bytes.as_slice());
+    Ok(())
+}
+
+#[test]
 fn many_words(rt: HostRuntime) -> Result<(), Fail> {
     let mut writer = BitWriter::new(Collected::new(rt.alloc()));
     writer.put(4, 5)?;

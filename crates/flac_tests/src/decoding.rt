@@ -1,8 +1,10 @@
 //! A stream item by item: the example of RFC 9639, appendix D.1, its digest unknown.
 
-use flac_bits::{Memory, Pieces};
+use flac_bits::{Counted, Memory, Pieces};
 use flac_frame::FrameView;
 use flac_native::{Decoder, Fault, Item, Place, Profile, Source, Why};
+use std::fs;
+use std::fs::File;
 use std::test::Fail;
 
 /// One frame of one sample of two channels.
@@ -44,6 +46,18 @@ fn peaks_of_a_stream(rt: HostRuntime) -> Result<(), Fail> {
     let found = peaks(&mut decoder)?;
     assert_eq!(rt; (found[0], found[1], found[2]), (25588, 10416, 0));
     assert!(rt; matches!(decoder.next()?, Item::End));
+    Ok(())
+}
+
+/// The same, read from a file, its peaks printed.
+#[test]
+fn peaks_of_a_file(rt: HostRuntime) -> Result<(), Fail> {
+    fs::write(&rt, "peaks.flac", &ROW)?;
+    let file = File::open(&rt, "peaks.flac")?;
+    let mut decoder = Decoder::new(rt.alloc(), Counted::new(file), Profile::Subset);
+    let found = peaks(&mut decoder)?;
+    println!(rt; "left {} right {}", found[0], found[1])?;
+    assert_eq!(rt; (found[0], found[1]), (25588, 10416));
     Ok(())
 }
 

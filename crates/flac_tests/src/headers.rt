@@ -2,6 +2,7 @@
 
 use flac_bits::{BitReader, BitWriter, Collected, Memory, Why};
 use flac_header::{FrameHeader, headers_are_spelled, read_header, subset_allows, write_header};
+use std::alloc::Global;
 use std::test::Fail;
 
 fn read(bytes: &[u8]) -> Result<FrameHeader, Why> {
@@ -55,5 +56,45 @@ fn chosen(rt: HostRuntime) -> Result<(), Fail> {
     assert_eq!(rt; writer.into_target().bytes(), bytes.as_slice());
     assert_eq!(rt; FrameHeader::chosen(16, 65537, 0, 16, 0), None);
     assert_eq!(rt; FrameHeader::chosen(16, 44100, 11, 16, 0), None);
+    Ok(())
+}
+
+/// The bytes of the header that is chosen for one channel of 16 bits.
+fn chosen_bytes(alloc: Global, size: u32, rate: u32) -> Result<Vec<u8>, Why> {
+    let header = FrameHeader::chosen(size, rate, 0, 16, 0).ok_or(Why::BadSync)?;
+    let mut writer = BitWriter::new(Collected::new(alloc));
+    write_header(&header, &mut writer)?;
+    writer.finish()?;
+    Ok(writer.into_target().into_bytes())
+}
+
+#[test]
+fn codes_chosen(rt: HostRuntime) -> Result<(), Fail> {
+    let rows: [(u32, u32, &[u8]); 6] = [
+        (16, 7000, &[0xFF, 0xF8, 0x6C, 0x08, 0x00, 0x0F, 0x07, 0x68]),
+        (
+            16,
+            11025,
+            &[0xFF, 0xF8, 0x6D, 0x08, 0x00, 0x0F, 0x2B, 0x11, 0x13],
+        ),
+        (
+            16,
+            384000,
+            &[0xFF, 0xF8, 0x6E, 0x08, 0x00, 0x0F, 0x96, 0x00, 0xB9],
+        ),
+        (4096, 44100, &[0xFF, 0xF8, 0xC9, 0x08, 0x00, 0x95]),
+        (4608, 44100, &[0xFF, 0xF8, 0x59, 0x08, 0x00, 0x3C]),
+        (
+            1000,
+            44100,
+            &[0xFF, 0xF8, 0x79, 0x08, 0x00, 0x03, 0xE7, 0xE5],
+        ),
+    ];
+    for (size, rate, bytes) in rows {
+        assert!(rt;
+            chosen_bytes(rt.alloc(), size, rate)?.as_slice() == bytes,
+            "at {size} {rate}"
+        );
+    }
     Ok(())
 }
