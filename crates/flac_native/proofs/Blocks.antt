@@ -59,7 +59,7 @@ unfolding layout
 marker_there s m text x phase h = marker_at s m text x (subst (λ k. Spells (layout_in k s) m text x) phase h)
 
 -- where a frame comes
-frame_at : (s : Stand) (m : Mark) (text : List Bool) (x : Piece) → Spells (layout_in Frames s) m text x → (f : Frame) × (x ≡ framed f)
+pub frame_at : (s : Stand) (m : Mark) (text : List Bool) (x : Piece) → Spells (layout_in Frames s) m text x → (f : Frame) × (x ≡ framed f)
 frame_at s m text x (f, front, rest, split, spelled, (none, same)) = (f, sym same)
 
 no_frame_there : (old new : List Block) (x : Piece) (f : Frame) → x ≡ framed f → keeps old x new → ⊥

@@ -16,3 +16,5 @@ pub mod Renewing
 pub mod Blocks
 pub mod Copies
 pub mod Retagged
+pub mod OneHead
+pub mod Decided

@@ -41,10 +41,33 @@ pub record BeginsWith (m : Mark) (text : List Bool) (info : Info) (list : List B
   pub stands : text ≡ head ++ rest
   pub spelled : Joined grammar opening m (marked ∷ closing (blocks.StreamInfo info ∷ list)) head
 
--- Behind these good items, the marker or a block is refused as decoding refuses it.
+-- the marker or a block
+abbrev pub is_before_frames : Place → Bool
+is_before_frames place.Marker = true
+is_before_frames (place.Block index) = true
+is_before_frames other = false
+
+-- Behind good items, the marker or a block is refused, as decoding refuses it.
 pub record IsRefused (m : Mark) (text : List Bool) (at : Place) (why : Why) : Type 0 where
   pub items : List Piece
   pub refused : Refused grammar opening m items text at why
+  pub place : is_before_frames at ≡ true
+
+-- A head is there.
+pub record HasHead (m : Mark) (text : List Bool) : Type 0 where
+  pub info : Info
+  pub list : List Block
+  pub rest : List Bool
+  pub begins : BeginsWith m text info list rest
+
+-- Bits do not begin so in two ways, nor are they then refused before the frames; and they are not refused there in two ways.
+pub record OneHead (m : Mark) (text : List Bool) : Type 0 where
+  pub heads : (i j : Info) (l k : List Block) (r t : List Bool) → BeginsWith m text i l r → BeginsWith m text j k t → (i ≡ j) × (l ≡ k) × (r ≡ t)
+  pub either : (at : Place) (why : Why) → HasHead m text → IsRefused m text at why → ⊥
+  pub refusals : (at to : Place) (v w : Why) → IsRefused m text at v → IsRefused m text to w → (at ≡ to) × (v ≡ w)
+
+abbrev pub HeadsAreOne : Type 0
+HeadsAreOne = (m : Mark) (text : List Bool) → OneHead m text
 
 -- ---- the output
 
@@ -106,9 +129,3 @@ not_written = record { at = None; why = why.Write }
 -- the source answered an error behind the blocks
 abbrev pub not_read : RetagFault
 not_read = record { at = Some (place.Frame 0); why = why.Read }
-
--- the marker or a block
-abbrev pub is_before_frames : Place → Bool
-is_before_frames place.Marker = true
-is_before_frames (place.Block index) = true
-is_before_frames other = false

@@ -1,13 +1,17 @@
 //! Gives a stream other comments.
 
-ghost use Rattle.std.specs.Prelude.{◌≡◌, ◌≢◌, ◌<◌, ◌≤◌, ◌⊎◌, true, OnOk, IfErr, IfSome, Err, None};
+ghost use Rattle.std.specs.Prelude.{◌≡◌, ◌≢◌, ◌<◌, ◌≤◌, ◌++◌, ◌⊎◌, true, Bool, List, OnOk, IfErr, IfSome, IsErrAnd, Err, Some, None};
 ghost use Rattle.flac_bits.specs.Bits.{bits_of};
 ghost use Rattle.flac_bits.specs.State.{short_of};
 ghost use Rattle.flac_bits.specs.Fencing.{lifted};
 ghost use Rattle.flac_bits.specs.Handing.{IsCalm};
 ghost use Rattle.flac_meta.specs.Spelling.{comments_length};
+ghost use Rattle.flac_meta.specs.Info.{Info};
+ghost use Rattle.flac_meta.specs.declared.block.Block.{Block};
+ghost use Rattle.flac_bits.specs.declared.why.Why.{Why};
+ghost use Rattle.flac_native.specs.declared.fault.Place.{Place};
 ghost use Rattle.flac_native.specs.Decoding.{beginning};
-ghost use Rattle.flac_native.specs.Retag.{Retags, BeginsRetagging, IsRefused, too_long, not_read, not_written};
+ghost use Rattle.flac_native.specs.Retag.{BeginsWith, HasHead, Retags, BeginsRetagging, IsRefused, retagged, too_long, not_read, not_written};
 
 use crate::copying::copy_rest;
 use crate::fault::Place;
@@ -30,6 +34,8 @@ fn retag_from<R: Source, W: Target>(
         → Retags (lifted reader.old).cursor.mark (lifted reader.old).cursor.left comments.now (bits_of (W.sent target.old)) (bits_of (W.sent target.new))) }
     ensures refused { IfErr result (λ f. IfSome f.at (λ at. reader.old.known ≡ true → IsCalm reader.old reader.new → f.why ≢ Why.Memory
         → IsRefused (lifted reader.old).cursor.mark (lifted reader.old).cursor.left at f.why)) }
+    ensures head { OnOk result (reader.old.known ≡ true → HasHead (lifted reader.old).cursor.mark (lifted reader.old).cursor.left) }
+    ensures found { IfErr result (λ f. (f ≡ not_read) ⊎ (f ≡ not_written) → reader.old.known ≡ true → HasHead (lifted reader.old).cursor.mark (lifted reader.old).cursor.left) }
     ensures nothing { IfErr result (λ f. f ≢ not_read → f ≢ not_written → target.new ≡ target.old) }
     ensures begun { IfErr result (λ f. (f ≡ not_read) ⊎ (f ≡ not_written) → reader.old.known ≡ true → W.known target.old ≡ true
         → BeginsRetagging (lifted reader.old).cursor.mark (lifted reader.old).cursor.left comments.now (bits_of (W.sent target.old)) (bits_of (W.sent target.new))) }
@@ -84,9 +90,20 @@ pub fn retag<R: Source, W: Target>(
     // Ok only where the input begins with a marker and blocks; and what was written is just these with the comments, and the rest.
     ensures written { OnOk result (R.known source.old ≡ true → W.known target.old ≡ true
         → Retags (beginning (short_of ((R.behind source.old).fails))) (bits_of (R.coming source.old)) comments.now (bits_of (W.sent target.old)) (bits_of (W.sent target.new))) }
+    // That is so for each way in which the input begins.
+    ensures exact { OnOk result (R.known source.old ≡ true → W.known target.old ≡ true
+        → (info : Info) (list : List Block) (rest : List Bool) → BeginsWith (beginning (short_of ((R.behind source.old).fails))) (bits_of (R.coming source.old)) info list rest
+        → bits_of (W.sent target.new) ≡ bits_of (W.sent target.old) ++ retagged comments.now info list rest) }
     // Refused only as the marker and the blocks are, at that place and for that reason.
     ensures refused { IfErr result (λ f. IfSome f.at (λ at. R.known source.old ≡ true → R.errors source.new ≡ R.errors source.old → R.raised source.new ≡ R.raised source.old → f.why ≢ Why.Memory
         → IsRefused (beginning (short_of ((R.behind source.old).fails))) (bits_of (R.coming source.old)) at f.why)) }
+    // An input that begins with a marker and blocks is refused for the comments, the target and the memory alone.
+    ensures accepted { IfErr result (λ f. f ≢ too_long → R.known source.old ≡ true → R.errors source.new ≡ R.errors source.old → R.raised source.new ≡ R.raised source.old → f.why ≢ Why.Memory
+        → HasHead (beginning (short_of ((R.behind source.old).fails))) (bits_of (R.coming source.old)) → f ≡ not_written) }
+    // One whose marker or block is to be refused is refused just so.
+    ensures shown { comments_length comments.now ≤ 16777215 → (at : Place) (why : Why) → IsRefused (beginning (short_of ((R.behind source.old).fails))) (bits_of (R.coming source.old)) at why
+        → R.known source.old ≡ true → R.errors source.new ≡ R.errors source.old → R.raised source.new ≡ R.raised source.old
+        → IsErrAnd result (λ f. f.why ≢ Why.Memory → f ≡ record { at = Some at; why = why }) }
     // Whatever was refused but an error of a device behind the blocks: nothing was written.
     ensures nothing { IfErr result (λ f. f ≢ not_read → f ≢ not_written → target.new ≡ target.old) }
     // Where a device failed behind the blocks, a beginning of the output was written.

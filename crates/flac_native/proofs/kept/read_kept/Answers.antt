@@ -67,9 +67,10 @@ pub returns-in_err-keep_next-clause-refused : goal.returns-in_err-keep_next-clau
 returns-in_err-keep_next-clause-refused g c =
     let p = err_from_is_err_and c.from_residual.result c.from_residual.ensures.1 in
     let refuses = c.in_err-keep_next.ensures.refused in
+    let at = c.in_err-keep_next.ensures.at in
     rw (p.1, p.2) (λ known calm room.
     let far = c.loop-reader.invariant.far opening c.opening-track.ensures in
     let hands = step_refused grammar keeps no_errors opening far.0 (lifted c.args.reader.now) (lifted c.loop-reader.reader) c.keep_next.new.reader c.new-kept.result.items c.loop-reader.kept.items _ _ far.2
     (λ told same quiet some. refuses far.0 far.1 told same quiet some) known in
     let r = hands.refused calm _ _ refl room refl in
-    record { items = r.0; refused = r.1 })
+    record { items = r.0; refused = r.1; place = at })
