@@ -1,9 +1,7 @@
 -- What a marker and blocks that are spelled one after another look like.
-use Rattle.std.proofs.Common.{◌≡◌, ℕ, ◌+◌, ◌*◌, ◌%◌, Bool, true, false, List, [], ◌∷◌, ◌++◌, length, length-append, None, refl, sym, ap, subst, ◌∙◌, append_assoc, arith}
+use Rattle.std.proofs.Common.{◌≡◌, ℕ, ◌*◌, Bool, true, false, List, [], ◌∷◌, ◌++◌, length, length-append, None, refl, sym, ap, subst, ◌∙◌, append_assoc, arith}
 use Rattle.std.proofs.lemmas.List.{append-nil}
-use Rattle.flac_bits.specs.Bits.{unsigned, is_nil}
 use Rattle.flac_bits.specs.State.{Cursor, Mark, past, fresh}
-use Rattle.flac_bits.specs.Forms.{joined}
 use Rattle.flac_bits.specs.Meaning.{Spells}
 use Rattle.flac_bits.specs.Items.{after, Joined, mark_behind}
 use Rattle.flac_bits.specs.Handing.{TakesAll}
@@ -11,8 +9,6 @@ use Rattle.flac_bits.proofs.Handing.{Far}
 use Rattle.flac_bits.proofs.Words.{length-unsigned}
 use Rattle.flac_bits.proofs.ItemSpellings.{fresh_unread, behind_whole}
 use Rattle.flac_meta.specs.Info.{Info}
-use Rattle.flac_meta.specs.Header.{nothing_seen}
-use Rattle.flac_meta.specs.Block.{block as block_layout}
 use Rattle.flac_meta.specs.Listed.{block_fault}
 use Rattle.flac_meta.specs.Spelling as s
 use Rattle.flac_meta.specs.Valid.{IsBlock, ContentSpelled, BlockSpelled}
@@ -23,7 +19,7 @@ use Rattle.flac_meta.proofs.Blocks.{blocks_spelled}
 use Rattle.flac_frame.specs.Frame.{Frame}
 use Rattle.flac_native.specs.Stream.{Piece, marked, block, framed, Progress, Stand, grammar, opening, next, layout, layout_in, marker}
 use Rattle.flac_native.specs.Given.{closing}
-use Rattle.flac_native.specs.Retag.{AreKept, keeps, is_behind_blocks, is_comment, unless_comment, without_comments}
+use Rattle.flac_native.specs.Retag.{AreKept, keeps, is_behind_blocks, unless_comment, without_comments}
 use Rattle.flac_native.specs.declared.phase.Phase.{Phase}
 use Rattle.flac_native.specs.declared.phase.Phase.TheVariants.{Opening, Blocks, Frames}
 use Rattle.flac_native.proofs.WholeBytes.{Whole, content_whole, header_long, length-joined}

@@ -1,5 +1,5 @@
 -- Bytes that are read and sent, one piece after another.
-use Rattle.std.proofs.Common.{◌≡◌, ℕ, Bool, List, [], ◌++◌, refl, sym, ap, ◌∙◌, append_assoc}
+use Rattle.std.proofs.Common.{◌≡◌, ℕ, Bool, List, [], ◌++◌, sym, ap, ◌∙◌, append_assoc}
 use Rattle.std.proofs.lemmas.List.{append-nil}
 use Rattle.flac_bits.specs.Bits.{bits_of}
 use Rattle.flac_bits.proofs.Holding.{bits_of-append}

@@ -1,5 +1,5 @@
 -- Which answer retagging gives for which input.
-use Rattle.std.proofs.Common.{◌≡◌, ◌≢◌, Bool, true, List, ◌++◌, Result, Ok, Err, Option, Some, None, ◌⊎◌, inl, inr, refl, sym, ap, ◌∙◌}
+use Rattle.std.proofs.Common.{◌≡◌, ◌≢◌, Bool, List, ◌++◌, Result, Ok, Err, Option, Some, None, ◌⊎◌, inr, refl, ap, ◌∙◌}
 use Rattle.std.specs.Prelude.{IfErr, IfSome, OnOk, IsErrAnd}
 use Rattle.flac_bits.specs.State.{Mark}
 use Rattle.flac_bits.specs.declared.why.Why.{Why}

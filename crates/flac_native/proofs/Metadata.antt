@@ -1,15 +1,15 @@
 -- The marker and the blocks of a stream, one after another.
-use Rattle.std.proofs.Common.{◌≡◌, ℕ, ◌&&◌, Bool, true, false, cond, List, [], ◌∷◌, ◌++◌, Option, Some, None, inl, inr, refl, sym, ap, subst, ◌∙◌, append_assoc}
+use Rattle.std.proofs.Common.{◌≡◌, ℕ, ◌&&◌, Bool, true, false, List, Option, inl, inr, refl}
 use Rattle.flac_bits.specs.Bits.{is_nil}
-use Rattle.flac_bits.specs.State.{Cursor, Mark, past, fresh}
+use Rattle.flac_bits.specs.State.{Cursor, Mark, fresh}
 use Rattle.flac_bits.specs.Meaning.{Spells}
-use Rattle.flac_bits.specs.Items.{step_at, item, over, refused, after, Joined}
+use Rattle.flac_bits.specs.Items.{step_at, item, over, refused}
 use Rattle.flac_bits.specs.declared.why.Why.{Why}
 use Rattle.flac_bits.proofs.Items.{step_spelled, step_over, step_stops}
 use Rattle.flac_meta.specs.Info.{Info}
 use Rattle.flac_meta.specs.declared.block.Block.{Block}
 use Rattle.flac_frame.specs.Frame.{Frame}
-use Rattle.flac_native.specs.Stream.{Piece, marked, block, framed, Progress, Stand, grammar, layout, layout_in, marker, may_end_in, place_in}
+use Rattle.flac_native.specs.Stream.{framed, Progress, Stand, grammar, layout, layout_in, may_end_in, place_in}
 use Rattle.flac_native.specs.Retag.{is_behind_blocks, is_before_frames}
 use Rattle.flac_native.specs.declared.fault.Place.{Place}
 use Rattle.flac_native.specs.declared.phase.Phase.{Phase}

@@ -1,6 +1,5 @@
 -- No input begins with a marker and blocks in two ways, and none that does is refused before its frames.
-use Rattle.std.proofs.Common.{◌≡◌, ℕ, Bool, true, false, List, [], ◌∷◌, ◌++◌, Option, Some, None, inl, inr, refl, sym, ap, subst, ◌∙◌, append_assoc}
-use Rattle.flac_bits.specs.Bits.{is_nil}
+use Rattle.std.proofs.Common.{◌≡◌, ℕ, Bool, true, false, List, [], ◌∷◌, ◌++◌, Some, inl, inr, refl, sym, ap, subst, ◌∙◌, append_assoc}
 use Rattle.flac_bits.specs.State.{Cursor, Mark, past, fresh}
 use Rattle.flac_bits.specs.Meaning.{Spells}
 use Rattle.flac_bits.specs.Fence.{InRoom}
@@ -11,12 +10,12 @@ use Rattle.flac_bits.proofs.Items.{Steps, spelled_step, step_spelled, step_stops
 use Rattle.flac_meta.specs.Info.{Info}
 use Rattle.flac_meta.specs.declared.block.Block.{Block}
 use Rattle.flac_meta.specs.declared.block.Block.TheVariants as block_of
-use Rattle.flac_native.specs.Stream.{Piece, marked, block, framed, Progress, grammar, opening, next, layout, layout_in, place_in}
+use Rattle.flac_native.specs.Stream.{Piece, marked, block, Progress, grammar, opening, next, layout, layout_in, place_in}
 use Rattle.flac_native.specs.Given.{closing}
-use Rattle.flac_native.specs.Retag.{BeginsWith, HasHead, IsRefused, HeadsAreOne, is_before_frames}
+use Rattle.flac_native.specs.Retag.{BeginsWith, IsRefused, HeadsAreOne, is_before_frames}
 use Rattle.flac_native.specs.declared.fault.Place.{Place}
 use Rattle.flac_native.specs.declared.phase.Phase.{Phase}
-use Rattle.flac_native.specs.declared.phase.Phase.TheVariants.{Opening, Blocks, Frames}
+use Rattle.flac_native.specs.declared.phase.Phase.TheVariants.{Frames}
 use Rattle.flac_native.proofs.Blocks.{frame_at}
 use Rattle.flac_native.proofs.Deciding.{needs_bits, one_answer}
 

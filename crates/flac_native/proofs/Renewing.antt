@@ -1,5 +1,5 @@
 -- What stands before the frames, with other comments.
-use Rattle.std.proofs.Common.{◌≡◌, List, [], ◌∷◌, ◌++◌, Bool, false, Option, Some, None, Result, Ok, Err, refl, sym, ap, subst, ◌∙◌, ℕ, zero, suc, nat_eq, length}
+use Rattle.std.proofs.Common.{◌≡◌, List, [], ◌∷◌, Bool, false, Option, Some, None, Result, Ok, Err, refl, sym, subst}
 use Rattle.std.specs.Prelude.{IfSome, OnOk}
 use Rattle.flac_bits.specs.Bits.{unsigned, is_nil}
 use Rattle.flac_bits.specs.Written.{Written, Adds}

@@ -1,4 +1,4 @@
-use Rattle.std.proofs.Common.{◌≡◌, ◌<◌, ◌∙◌, length, take, arith, sym}
+use Rattle.std.proofs.Common.{◌≡◌, ◌<◌, ◌∙◌, length, take, arith}
 use Rattle.flac_native.proofs.Copies.{copied_more, copied_all, copied_part}
 use Rattle.flac_native.proofs.copying.copy_rest.Goals as goal
 

@@ -5,7 +5,6 @@ use Rattle.flac_native.specs.Stream.{Progress, Stand, grammar, place_in}
 use Rattle.flac_native.specs.Track.{IsAt, shown}
 use Rattle.flac_native.specs.Retag.{is_behind_blocks, is_before_frames}
 use Rattle.flac_native.specs.declared.track.Track.{Track}
-use Rattle.flac_native.specs.declared.fault.Place.{Place}
 use Rattle.flac_native.proofs.Metadata.{not_over, no_frame, refused_there, before_frames}
 use Rattle.flac_native.proofs.kept.keep_next.Goals as goal
 

@@ -1,9 +1,8 @@
-use Rattle.std.proofs.Common.{◌≡◌, true, List, [], refl, sym, ap, ◌∙◌, arith}
+use Rattle.std.proofs.Common.{◌≡◌, true, refl, sym, ap, ◌∙◌}
 use Rattle.std.proofs.lemmas.Result.{err_from_is_err_and}
 use Rattle.flac_bits.specs.State.{State, without_fence}
 use Rattle.flac_bits.specs.Fencing.{lifted}
-use Rattle.flac_bits.proofs.Handing.{Far, SoFar, starts, one_more, step_refused}
-use Rattle.flac_meta.specs.declared.block.Block.{Block}
+use Rattle.flac_bits.proofs.Handing.{starts, one_more, step_refused}
 use Rattle.flac_native.specs.Stream.{Progress, Stand, grammar, next, opening}
 use Rattle.flac_native.specs.Track.{IsAt}
 use Rattle.flac_native.specs.Retag.{keeps, is_behind_blocks}

@@ -1,7 +1,5 @@
-use Rattle.std.proofs.Common.{ℕ, List}
 use Rattle.flac_bits.specs.Fencing.{lifted}
 use Rattle.flac_bits.proofs.Handing.{SoFar, Went}
-use Rattle.flac_meta.specs.declared.block.Block.{Block}
 use Rattle.flac_native.specs.Stream.{Progress, grammar}
 use Rattle.flac_native.specs.Track.{IsAt}
 use Rattle.flac_native.specs.Retag.{keeps}

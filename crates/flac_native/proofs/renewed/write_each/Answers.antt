@@ -1,4 +1,4 @@
-use Rattle.std.proofs.Common.{◌≡◌, ◌<◌, ◌+◌, length, drop, arith, List}
+use Rattle.std.proofs.Common.{◌<◌, ◌+◌, length, drop, arith, List}
 use Rattle.flac_bits.proofs.Writing.{towards_start, towards_more, towards_end}
 use Rattle.flac_meta.specs.declared.block.Block.{Block}
 use Rattle.flac_native.specs.Writing.{blocks_spelling}

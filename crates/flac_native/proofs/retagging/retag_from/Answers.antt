@@ -1,8 +1,7 @@
-use Rattle.std.proofs.Common.{◌≡◌, ◌++◌, true, Bool, List, Result, Ok, Err, ◌∙◌, sym, ap, subst}
+use Rattle.std.proofs.Common.{◌++◌, Result, Ok, Err, ◌∙◌, sym, ap}
 use Rattle.std.specs.Prelude.{OnOk, OnErr, IfErr}
-use Rattle.flac_bits.specs.Bits.{bits_of}
 use Rattle.flac_bits.specs.Fencing.{lifted}
-use Rattle.flac_native.specs.Retag.{AreKept, Retags, BeginsRetagging, new_head}
+use Rattle.flac_native.specs.Retag.{new_head}
 use Rattle.flac_native.proofs.Retagged.{all_retagged, some_retagged, head_begun}
 use Rattle.flac_native.proofs.retagging.retag_from.Goals as goal
 
