@@ -1,5 +1,6 @@
 -- What an encoding of raw samples has written.
 use Rattle.std.specs.Prelude.{◌≡◌, ℕ, Bool, List, [], ◌∷◌, map, codes}
+use Rattle.flac_meta.specs.declared.comments.Comments.{Comments}
 use Rattle.flac_meta.specs.declared.block.Block.{Block}
 use Rattle.flac_meta.specs.declared.block.Block.TheVariants.{VorbisComment}
 use Rattle.flac_frame.specs.Audio.{Sound}
@@ -11,9 +12,13 @@ use Rattle.flac_cli.specs.declared.encoding.Format.{Format}
 use Rattle.flac_cli.specs.declared.jobs.Job.{Job}
 use Rattle.flac_cli.specs.declared.jobs.Job.TheVariants as job
 
--- the one block behind STREAMINFO: the program's name, and the words as comments (RFC 9639, section 8.6)
+-- the program's name, and the words as comments (RFC 9639, section 8.6)
+abbrev pub comments_of : List (List ℕ) → Comments
+comments_of words = record { vendor = codes "flac profile 1"; list = words }
+
+-- the one block behind STREAMINFO
 abbrev pub comment_list : List (List ℕ) → List Block
-comment_list words = VorbisComment (record { vendor = codes "flac profile 1"; list = words }) ∷ []
+comment_list words = VorbisComment (comments_of words) ∷ []
 
 -- Behind the bits that were there, a stream was written: of the samples that these bytes are, in blocks of the format's size,
 -- with these words as comments. The samples of its frames are these bytes again, so decoding it gives them back.

@@ -1,6 +1,7 @@
 pub mod Asks
 pub mod Encoded
 pub mod Raw
+pub mod Retagged
 pub mod Samples
 pub mod Streams
 pub mod Taking

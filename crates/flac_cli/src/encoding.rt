@@ -2,7 +2,7 @@
 
 ghost use Rattle.std.specs.Prelude.{◌≡◌, ◌≤◌, true, map, IfOk, OnOk, None};
 ghost use Rattle.flac_bits.specs.Bits.{bits_of};
-ghost use Rattle.flac_cli.specs.Encoded.{comment_list, EncodesRaw};
+ghost use Rattle.flac_cli.specs.Encoded.{comments_of, comment_list, EncodesRaw};
 ghost use Rattle.flac_cli.specs.Raw.{IsRaw};
 
 use crate::raw::{channels_of, read_all};
@@ -111,9 +111,9 @@ fn audio_of<R: Source>(alloc: Global, source: &mut R, format: Format) -> Result<
     Ok(audio)
 }
 
-/// The one block behind STREAMINFO: comments of these words.
-fn comment_list(alloc: Global, words: &[&str]) -> Result<BlockList, Why>
-    ensures { IfOk result (λ list. list ≡ comment_list (map (λ word. word.now) words.now)) }
+/// Comments of these words.
+pub(crate) fn comments_of(alloc: Global, words: &[&str]) -> Result<Comments, Why>
+    ensures { IfOk result (λ comments. comments ≡ comments_of (map (λ word. word.now) words.now)) }
 {
     let mut texts = Vec::with_capacity(alloc, words.len())?;
     for word in words {
@@ -121,10 +121,17 @@ fn comment_list(alloc: Global, words: &[&str]) -> Result<BlockList, Why>
         texts.push(Bytes::from_vec(text))?;
     }
     let vendor = Vec::from_slice(alloc, VENDOR)?;
-    let comments = Comments {
+    Ok(Comments {
         vendor: Bytes::from_vec(vendor),
         list: Texts::from_vec(texts),
-    };
+    })
+}
+
+/// The one block behind STREAMINFO: comments of these words.
+fn comment_list(alloc: Global, words: &[&str]) -> Result<BlockList, Why>
+    ensures { IfOk result (λ list. list ≡ comment_list (map (λ word. word.now) words.now)) }
+{
+    let comments = comments_of(alloc, words)?;
     let mut blocks = Vec::with_capacity(alloc, 1)?;
     blocks.push(Block::VorbisComment(comments))?;
     BlockList::new(blocks)

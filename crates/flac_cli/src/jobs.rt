@@ -31,6 +31,12 @@ pub enum Job<'a> {
         format: Format,
         comments: Vec<&'a str>,
     },
+    /// Writes the stream with these comments in place of its own.
+    Retag {
+        input: &'a str,
+        output: &'a str,
+        comments: Vec<&'a str>,
+    },
 }
 
 impl<'a> Job<'a> {
@@ -40,7 +46,7 @@ impl<'a> Job<'a> {
     {
         match self {
             Job::Test { input } | Job::List { input } => input,
-            Job::Decode { input, .. } | Job::Encode { input, .. } => input,
+            Job::Decode { input, .. } | Job::Encode { input, .. } | Job::Retag { input, .. } => input,
         }
     }
 
@@ -50,7 +56,9 @@ impl<'a> Job<'a> {
     {
         match self {
             Job::Test { .. } | Job::List { .. } => None,
-            Job::Decode { output, .. } | Job::Encode { output, .. } => Some(output),
+            Job::Decode { output, .. }
+            | Job::Encode { output, .. }
+            | Job::Retag { output, .. } => Some(output),
         }
     }
 }

@@ -1,4 +1,4 @@
-//! The program `flac`: tests, decodes, lists and encodes FLAC streams (RFC 9639).
+//! The program `flac`: tests, decodes, lists, encodes and retags FLAC streams (RFC 9639).
 #![tactic(auto)]
 
 mod counts;
@@ -14,6 +14,9 @@ mod list;
 mod list_tests;
 mod listing;
 mod raw;
+mod retagging;
+#[cfg(test)]
+mod retagging_tests;
 #[cfg(test)]
 mod row_tests;
 mod runs;

@@ -6,6 +6,7 @@ ghost use Rattle.flac_cli.specs.Streams.{IsStream, Tells};
 ghost use Rattle.flac_cli.specs.Asks.{AsksDecode, AsksStream};
 ghost use Rattle.flac_cli.specs.Samples.{all_samples};
 ghost use Rattle.flac_cli.specs.Encoded.{HasEncoded};
+ghost use Rattle.flac_cli.specs.Retagged.{HasRetagged};
 ghost use Rattle.flac_bits.specs.Bits.{bits_of};
 
 use crate::counts::Counts;
@@ -13,9 +14,10 @@ use crate::encoding::{Refusal, encode_raw};
 use crate::jobs::Job;
 use crate::lines::{Lines, tell_fault, tell_reason, tell_refusal};
 use crate::listing::Listing;
+use crate::retagging::retag_with;
 use crate::samples::SampleWriter;
 use flac_bits::{Source, Target, Why};
-use flac_native::{EncodeFault, Fault, Profile, decode};
+use flac_native::{EncodeFault, Fault, Profile, RetagFault, decode};
 use std::alloc::Global;
 use std::fmt::Write;
 
@@ -101,6 +103,22 @@ fn refuse_encoding<E: Target>(err: &mut E, job: &Job<'_>, refusal: Refusal) -> u
     1
 }
 
+/// Writes the line of a refused retagging, and answers the status 1. The path is that of the file at fault.
+fn refuse_retagging<E: Target>(err: &mut E, job: &Job<'_>, fault: RetagFault) -> u8
+    ensures { result ≡ 1 }
+{
+    let why = fault.why;
+    if let Some(at) = fault.at {
+        return refuse(err, job, Fault { at, why });
+    }
+    let path = match job.output() {
+        Some(output) if why == Why::Write => output,
+        _ => job.input(),
+    };
+    tell_reason(err, path, why);
+    1
+}
+
 /// Does a job over its devices, and answers the status: 0 where it is done; 1 where it is refused, and then the fault's line
 /// was written to `err`. `target` is the file that the job writes, where there is one.
 pub fn run<R: Source, W: Target, O: Target, E: Target>(
@@ -118,6 +136,8 @@ pub fn run<R: Source, W: Target, O: Target, E: Target>(
         (parts : List Piece) × IsStream parts (R.coming source.old) (R.behind source.old) × (W.sent target.new ≡ W.sent target.old ++ all_samples 0 parts) }
     // An encoding has then added to the file a stream of just the samples that the input is.
     ensures encoded { result ≡ 0 → R.known source.old ≡ true → W.known target.old ≡ true → HasEncoded job.now (R.coming source.old) (bits_of (W.sent target.old)) (bits_of (W.sent target.new)) }
+    // A retagging has then added to the file the same STREAMINFO, the comments, the other blocks and the rest of the input.
+    ensures retagged { result ≡ 0 → R.known source.old ≡ true → W.known target.old ≡ true → HasRetagged job.now (R.coming source.old) (R.behind source.old) (bits_of (W.sent target.old)) (bits_of (W.sent target.new)) }
 {
     match job {
         Job::Test { input } => match count(alloc, source) {
@@ -145,6 +165,10 @@ pub fn run<R: Source, W: Target, O: Target, E: Target>(
         } => match encode_raw(alloc, source, *format, comments.as_slice(), target) {
             Ok(()) => 0,
             Err(refusal) => refuse_encoding(err, job, refusal),
+        },
+        Job::Retag { comments, .. } => match retag_with(alloc, source, comments.as_slice(), target) {
+            Ok(()) => 0,
+            Err(fault) => refuse_retagging(err, job, fault),
         },
     }
 }

@@ -15,6 +15,7 @@ const EXAMPLES: &str = "Examples:
   flac list song.flac             what its metadata tells
   flac decode song.flac song.raw  its samples
   flac encode song.raw song.flac --rate 44100 --channels 2 --bits 16
+  flac retag song.flac other.flac TITLE=Song
 
 The status is 0 where all is done. Where a stream is refused it is 1, and a line tells
 where and why, as in
@@ -41,6 +42,13 @@ const ENCODE_EXAMPLE: &str =
 
 A sample has whole bytes: of 12 bits two, of 20 bits three. What was written before a fault
 stays in OUT.";
+
+const RETAG_EXAMPLE: &str = "Example:
+  $ flac retag song.flac other.flac TITLE=Song ARTIST=Someone
+
+STREAMINFO, the other blocks and the frames stay as they are; the frames are not read. A
+stream whose metadata is refused writes nothing. What was written before another fault stays
+in OUT.";
 
 const LIST_EXAMPLE: &str = "Example:
   $ flac list song.flac
@@ -74,7 +82,9 @@ pub fn job<'a>(alloc: Global, words: &'a [String]) -> Result<Job<'a>, LineFault>
 /// Whether a comment of the job has no `=`.
 fn lacks_equals(job: &Job<'_>) -> bool {
     match job {
-        Job::Encode { comments, .. } => !comments.iter().all(|word| word.contains('=')),
+        Job::Encode { comments, .. } | Job::Retag { comments, .. } => {
+            !comments.iter().all(|word| word.contains('='))
+        }
         _ => false,
     }
 }
@@ -114,13 +124,20 @@ fn parsed<'a>(alloc: Global, words: &'a [String]) -> Result<Option<Job<'a>>, cla
     if name == "decode" {
         return Ok(Some(Job::Decode { input, output }));
     }
-    let Some(format) = format_of(given) else {
-        return Ok(None);
-    };
     let mut comments = Vec::new(alloc);
     if let Some(words) = given.get_strs("COMMENT") {
         comments.extend_from_slice(words)?;
     }
+    if name == "retag" {
+        return Ok(Some(Job::Retag {
+            input,
+            output,
+            comments,
+        }));
+    }
+    let Some(format) = format_of(given) else {
+        return Ok(None);
+    };
     Ok(Some(Job::Encode {
         input,
         output,
@@ -142,13 +159,14 @@ fn format_of(given: &ArgMatches<'_>) -> Option<Format> {
 /// The commands of the program.
 fn command<'a>(alloc: Global) -> Result<Command<'a>, AllocError> {
     Command::new(alloc, "flac")
-        .about("Tests, decodes, lists and encodes FLAC streams (RFC 9639)")
+        .about("Tests, decodes, lists, encodes and retags FLAC streams (RFC 9639)")
         .after_help(EXAMPLES)
         .subcommand_required(true)
         .subcommand(test_command(alloc)?)?
         .subcommand(decode_command(alloc)?)?
         .subcommand(list_command(alloc)?)?
-        .subcommand(encode_command(alloc)?)
+        .subcommand(encode_command(alloc)?)?
+        .subcommand(retag_command(alloc)?)
 }
 
 fn test_command<'a>(alloc: Global) -> Result<Command<'a>, AllocError> {
@@ -215,6 +233,22 @@ fn encode_command<'a>(alloc: Global) -> Result<Command<'a>, AllocError> {
                 "Samples of a block, 16 to 16384; to 4608 at rates up to 48000",
             ),
         )
+}
+
+fn retag_command<'a>(alloc: Global) -> Result<Command<'a>, AllocError> {
+    let input = Arg::new(alloc, "IN").required(true).help("The stream");
+    let output = Arg::new(alloc, "OUT")
+        .required(true)
+        .help("The file that the stream is written to");
+    let comments = Arg::new(alloc, "COMMENT")
+        .num_args(0..)
+        .help("Comments, each NAME=VALUE");
+    Command::new(alloc, "retag")
+        .about("Writes a stream with other comments")
+        .after_help(RETAG_EXAMPLE)
+        .arg(input)?
+        .arg(output)?
+        .arg(comments)
 }
 
 /// An option whose value is a whole number.

@@ -45,7 +45,7 @@ each_written [] seen i b e lt is = absurd (omega (arith, lt))
 each_written (x ∷ xs) seen zero b e lt is = ap block_fault is ∙ first_none (came seen x) _ (block_fault x) (both_none (fault_behind seen x) _ e).0
 each_written (x ∷ xs) seen (suc i) b e lt is = each_written xs (seen_after seen x) i b (both_none (fault_behind seen x) _ e).1 (omega (arith, lt)) is
 
-nil_is : (bs : List Block) → is_nil bs ≡ nat_eq (length bs) 0
+pub nil_is : (bs : List Block) → is_nil bs ≡ nat_eq (length bs) 0
 nil_is [] = refl
 nil_is (b ∷ bs) = let e : nat_eq (suc (length bs)) 0 ≡ false = grind (arith, nat_tests) in sym e
 

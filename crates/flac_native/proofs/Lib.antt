@@ -11,3 +11,10 @@ pub mod Streams
 pub mod BlocksWritten
 pub mod Gathered
 pub mod Sendings
+pub mod Metadata
+pub mod Renewing
+pub mod Blocks
+pub mod Copies
+pub mod Retagged
+pub mod OneHead
+pub mod Decided

@@ -18,11 +18,11 @@ use Rattle.flac_meta.specs.declared.block.Block.TheVariants as block_of
 use Rattle.flac_native.specs.Writing.{blocks_spelling, head_spelling}
 
 -- how many bits parts have together
-abbrev bits_in : List (List Bool) → ℕ
+abbrev pub bits_in : List (List Bool) → ℕ
 bits_in [] = 0
 bits_in (part ∷ parts) = length part + bits_in parts
 
-length-joined : (parts : List (List Bool)) → length (joined parts) ≡ bits_in parts
+pub length-joined : (parts : List (List Bool)) → length (joined parts) ≡ bits_in parts
 length-joined [] = refl
 length-joined (part ∷ parts) = omega (arith, length-append part (joined parts), length-joined parts)
 
@@ -163,7 +163,7 @@ picture_whole p =
       );
     }
 
-content_whole : (b : Block) → Whole (s.content_spelling b)
+pub content_whole : (b : Block) → Whole (s.content_spelling b)
 unfolding s.content_spelling
 content_whole (block_of.StreamInfo info) = info_whole info
 content_whole (block_of.Padding n) = record { bytes = omega (arith, zeros_long (8 * n)) }
@@ -174,7 +174,7 @@ content_whole (block_of.CueSheet sheet) = sheet_whole sheet
 content_whole (block_of.Picture found) = picture_whole found
 content_whole (block_of.Other kind bytes) = bits_whole bytes
 
-header_long : (last : Bool) (kind size : ℕ) → length (s.header_spelling last kind size) ≡ 32
+pub header_long : (last : Bool) (kind size : ℕ) → length (s.header_spelling last kind size) ≡ 32
 unfolding s.header_spelling
 header_long last kind size = omega (arith, length-joined (unsigned 1 (bit_value last) ∷ unsigned 7 kind ∷ unsigned 24 size ∷ []), length-unsigned 1 (bit_value last), length-unsigned 7 kind, length-unsigned 24 size)
 

@@ -9,3 +9,4 @@ pub mod Giving
 pub mod Given
 pub mod Writing
 pub mod Numbers
+pub mod Retag

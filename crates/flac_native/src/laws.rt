@@ -2,8 +2,14 @@
 
 ghost use Rattle.flac_bits.specs.Handing.{OneReading};
 ghost use Rattle.flac_native.specs.Stream.{grammar};
+ghost use Rattle.flac_native.specs.Retag.{HeadsAreOne};
 
 /// No input has two readings: it is one stream, or is refused at one place and for one reason.
 pub fn only_one_way()
     ensures { OneReading grammar }
+{}
+
+/// No input has two heads, the marker and the blocks before the frames: it begins with one, or is refused there at one place and for one reason.
+pub fn only_one_head()
+    ensures { HeadsAreOne }
 {}

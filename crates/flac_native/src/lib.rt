@@ -2,6 +2,7 @@
 #![tactic(auto)]
 
 mod advance;
+mod copying;
 mod course;
 mod decoder;
 mod decoding;
@@ -13,12 +14,16 @@ mod end;
 mod fault;
 mod format;
 mod item;
+mod kept;
 mod laws;
 mod message;
 mod part;
 mod phase;
 mod plan;
 mod promises;
+mod renewed;
+mod retag_fault;
+mod retagging;
 mod rows;
 mod sink;
 mod steps;
@@ -36,9 +41,11 @@ pub use flac_frame::FrameView;
 pub use flac_header::Profile;
 pub use flac_meta::{Block, StreamInfo};
 pub use item::Item;
-pub use laws::only_one_way;
+pub use laws::{only_one_head, only_one_way};
 pub use message::put_rows;
 pub use plan::Plan;
 pub use promises::encoded_are_streams;
+pub use retag_fault::RetagFault;
+pub use retagging::retag;
 pub use sink::{Sink, SinkFault};
 pub use track::Track;

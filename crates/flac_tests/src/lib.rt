@@ -18,4 +18,6 @@ mod headers;
 #[cfg(test)]
 mod packets;
 #[cfg(test)]
+mod retagging;
+#[cfg(test)]
 mod subframes;

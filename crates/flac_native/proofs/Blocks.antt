@@ -1,0 +1,197 @@
+-- What a marker and blocks that are spelled one after another look like.
+use Rattle.std.proofs.Common.{◌≡◌, ℕ, ◌*◌, Bool, true, false, List, [], ◌∷◌, ◌++◌, length, length-append, None, refl, sym, ap, subst, ◌∙◌, append_assoc, arith}
+use Rattle.std.proofs.lemmas.List.{append-nil}
+use Rattle.flac_bits.specs.State.{Cursor, Mark, past, fresh}
+use Rattle.flac_bits.specs.Meaning.{Spells}
+use Rattle.flac_bits.specs.Items.{after, Joined, mark_behind}
+use Rattle.flac_bits.specs.Handing.{TakesAll}
+use Rattle.flac_bits.proofs.Handing.{Far}
+use Rattle.flac_bits.proofs.Words.{length-unsigned}
+use Rattle.flac_bits.proofs.ItemSpellings.{fresh_unread, behind_whole}
+use Rattle.flac_meta.specs.Info.{Info}
+use Rattle.flac_meta.specs.Listed.{block_fault}
+use Rattle.flac_meta.specs.Spelling as s
+use Rattle.flac_meta.specs.Valid.{IsBlock, ContentSpelled, BlockSpelled}
+use Rattle.flac_meta.specs.declared.seen.Seen.{Seen}
+use Rattle.flac_meta.specs.declared.block.Block.{Block}
+use Rattle.flac_meta.specs.declared.block.Block.TheVariants as block_of
+use Rattle.flac_meta.proofs.Blocks.{blocks_spelled}
+use Rattle.flac_frame.specs.Frame.{Frame}
+use Rattle.flac_native.specs.Stream.{Piece, marked, block, framed, Progress, Stand, grammar, opening, next, layout, layout_in, marker}
+use Rattle.flac_native.specs.Given.{closing}
+use Rattle.flac_native.specs.Retag.{AreKept, keeps, is_behind_blocks, unless_comment, without_comments}
+use Rattle.flac_native.specs.declared.phase.Phase.{Phase}
+use Rattle.flac_native.specs.declared.phase.Phase.TheVariants.{Opening, Blocks, Frames}
+use Rattle.flac_native.proofs.WholeBytes.{Whole, content_whole, header_long, length-joined}
+
+-- ---- one part
+
+-- where a block comes
+pub record BlockThere (s : Stand) (m : Mark) (text : List Bool) (x : Piece) : Type 0 where
+  pub last : Bool
+  pub is : Block
+  pub part : x ≡ block last is
+  pub valid : IsBlock s.seen is
+  pub spelled : BlockSpelled last is text
+
+there : (s : Stand) (m : Mark) (text : List Bool) (x : Piece) → Spells (layout_in Blocks s) m text x → BlockThere s m text x
+there s m text x (y, front, rest, split, spelled, (none, same)) =
+    let t : text ≡ front = split ∙ ap (λ k. front ++ k) none ∙ append-nil front in
+    let v = (blocks_spelled s.seen m front y.0 y.1).0 spelled in
+    record { last = y.0; is = y.1; part = sym same; valid = v.0; spelled = subst (λ k. BlockSpelled y.0 y.1 k) (sym t) v.1 }
+
+pub block_there : (s : Stand) (m : Mark) (text : List Bool) (x : Piece) → s.phase ≡ Blocks → Spells (layout s) m text x → BlockThere s m text x
+unfolding layout
+block_there s m text x phase h = there s m text x (subst (λ k. Spells (layout_in k s) m text x) phase h)
+
+-- where the marker comes
+marker_at : (s : Stand) (m : Mark) (text : List Bool) (x : Piece) → Spells (layout_in Opening s) m text x → (x ≡ marked) × (length text ≡ 32)
+unfolding marker
+marker_at s m text x (u, front, rest, split, (v, f, r, cut, (lt, is), (gone, kept)), (none, same)) =
+    (sym same, omega (arith, ap (λ (k : List Bool). length k) split, length-append front rest, ap (λ (k : List Bool). length k) none, ap (λ (k : List Bool). length k) cut, length-append f r, ap (λ (k : List Bool). length k) gone, ap (λ (k : List Bool). length k) is, length-unsigned 32 v))
+
+pub marker_there : (s : Stand) (m : Mark) (text : List Bool) (x : Piece) → s.phase ≡ Opening → Spells (layout s) m text x → (x ≡ marked) × (length text ≡ 32)
+unfolding layout
+marker_there s m text x phase h = marker_at s m text x (subst (λ k. Spells (layout_in k s) m text x) phase h)
+
+-- where a frame comes
+pub frame_at : (s : Stand) (m : Mark) (text : List Bool) (x : Piece) → Spells (layout_in Frames s) m text x → (f : Frame) × (x ≡ framed f)
+frame_at s m text x (f, front, rest, split, spelled, (none, same)) = (f, sym same)
+
+no_frame_there : (old new : List Block) (x : Piece) (f : Frame) → x ≡ framed f → keeps old x new → ⊥
+no_frame_there old new x f e k = subst (λ y. keeps old y new) e k
+
+-- ---- in whole bytes
+
+content_long : (b : Block) (text : List Bool) → ContentSpelled b text → Whole text
+content_long (block_of.Padding n) text (v, lt, is) = record { bytes = omega (arith, ap (λ (k : List Bool). length k) is, length-unsigned (8 * n) v) }
+content_long (block_of.StreamInfo info) text is = subst Whole (sym is) (content_whole (block_of.StreamInfo info))
+content_long (block_of.Application id bytes) text is = subst Whole (sym is) (content_whole (block_of.Application id bytes))
+content_long (block_of.SeekTable points) text is = subst Whole (sym is) (content_whole (block_of.SeekTable points))
+content_long (block_of.VorbisComment found) text is = subst Whole (sym is) (content_whole (block_of.VorbisComment found))
+content_long (block_of.CueSheet found) text is = subst Whole (sym is) (content_whole (block_of.CueSheet found))
+content_long (block_of.Picture found) text is = subst Whole (sym is) (content_whole (block_of.Picture found))
+content_long (block_of.Other kind bytes) text is = subst Whole (sym is) (content_whole (block_of.Other kind bytes))
+
+block_long : (last : Bool) (b : Block) (text : List Bool) → BlockSpelled last b text → Whole text
+block_long last b text (content, spelled, is) =
+    let whole = content_long b content spelled in
+    record { bytes = omega (arith, ap (λ (k : List Bool). length k) is, length-joined (s.header_spelling last (s.kind_of b) (s.length_of b) ∷ content ∷ []), header_long last (s.kind_of b) (s.length_of b), whole.bytes) }
+
+-- a part that is no frame
+part_whole : (s : Stand) (m : Mark) (text : List Bool) (x : Piece) (old new : List Block) → keeps old x new → Spells (layout s) m text x → Whole text
+unfolding layout
+part_whole s m text x old new kept h = go s.phase h
+  where
+    go : (k : Phase) → Spells (layout_in k s) m text x → Whole text
+    go Opening h = let e = (marker_at s m text x h).1 in record { bytes = omega (arith, e) }
+    go Blocks h = let t = there s m text x h in block_long t.last t.is text t.spelled
+    go Frames h = let f = frame_at s m text x h in absurd (no_frame_there old new x f.0 f.1 kept)
+
+pub aligned : (p : Progress) (m : Mark) (items : List Piece) (text : List Bool) (old new : List Block) (j : Joined grammar p m items text) → m.unread ≡ 0 → TakesAll keeps old items new → (mark_behind grammar p m items text j).unread ≡ 0
+aligned p m [] text old new j z took = z
+aligned p m (x ∷ xs) text old new (front, rest, split, spelled, fits, others) z (mid, kept, took) =
+    let whole = part_whole p.stand (fresh m) front x old mid kept spelled in
+    aligned (next p x) (past front (fresh m)) xs rest mid new others (behind_whole front (fresh m) (fresh_unread m z) whole.bytes) took
+
+-- ---- all parts
+
+-- behind the last block nothing comes that is no frame
+over_then : (p : Progress) (m : Mark) (items : List Piece) (text : List Bool) (old new : List Block) → p.stand.phase ≡ Frames → Joined grammar p m items text → TakesAll keeps old items new → (items ≡ []) × (old ≡ new)
+unfolding layout
+over_then p m [] text old new phase j took = (refl, took)
+over_then p m (x ∷ xs) text old new phase (front, rest, split, spelled, fits, others) (mid, kept, took) =
+    let f = frame_at p.stand (fresh m) front x (subst (λ k. Spells (layout_in k p.stand) (fresh m) front x) phase spelled) in
+    absurd (no_frame_there old mid x f.0 f.1 kept)
+
+-- blocks, of which the last is marked, and which of them were kept
+pub record AreBlocks (seen : Seen) (items : List Piece) (old new : List Block) : Type 0 where
+  pub first : Block
+  pub others : List Block
+  pub are : items ≡ closing (first ∷ others)
+  pub kept : new ≡ old ++ without_comments (first ∷ others)
+  pub valid : IsBlock seen first
+
+pub are_blocks : (p : Progress) (m : Mark) (items : List Piece) (text : List Bool) (old new : List Block) → p.stand.phase ≡ Blocks → Joined grammar p m items text → TakesAll keeps old items new
+    → is_behind_blocks (after grammar p items).stand.phase ≡ true → AreBlocks p.stand.seen items old new
+are_blocks p m [] text old new phase j took end = let e = ap is_behind_blocks phase in absurd cc
+are_blocks p m (marked ∷ xs) text old new phase (front, rest, split, spelled, fits, others) took end =
+    let t = block_there p.stand (fresh m) front marked phase spelled in
+    let e = t.part in absurd cc
+are_blocks p m (framed f ∷ xs) text old new phase j (mid, kept, took) end = absurd kept
+are_blocks p m (block true b ∷ xs) text old new phase (front, rest, split, spelled, fits, others) (mid, kept, took) end =
+    let t = block_there p.stand (fresh m) front (block true b) phase spelled in
+    let none = over_then (next p (block true b)) (past front (fresh m)) xs rest mid new refl others took in
+    let same : b ≡ t.is = let e = t.part in cc in
+    record {
+      first = b;
+      others = [];
+      are = ap (λ k. block true b ∷ k) none.0;
+      kept = sym none.1 ∙ kept ∙ ap (λ k. old ++ k) (sym (append-nil (unless_comment b)));
+      valid = subst (λ k. IsBlock p.stand.seen k) (sym same) t.valid;
+    }
+are_blocks p m (block false b ∷ xs) text old new phase (front, rest, split, spelled, fits, others) (mid, kept, took) end =
+    let t = block_there p.stand (fresh m) front (block false b) phase spelled in
+    let more = are_blocks (next p (block false b)) (past front (fresh m)) xs rest mid new refl others took end in
+    let same : b ≡ t.is = let e = t.part in cc in
+    record {
+      first = b;
+      others = more.first ∷ more.others;
+      are = ap (λ k. block false b ∷ k) more.are;
+      kept = more.kept ∙ ap (λ k. k ++ without_comments (more.first ∷ more.others)) kept ∙ append_assoc old (unless_comment b) (without_comments (more.first ∷ more.others));
+      valid = subst (λ k. IsBlock p.stand.seen k) (sym same) t.valid;
+    }
+
+-- ---- STREAMINFO is the first
+
+forbidden : (kind : ℕ) (bytes : List ℕ) → kind ≡ 0 → block_fault (block_of.Other kind bytes) ≡ None → ⊥
+forbidden kind bytes e none = let f : block_fault (block_of.Other 0 bytes) ≡ None = subst (λ k. block_fault (block_of.Other k bytes) ≡ None) e none in absurd cc
+
+first_is : (b : Block) → s.kind_of b ≡ 0 → block_fault b ≡ None → (i : Info) × (b ≡ block_of.StreamInfo i)
+first_is (block_of.StreamInfo i) e none = (i, refl)
+first_is (block_of.Padding n) e none = absurd (omega (arith, e))
+first_is (block_of.Application id bytes) e none = absurd (omega (arith, e))
+first_is (block_of.SeekTable points) e none = absurd (omega (arith, e))
+first_is (block_of.VorbisComment found) e none = absurd (omega (arith, e))
+first_is (block_of.CueSheet found) e none = absurd (omega (arith, e))
+first_is (block_of.Picture found) e none = absurd (omega (arith, e))
+first_is (block_of.Other kind bytes) e none = absurd (forbidden kind bytes e none)
+
+-- the marker, STREAMINFO and a list, and which of the blocks were kept
+pub record AreHead (items : List Piece) (new : List Block) : Type 0 where
+  pub info : Info
+  pub list : List Block
+  pub are : items ≡ marked ∷ closing (block_of.StreamInfo info ∷ list)
+  pub kept : new ≡ block_of.StreamInfo info ∷ without_comments list
+
+pub are_head : (m : Mark) (items : List Piece) (text : List Bool) (new : List Block) → Joined grammar opening m items text → TakesAll keeps [] items new → is_behind_blocks (after grammar opening items).stand.phase ≡ true → AreHead items new
+are_head m [] text new j took end = absurd cc
+are_head m (x ∷ xs) text new (front, rest, split, spelled, fits, others) (mid, kept, took) end =
+    let first = marker_there opening.stand (fresh m) front x refl spelled in
+    let here = subst (λ y. Joined grammar (next opening y) (past front (fresh m)) xs rest) first.0 others in
+    let at_end = subst (λ y. is_behind_blocks (after grammar (next opening y) xs).stand.phase ≡ true) first.0 end in
+    let nothing : mid ≡ [] = subst (λ y. keeps [] y mid) first.0 kept in
+    let all = are_blocks (next opening marked) (past front (fresh m)) xs rest mid new refl here took at_end in
+    let i = first_is all.first (all.valid.first refl) all.valid.written in
+    record {
+      info = i.0;
+      list = all.others;
+      are = ap (λ y. y ∷ xs) first.0 ∙ ap (λ k. marked ∷ k) (all.are ∙ ap (λ b. closing (b ∷ all.others)) i.1);
+      kept = all.kept ∙ ap (λ k. k ++ without_comments (all.first ∷ all.others)) nothing ∙ ap (λ b. unless_comment b ++ without_comments all.others) i.1;
+    }
+
+-- ---- what was kept where the blocks are over
+
+pub kept_are : (old now : Cursor) (p : Progress) (none kept : List Block) → none ≡ [] → Far grammar keeps opening p old now none kept → is_behind_blocks p.stand.phase ≡ true → AreKept old kept now.left
+kept_are old now p none kept empty far end =
+    let took = subst (λ k. TakesAll keeps k far.items kept) empty far.took in
+    let head = are_head old.mark far.items far.text kept far.spelled took (subst (λ (q : Progress). is_behind_blocks q.stand.phase ≡ true) far.state_is end) in
+    record {
+      info = head.info;
+      list = head.list;
+      input = record { head = far.text; stands = far.stands; spelled = subst (λ k. Joined grammar opening old.mark k far.text) head.are far.spelled };
+      are = head.kept;
+    }
+
+pub kept_whole : (old now : Cursor) (p : Progress) (none kept : List Block) → old.mark.unread ≡ 0 → Far grammar keeps opening p old now none kept → now.mark.unread ≡ 0
+kept_whole old now p none kept z far = ap (λ (m : Mark). m.unread) far.mark_is ∙ aligned opening old.mark far.items far.text none kept far.spelled z far.took

@@ -1,0 +1,45 @@
+use Rattle.std.proofs.Common.{rules}
+use Rattle.std.proofs.lemmas.List.{append-nil}
+use Rattle.flac_bits.specs.Bits.{bits_of}
+use Rattle.flac_bits.specs.State.{short_of}
+use Rattle.flac_native.specs.Decoding.{beginning}
+use Rattle.flac_native.specs.Retag.{IsRefused}
+use Rattle.flac_native.proofs.Retagged.{calmer}
+use Rattle.flac_native.proofs.Decided.{exact_ok, accepted, shown}
+use Rattle.flac_native.proofs.retagging.retag.Goals as goal
+
+pub returns-clause-refused : goal.returns-clause-refused
+returns-clause-refused g c =
+    let R = g.R.Source in
+    let refused = rw c.new-reader.ensures at c.retag_from-outcome.ensures.refused in
+    let whole = rw (append-nil (bits_of (g.R.Source.coming c.args.source.now))) at refused in
+    calmer _ _ _ _ (IsRefused (beginning (short_of ((R.behind c.args.source.now).fails))) (bits_of (R.coming c.args.source.now))) c.retag_from-outcome.result (λ e r. (search (rules, e), search (rules, r))) whole
+
+pub returns-clause-begun : goal.returns-clause-begun
+returns-clause-begun g c =
+    let begun = rw c.new-reader.ensures at c.retag_from-outcome.ensures.begun in
+    rw (append-nil (bits_of (g.R.Source.coming c.args.source.now))) at begun
+
+pub returns-clause-exact : goal.returns-clause-exact
+returns-clause-exact g c =
+    let written = rw c.new-reader.ensures at c.retag_from-outcome.ensures.written in
+    let whole = rw (append-nil (bits_of (g.R.Source.coming c.args.source.now))) at written in
+    exact_ok _ _ (beginning (short_of ((g.R.Source.behind c.args.source.now).fails))) (bits_of (g.R.Source.coming c.args.source.now)) c.args.comments.now _ _ c.retag_from-outcome.result whole
+
+pub returns-clause-accepted : goal.returns-clause-accepted
+returns-clause-accepted g c =
+    let R = g.R.Source in
+    let refused = rw c.new-reader.ensures at c.retag_from-outcome.ensures.refused in
+    let whole = rw (append-nil (bits_of (R.coming c.args.source.now))) at refused in
+    accepted _ _ _ _ (beginning (short_of ((R.behind c.args.source.now).fails))) (bits_of (R.coming c.args.source.now)) c.retag_from-outcome.result (λ e r. (search (rules, e), search (rules, r))) c.retag_from-outcome.ensures.placeless whole
+
+pub returns-clause-shown : goal.returns-clause-shown
+returns-clause-shown g c = λ short.
+    let R = g.R.Source in
+    let refused = rw c.new-reader.ensures at c.retag_from-outcome.ensures.refused in
+    let whole = rw (append-nil (bits_of (R.coming c.args.source.now))) at refused in
+    let head = rw c.new-reader.ensures at c.retag_from-outcome.ensures.head in
+    let all_head = rw (append-nil (bits_of (R.coming c.args.source.now))) at head in
+    let found = rw c.new-reader.ensures at c.retag_from-outcome.ensures.found in
+    let all_found = rw (append-nil (bits_of (R.coming c.args.source.now))) at found in
+    shown _ _ _ _ (beginning (short_of ((R.behind c.args.source.now).fails))) (bits_of (R.coming c.args.source.now)) c.retag_from-outcome.result (λ e r. (search (rules, e), search (rules, r))) all_head all_found c.retag_from-outcome.ensures.placeless whole

@@ -1,0 +1,131 @@
+-- What retagging makes of a stream: the same STREAMINFO, the given comments, the other blocks in their order, and the rest of the input.
+use Rattle.std.specs.Prelude.{◌≡◌, Bool, true, false, cond, List, [], ◌∷◌, ◌++◌, Some, None}
+use Rattle.flac_bits.specs.Bits.{unsigned}
+use Rattle.flac_bits.specs.State.{Mark, Cursor}
+use Rattle.flac_bits.specs.Items.{Joined, Refused}
+use Rattle.flac_bits.specs.declared.why.Why.{Why}
+use Rattle.flac_bits.specs.declared.why.Why.TheVariants as why
+use Rattle.flac_meta.specs.Info.{Info}
+use Rattle.flac_meta.specs.declared.comments.Comments.{Comments}
+use Rattle.flac_meta.specs.declared.block.Block.{Block}
+use Rattle.flac_meta.specs.declared.block.Block.TheVariants as blocks
+use Rattle.flac_native.specs.Stream.{Piece, marked, block, framed, grammar, opening}
+use Rattle.flac_native.specs.Given.{closing}
+use Rattle.flac_native.specs.Writing.{blocks_spelling, head_spelling}
+use Rattle.flac_native.specs.declared.fault.Place.{Place}
+use Rattle.flac_native.specs.declared.fault.Place.TheVariants as place
+use Rattle.flac_native.specs.declared.phase.Phase.{Phase}
+use Rattle.flac_native.specs.declared.phase.Phase.TheVariants.{Opening, Blocks, Frames}
+use Rattle.flac_native.specs.declared.retag_fault.RetagFault.{RetagFault}
+
+-- ---- blocks
+
+abbrev pub is_comment : Block → Bool
+is_comment (blocks.VorbisComment found) = true
+is_comment b = false
+
+-- a block as a list of one, and a comment as the empty list
+abbrev pub unless_comment : Block → List Block
+unless_comment b = cond (is_comment b) [] (b ∷ [])
+
+-- all blocks but the comments, in their order
+abbrev pub without_comments : List Block → List Block
+without_comments [] = []
+without_comments (b ∷ bs) = unless_comment b ++ without_comments bs
+
+-- ---- the input
+
+-- The bits begin with the marker and these blocks, STREAMINFO and a list, of which the last is marked, each spelled (RFC 9639, sections 6 and 8). The rest is not read.
+pub record BeginsWith (m : Mark) (text : List Bool) (info : Info) (list : List Block) (rest : List Bool) : Type 0 where
+  pub head : List Bool
+  pub stands : text ≡ head ++ rest
+  pub spelled : Joined grammar opening m (marked ∷ closing (blocks.StreamInfo info ∷ list)) head
+
+-- the marker or a block
+abbrev pub is_before_frames : Place → Bool
+is_before_frames place.Marker = true
+is_before_frames (place.Block index) = true
+is_before_frames other = false
+
+-- Behind good items, the marker or a block is refused, as decoding refuses it.
+pub record IsRefused (m : Mark) (text : List Bool) (at : Place) (why : Why) : Type 0 where
+  pub items : List Piece
+  pub refused : Refused grammar opening m items text at why
+  pub place : is_before_frames at ≡ true
+
+-- A head is there.
+pub record HasHead (m : Mark) (text : List Bool) : Type 0 where
+  pub info : Info
+  pub list : List Block
+  pub rest : List Bool
+  pub begins : BeginsWith m text info list rest
+
+-- Bits do not begin so in two ways, nor are they then refused before the frames; and they are not refused there in two ways.
+pub record OneHead (m : Mark) (text : List Bool) : Type 0 where
+  pub heads : (i j : Info) (l k : List Block) (r t : List Bool) → BeginsWith m text i l r → BeginsWith m text j k t → (i ≡ j) × (l ≡ k) × (r ≡ t)
+  pub either : (at : Place) (why : Why) → HasHead m text → IsRefused m text at why → ⊥
+  pub refusals : (at to : Place) (v w : Why) → IsRefused m text at v → IsRefused m text to w → (at ≡ to) × (v ≡ w)
+
+abbrev pub HeadsAreOne : Type 0
+HeadsAreOne = (m : Mark) (text : List Bool) → OneHead m text
+
+-- ---- the output
+
+-- the marker, STREAMINFO, the given comments, the blocks that are no comments, of all of which the last is marked, and the rest of the input
+abbrev pub retagged : Comments → Info → List Block → (rest : List Bool) → List Bool
+retagged comments info list rest = head_spelling info (blocks.VorbisComment comments ∷ without_comments list) ++ rest
+
+-- Behind the bits that were there, the input was written with these comments.
+pub record Retags (m : Mark) (text : List Bool) (comments : Comments) (before after : List Bool) : Type 0 where
+  pub info : Info
+  pub list : List Block
+  pub rest : List Bool
+  pub input : BeginsWith m text info list rest
+  pub output : after ≡ before ++ retagged comments info list rest
+
+-- Behind the bits that were there, a beginning of that was written.
+pub record BeginsRetagging (m : Mark) (text : List Bool) (comments : Comments) (before after : List Bool) : Type 0 where
+  pub front : List Bool
+  pub left : List Bool
+  pub written : after ≡ before ++ front
+  pub retags : Retags m text comments before (before ++ (front ++ left))
+
+-- ---- what is kept of the input
+
+-- no further block comes
+abbrev pub is_behind_blocks : Phase → Bool
+is_behind_blocks Opening = false
+is_behind_blocks Blocks = false
+is_behind_blocks Frames = true
+
+-- the blocks that are kept, with those of one more part, which is no frame
+abbrev pub keeps : List Block → Piece → List Block → Type 0
+keeps old marked new = new ≡ old
+keeps old (block last b) new = new ≡ old ++ unless_comment b
+keeps old (framed f) new = ⊥
+
+-- what is kept where bits begin with a marker and blocks
+pub record AreKept (c : Cursor) (kept : List Block) (rest : List Bool) : Type 0 where
+  pub info : Info
+  pub list : List Block
+  pub input : BeginsWith c.mark c.left info list rest
+  pub are : kept ≡ blocks.StreamInfo info ∷ without_comments list
+
+-- what stands before the frames with these comments, where the first of these blocks is STREAMINFO
+abbrev pub new_head : Comments → List Block → List Bool
+new_head comments [] = []
+new_head comments (b ∷ bs) = unsigned 32 0x664C6143 ++ blocks_spelling (b ∷ blocks.VorbisComment comments ∷ bs)
+
+-- ---- what is answered
+
+-- comments whose block would be longer than its header can tell, which is seen before anything is read
+abbrev pub too_long : RetagFault
+too_long = record { at = None; why = why.BlockLength }
+
+-- the target answered an error
+abbrev pub not_written : RetagFault
+not_written = record { at = None; why = why.Write }
+
+-- the source answered an error behind the blocks
+abbrev pub not_read : RetagFault
+not_read = record { at = Some (place.Frame 0); why = why.Read }

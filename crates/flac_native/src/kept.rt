@@ -1,0 +1,109 @@
+//! The metadata of a stream that is retagged.
+
+ghost use Rattle.std.specs.Prelude.{◌≡◌, ◌≢◌, ◌≤◌, ◌+◌, ◌++◌, [], true, false, OnOk, IfOk, IfErr, Some, None};
+ghost use Rattle.flac_bits.specs.Fencing.{lifted};
+ghost use Rattle.flac_bits.specs.Reading.{Counts};
+ghost use Rattle.flac_bits.specs.Items.{step_at, item, refused};
+ghost use Rattle.flac_bits.specs.Handing.{IsCalm, reason_of};
+ghost use Rattle.flac_native.specs.Stream.{Piece, Progress, grammar, next, block as block_piece};
+ghost use Rattle.flac_native.specs.Track.{IsAt, block_in};
+ghost use Rattle.flac_native.specs.Item.{told};
+ghost use Rattle.flac_native.specs.Retag.{keeps, is_behind_blocks, is_before_frames, AreKept, IsRefused};
+
+use crate::advance::advance;
+use crate::fault::Fault;
+use crate::part::Part;
+use crate::phase::Phase;
+use crate::track::Track;
+use flac_bits::{BitReader, Source, Why};
+use flac_header::Profile;
+use flac_meta::Block;
+use std::alloc::Global;
+
+/// Keeps a block that is no comment. Refuses where a growth is.
+fn keep(kept: &mut Vec<Block>, last: bool, block: Option<Block>) -> Result<(), Why>
+    ensures keeps { OnOk result (keeps kept.old.items (block_in last block) kept.new.items) }
+    ensures memory { IfErr result (λ e. e ≡ Why.Memory) }
+{
+    match block {
+        None => Ok(()),
+        Some(Block::VorbisComment(_)) => Ok(()),
+        Some(block) => {
+            kept.push(block)?;
+            Ok(())
+        }
+    }
+}
+
+/// Reads the marker or the next block, and keeps a block that is no comment.
+fn keep_next<R: Source>(
+    reader: &mut BitReader<R>,
+    track: &mut Track,
+    kept: &mut Vec<Block>,
+) -> Result<(), Fault>
+    requires { is_behind_blocks track.old.phase ≡ false }
+    ensures spends { OnOk result (reader.new.most + 32 ≤ reader.old.most) }
+    ensures counts { Counts (lifted reader.old) reader.new (reason_of told result) }
+    ensures keeps { OnOk result ((p : Progress) → IsAt track.old p → (x : Piece) × IsAt track.new (next p x) × keeps kept.old.items x kept.new.items
+        × (reader.old.known ≡ true → step_at grammar p (lifted reader.old).cursor ≡ item x reader.new.cursor)) }
+    ensures refused { IfErr result (λ f. (p : Progress) → IsAt track.old p → reader.old.known ≡ true → reader.new.errors ≡ reader.old.errors → reader.new.raised ≡ reader.old.raised → f.why ≢ Why.Memory
+        → step_at grammar p (lifted reader.old).cursor ≡ refused f.at f.why) }
+    ensures at { IfErr result (λ f. is_before_frames f.at ≡ true) }
+{
+    let at = track.place();
+    match advance(reader, track) {
+        Ok(Some(Part::Marker)) => Ok(()),
+        Ok(Some(Part::Block)) => match keep(kept, track.last, track.block.take()) {
+            Ok(()) => Ok(()),
+            Err(why) => Err(Fault { at, why }),
+        },
+        Ok(Some(Part::Frame)) => Err(Fault {
+            at,
+            why: Why::Truncated,
+        }),
+        Ok(None) => Err(Fault {
+            at,
+            why: Why::Truncated,
+        }),
+        Err(fault) => Err(Fault { at, why: fault.why }),
+    }
+}
+
+/// Whether no further block comes.
+fn is_behind(track: &Track) -> bool
+    ensures { result ≡ is_behind_blocks track.now.phase }
+{
+    match track.phase {
+        Phase::Opening => false,
+        Phase::Blocks => false,
+        Phase::Frames => true,
+    }
+}
+
+/// Reads the marker and all blocks, and keeps those that are no comments, in their order. It begins at a whole byte, and behind the blocks no fence stands.
+pub(crate) fn read_kept<R: Source>(
+    alloc: Global,
+    reader: &mut BitReader<R>,
+) -> Result<Vec<Block>, Fault>
+    requires { reader.old.cursor.mark.unread ≡ 0 }
+    ensures counts { Counts (lifted reader.old) reader.new (reason_of told result) }
+    ensures whole { OnOk result (reader.new.cursor.mark.unread ≡ 0) }
+    ensures kept { IfOk result (λ kept. reader.old.known ≡ true → AreKept (lifted reader.old).cursor kept.items reader.new.cursor.left) }
+    ensures refused { IfErr result (λ f. reader.old.known ≡ true → IsCalm reader.old reader.new → f.why ≢ Why.Memory
+        → IsRefused (lifted reader.old).cursor.mark (lifted reader.old).cursor.left f.at f.why) }
+    ensures at { IfErr result (λ f. reader.old.known ≡ true → is_before_frames f.at ≡ true) }
+{
+    let mut track = Track::opening(alloc, Profile::Subset);
+    let mut kept = Vec::new(alloc);
+    while !is_behind(&track) {
+        keep_next(reader, &mut track, &mut kept)?;
+    }
+    reader.lift();
+    if reader.unread() != 0 {
+        return Err(Fault {
+            at: track.place(),
+            why: Why::Truncated,
+        });
+    }
+    Ok(kept)
+}

@@ -1,0 +1,129 @@
+//! Gives a stream other comments.
+
+ghost use Rattle.std.specs.Prelude.{◌≡◌, ◌≢◌, ◌<◌, ◌≤◌, ◌++◌, ◌⊎◌, true, Bool, List, OnOk, IfErr, IfSome, IsErrAnd, Err, Some, None};
+ghost use Rattle.flac_bits.specs.Bits.{bits_of};
+ghost use Rattle.flac_bits.specs.State.{short_of};
+ghost use Rattle.flac_bits.specs.Fencing.{lifted};
+ghost use Rattle.flac_bits.specs.Handing.{IsCalm};
+ghost use Rattle.flac_meta.specs.Spelling.{comments_length};
+ghost use Rattle.flac_meta.specs.Info.{Info};
+ghost use Rattle.flac_meta.specs.declared.block.Block.{Block};
+ghost use Rattle.flac_bits.specs.declared.why.Why.{Why};
+ghost use Rattle.flac_native.specs.declared.fault.Place.{Place};
+ghost use Rattle.flac_native.specs.Decoding.{beginning};
+ghost use Rattle.flac_native.specs.Retag.{BeginsWith, HasHead, Retags, BeginsRetagging, IsRefused, retagged, too_long, not_read, not_written};
+
+use crate::copying::copy_rest;
+use crate::fault::Place;
+use crate::kept::read_kept;
+use crate::renewed::renewed;
+use crate::retag_fault::RetagFault;
+use flac_bits::{BitReader, Source, Target, Why, send_all};
+use flac_meta::Comments;
+use std::alloc::Global;
+
+/// Writes what is still to come with other comments, which are not too long.
+fn retag_from<R: Source, W: Target>(
+    alloc: Global,
+    reader: &mut BitReader<R>,
+    comments: &Comments,
+    target: &mut W,
+) -> Result<(), RetagFault>
+    requires { reader.old.cursor.mark.unread ≡ 0 }
+    ensures written { OnOk result (reader.old.known ≡ true → W.known target.old ≡ true
+        → Retags (lifted reader.old).cursor.mark (lifted reader.old).cursor.left comments.now (bits_of (W.sent target.old)) (bits_of (W.sent target.new))) }
+    ensures refused { IfErr result (λ f. IfSome f.at (λ at. reader.old.known ≡ true → IsCalm reader.old reader.new → f.why ≢ Why.Memory
+        → IsRefused (lifted reader.old).cursor.mark (lifted reader.old).cursor.left at f.why)) }
+    ensures head { OnOk result (reader.old.known ≡ true → HasHead (lifted reader.old).cursor.mark (lifted reader.old).cursor.left) }
+    ensures found { IfErr result (λ f. (f ≡ not_read) ⊎ (f ≡ not_written) → reader.old.known ≡ true → HasHead (lifted reader.old).cursor.mark (lifted reader.old).cursor.left) }
+    ensures nothing { IfErr result (λ f. f ≢ not_read → f ≢ not_written → target.new ≡ target.old) }
+    ensures begun { IfErr result (λ f. (f ≡ not_read) ⊎ (f ≡ not_written) → reader.old.known ≡ true → W.known target.old ≡ true
+        → BeginsRetagging (lifted reader.old).cursor.mark (lifted reader.old).cursor.left comments.now (bits_of (W.sent target.old)) (bits_of (W.sent target.new))) }
+    ensures placeless { IfErr result (λ f. f.at ≡ None → f ≡ not_written) }
+    ensures read { IfErr result (λ f. f.why ≡ Why.Read → reader.old.known ≡ true → reader.old.raised < reader.new.raised) }
+    ensures write { IfErr result (λ f. f ≡ not_written → W.known target.old ≡ true → W.errors target.old < W.errors target.new) }
+    ensures errors { reader.old.errors ≤ reader.new.errors }
+    ensures names { (reader.new.names ≡ reader.old.names) × (W.names target.new ≡ W.names target.old) }
+{
+    let kept = match read_kept(alloc, reader) {
+        Ok(kept) => kept,
+        Err(fault) => {
+            return Err(RetagFault {
+                at: Some(fault.at),
+                why: fault.why,
+            });
+        }
+    };
+    let Ok(head) = renewed(alloc, kept.as_slice(), comments) else {
+        return Err(RetagFault {
+            at: Some(Place::Frame(0)),
+            why: Why::Memory,
+        });
+    };
+    match send_all(target, head.as_slice()) {
+        Ok(()) => copy_rest(reader, target),
+        Err(_) => Err(RetagFault {
+            at: None,
+            why: Why::Write,
+        }),
+    }
+}
+
+/// Gives a native stream other comments: writes the marker, the same STREAMINFO, a Vorbis comment block of the given comments, the other metadata blocks
+/// in their order without an old comment block, and then the rest of the input byte for byte, which is not judged (RFC 9639, sections 6 and 8). The
+/// metadata is held in memory; the rest is copied at most 4096 bytes at a time.
+///
+/// # Errors
+/// [`Why::BlockLength`] without a place where the content of the comments is longer than 16777215 bytes (see [`Comments::length`]); then nothing was read
+/// and nothing written. Each reason of the marker and of a block, at its place, as [`crate::decode`] refuses it, and [`Why::Memory`] where a growth was
+/// refused, at the place that was being read; then nothing was written. [`Why::Write`] without a place where the target answered an error, and
+/// [`Why::Read`] at the first frame where the source answered one behind the blocks; then a beginning of the output was written.
+pub fn retag<R: Source, W: Target>(
+    alloc: Global,
+    source: &mut R,
+    comments: &Comments,
+    target: &mut W,
+) -> Result<(), RetagFault>
+    // Comments that are too long are refused before anything is read, and nothing else is refused so.
+    ensures long { 16777215 < comments_length comments.now → (result ≡ Err too_long) × (source.new ≡ source.old) × (target.new ≡ target.old) }
+    ensures short { result ≡ Err too_long → 16777215 < comments_length comments.now }
+    // Ok only where the input begins with a marker and blocks; and what was written is just these with the comments, and the rest.
+    ensures written { OnOk result (R.known source.old ≡ true → W.known target.old ≡ true
+        → Retags (beginning (short_of ((R.behind source.old).fails))) (bits_of (R.coming source.old)) comments.now (bits_of (W.sent target.old)) (bits_of (W.sent target.new))) }
+    // That is so for each way in which the input begins.
+    ensures exact { OnOk result (R.known source.old ≡ true → W.known target.old ≡ true
+        → (info : Info) (list : List Block) (rest : List Bool) → BeginsWith (beginning (short_of ((R.behind source.old).fails))) (bits_of (R.coming source.old)) info list rest
+        → bits_of (W.sent target.new) ≡ bits_of (W.sent target.old) ++ retagged comments.now info list rest) }
+    // Refused only as the marker and the blocks are, at that place and for that reason.
+    ensures refused { IfErr result (λ f. IfSome f.at (λ at. R.known source.old ≡ true → R.errors source.new ≡ R.errors source.old → R.raised source.new ≡ R.raised source.old → f.why ≢ Why.Memory
+        → IsRefused (beginning (short_of ((R.behind source.old).fails))) (bits_of (R.coming source.old)) at f.why)) }
+    // An input that begins with a marker and blocks is refused for the comments, the target and the memory alone.
+    ensures accepted { IfErr result (λ f. f ≢ too_long → R.known source.old ≡ true → R.errors source.new ≡ R.errors source.old → R.raised source.new ≡ R.raised source.old → f.why ≢ Why.Memory
+        → HasHead (beginning (short_of ((R.behind source.old).fails))) (bits_of (R.coming source.old)) → f ≡ not_written) }
+    // One whose marker or block is to be refused is refused just so.
+    ensures shown { comments_length comments.now ≤ 16777215 → (at : Place) (why : Why) → IsRefused (beginning (short_of ((R.behind source.old).fails))) (bits_of (R.coming source.old)) at why
+        → R.known source.old ≡ true → R.errors source.new ≡ R.errors source.old → R.raised source.new ≡ R.raised source.old
+        → IsErrAnd result (λ f. f.why ≢ Why.Memory → f ≡ record { at = Some at; why = why }) }
+    // Whatever was refused but an error of a device behind the blocks: nothing was written.
+    ensures nothing { IfErr result (λ f. f ≢ not_read → f ≢ not_written → target.new ≡ target.old) }
+    // Where a device failed behind the blocks, a beginning of the output was written.
+    ensures begun { IfErr result (λ f. (f ≡ not_read) ⊎ (f ≡ not_written) → R.known source.old ≡ true → W.known target.old ≡ true
+        → BeginsRetagging (beginning (short_of ((R.behind source.old).fails))) (bits_of (R.coming source.old)) comments.now (bits_of (W.sent target.old)) (bits_of (W.sent target.new))) }
+    // No place has a fault of the comments and of the target alone, and an error was answered where one is told.
+    ensures placeless { IfErr result (λ f. f.at ≡ None → (f ≡ too_long) ⊎ (f ≡ not_written)) }
+    ensures read { IfErr result (λ f. f.why ≡ Why.Read → R.known source.old ≡ true → R.raised source.old < R.raised source.new) }
+    ensures write { IfErr result (λ f. f ≡ not_written → W.known target.old ≡ true → W.errors target.old < W.errors target.new) }
+    ensures kept { R.errors source.old ≤ R.errors source.new }
+    ensures names { W.names target.new ≡ W.names target.old }
+{
+    if comments.length() > 16777215 {
+        return Err(RetagFault {
+            at: None,
+            why: Why::BlockLength,
+        });
+    }
+    let mut reader = BitReader::new(source);
+    let outcome = retag_from(alloc, &mut reader, comments, target);
+    let _source = reader.into_source();
+    outcome
+}
