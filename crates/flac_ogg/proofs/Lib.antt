@@ -6,3 +6,4 @@ pub mod Exits
 pub mod PacketMeaning
 pub mod Cut
 pub mod PageTie
+pub mod ItemMeaning

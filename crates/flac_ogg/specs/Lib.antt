@@ -1,5 +1,6 @@
 pub mod Page
 pub mod Pages
 pub mod Packets
+pub mod Items
 pub mod Given
 pub mod Written
