@@ -1,13 +1,13 @@
 -- What is read of one item in one packet is what the packet is.
-use Rattle.std.proofs.Common.{◌≡◌, ◌≢◌, ℕ, Bool, true, false, List, [], ◌∷◌, ◌++◌, Option, Some, None, Result, Ok, Err, refl, sym, ap, subst, ◌∙◌, inl, inr, ◌⊎◌}
+use Rattle.std.proofs.Common.{◌≡◌, ◌≢◌, ℕ, Bool, true, false, List, [], ◌∷◌, ◌++◌, Option, Result, Ok, Err, refl, sym, ap, subst, ◌∙◌, inl, inr}
 use Rattle.std.proofs.lemmas.List.{append-nil}
 use Rattle.flac_bits.specs.Bits.{is_nil}
-use Rattle.flac_bits.specs.State.{Mark, Cursor, past}
-use Rattle.flac_bits.specs.Layout.{Layout, Reason, because}
+use Rattle.flac_bits.specs.State.{Mark, Cursor}
+use Rattle.flac_bits.specs.Layout.{Layout, Reason}
 use Rattle.flac_bits.specs.Meaning.{Spells}
 use Rattle.flac_bits.specs.Fence.{InRoom, StopsIn, read_in}
 use Rattle.flac_bits.specs.declared.why.Why.{Why}
-use Rattle.flac_bits.specs.declared.why.Why.TheVariants.{Read, Truncated, FrameTooLong, PacketLength}
+use Rattle.flac_bits.specs.declared.why.Why.TheVariants.{FrameTooLong}
 use Rattle.flac_bits.proofs.Laws.{at_}
 use Rattle.flac_bits.proofs.Fences.{again_in, stops_in, takes_in, refuses_in}
 use Rattle.flac_ogg.specs.Items.{PacketEnd, whole, unended, cut_at, Packet, short_at, cut_off, in_packet, IsItem, IsNoItem, TellsItem, at_last_bit, behind_item, judged, item_in}

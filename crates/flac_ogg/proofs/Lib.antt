@@ -7,3 +7,4 @@ pub mod PacketMeaning
 pub mod Cut
 pub mod PageTie
 pub mod ItemMeaning
+pub mod PacketEnds

@@ -1,13 +1,13 @@
 -- One item in one packet: the bytes of a packet are one item, a metadata block or a frame, and nothing else (RFC 9639, section 10.1).
-use Rattle.std.specs.Prelude.{◌≡◌, ◌≢◌, ℕ, Bool, true, false, List, [], ◌++◌, Option, Some, None, Result, Ok, Err, ◌⊎◌}
+use Rattle.std.specs.Prelude.{◌≡◌, ◌≢◌, ◌<◌, ◌≤◌, ℕ, Bool, true, false, List, [], ◌++◌, Option, Some, None, Result, Ok, Err, ◌⊎◌}
 use Rattle.flac_bits.specs.Bits.{bits_of, is_nil}
-use Rattle.flac_bits.specs.State.{Mark, Cursor, State, Behind, short_of, without_fence}
+use Rattle.flac_bits.specs.State.{Mark, Cursor, State, Behind, short_of}
 use Rattle.flac_bits.specs.Layout.{Layout, Reason}
 use Rattle.flac_bits.specs.Meaning.{Spells, Shows, IsCut}
 use Rattle.flac_bits.specs.Fence.{InRoom, LeavesRoom, FillsRoom, read_in}
 use Rattle.flac_bits.specs.declared.why.Why.{Why}
 use Rattle.flac_bits.specs.declared.why.Why.TheVariants.{Read, Truncated, FrameTooLong, PacketLength}
-use Rattle.flac_ogg.specs.Packets.{Place, rest_of, behind_of}
+use Rattle.flac_ogg.specs.Packets.{Place, ahead, rest_of, behind_of}
 
 -- How a packet ends behind the bytes that good pages give of it (RFC 3533, section 6).
 pub data PacketEnd : Type 0 where
@@ -101,3 +101,35 @@ judged e (Err reason) = Err (in_packet e reason.why)
 -- what reading one item in one packet gives
 unfoldable pub item_in : {A : Type 0} → Option ℕ → Layout A → Mark → Packet → Result A (Option ℕ × Why)
 item_in room l m p = judged p.ends (read_in room l (record { left = p.bits; mark = m }))
+
+-- ---- what the calls do that judge a packet's end
+
+-- A reader of packets went behind the packet that it had begun, to where the next one begins. Or the packet does not end there, and this is why.
+abbrev pub EndsPacket : {X : Type 0} → Place → Place → Result X (Option ℕ × Why) → Type 0
+EndsPacket old new (Ok x) = record {
+  known : old.known ≡ true → new.known ≡ true;
+  errors : new.errors ≡ old.errors;
+  names : new.names ≡ old.names;
+  stands : (new.rest ≡ 0) × (new.more ≡ false);
+  ended : old.known ≡ true → end_of (behind_of old) ≡ whole;
+  behind : old.known ≡ true → behind_of new ≡ behind_of old;
+}
+EndsPacket old new (Err why) = record {
+  errors : old.errors ≤ new.errors;
+  names : new.names ≡ old.names;
+  fault : old.known ≡ true → new.errors ≡ old.errors → (end_of (behind_of old) ≢ whole) × (why ≡ cut_off (end_of (behind_of old)));
+}
+
+-- What an item's reader answered over a packet's bits, behind which it stands at `s`, and what stands behind those bits are told together.
+abbrev pub JudgesPacket : {X : Type 0} → State → Place → Result X Why → Result X (Option ℕ × Why) → Type 0
+JudgesPacket s new (Ok x) result = s.known ≡ true → new.errors ≡ s.errors → s.cursor.mark.short ≡ short_of s.behind.fails → result ≡ behind_item (end_of s.behind) (is_nil s.cursor.left) x
+JudgesPacket s new (Err why) result = (why ≡ Read → 0 < s.raised) → result ≡ Err (in_packet (end_of s.behind) why)
+
+-- Behind a packet that is one item: the next packet is to be begun, and what good pages give stays.
+pub record GoesBehind (s : State) (new : Place) : Type 0 where
+  pub stands : (new.rest ≡ 0) × (new.more ≡ false)
+  pub known : s.known ≡ true → new.known ≡ true
+  pub errors : new.errors ≡ s.errors
+  pub lacing : s.known ≡ true → s.cursor.mark.short ≡ short_of s.behind.fails → (ahead new).lacing ≡ s.behind.pieces
+  pub bytes : s.known ≡ true → s.cursor.mark.short ≡ short_of s.behind.fails → (ahead new).bytes ≡ s.behind.bytes
+  pub stop : s.known ≡ true → s.cursor.mark.short ≡ short_of s.behind.fails → (ahead new).stop ≡ s.behind.stop
