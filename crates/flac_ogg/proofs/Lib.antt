@@ -8,3 +8,4 @@ pub mod Cut
 pub mod PageTie
 pub mod ItemMeaning
 pub mod PacketEnds
+pub mod Judging

@@ -102,6 +102,13 @@ judged e (Err reason) = Err (in_packet e reason.why)
 unfoldable pub item_in : {A : Type 0} → Option ℕ → Layout A → Mark → Packet → Result A (Option ℕ × Why)
 item_in room l m p = judged p.ends (read_in room l (record { left = p.bits; mark = m }))
 
+-- the same of a reader that met this page's fault, if it met one
+abbrev pub why_in : Option (ℕ × Why) → Why → Option ℕ × Why
+why_in fault Truncated = (None, PacketLength)
+why_in None Read = (None, Read)
+why_in (Some f) Read = (Some f.0, f.1)
+why_in fault why = (None, why)
+
 -- ---- what the calls do that judge a packet's end
 
 -- A reader of packets went behind the packet that it had begun, to where the next one begins. Or the packet does not end there, and this is why.

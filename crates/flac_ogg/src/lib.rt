@@ -2,6 +2,7 @@
 #![tactic(auto)]
 
 mod fields;
+mod item;
 mod packet_bytes;
 mod page;
 mod pages;
@@ -9,6 +10,7 @@ mod promises;
 mod room;
 mod writing;
 
+pub use item::end_item;
 pub use packet_bytes::PacketBytes;
 pub use page::{Before, Head};
 pub use pages::Pages;
