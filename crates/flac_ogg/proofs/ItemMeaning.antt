@@ -53,14 +53,14 @@ closed room l m p x spelled fits (cut_at n why) is = inr (inr (inr (inr (x, spel
     differ e = absurd cc
 
 -- behind an item that the packet's bits begin with
-behind : {A : Type 0} (room : Option ℕ) (l : Layout A) (m : Mark) (p : Packet) (x : A) (text rest : List Bool) → p.bits ≡ text ++ rest → Spells l m text x → InRoom room m text
+pub told_behind : {A : Type 0} (room : Option ℕ) (l : Layout A) (m : Mark) (p : Packet) (x : A) (text rest : List Bool) → p.bits ≡ text ++ rest → Spells l m text x → InRoom room m text
     → (b : Bool) → is_nil rest ≡ b → TellsItem (λ x. x) room l m p (behind_item p.ends b x)
-behind room l m p x text rest split spelled fits true e =
+told_behind room l m p x text rest split spelled fits true e =
     let all : text ≡ p.bits = sym (split ∙ ap (λ r. text ++ r) (is_nil_is rest e) ∙ append-nil text) in
     closed room l m p x (subst (λ t. Spells l m t x) all spelled) (subst (λ t. InRoom room m t) all fits) p.ends refl
-behind room l m p x text rest split spelled fits false e = inr (inr (inr (inl (x, text, rest, split, some_is rest e, spelled, fits, refl))))
+told_behind room l m p x text rest split spelled fits false e = inr (inr (inr (inl (x, text, rest, split, some_is rest e, spelled, fits, refl))))
 
-stopped : {A : Type 0} (room : Option ℕ) (l : Layout A) (m : Mark) (p : Packet) (why : Why) → m.short ≡ short_at p.ends → StopsIn room l m p.bits why → IsNoItem room l m p (in_packet p.ends why)
+pub stopped : {A : Type 0} (room : Option ℕ) (l : Layout A) (m : Mark) (p : Packet) (why : Why) → m.short ≡ short_at p.ends → StopsIn room l m p.bits why → IsNoItem room l m p (in_packet p.ends why)
 stopped room l m p why short (inl (front, rest, split, shows, fits)) = inl (why, front, rest, split, shows, fits, refl)
 stopped room l m p why short (inr (inl (is, cut, leaves))) = inr (inl (cut, leaves, ap (in_packet p.ends) (is ∙ short) ∙ short_told p.ends))
 stopped room l m p why short (inr (inr (is, fills))) = inr (inr (inl (fills, ap (in_packet p.ends) is)))
@@ -71,7 +71,7 @@ unfolding item_in
 item_means {A = A} room l m p short = go (read_in room l (at_ p.bits m)) refl
   where
     go : (r : Result (A × Cursor) Reason) → read_in room l (at_ p.bits m) ≡ r → TellsItem (λ x. x) room l m p (judged p.ends r)
-    go (Ok x) e = let t = takes_in room l p.bits m x.0 x.1 e in behind room l m p x.0 t.0 x.1.left t.1 t.2 t.3 (is_nil x.1.left) refl
+    go (Ok x) e = let t = takes_in room l p.bits m x.0 x.1 e in told_behind room l m p x.0 t.0 x.1.left t.1 t.2 t.3 (is_nil x.1.left) refl
     go (Err reason) e = stopped room l m p reason.why short (refuses_in room l p.bits m reason.why e)
 
 -- ---- what is meant is read

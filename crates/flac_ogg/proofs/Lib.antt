@@ -9,3 +9,4 @@ pub mod PageTie
 pub mod ItemMeaning
 pub mod PacketEnds
 pub mod Judging
+pub mod ItemReading

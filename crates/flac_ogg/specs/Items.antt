@@ -1,7 +1,7 @@
 -- One item in one packet: the bytes of a packet are one item, a metadata block or a frame, and nothing else (RFC 9639, section 10.1).
-use Rattle.std.specs.Prelude.{◌≡◌, ◌≢◌, ◌<◌, ◌≤◌, ℕ, Bool, true, false, List, [], ◌++◌, Option, Some, None, Result, Ok, Err, ◌⊎◌}
+use Rattle.std.specs.Prelude.{◌≡◌, ◌≢◌, ◌<◌, ◌≤◌, ◌+◌, ◌*◌, ℕ, length, Bool, true, false, List, [], ◌++◌, Option, Some, None, Result, Ok, Err, ◌⊎◌}
 use Rattle.flac_bits.specs.Bits.{bits_of, is_nil}
-use Rattle.flac_bits.specs.State.{Mark, Cursor, State, Behind, short_of}
+use Rattle.flac_bits.specs.State.{Mark, Cursor, State, Behind, short_of, without_fence}
 use Rattle.flac_bits.specs.Layout.{Layout, Reason}
 use Rattle.flac_bits.specs.Meaning.{Spells, Shows, IsCut}
 use Rattle.flac_bits.specs.Fence.{InRoom, LeavesRoom, FillsRoom, read_in}
@@ -40,9 +40,9 @@ abbrev pub short_at : PacketEnd → Why
 short_at (cut_at n why) = Read
 short_at other = Truncated
 
--- what is known of the bits behind a packet's first
-abbrev pub packet_mark : PacketEnd → Mark
-packet_mark e = record { unread = 0; bytes = 0; check8 = 0; check16 = 0; short = short_at e }
+-- what is known of the bits behind, at a packet's first bit
+abbrev pub packet_mark : Place → Mark
+packet_mark p = record { unread = 0; bytes = 0; check8 = 0; check16 = 0; short = short_of (behind_of p).fails }
 
 -- ---- what an item's packet is, apart from any reading
 
@@ -127,6 +127,16 @@ EndsPacket old new (Err why) = record {
   fault : old.known ≡ true → new.errors ≡ old.errors → (end_of (behind_of old) ≢ whole) × (why ≡ cut_off (end_of (behind_of old)));
 }
 
+-- a reader of bits stands at the first bit of the packet that was begun
+pub record IsAtPacket (p : Place) (s : State) : Type 0 where
+  pub known : s.known ≡ p.known
+  pub errors : s.errors ≡ p.errors
+  pub raised : s.raised ≡ 0
+  pub behind : s.behind ≡ without_fence (behind_of p)
+  pub most : s.most ≡ 8 * (p.most + length p.body)
+  pub names : s.names ≡ p.names
+  pub cursor : s.cursor ≡ record { left = (packet_of p).bits; mark = packet_mark p }
+
 -- What an item's reader answered over a packet's bits, behind which it stands at `s`, and what stands behind those bits are told together.
 abbrev pub JudgesPacket : {X : Type 0} → State → Place → Result X Why → Result X (Option ℕ × Why) → Type 0
 JudgesPacket s new (Ok x) result = s.known ≡ true → new.errors ≡ s.errors → s.cursor.mark.short ≡ short_of s.behind.fails → result ≡ behind_item (end_of s.behind) (is_nil s.cursor.left) x
@@ -140,3 +150,11 @@ pub record GoesBehind (s : State) (new : Place) : Type 0 where
   pub lacing : s.known ≡ true → s.cursor.mark.short ≡ short_of s.behind.fails → (ahead new).lacing ≡ s.behind.pieces
   pub bytes : s.known ≡ true → s.cursor.mark.short ≡ short_of s.behind.fails → (ahead new).bytes ≡ s.behind.bytes
   pub stop : s.known ≡ true → s.cursor.mark.short ≡ short_of s.behind.fails → (ahead new).stop ≡ s.behind.stop
+
+-- The next packet is to be begun, and good pages still give what was behind the packet that was begun.
+pub record HasBehind (old new : Place) : Type 0 where
+  pub known : new.known ≡ true
+  pub errors : new.errors ≡ old.errors
+  pub lacing : (ahead new).lacing ≡ (behind_of old).pieces
+  pub bytes : (ahead new).bytes ≡ (behind_of old).bytes
+  pub stop : (ahead new).stop ≡ (behind_of old).stop

@@ -1,13 +1,22 @@
 //! One item in one packet.
 
-ghost use Rattle.std.specs.Prelude.{◌≡◌, ◌≤◌, true, OnOk};
+ghost use Rattle.std.specs.Prelude.{◌≡◌, ◌≤◌, true, false, length, OnOk, None};
 ghost use Rattle.flac_bits.specs.Bits.{is_nil};
+ghost use Rattle.flac_bits.specs.Layout.{bits as number};
+ghost use Rattle.flac_bits.specs.Lists.{list_of};
 ghost use Rattle.flac_bits.specs.State.{short_of};
-ghost use Rattle.flac_ogg.specs.Items.{end_of, behind_item, why_in, JudgesPacket, GoesBehind};
+ghost use Rattle.flac_ogg.specs.Items.{end_of, behind_item, why_in, packet_of, packet_mark, TellsItem, IsAtPacket, JudgesPacket, GoesBehind, HasBehind};
 
 use crate::packet_bytes::PacketBytes;
 use crate::pages::Pages;
-use flac_bits::{BitReader, Source, Why};
+use flac_bits::{BitReader, Source, Why, read_bytes};
+
+/// The bits of the packet that was begun, which an item is read from. [`end_item`] gives the pages back.
+pub fn packet_bits<R: Source>(pages: Pages<R>) -> BitReader<PacketBytes<R>>
+    ensures { IsAtPacket pages result }
+{
+    BitReader::new(PacketBytes::over(pages))
+}
 
 /// Why an item's reader refused, told of the item's packet: a page's fault with the page, and an item that its packet cuts off.
 fn why_in(fault: Option<(u64, Why)>, why: Why) -> (Option<u64>, Why)
@@ -73,4 +82,25 @@ pub fn end_item<R: Source, X: Drop>(
             (Err(why), packet.into_pages())
         }
     }
+}
+
+/// Reads the packet that was begun, which is to have just so many bytes, and gives the pages back, as [`end_item`] does.
+///
+/// # Errors
+///
+/// `PacketLength` where the packet has another number of bytes, or is still open at the end of the last page. Where a refused page breaks the packet off, how
+/// many pages came before that page, and its fault.
+pub fn read_packet<R: Source>(
+    pages: Pages<R>,
+    out: &mut [u8],
+) -> (Result<(), (Option<u64>, Why)>, Pages<R>)
+    ensures kept { pages.errors ≤ result.1.errors }
+    ensures names { result.1.names ≡ pages.names }
+    ensures tells { pages.known ≡ true → result.1.errors ≡ pages.errors → TellsItem (λ _. out.new) None (list_of (length out.old) (number 8)) (packet_mark pages) (packet_of pages) result.0 }
+    ensures stands { OnOk result.0 ((result.1.rest ≡ 0) × (result.1.more ≡ false)) }
+    ensures ahead { OnOk result.0 (pages.known ≡ true → HasBehind pages result.1) }
+{
+    let mut bits = packet_bits(pages);
+    let read = read_bytes(&mut bits, out);
+    end_item(bits, read)
 }

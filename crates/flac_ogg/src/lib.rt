@@ -10,7 +10,7 @@ mod promises;
 mod room;
 mod writing;
 
-pub use item::end_item;
+pub use item::{end_item, packet_bits, read_packet};
 pub use packet_bytes::PacketBytes;
 pub use page::{Before, Head};
 pub use pages::Pages;
