@@ -1,15 +1,14 @@
 -- A reader's call over a packet's bits and the judgement of the packet's end, together: they tell what the packet is.
-use Rattle.std.proofs.Common.{◌≡◌, ◌≢◌, ℕ, ◌<◌, ◌≤◌, Bool, true, false, List, [], Option, Some, None, Result, Ok, Err, OnOk, refl, sym, ap, subst, ◌∙◌, arith}
+use Rattle.std.proofs.Common.{◌≡◌, ℕ, ◌≤◌, Bool, true, false, [], Option, Some, None, Result, Ok, Err, OnOk, refl, sym, ap, subst, ◌∙◌, arith}
 use Rattle.std.proofs.lemmas.List.{append-nil}
-use Rattle.flac_bits.specs.Bits.{bits_of, is_nil}
-use Rattle.flac_bits.specs.State.{Mark, Cursor, State, Behind, past, short_of, started, without_fence}
+use Rattle.flac_bits.specs.Bits.{is_nil}
+use Rattle.flac_bits.specs.State.{Mark, Cursor, State, Behind, short_of, started, without_fence}
 use Rattle.flac_bits.specs.Fence.{read_in}
 use Rattle.flac_bits.specs.Fencing.{lifted}
 use Rattle.flac_bits.specs.Layout.{Layout}
 use Rattle.flac_bits.specs.Reading.{Counts, Gives}
 use Rattle.flac_bits.specs.declared.why.Why.{Why}
 use Rattle.flac_bits.specs.declared.why.Why.TheVariants.{Memory, Read}
-use Rattle.flac_bits.proofs.Laws.{at_}
 use Rattle.flac_bits.proofs.Meaning.{past-short}
 use Rattle.flac_bits.proofs.Fences.{takes_in, refuses_in}
 use Rattle.flac_ogg.specs.Packets.{Place, behind_of}

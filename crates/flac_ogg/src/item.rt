@@ -1,6 +1,6 @@
 //! One item in one packet.
 
-ghost use Rattle.std.specs.Prelude.{◌≡◌, ◌≤◌, true, false, length, OnOk, None};
+ghost use Rattle.std.specs.Prelude.{◌≡◌, ◌≢◌, ◌≤◌, true, false, length, OnOk, IfErr, IfSome};
 ghost use Rattle.flac_bits.specs.Bits.{is_nil};
 ghost use Rattle.flac_bits.specs.Layout.{bits as number};
 ghost use Rattle.flac_bits.specs.Lists.{list_of};
@@ -20,7 +20,8 @@ pub fn packet_bits<R: Source>(pages: Pages<R>) -> BitReader<PacketBytes<R>>
 
 /// Why an item's reader refused, told of the item's packet: a page's fault with the page, and an item that its packet cuts off.
 fn why_in(fault: Option<(u64, Why)>, why: Why) -> (Option<u64>, Why)
-    ensures { result ≡ why_in fault why }
+    ensures value { result ≡ why_in fault why }
+    ensures memory { IfSome fault (λ f. f.1 ≢ Why.Memory) → result.1 ≡ Why.Memory → why ≡ Why.Memory }
 {
     match why {
         Why::Truncated => (None, Why::PacketLength),
@@ -38,6 +39,7 @@ fn end_behind<R: Source>(
 ) -> (Result<(), (Option<u64>, Why)>, Pages<R>)
     ensures kept { bits.errors ≤ result.1.errors }
     ensures names { result.1.names ≡ bits.names }
+    ensures memory { IfErr result.0 (λ e. e.1 ≢ Why.Memory) }
     ensures judges { bits.known ≡ true → result.1.errors ≡ bits.errors → bits.cursor.mark.short ≡ short_of bits.behind.fails → result.0 ≡ behind_item (end_of bits.behind) (is_nil bits.cursor.left) tt }
     ensures behind { OnOk result.0 (GoesBehind bits result.1) }
 {
@@ -68,6 +70,7 @@ pub fn end_item<R: Source, X: Drop>(
 ) -> (Result<X, (Option<u64>, Why)>, Pages<R>)
     ensures kept { bits.errors ≤ result.1.errors }
     ensures names { result.1.names ≡ bits.names }
+    ensures memory { IfErr result.0 (λ e. e.1 ≡ Why.Memory → read ≡ Err Why.Memory) }
     ensures judges { JudgesPacket bits result.1 read result.0 }
     ensures behind { OnOk result.0 (GoesBehind bits result.1) }
 {
@@ -96,6 +99,7 @@ pub fn read_packet<R: Source>(
 ) -> (Result<(), (Option<u64>, Why)>, Pages<R>)
     ensures kept { pages.errors ≤ result.1.errors }
     ensures names { result.1.names ≡ pages.names }
+    ensures memory { IfErr result.0 (λ e. e.1 ≢ Why.Memory) }
     ensures tells { pages.known ≡ true → result.1.errors ≡ pages.errors → TellsItem (λ _. out.new) None (list_of (length out.old) (number 8)) (packet_mark pages) (packet_of pages) result.0 }
     ensures stands { OnOk result.0 ((result.1.rest ≡ 0) × (result.1.more ≡ false)) }
     ensures ahead { OnOk result.0 (pages.known ≡ true → HasBehind pages result.1) }

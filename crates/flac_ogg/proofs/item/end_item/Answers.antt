@@ -8,4 +8,4 @@ pub returns-in-Err-clause-judges : goal.returns-in-Err-clause-judges
 returns-in-Err-clause-judges g c =
     let packet = c.into_source-packet.result in
     let tells = c.into_source-packet.ensures in
-    judged_why c.args.bits packet.fault c.why.result packet.errors packet.pages c.into_pages.result c.args.read c.in-Err.why c.why_in-why.result c.in-Err.is c.why_in-why.ensures c.why.ensures packet.quiet tells.raised tells.behind
+    judged_why c.args.bits packet.fault c.why.result packet.errors packet.pages c.into_pages.result c.args.read c.in-Err.why c.why_in-why.result c.in-Err.is c.why_in-why.ensures.value c.why.ensures.fault packet.quiet tells.raised tells.behind
