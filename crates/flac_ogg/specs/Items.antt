@@ -1,8 +1,9 @@
 -- One item in one packet: the bytes of a packet are one item, a metadata block or a frame, and nothing else (RFC 9639, section 10.1).
-use Rattle.std.specs.Prelude.{◌≡◌, ◌≢◌, ◌<◌, ◌≤◌, ◌+◌, ◌*◌, ℕ, length, Bool, true, false, List, [], ◌++◌, Option, Some, None, Result, Ok, Err, ◌⊎◌}
+use Rattle.std.specs.Prelude.{◌≡◌, ◌≢◌, ◌↔◌, ◌<◌, ◌≤◌, ◌+◌, ◌*◌, ℕ, length, Bool, true, false, List, [], ◌++◌, Option, Some, None, Result, Ok, Err, ◌⊎◌}
 use Rattle.flac_bits.specs.Bits.{bits_of, is_nil}
 use Rattle.flac_bits.specs.State.{Mark, Cursor, State, Behind, short_of, without_fence}
-use Rattle.flac_bits.specs.Layout.{Layout, Reason}
+use Rattle.flac_bits.specs.Layout.{Layout, bits, Reason}
+use Rattle.flac_bits.specs.Lists.{list_of}
 use Rattle.flac_bits.specs.Meaning.{Spells, Shows, IsCut}
 use Rattle.flac_bits.specs.Fence.{InRoom, LeavesRoom, FillsRoom, read_in}
 use Rattle.flac_bits.specs.declared.why.Why.{Why}
@@ -102,7 +103,12 @@ judged e (Err reason) = Err (in_packet e reason.why)
 unfoldable pub item_in : {A : Type 0} → Option ℕ → Layout A → Mark → Packet → Result A (Option ℕ × Why)
 item_in room l m p = judged p.ends (read_in room l (record { left = p.bits; mark = m }))
 
--- the same of a reader that met this page's fault, if it met one
+-- Each packet is one item or is none, for one reason; and this is what reading it gives. So it is of packets of so many bytes.
+abbrev pub PacketsTellOne : Type 0
+PacketsTellOne = (n : ℕ) (p : Place) (result : Result (List ℕ) (Option ℕ × Why))
+    → TellsItem (λ x. x) None (list_of n (bits 8)) (packet_mark p) (packet_of p) result ↔ (item_in None (list_of n (bits 8)) (packet_mark p) (packet_of p) ≡ result)
+
+-- a reason of an item's reader, told of the packet, where the reader met this page's fault, if any
 abbrev pub why_in : Option (ℕ × Why) → Why → Option ℕ × Why
 why_in fault Truncated = (None, PacketLength)
 why_in None Read = (None, Read)

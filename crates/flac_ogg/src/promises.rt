@@ -1,6 +1,7 @@
 //! What holds of the definitions.
 
 ghost use Rattle.flac_ogg.specs.Given.{PacketsAreGiven};
+ghost use Rattle.flac_ogg.specs.Items.{PacketsTellOne};
 ghost use Rattle.flac_ogg.specs.Written.{PagesAreSpelled, PagesAreReadAgain, PagesHavePackets};
 
 /// Where pages have packets (RFC 3533, section 6), the one that was begun gives its bytes, and behind it are the further ones.
@@ -17,4 +18,9 @@ pub fn pages_are_spelled()
 /// The pages of a packet, as [`crate::write_packet`] writes them, have just this packet.
 pub fn pages_have_packets()
     ensures { PagesHavePackets }
+{}
+
+/// A packet is one item or is none, for one reason, and this is what reading it gives.
+pub fn packets_tell_one()
+    ensures { PacketsTellOne }
 {}
