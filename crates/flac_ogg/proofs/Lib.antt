@@ -10,3 +10,4 @@ pub mod ItemMeaning
 pub mod PacketEnds
 pub mod Judging
 pub mod ItemReading
+pub mod PacketList

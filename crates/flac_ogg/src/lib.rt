@@ -14,6 +14,9 @@ pub use item::{end_item, packet_bits, read_packet};
 pub use packet_bytes::PacketBytes;
 pub use page::{Before, Head};
 pub use pages::Pages;
-pub use promises::{packets_are_given, pages_are_spelled, pages_have_packets, packets_tell_one};
+pub use promises::{
+    packet_list_is_given, packets_are_given, packets_tell_one, pages_are_spelled,
+    pages_have_packets,
+};
 pub use room::{PageRoom, next_page};
 pub use writing::{PacketMarks, page_sum, write_packet, write_page};

@@ -11,8 +11,7 @@ use Rattle.flac_ogg.proofs.promises.packets_tell_one.Goals as goal
 pub returns : goal.returns
 returns c = λ n p result.
     let l = list_of n (bits 8) in
-    let short = short_is (behind_of p).fails (behind_of p).cut in
-    (
+    let short = short_is (behind_of p).fails (behind_of p).cut in (
       tells_one None l (packet_mark p) (packet_of p) result short,
       λ e. subst (λ (r : Result (List ℕ) (Option ℕ × Why)). TellsItem (λ x. x) None l (packet_mark p) (packet_of p) r) e (item_means None l (packet_mark p) (packet_of p) short),
     )
