@@ -11,7 +11,7 @@ use Rattle.flac_bits.specs.declared.why.Why.{Why}
 use Rattle.flac_bits.specs.declared.why.Why.TheVariants.{Memory, Read}
 use Rattle.flac_bits.proofs.Meaning.{past-short}
 use Rattle.flac_bits.proofs.Fences.{takes_in, refuses_in}
-use Rattle.flac_ogg.specs.Packets.{Place, behind_of}
+use Rattle.flac_ogg.specs.Packets.{Place, ahead, behind_of}
 use Rattle.flac_ogg.specs.Items.{PacketEnd, whole, unended, cut_at, Packet, end_in, end_of, packet_of, packet_mark, short_at, in_packet, behind_item, TellsItem, IsAtPacket, JudgesPacket, GoesBehind, HasBehind}
 use Rattle.flac_ogg.proofs.ItemMeaning.{stopped, told_behind}
 
@@ -103,20 +103,45 @@ no_item : {X : Type 0} (x : X) (why : Option ℕ × Why) → item_ok x ≡ Err w
 no_item x why e = absurd cc
 
 -- behind a packet that is one item good pages give what they gave behind it
+abbrev Gave : Behind → ℕ → Place → Type 0
+Gave b errors new = (new.known ≡ true) × (new.errors ≡ errors) × ((ahead new).lacing ≡ b.pieces) × ((ahead new).bytes ≡ b.bytes) × ((ahead new).stop ≡ b.stop)
+
+item_behind : {X A : Type 0} (view : X → A) (room : Option ℕ) (l : Layout A) (c : Cursor) (old mid : State) (new : Place) (read : Result X Why) (result : Result X (Option ℕ × Why))
+    → old.raised ≡ 0 → c.mark.short ≡ short_of old.behind.fails → Counts old mid read → Gives view (read_in room l c) old mid read → JudgesPacket mid new read result → OnOk result (GoesBehind mid new)
+    → OnOk result (old.known ≡ true → Gave old.behind old.errors new)
+item_behind view room l c old mid new read (Err why) raised short counts gives judges goes = tt
+item_behind view room l c old mid new (Ok x) (Ok y) raised short counts gives judges goes = λ known.
+    let t = takes_in room l c.left c.mark (view x) mid.cursor (gives known counts.1) in
+    let behind : mid.behind ≡ old.behind = counts.3 known in
+    let there : mid.cursor.mark.short ≡ short_of mid.behind.fails = ap (λ (m : Mark). m.short) t.4 ∙ past-short t.0 c.mark ∙ short ∙ ap (λ (b : Behind). short_of b.fails) (sym behind) in
+    let now = counts.0 known in
+    (
+      goes.known now,
+      goes.errors ∙ counts.1,
+      goes.lacing now there ∙ ap (λ (b : Behind). b.pieces) behind,
+      goes.bytes now there ∙ ap (λ (b : Behind). b.bytes) behind,
+      goes.stop now there ∙ ap (λ (b : Behind). b.stop) behind,
+    )
+item_behind view room l c old mid new (Err why) (Ok y) raised short counts gives judges goes = λ known. absurd (no_item y (in_packet (end_of mid.behind) why) (judges (λ e. omega (arith, counts.2 known e))))
+
+has_behind : {X : Type 0} (p new : Place) (b : Behind) (known : Type 0) (errors : ℕ) (result : Result X (Option ℕ × Why)) → (p.known ≡ true → known) → errors ≡ p.errors → b ≡ without_fence (behind_of p)
+    → OnOk result (known → Gave b errors new) → OnOk result (p.known ≡ true → HasBehind p new)
+has_behind p new b known errors (Ok x) knows same is gave = λ k.
+    let g = gave (knows k) in
+    record { known = g.0; errors = g.1 ∙ same; lacing = g.2 ∙ ap (λ (b : Behind). b.pieces) is; bytes = g.3 ∙ ap (λ (b : Behind). b.bytes) is; stop = g.4 ∙ ap (λ (b : Behind). b.stop) is }
+has_behind p new b known errors (Err why) knows same is gave = tt
+
 pub behind_told : {X A : Type 0} (view : X → A) (room : Option ℕ) (l : Layout A) (p : Place) (old mid : State) (new : Place) (read : Result X Why) (result : Result X (Option ℕ × Why))
     → IsAtPacket p old → Counts old mid read → Gives view (read_in room l old.cursor) old mid read → JudgesPacket mid new read result → OnOk result (GoesBehind mid new) → OnOk result (p.known ≡ true → HasBehind p new)
-behind_told view room l p old mid new read (Err why) at counts gives judges goes = tt
-behind_told view room l p old mid new (Ok x) (Ok y) at counts gives judges goes = λ known.
-    let now : old.known ≡ true = at.known ∙ known in
-    let t = takes_in room l old.cursor.left old.cursor.mark (view x) mid.cursor (gives now counts.1) in
-    let behind : mid.behind ≡ without_fence (behind_of p) = counts.3 now ∙ at.behind in
-    let short : mid.cursor.mark.short ≡ short_of mid.behind.fails =
-    ap (λ (m : Mark). m.short) t.4 ∙ past-short t.0 old.cursor.mark ∙ short_there p old at ∙ ap (λ (b : Behind). short_of b.fails) (sym (counts.3 now)) in
-    record {
-      known = goes.known (counts.0 now);
-      errors = goes.errors ∙ counts.1 ∙ at.errors;
-      lacing = goes.lacing (counts.0 now) short ∙ ap (λ (b : Behind). b.pieces) behind;
-      bytes = goes.bytes (counts.0 now) short ∙ ap (λ (b : Behind). b.bytes) behind;
-      stop = goes.stop (counts.0 now) short ∙ ap (λ (b : Behind). b.stop) behind;
-    }
-behind_told view room l p old mid new (Err why) (Ok y) at counts gives judges goes = λ known. absurd (no_item y (in_packet (end_of mid.behind) why) (judges (λ e. omega (arith, counts.2 (at.known ∙ known) e))))
+behind_told view room l p old mid new read result at counts gives judges goes =
+    has_behind p new old.behind (old.known ≡ true) old.errors result (λ k. at.known ∙ k) at.errors at.behind
+    (item_behind view room l old.cursor old mid new read result at.raised (short_there p old at) counts gives judges goes)
+
+pub behind_told_within : {X A : Type 0} (view : X → A) (room : Option ℕ) (l : Layout A) (p : Place) (old mid : State) (new : Place) (read : Result X Why) (result : Result X (Option ℕ × Why))
+    → IsAtPacket p old → Counts (lifted old) mid read → Gives view (read_in room l (started (lifted old)).cursor) (lifted old) mid read → JudgesPacket mid new read result → OnOk result (GoesBehind mid new)
+    → OnOk result (p.known ≡ true → HasBehind p new)
+behind_told_within view room l p old mid new read result at counts gives judges goes =
+    let there = lifted_there p old at in
+    let short = ap (λ (c : Cursor). c.mark.short) there ∙ short_there p old at in
+    has_behind p new (lifted old).behind (old.known ≡ true) old.errors result (λ k. at.known ∙ k) at.errors (ap (λ (b : Behind). without_fence b) at.behind)
+    (item_behind view room l (started (lifted old)).cursor (lifted old) mid new read result at.raised short counts gives judges goes)
