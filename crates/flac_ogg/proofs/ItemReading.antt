@@ -102,20 +102,25 @@ item_ok x = Ok x
 no_item : {X : Type 0} (x : X) (why : Option ℕ × Why) → item_ok x ≡ Err why → ⊥
 no_item x why e = absurd cc
 
--- behind a packet that is one item good pages give what they gave behind it
+-- Behind a packet that is one item good pages give what they gave behind it. What the item's reader gives is needed only where no growth was refused.
 abbrev Gave : Behind → ℕ → Place → Type 0
 Gave b errors new = (new.known ≡ true) × (new.errors ≡ errors) × ((ahead new).lacing ≡ b.pieces) × ((ahead new).bytes ≡ b.bytes) × ((ahead new).stop ≡ b.stop)
 
+abbrev read_ok : {X : Type 0} → X → Result X Why
+read_ok x = Ok x
+
+not_memory : {X : Type 0} (x : X) → read_ok x ≡ Err Memory → ⊥
+not_memory x e = absurd cc
+
 item_behind : {X A : Type 0} (view : X → A) (room : Option ℕ) (l : Layout A) (c : Cursor) (old mid : State) (new : Place) (read : Result X Why) (result : Result X (Option ℕ × Why))
-    → old.raised ≡ 0 → c.mark.short ≡ short_of old.behind.fails → Counts old mid read → Gives view (read_in room l c) old mid read → JudgesPacket mid new read result → OnOk result (GoesBehind mid new)
+    → old.raised ≡ 0 → c.mark.short ≡ short_of old.behind.fails → Counts old mid read → ((read ≡ Err Memory → ⊥) → Gives view (read_in room l c) old mid read) → JudgesPacket mid new read result → OnOk result (GoesBehind mid new)
     → OnOk result (old.known ≡ true → Gave old.behind old.errors new)
 item_behind view room l c old mid new read (Err why) raised short counts gives judges goes = tt
 item_behind view room l c old mid new (Ok x) (Ok y) raised short counts gives judges goes = λ known.
-    let t = takes_in room l c.left c.mark (view x) mid.cursor (gives known counts.1) in
+    let t = takes_in room l c.left c.mark (view x) mid.cursor (gives (λ e. not_memory x e) known counts.1) in
     let behind : mid.behind ≡ old.behind = counts.3 known in
     let there : mid.cursor.mark.short ≡ short_of mid.behind.fails = ap (λ (m : Mark). m.short) t.4 ∙ past-short t.0 c.mark ∙ short ∙ ap (λ (b : Behind). short_of b.fails) (sym behind) in
-    let now = counts.0 known in
-    (
+    let now = counts.0 known in (
       goes.known now,
       goes.errors ∙ counts.1,
       goes.lacing now there ∙ ap (λ (b : Behind). b.pieces) behind,
@@ -132,13 +137,13 @@ has_behind p new b known errors (Ok x) knows same is gave = λ k.
 has_behind p new b known errors (Err why) knows same is gave = tt
 
 pub behind_told : {X A : Type 0} (view : X → A) (room : Option ℕ) (l : Layout A) (p : Place) (old mid : State) (new : Place) (read : Result X Why) (result : Result X (Option ℕ × Why))
-    → IsAtPacket p old → Counts old mid read → Gives view (read_in room l old.cursor) old mid read → JudgesPacket mid new read result → OnOk result (GoesBehind mid new) → OnOk result (p.known ≡ true → HasBehind p new)
+    → IsAtPacket p old → Counts old mid read → ((read ≡ Err Memory → ⊥) → Gives view (read_in room l old.cursor) old mid read) → JudgesPacket mid new read result → OnOk result (GoesBehind mid new) → OnOk result (p.known ≡ true → HasBehind p new)
 behind_told view room l p old mid new read result at counts gives judges goes =
     has_behind p new old.behind (old.known ≡ true) old.errors result (λ k. at.known ∙ k) at.errors at.behind
     (item_behind view room l old.cursor old mid new read result at.raised (short_there p old at) counts gives judges goes)
 
 pub behind_told_within : {X A : Type 0} (view : X → A) (room : Option ℕ) (l : Layout A) (p : Place) (old mid : State) (new : Place) (read : Result X Why) (result : Result X (Option ℕ × Why))
-    → IsAtPacket p old → Counts (lifted old) mid read → Gives view (read_in room l (started (lifted old)).cursor) (lifted old) mid read → JudgesPacket mid new read result → OnOk result (GoesBehind mid new)
+    → IsAtPacket p old → Counts (lifted old) mid read → ((read ≡ Err Memory → ⊥) → Gives view (read_in room l (started (lifted old)).cursor) (lifted old) mid read) → JudgesPacket mid new read result → OnOk result (GoesBehind mid new)
     → OnOk result (p.known ≡ true → HasBehind p new)
 behind_told_within view room l p old mid new read result at counts gives judges goes =
     let there = lifted_there p old at in

@@ -13,4 +13,4 @@ returns-clause-tells g c =
 pub returns-clause-ahead : goal.returns-clause-ahead
 returns-clause-ahead g c =
     behind_told (λ _. c.read_bytes-read.new.out) None (list_of (length c.args.out.now) (number 8)) c.args.pages c.packet_bits-bits.result c.read_bytes-read.new.bits c.end_item.result.1 c.read_bytes-read.result c.end_item.result.0
-    c.packet_bits-bits.ensures c.read_bytes-read.ensures.counts c.read_bytes-read.ensures.reads c.end_item.ensures.judges c.end_item.ensures.behind
+    c.packet_bits-bits.ensures c.read_bytes-read.ensures.counts (λ _. c.read_bytes-read.ensures.reads) c.end_item.ensures.judges c.end_item.ensures.behind
