@@ -11,3 +11,4 @@ pub mod PacketEnds
 pub mod Judging
 pub mod ItemReading
 pub mod PacketList
+pub mod PageRuns

@@ -15,7 +15,7 @@ pub use packet_bytes::PacketBytes;
 pub use page::{Before, Head};
 pub use pages::Pages;
 pub use promises::{
-    packet_list_is_given, packets_are_given, packets_tell_one, pages_are_spelled,
+    packet_list_is_given, packets_are_given, packets_tell_one, pages_are_runs, pages_are_spelled,
     pages_have_packets,
 };
 pub use room::{PageRoom, next_page};

@@ -2,6 +2,7 @@
 
 ghost use Rattle.flac_ogg.specs.Given.{PacketListIsGiven, PacketsAreGiven};
 ghost use Rattle.flac_ogg.specs.Items.{PacketsTellOne};
+ghost use Rattle.flac_ogg.specs.Runs.{PagesAreRuns};
 ghost use Rattle.flac_ogg.specs.Written.{PagesAreSpelled, PagesAreReadAgain, PagesHavePackets};
 
 /// Where pages have packets (RFC 3533, section 6), the one that was begun gives its bytes, and behind it are the further ones.
@@ -28,4 +29,9 @@ pub fn pages_have_packets()
 /// A packet is one item or is none, for one reason, and this is what reading it gives.
 pub fn packets_tell_one()
     ensures { PacketsTellOne }
+{}
+
+/// An input begins with one list of good pages, up to the one marked last or to a refused one, and this is what reading pages gives.
+pub fn pages_are_runs()
+    ensures { PagesAreRuns }
 {}
