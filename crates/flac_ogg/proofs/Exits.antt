@@ -4,7 +4,7 @@ use Rattle.std.specs.Prelude.{⊤}
 use Rattle.flac_bits.specs.declared.why.Why.{Why}
 use Rattle.flac_ogg.specs.Pages.{end_fault}
 use Rattle.flac_ogg.specs.Packets.{Place, Ahead, ahead, only_fault, next_segment, Turns, Steps, Begins, ended}
-use Rattle.flac_ogg.proofs.Stepping.{Same, Waits, segment_same, same_ahead, packet_over, pages_over, broken_ahead, closed_ahead}
+use Rattle.flac_ogg.proofs.Stepping.{Same, Waits, segment_same, same_ahead, packet_over, pages_over, none_ahead, broken_ahead, closed_ahead}
 
 abbrev turn_ok : Result ⊤ Why
 turn_ok = Ok tt
@@ -15,10 +15,13 @@ turn_err why = Err why
 -- ---- a step
 
 pub step_over : (old : Place) → old.rest ≡ 0 → old.more ≡ false → Steps old old (Ok false)
-step_over old r m = let over = packet_over old r m in record { same = refl; bytes = over.bytes; fault = over.fault }
+step_over old r m = let over = packet_over old r m in record { same = refl; bytes = over.bytes; fault = over.fault; none = λ more. absurd (differ (sym m ∙ more)) }
+  where
+    differ : false ≡ true → ⊥
+    differ e = absurd cc
 
 pub step_last : (old : Place) → old.rest ≡ 0 → old.lacing ≡ [] → old.last ≡ true → Steps old old (Ok false)
-step_last old r l la = let over = pages_over old r l la in record { same = refl; bytes = over.bytes; fault = over.fault }
+step_last old r l la = let over = pages_over old r l la in record { same = refl; bytes = over.bytes; fault = over.fault; none = λ more. none_ahead old l la }
 
 segment_step : (old new : Place) (l : List ℕ) → old.rest ≡ 0 → old.more ≡ true → 0 < length old.lacing → old.lacing ≡ l → new ≡ next_segment old l → Steps old new (Ok true)
 segment_step old new [] r m some eq e = absurd (omega (arith, ap length eq, some))

@@ -6,3 +6,9 @@ pub mod Exits
 pub mod PacketMeaning
 pub mod Cut
 pub mod PageTie
+pub mod ItemMeaning
+pub mod PacketEnds
+pub mod Judging
+pub mod ItemReading
+pub mod PacketList
+pub mod PageRuns

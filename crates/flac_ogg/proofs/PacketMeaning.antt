@@ -27,7 +27,7 @@ packet_closes packet ls =
     let all : 255 * k + r ≡ length packet = omega arith in
     record { size = ap size same ∙ whole.size ∙ all; ends = ap ends same ∙ whole.ends; past = ap past_packet same ∙ whole.past }
 
-given_rest : (a : Ahead) (packet ls bs : List ℕ) → a.lacing ≡ lacing_of packet ++ ls → a.bytes ≡ packet ++ bs → rest_in 0 true a ≡ packet
+pub given_rest : (a : Ahead) (packet ls bs : List ℕ) → a.lacing ≡ lacing_of packet ++ ls → a.bytes ≡ packet ++ bs → rest_in 0 true a ≡ packet
 given_rest a packet ls bs l b =
     let c = packet_closes packet ls in
     let n : left_in 0 true a.lacing ≡ length packet = omega (arith, ap size l, c.size) in

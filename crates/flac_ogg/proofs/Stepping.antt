@@ -152,6 +152,11 @@ pages_over old r l la = go old.more refl
     go true e = record { bytes = rw (r, l, la, e) refl; fault = rw (l, la, e) refl }
     go false e = packet_over old r e
 
+-- where nothing is ahead
+pub none_ahead : (old : Place) → old.lacing ≡ [] → old.last ≡ true → (ahead old).lacing ≡ []
+unfolding ahead
+none_ahead old l la = rw (l, la) refl
+
 pub broken_ahead : (old : Place) (f : ℕ × Why) → old.rest ≡ 0 → old.more ≡ true → ahead old ≡ only_fault f → Broken old f
 unfolding rest_of behind_of
 broken_ahead old f r m a = record { bytes = rest_same old.rest 0 old.more true (ahead old) (only_fault f) r m a; behind = behind_same old.rest 0 old.more true (ahead old) (only_fault f) r m a }

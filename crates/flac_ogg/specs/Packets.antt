@@ -163,7 +163,7 @@ Steps old new (Ok true) = record {
   room : new.most + length new.body ≤ old.most + length old.body;
   spends : 256 * new.most + length new.lacing < 256 * old.most + length old.lacing;
 }
-Steps old new (Ok false) = record { same : new ≡ old; bytes : rest_of old ≡ []; fault : (behind_of old).fails ≡ None }
+Steps old new (Ok false) = record { same : new ≡ old; bytes : rest_of old ≡ []; fault : (behind_of old).fails ≡ None; none : old.more ≡ true → (ahead old).lacing ≡ [] }
 Steps old new (Err why) = record {
   errors : old.errors ≤ new.errors;
   names : new.names ≡ old.names;
@@ -183,6 +183,7 @@ Finds old new (Ok found) = record {
   behind : old.known ≡ true → behind_of new ≡ behind_of old;
   byte : found ≡ true → 0 < new.rest;
   over : found ≡ false → old.known ≡ true → (rest_of old ≡ []) × ((behind_of old).fails ≡ None);
+  stands : found ≡ false → (new.rest ≡ 0) × (new.more ≡ true → (ahead new).lacing ≡ []);
 }
 Finds old new (Err why) = record {
   errors : old.errors ≤ new.errors;

@@ -2,6 +2,7 @@
 #![tactic(auto)]
 
 mod fields;
+mod item;
 mod packet_bytes;
 mod page;
 mod pages;
@@ -9,9 +10,13 @@ mod promises;
 mod room;
 mod writing;
 
+pub use item::{end_item, packet_bits, read_packet};
 pub use packet_bytes::PacketBytes;
 pub use page::{Before, Head};
 pub use pages::Pages;
-pub use promises::{packets_are_given, pages_are_spelled, pages_have_packets};
+pub use promises::{
+    packet_list_is_given, packets_are_given, packets_tell_one, pages_are_runs, pages_are_spelled,
+    pages_have_packets,
+};
 pub use room::{PageRoom, next_page};
 pub use writing::{PacketMarks, page_sum, write_packet, write_page};

@@ -1,6 +1,8 @@
 //! The bytes of one packet.
 
-ghost use Rattle.std.specs.Prelude.{◌≡◌, ◌≤◌, ◌<◌, ◌+◌, ◌^◌, ◌-◌, ◌&&◌, true, nat_lt, length, IfSome, None, Some};
+ghost use Rattle.std.specs.Prelude.{◌≡◌, ◌≢◌, ◌≤◌, ◌<◌, ◌+◌, ◌^◌, ◌-◌, ◌&&◌, true, nat_lt, length, IfSome, None, Some};
+ghost use Rattle.std.specs.Option.{ForSome};
+ghost use Rattle.flac_bits.specs.declared.why.Why.TheVariants.{Memory};
 ghost use Rattle.flac_ogg.specs.Packets.{left_of, behind_left};
 
 use crate::pages::Pages;
@@ -14,6 +16,7 @@ pub struct PacketBytes<R: Source> {
     fault: Option<(u64, Why)>,
     errors: u64,
     ghost quiet: { fault ≡ None → errors ≡ 0 },
+    ghost memory: { ForSome fault (λ f. f.1 ≢ Memory) },
 }
 
 impl<R: Source> PacketBytes<R> {
@@ -30,7 +33,8 @@ impl<R: Source> PacketBytes<R> {
 
     /// How many pages came before the one that was refused, and why it was.
     pub fn why(&self) -> Option<(u64, Why)>
-        ensures { result ≡ self.now.fault }
+        ensures fault { result ≡ self.now.fault }
+        ensures memory { IfSome result (λ f. f.1 ≢ Why.Memory) }
     {
         self.fault
     }

@@ -5,6 +5,7 @@ ghost use Rattle.flac_bits.specs.State.{short_of};
 ghost use Rattle.flac_bits.specs.Bits.{bits_of};
 ghost use Rattle.flac_ogg.specs.Pages.{unless_over, end_fault};
 ghost use Rattle.flac_ogg.specs.Page.{went_on, goes_on_behind};
+ghost use Rattle.flac_ogg.specs.Items.{EndsPacket};
 ghost use Rattle.flac_ogg.specs.Packets.{next_segment, Turns, Steps, Finds, Copies, Begins, ended};
 
 use crate::page::Before;
@@ -237,6 +238,28 @@ impl<R: Source> Pages<R> {
         ensures exact { self.now.rest ≡ 0 → self.now.more ≡ false → result ≡ true }
     {
         self.rest == 0 && !self.more
+    }
+
+    /// Goes behind the packet that was begun, where its bytes end with it.
+    ///
+    /// # Errors
+    ///
+    /// The page and its fault where a refused page breaks the packet off; and `PacketLength` where it is still open at the end of the last page.
+    #[tactic(auto, using(crate::proofs::PacketEnds::passed_more, crate::proofs::PacketEnds::ends_between, crate::proofs::PacketEnds::ends_inside, crate::proofs::PacketEnds::ends_broken))]
+    pub(crate) fn end_packet(&mut self) -> Result<(), (Option<u64>, Why)>
+        ensures memory { IfErr result (λ e. e.1 ≢ Why.Memory) }
+        ensures ends { EndsPacket self.old self.new result }
+    {
+        loop {
+            match self.find() {
+                Ok(true) => {
+                    let _passed = self.copy(&mut [0; 255]);
+                }
+                Ok(false) if self.is_between_packets() => return Ok(()),
+                Ok(false) => return Err((None, Why::PacketLength)),
+                Err(why) => return Err((Some(self.count()), why)),
+            }
+        }
     }
 
     fn begin(&mut self)
