@@ -17,18 +17,19 @@ import tempfile
 import measure
 
 PROGRAM = os.path.join(os.path.dirname(measure.HERE), "crates", "flac_cli", "out", "flac_cli")
+# the functions of the compiled program that each part became; what is written inside of another counts as its part
 PARTS = {
-    "residual values": r"rice|residual|partition|stretch",
-    "restoration": r"restor|predict|linear|fixed",
-    "digest": r"md5|digest|compress",
-    "joining, range and rows": r"stereo|join|narrow|put_row|samples|feed|message",
-    "checks and reading": r"check|crc|sums|pull|held|fill|copy|word",
+    "residual values": r"Held::values|rice|residual",
+    "restoration": r"restoration::",
+    "digest": r"^md5::",
+    "joining, range, rows for the digest": r"advance::read_part",
+    "pulls and checks": r"Held::pull|BitReader::",
 }
 
 
 def part_of(name):
     for part, pattern in PARTS.items():
-        if re.search(pattern, name, re.IGNORECASE):
+        if re.search(pattern, name):
             return part
     return "the rest"
 
