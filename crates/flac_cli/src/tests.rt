@@ -12,7 +12,7 @@ use std::process::Abort;
 use std::test::Fail;
 
 /// The example of RFC 9639, appendix D.1, its digest unknown: one frame of one sample of two channels.
-const ROW: [u8; 57] = [
+pub(crate) const ROW: [u8; 57] = [
     0x66, 0x4C, 0x61, 0x43, 0x80, 0x00, 0x00, 0x22, 0x10, 0x00, 0x10, 0x00, 0x00, 0x00, 0x0F, 0x00,
     0x00, 0x0F, 0x0A, 0xC4, 0x42, 0xF0, 0x00, 0x00, 0x00, 0x01, 0x00, 0x00, 0x00, 0x00, 0x00, 0x00,
     0x00, 0x00, 0x00, 0x00, 0x00, 0x00, 0x00, 0x00, 0x00, 0x00, 0xFF, 0xF8, 0x69, 0x18, 0x00, 0x00,
@@ -247,7 +247,12 @@ fn failing(rt: HostRuntime) {
 }
 
 /// Reads words that ask for a job.
-fn reads(rt: &impl Abort, alloc: Global, words: &[&str], wanted: Job<'_>) -> Result<(), Fail> {
+pub(crate) fn reads(
+    rt: &impl Abort,
+    alloc: Global,
+    words: &[&str],
+    wanted: Job<'_>,
+) -> Result<(), Fail> {
     let given = texts(alloc, words)?;
     assert!(rt; job(alloc, given.as_slice()).ok() == Some(wanted));
     Ok(())
