@@ -46,7 +46,8 @@ impl<'a> Job<'a> {
     {
         match self {
             Job::Test { input } | Job::List { input } => input,
-            Job::Decode { input, .. } | Job::Encode { input, .. } | Job::Retag { input, .. } => input,
+            Job::Decode { input, .. } | Job::Encode { input, .. } => input,
+            Job::Retag { input, .. } => input,
         }
     }
 
@@ -56,9 +57,8 @@ impl<'a> Job<'a> {
     {
         match self {
             Job::Test { .. } | Job::List { .. } => None,
-            Job::Decode { output, .. }
-            | Job::Encode { output, .. }
-            | Job::Retag { output, .. } => Some(output),
+            Job::Decode { output, .. } | Job::Encode { output, .. } => Some(output),
+            Job::Retag { output, .. } => Some(output),
         }
     }
 }

@@ -166,7 +166,12 @@ pub fn run<R: Source, W: Target, O: Target, E: Target>(
             Ok(()) => 0,
             Err(refusal) => refuse_encoding(err, job, refusal),
         },
-        Job::Retag { comments, .. } => match retag_with(alloc, source, comments.as_slice(), target) {
+        Job::Retag { comments, .. } => match retag_with(
+            alloc,
+            source,
+            comments.as_slice(),
+            target,
+        ) {
             Ok(()) => 0,
             Err(fault) => refuse_retagging(err, job, fault),
         },

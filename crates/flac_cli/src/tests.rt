@@ -248,7 +248,12 @@ fn failing(rt: HostRuntime) {
 }
 
 /// Reads words that ask for a job.
-fn reads(rt: &impl Abort, alloc: Global, words: &[&str], wanted: Job<'_>) -> Result<(), Fail> {
+pub(crate) fn reads(
+    rt: &impl Abort,
+    alloc: Global,
+    words: &[&str],
+    wanted: Job<'_>,
+) -> Result<(), Fail> {
     let given = texts(alloc, words)?;
     assert!(rt; job(alloc, given.as_slice()).ok() == Some(wanted));
     Ok(())

@@ -18,3 +18,4 @@ pub mod Copies
 pub mod Retagged
 pub mod OneHead
 pub mod Decided
+pub mod NewHead

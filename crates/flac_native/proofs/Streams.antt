@@ -60,7 +60,7 @@ block_written : (last : Bool) (b : Block) → BlockSpelled last b (block_spellin
 unfolding block_spelling
 block_written last b = (content_spelling b, content_written b, refl)
 
-block_here : (s : Stand) (m : Mark) (last : Bool) (b : Block) → s.phase ≡ Blocks → IsBlock s.seen b → Spells (layout s) m (block_spelling last b) (block last b)
+pub block_here : (s : Stand) (m : Mark) (last : Bool) (b : Block) → s.phase ≡ Blocks → IsBlock s.seen b → Spells (layout s) m (block_spelling last b) (block last b)
 unfolding layout
 block_here s m last b phase is = go s.phase phase
   where
@@ -150,7 +150,7 @@ module _ (i : Info) where
 
 -- ---- the marker
 
-marker_here : (m : Mark) → Spells (layout opening.stand) m (unsigned 32 0x664C6143) marked
+pub marker_here : (m : Mark) → Spells (layout opening.stand) m (unsigned 32 0x664C6143) marked
 unfolding layout marker
 marker_here m =
     let text = unsigned 32 0x664C6143 in

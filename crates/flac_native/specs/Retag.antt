@@ -1,11 +1,13 @@
 -- What retagging makes of a stream: the same STREAMINFO, the given comments, the other blocks in their order, and the rest of the input.
-use Rattle.std.specs.Prelude.{◌≡◌, Bool, true, false, cond, List, [], ◌∷◌, ◌++◌, Some, None}
+use Rattle.std.specs.Prelude.{◌≡◌, Bool, true, false, cond, List, [], ◌∷◌, ◌++◌, Some, None, ℕ, ◌≤◌}
 use Rattle.flac_bits.specs.Bits.{unsigned}
 use Rattle.flac_bits.specs.State.{Mark, Cursor}
 use Rattle.flac_bits.specs.Items.{Joined, Refused}
 use Rattle.flac_bits.specs.declared.why.Why.{Why}
 use Rattle.flac_bits.specs.declared.why.Why.TheVariants as why
 use Rattle.flac_meta.specs.Info.{Info}
+use Rattle.flac_meta.specs.Spelling.{comments_length}
+use Rattle.flac_meta.specs.Valid.{IsComments}
 use Rattle.flac_meta.specs.declared.comments.Comments.{Comments}
 use Rattle.flac_meta.specs.declared.block.Block.{Block}
 use Rattle.flac_meta.specs.declared.block.Block.TheVariants as blocks
@@ -74,6 +76,11 @@ HeadsAreOne = (m : Mark) (text : List Bool) → OneHead m text
 -- the marker, STREAMINFO, the given comments, the blocks that are no comments, of all of which the last is marked, and the rest of the input
 abbrev pub retagged : Comments → Info → List Block → (rest : List Bool) → List Bool
 retagged comments info list rest = head_spelling info (blocks.VorbisComment comments ∷ without_comments list) ++ rest
+
+-- The output begins with the blocks that it was given, and no bits of the rest are taken for one. So reading it gives them back.
+abbrev pub RetaggedAreRead : Type 0
+RetaggedAreRead = (m k : Mark) (text : List Bool) (comments : Comments) (info : Info) (list : List Block) (rest : List Bool) → k.unread ≡ 0 → comments_length comments ≤ 16777215 → IsComments comments → BeginsWith m text info list rest
+    → BeginsWith k (retagged comments info list rest) info (blocks.VorbisComment comments ∷ without_comments list) rest
 
 -- Behind the bits that were there, the input was written with these comments.
 pub record Retags (m : Mark) (text : List Bool) (comments : Comments) (before after : List Bool) : Type 0 where

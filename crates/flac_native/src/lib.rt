@@ -41,7 +41,7 @@ pub use flac_frame::FrameView;
 pub use flac_header::Profile;
 pub use flac_meta::{Block, StreamInfo};
 pub use item::Item;
-pub use laws::{only_one_head, only_one_way};
+pub use laws::{only_one_head, only_one_way, retagged_are_read};
 pub use message::put_rows;
 pub use plan::Plan;
 pub use promises::encoded_are_streams;
