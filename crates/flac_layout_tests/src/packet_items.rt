@@ -1,0 +1,89 @@
+//! Packets of known lengths: one that goes on behind what is read of it, that ends before, that is broken off, or that the last page leaves open.
+
+use crate::packets::STREAM;
+use flac_bits::{BitWriter, Collected, Memory, Source, Why};
+use flac_ogg::{Head, Pages, read_packet, write_page};
+use std::alloc::Global;
+use std::test::Fail;
+
+/// How many packets had these lengths, and why the next one had not.
+type Answer = (usize, Result<(), (Option<u64>, Why)>);
+
+/// Reads packets of these lengths, one after another, up to the end or to one that has another length.
+fn read_all<R: Source + Drop>(alloc: Global, source: R, lengths: &[usize]) -> Result<Answer, Why> {
+    let mut pages = Pages::new(alloc, source)?;
+    for (index, length) in lengths.iter().enumerate() {
+        if !pages.is_between_packets() {
+            return Ok((index, Err((None, Why::Spent))));
+        }
+        match pages.next_packet() {
+            Ok(true) => {}
+            Ok(false) => return Ok((index, Ok(()))),
+            Err((page, why)) => return Ok((index, Err((Some(page), why)))),
+        }
+        let mut room = [0u8; 400];
+        let (read, behind) = read_packet(pages, &mut room[..(*length).min(400)]);
+        pages = behind;
+        if let Err(why) = read {
+            return Ok((index, Err(why)));
+        }
+    }
+    Ok((lengths.len(), Ok(())))
+}
+
+#[test]
+fn lengths(rt: HostRuntime) -> Result<(), Fail> {
+    let whole = Memory::new(&STREAM);
+    assert_eq!(rt;
+        read_all(rt.alloc(), whole, &[51, 44, 22, 17, 5])?,
+        (4, Ok(()))
+    );
+    let less = Memory::new(&STREAM);
+    let wrong = Err((None, Why::PacketLength));
+    assert_eq!(rt;
+        read_all(rt.alloc(), less, &[51, 43, 22, 17, 5])?,
+        (1, wrong)
+    );
+    let more = Memory::new(&STREAM);
+    assert_eq!(rt;
+        read_all(rt.alloc(), more, &[51, 44, 23, 17, 5])?,
+        (2, wrong)
+    );
+    let cut = Memory::new(&STREAM[..245]);
+    let broken = Err((Some(3), Why::Truncated));
+    assert_eq!(rt;
+        read_all(rt.alloc(), cut, &[51, 44, 22, 17, 5])?,
+        (3, broken)
+    );
+    Ok(())
+}
+
+/// The fixed fields of a page, of which the writer makes the sum.
+fn head(flags: u8, sequence: u32) -> Head {
+    Head {
+        flags,
+        granule: 0,
+        serial: 1,
+        sequence,
+        sum: 0,
+    }
+}
+
+/// A packet of 51 bytes, and one that goes on behind its page, which is marked so.
+fn open_packet(alloc: Global, flags: u8) -> Result<Answer, Why> {
+    let mut writer = BitWriter::new(Collected::new(alloc));
+    write_page(head(2, 0), &[51], &[7; 51], &mut writer)?;
+    write_page(head(flags, 1), &[255], &[9; 255], &mut writer)?;
+    writer.finish()?;
+    let target = writer.into_target();
+    read_all(alloc, Memory::new(target.bytes()), &[51, 255])
+}
+
+#[test]
+fn open_ends(rt: HostRuntime) -> Result<(), Fail> {
+    let marked_last = open_packet(rt.alloc(), 4)?;
+    assert_eq!(rt; marked_last, (1, Err((None, Why::PacketLength))));
+    let not_marked = open_packet(rt.alloc(), 0)?;
+    assert_eq!(rt; not_marked, (1, Err((Some(2), Why::NoEndPage))));
+    Ok(())
+}
