@@ -1,7 +1,7 @@
 -- What is written before the frames is read again as these blocks.
-use Rattle.std.proofs.Common.{◌≡◌, ◌≤◌, ℕ, Bool, true, false, cond, nat_lt, List, [], ◌∷◌, ◌++◌, Option, Some, None, refl, sym, ap, subst, ◌∙◌, arith}
+use Rattle.std.proofs.Common.{◌≡◌, ◌≤◌, ℕ, Bool, true, false, nat_lt, List, [], ◌∷◌, None, refl, sym, subst, ◌∙◌, arith}
 use Rattle.std.proofs.lemmas.Bool.Decides.{nat_tests}
-use Rattle.flac_bits.specs.Bits.{unsigned, is_nil}
+use Rattle.flac_bits.specs.Bits.{unsigned}
 use Rattle.flac_bits.specs.State.{Mark, past, fresh}
 use Rattle.flac_bits.specs.Fence.{InRoom}
 use Rattle.flac_bits.specs.Items.{Joined}
@@ -17,9 +17,9 @@ use Rattle.flac_meta.specs.declared.block.Block.{Block}
 use Rattle.flac_meta.specs.declared.block.Block.TheVariants as block_of
 use Rattle.flac_meta.specs.declared.comments.Comments.{Comments}
 use Rattle.flac_native.specs.Given.{closing}
-use Rattle.flac_native.specs.Stream.{Piece, marked, block, Progress, grammar, opening, next, room_in}
+use Rattle.flac_native.specs.Stream.{marked, block, Progress, grammar, opening, next, room_in}
 use Rattle.flac_native.specs.Writing.{blocks_spelling, head_spelling}
-use Rattle.flac_native.specs.Retag.{BeginsWith, is_comment, without_comments, retagged, RetaggedAreRead}
+use Rattle.flac_native.specs.Retag.{is_comment, without_comments, RetaggedAreRead}
 use Rattle.flac_native.specs.declared.phase.Phase.{Phase}
 use Rattle.flac_native.specs.declared.phase.Phase.TheVariants.{Opening, Blocks, Frames}
 use Rattle.flac_native.proofs.Blocks.{block_there}

@@ -1,5 +1,5 @@
 -- What retagging makes of a stream: the same STREAMINFO, the given comments, the other blocks in their order, and the rest of the input.
-use Rattle.std.specs.Prelude.{◌≡◌, Bool, true, false, cond, List, [], ◌∷◌, ◌++◌, Some, None, ℕ, ◌≤◌}
+use Rattle.std.specs.Prelude.{◌≡◌, Bool, true, false, cond, List, [], ◌∷◌, ◌++◌, Some, None, ◌≤◌}
 use Rattle.flac_bits.specs.Bits.{unsigned}
 use Rattle.flac_bits.specs.State.{Mark, Cursor}
 use Rattle.flac_bits.specs.Items.{Joined, Refused}
