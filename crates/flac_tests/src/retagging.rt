@@ -58,7 +58,7 @@ fn refusal(alloc: Global, stream: &[u8]) -> Option<RetagFault> {
 fn a_comment_is_added(rt: HostRuntime) -> Result<(), Fail> {
     only_one_head();
     let found = retagged(rt.alloc(), &ROW, &comments(rt.alloc(), b"TITLE=x")?)?;
-    assert_eq!(rt; found.as_slice(), &TAGGED);
+    assert_eq!(rt; found.as_slice(), TAGGED.as_slice());
     Ok(())
 }
 
@@ -67,7 +67,7 @@ fn a_comment_block_is_replaced(rt: HostRuntime) -> Result<(), Fail> {
     let found = retagged(rt.alloc(), &TAGGED, &comments(rt.alloc(), b"TITLE=y")?)?;
     let mut wanted = TAGGED;
     wanted[78] = 0x79;
-    assert_eq!(rt; found.as_slice(), &wanted);
+    assert_eq!(rt; found.as_slice(), wanted.as_slice());
     Ok(())
 }
 
