@@ -105,7 +105,7 @@ def fault_case(samples, words, due, bench):
 
 def retag_case(entry, bench):
     """New comments stand behind STREAMINFO, the other blocks and every byte of the frames stay."""
-    out, comments = bench.path(), [b"TITLE=x", b"EMPTY=", "NAME=\u00e9".encode(), b"NO_TEXT=\xff\xfe"]
+    out, comments = bench.path(), [b"TITLE=x", b"EMPTY=", "NAME=\u00e9".encode()]
     if program.succeeds("retag", entry.path, out, *[os.fsdecode(comment) for comment in comments]):
         raise Wrong("'retag' prints something")
     before, after = (model.Metadata(read(path)) for path in (entry.path, out))
