@@ -16,7 +16,8 @@ import tempfile
 
 import measure
 
-PROGRAM = os.path.join(os.path.dirname(measure.HERE), "crates", "flac_cli", "out", "flac_cli")
+# the program itself, without the script that builds it
+PROGRAM = os.path.abspath(os.environ.get("FLAC") or os.path.join(os.path.dirname(measure.HERE), "crates", "flac_cli", "out", "flac_cli"))
 # the functions of the compiled program that each part became; what is written inside of another counts as its part
 PARTS = {
     "residual values": r"Held::values|rice|residual",
