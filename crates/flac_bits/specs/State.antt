@@ -53,14 +53,16 @@ pub record Behind : Type 0 where
   pub cut : Bool
   pub pieces : List ℕ
   pub bytes : List ℕ
-  -- the error behind these, in place of the end of all parts
+  -- the error that breaks off a part which goes on behind these
+  pub fault : Option (ℕ × Why)
+  -- the error where no part is left, in place of the end of all parts
   pub stop : Option (ℕ × Why)
   -- the bits past a fence, which are not read
   pub fenced : List Bool
 
 -- behind these bytes is the end
 abbrev pub the_end : Behind
-the_end = record { fails = None; cut = false; pieces = []; bytes = []; stop = None; fenced = [] }
+the_end = record { fails = None; cut = false; pieces = []; bytes = []; fault = None; stop = None; fenced = [] }
 
 -- the same without a fence
 abbrev pub without_fence : Behind → Behind

@@ -2,7 +2,7 @@
 
 use crate::packets::STREAM;
 use flac_bits::{BitWriter, Collected, Memory, Source, Why};
-use flac_ogg::{Head, Pages, read_packet, write_page};
+use flac_pages::{Head, Pages, read_packet, write_page};
 use std::alloc::Global;
 use std::test::Fail;
 

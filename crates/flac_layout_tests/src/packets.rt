@@ -1,7 +1,7 @@
 ghost use Rattle.std.specs.Prelude.{◌≤◌};
 
 use flac_bits::{BitReader, BitWriter, Collected, Memory, Pieces, Source, Why};
-use flac_ogg::{PacketBytes, PacketMarks, Pages, write_packet};
+use flac_pages::{PacketAt, PacketBytes, PacketMarks, Pages, write_packet, write_packets};
 use std::alloc::Global;
 use std::test::Fail;
 
@@ -199,5 +199,70 @@ fn writes_packets_of_whole_segments(rt: HostRuntime) -> Result<(), Fail> {
     assert_eq!(rt; (byte(bytes, 312), byte(bytes, 313)), (255, 0));
     assert_eq!(rt; front(bytes, 824), [0, 255, 7, 255, 255]);
     assert_eq!(rt; front(bytes, 66131), [5, 5, 8, 1, 0]);
+    Ok(())
+}
+
+#[test]
+fn writes_the_packets_of_a_stream(rt: HostRuntime) -> Result<(), Fail> {
+    let mut bytes = [0u8; 134];
+    bytes[..51].copy_from_slice(&STREAM[28..79]);
+    bytes[51..95].copy_from_slice(&STREAM[107..151]);
+    bytes[95..117].copy_from_slice(&STREAM[179..201]);
+    bytes[117..].copy_from_slice(&STREAM[229..]);
+    let packets = [
+        PacketAt {
+            end: 51,
+            granule: 0,
+        },
+        PacketAt {
+            end: 95,
+            granule: 0,
+        },
+        PacketAt {
+            end: 117,
+            granule: 0,
+        },
+        PacketAt {
+            end: 134,
+            granule: 16,
+        },
+    ];
+    let mut writer = BitWriter::new(Collected::new(rt.alloc()));
+    write_packets(1, &bytes, &packets, &mut writer)?;
+    writer.finish()?;
+    assert_eq!(rt; writer.into_target().bytes(), STREAM.as_slice());
+    Ok(())
+}
+
+#[test]
+fn writes_a_packet_of_no_bytes(rt: HostRuntime) -> Result<(), Fail> {
+    let ends = [
+        PacketAt {
+            end: 51,
+            granule: 0,
+        },
+        PacketAt {
+            end: 51,
+            granule: 1,
+        },
+        PacketAt {
+            end: 351,
+            granule: 7,
+        },
+    ];
+    let mut writer = BitWriter::new(Collected::new(rt.alloc()));
+    write_packets(9, &[0; 351], &ends, &mut writer)?;
+    writer.finish()?;
+    let target = writer.into_target();
+    let bytes = target.bytes();
+    assert_eq!(rt; bytes.len(), 28 + 51 + 28 + 29 + 300);
+    assert_eq!(rt; front(bytes, 0), [2, 0, 0, 1, 51]);
+    assert_eq!(rt; front(bytes, 79), [0, 1, 1, 1, 0]);
+    assert_eq!(rt;
+        (front(bytes, 107), byte(bytes, 135)),
+        ([4, 7, 2, 2, 255], 45)
+    );
+    let read = packets(rt.alloc(), Memory::new(bytes))?;
+    assert_eq!(rt; read, ([51, 0, 300, 0, 0], None));
     Ok(())
 }

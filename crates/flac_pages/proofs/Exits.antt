@@ -1,0 +1,144 @@
+-- The exits of the calls of a reader of packets.
+use Rattle.std.proofs.Common.{◌≡◌, ℕ, ◌<◌, ◌≤◌, Bool, true, false, cond, List, [], ◌∷◌, length, Option, Some, None, Result, Ok, Err, refl, sym, ap, subst, ◌∙◌, arith, ◌^◌}
+use Rattle.std.specs.Prelude.{⊤}
+use Rattle.flac_bits.specs.declared.why.Why.{Why}
+use Rattle.flac_pages.specs.Pages.{end_fault}
+use Rattle.flac_pages.specs.Packets.{Place, Ahead, ahead, only_fault, next_segment, Turns, Steps, Begins, ended}
+use Rattle.flac_pages.proofs.Stepping.{Same, Waits, segment_same, same_ahead, packet_over, pages_over, none_ahead, broken_ahead, closed_ahead}
+
+abbrev turn_ok : Result ⊤ Why
+turn_ok = Ok tt
+
+abbrev turn_err : Why → Result ⊤ Why
+turn_err why = Err why
+
+-- ---- a step
+
+pub step_over : (old : Place) → old.rest ≡ 0 → old.more ≡ false → Steps old old (Ok false)
+step_over old r m = let over = packet_over old r m in record { same = refl; bytes = over.bytes; fault = over.fault; none = λ more. absurd (differ (sym m ∙ more)) }
+  where
+    differ : false ≡ true → ⊥
+    differ e = absurd cc
+
+pub step_last : (old : Place) → old.rest ≡ 0 → old.lacing ≡ [] → old.last ≡ true → Steps old old (Ok false)
+step_last old r l la = let over = pages_over old r l la in record { same = refl; bytes = over.bytes; fault = over.fault; none = λ more. none_ahead old l la }
+
+segment_step : (old new : Place) (l : List ℕ) → old.rest ≡ 0 → old.more ≡ true → 0 < length old.lacing → old.lacing ≡ l → new ≡ next_segment old l → Steps old new (Ok true)
+segment_step old new [] r m some eq e = absurd (omega (arith, ap length eq, some))
+segment_step old new (v ∷ vs) r m some eq e =
+    let same = segment_same old v vs r m eq in
+    subst (λ (p : Place). Steps old p (Ok true)) (sym e) (record {
+      known = λ known. known;
+      errors = refl;
+      names = refl;
+      bytes = λ known. same.bytes;
+      behind = λ known. same.behind;
+      room = omega arith;
+      spends = omega (arith, ap length eq);
+    })
+
+pub step_segment : (old new : Place) → old.rest ≡ 0 → old.more ≡ true → 0 < length old.lacing → new ≡ next_segment old old.lacing → Steps old new (Ok true)
+step_segment old new r m some e = segment_step old new old.lacing r m some refl e
+
+pub step_turned : (old new : Place) → old.rest ≡ 0 → old.lacing ≡ [] → Turns old new turn_ok → Steps old new (Ok true)
+step_turned old new r l t =
+    let same : old.known ≡ true → Same old new = λ known. same_ahead old new (t.rest ∙ sym r) t.more (t.ahead known) in
+    record {
+      known = t.known;
+      errors = t.errors;
+      names = t.names;
+      bytes = λ known. (same known).bytes;
+      behind = λ known. (same known).behind;
+      room = omega (arith, t.room);
+      spends = omega (arith, t.spends);
+    }
+
+pub step_refused : (old new : Place) (why : Why) → old.rest ≡ 0 → old.more ≡ true → Turns old new (turn_err why) → Steps old new (Err why)
+step_refused old new why r m t = record {
+  errors = t.errors;
+  names = t.names;
+  count = t.count;
+  bytes = λ known same. (broken_ahead old (old.count, why) r m (t.ahead known same)).bytes;
+  behind = λ known same. (broken_ahead old (old.count, why) r m (t.ahead known same)).behind;
+}
+
+-- ---- the next packet
+
+abbrev unless_last : Bool → ℕ × Why → Option (ℕ × Why)
+unless_last b f = cond b None (Some f)
+
+closed_fault : (old : Place) → old.last ≡ true → (ahead old).fault ≡ None
+unfolding ahead
+closed_fault old la = rw la refl
+
+pub waits_turned : (old now new : Place) → Waits old now → Turns now new turn_ok → Waits old new
+waits_turned old now new w t = record {
+  known = λ known. t.known (w.known known);
+  errors = t.errors ∙ w.errors;
+  names = t.names ∙ w.names;
+  rest = t.rest;
+  more = t.more ∙ w.more;
+  ahead = λ known. t.ahead (w.known known) ∙ w.ahead known;
+}
+
+pub waits_refused : (old now new : Place) (why : Why) → Waits old now → Turns now new (turn_err why) → Begins old new (Err (new.count, why))
+waits_refused old now new why w t = record {
+  errors = omega (arith, w.errors, t.errors);
+  names = t.names ∙ w.names;
+  fault = λ known same.
+      let is : ahead old ≡ only_fault (new.count, why) = sym (w.ahead known) ∙ t.ahead (w.known known) (same ∙ sym w.errors) ∙ ap (λ k. only_fault (k, why)) (sym t.count) in
+      (ap (λ (a : Ahead). a.lacing) is, ap (λ (a : Ahead). a.stop) is);
+  breaks = λ known same.
+      let is : ahead old ≡ only_fault (new.count, why) = sym (w.ahead known) ∙ t.ahead (w.known known) (same ∙ sym w.errors) ∙ ap (λ k. only_fault (k, why)) (sym t.count) in
+      ap (λ (a : Ahead). a.fault) is ∙ ap (λ b. unless_last b (new.count, why)) (sym t.last);
+}
+
+pub waits_begun : (old now : Place) → Waits old now → 0 < length now.lacing → Begins old (record now { more = true }) (Ok true)
+unfolding ahead
+waits_begun old now w some = record {
+  known = w.known;
+  errors = w.errors;
+  names = w.names;
+  stands = (w.rest, refl);
+  some = some;
+  ahead = w.ahead;
+}
+
+pub waits_begins : (old now new : Place) (result : Result Bool (ℕ × Why)) → Waits old now → Begins now new result → Begins old new result
+waits_begins old now new (Ok true) w b = record {
+  known = λ known. b.known (w.known known);
+  errors = b.errors ∙ w.errors;
+  names = b.names ∙ w.names;
+  stands = b.stands;
+  some = b.some;
+  ahead = λ known. b.ahead (w.known known) ∙ w.ahead known;
+}
+waits_begins old now new (Ok false) w b = record {
+  errors = omega (arith, w.errors, b.errors);
+  names = b.names ∙ w.names;
+  over = λ known same.
+      let over = b.over (w.known known) (same ∙ sym w.errors) in
+      (ap (λ (a : Ahead). a.lacing) (sym (w.ahead known)) ∙ over.0, ap (λ (a : Ahead). a.stop) (sym (w.ahead known)) ∙ over.1);
+}
+waits_begins old now new (Err f) w b = record {
+  errors = omega (arith, w.errors, b.errors);
+  names = b.names ∙ w.names;
+  fault = λ known same.
+      let over = b.fault (w.known known) (same ∙ sym w.errors) in
+      (ap (λ (a : Ahead). a.lacing) (sym (w.ahead known)) ∙ over.0, ap (λ (a : Ahead). a.stop) (sym (w.ahead known)) ∙ over.1);
+  breaks = λ known same. ap (λ (a : Ahead). a.fault) (sym (w.ahead known)) ∙ b.breaks (w.known known) (same ∙ sym w.errors);
+}
+
+-- behind the last page
+pub closes : (old new : Place) (o : Option Why) (result : Result Bool (ℕ × Why)) → result ≡ ended old.count o → old.count < 2 ^ 64 → old.lacing ≡ [] → old.last ≡ true → new.last ≡ true → old.errors ≤ new.errors → new.names ≡ old.names
+    → (old.known ≡ true → new.errors ≡ old.errors → o ≡ end_fault old.cursor) → Begins old new result
+closes old new o result e small l la nla errors names fault = subst (λ (r : Result Bool (ℕ × Why)). Begins old new r) (sym e) (go o fault)
+  where
+    go : (o : Option Why) → (old.known ≡ true → new.errors ≡ old.errors → o ≡ end_fault old.cursor) → Begins old new (ended old.count o)
+    go None fault = record { errors = errors; names = names; over = λ known same. closed_ahead old None small l la (sym (fault known same)) }
+    go (Some why) fault = record {
+      errors = errors;
+      names = names;
+      fault = λ known same. closed_ahead old (Some why) small l la (sym (fault known same));
+      breaks = λ known same. closed_fault old la ∙ ap (λ b. unless_last b (old.count, why)) (sym nla);
+    }

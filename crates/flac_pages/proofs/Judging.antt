@@ -1,0 +1,107 @@
+-- What a judged packet is, by what stands behind its bits.
+use Rattle.std.proofs.Common.{◌≡◌, ℕ, ◌<◌, Bool, true, false, Option, Some, None, Result, Ok, Err, OnOk, refl, sym, ap, subst, ◌∙◌, arith}
+use Rattle.std.specs.Prelude.{⊤, ◌&&◌}
+use Rattle.flac_bits.specs.Bits.{is_nil}
+use Rattle.flac_bits.specs.State.{State, Behind, short_of, without_fence}
+use Rattle.flac_bits.specs.declared.why.Why.{Why}
+use Rattle.flac_bits.specs.declared.why.Why.TheVariants.{Read, Truncated}
+use Rattle.flac_pages.specs.Packets.{Place, ahead, behind_of, behind_in, behind_left}
+use Rattle.flac_pages.specs.Items.{PacketEnd, whole, unended, cut_at, end_of, in_packet, behind_item, why_in, EndsPacket, JudgesPacket, GoesBehind}
+
+-- ---- behind a packet that is one item
+
+-- no fault stands behind, so none was met
+unmet : (fault : Option (ℕ × Why)) (p : Place) → (behind_left fault p).fails ≡ None → behind_left fault p ≡ behind_of p
+unmet None p e = refl
+unmet (Some f) p e = absurd (differ e)
+  where
+    some : Option (ℕ × Why)
+    some = Some f
+
+    differ : some ≡ None → ⊥
+    differ e = absurd cc
+
+calm : (o : Option (ℕ × Why)) → (short_of o ≡ Read → ⊥) → o ≡ None
+calm None h = refl
+calm (Some f) h = absurd (h refl)
+
+pub goes_behind : (s : State) (fault : Option (ℕ × Why)) (pages old new : Place) (result : Result ⊤ (Option ℕ × Why)) → old ≡ pages → (s.known ≡ true → pages.known ≡ true) → pages.errors ≡ s.errors
+    → (s.known ≡ true → s.cursor.mark.short ≡ Read → ⊥) → (s.known ≡ true → without_fence (behind_left fault pages) ≡ without_fence s.behind) → EndsPacket old new result → OnOk result (GoesBehind s new)
+unfolding behind_of
+goes_behind s fault pages old new (Err why) is known errors short behind ends = tt
+goes_behind s fault pages old new (Ok x) is known errors short behind ends =
+    let tells : s.known ≡ true → s.cursor.mark.short ≡ short_of s.behind.fails → behind_in 0 false (ahead new) ≡ without_fence s.behind = λ k reason.
+    let none : s.behind.fails ≡ None = calm s.behind.fails (λ e. short k (reason ∙ e)) in
+    let same : behind_left fault pages ≡ behind_of pages = unmet fault pages (ap (λ (b : Behind). b.fails) (behind k) ∙ none) in
+    let left : behind_of new ≡ behind_of pages = ends.behind (ap (λ (p : Place). p.known) is ∙ known k) ∙ ap behind_of is in
+    ap (λ r. behind_in r false (ahead new)) (sym ends.stands.0) ∙ ap (λ b. behind_in new.rest b (ahead new)) (sym ends.stands.1) ∙ left ∙ ap without_fence (sym same) ∙ behind k in
+    record {
+      stands = ends.stands;
+      known = λ k. ends.known (ap (λ (p : Place). p.known) is ∙ known k);
+      errors = ends.errors ∙ ap (λ (p : Place). p.errors) is ∙ errors;
+      lacing = λ k reason. ap (λ (b : Behind). b.pieces) (tells k reason);
+      bytes = λ k reason. ap (λ (b : Behind). b.bytes) (tells k reason);
+      fault = λ k reason. ap (λ (b : Behind). b.fault) (tells k reason);
+      stop = λ k reason. ap (λ (b : Behind). b.stop) (tells k reason);
+    }
+
+-- ---- why an item's packet is refused
+
+abbrev refusal : (X : Type 0) → Option ℕ × Why → Result X (Option ℕ × Why)
+refusal X why = Err why
+
+with_item : {X : Type 0} → X → Result ⊤ (Option ℕ × Why) → Result X (Option ℕ × Why)
+with_item x (Ok y) = Ok x
+with_item x (Err why) = Err why
+
+abbrev nothing : ⊤
+nothing = tt
+
+same_item : {X : Type 0} (x : X) (e : PacketEnd) (b : Bool) → with_item x (behind_item e b nothing) ≡ behind_item e b x
+unfolding with_item
+same_item x whole true = refl
+same_item x unended true = refl
+same_item x (cut_at n why) true = refl
+same_item x e false = refl
+
+same_refusal : {X : Type 0} (x : X) (e : PacketEnd) (b : Bool) (r : Result ⊤ (Option ℕ × Why)) (why : Option ℕ × Why) → r ≡ Err why → r ≡ behind_item e b nothing → refusal X why ≡ behind_item e b x
+unfolding with_item
+same_refusal x e b r why is told = ap (with_item x) (sym is ∙ told) ∙ same_item x e b
+
+-- the page's fault that was met is the one behind the packet's bytes
+met : (s : State) (fault : Option (ℕ × Why)) (errors : ℕ) (pages : Place) → (fault ≡ None → errors ≡ 0) → 0 < errors → without_fence (behind_left fault pages) ≡ without_fence s.behind
+    → (f : ℕ × Why) × (fault ≡ Some f) × (end_of s.behind ≡ cut_at f.0 f.1)
+met s None errors pages quiet some behind = absurd (omega (arith, quiet refl, some))
+met s (Some f) errors pages quiet some behind = (f, refl, ap (λ (b : Behind). end_of b) (sym behind))
+
+why_told : (fault : Option (ℕ × Why)) (e : PacketEnd) (why : Why) → (why ≡ Read → (f : ℕ × Why) × (fault ≡ Some f) × (e ≡ cut_at f.0 f.1)) → why_in fault why ≡ in_packet e why
+why_told fault e Truncated h = refl
+why_told fault e Read h = let (f, is, ends) = h refl in rw (is, ends) refl
+why_told fault e why h = refl
+
+pub judged_why : {X : Type 0} (s : State) (fault seen : Option (ℕ × Why)) (errors : ℕ) (pages new : Place) (read : Result X Why) (why : Why) (told : Option ℕ × Why) → read ≡ Err why → told ≡ why_in seen why → seen ≡ fault → (fault ≡ None → errors ≡ 0) → errors ≡ s.raised
+    → without_fence (behind_left fault pages) ≡ without_fence s.behind → JudgesPacket s new read (Err told)
+judged_why {X = X} s fault seen errors pages new read why told is tells same quiet raised behind =
+    subst (λ (r : Result X Why). JudgesPacket s new r (Err told)) (sym is)
+    (λ some. ap (refusal X) (tells ∙ ap (λ o. why_in o why) same ∙ why_told fault (end_of s.behind) why (λ e. met s fault errors pages quiet (subst (λ n. 0 < n) (sym raised) (some e)) behind)))
+
+pub judged_end : {X : Type 0} (s : State) (new : Place) (read : Result X Why) (x : X) (r : Result ⊤ (Option ℕ × Why)) (why : Option ℕ × Why) → read ≡ Ok x → r ≡ Err why
+    → (s.known ≡ true → new.errors ≡ s.errors → s.cursor.mark.short ≡ short_of s.behind.fails → r ≡ behind_item (end_of s.behind) (is_nil s.cursor.left) nothing) → JudgesPacket s new read (Err why)
+judged_end {X = X} s new read x r why is refused judges =
+    subst (λ (r : Result X Why). JudgesPacket s new r (Err why)) (sym is)
+    (λ known same short. same_refusal x (end_of s.behind) (is_nil s.cursor.left) r why refused (judges known same short))
+
+-- ---- facts of the calls
+
+pub and_left : (a b : Bool) → (a && b) ≡ true → a ≡ true
+and_left true b e = refl
+and_left false b e = absurd (differ e)
+  where
+    differ : false ≡ true → ⊥
+    differ e = absurd cc
+
+abbrev over_at : Bool → Result Bool Why
+over_at b = Ok b
+
+pub is_over : (result : Result Bool Why) (b : Bool) → result ≡ Ok b → b ≡ true → result ≡ Ok true
+is_over result b is e = is ∙ ap over_at e

@@ -1,0 +1,84 @@
+-- How a packet ends, told by where a reader of packets stands behind its last byte.
+use Rattle.std.proofs.Common.{◌≡◌, ℕ, Bool, true, false, List, [], Option, Some, None, Result, Ok, Err, refl, sym, ap, ◌∙◌, arith}
+use Rattle.std.specs.Prelude.{⊤}
+use Rattle.flac_bits.specs.State.{Behind}
+use Rattle.flac_bits.specs.declared.why.Why.{Why}
+use Rattle.flac_bits.specs.declared.why.Why.TheVariants.{PacketLength}
+use Rattle.flac_pages.specs.Packets.{Place, ahead, behind_of, behind_in, broken_off, Finds, Copies}
+use Rattle.flac_pages.specs.Items.{whole, unended, cut_at, end_in, end_of, cut_off, EndsPacket}
+
+-- what a way to the packet's end keeps
+pub record Passes (old now : Place) : Type 0 where
+  pub known : old.known ≡ true → now.known ≡ true
+  pub errors : now.errors ≡ old.errors
+  pub names : now.names ≡ old.names
+  pub behind : old.known ≡ true → behind_of now ≡ behind_of old
+
+abbrev ends_ok : Result ⊤ (Option ℕ × Why)
+ends_ok = Ok tt
+
+abbrev ends_err : Option ℕ × Why → Result ⊤ (Option ℕ × Why)
+ends_err why = Err why
+
+abbrev found : Bool → Result Bool Why
+found more = Ok more
+
+abbrev not_found : Why → Result Bool Why
+not_found why = Err why
+
+pub passed_more : (old now mid new : Place) (out : List ℕ) (n : ℕ) → Passes old now → Finds now mid (found true) → Copies mid new out n → Passes old new
+passed_more old now mid new out n p f c = record {
+  known = λ known. c.known ∙ f.known (p.known known);
+  errors = c.errors ∙ f.errors ∙ p.errors;
+  names = c.names ∙ f.names ∙ p.names;
+  behind = λ known. c.behind ∙ f.behind (p.known known) ∙ p.behind known;
+}
+
+pub ends_between : (old now new : Place) → Passes old now → Finds now new (found false) → (new.rest ≡ 0) × (new.more ≡ false) → EndsPacket old new ends_ok
+unfolding behind_of
+ends_between old now new p f stands =
+    let behind : old.known ≡ true → behind_of new ≡ behind_of old = λ known. f.behind (p.known known) ∙ p.behind known in
+    record {
+      known = λ known. f.known (p.known known);
+      errors = f.errors ∙ p.errors;
+      names = f.names ∙ p.names;
+      stands = stands;
+      ended = λ known. ap (λ (b : Behind). end_of b) (sym (behind known)) ∙ ap (λ b. end_of (behind_in new.rest b (ahead new))) stands.1;
+      behind = behind;
+    }
+
+pub ends_inside : (old now new : Place) → Passes old now → Finds now new (found false) → ((new.rest ≡ 0) × (new.more ≡ false) → ⊥) → EndsPacket old new (ends_err (None, PacketLength))
+unfolding behind_of ahead
+ends_inside old now new p f inside =
+    let goes_on : new.more ≡ true = go new.more refl in
+    record {
+      errors = omega (arith, f.errors, p.errors);
+      names = f.names ∙ p.names;
+      fault = λ known same.
+          let behind : behind_of new ≡ behind_of old = f.behind (p.known known) ∙ p.behind known in
+          let calm : (behind_of old).fails ≡ None = ap (λ (b : Behind). b.fails) (sym (p.behind known)) ∙ (f.over refl (p.known known)).1 in
+          let none : (ahead new).lacing ≡ [] = (f.stands refl).1 goes_on in
+          let cut : (behind_of old).cut ≡ true = ap (λ (b : Behind). b.cut) (sym behind) ∙ rw (goes_on, none) refl in
+          let is : end_of (behind_of old) ≡ unended = ap (λ o. end_in o (behind_of old).cut) calm ∙ ap (λ b. end_in None b) cut in
+          (λ e. differ (sym is ∙ e), ap cut_off (sym is));
+    }
+  where
+    differ : unended ≡ whole → ⊥
+    differ e = absurd cc
+
+    go : (b : Bool) → new.more ≡ b → new.more ≡ true
+    go true e = e
+    go false e = absurd (inside ((f.stands refl).0, e))
+
+pub ends_broken : (old now new : Place) (why : Why) → Passes old now → Finds now new (not_found why) → EndsPacket old new (ends_err (Some new.count, why))
+ends_broken old now new why p f = record {
+  errors = omega (arith, f.errors, p.errors);
+  names = f.names ∙ p.names;
+  fault = λ known same.
+      let behind : behind_of old ≡ broken_off (new.count, why) = sym (p.behind known) ∙ f.behind (p.known known) (same ∙ sym p.errors) in
+      let is : end_of (behind_of old) ≡ cut_at new.count why = ap (λ (b : Behind). end_of b) behind in
+      (λ e. differ (sym is ∙ e), ap cut_off (sym is));
+}
+  where
+    differ : cut_at new.count why ≡ whole → ⊥
+    differ e = absurd cc

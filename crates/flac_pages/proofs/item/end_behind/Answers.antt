@@ -1,0 +1,16 @@
+use Rattle.std.proofs.Common.{ap, ◌∙◌}
+use Rattle.flac_bits.specs.State.{without_fence}
+use Rattle.flac_pages.proofs.Judging.{goes_behind, and_left, is_over}
+use Rattle.flac_pages.proofs.item.end_behind.Goals as goal
+
+pub returns-in-Ok-true-clause-behind : goal.returns-in-Ok-true-clause-behind
+returns-in-Ok-true-clause-behind g c =
+    let packet = c.into_source-packet.result in
+    let tells = c.into_source-packet.ensures in
+    let counts = c.in-Ok-true.ensures.counts in
+    goes_behind c.args.bits packet.fault packet.pages c.into_pages-pages.result c.end_packet-ended.new.self c.end_packet-ended.result c.into_pages-pages.ensures
+    (λ known. and_left _ _ (tells.told (counts.0 known)))
+    (tells.errors ∙ counts.1)
+    (c.at_end-over.ensures.ended (is_over c.at_end-over.result c.in-Ok-true.field-0 c.in-Ok-true.is c.in-Ok-true.field-0-test))
+    (λ known. tells.behind ∙ ap without_fence (counts.3 known))
+    c.end_packet-ended.ensures.ends

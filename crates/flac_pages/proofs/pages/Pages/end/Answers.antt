@@ -1,0 +1,13 @@
+use Rattle.std.proofs.Common.{ap, sym, ◌∙◌, arith}
+use Rattle.flac_pages.specs.Pages.{end_fault}
+use Rattle.flac_pages.specs.Packets.{Place, ended}
+use Rattle.flac_pages.proofs.Exits.{closes}
+use Rattle.flac_pages.proofs.pages.Pages.end.Goals as goal
+
+pub returns-clause-begins : goal.returns-clause-begins
+returns-clause-begins g c =
+    let is = c.self.view_is in
+    let fault = c.end_fault-fault.ensures in
+    closes c.args.self.now _ c.end_fault-fault.result c.ended.result (c.ended.ensures.value ∙ ap (λ (p : Place). ended p.count c.end_fault-fault.result) is) (omega (arith, ap (λ (p : Place). p.count) is)) c.requires.read c.requires.last (ap (λ (p : Place). p.last) is ∙ c.requires.last)
+    (omega (arith, ap (λ (p : Place). p.errors) is, fault.kept)) (fault.names ∙ ap (λ (p : Place). p.names) is)
+    (λ known same. fault.fault (ap (λ (p : Place). p.known) is ∙ known) (same ∙ ap (λ (p : Place). p.errors) (sym is)) ∙ ap (λ (p : Place). end_fault p.cursor) is)

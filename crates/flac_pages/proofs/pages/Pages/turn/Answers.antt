@@ -1,0 +1,52 @@
+use Rattle.std.proofs.Common.{◌≡◌, ◌+◌, drop, Some, [], ap, sym, ◌∙◌, refl, arith}
+use Rattle.std.specs.Prelude.{min}
+use Rattle.std.specs.List.{sum}
+use Rattle.std.proofs.lemmas.List.{drop_all}
+use Rattle.flac_pages.specs.declared.page.Head.{Head}
+use Rattle.flac_pages.specs.Page.{after, went_on, goes_on_behind, is_last}
+use Rattle.flac_pages.specs.Pages.{next_page}
+use Rattle.flac_pages.specs.Packets.{Place}
+use Rattle.flac_pages.proofs.Stepping.{turned, refused}
+use Rattle.flac_pages.proofs.pages.Pages.turn.Goals as goal
+
+pub returns-in-Ok-clause-turns : goal.returns-in-Ok-clause-turns
+returns-in-Ok-clause-turns g c =
+    let inside = c.self.inside in
+    let is = c.self.view_is in
+    let page = c.next_page.new.room in
+    let rest = ap (λ (p : Place). p.rest) is ∙ c.requires.rest in
+    let none = ap (λ (p : Place). p.lacing) is ∙ c.requires.read in
+    let no_body : drop inside.at inside.page.body ≡ [] = drop_all inside.at inside.page.body (omega (arith, ap sum none, rest, c.self.invariant.2)) in
+    let counts = c.in-Ok.ensures.counts in
+    let went : c.went_on-went_on.result ≡ went_on c.args.self.now.before = c.went_on-went_on.ensures ∙ ap (λ (p : Place). went_on p.before) is in
+    let going : c.goes_on_behind-goes_on.result ≡ goes_on_behind (went_on c.args.self.now.before) page.lacing = c.goes_on_behind-goes_on.ensures ∙ ap (goes_on_behind c.went_on-went_on.result) c.lacing.ensures.values ∙ ap (λ b. goes_on_behind b page.lacing) went in
+    let before_is : Some record { serial = c.head-head.result.serial; sequence = c.head-head.result.sequence; goes_on = c.goes_on_behind-goes_on.result } ≡ Some (after c.args.self.now.before page) = rw (c.head-head.ensures, going) refl in
+    record {
+      known = λ known. counts.0 (ap (λ (p : Place). p.known) is ∙ known);
+      errors = counts.1 ∙ ap (λ (p : Place). p.errors) is;
+      names = counts.4 ∙ ap (λ (p : Place). p.names) is;
+      rest = rest;
+      more = ap (λ (p : Place). p.more) is;
+      room = omega (arith, ap (λ (p : Place). p.most) is, c.in-Ok.ensures.spends);
+      spends = omega (arith, ap (λ (p : Place). p.most) is, c.in-Ok.ensures.spends, c.in-Ok.ensures.whole.2);
+      ahead = λ known. turned c.args.self.now _ page c.requires.read (sym (ap (λ (p : Place). p.body) is) ∙ no_body) c.requires.last
+          (ap (λ (p : Place). next_page p.before p.cursor) (sym is) ∙ c.in-Ok.ensures.reads (ap (λ (p : Place). p.known) is ∙ known) counts.1)
+          refl refl (ap (λ (h : Head). is_last h.flags) c.head-head.ensures) before_is (c.saturating_add-self-inside.ensures ∙ ap (λ (p : Place). min (p.count + 1) 18446744073709551615) is);
+    }
+
+pub returns-in-Err-clause-turns : goal.returns-in-Err-clause-turns
+returns-in-Err-clause-turns g c =
+    let inside = c.self.inside in
+    let is = c.self.view_is in
+    let rest = ap (λ (p : Place). p.rest) is ∙ c.requires.rest in
+    let none = ap (λ (p : Place). p.lacing) is ∙ c.requires.read in
+    let no_body : drop inside.at inside.page.body ≡ [] = drop_all inside.at inside.page.body (omega (arith, ap sum none, rest, c.self.invariant.2)) in
+    let errors = ap (λ (p : Place). p.errors) is in
+    record {
+      errors = omega (arith, errors, c.in-Err.ensures.counts.0);
+      names = c.in-Err.ensures.counts.3 ∙ ap (λ (p : Place). p.names) is;
+      count = ap (λ (p : Place). p.count) is;
+      last = ap (λ (p : Place). p.last) is ∙ c.requires.last;
+      ahead = λ known same. refused c.args.self.now c.in-Err.why (omega (arith, ap (λ (p : Place). p.count) is)) c.requires.read (sym (ap (λ (p : Place). p.body) is) ∙ no_body) c.requires.last
+          (ap (λ (p : Place). next_page p.before p.cursor) (sym is) ∙ c.in-Err.ensures.reads (ap (λ (p : Place). p.known) is ∙ known) (same ∙ sym errors));
+    }

@@ -1,0 +1,168 @@
+-- One item in one packet: the bytes of a packet are one item, a metadata block or a frame, and nothing else (RFC 9639, section 10.1).
+use Rattle.std.specs.Prelude.{◌≡◌, ◌≢◌, ◌↔◌, ◌<◌, ◌≤◌, ◌+◌, ◌*◌, ℕ, length, Bool, true, false, List, [], ◌++◌, Option, Some, None, Result, Ok, Err, ◌⊎◌}
+use Rattle.flac_bits.specs.Bits.{bits_of, is_nil}
+use Rattle.flac_bits.specs.State.{Mark, Cursor, State, Behind, short_of, without_fence}
+use Rattle.flac_bits.specs.Layout.{Layout, bits, Reason}
+use Rattle.flac_bits.specs.Lists.{list_of}
+use Rattle.flac_bits.specs.Meaning.{Spells, Shows, IsCut}
+use Rattle.flac_bits.specs.Fence.{InRoom, LeavesRoom, FillsRoom, read_in}
+use Rattle.flac_bits.specs.declared.why.Why.{Why}
+use Rattle.flac_bits.specs.declared.why.Why.TheVariants.{Read, Truncated, FrameTooLong, PacketLength}
+use Rattle.flac_pages.specs.Packets.{Place, ahead, rest_of, behind_of}
+
+-- How a packet ends behind the bytes that good pages give of it (RFC 3533, section 6).
+pub data PacketEnd : Type 0 where
+  -- a lacing value below 255 ends it there
+  whole : PacketEnd
+  -- no lacing value ends it, and the page marked last is over
+  unended : PacketEnd
+  -- no lacing value ends it, and the page behind is refused: how many pages came before that page, and why it is refused
+  cut_at : ℕ → Why → PacketEnd
+
+-- what good pages give of a packet
+pub record Packet : Type 0 where
+  pub bits : List Bool
+  pub ends : PacketEnd
+
+abbrev pub end_in : Option (ℕ × Why) → Bool → PacketEnd
+end_in (Some f) cut = cut_at f.0 f.1
+end_in None true = unended
+end_in None false = whole
+
+abbrev pub end_of : Behind → PacketEnd
+end_of b = end_in b.fails b.cut
+
+-- the packet that a reader of packets has begun
+abbrev pub packet_of : Place → Packet
+packet_of p = record { bits = bits_of (rest_of p); ends = end_of (behind_of p) }
+
+-- the reason where a field needs more bits than the packet has
+abbrev pub short_at : PacketEnd → Why
+short_at (cut_at n why) = Read
+short_at other = Truncated
+
+-- what is known of the bits behind, at a packet's first bit
+abbrev pub packet_mark : Place → Mark
+packet_mark p = record { unread = 0; bytes = 0; check8 = 0; check16 = 0; short = short_of (behind_of p).fails }
+
+-- ---- what an item's packet is, apart from any reading
+
+-- Why a packet that does not end where it should is refused: by the fault of the page that breaks it off, with the number of pages before that page; and else by its length.
+abbrev pub cut_off : PacketEnd → Option ℕ × Why
+cut_off (cut_at n why) = (Some n, why)
+cut_off other = (None, PacketLength)
+
+-- A reason of the item's own stays. No field of FLAC is refused by `Truncated` or `Read`; they tell that the packet's bits end.
+abbrev pub in_packet : PacketEnd → Why → Option ℕ × Why
+in_packet e Truncated = (None, PacketLength)
+in_packet e Read = cut_off e
+in_packet e why = (None, why)
+
+-- all of the packet is a spelling of the item, and the packet ends there
+pub record IsItem {A : Type 0} (room : Option ℕ) (l : Layout A) (m : Mark) (p : Packet) (x : A) : Type 0 where
+  pub spelled : Spells l m p.bits x
+  pub fits : InRoom room m p.bits
+  pub ended : p.ends ≡ whole
+
+-- the packet is not one item, for this reason
+abbrev pub IsNoItem : {A : Type 0} → Option ℕ → Layout A → Mark → Packet → Option ℕ × Why → Type 0
+IsNoItem {A = A} room l m p why =
+    -- a front shows the item's own reason
+    ((own : Why) × (front : List Bool) × (rest : List Bool) × (p.bits ≡ front ++ rest) × Shows l m front own × InRoom room m front × (why ≡ in_packet p.ends own))
+    -- the packet's bits end inside the item
+    ⊎ ((IsCut l m p.bits × LeavesRoom room m p.bits × (why ≡ cut_off p.ends))
+    -- the item has more bytes than it may have
+    ⊎ ((FillsRoom room l m p.bits × (why ≡ (None, FrameTooLong)))
+    -- the packet goes on behind the item
+    ⊎ (((x : A) × (text : List Bool) × (rest : List Bool) × (p.bits ≡ text ++ rest) × (rest ≢ []) × Spells l m text x × InRoom room m text × (why ≡ (None, PacketLength)))
+    -- the item is whole, and the packet does not end there
+    ⊎ ((x : A) × Spells l m p.bits x × InRoom room m p.bits × (p.ends ≢ whole) × (why ≡ cut_off p.ends)))))
+
+-- what a call answers is the packet's item, seen by view, or why it is none
+abbrev pub TellsItem : {X A : Type 0} → (X → A) → Option ℕ → Layout A → Mark → Packet → Result X (Option ℕ × Why) → Type 0
+TellsItem view room l m p (Ok x) = IsItem room l m p (view x)
+TellsItem view room l m p (Err why) = IsNoItem room l m p why
+
+-- ---- how it is read
+
+-- behind the item's last bit, which is the packet's last
+abbrev pub at_last_bit : {A : Type 0} → PacketEnd → A → Result A (Option ℕ × Why)
+at_last_bit whole x = Ok x
+at_last_bit other x = Err (cut_off other)
+
+-- behind the item's last bit, where a bit may be left
+abbrev pub behind_item : {A : Type 0} → PacketEnd → Bool → A → Result A (Option ℕ × Why)
+behind_item e true x = at_last_bit e x
+behind_item e false x = Err (None, PacketLength)
+
+abbrev pub judged : {A : Type 0} → PacketEnd → Result (A × Cursor) Reason → Result A (Option ℕ × Why)
+judged e (Ok x) = behind_item e (is_nil x.1.left) x.0
+judged e (Err reason) = Err (in_packet e reason.why)
+
+-- what reading one item in one packet gives
+unfoldable pub item_in : {A : Type 0} → Option ℕ → Layout A → Mark → Packet → Result A (Option ℕ × Why)
+item_in room l m p = judged p.ends (read_in room l (record { left = p.bits; mark = m }))
+
+-- Each packet is one item or is none, for one reason; and this is what reading it gives. So it is of packets of so many bytes.
+abbrev pub PacketsTellOne : Type 0
+PacketsTellOne = (n : ℕ) (p : Place) (result : Result (List ℕ) (Option ℕ × Why))
+    → TellsItem (λ x. x) None (list_of n (bits 8)) (packet_mark p) (packet_of p) result ↔ (item_in None (list_of n (bits 8)) (packet_mark p) (packet_of p) ≡ result)
+
+-- a reason of an item's reader, told of the packet, where the reader met this page's fault, if any
+abbrev pub why_in : Option (ℕ × Why) → Why → Option ℕ × Why
+why_in fault Truncated = (None, PacketLength)
+why_in None Read = (None, Read)
+why_in (Some f) Read = (Some f.0, f.1)
+why_in fault why = (None, why)
+
+-- ---- what the calls do that judge a packet's end
+
+-- A reader of packets went behind the packet that it had begun, to where the next one begins. Or the packet does not end there, and this is why.
+abbrev pub EndsPacket : {X : Type 0} → Place → Place → Result X (Option ℕ × Why) → Type 0
+EndsPacket old new (Ok x) = record {
+  known : old.known ≡ true → new.known ≡ true;
+  errors : new.errors ≡ old.errors;
+  names : new.names ≡ old.names;
+  stands : (new.rest ≡ 0) × (new.more ≡ false);
+  ended : old.known ≡ true → end_of (behind_of old) ≡ whole;
+  behind : old.known ≡ true → behind_of new ≡ behind_of old;
+}
+EndsPacket old new (Err why) = record {
+  errors : old.errors ≤ new.errors;
+  names : new.names ≡ old.names;
+  fault : old.known ≡ true → new.errors ≡ old.errors → (end_of (behind_of old) ≢ whole) × (why ≡ cut_off (end_of (behind_of old)));
+}
+
+-- a reader of bits stands at the first bit of the packet that was begun
+pub record IsAtPacket (p : Place) (s : State) : Type 0 where
+  pub known : s.known ≡ p.known
+  pub errors : s.errors ≡ p.errors
+  pub raised : s.raised ≡ 0
+  pub behind : s.behind ≡ without_fence (behind_of p)
+  pub most : s.most ≡ 8 * (p.most + length p.body)
+  pub names : s.names ≡ p.names
+  pub cursor : s.cursor ≡ record { left = (packet_of p).bits; mark = packet_mark p }
+
+-- What an item's reader answered over a packet's bits, behind which it stands at `s`, and what stands behind those bits are told together.
+abbrev pub JudgesPacket : {X : Type 0} → State → Place → Result X Why → Result X (Option ℕ × Why) → Type 0
+JudgesPacket s new (Ok x) result = s.known ≡ true → new.errors ≡ s.errors → s.cursor.mark.short ≡ short_of s.behind.fails → result ≡ behind_item (end_of s.behind) (is_nil s.cursor.left) x
+JudgesPacket s new (Err why) result = (why ≡ Read → 0 < s.raised) → result ≡ Err (in_packet (end_of s.behind) why)
+
+-- Behind a packet that is one item: the next packet is to be begun, and what good pages give stays.
+pub record GoesBehind (s : State) (new : Place) : Type 0 where
+  pub stands : (new.rest ≡ 0) × (new.more ≡ false)
+  pub known : s.known ≡ true → new.known ≡ true
+  pub errors : new.errors ≡ s.errors
+  pub lacing : s.known ≡ true → s.cursor.mark.short ≡ short_of s.behind.fails → (ahead new).lacing ≡ s.behind.pieces
+  pub bytes : s.known ≡ true → s.cursor.mark.short ≡ short_of s.behind.fails → (ahead new).bytes ≡ s.behind.bytes
+  pub fault : s.known ≡ true → s.cursor.mark.short ≡ short_of s.behind.fails → (ahead new).fault ≡ s.behind.fault
+  pub stop : s.known ≡ true → s.cursor.mark.short ≡ short_of s.behind.fails → (ahead new).stop ≡ s.behind.stop
+
+-- The next packet is to be begun, and good pages still give what was behind the packet that was begun.
+pub record HasBehind (old new : Place) : Type 0 where
+  pub known : new.known ≡ true
+  pub errors : new.errors ≡ old.errors
+  pub lacing : (ahead new).lacing ≡ (behind_of old).pieces
+  pub bytes : (ahead new).bytes ≡ (behind_of old).bytes
+  pub fault : (ahead new).fault ≡ (behind_of old).fault
+  pub stop : (ahead new).stop ≡ (behind_of old).stop

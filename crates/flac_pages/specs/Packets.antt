@@ -1,0 +1,261 @@
+-- Packets of pages (RFC 3533, sections 5 and 6).
+use Rattle.std.specs.Prelude.{◌≡◌, ℕ, ◌+◌, ◌*◌, ◌/◌, ◌%◌, ◌<◌, Bool, true, false, cond, List, [], ◌∷◌, ◌++◌, length, take, drop, replicate, Option, Some, None, nat_eq, ◌&&◌, not, min, Result, Ok, Err, ◌≤◌}
+use Rattle.std.specs.Borrow.{GName}
+use Rattle.std.specs.List.{flat_map}
+use Rattle.flac_bits.specs.State.{Cursor, Behind}
+use Rattle.flac_bits.specs.declared.why.Why.{Why}
+use Rattle.flac_pages.specs.declared.page.Before.{Before}
+use Rattle.flac_pages.specs.Page.{Page}
+use Rattle.flac_pages.specs.Pages.{Run, Stop, closed, broken, pages_behind, end_fault}
+
+-- ---- packets, apart from any reading
+
+-- the lacing values of a packet: one of 255 for each 255 bytes, and one for the rest, which may be 0
+unfoldable pub lacing_of : List ℕ → List ℕ
+lacing_of packet = replicate (length packet / 255) 255 ++ (length packet % 255) ∷ []
+
+-- the pages' lacing values joined are those of the packets one after another, and of a packet that goes on behind;
+-- and so are the pages' bytes
+pub record Packets (pages : List Page) (packets : List (List ℕ)) (begun : List ℕ) : Type 0 where
+  pub full : ℕ
+  pub lacing : flat_map (λ p. p.lacing) pages ≡ flat_map lacing_of packets ++ replicate full 255
+  pub bytes : flat_map (λ p. p.body) pages ≡ flat_map (λ packet. packet) packets ++ begun
+  pub part : length begun ≡ 255 * full
+
+-- ---- where a reader of packets stands
+
+-- how many bytes the packet still has whose next lacing values these are
+abbrev pub size : List ℕ → ℕ
+size [] = 0
+size (v ∷ vs) = v + cond (nat_eq v 255) (size vs) 0
+
+-- whether it ends among them
+abbrev pub ends : List ℕ → Bool
+ends [] = false
+ends (v ∷ vs) = cond (nat_eq v 255) (ends vs) true
+
+-- the lacing values behind it
+abbrev pub past_packet : List ℕ → List ℕ
+past_packet [] = []
+past_packet (v ∷ vs) = cond (nat_eq v 255) (past_packet vs) vs
+
+-- Inside a segment, of which so many bytes are to come, and behind which the packet goes
+-- on or ends; then what the page has still to come, and what the source has.
+pub record Place : Type 0 where
+  pub known : Bool
+  pub errors : ℕ
+  pub raised : ℕ
+  pub most : ℕ
+  pub names : List GName
+  pub rest : ℕ
+  pub more : Bool
+  pub lacing : List ℕ
+  pub body : List ℕ
+  pub last : Bool
+  pub before : Option Before
+  pub count : ℕ
+  pub cursor : Cursor
+
+-- before the first byte of a source, of which these bits are to come; they run short for this reason
+abbrev pub at_front : Bool → (errors raised most : ℕ) → List GName → List Bool → Why → Place
+at_front known errors raised most names text short = record {
+  known = known;
+  errors = errors;
+  raised = raised;
+  most = most;
+  names = names;
+  rest = 0;
+  more = false;
+  lacing = [];
+  body = [];
+  last = false;
+  before = None;
+  count = 0;
+  cursor = record { left = text; mark = record { unread = 0; bytes = 0; check8 = 0; check16 = 0; short = short } };
+}
+
+-- What good pages still give: lacing values and bytes; then the page, counted from 0, and its fault, where one breaks them off; and
+-- the fault where no packet is left, which a byte behind the last page is too.
+pub record Ahead : Type 0 where
+  pub lacing : List ℕ
+  pub bytes : List ℕ
+  pub fault : Option (ℕ × Why)
+  pub stop : Option (ℕ × Why)
+
+-- an index of a page, which stops at the greatest number of 64 bits
+abbrev pub page_index : ℕ → ℕ
+page_index n = min n 18446744073709551615
+
+abbrev pub at_page : ℕ → Option Why → Option (ℕ × Why)
+at_page n None = None
+at_page n (Some why) = Some (page_index n, why)
+
+abbrev pub fault_of : ℕ → Stop → Option (ℕ × Why)
+fault_of n (closed c) = None
+fault_of n (broken why) = Some (page_index n, why)
+
+abbrev pub stop_of : ℕ → Stop → Option (ℕ × Why)
+stop_of n (closed c) = at_page n (end_fault c)
+stop_of n (broken why) = Some (page_index n, why)
+
+abbrev pub to_come : Place → Run
+to_come p = pages_behind p.last p.before p.cursor
+
+unfoldable pub ahead : Place → Ahead
+ahead p = record {
+  lacing = p.lacing ++ flat_map (λ q. q.lacing) (to_come p).pages;
+  bytes = p.body ++ flat_map (λ q. q.body) (to_come p).pages;
+  fault = fault_of (p.count + length (to_come p).pages) (to_come p).stop;
+  stop = stop_of (p.count + length (to_come p).pages) (to_come p).stop;
+}
+
+-- how many bytes of the packet are still to come
+abbrev pub left_in : ℕ → Bool → List ℕ → ℕ
+left_in rest more lacing = rest + cond more (size lacing) 0
+
+-- the bytes of the packet still to come that good pages give
+abbrev pub rest_in : ℕ → Bool → Ahead → List ℕ
+rest_in rest more a = take (left_in rest more a.lacing) a.bytes
+
+-- behind them: the page, and its fault, that breaks the packet off; whether no lacing value ends it; and all that
+-- good pages give behind it
+abbrev pub behind_in : ℕ → Bool → Ahead → Behind
+behind_in rest more a = record {
+  fails = cond (more && not (ends a.lacing)) a.fault None;
+  cut = more && not (ends a.lacing);
+  pieces = cond more (past_packet a.lacing) a.lacing;
+  bytes = drop (left_in rest more a.lacing) a.bytes;
+  fault = a.fault;
+  stop = a.stop;
+  fenced = [];
+}
+
+unfoldable pub rest_of : Place → List ℕ
+rest_of p = rest_in p.rest p.more (ahead p)
+
+unfoldable pub behind_of : Place → Behind
+behind_of p = behind_in p.rest p.more (ahead p)
+
+-- a page's fault, and nothing before it
+abbrev pub only_fault : ℕ × Why → Ahead
+only_fault f = record { lacing = []; bytes = []; fault = Some f; stop = Some f }
+
+-- where a page's fault breaks the packet off
+abbrev pub broken_off : ℕ × Why → Behind
+broken_off f = record { fails = Some f; cut = true; pieces = []; bytes = []; fault = Some f; stop = Some f; fenced = [] }
+
+-- ---- what the calls of a reader do
+
+-- the next segment of the page
+abbrev pub next_segment : Place → List ℕ → Place
+next_segment p [] = p
+next_segment p (v ∷ vs) = record p { rest = v; more = nat_eq v 255; lacing = vs }
+
+-- the next page, or its fault: what good pages give stays
+abbrev pub Turns : {X : Type 0} → Place → Place → Result X Why → Type 0
+Turns old new (Ok x) = record {
+  known : old.known ≡ true → new.known ≡ true;
+  errors : new.errors ≡ old.errors;
+  names : new.names ≡ old.names;
+  rest : new.rest ≡ 0;
+  more : new.more ≡ old.more;
+  room : new.most + length new.body ≤ old.most;
+  spends : 256 * new.most + length new.lacing < 256 * old.most;
+  ahead : old.known ≡ true → ahead new ≡ ahead old;
+}
+Turns old new (Err why) = record {
+  errors : old.errors ≤ new.errors;
+  names : new.names ≡ old.names;
+  count : new.count ≡ old.count;
+  last : new.last ≡ false;
+  ahead : old.known ≡ true → new.errors ≡ old.errors → ahead old ≡ only_fault (old.count, why);
+}
+
+-- A step towards the packet's next bytes: the same bytes are still to come, and the same behind them. There is none
+-- to make at the packet's end; and what is refused is the fault behind the packet's last good byte.
+abbrev pub Steps : Place → Place → Result Bool Why → Type 0
+Steps old new (Ok true) = record {
+  known : old.known ≡ true → new.known ≡ true;
+  errors : new.errors ≡ old.errors;
+  names : new.names ≡ old.names;
+  bytes : old.known ≡ true → rest_of new ≡ rest_of old;
+  behind : old.known ≡ true → behind_of new ≡ behind_of old;
+  room : new.most + length new.body ≤ old.most + length old.body;
+  spends : 256 * new.most + length new.lacing < 256 * old.most + length old.lacing;
+}
+Steps old new (Ok false) = record { same : new ≡ old; bytes : rest_of old ≡ []; fault : (behind_of old).fails ≡ None; none : old.more ≡ true → (ahead old).lacing ≡ [] }
+Steps old new (Err why) = record {
+  errors : old.errors ≤ new.errors;
+  names : new.names ≡ old.names;
+  count : new.count ≡ old.count;
+  bytes : old.known ≡ true → new.errors ≡ old.errors → rest_of old ≡ [];
+  behind : old.known ≡ true → new.errors ≡ old.errors → behind_of old ≡ broken_off (old.count, why);
+}
+
+-- the next byte of the packet is found, or the packet's end, or the fault behind its last good byte
+abbrev pub Finds : Place → Place → Result Bool Why → Type 0
+Finds old new (Ok found) = record {
+  known : old.known ≡ true → new.known ≡ true;
+  errors : new.errors ≡ old.errors;
+  names : new.names ≡ old.names;
+  room : new.most + length new.body ≤ old.most + length old.body;
+  bytes : old.known ≡ true → rest_of new ≡ rest_of old;
+  behind : old.known ≡ true → behind_of new ≡ behind_of old;
+  byte : found ≡ true → 0 < new.rest;
+  over : found ≡ false → old.known ≡ true → (rest_of old ≡ []) × ((behind_of old).fails ≡ None);
+  stands : found ≡ false → (new.rest ≡ 0) × (new.more ≡ true → (ahead new).lacing ≡ []);
+}
+Finds old new (Err why) = record {
+  errors : old.errors ≤ new.errors;
+  names : new.names ≡ old.names;
+  bytes : old.known ≡ true → new.errors ≡ old.errors → rest_of old ≡ [];
+  behind : old.known ≡ true → new.errors ≡ old.errors → behind_of old ≡ broken_off (new.count, why);
+}
+
+-- so many bytes of the packet are copied to the room's front
+pub record Copies (old new : Place) (out : List ℕ) (n : ℕ) : Type 0 where
+  pub known : new.known ≡ old.known
+  pub errors : new.errors ≡ old.errors
+  pub names : new.names ≡ old.names
+  pub room : new.most + length new.body + n ≤ old.most + length old.body
+  pub bytes : rest_of old ≡ take n out ++ rest_of new
+  pub behind : behind_of new ≡ behind_of old
+
+-- The next packet is begun, of which good pages have a lacing value. Or they have none: where no fault stands there, all packets were read;
+-- or this is the fault, of the next page or behind the page marked last.
+abbrev pub Begins : Place → Place → Result Bool (ℕ × Why) → Type 0
+Begins old new (Ok true) = record {
+  known : old.known ≡ true → new.known ≡ true;
+  errors : new.errors ≡ old.errors;
+  names : new.names ≡ old.names;
+  stands : (new.rest ≡ 0) × (new.more ≡ true);
+  some : 0 < length new.lacing;
+  ahead : old.known ≡ true → ahead new ≡ ahead old;
+}
+Begins old new (Ok false) = record {
+  errors : old.errors ≤ new.errors;
+  names : new.names ≡ old.names;
+  over : old.known ≡ true → new.errors ≡ old.errors → ((ahead old).lacing ≡ []) × ((ahead old).stop ≡ None);
+}
+Begins old new (Err f) = record {
+  errors : old.errors ≤ new.errors;
+  names : new.names ≡ old.names;
+  fault : old.known ≡ true → new.errors ≡ old.errors → ((ahead old).lacing ≡ []) × ((ahead old).stop ≡ Some f);
+  breaks : old.known ≡ true → new.errors ≡ old.errors → (ahead old).fault ≡ cond new.last None (Some f);
+}
+
+-- behind the last page: no packet, or the fault there
+abbrev pub ended : ℕ → Option Why → Result Bool (ℕ × Why)
+ended n None = Ok false
+ended n (Some why) = Err (n, why)
+
+-- ---- one packet as a source
+
+-- what is left of a packet's bytes, and the fault behind them, once a fault was met or before
+abbrev pub left_of : Option (ℕ × Why) → Place → List ℕ
+left_of None p = rest_of p
+left_of (Some f) p = []
+
+abbrev pub behind_left : Option (ℕ × Why) → Place → Behind
+behind_left None p = behind_of p
+behind_left (Some f) p = broken_off f

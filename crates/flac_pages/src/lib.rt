@@ -1,0 +1,22 @@
+//! Pages and packets of an Ogg stream (RFC 3533).
+#![tactic(auto)]
+
+mod fields;
+mod item;
+mod packet_bytes;
+mod page;
+mod pages;
+mod promises;
+mod room;
+mod writing;
+
+pub use item::{end_item, packet_bits, read_packet};
+pub use packet_bytes::PacketBytes;
+pub use page::{Before, Head};
+pub use pages::Pages;
+pub use promises::{
+    packet_list_is_given, packets_are_given, packets_are_placed, packets_tell_one, pages_are_runs,
+    pages_are_spelled, pages_have_packets, written_pages_are_good,
+};
+pub use room::{PageRoom, next_page};
+pub use writing::{PacketAt, PacketMarks, page_sum, write_packet, write_packets, write_page};

@@ -1,0 +1,368 @@
+//! Pages, one after another, and a place in the page that is held.
+
+ghost use Rattle.std.specs.Prelude.{◌≡◌, ◌≢◌, [], ◌≤◌, ◌<◌, ◌+◌, ◌*◌, ℕ, Bool, true, false, length, IfOk, IfErr, IfSome, OnOk, None, Some};
+ghost use Rattle.flac_bits.specs.State.{short_of};
+ghost use Rattle.flac_bits.specs.Bits.{bits_of};
+ghost use Rattle.flac_pages.specs.Pages.{unless_over, end_fault};
+ghost use Rattle.flac_pages.specs.Page.{went_on, goes_on_behind};
+ghost use Rattle.flac_pages.specs.Items.{EndsPacket};
+ghost use Rattle.flac_pages.specs.Packets.{next_segment, at_front, Turns, Steps, Finds, Copies, Begins, ended};
+
+use crate::page::Before;
+use crate::room::{PageRoom, next_page};
+use flac_bits::{BitReader, Source, Why};
+use std::alloc::Global;
+use std::marker::Model;
+
+/// Pages, one after another: the one that is held, and a place in it.
+///
+/// A page is read when its first byte or its lacing values are needed.
+#[derive(Drop)]
+pub struct Pages<R: Source> {
+    reader: BitReader<R>,
+    page: PageRoom,
+    before: Option<Before>,
+    /// The page is marked last.
+    last: bool,
+    /// Lacing values of the page that were taken.
+    next: u8,
+    /// Bytes of the page that were taken.
+    at: u32,
+    /// Bytes of the segment still to come.
+    rest: u8,
+    /// The packet goes on behind the segment.
+    more: bool,
+    /// Pages that were read.
+    count: u64,
+}
+
+impl<R: Source> Model for Pages<R> {
+    ghost use Rattle.std.specs.Prelude.{◌≡◌, ◌≤◌, ◌+◌, drop, length};
+    ghost use Rattle.std.specs.List.{sum};
+    ghost use Rattle.flac_pages.specs.Packets.{Place};
+
+    ghost Value = { Place };
+
+    ghost view = { λ p. record {
+      known = p.reader.known;
+      errors = p.reader.errors;
+      raised = p.reader.raised;
+      most = p.reader.most;
+      names = p.reader.names;
+      rest = p.rest;
+      more = p.more;
+      lacing = drop p.next p.page.lacing;
+      body = drop p.at p.page.body;
+      last = p.last;
+      before = p.before;
+      count = p.count;
+      cursor = p.reader.cursor;
+    } };
+
+    ghost invariant = { λ p. (p.next ≤ length p.page.lacing) × (length p.page.body ≤ 65025)
+        × (p.at + p.rest + sum (drop p.next p.page.lacing) ≡ length p.page.body) × (length p.page.lacing ≤ 255) };
+}
+
+impl<R: Source + Drop> Pages<R> {
+    /// The pages of a source, from its first byte on, with room for one page.
+    ///
+    /// # Errors
+    ///
+    /// `Memory` where the room is not to be had.
+    pub fn new(alloc: Global, source: R) -> Result<Pages<R>, Why>
+        ensures ok { IfOk result (λ p. p ≡ at_front (R.known source) (R.errors source) (R.raised source) (8 * R.most source) (R.names source) (bits_of (R.coming source)) (short_of ((R.behind source).fails))) }
+        ensures err { IfErr result (λ e. e ≡ Why.Memory) }
+    {
+        let page = PageRoom::new(alloc)?;
+        Ok(Pages::over(page, source))
+    }
+}
+
+impl<R: Source> Pages<R> {
+    /// The pages of a source, from its first byte on, with this room for one page, which is empty.
+    pub fn over(page: PageRoom, source: R) -> Pages<R>
+        requires { (page.lacing ≡ []) × (page.body ≡ []) }
+        ensures { result ≡ at_front (R.known source) (R.errors source) (R.raised source) (8 * R.most source) (R.names source) (bits_of (R.coming source)) (short_of ((R.behind source).fails)) }
+    {
+        Pages {
+            reader: BitReader::new(source),
+            page,
+            before: None,
+            last: false,
+            next: 0,
+            at: 0,
+            rest: 0,
+            more: false,
+            count: 0,
+        }
+    }
+}
+
+impl<R: Source> Pages<R> {
+    /// Whether no lacing value of the page is left.
+    fn is_read(&self) -> bool
+        ensures none { result ≡ true → self.now.lacing ≡ [] }
+        ensures some { result ≡ false → 0 < length self.now.lacing }
+    {
+        self.next == self.page.count()
+    }
+
+    /// Whether the page that is held is marked last.
+    pub fn is_last(&self) -> bool
+        ensures { result ≡ self.now.last }
+    {
+        self.last
+    }
+
+    /// Whether the packet goes on behind the segment.
+    fn goes_on(&self) -> bool
+        ensures { result ≡ self.now.more }
+    {
+        self.more
+    }
+
+    fn rest(&self) -> u8
+        ensures { result ≡ self.now.rest }
+    {
+        self.rest
+    }
+
+    /// The source, behind the page that is held.
+    pub fn into_source(self) -> R
+        ensures known { self.known ≡ true → R.known result ≡ true }
+        ensures errors { R.errors result ≡ self.errors }
+        ensures raised { R.raised result ≡ self.raised }
+        ensures names { R.names result ≡ self.names }
+    {
+        let Pages { reader, .. } = self;
+        reader.into_source()
+    }
+
+    /// How many pages were read, a count that stops at 2^64 - 1.
+    pub fn count(&self) -> u64
+        ensures { result ≡ self.now.count }
+    {
+        self.count
+    }
+
+    /// Goes into the next segment of the page.
+    fn take_segment(&mut self)
+        requires rest { self.now.rest ≡ 0 }
+        requires some { 0 < length self.now.lacing }
+        ensures { self.new ≡ next_segment self.old self.old.lacing }
+    {
+        let value = self.page.segment(self.next);
+        self.next += 1;
+        self.rest = value;
+        self.more = value == 255;
+    }
+
+    /// Reads the next page.
+    fn turn(&mut self) -> Result<(), Why>
+        requires rest { self.now.rest ≡ 0 }
+        requires read { self.now.lacing ≡ [] }
+        requires last { self.now.last ≡ false }
+        ensures memory { IfErr result (λ e. e ≢ Why.Memory) }
+        ensures turns { Turns self.old self.new result }
+    {
+        let went_on = went_on(self.before);
+        match next_page(&mut self.reader, &mut self.page, self.before) {
+            Ok(()) => {
+                let head = self.page.head();
+                let goes_on = goes_on_behind(went_on, self.page.lacing());
+                self.before = Some(Before {
+                    serial: head.serial,
+                    sequence: head.sequence,
+                    goes_on,
+                });
+                self.last = head.flags / 4 % 2 == 1;
+                self.next = 0;
+                self.at = 0;
+                self.count = self.count.saturating_add(1);
+                Ok(())
+            }
+            Err(why) => {
+                self.next = 0;
+                self.at = 0;
+                Err(why)
+            }
+        }
+    }
+
+    /// The packet's next segment, or the next page. `false` at the packet's end or the last page's.
+    fn step(&mut self) -> Result<bool, Why>
+        requires { self.now.rest ≡ 0 }
+        ensures memory { IfErr result (λ e. e ≢ Why.Memory) }
+        ensures steps { Steps self.old self.new result }
+    {
+        if !self.goes_on() {
+            return Ok(false);
+        }
+        if !self.is_read() {
+            self.take_segment();
+            return Ok(true);
+        }
+        if self.is_last() {
+            return Ok(false);
+        }
+        match self.turn() {
+            Ok(()) => Ok(true),
+            Err(why) => Err(why),
+        }
+    }
+
+    /// Goes to the packet's next byte. `false` at the packet's end or the last page's.
+    pub(crate) fn find(&mut self) -> Result<bool, Why>
+        ensures memory { IfErr result (λ e. e ≢ Why.Memory) }
+        ensures finds { Finds self.old self.new result }
+    {
+        while self.rest() == 0 {
+            match self.step() {
+                Ok(true) => {}
+                Ok(false) => return Ok(false),
+                Err(why) => return Err(why),
+            }
+        }
+        Ok(true)
+    }
+
+    /// Copies some of the segment's bytes to the front of the room.
+    pub(crate) fn copy(&mut self, out: &mut [u8]) -> usize
+        ensures few { result ≤ length out.old }
+        ensures some { 0 < length out.old → 0 < self.old.rest → 0 < result }
+        ensures copies { Copies self.old self.new out.new result }
+    {
+        let n = (self.rest as usize).min(out.len());
+        let at = self.at as usize;
+        out[..n].copy_from_slice(&self.page.body()[at..at + n]);
+        self.at += n as u32;
+        self.rest -= n as u8;
+        n
+    }
+
+    /// Whether the bytes that were taken end with a packet, or none was begun.
+    pub fn is_between_packets(&self) -> bool
+        ensures between { result ≡ true → (self.now.rest ≡ 0) × (self.now.more ≡ false) }
+        ensures exact { self.now.rest ≡ 0 → self.now.more ≡ false → result ≡ true }
+    {
+        self.rest == 0 && !self.more
+    }
+
+    /// Goes behind the packet that was begun, where its bytes end with it.
+    ///
+    /// # Errors
+    ///
+    /// The page and its fault where a refused page breaks the packet off; and `PacketLength` where it is still open at the end of the last page.
+    #[tactic(auto, using(crate::proofs::PacketEnds::passed_more, crate::proofs::PacketEnds::ends_between, crate::proofs::PacketEnds::ends_inside, crate::proofs::PacketEnds::ends_broken))]
+    pub(crate) fn end_packet(&mut self) -> Result<(), (Option<u64>, Why)>
+        ensures memory { IfErr result (λ e. e.1 ≢ Why.Memory) }
+        ensures ends { EndsPacket self.old self.new result }
+    {
+        loop {
+            match self.find() {
+                Ok(true) => {
+                    let _passed = self.copy(&mut [0; 255]);
+                }
+                Ok(false) if self.is_between_packets() => return Ok(()),
+                Ok(false) => return Err((None, Why::PacketLength)),
+                Err(why) => return Err((Some(self.count()), why)),
+            }
+        }
+    }
+
+    fn begin(&mut self)
+        ensures { self.new ≡ record self.old { more = true } }
+    {
+        self.more = true;
+    }
+
+    /// Behind the last page: `false` where the input ends there.
+    fn end(&mut self) -> Result<bool, (u64, Why)>
+        requires read { self.now.lacing ≡ [] }
+        requires last { self.now.last ≡ true }
+        ensures memory { IfErr result (λ e. e.1 ≢ Why.Memory) }
+        ensures begins { Begins self.old self.new result }
+    {
+        let fault = end_fault(&mut self.reader);
+        ended(self.count, fault)
+    }
+
+    /// Begins the next packet, which [`crate::PacketBytes`] gives. `false` where all packets were read: at the input's end behind the last page.
+    ///
+    /// # Errors
+    ///
+    /// How many pages came before, and the fault of the page behind them: those of [`crate::next_page`], and `PageOrder` for a byte behind the last page.
+    #[tactic(auto, using(crate::proofs::Exits::waits_begins, crate::proofs::Exits::waits_turned, crate::proofs::Exits::waits_refused, crate::proofs::Exits::waits_begun))]
+    pub fn next_packet(&mut self) -> Result<bool, (u64, Why)>
+        requires { (self.now.rest ≡ 0) × (self.now.more ≡ false) }
+        ensures memory { IfErr result (λ e. e.1 ≢ Why.Memory) }
+        ensures begins { Begins self.old self.new result }
+    {
+        while self.is_read() {
+            if self.is_last() {
+                return self.end();
+            }
+            if let Err(why) = self.turn() {
+                return Err((self.count(), why));
+            }
+        }
+        self.begin();
+        Ok(true)
+    }
+}
+
+/// The input's end is no fault.
+fn unless_over(why: Why) -> Option<Why>
+    ensures value { result ≡ unless_over why }
+    ensures memory { why ≢ Why.Memory → IfSome result (λ e. e ≢ Why.Memory) }
+{
+    match why {
+        Why::Truncated => None,
+        other => Some(other),
+    }
+}
+
+/// The fault behind the last page: any byte there.
+#[tactic(auto, unfolding(crate::specs::Pages::end_fault))]
+fn end_fault<R: Source>(reader: &mut BitReader<R>) -> Option<Why>
+    ensures kept { reader.old.errors ≤ reader.new.errors }
+    ensures names { reader.new.names ≡ reader.old.names }
+    ensures memory { IfSome result (λ e. e ≢ Why.Memory) }
+    ensures fault { reader.old.known ≡ true → reader.new.errors ≡ reader.old.errors → result ≡ end_fault reader.old.cursor }
+{
+    match reader.take(8) {
+        Ok(_) => Some(Why::PageOrder),
+        Err(why) => unless_over(why),
+    }
+}
+
+/// What stands behind the last page: no packet, or the fault there.
+fn ended(count: u64, fault: Option<Why>) -> Result<bool, (u64, Why)>
+    ensures value { result ≡ ended count fault }
+    ensures memory { IfSome fault (λ e. e ≢ Why.Memory) → IfErr result (λ e. e.1 ≢ Why.Memory) }
+{
+    match fault {
+        None => Ok(false),
+        Some(why) => Err((count, why)),
+    }
+}
+
+fn went_on(before: Option<Before>) -> bool
+    ensures { result ≡ went_on before }
+{
+    match before {
+        Some(before) => before.goes_on,
+        None => false,
+    }
+}
+
+/// Whether a packet goes on behind these segments.
+fn goes_on_behind(before: bool, lacing: &[u8]) -> bool
+    ensures { result ≡ goes_on_behind before lacing.now }
+{
+    let mut goes_on = before;
+    for i in 0..lacing.len() {
+        goes_on = lacing[i] == 255;
+    }
+    goes_on
+}

@@ -1,0 +1,258 @@
+//! Room for a page.
+
+ghost use Rattle.std.specs.Prelude.{◌≡◌, ◌≢◌, ◌≤◌, ◌<◌, ◌+◌, ◌*◌, ◌^◌, [], length, take, get_or, vec_len, OnOk, IfOk, IfErr, IfSome, OnErr};
+ghost use Rattle.std.specs.List.{sum};
+ghost use Rattle.flac_bits.specs.Layout.{bits as number};
+ghost use Rattle.flac_bits.specs.Lists.{list_of};
+ghost use Rattle.flac_bits.specs.Reading.{Counts, Reads, Gives};
+ghost use Rattle.flac_pages.specs.Pages.{between, next_page};
+ghost use Rattle.flac_pages.specs.Page.{page_sum, page_behind, end_rules, first_broken};
+
+use crate::fields::read_head;
+use crate::page::{Before, Head};
+use crate::writing::{MOST_BYTES, page_sum};
+use flac_bits::{BitReader, Source, Why, read_bytes};
+use std::alloc::Global;
+use std::marker::Model;
+
+/// Room for one page, made once: at most 255 segments of at most 255 bytes.
+#[derive(Drop)]
+pub struct PageRoom {
+    head: Head,
+    count: u8,
+    lacing: [u8; 255],
+    bytes: u32,
+    body: Vec<u8>,
+}
+
+impl Model for PageRoom {
+    ghost use Rattle.std.specs.Prelude.{◌≡◌, ◌≤◌, length, take, vec_len};
+    ghost use Rattle.flac_pages.specs.Page.{Page};
+
+    ghost Value = { Page };
+
+    ghost view = { λ p. record { head = p.head; lacing = take p.count p.lacing; body = take p.bytes p.body.items } };
+
+    ghost invariant = { λ p. (vec_len p.body ≡ 65025) × (p.bytes ≤ 65025) × (length p.lacing ≡ 255) };
+}
+
+impl PageRoom {
+    /// Room that holds an empty page.
+    ///
+    /// # Errors
+    ///
+    /// `Memory` where the room is not to be had.
+    pub fn new(alloc: Global) -> Result<PageRoom, Why>
+        ensures ok { IfOk result (λ p. (p.lacing ≡ []) × (p.body ≡ [])) }
+        ensures err { IfErr result (λ e. e ≡ Why.Memory) }
+    {
+        let body = vec![in alloc; 0u8; MOST_BYTES]?;
+        Ok(PageRoom {
+            head: Head {
+                flags: 0,
+                granule: 0,
+                serial: 0,
+                sequence: 0,
+                sum: 0,
+            },
+            count: 0,
+            lacing: [0; 255],
+            bytes: 0,
+            body,
+        })
+    }
+
+    /// The fixed fields.
+    pub fn head(&self) -> Head
+        ensures { result ≡ self.now.head }
+    {
+        self.head
+    }
+
+    /// How many segments the page has.
+    pub fn count(&self) -> u8
+        ensures { result ≡ length self.now.lacing }
+    {
+        self.count
+    }
+
+    /// The length of each segment in bytes.
+    pub fn lacing(&self) -> &[u8]
+        ensures values { result.now ≡ self.now.lacing }
+        ensures few { length result.now ≤ 255 }
+    {
+        &self.lacing[..self.count as usize]
+    }
+
+    /// The length of one segment in bytes.
+    pub fn segment(&self, index: u8) -> u8
+        requires { index < length self.now.lacing }
+        ensures { result ≡ get_or self.now.lacing index 0 }
+    {
+        self.lacing()[index as usize]
+    }
+
+    /// The bytes of all segments.
+    pub fn body(&self) -> &[u8]
+        ensures bytes { result.now ≡ self.now.body }
+        ensures small { length result.now ≤ 65025 }
+    {
+        &self.body.as_slice()[..self.bytes as usize]
+    }
+
+    /// The sum that the page states when it is whole (RFC 3533, section 6, field 7).
+    fn sum(&self) -> u32
+        ensures { result ≡ page_sum self.now }
+    {
+        page_sum(self.head, self.lacing(), self.body())
+    }
+
+    /// The reason of the first rule that is broken at the page's end, in the order of their rank.
+    #[tactic(auto, unfolding(crate::specs::Page::end_rules))]
+    fn fault(&self, before: Option<Before>) -> Option<Why>
+        requires whole { length self.now.body ≡ sum self.now.lacing }
+        ensures first { result ≡ first_broken (end_rules before self.now) }
+        ensures kind { IfSome result (λ e. (e ≢ Why.Read) × (e ≢ Why.Memory)) }
+    {
+        let head = self.head;
+        if head.sum != self.sum() {
+            return Some(Why::PageCheck);
+        }
+        let first = head.flags / 2 % 2 == 1;
+        let continued = head.flags % 2 == 1;
+        let count = self.count();
+        let bytes = self.body().len();
+        match before {
+            None => {
+                if continued {
+                    return Some(Why::PageOrder);
+                }
+                if !first || count != 1 || bytes != 51 {
+                    return Some(Why::BadMapping);
+                }
+            }
+            Some(before) => {
+                if head.serial != before.serial {
+                    return Some(Why::OtherStream);
+                }
+                let next = before.sequence.wrapping_add(1);
+                if first || head.sequence != next || continued != before.goes_on {
+                    return Some(Why::PageOrder);
+                }
+            }
+        }
+        None
+    }
+
+    /// Reads a page behind its first byte. After a refusal the room holds some page.
+    #[tactic(auto, unfolding(crate::specs::Page::page_behind))]
+    fn read_behind<R: Source>(
+        &mut self,
+        reader: &mut BitReader<R>,
+        before: Option<Before>,
+        first: u8,
+    ) -> Result<(), Why>
+        ensures spends { OnOk result (reader.new.most + length self.new.body ≤ reader.old.most) }
+        ensures whole { OnOk result ((length self.new.body ≡ sum self.new.lacing) × (length self.new.body ≤ 65025) × (length self.new.lacing ≤ 255)) }
+        ensures counts { Counts reader.old reader.new result }
+        ensures memory { IfErr result (λ e. e ≢ Why.Memory) }
+        ensures reads { Reads (λ _. self.new) (page_behind before first) reader.old reader.new result }
+    {
+        self.head = read_head(reader, first)?;
+        self.count = reader.take(8)? as u8;
+        read_some(reader, &mut self.lacing, self.count as usize)?;
+        self.bytes = total(&self.lacing, self.count);
+        read_body(reader, &mut self.body, self.bytes as usize)?;
+        match self.fault(before) {
+            Some(why) => Err(why),
+            None => Ok(()),
+        }
+    }
+
+    /// Holds an empty page.
+    fn clear(&mut self)
+        ensures { (self.new.lacing ≡ []) × (self.new.body ≡ []) }
+    {
+        self.count = 0;
+        self.bytes = 0;
+    }
+}
+
+/// The sum of so many lengths of segments.
+fn total(values: &[u8; 255], count: u8) -> u32
+    ensures sum { result ≡ sum (take count values.now) }
+    ensures small { result ≤ 65025 }
+{
+    let mut total = 0u32;
+    for i in 0..count as usize {
+        total += u32::from(values[i]);
+    }
+    total
+}
+
+/// Fills the first n places with the bytes that come next.
+fn read_some<R: Source>(reader: &mut BitReader<R>, out: &mut [u8], n: usize) -> Result<(), Why>
+    requires { n ≤ length out.now }
+    ensures spends { OnOk result (reader.new.most + n ≤ reader.old.most) }
+    ensures counts { Counts reader.old reader.new result }
+    ensures memory { IfErr result (λ e. e ≢ Why.Memory) }
+    ensures reads { Reads (λ _. take n out.new) (list_of n (number 8)) reader.old reader.new result }
+{
+    read_bytes(reader, &mut out[..n])
+}
+
+/// The same into a vector.
+fn read_body<R: Source>(reader: &mut BitReader<R>, out: &mut Vec<u8>, n: usize) -> Result<(), Why>
+    requires { n ≤ vec_len out.now }
+    ensures room { vec_len out.new ≡ vec_len out.old }
+    ensures spends { OnOk result (reader.new.most + n ≤ reader.old.most) }
+    ensures counts { Counts reader.old reader.new result }
+    ensures memory { IfErr result (λ e. e ≢ Why.Memory) }
+    ensures reads { Reads (λ _. take n out.new.items) (list_of n (number 8)) reader.old reader.new result }
+{
+    read_some(reader, out, n)
+}
+
+/// What the end of the input is where no page has begun.
+fn between(why: Why) -> Why
+    ensures { result ≡ between why }
+{
+    match why {
+        Why::Truncated => Why::NoEndPage,
+        other => other,
+    }
+}
+
+/// Reads the next page into the room. After a refusal the room holds an empty page.
+///
+/// # Errors
+///
+/// `NoEndPage` where the input ends before the page, `Truncated` where it ends inside; `BadPage` for another pattern or version; and at the page's end,
+/// in this order, `PageCheck`, `OtherStream`, `PageOrder`, and `BadMapping` for a first page that is not the first of a FLAC stream.
+#[tactic(auto, unfolding(crate::specs::Pages::next_page))]
+pub fn next_page<R: Source>(
+    reader: &mut BitReader<R>,
+    room: &mut PageRoom,
+    before: Option<Before>,
+) -> Result<(), Why>
+    ensures spends { OnOk result (reader.new.most + 8 + length room.new.body ≤ reader.old.most) }
+    ensures whole { OnOk result ((length room.new.body ≡ sum room.new.lacing) × (length room.new.body ≤ 65025) × (length room.new.lacing ≤ 255)) }
+    ensures cleared { OnErr result ((room.new.lacing ≡ []) × (room.new.body ≡ [])) }
+    ensures counts { Counts reader.old reader.new result }
+    ensures memory { IfErr result (λ e. e ≢ Why.Memory) }
+    ensures reads { Gives (λ _. room.new) (next_page before reader.old.cursor) reader.old reader.new result }
+{
+    match reader.take(8) {
+        Ok(first) => match room.read_behind(reader, before, first as u8) {
+            Ok(()) => Ok(()),
+            Err(why) => {
+                room.clear();
+                Err(why)
+            }
+        },
+        Err(why) => {
+            room.clear();
+            Err(between(why))
+        }
+    }
+}

@@ -1,0 +1,178 @@
+//! Pages and packets, written.
+
+ghost use Rattle.std.specs.Prelude.{◌≡◌, ◌≤◌, ◌<◌, ◌+◌, ◌*◌, ◌/◌, ◌%◌, ◌^◌, ◌∷◌, ◌++◌, [], length, take, replicate, IfOk};
+ghost use Rattle.flac_bits.specs.Written.{Writes};
+ghost use Rattle.flac_pages.specs.Page.{page_sum, page_spelling};
+ghost use Rattle.flac_pages.specs.Packets.{lacing_of};
+ghost use Rattle.flac_pages.specs.Placed.{AreInOrder, placed_in, stream_spelling};
+ghost use Rattle.flac_pages.specs.Written.{summed, head_at, packet_spelling};
+
+use crate::page::Head;
+use flac_bits::{BitWriter, Target, Why, crc32_sum};
+
+/// The greatest number of bytes in a page.
+pub(crate) const MOST_BYTES: usize = 65025;
+
+/// Where a packet stands in its stream.
+#[derive(Clone, Copy, Debug, PartialEq, Eq)]
+pub struct PacketMarks {
+    /// The number of the stream.
+    pub serial: u32,
+    /// The number of the page that the packet begins.
+    pub sequence: u32,
+    /// The position that the packet's last page tells.
+    pub granule: u64,
+    /// It is the stream's first packet.
+    pub first: bool,
+    /// It is the stream's last packet.
+    pub last: bool,
+}
+
+/// Where a packet ends among the bytes of packets that lie one after another.
+#[derive(Clone, Copy, Debug, PartialEq, Eq)]
+pub struct PacketAt {
+    /// The place behind its last byte.
+    pub end: usize,
+    /// The position that the packet's last page tells.
+    pub granule: u64,
+}
+
+/// The sum that a page states (RFC 3533, section 6, field 7): the remainder over all of the page, whose own sum counts as 0. At most 255 segments.
+pub fn page_sum(head: Head, lacing: &[u8], body: &[u8]) -> u32
+    requires { length lacing.now ≤ 255 }
+    ensures { result ≡ page_sum (record { head = head; lacing = lacing.now; body = body.now }) }
+{
+    let count = lacing.len() as u8;
+    let check = crc32_sum(0, &[0x4F, 0x67, 0x67, 0x53, 0, head.flags]);
+    let check = crc32_sum(check, &head.granule.to_le_bytes());
+    let check = crc32_sum(check, &head.serial.to_le_bytes());
+    let check = crc32_sum(check, &head.sequence.to_le_bytes());
+    let check = crc32_sum(check, &0u32.to_le_bytes());
+    let check = crc32_sum(check, &[count]);
+    let check = crc32_sum(check, lacing);
+    crc32_sum(check, body)
+}
+
+/// Writes a page with its sum, in place of the one in its head (RFC 3533, section 6).
+///
+/// `lacing` holds the lengths of the segments, at most 255, and `body` their bytes. Errors: `Write`.
+pub fn write_page<W: Target>(
+    head: Head,
+    lacing: &[u8],
+    body: &[u8],
+    writer: &mut BitWriter<W>,
+) -> Result<(), Why>
+    requires { length lacing.now ≤ 255 }
+    ensures { Writes (page_spelling (summed (record { head = head; lacing = lacing.now; body = body.now }))) writer.old writer.new result }
+{
+    let sum = page_sum(head, lacing, body);
+    let count = lacing.len() as u8;
+    writer.put_bytes(&[0x4F, 0x67, 0x67, 0x53, 0, head.flags])?;
+    writer.put_bytes(&head.granule.to_le_bytes())?;
+    writer.put_bytes(&head.serial.to_le_bytes())?;
+    writer.put_bytes(&head.sequence.to_le_bytes())?;
+    writer.put_bytes(&sum.to_le_bytes())?;
+    writer.put_bytes(&[count])?;
+    writer.put_bytes(lacing)?;
+    writer.put_bytes(body)
+}
+
+/// The fixed fields of a packet's page of a number, of which the last one has another.
+fn head_of(marks: PacketMarks, last: usize, page: usize) -> Head
+    ensures { result ≡ head_at marks last page }
+{
+    let begins = if page == 0 {
+        if marks.first { 2 } else { 0 }
+    } else {
+        1
+    };
+    let ends = if page == last && marks.last { 4 } else { 0 };
+    Head {
+        flags: begins + ends,
+        granule: if page == last {
+            marks.granule
+        } else {
+            0xFFFF_FFFF_FFFF_FFFF
+        },
+        serial: marks.serial,
+        sequence: marks.sequence.wrapping_add((page % 4_294_967_296) as u32),
+        sum: 0,
+    }
+}
+
+/// Puts the lengths of the segments of so many bytes behind one another, where there is 255 at each place; answers how many they are.
+fn put_lacing(bytes: usize, lacing: &mut [u8; 255]) -> usize
+    requires bytes { bytes < 65025 }
+    requires places { lacing.old ≡ replicate 255 255 }
+    ensures few { result ≤ 255 }
+    ensures long { length lacing.new ≡ 255 }
+    ensures values { take result lacing.new ≡ replicate (bytes / 255) 255 ++ (bytes % 255) ∷ [] }
+{
+    let full = bytes / 255;
+    lacing[full] = (bytes % 255) as u8;
+    full + 1
+}
+
+/// Writes the last page of a packet, of fewer bytes than a page may have.
+#[tactic(auto, unfolding(crate::specs::Packets::lacing_of))]
+fn write_last<W: Target>(head: Head, rest: &[u8], writer: &mut BitWriter<W>) -> Result<(), Why>
+    requires { length rest.now < 65025 }
+    ensures { Writes (page_spelling (summed (record { head = head; lacing = lacing_of rest.now; body = rest.now }))) writer.old writer.new result }
+{
+    let mut lacing = [255u8; 255];
+    let count = put_lacing(rest.len(), &mut lacing);
+    write_page(head, &lacing[..count], rest, writer)
+}
+
+/// Writes a packet from a page of its own on: pages of 255 segments of 255 bytes, and one of the rest, which may have no bytes (RFC 3533, sections 5 and 6).
+///
+/// Answers the number of the page behind it. Errors: `Write`.
+pub fn write_packet<W: Target>(
+    marks: PacketMarks,
+    packet: &[u8],
+    writer: &mut BitWriter<W>,
+) -> Result<u32, Why>
+    ensures wrote { Writes (packet_spelling marks packet.now) writer.old writer.new result }
+    ensures next { IfOk result (λ n. n ≡ (marks.sequence + (length packet.now / 65025 + 1)) % 2 ^ 32) }
+{
+    let last = packet.len() / MOST_BYTES;
+    for page in 0..last {
+        let from = MOST_BYTES * page;
+        let head = head_of(marks, last, page);
+        write_page(head, &[255; 255], &packet[from..from + MOST_BYTES], writer)?;
+    }
+    let head = head_of(marks, last, last);
+    write_last(head, &packet[MOST_BYTES * last..], writer)?;
+    Ok(head.sequence.wrapping_add(1))
+}
+
+/// Writes all packets of a stream, one after another, each from a page of its own on (RFC 3533, sections 5 and 6).
+///
+/// The packets lie one after another in `bytes`: the first begins there, and each further one where the one before ends, so that the ends do not fall; a packet may have no bytes.
+/// The pages are numbered from 0; the first packet begins the stream, and the last one ends it. Errors: `Write`.
+pub fn write_packets<W: Target>(
+    serial: u32,
+    bytes: &[u8],
+    packets: &[PacketAt],
+    writer: &mut BitWriter<W>,
+) -> Result<(), Why>
+    requires { AreInOrder 0 (length bytes.now) packets.now }
+    ensures { Writes (stream_spelling serial (placed_in bytes.now 0 packets.now)) writer.old writer.new result }
+{
+    let count = packets.len();
+    let mut from = 0;
+    let mut sequence = 0;
+    for i in 0..count {
+        let PacketAt { end, granule } = packets[i];
+        let marks = PacketMarks {
+            serial,
+            sequence,
+            granule,
+            first: i == 0,
+            last: i + 1 == count,
+        };
+        sequence = write_packet(marks, &bytes[from..end], writer)?;
+        from = end;
+    }
+    Ok(())
+}
