@@ -1,13 +1,13 @@
 -- What ties the content of each kind of block to its spelling.
-use Rattle.std.proofs.Common.{◌≡◌, ℕ, zero, suc, ◌+◌, ◌-◌, ◌*◌, ◌^◌, ◌<◌, ◌≤◌, Bool, true, false, not, nat_eq, nat_lt, ◌&&◌, ◌||◌, Option, Some, None, List, [], ◌∷◌, ◌++◌, length, refl, sym, ap, arith}
+use Rattle.std.proofs.Common.{◌≡◌, ℕ, zero, suc, ◌+◌, ◌-◌, ◌*◌, ◌^◌, ◌<◌, ◌≤◌, Bool, true, false, not, nat_eq, nat_lt, ◌&&◌, ◌||◌, Option, Some, None, List, [], ◌∷◌, ◌++◌, length, refl, sym, ap, ◌∙◌, arith}
 use Rattle.std.proofs.lemmas.Bool.Decides.{nat_tests}
-use Rattle.flac_bits.specs.Bits.{bits_of}
+use Rattle.flac_bits.specs.Bits.{unsigned, bits_of}
 use Rattle.flac_bits.specs.State.{Mark}
 use Rattle.flac_bits.specs.Layout.{done, bits}
 use Rattle.flac_bits.specs.Lists.{list_of}
-use Rattle.flac_bits.specs.Forms.{Ties, IsBytes, AreBytes}
+use Rattle.flac_bits.specs.Forms.{Ties, joined, IsBytes, AreBytes}
 use Rattle.flac_bits.proofs.Ties.{tie, each_tied, some_tied, bytes_tie}
-use Rattle.flac_meta.specs.Info.{stream_info}
+use Rattle.flac_meta.specs.Info.{info_sizes, info_format, stream_info}
 use Rattle.flac_meta.specs.Fields.{nothing_left, little_endian, sized}
 use Rattle.flac_meta.specs.SeekTable.{follows, in_order, seek_point, seek_points}
 use Rattle.flac_meta.specs.Comments.{texts, comments}
@@ -15,7 +15,7 @@ use Rattle.flac_meta.specs.Spelling as s
 use Rattle.flac_meta.specs.Valid.{AllAre, IsInfo, IsPoint, IsComments}
 use Rattle.flac_meta.specs.declared.seek_table.SeekPoint.{SeekPoint}
 use Rattle.flac_meta.specs.declared.comments.Comments.{Comments}
-use Rattle.flac_meta.proofs.Tied.{less_not, part_each, part_some, little_tie, IsText, sized_tie, nothing_tie, InTurn, turn_tie, retie}
+use Rattle.flac_meta.proofs.Tied.{less_not, joined_append, part_each, part_some, little_tie, IsText, sized_tie, nothing_tie, InTurn, turn_tie, retie}
 
 -- ---- STREAMINFO
 
@@ -25,8 +25,12 @@ good a b r d h = grind (arith, nat_tests)
 bad : (a b r d : ℕ) → 16 ≤ a → a ≤ b → 1 ≤ r → 4 ≤ d → (nat_lt a 16 || nat_lt b a || nat_eq r 0 || nat_lt d 4) ≡ false
 bad a b r d h k l m = grind (arith, nat_tests)
 
+-- the spellings of sizes, format and digest joined
+groups : (a b c d e f g h i : List Bool) → joined (a ∷ b ∷ c ∷ d ∷ []) ++ (joined (e ∷ f ∷ g ∷ h ∷ []) ++ joined (i ∷ [])) ≡ joined (a ∷ b ∷ c ∷ d ∷ e ∷ f ∷ g ∷ h ∷ i ∷ [])
+groups a b c d e f g h i = ap (λ t. joined (a ∷ b ∷ c ∷ d ∷ []) ++ t) (joined_append (e ∷ f ∷ g ∷ h ∷ []) (i ∷ [])) ∙ joined_append (a ∷ b ∷ c ∷ d ∷ []) (e ∷ f ∷ g ∷ h ∷ i ∷ [])
+
 pub info_tie : (m : Mark) → Ties stream_info m IsInfo s.info_spelling
-unfolding stream_info s.info_spelling
+unfolding stream_info info_sizes info_format s.info_spelling
 info_tie m = tie stream_info m IsInfo s.info_spelling
     (λ least_block a greatest_block b least_frame c greatest_frame d rate e channels f depth g total h.
     each_tied (list_of 16 (bits 8)) _ (IsBytes 16) bits_of _ (bytes_tie 16 _) (λ digest j kept.
@@ -50,7 +54,7 @@ info_tie m = tie stream_info m IsInfo s.info_spelling
         };
         digest = j;
       },
-      rw (channels_is, depth_is) refl,
+      rw (channels_is, depth_is) (groups (unsigned 16 least_block) (unsigned 16 greatest_block) (unsigned 24 least_frame) (unsigned 24 greatest_frame) (unsigned 20 rate) (unsigned 3 channels) (unsigned 5 depth) (unsigned 36 total) (bits_of digest)),
     )))
     (λ x w.
     let v = w.rules in
@@ -80,7 +84,7 @@ info_tie m = tie stream_info m IsInfo s.info_spelling
                     x.total,
                     v.total,
                     some_tied (list_of 16 (bits 8)) _ (IsBytes 16) bits_of _ x.digest (bytes_tie 16 _) w.digest
-                        ((rw depth_is (bad x.least_block x.greatest_block x.rate x.depth v.least_block v.blocks v.least_rate v.least_depth), tt), (refl, rw (channels_is, depth_is) refl)),
+                        ((rw depth_is (bad x.least_block x.greatest_block x.rate x.depth v.least_block v.blocks v.least_rate v.least_depth), tt), (groups (unsigned 16 x.least_block) (unsigned 16 x.greatest_block) (unsigned 24 x.least_frame) (unsigned 24 x.greatest_frame) (unsigned 20 x.rate) (unsigned 3 (x.channels - 1)) (unsigned 5 (x.depth - 1)) (unsigned 36 x.total) (bits_of x.digest), rw (channels_is, depth_is) refl)),
                   ),
                 ),
               ),

@@ -1,12 +1,12 @@
 -- What ties a picture to its spelling.
-use Rattle.std.proofs.Common.{◌≡◌, ℕ, ◌+◌, ◌-◌, ◌^◌, ◌<◌, ◌≤◌, Bool, List, [], ◌∷◌, ◌++◌, length, refl, ap, arith}
+use Rattle.std.proofs.Common.{◌≡◌, ℕ, ◌+◌, ◌-◌, ◌^◌, ◌<◌, ◌≤◌, Bool, List, [], ◌∷◌, ◌++◌, length, refl, ap, ◌∙◌, arith}
 use Rattle.flac_bits.specs.Bits.{unsigned}
 use Rattle.flac_bits.specs.State.{Mark}
 use Rattle.flac_bits.specs.Layout.{bits}
 use Rattle.flac_bits.specs.Forms.{Ties, joined}
 use Rattle.flac_bits.proofs.Ties.{tie, each_tied, some_tied}
 use Rattle.flac_meta.specs.Fields.{sized, number_32}
-use Rattle.flac_meta.specs.Picture.{sizes, picture}
+use Rattle.flac_meta.specs.Picture.{sizes, picture_front, picture}
 use Rattle.flac_meta.specs.Spelling as s
 use Rattle.flac_meta.specs.Valid.{IsPicture}
 use Rattle.flac_meta.specs.declared.picture.Picture.{Picture}
@@ -54,33 +54,45 @@ pub record PictureOf (left : ℕ) (p : Picture) : Type 0 where
 abbrev parts : (ℕ → List Bool) → Picture → List (List Bool)
 parts b p = b p.kind ∷ text_spelling b p.media ∷ text_spelling b p.text ∷ b p.width ∷ b p.height ∷ b p.depth ∷ b p.colours ∷ text_spelling b p.bytes ∷ []
 
+abbrev front_parts : (ℕ → List Bool) → Picture → List (List Bool)
+front_parts b p = b p.kind ∷ text_spelling b p.media ∷ text_spelling b p.text ∷ []
+
+abbrev sizes_of : Picture → ℕ × ℕ × ℕ × ℕ
+sizes_of p = (p.width, p.height, p.depth, p.colours)
+
+-- the spellings of front, sizes and data joined
+groups : (b : ℕ → List Bool) (p : Picture) → joined (front_parts b p) ++ (joined (sizes_parts b (sizes_of p)) ++ joined (text_spelling b p.bytes ∷ [])) ≡ joined (parts b p)
+groups b p = ap (λ t. joined (front_parts b p) ++ t) (joined_append (sizes_parts b (sizes_of p)) (text_spelling b p.bytes ∷ []))
+    ∙ joined_append (front_parts b p) (b p.width ∷ b p.height ∷ b p.depth ∷ b p.colours ∷ text_spelling b p.bytes ∷ [])
+
 spelled_tie : (b : ℕ → List Bool) → Numbers b → Texts b → (left : ℕ) → left < 2 ^ 24 → (m : Mark) → Ties (picture left) m (PictureOf left) (λ p. joined (parts b p))
-unfolding picture
+unfolding picture picture_front
 spelled_tie b numbers texts left lt m = tie (picture left) m (PictureOf left) (λ p. joined (parts b p))
     (each_tied (number_32 left) _ (In32 left) b _ (numbers left _) (λ kind h.
     each_tied (sized (bits 32) (left - 4)) _ (IsText (left - 4)) (text_spelling b) _ (texts (left - 4) _) (λ media i.
     let behind_media : ℕ = left - (8 + length media) in
     each_tied (sized (bits 32) behind_media) _ (IsText behind_media) (text_spelling b) _ (texts behind_media _) (λ text j.
-    let rest : ℕ = behind_media - (4 + length text) in
+    let rest : ℕ = left - (12 + length media + length text) in
     each_tied (sizes rest) _ (AreSizes rest) (λ f. joined (sizes_parts b f)) _ (sizes_tie b numbers rest _) (λ f k.
     each_tied (sized (bits 32) (rest - 16)) _ (IsText (rest - 16)) (text_spelling b) _ (texts (rest - 16) _) (λ bytes l kept.
     let z = is_zero (rest - (20 + length bytes)) kept.0 in
-    let lh = h.0 in let li = i.fits in let lj = j.fits in let lk = k.room in let ll = l.fits in (
+    let lh = h.0 in let li = i.fits in let lj = j.fits in let lk = k.room in let ll = l.fits in
+    let p : Picture = record { kind = kind; media = media; text = text; width = f.0; height = f.1; depth = f.2; colours = f.3; bytes = bytes } in (
       record { is = record { kind = h.1; media = i.small; text = j.small; width = k.width; height = k.height; depth = k.depth; colours = k.colours; bytes = l.small }; size = omega arith },
-      ap (λ t. b kind ++ (text_spelling b media ++ (text_spelling b text ++ t))) (joined_append (sizes_parts b f) (text_spelling b bytes ∷ [])),
+      groups b p,
     )))))))
     (λ p v.
     let size = v.size in
     let behind_media : ℕ = left - (8 + length p.media) in
-    let rest : ℕ = behind_media - (4 + length p.text) in
-    let f : ℕ × ℕ × ℕ × ℕ = (p.width, p.height, p.depth, p.colours) in
+    let rest : ℕ = left - (12 + length p.media + length p.text) in
+    let f : ℕ × ℕ × ℕ × ℕ = sizes_of p in
     some_tied (number_32 left) _ (In32 left) b _ p.kind (numbers left _) (omega arith, v.is.kind)
     (some_tied (sized (bits 32) (left - 4)) _ (IsText (left - 4)) (text_spelling b) _ p.media (texts (left - 4) _) (record { fits = omega arith; few = omega arith; small = v.is.media })
     (some_tied (sized (bits 32) behind_media) _ (IsText behind_media) (text_spelling b) _ p.text (texts behind_media _) (record { fits = omega arith; few = omega arith; small = v.is.text })
     (some_tied (sizes rest) _ (AreSizes rest) (λ f. joined (sizes_parts b f)) _ f (sizes_tie b numbers rest _) (record { room = omega arith; width = v.is.width; height = v.is.height; depth = v.is.depth; colours = v.is.colours })
     (some_tied (sized (bits 32) (rest - 16)) _ (IsText (rest - 16)) (text_spelling b) _ p.bytes (texts (rest - 16) _) (record { fits = omega arith; few = omega arith; small = v.is.bytes }) (
       (let z : rest - (20 + length p.bytes) ≡ 0 = omega arith in rw z refl, tt),
-      (ap (λ t. b p.kind ++ (text_spelling b p.media ++ (text_spelling b p.text ++ t))) (joined_append (sizes_parts b f) (text_spelling b p.bytes ∷ [])), refl),
+      (groups b p, refl),
     ))))))
 
 same : (p : Picture) → joined (parts (unsigned 32) p) ≡ s.picture_spelling p

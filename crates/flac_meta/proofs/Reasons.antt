@@ -8,7 +8,7 @@ use Rattle.flac_bits.specs.Meaning.{Spells, Shows, BreaksFirst}
 use Rattle.flac_bits.specs.declared.why.Why.{Why}
 use Rattle.flac_bits.specs.declared.why.Why.TheVariants.{Memory}
 use Rattle.flac_bits.proofs.Meaning.{takes, refuses, past-short}
-use Rattle.flac_meta.specs.Info.{stream_info}
+use Rattle.flac_meta.specs.Info.{info_sizes, info_format, stream_info}
 use Rattle.flac_meta.specs.Header.{block_header}
 use Rattle.flac_meta.specs.Padding.{skipped}
 use Rattle.flac_meta.specs.declared.seen.Seen.{Seen}
@@ -58,9 +58,17 @@ unfolding list_of
 bytes_avoid w zero = tt
 bytes_avoid w (suc n) = (tt, λ x. (bytes_avoid w n, λ xs. tt))
 
+sizes_avoid : Avoids Memory info_sizes
+unfolding info_sizes
+sizes_avoid = (tt, λ a. (tt, λ b. (tt, λ c. (tt, λ d. tt))))
+
+format_avoids : Avoids Memory info_format
+unfolding info_format
+format_avoids = (tt, λ a. (tt, λ b. (tt, λ c. (tt, λ d. tt))))
+
 pub info_avoids : Avoids Memory stream_info
 unfolding stream_info
-info_avoids = (tt, λ a. (tt, λ b. (tt, λ c. (tt, λ d. (tt, λ e. (tt, λ f. (tt, λ g. (tt, λ h. (bytes_avoid Memory 16, λ i. ((λ q. absurd cc, tt), λ j. tt))))))))))
+info_avoids = (sizes_avoid, λ sizes. (format_avoids, λ format. (bytes_avoid Memory 16, λ digest. ((λ q. absurd cc, tt), λ u. tt))))
 
 pub skipped_avoids : (n : ℕ) → Avoids Memory (skipped n)
 unfolding skipped

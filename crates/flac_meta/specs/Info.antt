@@ -36,18 +36,30 @@ pub record KeepsRules (i : Info) : Type 0 where
 abbrev pub is_bad : Info → Bool
 is_bad i = nat_lt i.least_block 16 || nat_lt i.greatest_block i.least_block || nat_eq i.rate 0 || nat_lt i.depth 4
 
--- the fields in their order; channels and depth are stored less one
-unfoldable pub stream_info : Layout Info
-stream_info = do
+-- least and greatest block size, least and greatest frame size
+unfoldable pub info_sizes : Layout (ℕ × ℕ × ℕ × ℕ)
+info_sizes = do
   least_block ← bits 16
   greatest_block ← bits 16
   least_frame ← bits 24
   greatest_frame ← bits 24
+  done (least_block, greatest_block, least_frame, greatest_frame)
+
+-- rate, channels, bits a sample, samples of each channel; channels and bits a sample are stored less one
+unfoldable pub info_format : Layout (ℕ × ℕ × ℕ × ℕ)
+info_format = do
   rate ← bits 20
   channels ← bits 3
   depth ← bits 5
   total ← bits 36
+  done (rate, channels + 1, depth + 1, total)
+
+-- the fields in their order
+unfoldable pub stream_info : Layout Info
+stream_info = do
+  sizes ← info_sizes
+  format ← info_format
   digest ← list_of 16 (bits 8)
-  let info : Info = record { least_block = least_block; greatest_block = greatest_block; least_frame = least_frame; greatest_frame = greatest_frame; rate = rate; channels = channels + 1; depth = depth + 1; total = total; digest = digest }
+  let info : Info = record { least_block = sizes.0; greatest_block = sizes.1; least_frame = sizes.2; greatest_frame = sizes.3; rate = format.0; channels = format.1; depth = format.2; total = format.3; digest = digest }
   _ ← judge (record { broken = is_bad info; why = BadStreamInfo } ∷ [])
   done info

@@ -1,5 +1,5 @@
 -- The picture (RFC 9639, section 8.8).
-use Rattle.std.specs.Prelude.{ℕ, ◌+◌, ◌-◌, length}
+use Rattle.std.specs.Prelude.{ℕ, ◌+◌, ◌-◌, List, length}
 use Rattle.flac_bits.specs.Layout.{Layout, done, ◌>>=◌, bits}
 use Rattle.flac_meta.specs.Fields.{number_32, nothing_left, sized}
 use Rattle.flac_meta.specs.declared.picture.Picture.{Picture}
@@ -13,15 +13,20 @@ sizes left = do
   colours ← number_32 (left - 12)
   done (width, height, depth, colours)
 
--- kind; media type and description, each behind its length; sizes; data behind its length, where the content ends
-unfoldable pub picture : ℕ → Layout Picture
-picture left = do
+-- kind; media type and description, each behind its length
+unfoldable pub picture_front : ℕ → Layout (ℕ × List ℕ × List ℕ)
+picture_front left = do
   kind ← number_32 left
   media ← sized (bits 32) (left - 4)
-  let behind_media : ℕ = left - (8 + length media)
-  text ← sized (bits 32) behind_media
-  let rest : ℕ = behind_media - (4 + length text)
+  text ← sized (bits 32) (left - (8 + length media))
+  done (kind, media, text)
+
+-- kind, media type and description; sizes; data behind its length, where the content ends
+unfoldable pub picture : ℕ → Layout Picture
+picture left = do
+  front ← picture_front left
+  let rest : ℕ = left - (12 + length front.1 + length front.2)
   found ← sizes rest
   bytes ← sized (bits 32) (rest - 16)
   _ ← nothing_left (rest - (20 + length bytes))
-  done (record { kind = kind; media = media; text = text; width = found.0; height = found.1; depth = found.2; colours = found.3; bytes = bytes })
+  done (record { kind = front.0; media = front.1; text = front.2; width = found.0; height = found.1; depth = found.2; colours = found.3; bytes = bytes })

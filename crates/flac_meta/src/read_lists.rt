@@ -4,12 +4,12 @@ ghost use Rattle.std.specs.Prelude.{◌≡◌, OnOk, IfOk, ◌+◌, ◌*◌, ◌
 ghost use Rattle.flac_bits.specs.Reading.{Counts, Reads, ReadsInRoom};
 ghost use Rattle.flac_meta.specs.SeekTable.{follows, seek_point, seek_points};
 ghost use Rattle.flac_meta.specs.Comments.{texts, comments};
-ghost use Rattle.flac_meta.specs.Picture.{picture, sizes};
+ghost use Rattle.flac_meta.specs.Picture.{picture, picture_front, sizes};
 
 use crate::comments::Comments;
 use crate::exact::skip_bytes;
 use crate::fields::{read_little_endian, read_number_32, read_sized, read_sized_little};
-use crate::lists::Texts;
+use crate::lists::{Bytes, Texts};
 use crate::picture::Picture;
 use crate::seek_table::{SeekPoint, SeekTable};
 use flac_bits::{BitReader, Source, Why};
@@ -136,6 +136,25 @@ fn read_sizes<R: Source>(bits: &mut BitReader<R>, left: u32) -> Result<(u32, u32
     Ok((width, height, depth, colours))
 }
 
+/// Kind, media type and description of a picture, in a content of which so many bytes are left.
+#[tactic(auto, unfolding(crate::specs::Picture::picture_front))]
+fn read_picture_front<R: Source>(
+    alloc: Global,
+    bits: &mut BitReader<R>,
+    left: u32,
+) -> Result<(u32, Bytes, Bytes), Why>
+    requires { left < 2 ^ 24 }
+    ensures fits { IfOk result (λ f. 12 + length f.1 + length f.2 ≤ left) }
+    ensures spends { OnOk result (bits.new.most ≤ bits.old.most) }
+    ensures counts { Counts bits.old bits.new result }
+    ensures reads { ReadsInRoom (λ f. f) (picture_front left) bits.old bits.new result }
+{
+    let kind = read_number_32(bits, left)?;
+    let media = read_sized(alloc, bits, left - 4)?;
+    let text = read_sized(alloc, bits, left - (8 + media.len() as u32))?;
+    Ok((kind, media, text))
+}
+
 /// A picture of so many bytes (RFC 9639, section 8.8).
 #[tactic(auto, unfolding(crate::specs::Picture::picture))]
 pub(crate) fn read_picture<R: Source>(
@@ -148,11 +167,8 @@ pub(crate) fn read_picture<R: Source>(
     ensures counts { Counts bits.old bits.new result }
     ensures reads { ReadsInRoom (λ p. p) (picture left) bits.old bits.new result }
 {
-    let kind = read_number_32(bits, left)?;
-    let media = read_sized(alloc, bits, left - 4)?;
-    let behind_media = left - (8 + media.len() as u32);
-    let text = read_sized(alloc, bits, behind_media)?;
-    let rest = behind_media - (4 + text.len() as u32);
+    let (kind, media, text) = read_picture_front(alloc, bits, left)?;
+    let rest = left - (12 + media.len() as u32 + text.len() as u32);
     let (width, height, depth, colours) = read_sizes(bits, rest)?;
     let bytes = read_sized(alloc, bits, rest - 16)?;
     if rest - (20 + bytes.len() as u32) != 0 {

@@ -6,6 +6,7 @@ use Rattle.flac_bits.specs.Lists.{list_of, behind}
 use Rattle.flac_bits.proofs.Lists.{list_more, list_end}
 use Rattle.flac_meta.specs.CueSheet.{cue_index}
 use Rattle.flac_meta.specs.declared.cue_sheet.CueIndex.{CueIndex}
+use Rattle.flac_meta.proofs.Counting.{gone, failed_then}
 use Rattle.flac_meta.proofs.read_cue_sheet.read_indices.Goals as goal
 
 pub returns-in_err-index-clause-reads : goal.returns-in_err-index-clause-reads
@@ -21,3 +22,11 @@ loop-i-preserved g c = grind (arith, list_more)
 
 pub returns-clause-reads : goal.returns-clause-reads
 returns-clause-reads g c = grind (arith, list_end)
+
+pub returns-in_err-index-clause-counts : goal.returns-in_err-index-clause-counts
+returns-in_err-index-clause-counts g c =
+    let p = err_from_is_err_and c.from_residual.result c.from_residual.ensures.1 in
+    rw (p.1, p.2) (failed_then c.args.bits.now c.loop-i.bits c.read_index.new.bits (gone c.loop-i.invariant.2) c.in_err-index.ensures.counts)
+
+pub returns-clause-counts : goal.returns-clause-counts
+returns-clause-counts g c = gone c.loop-i.invariant.2

@@ -6,6 +6,7 @@ use Rattle.flac_bits.specs.Lists.{behind}
 use Rattle.flac_meta.specs.SeekTable.{seek_points}
 use Rattle.flac_meta.specs.declared.seek_table.SeekPoint.{SeekPoint}
 use Rattle.flac_meta.proofs.Turns.{points_more, points_end}
+use Rattle.flac_meta.proofs.Counting.{gone, failed_then}
 use Rattle.flac_meta.proofs.read_lists.read_seek_table.Goals as goal
 
 pub returns-in_err-point-clause-reads : goal.returns-in_err-point-clause-reads
@@ -21,3 +22,11 @@ loop-i-preserved g c = grind (arith, points_more)
 
 pub returns-clause-reads : goal.returns-clause-reads
 returns-clause-reads g c = grind (arith, points_end)
+
+pub returns-in_err-point-clause-counts : goal.returns-in_err-point-clause-counts
+returns-in_err-point-clause-counts g c =
+    let p = err_from_is_err_and c.from_residual.result c.from_residual.ensures.1 in
+    rw (p.1, p.2) (failed_then c.args.bits.now c.loop-i.bits c.read_point.new.bits (gone c.loop-i.invariant.1) c.in_err-point.ensures.counts)
+
+pub returns-clause-counts : goal.returns-clause-counts
+returns-clause-counts g c = gone c.loop-i.invariant.1

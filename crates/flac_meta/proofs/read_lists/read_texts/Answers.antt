@@ -3,8 +3,11 @@ use Rattle.std.proofs.lemmas.Result.{err_from_is_err_and}
 use Rattle.flac_bits.specs.State.{Cursor}
 use Rattle.flac_bits.specs.Layout.{run, and_then}
 use Rattle.flac_bits.specs.Lists.{behind}
+use Rattle.flac_bits.proofs.Loops.{goes_on}
 use Rattle.flac_meta.specs.Comments.{texts}
+use Rattle.flac_meta.specs.Fields.{little_endian, sized}
 use Rattle.flac_meta.proofs.Turns.{texts_more}
+use Rattle.flac_meta.proofs.Counting.{gone, failed_then}
 use Rattle.flac_meta.proofs.read_lists.read_texts.Goals as goal
 
 pub returns-in_err-text-clause-reads : goal.returns-in_err-text-clause-reads
@@ -16,4 +19,19 @@ returns-in_err-text-clause-reads g c = λ room known same.
     ∙ ap (λ r. and_then r more) (c.in_err-text.ensures.reads (λ q. room cc) (now.known known) (same ∙ sym now.errors)))
 
 pub loop-i-preserved : goal.loop-i-preserved
-loop-i-preserved g c = grind (arith, texts_more)
+loop-i-preserved g c =
+    let more : List ℕ → Cursor → _ = λ x d. and_then (run (texts (c.args.count - (c.loop-i.i + 1)) (c.loop-i.left - (4 + length x))) d) (behind (c.loop-i.list.items ++ x ∷ [])) in (
+      omega arith,
+      omega (arith, c.in_ok-text.ensures.spends),
+      goes_on c.args.bits.now c.loop-i.bits c.read_sized_little.new.bits (run (sized little_endian c.loop-i.left) c.loop-i.bits.cursor) c.in_ok-text.text more _ _ _
+          c.loop-i.invariant.2 (texts_more c.args.count c.loop-i.i c.loop-i.left c.loop-i.bits.cursor c.loop-i.list.items c.loop-i-test.true) (grind arith)
+          c.in_ok-text.ensures.counts (c.in_ok-text.ensures.reads (λ q. absurd cc)),
+    )
+
+pub returns-in_err-text-clause-counts : goal.returns-in_err-text-clause-counts
+returns-in_err-text-clause-counts g c =
+    let p = err_from_is_err_and c.from_residual.result c.from_residual.ensures.1 in
+    rw (p.1, p.2) (failed_then c.args.bits.now c.loop-i.bits c.read_sized_little.new.bits (gone c.loop-i.invariant.2) c.in_err-text.ensures.counts)
+
+pub returns-clause-counts : goal.returns-clause-counts
+returns-clause-counts g c = gone c.loop-i.invariant.2

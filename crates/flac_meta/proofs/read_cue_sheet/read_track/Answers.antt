@@ -1,0 +1,16 @@
+use Rattle.std.proofs.lemmas.Result.{err_from_is_err_and}
+use Rattle.flac_meta.proofs.Counting.{answered_then, failed_then}
+use Rattle.flac_meta.proofs.read_cue_sheet.read_track.Goals as goal
+
+pub returns-in_err-count-clause-counts : goal.returns-in_err-count-clause-counts
+returns-in_err-count-clause-counts g c =
+    let p = err_from_is_err_and c.from_residual-in_err-count.result c.from_residual-in_err-count.ensures.1 in
+    rw (p.1, p.2) (failed_then c.args.bits.now c.read_track_front.new.bits c.read_count.new.bits c.in_ok-offset.ensures.counts c.in_err-count.ensures.counts)
+
+pub returns-in_err-indices-clause-counts : goal.returns-in_err-indices-clause-counts
+returns-in_err-indices-clause-counts g c =
+    let p = err_from_is_err_and c.from_residual-in_err-indices.result c.from_residual-in_err-indices.ensures.1 in
+    rw (p.1, p.2) (failed_then c.args.bits.now c.read_track_front.new.bits c.read_indices.new.bits c.in_ok-offset.ensures.counts (failed_then c.read_track_front.new.bits c.read_count.new.bits c.read_indices.new.bits c.in_ok-count.ensures.counts c.in_err-indices.ensures.counts))
+
+pub returns-clause-counts : goal.returns-clause-counts
+returns-clause-counts g c = answered_then c.args.bits.now c.read_track_front.new.bits c.read_indices.new.bits c.in_ok-offset.ensures.counts (answered_then c.read_track_front.new.bits c.read_count.new.bits c.read_indices.new.bits c.in_ok-count.ensures.counts c.in_ok-indices.ensures.counts)
