@@ -17,7 +17,7 @@ import tempfile
 import measure
 
 # the program itself, without the script that builds it
-PROGRAM = os.path.abspath(os.environ.get("FLAC") or os.path.join(os.path.dirname(measure.HERE), "crates", "flac_cli", "out", "flac_cli"))
+PROGRAM = os.path.abspath(os.environ.get("FLAC") or os.path.join(os.path.dirname(measure.HERE), "crates", "flac", "out", "flac"))
 # the functions of the compiled program that each part became; what is written inside of another counts as its part
 PARTS = {
     "residual values": r"Held::values|rice|residual",

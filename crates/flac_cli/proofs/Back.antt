@@ -2,11 +2,13 @@
 use Rattle.std.proofs.Common.{◌≡◌, ◌≤◌, ◌<◌, ◌+◌, ◌*◌, ◌-◌, ◌/◌, ℕ, zero, suc, ℤ, pos, List, [], ◌∷◌, ◌++◌, drop, map, min, get_or, None, refl, ap, sym, ◌∙◌, arith}
 use Rattle.std.proofs.lemmas.List.{get_or-take, get_or-drop}
 use Rattle.std.proofs.Math.Nat.{div-add-mod, mod-lt}
+use Rattle.flac_meta.specs.declared.seek_table.SeekPoint.{SeekPoint}
 use Rattle.flac_frame.specs.Audio.{Sound, samples_each}
 use Rattle.flac_frame.specs.Encoding.{block_of}
 use Rattle.flac_native.specs.Message.{sample_width, sample_bytes, row_bytes, rows_bytes}
-use Rattle.flac_native.specs.Stream.{framed}
+use Rattle.flac_native.specs.Stream.{Piece, framed}
 use Rattle.flac_native.specs.Given.{cut_of, plan_fault, sound_message, size_of, frames_from, blocks_in, given}
+use Rattle.flac_native.specs.Seeking.{table_of}
 use Rattle.flac_native.proofs.Messages.{rows_split}
 use Rattle.flac_native.proofs.Planned.{planned}
 use Rattle.flac_cli.specs.Encoded.{comment_list}
@@ -69,14 +71,22 @@ all_held block total some =
     omega (arith, parts, small)
 
 -- all of them are the samples of the plan
-pub given_back : (block : ℕ) (a : Sound) (words : List (List ℕ)) (least greatest : ℕ) → plan_fault (cut_of block a) ≡ None
-    → all_samples 0 (given (cut_of block a) (comment_list words) a least greatest) ≡ sound_message a
+pub given_back : (block every : ℕ) (a : Sound) (words : List (List ℕ)) (points : List SeekPoint) (least greatest : ℕ) → plan_fault (cut_of block a every) ≡ None
+    → all_samples 0 (given (cut_of block a every) (comment_list words ++ table_of points) a least greatest) ≡ sound_message a
 unfolding sound_message
-given_back block a words least greatest good =
-    let p = planned (cut_of block a) good in
+given_back block every a words points least greatest good =
+    let p = planned (cut_of block a every) good in
     let total = samples_each a.channels in
     let n = blocks_in block total in
     let held = all_held block total (omega (arith, p.least)) in
     let all : min (block * n) (total - block * 0) ≡ total = omega (arith, held) in
     let none : block * 0 ≡ 0 = omega arith in
-    frames_back block a n 0 ∙ (ap (λ k. rows_bytes (sample_width a.bits) a.channels k (block * 0)) all ∙ ap (λ j. rows_bytes (sample_width a.bits) a.channels total j) none)
+    go points (frames_back block a n 0 ∙ (ap (λ k. rows_bytes (sample_width a.bits) a.channels k (block * 0)) all ∙ ap (λ j. rows_bytes (sample_width a.bits) a.channels total j) none))
+  where
+    frames : List Piece
+    frames = map framed (frames_from block a (blocks_in block (samples_each a.channels)) 0)
+
+    go : (points : List SeekPoint) → all_samples a.bits frames ≡ rows_bytes (sample_width a.bits) a.channels (samples_each a.channels) 0
+        → all_samples 0 (given (cut_of block a every) (comment_list words ++ table_of points) a least greatest) ≡ rows_bytes (sample_width a.bits) a.channels (samples_each a.channels) 0
+    go [] e = e
+    go (x ∷ xs) e = e

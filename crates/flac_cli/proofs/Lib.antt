@@ -1,4 +1,5 @@
 pub mod Back
+pub mod Fronts
 pub mod Outcomes
 pub mod Rows
 pub mod Sent

@@ -12,3 +12,8 @@ at_ok (Err e) h = tt
 -- A count that stands at 0 can rise.
 pub counts_on : (n : ℕ) → n ≡ 0 → nat_lt n 18446744073709551615 ≡ true
 counts_on n is = rw is refl
+
+-- What holds at Ok is told of another thing.
+pub then_ok : {A E X Y : Type 0} (r : Result A E) → OnOk r X → (X → Y) → OnOk r Y
+then_ok (Ok a) x f = f x
+then_ok (Err e) x f = tt

@@ -1,10 +1,11 @@
 -- What an encoding of raw samples has written.
-use Rattle.std.specs.Prelude.{◌≡◌, ℕ, Bool, List, [], ◌∷◌, map, codes}
+use Rattle.std.specs.Prelude.{◌≡◌, ℕ, Bool, List, [], ◌∷◌, ◌++◌, map, codes}
 use Rattle.flac_meta.specs.declared.comments.Comments.{Comments}
 use Rattle.flac_meta.specs.declared.block.Block.{Block}
 use Rattle.flac_meta.specs.declared.block.Block.TheVariants.{VorbisComment}
 use Rattle.flac_frame.specs.Audio.{Sound}
 use Rattle.flac_native.specs.Given.{cut_of, given}
+use Rattle.flac_native.specs.Seeking.{points_of, table_of}
 use Rattle.flac_native.specs.Writing.{Encodes}
 use Rattle.flac_cli.specs.Raw.{IsRaw}
 use Rattle.flac_cli.specs.Samples.{all_samples}
@@ -21,12 +22,13 @@ abbrev pub comment_list : List (List ℕ) → List Block
 comment_list words = VorbisComment (comments_of words) ∷ []
 
 -- Behind the bits that were there, a stream was written: of the samples that these bytes are, in blocks of the format's size,
--- with these words as comments. The samples of its frames are these bytes again, so decoding it gives them back.
+-- with these words as comments, and behind them the seek table that the format asks for. The samples of its frames are these bytes again, so decoding it
+-- gives them back.
 pub record EncodesRaw (format : Format) (words : List (List ℕ)) (bytes : List ℕ) (before after : List Bool) : Type 0 where
   pub audio : Sound
   pub raw : IsRaw format bytes audio
-  pub encodes : Encodes (cut_of format.block audio) (comment_list words) audio before after
-  pub back : all_samples 0 (given (cut_of format.block audio) (comment_list words) audio encodes.least encodes.greatest) ≡ bytes
+  pub encodes : Encodes (cut_of format.block audio format.seek_every) (comment_list words) audio before after
+  pub back : all_samples 0 (given (cut_of format.block audio format.seek_every) (comment_list words ++ table_of (points_of (cut_of format.block audio format.seek_every) encodes.frames)) audio encodes.least encodes.greatest) ≡ bytes
 
 -- so it is where the job is an encoding
 abbrev pub HasEncoded : Job → (bytes : List ℕ) → (before after : List Bool) → Type 0

@@ -1,5 +1,6 @@
 pub mod Asks
 pub mod Encoded
+pub mod Fronts
 pub mod Raw
 pub mod Retagged
 pub mod Samples

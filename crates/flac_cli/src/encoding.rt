@@ -17,13 +17,15 @@ use std::fmt;
 /// The program's name in the streams that it writes.
 const VENDOR: &[u8] = b"flac profile 1";
 
-/// What raw samples are, and how they are cut: samples a second, channels, bits of a sample, and samples of a block.
+/// What raw samples are, and how they are cut: samples a second, channels, bits of a sample, samples of a block, and samples from one seek point to the
+/// next, 0 for none.
 #[derive(Clone, Copy, Debug, PartialEq, Eq)]
 pub struct Format {
     pub rate: u32,
     pub channels: u32,
     pub bits: u32,
     pub block: u32,
+    pub seek_every: u32,
 }
 
 /// Why raw samples are not encoded.
@@ -149,7 +151,7 @@ pub(crate) fn encode_raw<R: Source, W: Target>(
         EncodesRaw format (map (λ word. word.now) comments.now) (R.coming source.old) (bits_of (W.sent target.old)) (bits_of (W.sent target.new))) }
 {
     let audio = audio_of(alloc, source, format)?;
-    let plan = Plan::new(format.block, &audio)?;
+    let plan = Plan::new(format.block, &audio, format.seek_every)?;
     let _size = plan.block_size();
     let list = comment_list(alloc, comments)?;
     encode(alloc, &plan, &list, &audio, target)?;

@@ -10,6 +10,7 @@ ghost use Rattle.flac_cli.specs.Retagged.{HasRetagged};
 ghost use Rattle.flac_bits.specs.Bits.{bits_of};
 
 use crate::counts::Counts;
+use crate::decoding::decode_stream;
 use crate::encoding::{Refusal, encode_raw};
 use crate::jobs::Job;
 use crate::lines::{Lines, tell_fault, tell_reason, tell_refusal};
@@ -17,7 +18,7 @@ use crate::listing::Listing;
 use crate::retagging::retag_with;
 use crate::samples::SampleWriter;
 use flac_bits::{Source, Target, Why};
-use flac_native::{EncodeFault, Fault, Profile, RetagFault, decode};
+use flac_native::{EncodeFault, Fault, RetagFault};
 use std::alloc::Global;
 use std::fmt::Write;
 
@@ -32,7 +33,7 @@ fn decode_into<R: Source, W: Target>(
     ensures written { Tells R.Source source.old source.new → W.known sink.old.target ≡ true → OnOk result ((parts : List Piece) × IsStream parts (R.coming source.old) (R.behind source.old) × (W.sent sink.new.target ≡ W.sent sink.old.target ++ all_samples sink.old.depth parts)) }
     ensures names { W.names sink.new.target ≡ W.names sink.old.target }
 {
-    decode(alloc, source, Profile::Subset, sink)
+    decode_stream(alloc, source, sink)
 }
 
 /// Decodes a stream, and writes its samples.
@@ -56,7 +57,7 @@ fn count<R: Source>(alloc: Global, source: &mut R) -> Result<Counts, Fault>
         frames: 0,
         samples: 0,
     };
-    decode(alloc, source, Profile::Subset, &mut counts)?;
+    decode_stream(alloc, source, &mut counts)?;
     Ok(counts)
 }
 
@@ -65,7 +66,7 @@ fn list<R: Source, O: Target>(alloc: Global, source: &mut R, out: &mut O) -> Res
     ensures { Tells R.Source source.old source.new → OnOk result ((parts : List Piece) × IsStream parts (R.coming source.old) (R.behind source.old)) }
 {
     let mut listing = Listing::new(out);
-    decode(alloc, source, Profile::Subset, &mut listing)
+    decode_stream(alloc, source, &mut listing)
 }
 
 /// Writes the line of counts.

@@ -40,8 +40,9 @@ const ENCODE_EXAMPLE: &str =
     "Example, of raw samples of 44100 Hz with two channels of 16 bits, interleaved, little-endian:
   $ flac encode song.raw song.flac --rate 44100 --channels 2 --bits 16 TITLE=Song
 
-A sample has whole bytes: of 12 bits two, of 20 bits three. What was written before a fault
-stays in OUT.";
+A sample has whole bytes: of 12 bits two, of 20 bits three. With --seek-every 441000 a seek
+table has a point for each frame that holds the begin of ten seconds. What was written before
+a fault stays in OUT.";
 
 const RETAG_EXAMPLE: &str = "Example:
   $ flac retag song.flac other.flac TITLE=Song ARTIST=Someone
@@ -153,6 +154,7 @@ fn format_of(given: &ArgMatches<'_>) -> Option<Format> {
         channels: given.get_one("channels")?,
         bits: given.get_one("bits")?,
         block: given.get_one("block")?,
+        seek_every: given.get_one("seek-every")?,
     })
 }
 
@@ -231,6 +233,11 @@ fn encode_command<'a>(alloc: Global) -> Result<Command<'a>, AllocError> {
         .arg(
             number(alloc, "block").default_value("4096").help(
                 "Samples of a block, 16 to 16384; to 4608 at rates up to 48000",
+            ),
+        )?
+        .arg(
+            number(alloc, "seek-every").default_value("0").help(
+                "Samples from one point of a seek table to the next; 0: no table",
             ),
         )
 }

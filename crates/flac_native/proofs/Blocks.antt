@@ -73,7 +73,7 @@ content_long (block_of.CueSheet found) text is = subst Whole (sym is) (content_w
 content_long (block_of.Picture found) text is = subst Whole (sym is) (content_whole (block_of.Picture found))
 content_long (block_of.Other kind bytes) text is = subst Whole (sym is) (content_whole (block_of.Other kind bytes))
 
-block_long : (last : Bool) (b : Block) (text : List Bool) → BlockSpelled last b text → Whole text
+pub block_long : (last : Bool) (b : Block) (text : List Bool) → BlockSpelled last b text → Whole text
 block_long last b text (content, spelled, is) =
     let whole = content_long b content spelled in
     record { bytes = omega (arith, ap (λ (k : List Bool). length k) is, length-joined (s.header_spelling last (s.kind_of b) (s.length_of b) ∷ content ∷ []), header_long last (s.kind_of b) (s.length_of b), whole.bytes) }

@@ -1,5 +1,7 @@
 -- Blocks that are written one after another.
-use Rattle.std.proofs.Common.{◌≡◌, ℕ, zero, suc, ◌+◌, ◌<◌, ◌≤◌, Bool, true, false, cond, nat_eq, List, [], ◌∷◌, ◌++◌, length, drop, get_or, Option, Some, None, refl, sym, ap, ◌∙◌, arith}
+use Rattle.std.proofs.Common.{◌≡◌, ℕ, zero, suc, ◌+◌, ◌<◌, Bool, true, false, cond, nat_eq, List, [], ◌∷◌, ◌++◌, length, length-append, drop, get_or, Option, Some, None, Result, refl, sym, ap, subst, ◌∙◌, arith}
+use Rattle.std.proofs.lemmas.List.{append-nil}
+use Rattle.std.proofs.Math.ListN.{get_or-append}
 use Rattle.std.proofs.lemmas.Bool.Decides.{nat_tests}
 use Rattle.flac_bits.specs.Bits.{is_nil}
 use Rattle.flac_bits.specs.declared.why.Why.{Why}
@@ -8,6 +10,11 @@ use Rattle.flac_meta.specs.Listed.{came, block_fault, fault_behind, or_else, lis
 use Rattle.flac_meta.specs.Spelling.{block_spelling}
 use Rattle.flac_meta.specs.declared.seen.Seen.{Seen}
 use Rattle.flac_meta.specs.declared.block.Block.{Block}
+use Rattle.flac_meta.specs.declared.seek_table.SeekPoint.{SeekPoint}
+use Rattle.flac_meta.specs.declared.block.Block.TheVariants as block_of
+use Rattle.flac_bits.specs.Written.{Written, Adds, Writes}
+use Rattle.flac_bits.proofs.Writing.{towards_start, towards_end}
+use Rattle.flac_native.specs.Seeking.{table_of}
 use Rattle.flac_native.specs.Writing.{blocks_spelling}
 
 is_last : (bs : List Block) → is_nil bs ≡ nat_eq 1 (suc (length bs))
@@ -24,12 +31,6 @@ blocks_step (x ∷ xs) zero b lt is = ap (λ l. block_spelling l x ++ blocks_spe
 blocks_step (x ∷ xs) (suc i) b lt is =
     let e : suc i + 1 ≡ suc (i + 1) = omega arith in
     blocks_step xs i b (omega (arith, lt)) is ∙ ap (λ l. block_spelling l b ++ blocks_spelling (drop (i + 1) xs)) (shifted i (length xs)) ∙ ap (λ n. block_spelling (nat_eq (suc i + 1) (suc (length xs))) b ++ blocks_spelling (drop n (x ∷ xs))) (sym e)
-
-pub blocks_over : (bs : List Block) (i : ℕ) → length bs ≤ i → blocks_spelling (drop i bs) ≡ []
-blocks_over [] zero h = refl
-blocks_over [] (suc i) h = refl
-blocks_over (x ∷ xs) zero h = absurd (omega (arith, h))
-blocks_over (x ∷ xs) (suc i) h = blocks_over xs i (omega (arith, h))
 
 first_none : {A : Type 0} (b : Bool) (x : A) (rest : Option A) → cond b (Some x) rest ≡ None → rest ≡ None
 first_none true x rest e = absurd cc
@@ -52,3 +53,29 @@ nil_is (b ∷ bs) = let e : nat_eq (suc (length bs)) 0 ≡ false = grind (arith,
 -- the first block
 pub first_step : (b : Block) (bs : List Block) → blocks_spelling (b ∷ bs) ≡ block_spelling (nat_eq (length bs) 0) b ++ blocks_spelling bs
 first_step b bs = ap (λ l. block_spelling l b ++ blocks_spelling bs) (nil_is bs)
+
+-- ---- with the table of points
+
+pub without_points : (bs : List Block) (points : List SeekPoint) → nat_eq (length points) 0 ≡ true → length (bs ++ table_of points) ≡ length bs
+without_points bs [] e = ap (λ (l : List Block). length l) (append-nil bs)
+without_points bs (x ∷ xs) e = let z : length (x ∷ xs) ≡ 0 = grind (arith, nat_tests) in absurd (omega (arith, z))
+
+pub with_points : (bs : List Block) (points : List SeekPoint) → nat_eq (length points) 0 ≡ false → length (bs ++ table_of points) ≡ length bs + 1
+with_points bs [] e = absurd cc
+with_points bs (x ∷ xs) e = length-append bs (block_of.SeekTable (x ∷ xs) ∷ [])
+
+pub none_written : (points : List SeekPoint) (w : Written) → nat_eq (length points) 0 ≡ true → Adds (blocks_spelling (table_of points)) w w
+none_written [] w e = towards_end refl (towards_start [] w)
+none_written (x ∷ xs) w e = let z : length (x ∷ xs) ≡ 0 = grind (arith, nat_tests) in absurd (omega (arith, z))
+
+pub table_written : {X : Type 0} (points : List SeekPoint) (old new : Written) (r : Result X Why) → nat_eq (length points) 0 ≡ false → Writes (block_spelling true (block_of.SeekTable points)) old new r
+    → Writes (blocks_spelling (table_of points)) old new r
+table_written [] old new r e w = absurd cc
+table_written (x ∷ xs) old new r e w = subst (λ t. Writes t old new r) (sym (append-nil (block_spelling true (block_of.SeekTable (x ∷ xs))))) w
+
+pub behind_all : (bs more : List Block) (i : ℕ) → i ≡ length bs → drop i (bs ++ more) ≡ more
+behind_all [] more i e = ap (λ n. drop n more) e
+behind_all (x ∷ xs) more i e = ap (λ n. drop n (x ∷ xs ++ more)) e ∙ behind_all xs more (length xs) refl
+
+pub before_table : (bs more : List Block) (i : ℕ) (b : Block) → i < length bs → b ≡ get_or bs i b → (i < length (bs ++ more)) × (b ≡ get_or (bs ++ more) i b)
+before_table bs more i b lt is = (omega (arith, lt, length-append bs more), is ∙ sym (get_or-append bs more b i lt))

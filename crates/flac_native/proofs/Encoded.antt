@@ -1,31 +1,29 @@
 -- What is written is a stream of what was given.
-use Rattle.std.proofs.Common.{◌≡◌, ℕ, zero, suc, ◌+◌, ◌-◌, ◌*◌, ◌%◌, ◌^◌, ◌<◌, ◌≤◌, min, ℤ, pos, Bool, true, false, not, ◌&&◌, ◌||◌, nat_eq, nat_lt, List, [], ◌∷◌, ◌++◌, length, map, take, drop, Option, Some, None, ◌⊎◌, inl, inr, refl, sym, ap, subst, ◌∙◌, arith}
+use Rattle.std.proofs.Common.{◌≡◌, ℕ, zero, suc, ◌+◌, ◌-◌, ◌*◌, ◌%◌, ◌^◌, ◌<◌, ◌≤◌, min, ℤ, pos, Bool, false, List, [], ◌∷◌, ◌++◌, length, map, take, drop, Option, Some, refl, sym, ap, subst, ◌∙◌, arith}
 use Rattle.std.specs.Prelude.{slice_index_or}
-use Rattle.std.proofs.lemmas.Bool.Decides.{nat_tests}
-use Rattle.std.proofs.lemmas.List.{append-nil, length-map, get_or-take, get_or-drop}
+use Rattle.std.proofs.lemmas.List.{get_or-take, get_or-drop}
 use Rattle.std.proofs.Math.Nat.{div-add-mod, mul-le-mul_left, mul-suc}
 use Rattle.flac_bits.specs.State.{Mark, past, fresh}
 use Rattle.flac_bits.specs.Forms.{joined}
-use Rattle.flac_bits.specs.Meaning.{Spells, AllKept}
+use Rattle.flac_bits.specs.Meaning.{Spells}
 use Rattle.flac_bits.specs.Fence.{InRoom}
 use Rattle.flac_bits.specs.Items.{Joined, after}
-use Rattle.flac_bits.proofs.ItemSpellings.{fresh_unread, fresh_check8, fresh_check16, behind_whole}
-use Rattle.flac_meta.specs.Info.{Info, KeepsRules}
+use Rattle.flac_bits.proofs.ItemSpellings.{fresh_unread, behind_whole}
+use Rattle.flac_meta.specs.Info.{Info}
 use Rattle.flac_meta.specs.declared.seen.Seen.{Seen}
-use Rattle.flac_header.specs.Header.{Header, channels_of, depth_of, greatest_block}
 use Rattle.flac_frame.specs.Audio.{Sound, samples_each}
-use Rattle.flac_frame.specs.Frame.{Frame, frame, header_rules, left_by, breaks_sequence, breaks_size}
+use Rattle.flac_frame.specs.Frame.{left_by}
 use Rattle.flac_frame.specs.declared.before.Before.{Before}
 use Rattle.flac_frame.specs.Encoding.{block_of}
-use Rattle.flac_frame.proofs.Encodings.{encodings_are_frames}
-use Rattle.flac_frame.proofs.FrameTie.{frames_spelled, frames_bytes}
+use Rattle.flac_frame.proofs.FrameTie.{frames_bytes}
 use Rattle.flac_native.specs.Message.{sample_width, sample_bytes, row_bytes, rows_bytes}
-use Rattle.flac_native.specs.Stream.{Piece, framed, Progress, grammar, layout, frame_behind, next, raised, room_in}
+use Rattle.flac_native.specs.Stream.{Piece, framed, Progress, grammar, layout, next, raised, room_in}
 use Rattle.flac_native.specs.declared.phase.Phase.TheVariants.{Frames}
 use Rattle.flac_native.specs.Given.{Cut, blocks_in, info_of, sound_message, size_of, frame_of, frames_from}
 use Rattle.flac_native.specs.Writing.{SpellsFrame}
 use Rattle.flac_native.proofs.Messages.{rows_split}
 use Rattle.flac_native.proofs.Planned.{Planned, Fit, keeps_rules}
+use Rattle.flac_native.proofs.EachFrame.{Suits, Left, left_on, frame_here, at_frame, as_piece}
 
 -- ---- items one after another, and where they end
 
@@ -81,33 +79,6 @@ all_parts b total some =
     let small : (total + (b - 1)) % b < b = omega (arith, some) in
     covered b total _ (blocks_in b total) some (div-add-mod (total + (b - 1)) b) small
 
--- ---- the rules of a header
-
-same_three : (a b c d e f : ℕ) → a ≡ b → c ≡ d → e ≡ f → not (nat_eq a b && nat_eq c d && nat_eq e f) ≡ false
-same_three a b c d e f p q r = grind (arith, nat_tests)
-
-same_number : (a b : ℕ) → a ≡ b → not (nat_eq a b) ≡ false
-same_number a b e = grind (arith, nat_tests)
-
-small_first : (b size : ℕ) → size ≤ b → nat_lt b size ≡ false
-small_first b size h = grind (arith, nat_tests)
-
-small_later : (v : Bool) (b size : ℕ) → size ≤ b → (nat_lt b size || nat_lt b b || (not v && (not (nat_eq b b) || nat_lt b size))) ≡ false
-small_later true b size h = grind (arith, nat_tests)
-small_later false b size h = grind (arith, nat_tests)
-
--- what full blocks leave
-abbrev pub full_before : ℕ → ℕ → Before
-full_before b number = record { first_size = b; variable = false; next = number; size = b }
-
-follows_on : (b number : ℕ) (before : Option Before) (h : Header) → h.variable ≡ false → h.number ≡ number → (before ≡ None) ⊎ (before ≡ Some (full_before b number)) → breaks_sequence before h ≡ false
-follows_on b number before h v n (inl e) = rw e refl
-follows_on b number before h v n (inr e) = rw (e, v) (same_number h.number number n)
-
-sized : (info : Info) (b number : ℕ) (before : Option Before) (h : Header) → info.least_block ≡ b → info.greatest_block ≡ b → h.size ≤ b → (before ≡ None) ⊎ (before ≡ Some (full_before b number)) → breaks_size info before h ≡ false
-sized info b number before h l g s (inl e) = rw (e, g) (small_first b h.size s)
-sized info b number before h l g s (inr e) = rw (e, g, l) (small_later h.variable b h.size s)
-
 -- ---- frames
 
 module _ (p : Cut) (a : Sound) (least greatest : ℕ) (q : Planned p) (f : Fit p a) (small : least < 2 ^ 24) (few : greatest < 2 ^ 24) where
@@ -120,61 +91,16 @@ module _ (p : Cut) (a : Sound) (least greatest : ℕ) (q : Planned p) (f : Fit p
   abbrev pub total : ℕ
   total = samples_each a.channels
 
-  rules : KeepsRules info
-  rules = keeps_rules p a least greatest q f small few
-
-  -- what the blocks before one leave
-  abbrev pub Left : ℕ → Option Before → Type 0
-  Left number before = b * number < total → (before ≡ None) ⊎ (before ≡ Some (full_before b number))
-
-  left_on : (number : ℕ) (before : Option Before) → (before ≡ None) ⊎ (before ≡ Some (full_before b number)) → Left (number + 1) (Some (left_by before false number (size_of b total number)))
-  left_on number before was more =
-      let up : b * (number + 1) ≡ b * number + b = omega (arith, mul-suc b number) in
-      let full : size_of b total number ≡ b = omega (arith, up, more) in
-      inr (go before was full)
-    where
-      go : (before : Option Before) → (before ≡ None) ⊎ (before ≡ Some (full_before b number)) → size_of b total number ≡ b → Some (left_by before false number (size_of b total number)) ≡ Some (full_before b (number + 1))
-      go None w full = rw full refl
-      go (Some k) (inl e) full = absurd cc
-      go (Some k) (inr e) full = let is : k ≡ full_before b number = cc in rw (full, is) refl
-
-  frame_here : (number : ℕ) (before : Option Before) (m : Mark) (t : List Bool) → m.unread ≡ 0 → (before ≡ None) ⊎ (before ≡ Some (full_before b number)) → SpellsFrame a (frame_of b a number) t
-      → Spells (frame info before) (fresh m) t (frame_of b a number)
-  frame_here number before m t z left s =
-      let h = s.form.header in
-      let size = size_of b total number in
-      let x = frame_of b a number in
-      let r = encodings_are_frames a size number x.channels s.form info refl refl (sym (length-map a.channels (λ c. take size (drop (b * number) c)))) s.encoding in
-      let in_rate : size ≤ greatest_block a.rate = subst (λ r. size ≤ greatest_block r) f.rate (omega (arith, q.greatest)) in
-      let at_most : h.size ≤ b = omega (arith, r.sized) in
-      let follows : AllKept (header_rules info before h) = (
-        ap not (r.allowed in_rate),
-        (same_three h.rate a.rate (channels_of h.channel_code) (length a.channels) (depth_of h.depth_code) a.bits r.format.rate r.format.channels r.format.depth, (follows_on b number before h r.fixed r.numbered left, (sized info b number before h refl refl at_most left, tt))),
-      ) in
-      let k = r.frame before follows in
-      (frames_spelled info before (fresh m) t x rules (fresh_unread m z) (fresh_check8 m z) (fresh_check16 m z)).1 (record {
-        form = s.form;
-        valid = k.0;
-        spelling = s.spelling;
-        frame = rw (r.fixed, r.numbered, r.sized) refl;
-        samples = k.1;
-      })
-
-  abbrev pub at_frame : ℕ → Seen → Option Before → ℕ → List ℕ → Progress
-  at_frame index seen before samples message = record { stand = record { phase = Frames; index = index; seen = seen; info = Some info; before = before }; samples = samples; message = message }
+  pub suits : Suits p a info
+  suits = record { least_block = refl; greatest_block = refl; rate = refl; channels = refl; depth = refl; rules = keeps_rules p a least greatest q f small few }
 
   abbrev pub width : ℕ
   width = sample_width a.bits
 
-  as_piece : (index samples : ℕ) (seen : Seen) (before : Option Before) (message : List ℕ) (m : Mark) (t : List Bool) (x : Frame) → Spells (frame info before) m t x
-      → Spells (layout (at_frame index seen before samples message).stand) m t (framed x)
-  unfolding layout frame_behind
-  as_piece index samples seen before message m t x s = (x, t, [], sym (append-nil t), s, (refl, refl))
-
   pub frames_run : (texts : List (List Bool)) (number index samples : ℕ) (seen : Seen) (before : Option Before) (message : List ℕ) (m : Mark) → m.unread ≡ 0
-      → number + length texts ≡ blocks_in b total → Left number before → samples ≡ min total (b * number) → message ≡ rows_bytes width a.channels (min total (b * number)) 0
+      → number + length texts ≡ blocks_in b total → Left p a info q f suits number before → samples ≡ min total (b * number) → message ≡ rows_bytes width a.channels (min total (b * number)) 0
       → ((j : ℕ) → j < length texts → SpellsFrame a (frame_of b a (number + j)) (slice_index_or texts j []))
-      → Runs info (sound_message a) (at_frame index seen before samples message) m (map framed (frames_from b a (length texts) number)) (joined texts)
+      → Runs info (sound_message a) (at_frame p a info q f suits index seen before samples message) m (map framed (frames_from b a (length texts) number)) (joined texts)
   unfolding sound_message
   frames_run [] number index samples seen before message m z many left counted told each =
       let over : b * number ≡ b * blocks_in b total = ap (λ n. b * n) (omega (arith, many)) in
@@ -196,9 +122,9 @@ module _ (p : Cut) (a : Sound) (least greatest : ℕ) (q : Planned p) (f : Fit p
       let told_then : message ++ rows_bytes width (block_of (b * number) size a.channels) size 0 ≡ rows_bytes width a.channels (min total (b * (number + 1))) 0 =
       ap (λ k. k ++ rows_bytes width (block_of (b * number) size a.channels) size 0) (told ∙ ap (λ n. rows_bytes width a.channels n 0) so_far)
       ∙ ap (λ r. rows_bytes width a.channels (b * number) 0 ++ r) here_rows ∙ sym split ∙ ap (λ n. rows_bytes width a.channels n 0) (sym then_far) in
-      one_more info (sound_message a) (at_frame index seen before samples message) m (framed (frame_of b a number)) (map framed (frames_from b a (length ts) (number + 1))) t (joined ts)
-      (as_piece index samples seen before message (fresh m) t (frame_of b a number) (frame_here number before m t z was here))
+      one_more info (sound_message a) (at_frame p a info q f suits index seen before samples message) m (framed (frame_of b a number)) (map framed (frames_from b a (length ts) (number + 1))) t (joined ts)
+      (as_piece p a info q f suits index samples seen before message (fresh m) t (frame_of b a number) (frame_here p a info q f suits number before m t z was here))
       (omega (arith, fresh_unread m z, here.short))
       (frames_run ts (number + 1) (raised index) (samples + size) seen (Some (left_by before false number size)) (message ++ rows_bytes width (block_of (b * number) size a.channels) size 0) (past t (fresh m))
-      (behind_whole t (fresh m) (fresh_unread m z) whole) (omega (arith, many)) (left_on number before was) (omega (arith, counted, so_far, then_far)) told_then
+      (behind_whole t (fresh m) (fresh_unread m z) whole) (omega (arith, many)) (left_on p a info q f suits number before was) (omega (arith, counted, so_far, then_far)) told_then
       (λ j h. subst (λ n. SpellsFrame a (frame_of b a n) (slice_index_or ts j [])) (let e : number + suc j ≡ number + 1 + j = omega arith in e) (each (suc j) (omega (arith, h)))))

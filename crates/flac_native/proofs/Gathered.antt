@@ -15,6 +15,7 @@ use Rattle.flac_bits.specs.Written.{Written, Adds}
 use Rattle.flac_bits.proofs.ItemSpellings.{fresh_unread, behind_whole}
 use Rattle.flac_bits.proofs.Marks.{past-bytes}
 use Rattle.flac_meta.proofs.Tied.{joined_append}
+use Rattle.flac_meta.specs.declared.seek_table.SeekPoint.{SeekPoint}
 use Rattle.flac_header.specs.Spelling.{restarted}
 use Rattle.flac_frame.specs.Audio.{Sound, samples_each}
 use Rattle.flac_frame.specs.Encoding.{IsEncoding, IsLeastFrame, block_of}
@@ -22,7 +23,9 @@ use Rattle.flac_frame.specs.Spelling.{FrameForm, frame_spelling}
 use Rattle.flac_frame.proofs.FrameTie.{frames_bytes}
 use Rattle.flac_native.specs.Given.{Cut, blocks_in, size_of, frame_of}
 use Rattle.flac_native.specs.Writing.{SpellsFrame, SpellsLeast, AreSizes, IsEncoded}
+use Rattle.flac_native.specs.Seeking.{point_at, points_of}
 use Rattle.flac_native.proofs.Encoded.{least_part, all_parts}
+use Rattle.flac_native.proofs.Tables.{bytes_of, bytes_more, points_more}
 
 -- ---- sizes
 
@@ -91,8 +94,8 @@ more_sizes frames t least greatest bytes some e s = record {
 
 -- ---- frames so far
 
--- so many frames were written, of which the least and the greatest have so many bytes
-pub record Gathered (p : Cut) (a : Sound) (w : Written) (number least greatest : ℕ) : Type 0 where
+-- so many frames were written, of which the least and the greatest have so many bytes, and these are their points
+pub record Gathered (p : Cut) (a : Sound) (w : Written) (number least greatest : ℕ) (points : List SeekPoint) : Type 0 where
   pub frames : List (List Bool)
   pub many : length frames ≡ number
   pub each : (i : ℕ) → i < length frames → SpellsFrame a (frame_of p.block_size a i) (nth frames i)
@@ -102,12 +105,14 @@ pub record Gathered (p : Cut) (a : Sound) (w : Written) (number least greatest :
   pub bits : w.bits ≡ joined frames
   pub whole : w.mark.unread ≡ 0
   pub count : w.mark.bytes ≤ 16777215 * number
+  pub placed : w.mark.bytes ≡ bytes_of frames
+  pub pointed : points ≡ points_of p frames
 
-pub gathered_none : (p : Cut) (a : Sound) (w : Written) → w.known ≡ true → w.bits ≡ [] → w.mark.unread ≡ 0 → w.mark.bytes ≡ 0 → Gathered p a w 0 0 0
-gathered_none p a w known bits whole count = record { frames = []; many = refl; each = λ i h. absurd (omega arith); each_least = λ i h. absurd (omega arith); sizes = no_sizes; known = known; bits = bits; whole = whole; count = omega (arith, count) }
+pub gathered_none : (p : Cut) (a : Sound) (w : Written) → w.known ≡ true → w.bits ≡ [] → w.mark.unread ≡ 0 → w.mark.bytes ≡ 0 → Gathered p a w 0 0 0 []
+gathered_none p a w known bits whole count = record { frames = []; many = refl; each = λ i h. absurd (omega arith); each_least = λ i h. absurd (omega arith); sizes = no_sizes; known = known; bits = bits; whole = whole; count = omega (arith, count); placed = count; pointed = refl }
 
 pub gathered_new : (p : Cut) (a : Sound) (w : Written) (k : Bool) (e : ℕ) (names : List GName) (s : List ℕ) → w ≡ record { known = k; errors = e; names = names; sent = s; bits = bits_of s; mark = record { unread = 0; bytes = 0; check8 = 0; check16 = 0; short = Truncated } }
-    → k ≡ true → s ≡ [] → Gathered p a w 0 0 0
+    → k ≡ true → s ≡ [] → Gathered p a w 0 0 0 []
 gathered_new p a w k e names s is known sent =
     gathered_none p a w (ap (λ (v : Written). v.known) is ∙ known) (ap (λ (v : Written). v.bits) is ∙ ap bits_of sent) (ap (λ (v : Written). v.mark.unread) is) (ap (λ (v : Written). v.mark.bytes) is)
 
@@ -129,10 +134,11 @@ sizes_with (x ∷ xs) t (suc n) least greatest bytes many e s =
     let later : nat_eq (suc n) 0 ≡ false = grind (arith, nat_tests) in
     subst (λ b. AreSizes (snoc (x ∷ xs) t) (cond b bytes (min least bytes)) (max greatest bytes)) (sym later) (more_sizes (x ∷ xs) t least greatest bytes (omega arith) e s)
 
-pub gathered_more : (p : Cut) (a : Sound) (w v : Written) (number least greatest bytes start n : ℕ) (f : FrameForm) → Gathered p a w number least greatest → number < 2 ^ 31
+pub gathered_more : (p : Cut) (a : Sound) (w v : Written) (number least greatest bytes start n : ℕ) (f : FrameForm) (points more : List SeekPoint) → Gathered p a w number least greatest points
+    → more ≡ points ++ point_at p number w.mark.bytes → number < 2 ^ 31
     → start ≡ p.block_size * number → n ≡ size_of p.block_size (samples_each a.channels) number → IsEncoding a n number (block_of start n a.channels) f → IsLeastFrame a n number (block_of start n a.channels) f
-    → Adds (frame_spelling a.bits f) (restarted w) v → bytes ≡ v.mark.bytes - w.mark.bytes → bytes ≤ 16777215 → Gathered p a v (number + 1) (least_with number least bytes) (max greatest bytes)
-gathered_more p a w v number least greatest bytes start n f g small start_is n_is encoded chosen adds is few =
+    → Adds (frame_spelling a.bits f) (restarted w) v → bytes ≡ v.mark.bytes - w.mark.bytes → bytes ≤ 16777215 → Gathered p a v (number + 1) (least_with number least bytes) (max greatest bytes) more
+gathered_more p a w v number least greatest bytes start n f points more g noted small start_is n_is encoded chosen adds is few =
     let encoding : IsEncoding a (size_of p.block_size (samples_each a.channels) number) number (block_of (p.block_size * number) (size_of p.block_size (samples_each a.channels) number) a.channels) f =
     subst (λ k. IsEncoding a k number (block_of (p.block_size * number) k a.channels) f) n_is (subst (λ k. IsEncoding a n number (block_of k n a.channels) f) start_is encoded) in
     let least_frame : IsLeastFrame a (size_of p.block_size (samples_each a.channels) number) number (block_of (p.block_size * number) (size_of p.block_size (samples_each a.channels) number) a.channels) f =
@@ -155,6 +161,9 @@ gathered_more p a w v number least greatest bytes start n f g small start_is n_i
       bits = adds.bits g.known ∙ ap (λ k. k ++ t) g.bits ∙ ap (λ k. joined g.frames ++ k) (sym (append-nil t)) ∙ joined_append g.frames (t ∷ []);
       whole = ap (λ (m : Mark). m.unread) adds.mark ∙ behind_whole t (fresh w.mark) u whole;
       count = omega (arith, k.1, g.count, few);
+      placed = omega (arith, k.0, k.1, g.placed, bytes_more g.frames t);
+      pointed = noted ∙ ap (λ l. l ++ point_at p number w.mark.bytes) g.pointed ∙ ap (λ i. points_of p g.frames ++ point_at p i w.mark.bytes) (let e : number ≡ 0 + length g.frames = omega (arith, g.many) in e)
+          ∙ ap (λ o. points_of p g.frames ++ point_at p (0 + length g.frames) o) (let e : w.mark.bytes ≡ 0 + bytes_of g.frames = omega (arith, g.placed) in e) ∙ sym (points_more p 0 0 g.frames t);
     }
 
 -- ---- where the loop stands
@@ -169,8 +178,8 @@ all_gathered b total number some few h = elim (cases_lt number (blocks_in b tota
 ]
 
 -- all frames
-pub all_encoded : (p : Cut) (a : Sound) (w : Written) (number least greatest : ℕ) (text : List Bool) → Gathered p a w number least greatest → number ≡ blocks_in p.block_size (samples_each a.channels) → text ≡ w.bits → IsEncoded p a text least greatest
-all_encoded p a w number least greatest text g all is = record { frames = g.frames; are = record { many = g.many ∙ all; each = g.each }; are_least = g.each_least; sizes = g.sizes; spelled = is ∙ g.bits }
+pub all_encoded : (p : Cut) (a : Sound) (w : Written) (number least greatest : ℕ) (text : List Bool) (points : List SeekPoint) → Gathered p a w number least greatest points → number ≡ blocks_in p.block_size (samples_each a.channels) → text ≡ w.bits → IsEncoded p a text least greatest points
+all_encoded p a w number least greatest text points g all is = record { frames = g.frames; are = record { many = g.many ∙ all; each = g.each }; are_least = g.each_least; sizes = g.sizes; spelled = is ∙ g.bits; pointed = g.pointed }
 
 -- the count of bytes does not fall
 pub bytes_grow : (t : List Bool) (w v : Written) → w.mark.unread ≡ 0 → w.mark.bytes < 2 ^ 64 → Adds t (restarted w) v → w.mark.bytes ≤ v.mark.bytes

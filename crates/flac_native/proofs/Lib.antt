@@ -6,10 +6,14 @@ pub mod Deciding
 pub mod WholeBytes
 pub mod Planned
 pub mod Digests
+pub mod EachFrame
 pub mod Encoded
 pub mod Streams
+pub mod Tables
 pub mod BlocksWritten
 pub mod Gathered
+pub mod Sought
+pub mod Resumed
 pub mod Sendings
 pub mod Metadata
 pub mod Renewing
@@ -19,3 +23,5 @@ pub mod Retagged
 pub mod OneHead
 pub mod Decided
 pub mod NewHead
+pub mod Onwards
+pub mod Heads

@@ -91,7 +91,7 @@ abbrev list_of : Block → List Block → List Block
 list_of b bs = b ∷ bs
 
 -- two first parts of the same bits are one, and what is behind them begins at one place
-heads : (p : Progress) (m : Mark) (x y : Piece) (xs ys : List Piece) (front left head rest : List Bool) → front ++ left ≡ head ++ rest → Joined grammar p m (x ∷ xs) front → Joined grammar p m (y ∷ ys) head
+pub heads : (p : Progress) (m : Mark) (x y : Piece) (xs ys : List Piece) (front left head rest : List Bool) → front ++ left ≡ head ++ rest → Joined grammar p m (x ∷ xs) front → Joined grammar p m (y ∷ ys) head
     → (x ≡ y) × (more : List Bool) × (more' : List Bool) × (k : Mark) × (more ++ left ≡ more' ++ rest) × Joined grammar (next p x) k xs more × Joined grammar (next p x) k ys more'
 heads p m x y xs ys front left head rest e (part, more, split, spelled, fits, others) (part', more', split', spelled', fits', others') =
     let s = stepped p m front part more left x split spelled fits in

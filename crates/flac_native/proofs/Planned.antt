@@ -5,7 +5,7 @@ use Rattle.flac_meta.specs.Info.{KeepsRules}
 use Rattle.flac_header.specs.Header.{greatest_block}
 use Rattle.flac_header.specs.Choice.{rate_choice, depth_choice}
 use Rattle.flac_frame.specs.Audio.{Sound, samples_each}
-use Rattle.flac_native.specs.Given.{Cut, fits_plan, blocks_in, plan_fault, info_of}
+use Rattle.flac_native.specs.Given.{Cut, fits_plan, blocks_in, points_before, plan_fault, info_of}
 
 -- ---- tests in a row
 
@@ -44,6 +44,7 @@ pub record Planned (p : Cut) : Type 0 where
   pub greatest : p.block_size ≤ greatest_block p.rate
   pub total : p.total < 2 ^ 36
   pub blocks : blocks_in p.block_size p.total ≤ 2 ^ 31
+  pub points : points_before p.block_size p.total p.seek_every (blocks_in p.block_size p.total) ≤ 932067
 
 pub planned : (p : Cut) → plan_fault p ≡ None → Planned p
 unfolding plan_fault
@@ -53,6 +54,7 @@ planned p e =
     let c = first_none _ _ _ b.1 in
     let d = first_none _ _ _ c.1 in
     let f = first_none _ _ _ d.1 in
+    let g = first_none _ _ _ f.1 in
     let channels = either_false _ _ c.0 in
     let sizes = either_false _ _ d.0 in
     let counts = either_false _ _ f.0 in
@@ -65,6 +67,7 @@ planned p e =
       greatest = not_less (greatest_block p.rate) p.block_size sizes.1;
       total = not_at_most (2 ^ 36) p.total counts.0;
       blocks = not_less (2 ^ 31) (blocks_in p.block_size p.total) counts.1;
+      points = not_less 932067 (points_before p.block_size p.total p.seek_every (blocks_in p.block_size p.total)) g.0;
     }
 
 -- these samples are those that the plan was made for

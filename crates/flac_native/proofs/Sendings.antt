@@ -1,16 +1,20 @@
 -- One sending after another, and what of a stream was sent.
-use Rattle.std.proofs.Common.{◌≡◌, ℕ, true, Bool, List, ◌∷◌, ◌++◌, Result, Ok, Err, None, sym, ap, subst, ◌∙◌, arith, append_assoc}
+use Rattle.std.proofs.Common.{◌≡◌, ℕ, true, false, Bool, List, ◌∷◌, ◌++◌, Result, Ok, Err, None, sym, ap, subst, ◌∙◌, arith, append_assoc}
 use Rattle.flac_bits.specs.Bits.{unsigned, bits_of}
 use Rattle.flac_bits.specs.Sending.{Sends}
 use Rattle.flac_bits.specs.declared.target.Target as target
 use Rattle.flac_bits.proofs.Holding.{bits_of-append}
 use Rattle.flac_meta.specs.Listed.{list_fault, info_seen}
 use Rattle.flac_meta.specs.Valid.{AllAre, FitsFields}
+use Rattle.flac_meta.specs.declared.seek_table.SeekPoint.{SeekPoint}
 use Rattle.flac_meta.specs.declared.block.Block.{Block}
 use Rattle.flac_meta.specs.declared.block.Block.TheVariants as block_of
 use Rattle.flac_frame.specs.Audio.{Sound}
 use Rattle.flac_native.specs.Given.{Cut, fits_plan, plan_fault, info_of}
 use Rattle.flac_native.specs.Writing.{blocks_spelling, head_spelling, IsEncoded, Encodes, BeginsEncoding}
+use Rattle.flac_native.specs.Seeking.{points_of, table_of, repeats_table}
+use Rattle.flac_native.proofs.Planned.{planned, fit}
+use Rattle.flac_native.proofs.Tables.{tabled}
 use Rattle.flac_native.proofs.Streams as streams
 
 module _ {S : Type 0} (g : target.Ghosts S) where
@@ -50,11 +54,15 @@ module _ {S : Type 0} (g : target.Ghosts S) where
   }
 
 -- these bytes are a stream of what was given
-pub given_encodes : (p : Cut) (list : List Block) (a : Sound) (least greatest : ℕ) (head frames : List ℕ) (before : List Bool) → plan_fault p ≡ None → fits_plan p a ≡ true → list_fault info_seen list ≡ None → AllAre FitsFields list
-    → bits_of head ≡ head_spelling (info_of p a least greatest) list → IsEncoded p a (bits_of frames) least greatest → Encodes p list a before (before ++ bits_of (head ++ frames))
-given_encodes p list a least greatest head frames before good fits may fields is e =
+pub given_encodes : (p : Cut) (list : List Block) (a : Sound) (least greatest : ℕ) (points : List SeekPoint) (head frames : List ℕ) (before : List Bool) → plan_fault p ≡ None → fits_plan p a ≡ true
+    → list_fault info_seen list ≡ None → AllAre FitsFields list → repeats_table p list ≡ false
+    → bits_of head ≡ head_spelling (info_of p a least greatest) (list ++ table_of points) → IsEncoded p a (bits_of frames) least greatest points → Encodes p list a before (before ++ bits_of (head ++ frames))
+given_encodes p list a least greatest points head frames before good fits may fields once is e =
+    let all : List Block = list ++ table_of (points_of p e.frames) in
     let marker : List Bool = unsigned 32 0x664C6143 in
-    let blocks = blocks_spelling (block_of.StreamInfo (info_of p a least greatest) ∷ list) in
+    let blocks = blocks_spelling (block_of.StreamInfo (info_of p a least greatest) ∷ all) in
+    let at : bits_of head ≡ head_spelling (info_of p a least greatest) all = is ∙ ap (λ l. head_spelling (info_of p a least greatest) (list ++ table_of l)) e.pointed in
+    let listed = tabled p a list e.frames (planned p good) (fit p a fits) e.are once (may, fields) in
     record {
       least = least;
       greatest = greatest;
@@ -62,8 +70,8 @@ given_encodes p list a least greatest head frames before good fits may fields is
       are = e.are;
       are_least = e.are_least;
       sizes = e.sizes;
-      written = ap (λ k. before ++ k) (bits_of-append head frames ∙ ap (λ k. k ++ bits_of frames) is ∙ append_assoc marker blocks (bits_of frames) ∙ ap (λ k. marker ++ (blocks ++ k)) e.spelled);
-      stream = streams.encoded_are_streams p list a least greatest e.frames good fits may fields e.are e.sizes;
+      written = ap (λ k. before ++ k) (bits_of-append head frames ∙ ap (λ k. k ++ bits_of frames) at ∙ append_assoc marker blocks (bits_of frames) ∙ ap (λ k. marker ++ (blocks ++ k)) e.spelled);
+      stream = streams.encoded_are_streams p all a least greatest e.frames good fits listed.0 listed.1 e.are e.sizes;
     }
 
 -- all of its bytes were sent

@@ -178,7 +178,7 @@ ends_well i message q e is = rw (e.info, e.message) (total_kept i.total q.sample
 no_samples : (b total : ℕ) → min total (b * 0) ≡ 0
 no_samples b total = omega arith
 
-least_small : (p : Cut) (a : Sound) (frames : List (List Bool)) (least greatest : ℕ) → AreFrames p a frames → AreSizes frames least greatest → (least < 2 ^ 24) × (greatest < 2 ^ 24)
+pub least_small : (p : Cut) (a : Sound) (frames : List (List Bool)) (least greatest : ℕ) → AreFrames p a frames → AreSizes frames least greatest → (least < 2 ^ 24) × (greatest < 2 ^ 24)
 least_small p a [] least greatest f s = (omega (arith, (s.none refl).0), omega (arith, (s.none refl).1))
 least_small p a (t ∷ ts) least greatest f s =
     let l = s.least_is (omega arith) in

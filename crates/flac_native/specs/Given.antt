@@ -1,6 +1,6 @@
 -- What is encoded: STREAMINFO, blocks, and samples that are cut into frames.
 use Rattle.std.specs.Prelude.{ℕ, zero, suc, ◌+◌, ◌-◌, ◌*◌, ◌/◌, ◌^◌, min, Bool, false, cond, ◌&&◌, ◌||◌, nat_eq, nat_lt, nat_le, List, [], ◌∷◌, ◌++◌, length, map, Option, Some, None, is_none}
-use Rattle.flac_bits.specs.Bits.{is_nil}
+use Rattle.flac_bits.specs.Bits.{is_nil, bit_value}
 use Rattle.flac_meta.specs.Info.{Info}
 use Rattle.flac_meta.specs.declared.block.Block.{Block}
 use Rattle.flac_meta.specs.declared.block.Block.TheVariants as blocks
@@ -10,23 +10,26 @@ use Rattle.flac_frame.specs.Frame.{Frame}
 use Rattle.flac_frame.specs.Audio.{Sound, samples_each}
 use Rattle.flac_frame.specs.Encoding.{block_of}
 use Rattle.flac_frame.specs.declared.setup.SetupFault.{SetupFault}
-use Rattle.flac_frame.specs.declared.setup.SetupFault.TheVariants.{BadRate, BadDepth, BadChannels, TooLong, BadBlockSize}
+use Rattle.flac_frame.specs.declared.setup.SetupFault.TheVariants.{BadRate, BadDepth, BadChannels, TooLong, BadBlockSize, TooManyPoints}
 use Rattle.flac_native.specs.Message.{sample_width, rows_bytes}
 use Rattle.flac_native.specs.Stream.{Piece, marked, block, framed}
 use Rattle.md5.specs.Md5.{md5}
 
 -- ---- a plan
 
--- How samples are cut: the samples of a block, and the rate, the bits of a sample, the channels and the samples of each that the plan was made for.
+-- How samples are cut: the samples of a block, the rate, the bits of a sample, the channels and the samples of each that the plan was made for, and the
+-- samples from one seek point to the next, 0 where there is none.
 pub record Cut : Type 0 where
   pub block_size : ℕ
   pub rate : ℕ
   pub bits : ℕ
   pub channels : ℕ
   pub total : ℕ
+  pub seek_every : ℕ
 
-abbrev pub cut_of : ℕ → Sound → Cut
-cut_of block_size a = record { block_size = block_size; rate = a.rate; bits = a.bits; channels = length a.channels; total = samples_each a.channels }
+abbrev pub cut_of : (block_size : ℕ) → Sound → (seek_every : ℕ) → Cut
+cut_of block_size a seek_every =
+    record { block_size = block_size; rate = a.rate; bits = a.bits; channels = length a.channels; total = samples_each a.channels; seek_every = seek_every }
 
 -- these are samples that the plan was made for
 abbrev pub fits_plan : Cut → Sound → Bool
@@ -36,16 +39,32 @@ fits_plan p a = nat_eq p.rate a.rate && nat_eq p.bits a.bits && nat_eq p.channel
 abbrev pub blocks_in : (block_size total : ℕ) → ℕ
 blocks_in block_size total = (total + (block_size - 1)) / block_size
 
+-- how many samples the block of a number has: the last has those that are left
+abbrev pub size_of : (block_size total number : ℕ) → ℕ
+size_of block_size total number = min block_size (total - block_size * number)
+
+-- The frame of a number has a seek point: it holds a multiple of so many samples, since the first multiple at or behind its first sample is below its end.
+unfoldable pub has_point : (block_size total every number : ℕ) → Bool
+has_point block_size total every number =
+    nat_lt 0 every && nat_lt (every * blocks_in every (block_size * number)) (block_size * number + size_of block_size total number)
+
+-- how many of the first n frames have one
+abbrev pub points_before : (block_size total every n : ℕ) → ℕ
+points_before block_size total every zero = 0
+points_before block_size total every (suc n) = points_before block_size total every n + bit_value (has_point block_size total every n)
+
 -- Why samples of a format cannot be cut into blocks, if so. No frame header of the streamable subset, or no STREAMINFO, tells the format, which is so
 -- of no samples that can be encoded (RFC 9639, sections 7, 8.2 and 9.1); a block has 16 samples or more (section 8.2), and no more than the subset allows
--- at the rate; a frame number has 31 bits (section 9.1.5), and the number of samples 36.
+-- at the rate; a frame number has 31 bits (section 9.1.5), and the number of samples 36; the points of a seek table, each of 18 bytes, stand in one block
+-- (sections 8.1 and 8.5).
 unfoldable pub plan_fault : Cut → Option SetupFault
 plan_fault p =
     cond (is_none (rate_choice p.rate)) (Some BadRate)
     (cond (is_none (depth_choice p.bits)) (Some BadDepth)
     (cond (nat_eq p.channels 0 || nat_lt 8 p.channels) (Some BadChannels)
     (cond (nat_lt p.block_size 16 || nat_lt (greatest_block p.rate) p.block_size) (Some BadBlockSize)
-    (cond (nat_le (2 ^ 36) p.total || nat_lt (2 ^ 31) (blocks_in p.block_size p.total)) (Some TooLong) None))))
+    (cond (nat_le (2 ^ 36) p.total || nat_lt (2 ^ 31) (blocks_in p.block_size p.total)) (Some TooLong)
+    (cond (nat_lt 932067 (points_before p.block_size p.total p.seek_every (blocks_in p.block_size p.total))) (Some TooManyPoints) None)))))
 
 -- ---- what is written
 
@@ -66,10 +85,6 @@ info_of p a least greatest = record {
   total = samples_each a.channels;
   digest = md5 (sound_message a);
 }
-
--- how many samples the block of a number has: the last has those that are left
-abbrev pub size_of : (block_size total number : ℕ) → ℕ
-size_of block_size total number = min block_size (total - block_size * number)
 
 -- the frame of a number: frames are counted from 0 (section 9.1.5)
 abbrev pub frame_of : (block_size : ℕ) → Sound → ℕ → Frame

@@ -7,6 +7,10 @@ pub mod Decoding
 pub mod Ends
 pub mod Giving
 pub mod Given
+pub mod Seeking
 pub mod Writing
+pub mod Points
 pub mod Numbers
 pub mod Retag
+pub mod Resuming
+pub mod InOrder

@@ -8,6 +8,7 @@ use Rattle.flac_meta.specs.Info.{Info}
 use Rattle.flac_meta.specs.Listed.{list_fault, info_seen}
 use Rattle.flac_meta.specs.Spelling.{block_spelling}
 use Rattle.flac_meta.specs.Valid.{AllAre, FitsFields}
+use Rattle.flac_meta.specs.declared.seek_table.SeekPoint.{SeekPoint}
 use Rattle.flac_meta.specs.declared.block.Block.{Block}
 use Rattle.flac_meta.specs.declared.block.Block.TheVariants as blocks
 use Rattle.flac_frame.specs.Audio.{Sound, samples_each}
@@ -17,6 +18,7 @@ use Rattle.flac_frame.specs.Spelling.{FrameForm, frame_spelling}
 use Rattle.flac_native.specs.Decoding.{beginning}
 use Rattle.flac_native.specs.Stream.{grammar, opening}
 use Rattle.flac_native.specs.Given.{Cut, fits_plan, blocks_in, plan_fault, info_of, frame_of, given}
+use Rattle.flac_native.specs.Seeking.{points_of, table_of}
 
 -- ---- frames
 
@@ -72,15 +74,17 @@ EncodedAreStreams =
     → AreFrames p a frames → AreSizes frames least greatest
     → Stream grammar opening (beginning Truncated) (given p list a least greatest) (stream_spelling p list a least greatest frames)
 
--- the bits are all frames of the samples, each the least of its block, of which the shortest and the longest have so many bytes
-pub record IsEncoded (p : Cut) (a : Sound) (text : List Bool) (least greatest : ℕ) : Type 0 where
+-- the bits are all frames of the samples, each the least of its block, of which the shortest and the longest have so many bytes, and these are their points
+pub record IsEncoded (p : Cut) (a : Sound) (text : List Bool) (least greatest : ℕ) (points : List SeekPoint) : Type 0 where
   pub frames : List (List Bool)
   pub are : AreFrames p a frames
   pub are_least : AreLeastFrames p a frames
   pub sizes : AreSizes frames least greatest
   pub spelled : text ≡ joined frames
+  pub pointed : points ≡ points_of p frames
 
 -- Behind the bits that were there, a stream of what was given was written: all frames of the samples, each the least of its block, whose least and greatest sizes STREAMINFO tells.
+-- The last block is the seek table of the frames, where one has a point.
 pub record Encodes (p : Cut) (list : List Block) (a : Sound) (before after : List Bool) : Type 0 where
   pub least : ℕ
   pub greatest : ℕ
@@ -88,8 +92,9 @@ pub record Encodes (p : Cut) (list : List Block) (a : Sound) (before after : Lis
   pub are : AreFrames p a frames
   pub are_least : AreLeastFrames p a frames
   pub sizes : AreSizes frames least greatest
-  pub written : after ≡ before ++ stream_spelling p list a least greatest frames
-  pub stream : Stream grammar opening (beginning Truncated) (given p list a least greatest) (stream_spelling p list a least greatest frames)
+  pub written : after ≡ before ++ stream_spelling p (list ++ table_of (points_of p frames)) a least greatest frames
+  pub stream : Stream grammar opening (beginning Truncated) (given p (list ++ table_of (points_of p frames)) a least greatest)
+      (stream_spelling p (list ++ table_of (points_of p frames)) a least greatest frames)
 
 -- What was written is a beginning of such a stream, behind the bits that were there.
 pub record BeginsEncoding (p : Cut) (list : List Block) (a : Sound) (before after : List Bool) : Type 0 where

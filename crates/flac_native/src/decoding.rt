@@ -97,6 +97,7 @@ pub fn decode<R: Source, S: Sink>(
     ensures kept { R.errors source.old ≤ R.errors source.new }
     ensures read { IfErr result (λ f. R.known source.old ≡ true → f.why ≡ Why.Read → R.raised source.old < R.raised source.new) }
     ensures names { S.names sink.new ≡ S.names sink.old }
+    ensures source_names { R.names source.new ≡ R.names source.old }
 {
     let mut reader = BitReader::new(source);
     let mut track = Track::opening(alloc, profile);

@@ -11,18 +11,22 @@ pub enum EncodeFault {
     /// A growth was refused in this call.
     #[error("2 Memory")]
     Memory,
+    /// The list of blocks has a seek table, and the plan asks for one.
+    #[error("9 RepeatedBlock")]
+    RepeatedBlock,
     /// The writer answered an error in this call.
     #[error("39 Write")]
     Write,
 }
 
 impl EncodeFault {
-    /// The number of the fault: 2 or 39.
+    /// The number of the fault: 2, 9 or 39.
     pub fn number(self) -> u8
         ensures { result ≡ fault_number self }
     {
         match self {
             EncodeFault::Memory => 2,
+            EncodeFault::RepeatedBlock => 9,
             EncodeFault::Write => 39,
         }
     }

@@ -1,67 +1,99 @@
 //! Writes native streams.
 
-ghost use Rattle.std.specs.Prelude.{◌≡◌, ◌∷◌, ◌++◌, ◌≤◌, ◌<◌, ◌^◌, min, max, cond, nat_eq, true, IfOk, IfErr, OnOk};
+ghost use Rattle.std.specs.Prelude.{◌≡◌, ◌∷◌, ◌++◌, ◌≤◌, ◌<◌, ◌^◌, ◌↔◌, length, min, max, cond, nat_eq, true, IfOk, IfErr, OnOk, None, Err};
 ghost use Rattle.flac_bits.specs.Bits.{bits_of};
 ghost use Rattle.flac_bits.specs.Sending.{Sends};
 ghost use Rattle.flac_bits.specs.Written.{Writes};
+ghost use Rattle.flac_meta.specs.Listed.{block_fault};
 ghost use Rattle.flac_meta.specs.declared.block.Block.TheVariants as block_of;
 ghost use Rattle.flac_native.specs.Given.{fits_plan};
+ghost use Rattle.flac_native.specs.Seeking.{table_of, is_table, has_table, repeats_table};
 ghost use Rattle.flac_native.specs.Writing.{blocks_spelling, head_spelling, IsEncoded, Encodes, BeginsEncoding};
 
 use crate::encode_fault::EncodeFault;
 use crate::encoded_info::info_of;
+use crate::in_order::write_each;
+use crate::memory::collect;
 use crate::plan::Plan;
 use flac_bits::{BitWriter, Collected, Target, Why, send_all};
 use flac_frame::{Audio, EncodeBuffers, encode_frame};
-use flac_meta::{Block, BlockList, StreamInfo, write_block};
+use flac_meta::{Block, BlockList, SeekPoint, SeekTable, StreamInfo, write_block};
 use std::alloc::Global;
 
-/// Writes STREAMINFO and the blocks behind it, of which the last is marked (RFC 9639, section 8.1).
+/// Writes the seek table of these points as the last block, where there are some (RFC 9639, section 8.5).
+fn write_table<W: Target>(points: Vec<SeekPoint>, writer: &mut BitWriter<W>) -> Result<(), Why>
+    requires { block_fault (block_of.SeekTable points.items) ≡ None }
+    ensures { Writes (blocks_spelling (table_of points.items)) writer.old writer.new result }
+{
+    if points.is_empty() {
+        return Ok(());
+    }
+    write_block(&Block::SeekTable(SeekTable::from_vec(points)), true, writer)
+}
+
+/// How many blocks there are with the seek table of these points.
+fn count_with_table(blocks: &[Block], points: &[SeekPoint]) -> usize
+    ensures { result ≡ length (blocks.now ++ table_of points.now) }
+{
+    if points.is_empty() {
+        return blocks.len();
+    }
+    blocks.len() + 1
+}
+
+/// Writes STREAMINFO, the blocks behind it and the seek table of these points, where there are some. The last of them is marked (RFC 9639, section 8.1).
 pub(crate) fn write_blocks<W: Target>(
     info: StreamInfo,
     list: &BlockList,
+    points: Vec<SeekPoint>,
     writer: &mut BitWriter<W>,
 ) -> Result<(), Why>
-    ensures { Writes (blocks_spelling (block_of.StreamInfo info ∷ list.now)) writer.old writer.new result }
+    requires { block_fault (block_of.SeekTable points.items) ≡ None }
+    ensures { Writes (blocks_spelling (block_of.StreamInfo info ∷ list.now ++ table_of points.items)) writer.old writer.new result }
 {
     let blocks = list.blocks();
-    let count = blocks.len();
+    let count = count_with_table(blocks, points.as_slice());
     write_block(&Block::StreamInfo(info), count == 0, writer)?;
-    for i in 0..count {
-        write_block(&blocks[i], i + 1 == count, writer)?;
-    }
-    Ok(())
+    write_each(blocks, count, writer)?;
+    write_table(points, writer)
 }
 
-/// Writes what stands before the frames: the marker fLaC, STREAMINFO and the blocks (RFC 9639, section 6).
+/// Writes what stands before the frames: the marker fLaC, STREAMINFO, the blocks and the seek table (RFC 9639, section 6).
 fn write_head<W: Target>(
     info: StreamInfo,
     list: &BlockList,
+    points: Vec<SeekPoint>,
     writer: &mut BitWriter<W>,
 ) -> Result<(), Why>
-    ensures { Writes (head_spelling info list.now) writer.old writer.new result }
+    requires { block_fault (block_of.SeekTable points.items) ≡ None }
+    ensures { Writes (head_spelling info (list.now ++ table_of points.items)) writer.old writer.new result }
 {
     writer.put(32, 0x664C6143)?;
-    write_blocks(info, list, writer)
+    write_blocks(info, list, points, writer)
 }
 
 /// The bytes before the frames, in memory. Refuses where a growth is.
-fn head_of(alloc: Global, info: StreamInfo, list: &BlockList) -> Result<Vec<u8>, Why>
-    ensures { IfOk result (λ head. bits_of head.items ≡ head_spelling info list.now) }
+fn head_of(
+    alloc: Global,
+    info: StreamInfo,
+    list: &BlockList,
+    points: Vec<SeekPoint>,
+) -> Result<Vec<u8>, Why>
+    requires { block_fault (block_of.SeekTable points.items) ≡ None }
+    ensures { IfOk result (λ head. bits_of head.items ≡ head_spelling info (list.now ++ table_of points.items)) }
 {
     let mut writer = BitWriter::new(Collected::new(alloc));
-    write_head(info, list, &mut writer)?;
-    writer.finish()?;
-    let target = writer.into_target();
-    Ok(target.into_bytes())
+    write_head(info, list, points, &mut writer)?;
+    collect(writer)
 }
 
-/// Frames in memory, and the least and the greatest number of bytes of one; 0 where there is none.
+/// Frames in memory, the least and the greatest number of bytes of one, 0 where there is none, and their seek points.
 #[derive(Drop)]
 pub(crate) struct Frames {
     pub(crate) bytes: Vec<u8>,
     pub(crate) least: u32,
     pub(crate) greatest: u32,
+    pub(crate) points: Vec<SeekPoint>,
 }
 
 /// The least size with one more, which is that of the first where there was none.
@@ -81,13 +113,15 @@ fn greatest_with(greatest: u64, bytes: u64) -> u64
 /// Encodes all samples into memory. Refuses where a growth is.
 fn encode_frames(alloc: Global, plan: &Plan, audio: &Audio) -> Result<Frames, Why>
     requires { fits_plan plan.now audio.now ≡ true }
-    ensures encoded { IfOk result (λ f. IsEncoded plan.now audio.now (bits_of f.bytes.items) f.least f.greatest) }
+    ensures encoded { IfOk result (λ f. IsEncoded plan.now audio.now (bits_of f.bytes.items) f.least f.greatest f.points.items) }
+    ensures table { IfOk result (λ f. block_fault (block_of.SeekTable f.points.items) ≡ None) }
     ensures sizes { IfOk result (λ f. (f.least ≤ f.greatest) × (f.greatest < 2 ^ 24)) }
 {
     let size = plan.block_size() as usize;
     let total = audio.len();
     let mut buffers = EncodeBuffers::new(alloc, plan.block_size())?;
     let mut writer = BitWriter::new(Collected::new(alloc));
+    let mut points = Vec::new(alloc);
     let mut least = 0;
     let mut greatest = 0;
     let mut number = 0;
@@ -95,6 +129,7 @@ fn encode_frames(alloc: Global, plan: &Plan, audio: &Audio) -> Result<Frames, Wh
     while start < total {
         let end = start + size.min(total - start);
         let before = writer.bytes_written();
+        plan.note_point(number, before, &mut points)?;
         encode_frame(audio, start..end, number, &mut buffers, &mut writer)?;
         let bytes = writer.bytes_written() - before;
         least = least_with(number, least, bytes);
@@ -102,13 +137,12 @@ fn encode_frames(alloc: Global, plan: &Plan, audio: &Audio) -> Result<Frames, Wh
         number += 1;
         start = end;
     }
-    writer.finish()?;
-    let target = writer.into_target();
-    let bytes = target.into_bytes();
+    let bytes = collect(writer)?;
     Ok(Frames {
         bytes,
         least: least as u32,
         greatest: greatest as u32,
+        points,
     })
 }
 
@@ -120,13 +154,39 @@ fn send_stream<W: Target>(head: &[u8], frames: &[u8], target: &mut W) -> Result<
     send_all(target, frames)
 }
 
-/// Writes samples as a native stream: STREAMINFO with the number of samples, the sizes of the frames and the digest, the blocks of the list, and a frame
-/// for each block of the plan (RFC 9639, section 6). The whole stream is held in memory before its first byte is sent.
+fn is_table(block: &Block) -> bool
+    ensures { result ≡ is_table block.now }
+{
+    matches!(block, Block::SeekTable(_))
+}
+
+/// Whether there is a seek table among blocks.
+fn has_table(blocks: &[Block]) -> bool
+    ensures { result ≡ has_table blocks.now }
+{
+    for block in blocks {
+        if is_table(block) {
+            return true;
+        }
+    }
+    false
+}
+
+/// Whether the list has a seek table, and the plan asks for one.
+fn repeats_table(plan: &Plan, list: &BlockList) -> bool
+    ensures { result ≡ repeats_table plan.now list.now }
+{
+    plan.seek_every() > 0 && has_table(list.blocks())
+}
+
+/// Writes samples as a native stream: STREAMINFO with the number of samples, the sizes of the frames and the digest, the blocks of the list, the seek table
+/// where the plan asks for one and there is a sample, and a frame for each block of the plan (RFC 9639, section 6). The whole stream is held in memory
+/// before its first byte is sent.
 ///
 /// The plan fits the samples: see [`Plan::fits`].
 ///
 /// # Errors
-/// [`EncodeFault::Memory`] where a growth was refused; then nothing was sent. [`EncodeFault::Write`] where the target answered an error; then it was sent a
+/// [`EncodeFault::RepeatedBlock`] where the list has a seek table and the plan asks for one; then nothing was sent. [`EncodeFault::Memory`] where a growth was refused; then nothing was sent. [`EncodeFault::Write`] where the target answered an error; then it was sent a
 /// beginning of the stream, behind what it had.
 pub fn encode<W: Target>(
     alloc: Global,
@@ -140,15 +200,20 @@ pub fn encode<W: Target>(
     ensures begun { IfErr result (λ e. e ≡ EncodeFault.Write → W.known target.old ≡ true → BeginsEncoding plan.now list.now audio.now (bits_of (W.sent target.old)) (bits_of (W.sent target.new))) }
     ensures failed { IfErr result (λ e. e ≡ EncodeFault.Write → W.known target.old ≡ true → W.errors target.old < W.errors target.new) }
     ensures memory { IfErr result (λ e. e ≡ EncodeFault.Memory → target.new ≡ target.old) }
+    ensures repeated { (result ≡ Err EncodeFault.RepeatedBlock) ↔ (repeats_table plan.now list.now ≡ true) }
+    ensures kept { IfErr result (λ e. e ≡ EncodeFault.RepeatedBlock → target.new ≡ target.old) }
     ensures names { W.names target.new ≡ W.names target.old }
 {
+    if repeats_table(plan, list) {
+        return Err(EncodeFault::RepeatedBlock);
+    }
     let _size = plan.block_size();
     let _blocks = list.blocks();
     let Ok(frames) = encode_frames(alloc, plan, audio) else {
         return Err(EncodeFault::Memory);
     };
     let info = info_of(plan, audio, frames.least, frames.greatest);
-    let Ok(head) = head_of(alloc, info, list) else {
+    let Ok(head) = head_of(alloc, info, list, frames.points) else {
         return Err(EncodeFault::Memory);
     };
     match send_stream(head.as_slice(), frames.bytes.as_slice(), target) {

@@ -1,8 +1,27 @@
-//! What holds of the definitions of encoding.
+//! What holds of the definitions of encoding and of resuming.
 
+ghost use Rattle.flac_native.specs.Points.{PointsNameFrames};
+ghost use Rattle.flac_native.specs.Resuming.{FramesAreResumed, EncodedAreResumed};
 ghost use Rattle.flac_native.specs.Writing.{EncodedAreStreams};
 
 /// What encoding writes is a stream: the marker, the spellings of STREAMINFO and of the blocks, and a frame for each block of the samples.
 pub fn encoded_are_streams()
     ensures { EncodedAreStreams }
+{}
+
+/// Each point of the seek table of frames names a frame: its first sample, the bytes of the frames before it and its samples, of which one is a multiple of
+/// the plan's number; and each multiple below the number of samples is a sample of a point's frame (RFC 9639, section 8.5.1).
+pub fn points_name_frames()
+    ensures { PointsNameFrames }
+{}
+
+/// What stands in an encoded stream from one of its frames on is, read by a decoder that is resumed there, just the frames from there on.
+pub fn encoded_are_resumed()
+    ensures { EncodedAreResumed }
+{}
+
+/// A stream that is read from the first bit of any of its frames on, with its STREAMINFO, has that frame and all frames behind it, and then ends: where a
+/// seek point names a frame, [`crate::Decoder::resume`] gives the rest of the stream (RFC 9639, section 8.5).
+pub fn frames_are_resumed()
+    ensures { FramesAreResumed }
 {}

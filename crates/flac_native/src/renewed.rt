@@ -3,23 +3,13 @@
 ghost use Rattle.std.specs.Prelude.{◌≡◌, OnOk, IfOk};
 ghost use Rattle.flac_bits.specs.Bits.{bits_of};
 ghost use Rattle.flac_bits.specs.Written.{Adds};
-ghost use Rattle.flac_native.specs.Writing.{blocks_spelling};
 ghost use Rattle.flac_native.specs.Retag.{new_head};
 
+use crate::in_order::write_each;
+use crate::memory::collect;
 use flac_bits::{BitWriter, Collected, Target, Why};
 use flac_meta::{Block, Comments, write_block, write_comments};
 use std::alloc::Global;
-
-/// Writes blocks, of which the last is marked (RFC 9639, section 8.1). Refuses a block that may not be written.
-fn write_each<W: Target>(blocks: &[Block], writer: &mut BitWriter<W>) -> Result<(), Why>
-    ensures { OnOk result (Adds (blocks_spelling blocks.now) writer.old writer.new) }
-{
-    let count = blocks.len();
-    for i in 0..count {
-        write_block(&blocks[i], i + 1 == count, writer)?;
-    }
-    Ok(())
-}
 
 /// Writes the marker fLaC, STREAMINFO, which is the first of these blocks, the comments and the other blocks (RFC 9639, section 6).
 fn write_renewed<W: Target>(
@@ -35,7 +25,7 @@ fn write_renewed<W: Target>(
     writer.put(32, 0x664C6143)?;
     write_block(info, false, writer)?;
     write_comments(comments, others.is_empty(), writer)?;
-    write_each(others, writer)
+    write_each(others, others.len(), writer)
 }
 
 /// The same bytes in memory. Refuses where a growth is.
@@ -44,7 +34,5 @@ pub(crate) fn renewed(alloc: Global, kept: &[Block], comments: &Comments) -> Res
 {
     let mut writer = BitWriter::new(Collected::new(alloc));
     write_renewed(kept, comments, &mut writer)?;
-    writer.finish()?;
-    let target = writer.into_target();
-    Ok(target.into_bytes())
+    collect(writer)
 }

@@ -7,6 +7,7 @@ ghost use Rattle.flac_bits.specs.Reading.{Counts, ReadsInRoom};
 ghost use Rattle.flac_bits.specs.Fencing.{lifted};
 ghost use Rattle.flac_native.specs.Within.{ReadsWithin};
 ghost use Rattle.flac_meta.specs.Block.{block as block_layout};
+ghost use Rattle.flac_native.specs.Resuming.{at_frames};
 ghost use Rattle.flac_frame.specs.Lent.{frame_of};
 ghost use Rattle.flac_native.specs.Stream.{Progress, marked, block as block_piece, framed, phase_behind, raised, info_after, before_behind, frame_behind, place_in, next, opening};
 ghost use Rattle.flac_native.specs.Track.{IsAt, stand_of, info_in, before_in, shown};
@@ -19,7 +20,7 @@ use crate::phase::Phase;
 use flac_bits::{BitReader, Source, Why};
 use flac_frame::FrameView;
 use flac_header::Profile;
-use flac_meta::{Block, Seen, read_block};
+use flac_meta::{Block, Seen, StreamInfo, read_block};
 use md5::{Digest, Md5};
 use std::alloc::Global;
 
@@ -66,6 +67,18 @@ impl Track {
             last: false,
             block: None,
         }
+    }
+
+    /// Before the frames of a stream of which STREAMINFO says this. Refuses `Memory` alone.
+    pub(crate) fn resumed(alloc: Global, profile: Profile, info: StreamInfo) -> Result<Track, Why>
+        ensures ok { IfOk result (λ t. IsAt t (at_frames info)) }
+        ensures err { IfErr result (λ e. e ≡ Why.Memory) }
+    {
+        let format = Format::new(alloc, info)?;
+        let mut track = Track::opening(alloc, profile);
+        track.phase = Phase::Frames;
+        track.format = Some(format);
+        Ok(track)
     }
 
     /// Notes a block, all but its kind. Refuses `Memory` alone.

@@ -72,7 +72,7 @@ fn writes(
     wanted: &[u8],
 ) -> Result<(), Fail> {
     let audio = Audio::new(44100, bits, vec![in alloc; samples]?)?;
-    let plan = Plan::new(16, &audio)?;
+    let plan = Plan::new(16, &audio, 0)?;
     let list = BlockList::new(Vec::new(alloc))?;
     let mut target = Collected::new(alloc);
     encode(alloc, &plan, &list, &audio, &mut target)?;
@@ -103,7 +103,7 @@ fn depths(rt: HostRuntime) -> Result<(), Fail> {
 fn one_sample(rt: HostRuntime) -> Result<(), Fail> {
     let channels = vec![in rt.alloc(); vec![in rt.alloc(); 25588]?, vec![in rt.alloc(); 10416]?]?;
     let audio = Audio::new(44100, 16, channels)?;
-    let plan = Plan::new(4096, &audio)?;
+    let plan = Plan::new(4096, &audio, 0)?;
     assert!(rt; plan.fits(&audio));
     let list = BlockList::new(Vec::new(rt.alloc()))?;
     let mut target = Collected::new(rt.alloc());
@@ -116,7 +116,7 @@ fn one_sample(rt: HostRuntime) -> Result<(), Fail> {
 fn no_samples(rt: HostRuntime) -> Result<(), Fail> {
     let channels = vec![in rt.alloc(); Vec::new(rt.alloc()), Vec::new(rt.alloc())]?;
     let audio = Audio::new(44100, 16, channels)?;
-    let plan = Plan::new(4096, &audio)?;
+    let plan = Plan::new(4096, &audio, 0)?;
     assert!(rt; plan.fits(&audio));
     let list = BlockList::new(Vec::new(rt.alloc()))?;
     let mut target = Collected::new(rt.alloc());

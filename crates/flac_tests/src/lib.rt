@@ -11,4 +11,6 @@ mod frames;
 #[cfg(test)]
 mod retagging;
 #[cfg(test)]
+mod seeking;
+#[cfg(test)]
 mod subframes;

@@ -6,7 +6,7 @@ use Rattle.flac_native.proofs.encoding.encode_frames.Given as goal
 
 abbrev pub invariant-loop-start : goal.invariant-loop-start
 invariant-loop-start l = record {
-  gathered : Gathered l.plan l.audio l.writer l.number l.least l.greatest;
+  gathered : Gathered l.plan l.audio l.writer l.number l.least l.greatest l.points.items;
   buffers : l.buffers ≡ l.plan.block_size;
   start : l.start ≡ min (samples_each l.audio.channels) (l.plan.block_size * l.number);
   few : l.number ≤ blocks_in l.plan.block_size (samples_each l.audio.channels);

@@ -1,22 +1,18 @@
-use Rattle.std.proofs.Common.{◌≡◌, [], ◌++◌, true, List, Bool, ap, ◌∙◌, nat_lt, Vec, Global, ℕ}
+use Rattle.std.proofs.Common.{ap, ◌∙◌, nat_lt}
 use Rattle.flac_bits.specs.Bits.{bits_of}
-use Rattle.flac_bits.specs.State.{Mark}
 use Rattle.flac_bits.specs.Written.{Written}
-use Rattle.flac_bits.proofs.ItemSpellings.{behind_whole}
 use Rattle.flac_native.specs.Retag.{new_head}
+use Rattle.flac_native.proofs.Heads.{Blank, head_collected}
 use Rattle.flac_native.proofs.Renewing.{new_head_whole}
 use Rattle.flac_native.proofs.renewed.renewed.Goals as goal
 
 pub returns : goal.returns
 returns c =
-    let text = new_head c.args.comments.now c.args.kept.now in
-    let writer = c.new-writer.result in
-    let known : writer.known ≡ true = ap (λ (v : Written). v.known) c.new-writer.ensures ∙ ap (λ e. nat_lt e 18446744073709551615) c.new.ensures.errors in
-    let bits : writer.bits ≡ [] = ap (λ (v : Written). v.bits) c.new-writer.ensures ∙ ap bits_of c.new.ensures.sent in
-    let unread : writer.mark.unread ≡ 0 = ap (λ (v : Written). v.mark.unread) c.new-writer.ensures in
-    let adds = c.in_ok-write_renewed.ensures in
-    let whole = new_head_whole c.args.comments.now c.args.kept.now in
-    let items : Vec ℕ Global → List Bool = λ v. bits_of v.items in
-    ap items c.into_bytes.ensures ∙ ap bits_of c.into_target-target.ensures.sent
-    ∙ c.in_ok-finish.ensures.whole (adds.known known) (ap (λ (m : Mark). m.unread) adds.mark ∙ behind_whole text writer.mark unread whole.bytes)
-    ∙ adds.bits known ∙ ap (λ k. k ++ text) bits
+    let comments = c.args.comments.now in
+    let kept = c.args.kept.now in
+    let blank : Blank c.new-writer.result = record {
+      known = ap (λ (v : Written). v.known) c.new-writer.ensures ∙ ap (λ e. nat_lt e 18446744073709551615) c.new.ensures.errors;
+      bits = ap (λ (v : Written). v.bits) c.new-writer.ensures ∙ ap bits_of c.new.ensures.sent;
+      unread = ap (λ (v : Written). v.mark.unread) c.new-writer.ensures;
+    } in
+    head_collected c.new-writer.result _ (new_head comments kept) c.collect.result blank (new_head_whole comments kept).bytes c.in_ok-write_renewed.ensures c.collect.ensures

@@ -1,8 +1,0 @@
-use Rattle.std.proofs.Common.{drop, ◌∷◌}
-use Rattle.flac_bits.proofs.Writing.{Towards}
-use Rattle.flac_meta.specs.declared.block.Block.TheVariants as block_of
-use Rattle.flac_native.specs.Writing.{blocks_spelling}
-use Rattle.flac_native.proofs.encoding.write_blocks.Given as goal
-
-abbrev pub invariant-loop-i : goal.invariant-loop-i
-invariant-loop-i g l = Towards (blocks_spelling (drop l.i l.blocks)) (blocks_spelling (block_of.StreamInfo l.fn.info ∷ l.blocks)) l.fn.writer l.writer

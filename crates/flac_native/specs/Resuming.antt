@@ -1,0 +1,52 @@
+-- Where a stream is read from one of its frames on.
+use Rattle.std.specs.Prelude.{◌≡◌, ℕ, ◌-◌, ◌≤◌, Bool, true, List, [], ◌∷◌, ◌++◌, length, map, drop, replicate, Some, None}
+use Rattle.flac_bits.specs.State.{Mark}
+use Rattle.flac_bits.specs.Forms.{joined}
+use Rattle.flac_bits.specs.Items.{Joined, Stream, after}
+use Rattle.flac_bits.specs.declared.why.Why.TheVariants.{Truncated}
+use Rattle.flac_meta.specs.Header.{nothing_seen}
+use Rattle.flac_meta.specs.Info.{Info}
+use Rattle.flac_frame.specs.Audio.{Sound}
+use Rattle.flac_frame.specs.Frame.{Frame}
+use Rattle.flac_native.specs.Decoding.{beginning}
+use Rattle.flac_native.specs.Stream.{Piece, framed, Progress, grammar, opening}
+use Rattle.flac_native.specs.Given.{Cut, fits_plan, plan_fault, info_of, frames_from}
+use Rattle.flac_native.specs.Writing.{AreFrames, AreSizes}
+use Rattle.flac_native.specs.declared.phase.Phase.TheVariants.{Frames}
+
+-- STREAMINFO that states neither the number of samples nor their digest, and else the same (RFC 9639, section 8.2)
+abbrev pub untold : Info → Info
+untold i = record i { total = 0; digest = replicate 16 0 }
+
+-- Behind blocks of which STREAMINFO says this a frame comes next, whose number may be any. Frames and samples are counted from there.
+abbrev pub at_frames : Info → Progress
+at_frames i = record { stand = record { phase = Frames; index = 0; seen = nothing_seen; info = Some i; before = None }; samples = 0; message = [] }
+
+-- so it is where decoding goes on at a frame
+abbrev pub resumed : Info → Progress
+resumed i = at_frames (untold i)
+
+-- So what stands in an encoded stream from one of its frames on is, read so, just the frames from there on.
+abbrev pub EncodedAreResumed : Type 0
+EncodedAreResumed = (p : Cut) (a : Sound) (least greatest : ℕ) (frames : List (List Bool)) (number : ℕ) → plan_fault p ≡ None → fits_plan p a ≡ true → AreFrames p a frames → AreSizes frames least greatest
+    → number ≤ length frames
+    → Stream grammar (resumed (info_of p a least greatest)) (beginning Truncated) (map framed (frames_from p.block_size a (length frames - number) number)) (joined (drop number frames))
+
+-- ---- what is read from a frame on
+
+-- The bits before a frame are the parts before it, and they end at one place. With the STREAMINFO that those parts told, a reading that goes on there gives that frame,
+-- all parts behind it, and then the end.
+pub record Resumes (s : Progress) (m k : Mark) (front : List Piece) (f : Frame) (more : List Piece) (text : List Bool) : Type 0 where
+  pub before : List Bool
+  pub rest : List Bool
+  pub split : text ≡ before ++ rest
+  pub spelled : Joined grammar s m front before
+  pub only : (head left : List Bool) → text ≡ head ++ left → Joined grammar s m front head → left ≡ rest
+  pub info : Info
+  pub told : (after grammar s front).stand.info ≡ Some info
+  pub stream : Stream grammar (resumed info) k (framed f ∷ more) rest
+
+-- So it is at each frame of a stream.
+abbrev pub FramesAreResumed : Type 0
+FramesAreResumed = (m k : Mark) (front more : List Piece) (f : Frame) (text : List Bool) → m.unread ≡ 0 → k.unread ≡ 0
+    → Stream grammar opening m (front ++ framed f ∷ more) text → Resumes opening m k front f more text

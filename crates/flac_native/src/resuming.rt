@@ -1,0 +1,73 @@
+//! Reads a stream from one of its frames on.
+
+ghost use Rattle.std.specs.Prelude.{◌≡◌, IfOk, IfErr};
+ghost use Rattle.flac_bits.specs.Bits.{bits_of};
+ghost use Rattle.flac_bits.specs.State.{short_of};
+ghost use Rattle.flac_bits.specs.Fencing.{lifted};
+ghost use Rattle.flac_native.specs.Decoding.{beginning};
+ghost use Rattle.flac_native.specs.Resuming.{untold, resumed};
+ghost use Rattle.flac_native.specs.Track.{IsAt};
+
+use crate::course::Course;
+use crate::decoder::Decoder;
+use crate::fault::{Fault, Place};
+use crate::track::Track;
+use flac_bits::{BitReader, Source, Why};
+use flac_header::Profile;
+use flac_meta::StreamInfo;
+use std::alloc::Global;
+
+/// STREAMINFO that states neither the number of samples nor their digest, and else the same (RFC 9639, section 8.2).
+fn untold(info: &StreamInfo) -> StreamInfo
+    ensures { result ≡ untold info.now }
+{
+    let untold = StreamInfo::new(
+        info.least_block(),
+        info.greatest_block(),
+        info.least_frame(),
+        info.greatest_frame(),
+        info.rate(),
+        info.channels(),
+        info.depth(),
+        0,
+        [0; 16],
+    );
+    match untold {
+        Ok(info) => info,
+        Err(_) => unreachable!(),
+    }
+}
+
+impl<R: Source + Drop> Decoder<R> {
+    /// A decoder at the first byte of a frame, of a stream of which STREAMINFO says this: a seek point tells where one begins (RFC 9639, section 8.5). It
+    /// takes the memory for one frame, and no more. Frames are counted from 0 in its faults, and neither the number of samples nor their digest is judged where
+    /// the stream ends.
+    ///
+    /// # Errors
+    /// `Memory` at the marker where a growth was refused.
+    pub fn resume(
+        alloc: Global,
+        source: R,
+        info: &StreamInfo,
+        profile: Profile,
+    ) -> Result<Decoder<R>, Fault>
+        ensures track { IfOk result (λ d. IsAt d.track (resumed info.now)) }
+        ensures course { IfOk result (λ d. d.course ≡ Course.Begun) }
+        ensures known { IfOk result (λ d. d.reader.known ≡ R.known source) }
+        ensures errors { IfOk result (λ d. (d.reader.errors ≡ R.errors source) × (d.reader.raised ≡ R.raised source)) }
+        ensures cursor { IfOk result (λ d. (lifted d.reader).cursor ≡ record { left = bits_of (R.coming source); mark = beginning (short_of ((R.behind source).fails)) }) }
+        ensures memory { IfErr result (λ f. f ≡ record { at = Place.Marker; why = Why.Memory }) }
+    {
+        match Track::resumed(alloc, profile, untold(info)) {
+            Ok(track) => Ok(Decoder {
+                reader: BitReader::new(source),
+                track,
+                course: Course::Begun,
+            }),
+            Err(why) => Err(Fault {
+                at: Place::Marker,
+                why,
+            }),
+        }
+    }
+}

@@ -1,0 +1,13 @@
+pub mod MeaningPackets
+pub mod MeaningContents
+pub mod MeaningSteps
+pub mod MeaningStreams
+pub mod MeaningReadings
+pub mod MeaningHanding
+pub mod Packeted
+pub mod UnderWay
+pub mod Stepped
+pub mod Handed
+pub mod NativeItems
+pub mod NativeBlocks
+pub mod NativeFrames

@@ -1,0 +1,89 @@
+-- An Ogg stream of FLAC: good pages, whose packets are the mapping with STREAMINFO, one block each, and one frame each (RFC 9639, section 10.1).
+use Rattle.std.specs.Prelude.{◌≡◌, ◌≢◌, ℕ, length, Bool, true, false, cond, List, [], ◌∷◌, ◌++◌, Option, Some, None, ⊤, ◌⊎◌}
+use Rattle.flac_bits.specs.Bits.{bits_of}
+use Rattle.flac_bits.specs.State.{Mark, short_of}
+use Rattle.flac_bits.specs.Meaning.{AllKept, BreaksFirst}
+use Rattle.flac_bits.specs.Items.{after}
+use Rattle.flac_bits.specs.declared.why.Why.{Why}
+use Rattle.flac_bits.specs.declared.why.Why.TheVariants.{PacketLength}
+use Rattle.flac_native.specs.Stream.{Piece, marked, Progress, opening, grammar, next, room_in}
+use Rattle.flac_native.specs.declared.fault.Place.{Place}
+use Rattle.flac_native.specs.declared.fault.Place.TheVariants as place
+use Rattle.flac_pages.specs.Pages.{Run}
+use Rattle.flac_pages.specs.Packets.{Packets, fault_of, stop_of}
+use Rattle.flac_pages.specs.Items.{Packet, whole, end_in, IsItem, IsNoItem}
+use Rattle.flac_pages.specs.Runs.{IsRun}
+use Rattle.flac_ogg.specs.Mapping.{packet_layout, packet_place, page_place}
+
+-- before the first packet: the marker stands in the mapping
+abbrev pub start : Progress
+start = next opening marked
+
+-- at a packet's first bit, behind whose bytes this fault stands, if any
+abbrev pub packet_start : Option (ℕ × Why) → Mark
+packet_start fault = record { unread = 0; bytes = 0; check8 = 0; check16 = 0; short = short_of fault }
+
+-- a packet that ends
+abbrev pub closed_packet : List ℕ → Packet
+closed_packet bytes = record { bits = bits_of bytes; ends = whole }
+
+-- a packet that goes on behind all good pages, of which these bytes came: a fault breaks it off, or the page marked last leaves it open
+abbrev pub open_packet : List ℕ → Option (ℕ × Why) → Packet
+open_packet bytes fault = record { bits = bits_of bytes; ends = end_in fault true }
+
+-- each packet is one item, in the state that the items before it left
+abbrev pub AreItems : Progress → List (List ℕ) → List Piece → Type 0
+AreItems p [] [] = ⊤
+AreItems p [] (x ∷ xs) = ⊥
+AreItems p (packet ∷ packets) [] = ⊥
+AreItems p (packet ∷ packets) (x ∷ xs) = IsItem (room_in p.stand.phase) (packet_layout p.stand) (packet_start None) (closed_packet packet) x × AreItems (next p x) packets xs
+
+-- What an input has: good pages up to the one marked last or to a refused one, the packets that end in them, and the bytes of one that goes on behind.
+pub record Contents (mark : Mark) (text : List Bool) : Type 0 where
+  pub run : Run
+  pub is_run : IsRun None (record { left = text; mark = mark }) run
+  pub packets : List (List ℕ)
+  pub begun : List ℕ
+  pub packed : Packets run.pages packets begun
+
+-- the fault that breaks off a packet which goes on, and the one where no packet is left
+abbrev pub fault_in : {mark : Mark} {text : List Bool} → Contents mark text → Option (ℕ × Why)
+fault_in c = fault_of (length c.run.pages) c.run.stop
+
+abbrev pub stop_in : {mark : Mark} {text : List Bool} → Contents mark text → Option (ℕ × Why)
+stop_in c = stop_of (length c.run.pages) c.run.stop
+
+-- The input is good pages, the final one marked last and no packet open behind it, and nothing more; their packets are these items; the stream may end
+-- behind them, and keeps what STREAMINFO states of all samples.
+pub record OggStream (mark : Mark) (items : List Piece) (text : List Bool) : Type 0 where
+  pub contents : Contents mark text
+  pub no_fault : stop_in contents ≡ None
+  pub no_part : contents.begun ≡ []
+  pub spelled : AreItems start contents.packets items
+  pub ends : grammar.may_end (after grammar start items) ≡ true
+  pub kept : AllKept (grammar.at_end (after grammar start items))
+
+-- The fault where no packet is left. Behind the page marked last a byte is one only where the stream may end; else a block is due.
+abbrev pub last_fault : Progress → (fault stop : Option (ℕ × Why)) → Option (ℕ × Why)
+last_fault p fault stop = cond (grammar.may_end p) stop fault
+
+-- Why there is no further item behind these packets and in this state.
+abbrev pub StopsAtPacket : Progress → (left : List (List ℕ)) → (begun : List ℕ) → (fault stop : Option (ℕ × Why)) → Place → Why → Type 0
+-- the next packet is no item
+StopsAtPacket p (packet ∷ left) begun fault stop at why =
+    (own : Option ℕ) × IsNoItem (room_in p.stand.phase) (packet_layout p.stand) (packet_start None) (closed_packet packet) (own, why) × (at ≡ packet_place p.stand (own, why))
+-- no packet is left that ends, but one that goes on; or none at all, which is the fault of a page, or a block is due, or a rule of the end is broken
+StopsAtPacket p [] begun fault stop at why =
+    ((begun ≢ []) × ((own : Option ℕ) × IsNoItem (room_in p.stand.phase) (packet_layout p.stand) (packet_start fault) (open_packet begun fault) (own, why) × (at ≡ packet_place p.stand (own, why))))
+    ⊎ (((begun ≡ []) × ((n : ℕ) × (last_fault p fault stop ≡ Some (n, why)) × (at ≡ page_place n why)))
+    ⊎ (((begun ≡ []) × (fault ≡ None) × (grammar.may_end p ≡ false) × (at ≡ grammar.place p) × (why ≡ PacketLength))
+    ⊎ ((begun ≡ []) × (stop ≡ None) × (grammar.may_end p ≡ true) × (at ≡ place.End) × BreaksFirst (grammar.at_end p) why)))
+
+-- behind these good items the input is refused, at this place and for this reason
+pub record OggRefused (mark : Mark) (items : List Piece) (text : List Bool) (at : Place) (why : Why) : Type 0 where
+  pub contents : Contents mark text
+  pub taken : List (List ℕ)
+  pub left : List (List ℕ)
+  pub split : contents.packets ≡ taken ++ left
+  pub spelled : AreItems start taken items
+  pub stops : StopsAtPacket (after grammar start items) left contents.begun (fault_in contents) (stop_in contents) at why

@@ -1,0 +1,71 @@
+-- What a track keeps of a packet, and what a call answers that reads the next one.
+use Rattle.std.specs.Prelude.{◌≡◌, ◌≢◌, Bool, true, false, List, [], is_some, Option, Some, None, Result, Ok, Err, ⊤, ◌⊎◌}
+use Rattle.flac_bits.specs.State.{Mark}
+use Rattle.flac_bits.specs.Layout.{Layout, ◌>>=◌}
+use Rattle.flac_bits.specs.declared.why.Why.TheVariants.{Memory}
+use Rattle.flac_native.specs.Stream.{Piece, block, framed, Stand, layout_in}
+use Rattle.flac_native.specs.Track.{stand_of, shown}
+use Rattle.flac_native.specs.declared.fault.Fault.{Fault}
+use Rattle.flac_native.specs.declared.phase.Phase.{Phase}
+use Rattle.flac_native.specs.declared.phase.Phase.TheVariants.{Opening, Blocks, Frames}
+use Rattle.flac_native.specs.declared.track.Track.{Track}
+use Rattle.flac_pages.specs.Packets.{Ahead, Place as Stands}
+use Rattle.flac_ogg.specs.Mapping.{mapping}
+use Rattle.flac_ogg.specs.Steps.{PacketStep, item, over, refused}
+use Rattle.flac_ogg.specs.declared.part.Part.{Part}
+use Rattle.flac_ogg.specs.declared.part.Part.TheVariants as part
+
+-- ---- what comes next
+
+-- the last block was read
+abbrev pub is_behind_blocks : Phase → Bool
+is_behind_blocks Opening = false
+is_behind_blocks Blocks = false
+is_behind_blocks Frames = true
+
+-- The marker stands in the mapping, and the first block is STREAMINFO.
+pub record IsUnderWay (s : Stand) : Type 0 where
+  pub begun : s.phase ≢ Opening
+  pub told : (is_some s.info ≡ true) ⊎ ((s.phase ≡ Blocks) × (s.seen.stream_info ≡ false))
+
+-- a packet's block, in this state
+abbrev pub block_packet : Stand → Layout Piece
+block_packet s = layout_in Blocks s
+
+-- and the first one
+abbrev pub first_packet : Stand → Layout Piece
+first_packet s = mapping >>= λ _. block_packet s
+
+-- ---- where pages begin
+
+-- a reader of pages stands before this text, and has read none
+pub record IsFront (mark : Mark) (text : List Bool) (p : Stands) : Type 0 where
+  pub lacing : p.lacing ≡ []
+  pub body : p.body ≡ []
+  pub last : p.last ≡ false
+  pub before : p.before ≡ None
+  pub count : p.count ≡ 0
+  pub cursor : p.cursor ≡ record { left = text; mark = mark }
+
+-- ---- what is read
+
+-- the part that was read last
+abbrev pub piece_of : Track → Part → Piece
+piece_of t (part.Block last b) = block last b
+piece_of t part.Frame = framed (shown t)
+
+-- a frame is there to be lent
+abbrev pub IsMade : Part → Track → Type 0
+IsMade (part.Block last b) t = ⊤
+IsMade part.Frame t = is_some (stand_of t).info ≡ true
+
+-- what a call answers that reads the next packet is what the step gives, but where memory is wanting
+abbrev pub StepIs : {X : Type 0} → (X → Piece) → PacketStep → Ahead → Result (Option X) Fault → Type 0
+StepIs view step a (Ok None) = step ≡ over
+StepIs view step a (Ok (Some x)) = step ≡ item (view x) a
+StepIs view step a (Err f) = f.why ≢ Memory → step ≡ refused f.at f.why
+
+-- and what is answered where no packet is left
+abbrev pub EndIs : {X : Type 0} → PacketStep → Result X Fault → Type 0
+EndIs step (Ok x) = step ≡ over
+EndIs step (Err f) = step ≡ refused f.at f.why

@@ -1,0 +1,15 @@
+//! FLAC in Ogg: metadata blocks and frames, each in a packet of its own (RFC 9639, section 10.1; RFC 3533).
+#![tactic(auto)]
+
+mod advance;
+mod decoding;
+mod items;
+mod laws;
+mod mapping;
+mod part;
+mod parts;
+mod places;
+
+pub use decoding::decode_ogg;
+pub use flac_native::{Fault, Place, Profile, Sink, SinkFault, Source, Why};
+pub use laws::{encoded_items, only_one_way, same_items, some_way};

@@ -1,0 +1,69 @@
+//! The next block or frame, out of the bits of its packet.
+
+ghost use Rattle.std.specs.Prelude.{◌≡◌, ◌≢◌, ◌≤◌, ◌+◌, OnOk, IfOk, Some};
+ghost use Rattle.flac_bits.specs.Fencing.{lifted};
+ghost use Rattle.flac_bits.specs.Reading.{Counts, ReadsInRoom};
+ghost use Rattle.flac_native.specs.Stream.{Progress, next, room_in, layout_in};
+ghost use Rattle.flac_native.specs.Track.{IsAt, stand_of};
+ghost use Rattle.flac_native.specs.Within.{ReadsWithin, ReadsWithinInRoom};
+ghost use Rattle.flac_native.specs.declared.phase.Phase.TheVariants.{Opening, Frames};
+ghost use Rattle.flac_ogg.specs.Mapping.{packet_layout};
+ghost use Rattle.flac_ogg.specs.Telling.{piece_of, IsMade, block_packet, first_packet};
+
+use crate::mapping::read_mapping;
+use crate::part::Part;
+use crate::places::{is_behind_blocks, is_first_block};
+use flac_bits::{BitReader, Source, Why};
+use flac_native::Track;
+
+/// Reads a block.
+fn read_block<R: Source>(bits: &mut BitReader<R>, track: &mut Track) -> Result<Part, Why>
+    ensures counts { Counts bits.old bits.new result }
+    ensures reads { ReadsInRoom (λ part. piece_of track.new part) (block_packet (stand_of track.old)) bits.old bits.new result }
+    ensures made { IfOk result (λ part. IsMade part track.new) }
+    ensures next { IfOk result (λ part. (p : Progress) → IsAt track.old p → IsAt track.new (next p (piece_of track.new part))) }
+{
+    let (last, block) = track.block(bits)?;
+    Ok(Part::Block { last, block })
+}
+
+/// Reads the mapping, and the block behind it.
+fn read_first_block<R: Source>(bits: &mut BitReader<R>, track: &mut Track) -> Result<Part, Why>
+    ensures counts { Counts bits.old bits.new result }
+    ensures reads { ReadsInRoom (λ part. piece_of track.new part) (first_packet (stand_of track.old)) bits.old bits.new result }
+    ensures made { IfOk result (λ part. IsMade part track.new) }
+    ensures next { IfOk result (λ part. (p : Progress) → IsAt track.old p → IsAt track.new (next p (piece_of track.new part))) }
+{
+    read_mapping(bits)?;
+    read_block(bits, track)
+}
+
+/// Reads a frame.
+fn read_frame<R: Source>(bits: &mut BitReader<R>, track: &mut Track) -> Result<Part, Why>
+    ensures counts { Counts (lifted bits.old) bits.new result }
+    ensures reads { ReadsWithin (Some 16777215) (λ part. piece_of track.new part) (layout_in Frames (stand_of track.old)) bits.old bits.new result }
+    ensures made { IfOk result (λ part. IsMade part track.new) }
+    ensures next { IfOk result (λ part. (p : Progress) → IsAt track.old p → IsAt track.new (next p (piece_of track.new part))) }
+{
+    track.next_frame(bits)?;
+    Ok(Part::Frame)
+}
+
+/// Reads the next block or frame.
+pub(crate) fn read_part<R: Source>(bits: &mut BitReader<R>, track: &mut Track) -> Result<Part, Why>
+    requires { (stand_of track.now).phase ≢ Opening }
+    ensures counts { Counts (lifted bits.old) bits.new result }
+    ensures reads { ReadsWithinInRoom (room_in (stand_of track.old).phase) (λ part. piece_of track.new part) (packet_layout (stand_of track.old)) bits.old bits.new result }
+    ensures made { IfOk result (λ part. IsMade part track.new) }
+    ensures next { IfOk result (λ part. (p : Progress) → IsAt track.old p → IsAt track.new (next p (piece_of track.new part))) }
+{
+    if is_behind_blocks(track) {
+        return read_frame(bits, track);
+    }
+    bits.lift();
+    bits.start_checks();
+    if is_first_block(track) {
+        return read_first_block(bits, track);
+    }
+    read_block(bits, track)
+}

@@ -1,0 +1,61 @@
+//! Where a stream is refused.
+
+ghost use Rattle.std.specs.Prelude.{◌≡◌};
+ghost use Rattle.flac_native.specs.Stream.{Stand, place_in};
+ghost use Rattle.flac_native.specs.Track.{stand_of};
+ghost use Rattle.flac_ogg.specs.Mapping.{is_first_block, page_place, item_place, packet_place};
+ghost use Rattle.flac_ogg.specs.Telling.{is_behind_blocks};
+
+use flac_native::{Fault, Place, Track, Why};
+
+/// Whether the first block comes next.
+pub(crate) fn is_first_block(track: &Track) -> bool
+    ensures { result ≡ is_first_block (stand_of track.now).phase (stand_of track.now).index }
+{
+    matches!(track.place(), Place::Block(0))
+}
+
+/// Whether the last block was read.
+pub(crate) fn is_behind_blocks(track: &Track) -> bool
+    ensures { result ≡ is_behind_blocks (stand_of track.now).phase }
+{
+    matches!(track.place(), Place::Frame(_))
+}
+
+/// Where the fault of a page stands.
+pub(crate) fn page_place(page: u64, why: Why) -> Place
+    ensures { result ≡ page_place page why }
+{
+    match why {
+        Why::BadMapping => Place::Marker,
+        Why::NoEndPage => Place::End,
+        _ => Place::Page(page),
+    }
+}
+
+/// Where an item is refused that would stand there.
+fn item_place(at: Place, why: Why) -> Place
+    ensures { (s : Stand) → at ≡ place_in s.phase s.index → result ≡ item_place s why }
+{
+    match why {
+        Why::BadMapping => Place::Marker,
+        _ => at,
+    }
+}
+
+/// The fault of a packet that is no item, where the item would stand there: of a page, where a page's fault breaks the packet off.
+pub(crate) fn packet_fault(at: Place, told: (Option<u64>, Why)) -> Fault
+    ensures place { (s : Stand) → at ≡ place_in s.phase s.index → result.at ≡ packet_place s told }
+    ensures why { result.why ≡ told.1 }
+{
+    match told {
+        (Some(page), why) => Fault {
+            at: page_place(page, why),
+            why,
+        },
+        (None, why) => Fault {
+            at: item_place(at, why),
+            why,
+        },
+    }
+}
