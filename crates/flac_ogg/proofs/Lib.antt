@@ -11,6 +11,3 @@ pub mod Handed
 pub mod NativeItems
 pub mod NativeBlocks
 pub mod NativeFrames
-pub mod Listing
-pub mod Packing
-pub mod Whole

@@ -5,5 +5,3 @@ pub mod Decoding
 pub mod Telling
 pub mod Native
 pub mod Laws
-pub mod Listed
-pub mod Writing
