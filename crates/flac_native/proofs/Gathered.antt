@@ -29,26 +29,26 @@ use Rattle.flac_native.proofs.Tables.{bytes_of, bytes_more, points_more}
 
 -- ---- sizes
 
-abbrev nth : List (List Bool) → ℕ → List Bool
+abbrev pub nth : List (List Bool) → ℕ → List Bool
 nth frames i = get_or frames i []
 
 pub no_sizes : AreSizes [] 0 0
 no_sizes = record { none = λ e. (refl, refl); least_is = λ h. absurd (omega arith); greatest_is = λ h. absurd (omega arith); within = λ i h. absurd (omega arith) }
 
-abbrev snoc : List (List Bool) → List Bool → List (List Bool)
+abbrev pub snoc : List (List Bool) → List Bool → List (List Bool)
 snoc frames t = frames ++ t ∷ []
 
-length-snoc : (frames : List (List Bool)) (t : List Bool) → length (snoc frames t) ≡ length frames + 1
+pub length-snoc : (frames : List (List Bool)) (t : List Bool) → length (snoc frames t) ≡ length frames + 1
 length-snoc frames t = length-append frames (t ∷ [])
 
-old_at : (frames : List (List Bool)) (t : List Bool) (i : ℕ) → i < length frames → nth (snoc frames t) i ≡ nth frames i
+pub old_at : (frames : List (List Bool)) (t : List Bool) (i : ℕ) → i < length frames → nth (snoc frames t) i ≡ nth frames i
 old_at frames t i h = get_or-append frames (t ∷ []) [] i h
 
-new_at : (frames : List (List Bool)) (t : List Bool) → nth (snoc frames t) (length frames) ≡ t
+pub new_at : (frames : List (List Bool)) (t : List Bool) → nth (snoc frames t) (length frames) ≡ t
 new_at frames t = get_or-append_seam frames t [] []
 
 -- what holds of each of the frames so far and of one more
-each_more : (P : ℕ → List Bool → Type 0) (frames : List (List Bool)) (t : List Bool) → ((i : ℕ) → i < length frames → P i (nth frames i)) → P (length frames) t → (i : ℕ) → i < length (snoc frames t) → P i (nth (snoc frames t) i)
+pub each_more : (P : ℕ → List Bool → Type 0) (frames : List (List Bool)) (t : List Bool) → ((i : ℕ) → i < length frames → P i (nth frames i)) → P (length frames) t → (i : ℕ) → i < length (snoc frames t) → P i (nth (snoc frames t) i)
 each_more P frames t so_far here i h = elim (cases_lt i (length frames)) [
   | inl b ↦ subst (P i) (sym (old_at frames t i b)) (so_far i b)
   | inr b ↦
@@ -126,7 +126,7 @@ counted n long after bytes small whole e is few = (omega (arith, small, whole, e
 abbrev pub least_with : ℕ → ℕ → ℕ → ℕ
 least_with number least bytes = cond (nat_eq number 0) bytes (min least bytes)
 
-sizes_with : (frames : List (List Bool)) (t : List Bool) (number least greatest bytes : ℕ) → length frames ≡ number → length t ≡ 8 * bytes → AreSizes frames least greatest → AreSizes (snoc frames t) (least_with number least bytes) (max greatest bytes)
+pub sizes_with : (frames : List (List Bool)) (t : List Bool) (number least greatest bytes : ℕ) → length frames ≡ number → length t ≡ 8 * bytes → AreSizes frames least greatest → AreSizes (snoc frames t) (least_with number least bytes) (max greatest bytes)
 sizes_with [] t zero least greatest bytes many e s = subst (λ g. AreSizes (t ∷ []) bytes g) (let h = (s.none refl).1 in omega (arith, h)) (first_sizes t bytes e)
 sizes_with [] t (suc n) least greatest bytes many e s = absurd (omega (arith, many))
 sizes_with (x ∷ xs) t zero least greatest bytes many e s = absurd (omega (arith, many))

@@ -14,19 +14,23 @@ pub enum EncodeFault {
     /// The list of blocks has a seek table, and the plan asks for one.
     #[error("9 RepeatedBlock")]
     RepeatedBlock,
+    /// The blocks or the plan cannot stand in an Ogg stream: the first block behind STREAMINFO is no Vorbis comment, or a seek table is asked for.
+    #[error("37 BadMapping")]
+    BadMapping,
     /// The writer answered an error in this call.
     #[error("39 Write")]
     Write,
 }
 
 impl EncodeFault {
-    /// The number of the fault: 2, 9 or 39.
+    /// The number of the fault: 2, 9, 37 or 39.
     pub fn number(self) -> u8
         ensures { result ≡ fault_number self }
     {
         match self {
             EncodeFault::Memory => 2,
             EncodeFault::RepeatedBlock => 9,
+            EncodeFault::BadMapping => 37,
             EncodeFault::Write => 39,
         }
     }

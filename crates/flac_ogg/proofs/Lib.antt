@@ -11,3 +11,6 @@ pub mod Handed
 pub mod NativeItems
 pub mod NativeBlocks
 pub mod NativeFrames
+pub mod Listing
+pub mod Packing
+pub mod Whole

@@ -5,3 +5,5 @@ pub mod Decoding
 pub mod Telling
 pub mod Native
 pub mod Laws
+pub mod Listed
+pub mod Writing

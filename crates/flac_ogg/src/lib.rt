@@ -3,13 +3,16 @@
 
 mod advance;
 mod decoding;
+mod encoding;
 mod items;
 mod laws;
 mod mapping;
+mod packet_list;
 mod part;
 mod parts;
 mod places;
 
 pub use decoding::decode_ogg;
+pub use encoding::encode_ogg;
 pub use flac_native::{Fault, Place, Profile, Sink, SinkFault, Source, Why};
 pub use laws::{encoded_items, only_one_way, same_items, some_way};

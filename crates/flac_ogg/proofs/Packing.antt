@@ -1,0 +1,124 @@
+-- The packets of what is encoded.
+use Rattle.std.proofs.Common.{◌≡◌, ℕ, zero, suc, ◌+◌, ◌*◌, ◌<◌, ◌≤◌, min, max, Bool, nat_eq, List, [], ◌∷◌, ◌++◌, length, take, get_or, replicate, None, refl, sym, ap, subst, ◌∙◌, arith}
+use Rattle.std.proofs.lemmas.Bool.Decides.{nat_tests}
+use Rattle.flac_bits.specs.Bits.{unsigned, bits_of, is_nil}
+use Rattle.flac_bits.proofs.Words.{length-unsigned}
+use Rattle.flac_bits.proofs.Holding.{length-bits_of}
+use Rattle.flac_meta.specs.Info.{Info}
+use Rattle.flac_meta.specs.Listed.{block_fault}
+use Rattle.flac_meta.specs.Spelling.{block_spelling}
+use Rattle.flac_meta.specs.declared.block.Block.{Block}
+use Rattle.flac_meta.specs.declared.block.Block.TheVariants as block_of
+use Rattle.flac_frame.specs.Audio.{Sound, samples_each}
+use Rattle.flac_frame.specs.Encoding.{IsEncoding, IsLeastFrame, IsShort}
+use Rattle.flac_frame.specs.Encoding as encoding
+use Rattle.flac_frame.specs.Spelling.{FrameForm, frame_spelling}
+use Rattle.flac_native.specs.Given.{Cut, blocks_in, size_of, frame_of}
+use Rattle.flac_native.specs.Writing.{SpellsFrame, SpellsLeast, AreSizes}
+use Rattle.flac_native.proofs.WholeBytes.{Whole, length-joined}
+use Rattle.flac_native.proofs.BlocksWritten.{nil_is}
+use Rattle.flac_native.proofs.Gathered.{nth, snoc, length-snoc, each_more, sizes_with, least_with, no_sizes, all_gathered}
+use Rattle.flac_ogg.specs.Listed.{Puts}
+use Rattle.flac_ogg.specs.Native.{mapping_spelling, block_spellings}
+use Rattle.flac_ogg.specs.Writing.{IsFrameText, PutsFrames, positions_to}
+use Rattle.flac_ogg.specs.declared.packet_list.PacketList.{PacketList}
+use Rattle.flac_ogg.proofs.Listing.{puts_none, puts_then}
+
+-- ---- the first packet
+
+pub mapping_long : (count : ℕ) → length (mapping_spelling count) ≡ 104
+mapping_long count = omega (arith, length-joined (unsigned 40 0x7F464C4143 ∷ unsigned 16 0x0100 ∷ unsigned 16 count ∷ unsigned 32 0x664C6143 ∷ []), length-unsigned 40 0x7F464C4143, length-unsigned 16 0x0100, length-unsigned 16 count, length-unsigned 32 0x664C6143)
+
+pub mapping_whole : (count : ℕ) → Whole (mapping_spelling count)
+mapping_whole count = record { bytes = omega (arith, mapping_long count) }
+
+pub info_faultless : (info : Info) → block_fault (block_of.StreamInfo info) ≡ None
+info_faultless info = refl
+
+-- ---- the blocks
+
+count_blocks : (bs : List Block) → length (block_spellings bs) ≡ length bs
+count_blocks [] = refl
+count_blocks (b ∷ bs) = omega (arith, count_blocks bs)
+
+shifted : (i n : ℕ) → nat_eq (i + 1) n ≡ nat_eq (suc i + 1) (suc n)
+shifted i n = grind (arith, nat_tests)
+
+one_only : (n : ℕ) → nat_eq n 0 ≡ nat_eq (0 + 1) (suc n)
+one_only n = grind (arith, nat_tests)
+
+-- the first blocks, and one more
+pub block_more : (bs : List Block) (i : ℕ) (b : Block) → i < length bs → b ≡ get_or bs i b → take (i + 1) (block_spellings bs) ≡ take i (block_spellings bs) ++ block_spelling (nat_eq (i + 1) (length bs)) b ∷ []
+block_more [] i b lt is = absurd (omega (arith, lt))
+block_more (x ∷ xs) zero b lt is =
+    ap (λ l. block_spelling l x ∷ []) (nil_is xs ∙ one_only (length xs)) ∙ ap (λ y. block_spelling (nat_eq (0 + 1) (suc (length xs))) y ∷ []) (sym is)
+block_more (x ∷ xs) (suc i) b lt is =
+    let e : suc i + 1 ≡ suc (i + 1) = omega arith in
+    ap (λ n. take n (block_spellings (x ∷ xs))) e ∙ ap (λ (l : List (List Bool)). block_spelling (is_nil xs) x ∷ l) (block_more xs i b (omega (arith, lt)) is ∙ ap (λ k. take i (block_spellings xs) ++ block_spelling k b ∷ []) (shifted i (length xs)))
+
+take_over : (xs : List (List Bool)) (n : ℕ) → n ≡ length xs → take n xs ≡ xs
+take_over [] zero e = refl
+take_over [] (suc n) e = refl
+take_over (x ∷ xs) zero e = absurd (omega (arith, e))
+take_over (x ∷ xs) (suc n) e = ap (λ (l : List (List Bool)). x ∷ l) (take_over xs n (omega (arith, e)))
+
+pub all_blocks : (bs : List Block) (i : ℕ) → i ≡ length bs → take i (block_spellings bs) ≡ block_spellings bs
+all_blocks bs i e = take_over (block_spellings bs) i (e ∙ sym (count_blocks bs))
+
+abbrev pub zeros : ℕ → List ℕ
+zeros n = replicate n 0
+
+pub zeros_more : (i : ℕ) → zeros (i + 1) ≡ zeros i ++ 0 ∷ []
+zeros_more zero = refl
+zeros_more (suc i) = let e : suc i + 1 ≡ suc (i + 1) = omega arith in ap zeros e ∙ ap (λ (l : List ℕ). 0 ∷ l) (zeros_more i)
+
+-- ---- the frames
+
+pub frame_text : (a : Sound) (start size number : ℕ) (f : FrameForm) (text : List Bool) → IsEncoding a size number (encoding.block_of start size a.channels) f → IsLeastFrame a size number (encoding.block_of start size a.channels) f
+    → IsShort a.bits f → text ≡ frame_spelling a.bits f → IsFrameText a start size number text
+frame_text a start size number f text encoded chosen short is =
+    record { frame = record { form = f; encoding = encoded; spelling = is; short = omega (arith, ap (λ (k : List Bool). length k) is, short) }; least = record { form = f; least = chosen; spelling = is } }
+
+-- so many frames were put behind the other packets
+pub record FramesSoFar (p : Cut) (a : Sound) (old new : PacketList) (number least greatest : ℕ) : Type 0 where
+  pub frames : List (List Bool)
+  pub many : length frames ≡ number
+  pub each : (i : ℕ) → i < length frames → SpellsFrame a (frame_of p.block_size a i) (nth frames i)
+  pub each_least : (i : ℕ) → i < length frames → SpellsLeast a (frame_of p.block_size a i) (nth frames i)
+  pub sizes : AreSizes frames least greatest
+  pub put : Puts frames (positions_to p.block_size (samples_each a.channels) number) old new
+
+pub no_frames : (p : Cut) (a : Sound) (l : PacketList) → FramesSoFar p a l l 0 0 0
+no_frames p a l = record { frames = []; many = refl; each = λ i h. absurd (omega arith); each_least = λ i h. absurd (omega arith); sizes = no_sizes; put = puts_none l }
+
+pub one_frame : (p : Cut) (a : Sound) (l m n : PacketList) (number least greatest bytes start size granule : ℕ) (packet : List ℕ) → FramesSoFar p a l m number least greatest
+    → start ≡ p.block_size * number → size ≡ size_of p.block_size (samples_each a.channels) number → granule ≡ min (samples_each a.channels) (p.block_size * (number + 1)) → bytes ≡ length packet
+    → IsFrameText a start size number (bits_of packet) → Puts (bits_of packet ∷ []) (granule ∷ []) m n → FramesSoFar p a l n (number + 1) (least_with number least bytes) (max greatest bytes)
+one_frame p a l m n number least greatest bytes start size granule packet g start_is size_is granule_is bytes_is text put =
+    let t = bits_of packet in
+    let total = samples_each a.channels in
+    let here = subst (λ k. IsFrameText a (p.block_size * number) k number t) size_is (subst (λ k. IsFrameText a k size number t) start_is text) in
+    let next : number + 1 ≡ suc number = omega arith in
+    let position : granule ≡ min total (p.block_size * suc number) = granule_is ∙ ap (λ k. min total (p.block_size * k)) next in
+    let positions : positions_to p.block_size total number ++ granule ∷ [] ≡ positions_to p.block_size total (number + 1) =
+    ap (λ k. positions_to p.block_size total number ++ k ∷ []) position ∙ ap (λ k. positions_to p.block_size total k) (sym next) in
+    record {
+      frames = snoc g.frames t;
+      many = omega (arith, length-snoc g.frames t, g.many);
+      each = each_more (λ i k. SpellsFrame a (frame_of p.block_size a i) k) g.frames t g.each (subst (λ k. SpellsFrame a (frame_of p.block_size a k) t) (sym g.many) here.frame);
+      each_least = each_more (λ i k. SpellsLeast a (frame_of p.block_size a i) k) g.frames t g.each_least (subst (λ k. SpellsLeast a (frame_of p.block_size a k) t) (sym g.many) here.least);
+      sizes = sizes_with g.frames t number least greatest bytes g.many (length-bits_of packet ∙ ap (λ k. 8 * k) (sym bytes_is)) g.sizes;
+      put = subst (λ k. Puts (snoc g.frames t) k l n) positions (puts_then g.frames (t ∷ []) (positions_to p.block_size total number) (granule ∷ []) l m n g.put put);
+    }
+
+pub all_frames : (p : Cut) (a : Sound) (l m : PacketList) (number least greatest start : ℕ) → 16 ≤ p.block_size → FramesSoFar p a l m number least greatest → number ≤ blocks_in p.block_size (samples_each a.channels)
+    → start ≡ min (samples_each a.channels) (p.block_size * number) → samples_each a.channels ≤ start → PutsFrames p a l m least greatest
+all_frames p a l m number least greatest start some g few at over =
+    let all = all_gathered p.block_size (samples_each a.channels) number some few (omega (arith, at, over)) in
+    record {
+      frames = g.frames;
+      are = record { many = g.many ∙ all; each = g.each };
+      are_least = g.each_least;
+      sizes = g.sizes;
+      put = subst (λ k. Puts g.frames (positions_to p.block_size (samples_each a.channels) k) l m) all g.put;
+    }

@@ -1,0 +1,195 @@
+-- All packets of what is encoded, and the Ogg stream of them.
+use Rattle.std.proofs.Common.{◌≡◌, ℕ, suc, ◌+◌, ◌^◌, ◌<◌, Bool, true, List, [], ◌∷◌, ◌++◌, length, length-append, append-nil, map, get_or, ◌-◌, nat_eq, None, Err, refl, sym, ap, subst, ◌∙◌, arith}
+use Rattle.std.specs.List.{All}
+use Rattle.std.proofs.lemmas.List.{length-replicate}
+use Rattle.std.proofs.lemmas.Bool.Decides.{nat_tests}
+use Rattle.flac_bits.specs.Bits.{unsigned, bits_of, is_nil}
+use Rattle.flac_bits.specs.State.{Mark, past}
+use Rattle.flac_bits.specs.Layout.{number_at, number_from, next_bit, because}
+use Rattle.flac_bits.specs.Forms.{IsBytes}
+use Rattle.flac_bits.specs.declared.why.Why.TheVariants.{Truncated}
+use Rattle.flac_bits.proofs.Meaning.{past-short}
+use Rattle.flac_bits.proofs.Words.{length-unsigned}
+use Rattle.flac_bits.proofs.Holding.{length-bits_of, bits_of-append}
+use Rattle.flac_meta.specs.Info.{Info}
+use Rattle.flac_meta.specs.Listed.{list_fault, info_seen}
+use Rattle.flac_meta.specs.Spelling as s
+use Rattle.flac_meta.specs.Valid.{AllAre, FitsFields}
+use Rattle.flac_meta.specs.declared.block.Block.{Block}
+use Rattle.flac_meta.specs.declared.block.Block.TheVariants as block_of
+use Rattle.flac_frame.specs.Audio.{Sound, samples_each}
+use Rattle.flac_native.specs.Decoding.{beginning}
+use Rattle.flac_native.specs.Stream.{Piece}
+use Rattle.flac_native.specs.Given.{Cut, fits_plan, plan_fault, blocks_in, info_of, sound_message}
+use Rattle.flac_native.proofs.BlocksWritten.{nil_is}
+use Rattle.flac_native.proofs.Digests.{digest_is_bytes}
+use Rattle.flac_native.proofs.WholeBytes.{length-joined, header_long}
+use Rattle.flac_pages.specs.Pages.{closed, end_fault, fault_behind, unless_over}
+use Rattle.flac_pages.specs.Packets.{at_page}
+use Rattle.flac_pages.specs.Placed.{Placed, IsPlaced, stream_pages, stream_spelling}
+use Rattle.flac_pages.proofs.PlacedPages.{written_pages_are_good}
+use Rattle.flac_ogg.specs.Stream.{OggStream}
+use Rattle.flac_ogg.specs.Native.{mapping_spelling, block_spellings, AreStream}
+use Rattle.flac_ogg.specs.Listed.{Holds, Puts, texts_of, positions_in}
+use Rattle.flac_ogg.specs.Writing.{PutsFrames, ArePackets, EncodesOgg, BeginsOgg, header_count, positions_to}
+use Rattle.flac_ogg.specs.declared.packet_list.PacketList.{PacketList}
+use Rattle.flac_ogg.proofs.NativeFrames.{encoded_are_ogg_items}
+use Rattle.flac_ogg.proofs.Listing.{texts_append, positions_append}
+use Rattle.flac_ogg.proofs.Packing.{mapping_long, zeros}
+
+-- ---- the first packet has 51 bytes
+
+info_long : (i : Info) → IsBytes 16 i.digest → length (s.info_spelling i) ≡ 272
+unfolding s.info_spelling
+info_long i is =
+    omega (
+      arith,
+      length-joined (
+          unsigned 16 i.least_block ∷ unsigned 16 i.greatest_block ∷ unsigned 24 i.least_frame ∷ unsigned 24 i.greatest_frame ∷
+          unsigned 20 i.rate ∷ unsigned 3 (i.channels - 1) ∷ unsigned 5 (i.depth - 1) ∷ unsigned 36 i.total ∷ bits_of i.digest ∷ []),
+      length-unsigned 16 i.least_block,
+      length-unsigned 16 i.greatest_block,
+      length-unsigned 24 i.least_frame,
+      length-unsigned 24 i.greatest_frame,
+      length-unsigned 20 i.rate,
+      length-unsigned 3 (i.channels - 1),
+      length-unsigned 5 (i.depth - 1),
+      length-unsigned 36 i.total,
+      length-bits_of i.digest,
+      is.many,
+    )
+
+block_long : (last : Bool) (i : Info) → IsBytes 16 i.digest → length (s.block_spelling last (block_of.StreamInfo i)) ≡ 304
+unfolding s.block_spelling s.content_spelling
+block_long last i is = omega (arith, length-joined (s.header_spelling last 0 (s.length_of (block_of.StreamInfo i)) ∷ s.info_spelling i ∷ []), header_long last 0 (s.length_of (block_of.StreamInfo i)), info_long i is)
+
+first_size : (count : ℕ) (last : Bool) (p : Cut) (a : Sound) (least greatest : ℕ) (packet : List ℕ) → bits_of packet ≡ mapping_spelling count ++ s.block_spelling last (block_of.StreamInfo (info_of p a least greatest)) → length packet ≡ 51
+first_size count last p a least greatest packet is =
+    let i = info_of p a least greatest in
+    omega (arith, length-bits_of packet, ap (λ (k : List Bool). length k) is, length-append (mapping_spelling count) (s.block_spelling last (block_of.StreamInfo i)), mapping_long count, block_long last i (digest_is_bytes (sound_message a)))
+
+-- its bits, where STREAMINFO is the last block if there are no others
+pub first_text : (bs list : List Block) (info i : Info) (text : List Bool) → bs ≡ list → info ≡ i → text ≡ mapping_spelling (header_count (length bs)) ++ s.block_spelling (nat_eq (length bs) 0) (block_of.StreamInfo info)
+    → text ≡ mapping_spelling (header_count (length list)) ++ s.block_spelling (is_nil list) (block_of.StreamInfo i)
+first_text bs list info i text blocks same is =
+    is ∙ ap (λ (l : List Block). mapping_spelling (header_count (length l)) ++ s.block_spelling (nat_eq (length l) 0) (block_of.StreamInfo info)) blocks
+    ∙ ap (λ j. mapping_spelling (header_count (length list)) ++ s.block_spelling (nat_eq (length list) 0) (block_of.StreamInfo j)) same
+    ∙ ap (λ k. mapping_spelling (header_count (length list)) ++ s.block_spelling k (block_of.StreamInfo i)) (sym (nil_is list))
+
+-- the zeros that stand in its place at first
+pub blank_long : length (zeros 51) ≡ 51
+blank_long = let z : ℕ = 0 in length-replicate 51 z
+
+-- ---- the list of all packets
+
+-- all packets but the first, whose place another one of 51 bytes holds
+pub record Made (p : Cut) (list : List Block) (a : Sound) (l : PacketList) (first : List ℕ) : Type 0 where
+  pub old : Placed
+  pub others : List Placed
+  pub held : Holds l (old ∷ others)
+  pub long : length old.packet ≡ length first
+  pub are : ArePackets p list a (record { packet = first; granule = old.granule } ∷ others)
+
+-- one packet alone
+record One (l m : PacketList) (text : List Bool) (position : ℕ) : Type 0 where
+  pub only : Placed
+  pub text_is : bits_of only.packet ≡ text
+  pub position_is : only.granule ≡ position
+  pub held : Holds l [] → Holds m (only ∷ [])
+
+one_put : (l m : PacketList) (text : List Bool) (position : ℕ) → Puts (text ∷ []) (position ∷ []) l m → One l m text position
+one_put l m text position h = go h.packets h.texts_are h.positions_are (h.held [])
+  where
+    go : (ps : List Placed) → texts_of ps ≡ text ∷ [] → positions_in ps ≡ position ∷ [] → (Holds l [] → Holds m ps) → One l m text position
+    go [] e f k = absurd (omega (arith, ap (λ (x : List ℕ). length x) f))
+    go (x ∷ []) e f k = record { only = x; text_is = ap (λ (t : List (List Bool)). get_or t 0 text) e; position_is = ap (λ (t : List ℕ). get_or t 0 position) f; held = k }
+    go (x ∷ y ∷ zs) e f k = absurd (omega (arith, ap (λ (x : List ℕ). length x) f))
+
+pub packets_made : (p : Cut) (list : List Block) (a : Sound) (l0 l1 l2 l3 : PacketList) (blank first : List ℕ) (least greatest : ℕ) → length blank ≡ 51 → Holds l0 [] → Puts (bits_of blank ∷ []) (0 ∷ []) l0 l1
+    → Puts (block_spellings list) (zeros (length list)) l1 l2 → PutsFrames p a l2 l3 least greatest
+    → bits_of first ≡ mapping_spelling (header_count (length list)) ++ s.block_spelling (is_nil list) (block_of.StreamInfo (info_of p a least greatest)) → Made p list a l3 first
+packets_made p list a l0 l1 l2 l3 blank first least greatest many none put blocks frames is =
+    let o = one_put l0 l1 (bits_of blank) 0 put in
+    let old = o.only in
+    let others : List Placed = blocks.packets ++ frames.put.packets in
+    let blank_long : length old.packet ≡ length blank = omega (arith, ap (λ (k : List Bool). length k) o.text_is, length-bits_of old.packet, length-bits_of blank) in
+    let behind : List ℕ = positions_to p.block_size (samples_each a.channels) (blocks_in p.block_size (samples_each a.channels)) in
+    let up : suc (length list) ≡ length list + 1 = omega arith in
+    let positions : positions_in others ≡ zeros (length list) ++ behind = positions_append blocks.packets frames.put.packets ∙ ap (λ t. t ++ positions_in frames.put.packets) blocks.positions_are ∙ ap (λ t. zeros (length list) ++ t) frames.put.positions_are in
+    record {
+      old = old;
+      others = others;
+      held = frames.put.held (old ∷ blocks.packets) (blocks.held (old ∷ []) (o.held none));
+      long = blank_long ∙ many ∙ sym (first_size (header_count (length list)) (is_nil list) p a least greatest first is);
+      are = record {
+        least = least;
+        greatest = greatest;
+        frames = frames.frames;
+        are = frames.are;
+        are_least = frames.are_least;
+        sizes = frames.sizes;
+        texts = ap (λ (t : List Bool). t ∷ texts_of others) is ∙ ap (λ (t : List (List Bool)). (mapping_spelling (header_count (length list)) ++ s.block_spelling (is_nil list) (block_of.StreamInfo (info_of p a least greatest))) ∷ t)
+            (texts_append blocks.packets frames.put.packets ∙ ap (λ t. t ++ texts_of frames.put.packets) blocks.texts_are ∙ ap (λ t. block_spellings list ++ t) frames.put.texts_are);
+        positions = ap (λ (n : ℕ). n ∷ positions_in others) o.position_is ∙ ap (λ (t : List ℕ). 0 ∷ t) positions ∙ ap (λ n. zeros n ++ behind) up;
+      };
+    }
+
+-- ---- the stream
+
+nothing_left : (m : Mark) → number_at 8 (record { left = []; mark = m }) ≡ Err (because m.short)
+unfolding number_at number_from next_bit
+nothing_left m = refl
+
+ends_well : (m : Mark) → m.short ≡ Truncated → end_fault (record { left = []; mark = m }) ≡ None
+unfolding end_fault
+ends_well m is = ap fault_behind (nothing_left m) ∙ ap unless_over is
+
+ogg_stream : (serial : ℕ) (q : Placed) (qs : List Placed) (items : List Piece) → serial < 2 ^ 32 → length q.packet ≡ 51 → All IsPlaced (q ∷ qs) → AreStream (map (λ x. x.packet) (q ∷ qs)) items
+    → OggStream (beginning Truncated) items (stream_spelling serial (q ∷ qs))
+ogg_stream serial q qs items small long good are =
+    let m = beginning Truncated in
+    let text = stream_spelling serial (q ∷ qs) in
+    let h = written_pages_are_good serial q qs m small long good in
+    record {
+      contents = record {
+        run = record { pages = stream_pages serial (q ∷ qs); stop = closed (record { left = []; mark = past text m }) };
+        is_run = record { text = text; rest = []; stands = sym (append-nil text); good = h.good; ends = (h.final, refl) };
+        packets = map (λ x. x.packet) (q ∷ qs);
+        begun = [];
+        packed = h.just;
+      };
+      no_fault = ap (λ o. at_page (length (stream_pages serial (q ∷ qs))) o) (ends_well (past text m) (past-short text m));
+      no_part = refl;
+      spelled = are.spelled;
+      ends = are.ends;
+      kept = are.kept;
+    }
+
+count_small : (n : ℕ) → header_count n < 2 ^ 16
+count_small n = grind (arith, nat_tests)
+
+pub encodes_ogg : (serial : ℕ) (p : Cut) (list : List Block) (a : Sound) (l : PacketList) (packets : List Placed) (before : List Bool) → serial < 2 ^ 32 → plan_fault p ≡ None → fits_plan p a ≡ true
+    → list_fault info_seen list ≡ None → AllAre FitsFields list → Holds l packets → ArePackets p list a packets → EncodesOgg serial p list a before (before ++ stream_spelling serial packets)
+encodes_ogg serial p list a l [] before small planned fits may fields held are = absurd (omega (arith, ap (λ (x : List (List Bool)). length x) are.texts))
+encodes_ogg serial p list a l (q ∷ qs) before small planned fits may fields held are =
+    let count = header_count (length list) in
+    let first : bits_of q.packet ≡ mapping_spelling count ++ s.block_spelling (is_nil list) (block_of.StreamInfo (info_of p a are.least are.greatest)) = ap (λ (t : List (List Bool)). get_or t 0 []) are.texts in
+    let long = first_size count (is_nil list) p a are.least are.greatest q.packet first in
+    let items = encoded_are_ogg_items p list a are.least are.greatest count are.frames (map (λ x. x.packet) (q ∷ qs)) planned fits may fields are.are are.sizes (count_small (length list)) are.texts in
+    record { packets = q ∷ qs; are = are; written = refl; stream = ogg_stream serial q qs _ small long held.good items }
+
+-- ---- what of it was sent
+
+-- all of its bytes were sent
+pub all_sent : (serial : ℕ) (p : Cut) (list : List Block) (a : Sound) (bytes old new : List ℕ) → EncodesOgg serial p list a (bits_of old) (bits_of old ++ bits_of bytes) → new ≡ old ++ bytes → EncodesOgg serial p list a (bits_of old) (bits_of new)
+all_sent serial p list a bytes old new e is = subst (λ k. EncodesOgg serial p list a (bits_of old) k) (sym (ap bits_of is ∙ bits_of-append old bytes)) e
+
+-- the first of its bytes were sent
+pub some_sent : (serial : ℕ) (p : Cut) (list : List Block) (a : Sound) (bytes front rest old new : List ℕ) → EncodesOgg serial p list a (bits_of old) (bits_of old ++ bits_of bytes) → bytes ≡ front ++ rest → new ≡ old ++ front
+    → BeginsOgg serial p list a (bits_of old) (bits_of new)
+some_sent serial p list a bytes front rest old new e cut is = record {
+  front = bits_of front;
+  rest = bits_of rest;
+  written = ap bits_of is ∙ bits_of-append old front;
+  encodes = subst (λ k. EncodesOgg serial p list a (bits_of old) (bits_of old ++ k)) (ap bits_of cut ∙ bits_of-append front rest) e;
+}

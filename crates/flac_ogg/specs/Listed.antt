@@ -1,0 +1,27 @@
+-- Packets that lie one after another in memory.
+use Rattle.std.specs.Prelude.{◌≡◌, ℕ, Bool, List, ◌++◌, length, map}
+use Rattle.std.specs.List.{All}
+use Rattle.flac_bits.specs.Bits.{bits_of}
+use Rattle.flac_pages.specs.Placed.{Placed, IsPlaced, AreInOrder, placed_in, end_of}
+use Rattle.flac_ogg.specs.declared.packet_list.PacketList.{PacketList}
+
+-- the list holds these packets
+pub record Holds (l : PacketList) (packets : List Placed) : Type 0 where
+  pub order : AreInOrder 0 (length l.bytes.items) l.ends.items
+  pub over : end_of 0 l.ends.items ≡ length l.bytes.items
+  pub placed : placed_in l.bytes.items 0 l.ends.items ≡ packets
+  pub good : All IsPlaced packets
+
+-- the bits of each packet, and the position that its last page tells
+abbrev pub texts_of : List Placed → List (List Bool)
+texts_of packets = map bits_of (map (λ q. q.packet) packets)
+
+abbrev pub positions_in : List Placed → List ℕ
+positions_in packets = map (λ q. q.granule) packets
+
+-- packets of these bits and positions were put behind the others
+pub record Puts (texts : List (List Bool)) (positions : List ℕ) (old new : PacketList) : Type 0 where
+  pub packets : List Placed
+  pub texts_are : texts_of packets ≡ texts
+  pub positions_are : positions_in packets ≡ positions
+  pub held : (before : List Placed) → Holds old before → Holds new (before ++ packets)

@@ -1,0 +1,82 @@
+-- What encoding writes as an Ogg stream, and that it is one of what was given (RFC 9639, section 10.1).
+use Rattle.std.specs.Prelude.{◌≡◌, ℕ, zero, suc, ◌+◌, ◌*◌, min, Bool, true, false, cond, ◌&&◌, nat_eq, nat_lt, List, [], ◌∷◌, ◌++◌, length, map, replicate}
+use Rattle.flac_bits.specs.declared.why.Why.TheVariants.{Truncated}
+use Rattle.flac_meta.specs.declared.block.Block.{Block}
+use Rattle.flac_meta.specs.declared.block.Block.TheVariants as blocks
+use Rattle.flac_frame.specs.Audio.{Sound, samples_each}
+use Rattle.flac_frame.specs.Encoding.{block_of}
+use Rattle.flac_frame.specs.Frame.{Frame}
+use Rattle.flac_native.specs.Decoding.{beginning}
+use Rattle.flac_native.specs.Stream.{framed}
+use Rattle.flac_native.specs.Given.{Cut, blocks_in, info_of, frames_of, closing}
+use Rattle.flac_native.specs.Writing.{AreFrames, AreLeastFrames, AreSizes, SpellsFrame, SpellsLeast}
+use Rattle.flac_pages.specs.Placed.{Placed, stream_spelling}
+use Rattle.flac_ogg.specs.Stream.{OggStream}
+use Rattle.flac_ogg.specs.Native.{packet_spellings}
+use Rattle.flac_ogg.specs.Listed.{texts_of, positions_in, Puts}
+use Rattle.flac_ogg.specs.declared.packet_list.PacketList.{PacketList}
+
+-- The first block behind STREAMINFO is a Vorbis comment.
+abbrev pub begins_with_comment : List Block → Bool
+begins_with_comment (blocks.VorbisComment found ∷ list) = true
+begins_with_comment list = false
+
+-- These can stand in an Ogg stream: the first block is a Vorbis comment, and no seek table is asked for, since its offsets have no meaning there.
+abbrev pub may_be_ogg : Cut → List Block → Bool
+may_be_ogg p list = nat_eq p.seek_every 0 && begins_with_comment list
+
+-- how many header packets follow the first one, in 16 bits: 0 where they are more than these can tell
+abbrev pub header_count : ℕ → ℕ
+header_count n = cond (nat_lt 65535 n) 0 n
+
+-- the block of samples from one on as the frame of a number
+abbrev pub frame_at : Sound → (start size number : ℕ) → Frame
+frame_at a start size number = record { variable = false; number = number; size = size; channels = block_of start size a.channels }
+
+-- the bits are the least frame of these samples, and short
+pub record IsFrameText (a : Sound) (start size number : ℕ) (text : List Bool) : Type 0 where
+  pub frame : SpellsFrame a (frame_at a start size number) text
+  pub least : SpellsLeast a (frame_at a start size number) text
+
+-- behind each of the first n frames, the number of samples so far
+abbrev pub positions_to : (block_size total n : ℕ) → List ℕ
+positions_to block_size total zero = []
+positions_to block_size total (suc n) = positions_to block_size total n ++ min total (block_size * suc n) ∷ []
+
+-- 0 for each header packet, and behind a frame the number of samples so far
+abbrev pub positions_of : Cut → List Block → Sound → List ℕ
+positions_of p list a = replicate (length list + 1) 0 ++ positions_to p.block_size (samples_each a.channels) (blocks_in p.block_size (samples_each a.channels))
+
+-- all frames of the samples were put behind the other packets, each the least of its block, of which the shortest and the longest have so many bytes
+pub record PutsFrames (p : Cut) (a : Sound) (old new : PacketList) (least greatest : ℕ) : Type 0 where
+  pub frames : List (List Bool)
+  pub are : AreFrames p a frames
+  pub are_least : AreLeastFrames p a frames
+  pub sizes : AreSizes frames least greatest
+  pub put : Puts frames (positions_to p.block_size (samples_each a.channels) (blocks_in p.block_size (samples_each a.channels))) old new
+
+-- The packets are those of what was given: the mapping with STREAMINFO, a block each, and a frame each: all frames of the samples, each the least of its
+-- block, whose least and greatest sizes STREAMINFO tells.
+pub record ArePackets (p : Cut) (list : List Block) (a : Sound) (packets : List Placed) : Type 0 where
+  pub least : ℕ
+  pub greatest : ℕ
+  pub frames : List (List Bool)
+  pub are : AreFrames p a frames
+  pub are_least : AreLeastFrames p a frames
+  pub sizes : AreSizes frames least greatest
+  pub texts : texts_of packets ≡ packet_spellings (header_count (length list)) (info_of p a least greatest) list frames
+  pub positions : positions_in packets ≡ positions_of p list a
+
+-- Behind the bits that were there, an Ogg stream of what was given was written, of these packets.
+pub record EncodesOgg (serial : ℕ) (p : Cut) (list : List Block) (a : Sound) (before after : List Bool) : Type 0 where
+  pub packets : List Placed
+  pub are : ArePackets p list a packets
+  pub written : after ≡ before ++ stream_spelling serial packets
+  pub stream : OggStream (beginning Truncated) (closing (blocks.StreamInfo (info_of p a are.least are.greatest) ∷ list) ++ map framed (frames_of p.block_size a)) (stream_spelling serial packets)
+
+-- What was written is a beginning of such a stream, behind the bits that were there.
+pub record BeginsOgg (serial : ℕ) (p : Cut) (list : List Block) (a : Sound) (before after : List Bool) : Type 0 where
+  pub front : List Bool
+  pub rest : List Bool
+  pub written : after ≡ before ++ front
+  pub encodes : EncodesOgg serial p list a before (before ++ (front ++ rest))

@@ -1,0 +1,236 @@
+//! Writes Ogg streams.
+
+ghost use Rattle.std.specs.Prelude.{◌≡◌, ◌∷◌, [], ◌++◌, ◌≤◌, ◌<◌, ◌+◌, ◌-◌, ◌^◌, ◌↔◌, List, length, min, max, cond, nat_eq, true, false, replicate, IfOk, IfErr, OnOk, None, Err};
+ghost use Rattle.flac_bits.specs.Bits.{bits_of, is_nil};
+ghost use Rattle.flac_bits.specs.Written.{Writes};
+ghost use Rattle.flac_meta.specs.Listed.{block_fault};
+ghost use Rattle.flac_meta.specs.Spelling.{block_spelling};
+ghost use Rattle.flac_meta.specs.declared.block.Block.TheVariants as block_of;
+ghost use Rattle.flac_frame.specs.Audio.{samples_each};
+ghost use Rattle.flac_native.specs.Given.{fits_plan};
+ghost use Rattle.flac_pages.specs.Placed.{Placed};
+ghost use Rattle.flac_ogg.specs.Listed.{Holds, Puts};
+ghost use Rattle.flac_ogg.specs.Native.{mapping_spelling, block_spellings};
+ghost use Rattle.flac_ogg.specs.Writing.{begins_with_comment, may_be_ogg, header_count, IsFrameText, PutsFrames, ArePackets, EncodesOgg, BeginsOgg};
+
+use crate::packet_list::PacketList;
+use flac_bits::{BitWriter, Collected, Target, Why, send_all};
+use flac_frame::{Audio, EncodeBuffers, encode_frame};
+use flac_meta::{Block, BlockList, StreamInfo, write_block};
+use flac_native::{EncodeFault, Plan, info_of};
+use std::alloc::Global;
+
+/// Whether the first block is a Vorbis comment.
+fn begins_with_comment(blocks: &[Block]) -> bool
+    ensures { result ≡ begins_with_comment blocks.now }
+{
+    match blocks.first() {
+        Some(Block::VorbisComment(_)) => true,
+        _ => false,
+    }
+}
+
+/// Whether these blocks can stand in an Ogg stream, and the plan asks for no seek table.
+fn may_be_ogg(plan: &Plan, list: &BlockList) -> bool
+    ensures { result ≡ may_be_ogg plan.now list.now }
+{
+    plan.seek_every() == 0 && begins_with_comment(list.blocks())
+}
+
+/// How many header packets follow the first one, 0 where 16 bits cannot tell it.
+fn header_count(blocks: usize) -> u64
+    ensures value { result ≡ header_count blocks }
+    ensures small { result < 2 ^ 16 }
+{
+    if blocks > 65535 { 0 } else { blocks as u64 }
+}
+
+/// Writes what stands in the first packet before STREAMINFO (RFC 9639, section 10.1).
+fn write_mapping<W: Target>(count: u64, writer: &mut BitWriter<W>) -> Result<(), Why>
+    requires { count < 2 ^ 16 }
+    ensures { Writes (mapping_spelling count) writer.old writer.new result }
+{
+    writer.put(40, 0x7F464C4143)?;
+    writer.put(16, 0x0100)?;
+    writer.put(16, count)?;
+    writer.put(32, 0x664C6143)?;
+    Ok(())
+}
+
+/// The first packet: the mapping and STREAMINFO, which is the last block where there are no others. Refuses where a growth is.
+fn first_packet(alloc: Global, info: StreamInfo, blocks: usize) -> Result<Vec<u8>, Why>
+    ensures { IfOk result (λ packet. bits_of packet.items ≡ mapping_spelling (header_count blocks) ++ block_spelling (nat_eq blocks 0) (block_of.StreamInfo info)) }
+{
+    let mut writer = BitWriter::new(Collected::new(alloc));
+    write_mapping(header_count(blocks), &mut writer)?;
+    write_block(&Block::StreamInfo(info), blocks == 0, &mut writer)?;
+    writer.finish()?;
+    let target = writer.into_target();
+    Ok(target.into_bytes())
+}
+
+/// A block as a packet. Refuses where a growth is.
+fn block_packet(alloc: Global, block: &Block, last: bool) -> Result<Vec<u8>, Why>
+    requires { block_fault block.now ≡ None }
+    ensures { IfOk result (λ packet. bits_of packet.items ≡ block_spelling last block.now) }
+{
+    let mut writer = BitWriter::new(Collected::new(alloc));
+    write_block(block, last, &mut writer)?;
+    writer.finish()?;
+    let target = writer.into_target();
+    Ok(target.into_bytes())
+}
+
+/// Puts each block behind the others as a packet.
+fn push_blocks(alloc: Global, list: &BlockList, packets: &mut PacketList) -> Result<(), Why>
+    ensures { OnOk result (Puts (block_spellings list.now) (replicate (length list.now) 0) packets.old packets.new) }
+{
+    let blocks = list.blocks();
+    let count = blocks.len();
+    for i in 0..count {
+        let packet = block_packet(alloc, &blocks[i], i + 1 == count)?;
+        packets.push(packet.as_slice(), 0)?;
+    }
+    Ok(())
+}
+
+/// The samples from one place to another as the frame of a number, in memory. Refuses where a growth is.
+fn frame_packet(
+    alloc: Global,
+    audio: &Audio,
+    start: usize,
+    end: usize,
+    number: u64,
+    buffers: &mut EncodeBuffers,
+) -> Result<Vec<u8>, Why>
+    requires some { start < end }
+    requires within { end ≤ samples_each audio.now.channels }
+    requires room { end - start ≤ buffers.old }
+    requires number { number < 2 ^ 31 }
+    ensures kept { buffers.new ≡ buffers.old }
+    ensures frame { IfOk result (λ packet. IsFrameText audio.now start (end - start) number (bits_of packet.items)) }
+{
+    let mut writer = BitWriter::new(Collected::new(alloc));
+    encode_frame(audio, start..end, number, buffers, &mut writer)?;
+    writer.finish()?;
+    let target = writer.into_target();
+    Ok(target.into_bytes())
+}
+
+/// The least and the greatest number of bytes of a frame, 0 where there is none.
+#[derive(Clone, Copy)]
+struct Sizes {
+    least: u32,
+    greatest: u32,
+}
+
+/// The sizes with one more frame.
+fn sizes_with(sizes: Sizes, number: u64, bytes: u32) -> Sizes
+    ensures least { result.least ≡ cond (nat_eq number 0) bytes (min sizes.least bytes) }
+    ensures greatest { result.greatest ≡ max sizes.greatest bytes }
+{
+    Sizes {
+        least: if number == 0 {
+            bytes
+        } else {
+            sizes.least.min(bytes)
+        },
+        greatest: sizes.greatest.max(bytes),
+    }
+}
+
+/// Puts each frame of the samples behind the other packets.
+fn push_frames(
+    alloc: Global,
+    plan: &Plan,
+    audio: &Audio,
+    packets: &mut PacketList,
+) -> Result<Sizes, Why>
+    requires { fits_plan plan.now audio.now ≡ true }
+    ensures put { IfOk result (λ s. PutsFrames plan.now audio.now packets.old packets.new s.least s.greatest) }
+    ensures sizes { IfOk result (λ s. (s.least ≤ s.greatest) × (s.greatest < 2 ^ 24)) }
+{
+    let size = plan.block_size() as usize;
+    let total = audio.len();
+    let mut buffers = EncodeBuffers::new(alloc, plan.block_size())?;
+    let mut sizes = Sizes {
+        least: 0,
+        greatest: 0,
+    };
+    let mut number = 0;
+    let mut start = 0;
+    while start < total {
+        let end = start + size.min(total - start);
+        let packet = frame_packet(alloc, audio, start, end, number, &mut buffers)?;
+        packets.push(packet.as_slice(), end as u64)?;
+        sizes = sizes_with(sizes, number, packet.len() as u32);
+        number += 1;
+        start = end;
+    }
+    Ok(sizes)
+}
+
+/// All packets of what is encoded. Refuses where a growth is.
+fn packets_of(
+    alloc: Global,
+    plan: &Plan,
+    list: &BlockList,
+    audio: &Audio,
+) -> Result<PacketList, Why>
+    requires { fits_plan plan.now audio.now ≡ true }
+    ensures { IfOk result (λ l. (packets : List Placed) × Holds l packets × ArePackets plan.now list.now audio.now packets) }
+{
+    let mut packets = PacketList::new(alloc);
+    // The frames' sizes, which the first packet tells, are known once all are made: till then zeros stand there.
+    packets.push(&[0; 51], 0)?;
+    push_blocks(alloc, list, &mut packets)?;
+    let sizes = push_frames(alloc, plan, audio, &mut packets)?;
+    let info = info_of(plan, audio, sizes.least, sizes.greatest);
+    let first = first_packet(alloc, info, list.blocks().len())?;
+    packets.set_first(first.as_slice());
+    Ok(packets)
+}
+
+/// Writes samples as an Ogg stream of FLAC (RFC 9639, section 10.1; RFC 3533): the mapping with STREAMINFO, each block of the list, of which the last is marked,
+/// and a frame for each block of the plan, each in a packet of its own that begins a page. A page that ends a header packet tells position 0, and one that ends
+/// a frame the number of samples so far. The whole stream is held in memory before its first byte is sent.
+///
+/// The plan fits the samples: see [`Plan::fits`]. `serial` is the number of the stream.
+///
+/// # Errors
+/// [`EncodeFault::BadMapping`] where the list does not begin with a Vorbis comment, or the plan asks for a seek table; then nothing was sent.
+/// [`EncodeFault::Memory`] where a growth was refused; then nothing was sent. [`EncodeFault::Write`] where the target answered an error; then it was sent a
+/// beginning of the stream, behind what it had.
+pub fn encode_ogg<W: Target>(
+    alloc: Global,
+    serial: u32,
+    plan: &Plan,
+    list: &BlockList,
+    audio: &Audio,
+    target: &mut W,
+) -> Result<(), EncodeFault>
+    requires { fits_plan plan.now audio.now ≡ true }
+    ensures written { OnOk result (W.known target.old ≡ true → EncodesOgg serial plan.now list.now audio.now (bits_of (W.sent target.old)) (bits_of (W.sent target.new))) }
+    ensures begun { IfErr result (λ e. e ≡ EncodeFault.Write → W.known target.old ≡ true → BeginsOgg serial plan.now list.now audio.now (bits_of (W.sent target.old)) (bits_of (W.sent target.new))) }
+    ensures failed { IfErr result (λ e. e ≡ EncodeFault.Write → W.known target.old ≡ true → W.errors target.old < W.errors target.new) }
+    ensures memory { IfErr result (λ e. e ≡ EncodeFault.Memory → target.new ≡ target.old) }
+    ensures mapping { (result ≡ Err EncodeFault.BadMapping) ↔ (may_be_ogg plan.now list.now ≡ false) }
+    ensures kept { IfErr result (λ e. e ≡ EncodeFault.BadMapping → target.new ≡ target.old) }
+    ensures names { W.names target.new ≡ W.names target.old }
+{
+    if !may_be_ogg(plan, list) {
+        return Err(EncodeFault::BadMapping);
+    }
+    let _size = plan.block_size();
+    let _blocks = list.blocks();
+    let Ok(packets) = packets_of(alloc, plan, list, audio) else {
+        return Err(EncodeFault::Memory);
+    };
+    let Ok(pages) = packets.pages(alloc, serial) else {
+        return Err(EncodeFault::Memory);
+    };
+    match send_all(target, pages.as_slice()) {
+        Ok(()) => Ok(()),
+        Err(_) => Err(EncodeFault::Write),
+    }
+}

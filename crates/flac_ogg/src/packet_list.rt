@@ -1,0 +1,80 @@
+//! Packets in memory, one after another.
+
+ghost use Rattle.std.specs.Prelude.{◌≡◌, ◌≤◌, ◌∷◌, [], ◌++◌, List, length, drop, vec_len, IfOk, OnOk};
+ghost use Rattle.flac_bits.specs.Bits.{bits_of};
+ghost use Rattle.flac_bits.specs.Forms.{AreBytes};
+ghost use Rattle.flac_pages.specs.Placed.{Placed, AreInOrder, placed_in, stream_spelling};
+ghost use Rattle.flac_ogg.specs.Listed.{Holds, Puts};
+
+use flac_bits::{BitWriter, Collected, Why};
+use flac_pages::{PacketAt, write_packets};
+use std::alloc::Global;
+
+/// Packets that lie one after another, and where each ends.
+#[derive(Drop)]
+pub(crate) struct PacketList {
+    pub(crate) bytes: Vec<u8>,
+    pub(crate) ends: Vec<PacketAt>,
+}
+
+/// Each byte is below 256.
+fn bytes_fit(bytes: &[u8])
+    ensures { AreBytes bytes.now }
+{}
+
+/// Puts bytes in the place of the first ones.
+fn put_first(bytes: &mut [u8], first: &[u8])
+    requires { length first.now ≤ length bytes.old }
+    ensures { bytes.new ≡ first.now ++ drop (length first.now) bytes.old }
+{
+    bytes[..first.len()].copy_from_slice(first);
+}
+
+impl PacketList {
+    /// No packets.
+    pub(crate) fn new(alloc: Global) -> PacketList
+        ensures { Holds result [] }
+    {
+        PacketList {
+            bytes: Vec::new(alloc),
+            ends: Vec::new(alloc),
+        }
+    }
+
+    /// Puts a packet behind the others; its last page is to tell this position. After an error the list is of no use.
+    pub(crate) fn push(&mut self, packet: &[u8], granule: u64) -> Result<(), Why>
+        ensures { OnOk result (Puts (bits_of packet.now ∷ []) (granule ∷ []) self.old self.new) }
+    {
+        bytes_fit(packet);
+        self.bytes.extend_from_slice(packet)?;
+        let end = self.bytes.len();
+        self.ends.push(PacketAt { end, granule })?;
+        Ok(())
+    }
+
+    /// Puts another packet of as many bytes in the place of the first.
+    pub(crate) fn set_first(&mut self, packet: &[u8])
+        requires { length packet.now ≤ vec_len self.old.bytes }
+        ensures { (first : Placed) (others : List Placed) → length first.packet ≡ length packet.now → Holds self.old (first ∷ others) → Holds self.new (record { packet = packet.now; granule = first.granule } ∷ others) }
+    {
+        bytes_fit(packet);
+        put_first(&mut self.bytes, packet);
+    }
+
+    /// The pages of a stream of these packets (RFC 3533, section 6). Refuses where a growth is.
+    pub(crate) fn pages(&self, alloc: Global, serial: u32) -> Result<Vec<u8>, Why>
+        requires { AreInOrder 0 (length self.now.bytes.items) self.now.ends.items }
+        ensures { IfOk result (λ pages. (packets : List Placed) → Holds self.now packets → bits_of pages.items ≡ stream_spelling serial packets) }
+    {
+        let mut writer = BitWriter::new(Collected::new(alloc));
+        write_packets(
+            serial,
+            self.bytes.as_slice(),
+            self.ends.as_slice(),
+            &mut writer,
+        )?;
+        writer.finish()?;
+        let target = writer.into_target();
+        Ok(target.into_bytes())
+    }
+}
