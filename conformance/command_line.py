@@ -1,7 +1,7 @@
 """Cases of the command line: files that are not there, refused words."""
 import program
 import vectors
-from program import NotYet, Wrong
+from program import Wrong
 
 
 def cases(bench):
@@ -9,13 +9,6 @@ def cases(bench):
         found, _, err = program.call(*words)
         if found != status or (due is not None and err != due.encode()):
             raise Wrong(f"status {found}, {err[:200]!r}; due is status {status}, {due!r}")
-
-    def later(words, status, due):
-        """As `line`, for a command that may not be there yet: its whole line is then refused with another text."""
-        found, _, err = program.call(*words)
-        if found == 2 and err != due.encode():
-            raise NotYet(words[0])
-        line(words, status, due)
 
     good, absent = bench.put(vectors.ROW_1), "/nonexistent/a.flac"
     encode = ["--rate", "44100", "--channels", "2", "--bits", "16"]
@@ -28,8 +21,8 @@ def cases(bench):
     yield "no such folder for OUT", lambda: line(["decode", good, absent], 1, f"flac: {absent}: cannot be created\n")
     yield "encode without rate", lambda: line(["encode", good, bench.path(), *encode[2:]], 2, None)
     yield "encode with a word for a rate", lambda: line(["encode", good, bench.path(), "--rate", "x", *encode[2:]], 2, None)
-    yield "comment without =", lambda: later(["encode", good, bench.path(), *encode, "TITLE"], 2, "flac: command: comment without =\n")
-    yield "retag without =", lambda: later(["retag", good, bench.path(), "TITLE"], 2, "flac: command: comment without =\n")
-    yield "Ogg and seek table", lambda: later(["encode", good, bench.path(), *encode, "--ogg", "--seek-every", "5"], 2,
+    yield "comment without =", lambda: line(["encode", good, bench.path(), *encode, "TITLE"], 2, "flac: command: comment without =\n")
+    yield "retag without =", lambda: line(["retag", good, bench.path(), "TITLE"], 2, "flac: command: comment without =\n")
+    yield "Ogg and seek table", lambda: line(["encode", good, bench.path(), *encode, "--ogg", "--seek-every", "5"], 2,
                                               "flac: command: --ogg with --seek-every\n")
-    yield "list, no such file", lambda: later(["list", absent], 1, f"flac: {absent}: cannot be opened\n")
+    yield "list, no such file", lambda: line(["list", absent], 1, f"flac: {absent}: cannot be opened\n")

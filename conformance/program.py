@@ -12,7 +12,7 @@ PLACE = r"(?:marker|end|(?:block|frame|page) \d+)"
 
 
 class NotYet(Exception):
-    """The program does not have this command or option yet."""
+    """The program does not have this option yet, or the case is none for it."""
 
 
 class Wrong(Exception):
@@ -31,22 +31,11 @@ def call(*words, limit=120):
 
 
 def ask(*words, limit=120):
-    """As `call`, where status 2 can only mean that the command is not there yet, and 49 stands for a part that is not."""
+    """As `call`, where status 2 to `--lax` means that this option is not there yet."""
     status, out, err = call(*words, limit=limit)
-    if status == 2 or (status == 1 and err.endswith(b": 49 NotYet\n")):
-        raise NotYet(f"'{words[0]}' is not there yet")
-    if status == 1 and err.endswith((b": marker: 4 BadMarker\n", b": marker: 3 Truncated\n")) and reads_ogg(words):
-        raise NotYet("Ogg is not there yet")
+    if status == 2 and "--lax" in words:
+        raise NotYet("'--lax' is not there yet")
     return status, out, err
-
-
-def reads_ogg(words):
-    """Whether the call reads a file that begins as Ogg does; a program that knows Ogg never answers BadMarker there."""
-    try:
-        with open(words[1], "rb") as file:
-            return file.read(1) == b"O"
-    except (IndexError, OSError):
-        return False
 
 
 def succeeds(*words, limit=120):

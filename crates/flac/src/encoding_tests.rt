@@ -3,21 +3,22 @@
 use crate::row_tests::{DEPTHS, answers};
 use crate::tests::{DECODE, LIST, Wanted, expect};
 use flac_bits::{Collected, Memory};
-use flac_cli::{Format, Job, run};
+use flac_cli::{Container, Format, Job, run};
 use std::alloc::Global;
 use std::test::Fail;
 
-fn encoding(format: Format, comments: Vec<&str>) -> Job<'_> {
+pub(crate) fn encoding(format: Format, container: Container, comments: Vec<&str>) -> Job<'_> {
     Job::Encode {
         input: "a.raw",
         output: "a.flac",
         format,
+        container,
         comments,
     }
 }
 
 /// Samples a second 44100, bits 16, blocks of 4096, no seek table.
-fn format(channels: u32) -> Format {
+pub(crate) fn format(channels: u32) -> Format {
     Format {
         rate: 44100,
         channels,
@@ -29,16 +30,19 @@ fn format(channels: u32) -> Format {
 
 /// What an encoding without comments writes.
 fn encoded(alloc: Global, raw: &[u8], format: Format) -> Vec<u8> {
-    written(alloc, raw, format, Vec::new(alloc))
+    written(
+        alloc,
+        raw,
+        encoding(format, Container::Native, Vec::new(alloc)),
+    )
 }
 
 /// What an encoding writes.
-fn written(alloc: Global, raw: &[u8], format: Format, comments: Vec<&str>) -> Vec<u8> {
+pub(crate) fn written(alloc: Global, raw: &[u8], job: Job<'_>) -> Vec<u8> {
     let mut source = Memory::new(raw);
     let mut file = Collected::new(alloc);
     let mut out = Collected::new(alloc);
     let mut err = Collected::new(alloc);
-    let job = encoding(format, comments);
     let _status = run(alloc, &job, &mut source, &mut file, &mut out, &mut err);
     file.into_bytes()
 }
@@ -114,7 +118,8 @@ fn no_samples(rt: HostRuntime) -> Result<(), Fail> {
 fn comments(rt: HostRuntime) -> Result<(), Fail> {
     let mut words = Vec::new(rt.alloc());
     words.push("TITLE=x")?;
-    let stream = written(rt.alloc(), &[0xF4, 0x63, 0xB0, 0x28], format(2), words);
+    let job = encoding(format(2), Container::Native, words);
+    let stream = written(rt.alloc(), &[0xF4, 0x63, 0xB0, 0x28], job);
     assert_eq!(rt; stream.len(), 94);
     assert!(rt;
         stream.as_slice()[42..79]
@@ -170,7 +175,7 @@ fn refused_encodings(rt: HostRuntime) {
             out: "",
             err: line,
         };
-        let job = encoding(format, Vec::new(rt.alloc()));
+        let job = encoding(format, Container::Native, Vec::new(rt.alloc()));
         expect(&rt, rt.alloc(), job, &[0, 0, 0, 8, 0, 0], 1, &wanted);
     }
 }

@@ -1,9 +1,10 @@
 //! Ogg streams, page by page: those that are accepted, and where and why the others are refused. The sums of the pages were worked out apart from this project.
 
+use crate::encoding_tests::{encoding, format, written};
 use crate::row_tests::answers;
 use crate::tests::{DECODE, LIST, Wanted, expect};
 use flac_bits::{Collected, Memory, Pieces};
-use flac_cli::run;
+use flac_cli::{Container, Format, run};
 use std::alloc::Global;
 use std::test::Fail;
 
@@ -408,4 +409,48 @@ fn a_sum_is_wrong(rt: HostRuntime) -> Result<(), Fail> {
     comment[0] = 0x4E;
     let input = joined(rt.alloc(), &[&MAPPING, &comment, &FRAME])?;
     answers(&rt, rt.alloc(), input.as_slice(), "page 1: 31 BadPage\n")
+}
+
+/// The program's comment block, the last block.
+const VENDOR: [u8; 54] = [
+    0x4F, 0x67, 0x67, 0x53, 0x00, 0x00, 0x00, 0x00, 0x00, 0x00, 0x00, 0x00, 0x00, 0x00, 0x01, 0x00,
+    0x00, 0x00, 0x01, 0x00, 0x00, 0x00, 0x50, 0xE3, 0x2F, 0x54, 0x01, 0x1A, 0x84, 0x00, 0x00, 0x16,
+    0x0E, 0x00, 0x00, 0x00, 0x66, 0x6C, 0x61, 0x63, 0x20, 0x70, 0x72, 0x6F, 0x66, 0x69, 0x6C, 0x65,
+    0x20, 0x31, 0x00, 0x00, 0x00, 0x00,
+];
+
+/// An encoding in Ogg is the mapping, the program's comment block and the frame, a page each, and gives its samples back.
+#[test]
+fn one_sample_in_ogg(rt: HostRuntime) -> Result<(), Fail> {
+    let alloc = rt.alloc();
+    let raw = [0xF4, 0x63, 0xB0, 0x28];
+    let container = Container::Ogg { serial: 1 };
+    let job = encoding(format(2), container, Vec::new(alloc));
+    let stream = written(alloc, &raw, job);
+    let wanted = joined(alloc, &[&MAPPING, &VENDOR, &FRAME])?;
+    assert!(rt; stream.as_slice() == wanted.as_slice());
+    let wanted = Wanted {
+        file: &raw,
+        out: "",
+        err: "",
+    };
+    expect(&rt, alloc, DECODE, stream.as_slice(), 0, &wanted);
+    Ok(())
+}
+
+/// An encoding in Ogg that asks for a seek table is refused, and nothing is written.
+#[test]
+fn no_table_in_ogg(rt: HostRuntime) {
+    let alloc = rt.alloc();
+    let format = Format {
+        seek_every: 1,
+        ..format(2)
+    };
+    let job = encoding(format, Container::Ogg { serial: 1 }, Vec::new(alloc));
+    let wanted = Wanted {
+        file: &[],
+        out: "",
+        err: "flac: a.raw: 37 BadMapping\n",
+    };
+    expect(&rt, alloc, job, &[0xF4, 0x63, 0xB0, 0x28], 1, &wanted);
 }

@@ -1,7 +1,7 @@
 //! The program over memory.
 
 use flac_bits::{Collected, Counted, Memory};
-use flac_cli::{Format, Job, job, run};
+use flac_cli::{Container, Format, Job, job, run};
 use std::alloc::Global;
 use std::borrow::CowStr;
 use std::io;
@@ -306,6 +306,7 @@ fn words_of_encoding(rt: HostRuntime) -> Result<(), Fail> {
             block: 4096,
             seek_every: 5,
         },
+        container: Container::Native,
         comments,
     };
     let words = [
@@ -326,10 +327,51 @@ fn words_of_encoding(rt: HostRuntime) -> Result<(), Fail> {
     reads(&rt, alloc, &words, wanted)
 }
 
-/// A comment without `=`.
+/// The words of an encoding in Ogg, without `--ogg` of a native one.
 #[test]
-fn words_without_equals(rt: HostRuntime) -> Result<(), Fail> {
+fn words_of_ogg(rt: HostRuntime) -> Result<(), Fail> {
     let alloc = rt.alloc();
+    let rows = [
+        ("--ogg", "--serial", "7", Container::Ogg { serial: 7 }),
+        ("--ogg", "--block", "4096", Container::Ogg { serial: 1 }),
+        ("--seek-every=0", "--serial", "7", Container::Native),
+    ];
+    for (first, option, value, container) in rows {
+        let wanted = Job::Encode {
+            input: "a.raw",
+            output: "a.oga",
+            format: Format {
+                rate: 44100,
+                channels: 2,
+                bits: 16,
+                block: 4096,
+                seek_every: 0,
+            },
+            container,
+            comments: Vec::new(alloc),
+        };
+        let words = [
+            "flac",
+            "encode",
+            "a.raw",
+            "a.oga",
+            "--rate",
+            "44100",
+            "--channels",
+            "2",
+            "--bits",
+            "16",
+            first,
+            option,
+            value,
+        ];
+        reads(&rt, alloc, &words, wanted)?;
+    }
+    Ok(())
+}
+
+/// What `job` refuses about the words of an encoding that end with these.
+fn refuses(rt: &impl Abort, alloc: Global, last: &[&str], text: &str) -> Result<(), Fail> {
     let words = [
         "flac",
         "encode",
@@ -341,13 +383,23 @@ fn words_without_equals(rt: HostRuntime) -> Result<(), Fail> {
         "2",
         "--bits",
         "16",
-        "none",
     ];
-    let given = texts(alloc, &words)?;
+    let mut given = texts(alloc, &words)?;
+    for word in last {
+        given.push(String::from_str(alloc, word)?)?;
+    }
     let refusal = job(alloc, given.as_slice()).err();
-    assert!(rt;
-        refusal.map(|fault| fault.text)
-            == Some(CowStr::Borrowed("flac: command: comment without =\n"))
-    );
+    assert!(rt; refusal.map(|fault| fault.text) == Some(CowStr::Borrowed(text)));
     Ok(())
+}
+
+/// A comment without `=`, and a seek table in Ogg, of which the first is told where both stand.
+#[test]
+fn refused_encodings(rt: HostRuntime) -> Result<(), Fail> {
+    let alloc = rt.alloc();
+    let equals = "flac: command: comment without =\n";
+    let table = "flac: command: --ogg with --seek-every\n";
+    refuses(&rt, alloc, &["none"], equals)?;
+    refuses(&rt, alloc, &["--ogg", "--seek-every", "5"], table)?;
+    refuses(&rt, alloc, &["--ogg", "--seek-every", "5", "none"], equals)
 }

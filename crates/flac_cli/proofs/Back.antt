@@ -1,5 +1,5 @@
 -- The frames of an encoding have just the samples that it was given.
-use Rattle.std.proofs.Common.{◌≡◌, ◌≤◌, ◌<◌, ◌+◌, ◌*◌, ◌-◌, ◌/◌, ℕ, zero, suc, ℤ, pos, List, [], ◌∷◌, ◌++◌, drop, map, min, get_or, None, refl, ap, sym, ◌∙◌, arith}
+use Rattle.std.proofs.Common.{◌≡◌, ◌≤◌, ◌<◌, ◌+◌, ◌*◌, ◌-◌, ◌/◌, ℕ, zero, suc, ℤ, pos, Bool, List, [], ◌∷◌, ◌++◌, drop, map, min, get_or, None, refl, ap, sym, ◌∙◌, arith}
 use Rattle.std.proofs.lemmas.List.{get_or-take, get_or-drop}
 use Rattle.std.proofs.Math.Nat.{div-add-mod, mod-lt}
 use Rattle.flac_meta.specs.declared.seek_table.SeekPoint.{SeekPoint}
@@ -8,10 +8,12 @@ use Rattle.flac_frame.specs.Encoding.{block_of}
 use Rattle.flac_native.specs.Message.{sample_width, sample_bytes, row_bytes, rows_bytes}
 use Rattle.flac_native.specs.Stream.{Piece, framed}
 use Rattle.flac_native.specs.Given.{cut_of, plan_fault, sound_message, size_of, frames_from, blocks_in, given}
-use Rattle.flac_native.specs.Seeking.{table_of}
+use Rattle.flac_native.specs.Seeking.{points_of, table_of}
 use Rattle.flac_native.proofs.Messages.{rows_split}
 use Rattle.flac_native.proofs.Planned.{planned}
-use Rattle.flac_cli.specs.Encoded.{comment_list}
+use Rattle.flac_cli.specs.Encoded.{comment_list, EncodesIn, parts_in}
+use Rattle.flac_cli.specs.declared.encoding.Container.{Container}
+use Rattle.flac_cli.specs.declared.encoding.Container.TheVariants as container
 use Rattle.flac_cli.specs.Samples.{all_samples}
 
 part_row : (width start size k : ℕ) (channels : List (List ℤ)) → k < size → row_bytes width (block_of start size channels) k ≡ row_bytes width channels (start + k)
@@ -90,3 +92,9 @@ given_back block every a words points least greatest good =
         → all_samples 0 (given (cut_of block a every) (comment_list words ++ table_of points) a least greatest) ≡ rows_bytes (sample_width a.bits) a.channels (samples_each a.channels) 0
     go [] e = e
     go (x ∷ xs) e = e
+
+-- they are, native or in Ogg, where no seek table stands
+pub parts_back : (c : Container) (block every : ℕ) (a : Sound) (words : List (List ℕ)) (before after : List Bool) (e : EncodesIn c (cut_of block a every) (comment_list words) a before after)
+    → plan_fault (cut_of block a every) ≡ None → all_samples 0 (parts_in c (cut_of block a every) (comment_list words) a before after e) ≡ sound_message a
+parts_back container.Native block every a words before after e good = given_back block every a words (points_of (cut_of block a every) e.frames) e.least e.greatest good
+parts_back (container.Ogg serial) block every a words before after e good = given_back block every a words [] e.are.least e.are.greatest good

@@ -10,7 +10,7 @@ AsksDecode other = ⊥
 
 -- the job reads a whole stream
 abbrev pub AsksStream : Job → Type 0
-AsksStream (job.Encode input output format comments) = ⊥
+AsksStream (job.Encode input output format container comments) = ⊥
 AsksStream (job.Retag input output comments) = ⊥
 AsksStream other = Unit {0}
 
@@ -19,12 +19,12 @@ abbrev pub input_of : Job → List ℕ
 input_of (job.Test input) = input.now
 input_of (job.Decode input output) = input.now
 input_of (job.List input) = input.now
-input_of (job.Encode input output format comments) = input.now
+input_of (job.Encode input output format container comments) = input.now
 input_of (job.Retag input output comments) = input.now
 
 -- the path of the file that is written, where there is one
 abbrev pub output_of : Job → Option (List ℕ)
 output_of (job.Decode input output) = Some output.now
-output_of (job.Encode input output format comments) = Some output.now
+output_of (job.Encode input output format container comments) = Some output.now
 output_of (job.Retag input output comments) = Some output.now
 output_of other = None

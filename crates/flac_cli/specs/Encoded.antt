@@ -2,14 +2,18 @@
 use Rattle.std.specs.Prelude.{◌≡◌, ℕ, Bool, List, [], ◌∷◌, ◌++◌, map, codes}
 use Rattle.flac_meta.specs.declared.comments.Comments.{Comments}
 use Rattle.flac_meta.specs.declared.block.Block.{Block}
-use Rattle.flac_meta.specs.declared.block.Block.TheVariants.{VorbisComment}
+use Rattle.flac_meta.specs.declared.block.Block.TheVariants.{StreamInfo, VorbisComment}
 use Rattle.flac_frame.specs.Audio.{Sound}
-use Rattle.flac_native.specs.Given.{cut_of, given}
+use Rattle.flac_native.specs.Given.{Cut, cut_of, info_of, frames_of, closing, given}
+use Rattle.flac_native.specs.Stream.{Piece, framed}
 use Rattle.flac_native.specs.Seeking.{points_of, table_of}
 use Rattle.flac_native.specs.Writing.{Encodes}
+use Rattle.flac_ogg.specs.Writing.{EncodesOgg}
 use Rattle.flac_cli.specs.Raw.{IsRaw}
 use Rattle.flac_cli.specs.Samples.{all_samples}
 use Rattle.flac_cli.specs.declared.encoding.Format.{Format}
+use Rattle.flac_cli.specs.declared.encoding.Container.{Container}
+use Rattle.flac_cli.specs.declared.encoding.Container.TheVariants as container
 use Rattle.flac_cli.specs.declared.jobs.Job.{Job}
 use Rattle.flac_cli.specs.declared.jobs.Job.TheVariants as job
 
@@ -21,16 +25,26 @@ comments_of words = record { vendor = codes "flac profile 1"; list = words }
 abbrev pub comment_list : List (List ℕ) → List Block
 comment_list words = VorbisComment (comments_of words) ∷ []
 
--- Behind the bits that were there, a stream was written: of the samples that these bytes are, in blocks of the format's size,
--- with these words as comments, and behind them the seek table that the format asks for. The samples of its frames are these bytes again, so decoding it
+-- behind the bits that were there, a stream of what was given was written
+abbrev pub EncodesIn : Container → Cut → List Block → Sound → (before after : List Bool) → Type 0
+EncodesIn container.Native p list a before after = Encodes p list a before after
+EncodesIn (container.Ogg serial) p list a before after = EncodesOgg serial p list a before after
+
+-- the blocks and frames of this stream
+abbrev pub parts_in : (c : Container) (p : Cut) (list : List Block) (a : Sound) (before after : List Bool) → EncodesIn c p list a before after → List Piece
+parts_in container.Native p list a before after e = given p (list ++ table_of (points_of p e.frames)) a e.least e.greatest
+parts_in (container.Ogg serial) p list a before after e = closing (StreamInfo (info_of p a e.are.least e.are.greatest) ∷ list) ++ map framed (frames_of p.block_size a)
+
+-- Behind the bits that were there, a stream was written, native or Ogg: of the samples that these bytes are, in blocks of the format's size,
+-- with these words as comments, and in a native one behind them the seek table that the format asks for. The samples of its frames are these bytes again, so decoding it
 -- gives them back.
-pub record EncodesRaw (format : Format) (words : List (List ℕ)) (bytes : List ℕ) (before after : List Bool) : Type 0 where
+pub record EncodesRaw (format : Format) (c : Container) (words : List (List ℕ)) (bytes : List ℕ) (before after : List Bool) : Type 0 where
   pub audio : Sound
   pub raw : IsRaw format bytes audio
-  pub encodes : Encodes (cut_of format.block audio format.seek_every) (comment_list words) audio before after
-  pub back : all_samples 0 (given (cut_of format.block audio format.seek_every) (comment_list words ++ table_of (points_of (cut_of format.block audio format.seek_every) encodes.frames)) audio encodes.least encodes.greatest) ≡ bytes
+  pub encodes : EncodesIn c (cut_of format.block audio format.seek_every) (comment_list words) audio before after
+  pub back : all_samples 0 (parts_in c (cut_of format.block audio format.seek_every) (comment_list words) audio before after encodes) ≡ bytes
 
 -- so it is where the job is an encoding
 abbrev pub HasEncoded : Job → (bytes : List ℕ) → (before after : List Bool) → Type 0
-HasEncoded (job.Encode input output format comments) bytes before after = EncodesRaw format (map (λ c. c.now) comments.items) bytes before after
+HasEncoded (job.Encode input output format c comments) bytes before after = EncodesRaw format c (map (λ w. w.now) comments.items) bytes before after
 HasEncoded other bytes before after = Unit {0}

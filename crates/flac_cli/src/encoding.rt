@@ -2,7 +2,8 @@
 
 ghost use Rattle.std.specs.Prelude.{◌≡◌, ◌≤◌, true, map, IfOk, OnOk, None};
 ghost use Rattle.flac_bits.specs.Bits.{bits_of};
-ghost use Rattle.flac_cli.specs.Encoded.{comments_of, comment_list, EncodesRaw};
+ghost use Rattle.flac_native.specs.Given.{fits_plan};
+ghost use Rattle.flac_cli.specs.Encoded.{comments_of, comment_list, EncodesIn, EncodesRaw};
 ghost use Rattle.flac_cli.specs.Raw.{IsRaw};
 
 use crate::raw::{channels_of, read_all};
@@ -11,6 +12,7 @@ use flac_frame::{Audio, SetupFault};
 use flac_header::{depth_code, rate_code};
 use flac_meta::{Block, BlockList, Bytes, Comments, Texts};
 use flac_native::{EncodeFault, Plan, encode};
+use flac_ogg::encode_ogg;
 use std::alloc::Global;
 use std::fmt;
 
@@ -26,6 +28,15 @@ pub struct Format {
     pub bits: u32,
     pub block: u32,
     pub seek_every: u32,
+}
+
+/// What the blocks and frames of a stream stand in.
+#[derive(Clone, Copy, Debug, PartialEq, Eq)]
+pub enum Container {
+    /// Nothing: a native stream (RFC 9639, section 6).
+    Native,
+    /// The packets of an Ogg stream of this serial number (RFC 9639, section 10.1).
+    Ogg { serial: u32 },
 }
 
 /// Why raw samples are not encoded.
@@ -139,21 +150,40 @@ fn comment_list(alloc: Global, words: &[&str]) -> Result<BlockList, Why>
     BlockList::new(blocks)
 }
 
+/// Writes what was given as a stream.
+fn write_stream<W: Target>(
+    alloc: Global,
+    container: Container,
+    plan: &Plan,
+    list: &BlockList,
+    audio: &Audio,
+    target: &mut W,
+) -> Result<(), EncodeFault>
+    requires { fits_plan plan.now audio.now ≡ true }
+    ensures { OnOk result (W.known target.old ≡ true → EncodesIn container plan.now list.now audio.now (bits_of (W.sent target.old)) (bits_of (W.sent target.new))) }
+{
+    match container {
+        Container::Native => encode(alloc, plan, list, audio, target),
+        Container::Ogg { serial } => encode_ogg(alloc, serial, plan, list, audio, target),
+    }
+}
+
 /// Encodes the raw samples of a source, and writes the stream.
 pub(crate) fn encode_raw<R: Source, W: Target>(
     alloc: Global,
     source: &mut R,
     format: Format,
+    container: Container,
     comments: &[&str],
     target: &mut W,
 ) -> Result<(), Refusal>
     ensures { OnOk result (R.known source.old ≡ true → W.known target.old ≡ true →
-        EncodesRaw format (map (λ word. word.now) comments.now) (R.coming source.old) (bits_of (W.sent target.old)) (bits_of (W.sent target.new))) }
+        EncodesRaw format container (map (λ word. word.now) comments.now) (R.coming source.old) (bits_of (W.sent target.old)) (bits_of (W.sent target.new))) }
 {
     let audio = audio_of(alloc, source, format)?;
     let plan = Plan::new(format.block, &audio, format.seek_every)?;
     let _size = plan.block_size();
     let list = comment_list(alloc, comments)?;
-    encode(alloc, &plan, &list, &audio, target)?;
+    write_stream(alloc, container, &plan, &list, &audio, target)?;
     Ok(())
 }

@@ -3,7 +3,7 @@
 ghost use Rattle.std.specs.Prelude.{◌≡◌, ◌≤◌, option_map};
 ghost use Rattle.flac_cli.specs.Asks.{input_of, output_of};
 
-use crate::encoding::Format;
+use crate::encoding::{Container, Format};
 use std::alloc::Global;
 use std::borrow::CowStr;
 use std::io::ErrorKind;
@@ -24,11 +24,12 @@ pub enum Job<'a> {
     List {
         input: &'a str,
     },
-    /// Encodes raw samples of a format, with these comments.
+    /// Encodes raw samples of a format, native or in Ogg, with these comments.
     Encode {
         input: &'a str,
         output: &'a str,
         format: Format,
+        container: Container,
         comments: Vec<&'a str>,
     },
     /// Writes the stream with these comments in place of its own.
@@ -89,6 +90,16 @@ impl LineFault {
     {
         LineFault {
             text: CowStr::Borrowed("flac: command: comment without =\n"),
+            status: 2,
+        }
+    }
+
+    /// A seek table in Ogg, where its offsets have no meaning.
+    pub fn table_in_ogg() -> LineFault
+        ensures { result.status ≡ 2 }
+    {
+        LineFault {
+            text: CowStr::Borrowed("flac: command: --ogg with --seek-every\n"),
             status: 2,
         }
     }

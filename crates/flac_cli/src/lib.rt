@@ -18,7 +18,7 @@ mod samples;
 mod texts;
 mod words;
 
-pub use encoding::Format;
+pub use encoding::{Container, Format};
 pub use jobs::{Job, LineFault};
 pub use runs::run;
 pub use words::job;

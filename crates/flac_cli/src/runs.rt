@@ -161,9 +161,17 @@ pub fn run<R: Source, W: Target, O: Target, E: Target>(
         },
         Job::Encode {
             format,
+            container,
             comments,
             ..
-        } => match encode_raw(alloc, source, *format, comments.as_slice(), target) {
+        } => match encode_raw(
+            alloc,
+            source,
+            *format,
+            *container,
+            comments.as_slice(),
+            target,
+        ) {
             Ok(()) => 0,
             Err(refusal) => refuse_encoding(err, job, refusal),
         },

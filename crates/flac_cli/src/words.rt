@@ -2,7 +2,7 @@
 
 ghost use Rattle.std.specs.Prelude.{◌≤◌, IfErr};
 
-use crate::encoding::Format;
+use crate::encoding::{Container, Format};
 use crate::jobs::{Job, LineFault};
 use clap::builder::ValueParser;
 use clap::error::ErrorKind;
@@ -15,6 +15,7 @@ const EXAMPLES: &str = "Examples:
   flac list song.flac             what its metadata tells
   flac decode song.flac song.raw  its samples
   flac encode song.raw song.flac --rate 44100 --channels 2 --bits 16
+  flac encode song.raw song.oga --ogg --rate 44100 --channels 2 --bits 16
   flac retag song.flac other.flac TITLE=Song
 
 The status is 0 where all is done. Where a stream is refused it is 1, and a line tells
@@ -41,8 +42,8 @@ const ENCODE_EXAMPLE: &str =
   $ flac encode song.raw song.flac --rate 44100 --channels 2 --bits 16 TITLE=Song
 
 A sample has whole bytes: of 12 bits two, of 20 bits three. With --seek-every 441000 a seek
-table has a point for each frame that holds the begin of ten seconds. What was written before
-a fault stays in OUT.";
+table has a point for each frame that holds the begin of ten seconds. With --ogg the stream
+is an Ogg stream. What was written before a fault stays in OUT.";
 
 const RETAG_EXAMPLE: &str = "Example:
   $ flac retag song.flac other.flac TITLE=Song ARTIST=Someone
@@ -71,6 +72,7 @@ pub fn job<'a>(alloc: Global, words: &'a [String]) -> Result<Job<'a>, LineFault>
 {
     match parsed(alloc, words) {
         Ok(Some(job)) if lacks_equals(&job) => Err(LineFault::no_equals()),
+        Ok(Some(job)) if has_table_in_ogg(&job) => Err(LineFault::table_in_ogg()),
         Ok(Some(job)) => Ok(job),
         Ok(None) => Err(LineFault {
             text: CowStr::Borrowed("flac: command: a word is missing\n"),
@@ -86,6 +88,18 @@ fn lacks_equals(job: &Job<'_>) -> bool {
         Job::Encode { comments, .. } | Job::Retag { comments, .. } => {
             !comments.iter().all(|word| word.contains('='))
         }
+        _ => false,
+    }
+}
+
+/// Whether the job asks for a seek table in Ogg.
+fn has_table_in_ogg(job: &Job<'_>) -> bool {
+    match job {
+        Job::Encode {
+            format,
+            container,
+            ..
+        } => format.seek_every != 0 && *container != Container::Native,
         _ => false,
     }
 }
@@ -136,13 +150,14 @@ fn parsed<'a>(alloc: Global, words: &'a [String]) -> Result<Option<Job<'a>>, cla
             comments,
         }));
     }
-    let Some(format) = format_of(given) else {
+    let (Some(format), Some(container)) = (format_of(given), container_of(given)) else {
         return Ok(None);
     };
     Ok(Some(Job::Encode {
         input,
         output,
         format,
+        container,
         comments,
     }))
 }
@@ -156,6 +171,15 @@ fn format_of(given: &ArgMatches<'_>) -> Option<Format> {
         block: given.get_one("block")?,
         seek_every: given.get_one("seek-every")?,
     })
+}
+
+/// What the options tell the stream to stand in.
+fn container_of(given: &ArgMatches<'_>) -> Option<Container> {
+    if !given.get_flag("ogg") {
+        return Some(Container::Native);
+    }
+    let serial = given.get_one("serial")?;
+    Some(Container::Ogg { serial })
 }
 
 /// The commands of the program.
@@ -239,6 +263,17 @@ fn encode_command<'a>(alloc: Global) -> Result<Command<'a>, AllocError> {
             number(alloc, "seek-every").default_value("0").help(
                 "Samples from one point of a seek table to the next; 0: no table",
             ),
+        )?
+        .arg(
+            Arg::new(alloc, "ogg")
+                .long("ogg")
+                .action(ArgAction::SetTrue)
+                .help("Writes an Ogg stream, which has no seek table"),
+        )?
+        .arg(
+            number(alloc, "serial")
+                .default_value("1")
+                .help("The number of the Ogg stream"),
         )
 }
 

@@ -9,6 +9,8 @@ mod encoding;
 #[cfg(test)]
 mod frames;
 #[cfg(test)]
+mod ogg;
+#[cfg(test)]
 mod retagging;
 #[cfg(test)]
 mod seeking;
