@@ -1,8 +1,8 @@
--- What is written before the frames is read again as these blocks.
-use Rattle.std.proofs.Common.{◌≡◌, ◌≤◌, ℕ, Bool, true, false, nat_lt, List, [], ◌∷◌, None, refl, sym, subst, ◌∙◌, arith}
+-- What stands before the frames of a stream that was read may be written with other comments, and is read again as these blocks.
+use Rattle.std.proofs.Common.{◌≡◌, ◌≤◌, ◌<◌, ℕ, zero, suc, Bool, true, false, nat_lt, List, [], ◌∷◌, length, get_or, None, refl, sym, ap, subst, ◌∙◌, arith}
 use Rattle.std.proofs.lemmas.Bool.Decides.{nat_tests}
 use Rattle.flac_bits.specs.Bits.{unsigned}
-use Rattle.flac_bits.specs.State.{Mark, past, fresh}
+use Rattle.flac_bits.specs.State.{Mark, Cursor, past, fresh}
 use Rattle.flac_bits.specs.Fence.{InRoom}
 use Rattle.flac_bits.specs.Items.{Joined}
 use Rattle.flac_bits.proofs.ItemSpellings.{fresh_unread, behind_whole}
@@ -19,7 +19,7 @@ use Rattle.flac_meta.specs.declared.comments.Comments.{Comments}
 use Rattle.flac_native.specs.Given.{closing}
 use Rattle.flac_native.specs.Stream.{marked, block, Progress, grammar, opening, next, room_in}
 use Rattle.flac_native.specs.Writing.{blocks_spelling, head_spelling}
-use Rattle.flac_native.specs.Retag.{is_comment, without_comments, RetaggedAreRead}
+use Rattle.flac_native.specs.Retag.{is_comment, without_comments, AreKept, MayBeHead, RetaggedAreRead}
 use Rattle.flac_native.specs.declared.phase.Phase.{Phase}
 use Rattle.flac_native.specs.declared.phase.Phase.TheVariants.{Opening, Blocks, Frames}
 use Rattle.flac_native.proofs.Blocks.{block_there}
@@ -95,6 +95,9 @@ may_be_written c h = rw (not_too_long (comments_length c) h) refl
 comments_here : (c : Comments) → comments_length c ≤ 16777215 → IsComments c → IsBlock info_seen (block_of.VorbisComment c)
 comments_here c h fits = record { first = λ e. absurd cc; once = refl; written = may_be_written c h; fits = fits }
 
+valid_after : (m : Mark) (info : Info) (list : List Block) (head : List Bool) → Joined grammar opening m (marked ∷ closing (block_of.StreamInfo info ∷ list)) head → AllBlocks nothing_seen (block_of.StreamInfo info ∷ list)
+valid_after m info list head (front, behind, split, spelled, fits, more) = valid_blocks (next opening marked) (past front (fresh m)) (block_of.StreamInfo info) list behind refl more
+
 pub retagged_are_read : RetaggedAreRead
 retagged_are_read m k text comments info list rest z short fits b =
     let marker = unsigned 32 0x664C6143 in
@@ -110,6 +113,21 @@ retagged_are_read m k text comments info list rest z short fits b =
       stands = refl;
       spelled = (marker, blocks_spelling (block_of.StreamInfo info ∷ note ∷ without_comments list), refl, marker_here (fresh k), tt, spelled_blocks (next opening marked) mark (block_of.StreamInfo info) (note ∷ without_comments list) refl u all);
     }
-  where
-    valid_after : (m : Mark) (info : Info) (list : List Block) (head : List Bool) → Joined grammar opening m (marked ∷ closing (block_of.StreamInfo info ∷ list)) head → AllBlocks nothing_seen (block_of.StreamInfo info ∷ list)
-    valid_after m info list head (front, behind, split, spelled, fits, more) = valid_blocks (next opening marked) (past front (fresh m)) (block_of.StreamInfo info) list behind refl more
+
+each_valid : (seen : Seen) (bs : List Block) (i : ℕ) (b : Block) → AllBlocks seen bs → i < length bs → b ≡ get_or bs i b → block_fault b ≡ None
+each_valid seen [] i b all lt at = absurd (omega (arith, lt))
+each_valid seen (x ∷ xs) zero b all lt at = ap block_fault at ∙ all.0.written
+each_valid seen (x ∷ xs) (suc i) b all lt at = each_valid (seen_after seen x) xs i b all.1 (omega (arith, lt)) at
+
+-- no block that was kept is refused in writing
+pub kept_may_be_head : (comments : Comments) (c : Cursor) (kept : List Block) (rest : List Bool) → comments_length comments ≤ 16777215 → AreKept c kept rest → MayBeHead comments kept
+kept_may_be_head comments c kept rest short are =
+    let list = without_comments are.list in
+    let all = valid_after c.mark are.info are.list are.input.head are.input.spelled in
+    let good : AllBlocks nothing_seen (block_of.StreamInfo are.info ∷ list) = (all.0, others info_seen info_seen are.list refl refl all.1) in
+    let here : MayBeHead comments (block_of.StreamInfo are.info ∷ list) = record {
+      note = may_be_written comments short;
+      some = omega arith;
+      each = λ i b lt at. each_valid nothing_seen (block_of.StreamInfo are.info ∷ list) i b good lt at;
+    } in
+    subst (λ l. MayBeHead comments l) (sym are.are) here

@@ -1,19 +1,19 @@
 -- What stands before the frames, with other comments.
-use Rattle.std.proofs.Common.{◌≡◌, ◌∙◌, ◌++◌, List, [], ◌∷◌, length, ap, Bool, false, Option, Some, None, Result, Ok, Err, refl, sym, subst}
-use Rattle.std.specs.Prelude.{IfSome, OnOk}
+use Rattle.std.proofs.Common.{◌≡◌, ◌∙◌, suc, ◌++◌, List, [], ◌∷◌, length, ap, Bool, false, Option, Some, None, Result, Ok, Err, refl, sym, subst, arith}
+use Rattle.std.specs.Prelude.{IfSome, IfErr, OnOk}
 use Rattle.std.proofs.lemmas.List.{append-nil}
 use Rattle.flac_bits.specs.Bits.{unsigned, is_nil}
-use Rattle.flac_bits.specs.Written.{Written, Adds}
+use Rattle.flac_bits.specs.Written.{Written, Adds, Fails}
 use Rattle.flac_bits.specs.declared.why.Why.{Why}
-use Rattle.flac_bits.proofs.Writing.{adds_then}
+use Rattle.flac_bits.proofs.Writing.{adds_then, fails_first, fails_then}
 use Rattle.flac_meta.specs.Listed.{block_fault}
 use Rattle.flac_meta.specs.Spelling.{block_spelling}
 use Rattle.flac_meta.specs.declared.block.Block.{Block}
 use Rattle.flac_meta.specs.declared.block.Block.TheVariants as block_of
 use Rattle.flac_meta.specs.declared.comments.Comments.{Comments}
-use Rattle.flac_native.specs.InOrder.{Advances}
+use Rattle.flac_native.specs.InOrder.{MayBeWritten, Advances}
 use Rattle.flac_native.specs.Writing.{blocks_spelling}
-use Rattle.flac_native.specs.Retag.{new_head}
+use Rattle.flac_native.specs.Retag.{MayBeHead, new_head}
 use Rattle.flac_native.proofs.WholeBytes.{Whole, whole_nil, whole_append, blocks_whole}
 
 abbrev answered : {X : Type 0} → X → Result X Why
@@ -43,6 +43,45 @@ all_added bs d e (Ok x) h =
     let none : bs ++ [] ≡ bs = append-nil bs in
     let a = h [] (ap (λ (l : List Block). length l) (sym none)) in
     subst (λ l. Adds (blocks_spelling l) d e) none (record { known = a.known; errors = a.errors; names = a.names; mark = a.mark; bits = λ k. sym (append-nil e.bits) ∙ a.bits k })
+
+-- ---- a target that failed
+
+-- the blocks of a head, one by one
+pub first_may : (comments : Comments) (first : Block) (others kept : List Block) → kept ≡ first ∷ others → MayBeHead comments kept → block_fault first ≡ None
+first_may comments first others kept is may =
+    let h = subst (λ l. MayBeHead comments l) is may in h.each 0 first (omega arith) refl
+
+others_may : (comments : Comments) (first : Block) (others kept : List Block) → kept ≡ first ∷ others → MayBeHead comments kept → MayBeWritten others
+others_may comments first others kept is may =
+    let h = subst (λ l. MayBeHead comments l) is may in λ i b lt at. h.each (suc i) b (omega (arith, lt)) at
+
+module _ (comments : Comments) (first : Block) (others kept : List Block) (is : kept ≡ first ∷ others) where
+  whole_failed : (a b : Written) (e : Why) → Fails (a.bits ++ (unsigned 32 0x664C6143 ++ blocks_spelling (first ∷ block_of.VorbisComment comments ∷ others))) a b e → Fails (a.bits ++ new_head comments kept) a b e
+  whole_failed a b e f = subst (λ l. Fails (a.bits ++ new_head comments l) a b e) (sym is) f
+
+  pub marker_failed : (a b : Written) (e : Why) → Fails (a.bits ++ unsigned 32 0x664C6143) a b e → Fails (a.bits ++ new_head comments kept) a b e
+  marker_failed a b e f = whole_failed a b e (fails_first (unsigned 32 0x664C6143) (blocks_spelling (first ∷ block_of.VorbisComment comments ∷ others)) f)
+
+  pub first_failed : (a b c : Written) (e : Why) → Adds (unsigned 32 0x664C6143) a b → Fails (b.bits ++ block_spelling false first) b c e → Fails (a.bits ++ new_head comments kept) a c e
+  first_failed a b c e p f = whole_failed a c e (fails_then (blocks_spelling (first ∷ block_of.VorbisComment comments ∷ others)) p (fails_first (block_spelling false first) (blocks_spelling (block_of.VorbisComment comments ∷ others)) f))
+
+  pub note_failed : (last : Bool) (a b c d : Written) (e : Why) → last ≡ is_nil others → Adds (unsigned 32 0x664C6143) a b → Adds (block_spelling false first) b c
+      → Fails (c.bits ++ block_spelling last (block_of.VorbisComment comments)) c d e → Fails (a.bits ++ new_head comments kept) a d e
+  note_failed last a b c d e at p q f =
+      let here : Fails (c.bits ++ block_spelling (is_nil others) (block_of.VorbisComment comments)) c d e = subst (λ l. Fails (c.bits ++ block_spelling l (block_of.VorbisComment comments)) c d e) at f in
+      whole_failed a d e (fails_then (blocks_spelling (first ∷ block_of.VorbisComment comments ∷ others)) p (fails_then (blocks_spelling (block_of.VorbisComment comments ∷ others)) q
+      (fails_first (block_spelling (is_nil others) (block_of.VorbisComment comments)) (blocks_spelling others) here)))
+
+  pub others_failed : {X : Type 0} (last : Bool) (a b c d w : Written) (r : Result X Why) → last ≡ is_nil others → Adds (unsigned 32 0x664C6143) a b → Adds (block_spelling false first) b c
+      → Adds (block_spelling last (block_of.VorbisComment comments)) c d
+      → IfErr r (λ e. (more : List Block) → length others ≡ length (others ++ more) → MayBeWritten others → Fails (d.bits ++ blocks_spelling (others ++ more)) d w e)
+      → IfErr r (λ e. MayBeHead comments kept → Fails (a.bits ++ new_head comments kept) a w e)
+  others_failed last a b c d w (Ok x) at p q s h = tt
+  others_failed last a b c d w (Err e) at p q s h = λ may.
+      let none : others ++ [] ≡ others = append-nil others in
+      let f = subst (λ l. Fails (d.bits ++ blocks_spelling l) d w e) none (h [] (ap (λ (l : List Block). length l) (sym none)) (others_may comments first others kept is may)) in
+      let there : Adds (block_spelling (is_nil others) (block_of.VorbisComment comments)) c d = subst (λ l. Adds (block_spelling l (block_of.VorbisComment comments)) c d) at s in
+      whole_failed a w e (fails_then (blocks_spelling (first ∷ block_of.VorbisComment comments ∷ others)) p (fails_then (blocks_spelling (block_of.VorbisComment comments ∷ others)) q (fails_then (blocks_spelling others) there f)))
 
 -- it is of whole bytes
 pub new_head_whole : (comments : Comments) (kept : List Block) → Whole (new_head comments kept)

@@ -1,11 +1,12 @@
 -- What retagging makes of a stream: the same STREAMINFO, the given comments, the other blocks in their order, and the rest of the input.
-use Rattle.std.specs.Prelude.{◌≡◌, Bool, true, false, cond, List, [], ◌∷◌, ◌++◌, Some, None, ◌≤◌}
+use Rattle.std.specs.Prelude.{◌≡◌, Bool, true, false, cond, List, [], ◌∷◌, ◌++◌, length, Some, None, ◌≤◌, ◌<◌}
 use Rattle.flac_bits.specs.Bits.{unsigned}
 use Rattle.flac_bits.specs.State.{Mark, Cursor}
 use Rattle.flac_bits.specs.Items.{Joined, Refused}
 use Rattle.flac_bits.specs.declared.why.Why.{Why}
 use Rattle.flac_bits.specs.declared.why.Why.TheVariants as why
 use Rattle.flac_meta.specs.Info.{Info}
+use Rattle.flac_meta.specs.Listed.{block_fault}
 use Rattle.flac_meta.specs.Spelling.{comments_length}
 use Rattle.flac_meta.specs.Valid.{IsComments}
 use Rattle.flac_meta.specs.declared.comments.Comments.{Comments}
@@ -13,6 +14,7 @@ use Rattle.flac_meta.specs.declared.block.Block.{Block}
 use Rattle.flac_meta.specs.declared.block.Block.TheVariants as blocks
 use Rattle.flac_native.specs.Stream.{Piece, marked, block, framed, grammar, opening}
 use Rattle.flac_native.specs.Given.{closing}
+use Rattle.flac_native.specs.InOrder.{MayBeWritten}
 use Rattle.flac_native.specs.Writing.{blocks_spelling, head_spelling}
 use Rattle.flac_native.specs.declared.fault.Place.{Place}
 use Rattle.flac_native.specs.declared.fault.Place.TheVariants as place
@@ -123,6 +125,12 @@ abbrev pub new_head : Comments → List Block → List Bool
 new_head comments [] = []
 new_head comments (b ∷ bs) = unsigned 32 0x664C6143 ++ blocks_spelling (b ∷ blocks.VorbisComment comments ∷ bs)
 
+-- the blocks of such a head may be written
+pub record MayBeHead (comments : Comments) (kept : List Block) : Type 0 where
+  pub note : block_fault (blocks.VorbisComment comments) ≡ None
+  pub some : 0 < length kept
+  pub each : MayBeWritten kept
+
 -- ---- what is answered
 
 -- comments whose block would be longer than its header can tell, which is seen before anything is read
@@ -136,3 +144,7 @@ not_written = record { at = None; why = why.Write }
 -- the source answered an error behind the blocks
 abbrev pub not_read : RetagFault
 not_read = record { at = Some (place.Frame 0); why = why.Read }
+
+-- a growth was refused behind the blocks
+abbrev pub no_memory : RetagFault
+no_memory = record { at = Some (place.Frame 0); why = why.Memory }

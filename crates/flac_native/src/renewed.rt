@@ -1,23 +1,25 @@
 //! What stands before the frames of a stream that is retagged.
 
-ghost use Rattle.std.specs.Prelude.{◌≡◌, OnOk, IfOk};
+ghost use Rattle.std.specs.Prelude.{◌≡◌, ◌++◌, OnOk, IfOk, IfErr};
 ghost use Rattle.flac_bits.specs.Bits.{bits_of};
-ghost use Rattle.flac_bits.specs.Written.{Adds};
-ghost use Rattle.flac_native.specs.Retag.{new_head};
+ghost use Rattle.flac_bits.specs.Written.{Adds, Fails};
+ghost use Rattle.flac_native.specs.Retag.{MayBeHead, new_head};
 
 use crate::in_order::write_each;
-use crate::memory::collect;
+use crate::memory::{collect, in_memory};
 use flac_bits::{BitWriter, Collected, Target, Why};
 use flac_meta::{Block, Comments, write_block, write_comments};
 use std::alloc::Global;
 
-/// Writes the marker fLaC, STREAMINFO, which is the first of these blocks, the comments and the other blocks (RFC 9639, section 6).
+/// Writes the marker fLaC, STREAMINFO, which is the first of these blocks, the comments and the other blocks (RFC 9639, section 6). Where all of them may be
+/// written, the target alone refuses.
 fn write_renewed<W: Target>(
     kept: &[Block],
     comments: &Comments,
     writer: &mut BitWriter<W>,
 ) -> Result<(), Why>
-    ensures { OnOk result (Adds (new_head comments.now kept.now) writer.old writer.new) }
+    ensures added { OnOk result (Adds (new_head comments.now kept.now) writer.old writer.new) }
+    ensures failed { IfErr result (λ e. MayBeHead comments.now kept.now → Fails (writer.old.bits ++ new_head comments.now kept.now) writer.old writer.new e) }
 {
     let Some((info, others)) = kept.split_first() else {
         return Err(Why::NotStreamInfoFirst);
@@ -28,11 +30,14 @@ fn write_renewed<W: Target>(
     write_each(others, others.len(), writer)
 }
 
-/// The same bytes in memory. Refuses where a growth is.
+/// The same bytes in memory. Where all blocks may be written, it refuses for want of memory alone.
 pub(crate) fn renewed(alloc: Global, kept: &[Block], comments: &Comments) -> Result<Vec<u8>, Why>
-    ensures { IfOk result (λ head. bits_of head.items ≡ new_head comments.now kept.now) }
+    ensures head { IfOk result (λ head. bits_of head.items ≡ new_head comments.now kept.now) }
+    ensures memory { IfErr result (λ e. MayBeHead comments.now kept.now → e ≡ Why.Memory) }
 {
     let mut writer = BitWriter::new(Collected::new(alloc));
-    write_renewed(kept, comments, &mut writer)?;
-    collect(writer)
+    match write_renewed(kept, comments, &mut writer) {
+        Ok(()) => collect(writer),
+        Err(why) => Err(in_memory(why)),
+    }
 }

@@ -11,7 +11,7 @@ ghost use Rattle.flac_meta.specs.declared.block.Block.{Block};
 ghost use Rattle.flac_bits.specs.declared.why.Why.{Why};
 ghost use Rattle.flac_native.specs.declared.fault.Place.{Place};
 ghost use Rattle.flac_native.specs.Decoding.{beginning};
-ghost use Rattle.flac_native.specs.Retag.{BeginsWith, HasHead, Retags, BeginsRetagging, IsRefused, retagged, too_long, not_read, not_written};
+ghost use Rattle.flac_native.specs.Retag.{BeginsWith, HasHead, Retags, BeginsRetagging, IsRefused, is_before_frames, retagged, too_long, not_read, not_written, no_memory};
 
 use crate::copying::copy_rest;
 use crate::fault::Place;
@@ -29,11 +29,13 @@ fn retag_from<R: Source, W: Target>(
     comments: &Comments,
     target: &mut W,
 ) -> Result<(), RetagFault>
-    requires { reader.old.cursor.mark.unread ≡ 0 }
+    requires whole { reader.old.cursor.mark.unread ≡ 0 }
+    requires short { comments_length comments.now ≤ 16777215 }
     ensures written { OnOk result (reader.old.known ≡ true → W.known target.old ≡ true
         → Retags (lifted reader.old).cursor.mark (lifted reader.old).cursor.left comments.now (bits_of (W.sent target.old)) (bits_of (W.sent target.new))) }
     ensures refused { IfErr result (λ f. IfSome f.at (λ at. reader.old.known ≡ true → IsCalm reader.old reader.new → f.why ≢ Why.Memory
         → IsRefused (lifted reader.old).cursor.mark (lifted reader.old).cursor.left at f.why)) }
+    ensures behind { IfErr result (λ f. IfSome f.at (λ at. reader.old.known ≡ true → (is_before_frames at ≡ true) ⊎ ((f ≡ not_read) ⊎ (f ≡ no_memory)))) }
     ensures head { OnOk result (reader.old.known ≡ true → HasHead (lifted reader.old).cursor.mark (lifted reader.old).cursor.left) }
     ensures found { IfErr result (λ f. (f ≡ not_read) ⊎ (f ≡ not_written) → reader.old.known ≡ true → HasHead (lifted reader.old).cursor.mark (lifted reader.old).cursor.left) }
     ensures nothing { IfErr result (λ f. f ≢ not_read → f ≢ not_written → target.new ≡ target.old) }
@@ -54,11 +56,14 @@ fn retag_from<R: Source, W: Target>(
             });
         }
     };
-    let Ok(head) = renewed(alloc, kept.as_slice(), comments) else {
-        return Err(RetagFault {
-            at: Some(Place::Frame(0)),
-            why: Why::Memory,
-        });
+    let head = match renewed(alloc, kept.as_slice(), comments) {
+        Ok(head) => head,
+        Err(why) => {
+            return Err(RetagFault {
+                at: Some(Place::Frame(0)),
+                why,
+            });
+        }
     };
     match send_all(target, head.as_slice()) {
         Ok(()) => copy_rest(reader, target),
@@ -76,8 +81,8 @@ fn retag_from<R: Source, W: Target>(
 /// # Errors
 /// [`Why::BlockLength`] without a place where the content of the comments is longer than 16777215 bytes (see [`Comments::length`]); then nothing was read
 /// and nothing written. Each reason of the marker and of a block, at its place, as [`crate::decode`] refuses it, and [`Why::Memory`] where a growth was
-/// refused, at the place that was being read; then nothing was written. [`Why::Write`] without a place where the target answered an error, and
-/// [`Why::Read`] at the first frame where the source answered one behind the blocks; then a beginning of the output was written.
+/// refused, at the place that was being read, which behind the blocks is the first frame; then nothing was written. [`Why::Write`] without a place where the
+/// target answered an error, and [`Why::Read`] at the first frame where the source answered one behind the blocks; then a beginning of the output was written.
 pub fn retag<R: Source, W: Target>(
     alloc: Global,
     source: &mut R,
@@ -97,6 +102,8 @@ pub fn retag<R: Source, W: Target>(
     // Refused only as the marker and the blocks are, at that place and for that reason.
     ensures refused { IfErr result (λ f. IfSome f.at (λ at. R.known source.old ≡ true → R.errors source.new ≡ R.errors source.old → R.raised source.new ≡ R.raised source.old → f.why ≢ Why.Memory
         → IsRefused (beginning (short_of ((R.behind source.old).fails))) (bits_of (R.coming source.old)) at f.why)) }
+    // Behind the blocks it is refused for an error of the source or for want of memory alone: no block that was read is refused in writing.
+    ensures behind { IfErr result (λ f. IfSome f.at (λ at. R.known source.old ≡ true → (is_before_frames at ≡ true) ⊎ ((f ≡ not_read) ⊎ (f ≡ no_memory)))) }
     // An input that begins with a marker and blocks is refused for the comments, the target and the memory alone.
     ensures accepted { IfErr result (λ f. f ≢ too_long → R.known source.old ≡ true → R.errors source.new ≡ R.errors source.old → R.raised source.new ≡ R.raised source.old → f.why ≢ Why.Memory
         → HasHead (beginning (short_of ((R.behind source.old).fails))) (bits_of (R.coming source.old)) → f ≡ not_written) }

@@ -109,7 +109,7 @@ returns-clause-encoded c =
     let inv = c.loop-start.invariant in
     let q = planned c.args.plan.now c.block_size-size.ensures.good in
     all_frames c.args.plan.now c.args.audio.now c.loop-start.writer c.loop-start.number c.loop-start.least c.loop-start.greatest c.loop-start.start _ c.loop-start.points.items q inv.gathered inv.few inv.start
-    (omega (arith, c.loop-start-test.false, c.len-total.ensures)) (c.in_ok-bytes.ensures inv.gathered.known inv.gathered.whole)
+    (omega (arith, c.loop-start-test.false, c.len-total.ensures)) (c.in_ok-bytes.ensures.bytes inv.gathered.known inv.gathered.whole)
 
 pub returns-clause-table : goal.returns-clause-table
 returns-clause-table c =

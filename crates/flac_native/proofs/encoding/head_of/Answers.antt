@@ -15,4 +15,4 @@ returns c =
       bits = ap (λ (v : Written). v.bits) c.new-writer.ensures ∙ ap bits_of c.new.ensures.sent;
       unread = ap (λ (v : Written). v.mark.unread) c.new-writer.ensures;
     } in
-    head_collected c.new-writer.result _ (head_spelling c.args.info list) c.collect.result blank (head_whole c.args.info list).bytes c.in_ok-write_head.ensures c.collect.ensures
+    head_collected c.new-writer.result _ (head_spelling c.args.info list) c.collect.result blank (head_whole c.args.info list).bytes c.in_ok-write_head.ensures c.collect.ensures.bytes

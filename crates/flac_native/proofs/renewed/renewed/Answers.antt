@@ -6,8 +6,8 @@ use Rattle.flac_native.proofs.Heads.{Blank, head_collected}
 use Rattle.flac_native.proofs.Renewing.{new_head_whole}
 use Rattle.flac_native.proofs.renewed.renewed.Goals as goal
 
-pub returns : goal.returns
-returns c =
+pub returns-in-Ok-clause-head : goal.returns-in-Ok-clause-head
+returns-in-Ok-clause-head c =
     let comments = c.args.comments.now in
     let kept = c.args.kept.now in
     let blank : Blank c.new-writer.result = record {
@@ -15,4 +15,7 @@ returns c =
       bits = ap (λ (v : Written). v.bits) c.new-writer.ensures ∙ ap bits_of c.new.ensures.sent;
       unread = ap (λ (v : Written). v.mark.unread) c.new-writer.ensures;
     } in
-    head_collected c.new-writer.result _ (new_head comments kept) c.collect.result blank (new_head_whole comments kept).bytes c.in_ok-write_renewed.ensures c.collect.ensures
+    head_collected c.new-writer.result _ (new_head comments kept) c.collect.result blank (new_head_whole comments kept).bytes c.in-Ok.ensures.added c.collect.ensures.bytes
+
+pub returns-in-Err-clause-memory : goal.returns-in-Err-clause-memory
+returns-in-Err-clause-memory c = λ may. c.in_memory.ensures.target (c.in-Err.ensures.failed may).reason

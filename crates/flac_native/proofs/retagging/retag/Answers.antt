@@ -26,6 +26,9 @@ returns-clause-exact g c =
     let whole = rw (append-nil (bits_of (g.R.Source.coming c.args.source.now))) at written in
     exact_ok _ _ (beginning (short_of ((g.R.Source.behind c.args.source.now).fails))) (bits_of (g.R.Source.coming c.args.source.now)) c.args.comments.now _ _ c.retag_from-outcome.result whole
 
+pub returns-clause-behind : goal.returns-clause-behind
+returns-clause-behind g c = rw c.new-reader.ensures at c.retag_from-outcome.ensures.behind
+
 pub returns-clause-accepted : goal.returns-clause-accepted
 returns-clause-accepted g c =
     let R = g.R.Source in
