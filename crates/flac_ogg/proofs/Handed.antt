@@ -1,14 +1,16 @@
 -- The items of packets are handed out, one after another.
-use Rattle.std.proofs.Common.{◌≡◌, ◌≢◌, ◌<◌, ℕ, Bool, true, List, Option, Some, None, refl, sym, ◌∙◌, ap}
+use Rattle.std.proofs.Common.{◌≡◌, ◌≢◌, ◌<◌, ℕ, Bool, true, List, Option, Some, None, refl, sym, ◌∙◌, ap, subst}
+use Rattle.std.proofs.Math.Arith.{lt_of_le-ne}
+use Rattle.std.specs.Prelude.{⊤, ◌≤◌}
 use Rattle.std.specs.Borrow.{GName}
-use Rattle.flac_bits.specs.State.{Mark}
+use Rattle.flac_bits.specs.State.{Mark, short_of}
 use Rattle.flac_bits.specs.declared.why.Why.{Why}
-use Rattle.flac_bits.specs.declared.why.Why.TheVariants.{Memory, Sink}
+use Rattle.flac_bits.specs.declared.why.Why.TheVariants.{Read, Memory, Truncated, Sink}
 use Rattle.flac_native.specs.Stream.{Piece, Progress, grammar, next}
 use Rattle.flac_native.specs.Decoding.{beginning}
 use Rattle.flac_native.specs.declared.fault.Place.{Place}
 use Rattle.flac_pages.specs.Packets.{Place as Stands, Ahead, ahead, at_front}
-use Rattle.flac_ogg.specs.Stream.{start, packet_start, closed_packet}
+use Rattle.flac_ogg.specs.Stream.{start, packet_start, closed_packet, OggRefused}
 use Rattle.flac_ogg.specs.Steps.{item, over, refused, packet_step}
 use Rattle.flac_ogg.specs.Decoding.{HandsOgg}
 use Rattle.flac_ogg.specs.Telling.{IsUnderWay, IsFront}
@@ -16,6 +18,7 @@ use Rattle.flac_ogg.proofs.MeaningContents.{ahead_of, begins_ahead}
 use Rattle.flac_ogg.proofs.MeaningSteps.{step_item}
 use Rattle.flac_ogg.proofs.MeaningStreams.{goes_begins}
 use Rattle.flac_ogg.proofs.MeaningHanding.{HasTaken, taken_none, taken_more, ogg_done, ogg_refused, ogg_stopped, ogg_sink_failed}
+use Rattle.flac_ogg.proofs.MeaningErrors.{refused_read}
 use Rattle.flac_ogg.proofs.UnderWay.{started, goes_on}
 
 -- a reader of pages that was just made
@@ -106,3 +109,41 @@ nothing_read takes errors mark text calm sink at why is =
 pub calmer : {K : Type 0} {takes : K → Piece → K → Type 0} {errors : K → ℕ} {mark : Mark} {text : List Bool} (calm quiet : Type 0) {old new : K} {outcome : Option (Place × Why)}
     → (quiet → calm) → HandsOgg takes errors mark text calm old new outcome → HandsOgg takes errors mark text quiet old new outcome
 calmer calm quiet f h = record { done = λ q. h.done (f q); refused = λ q. h.refused (f q); begun = h.begun; failed = h.failed }
+
+-- ---- and where an error is told
+
+-- the same of a receiver that takes all
+abbrev pub any_taken : ⊤ → Piece → ⊤ → Type 0
+any_taken old x new = ⊤
+
+abbrev pub none_counted : ⊤ → ℕ
+none_counted k = 0
+
+-- so far the source did not fail
+abbrev pub ReadSoFar : (mark : Mark) (text : List Bool) (old now : Stands) (p : Progress) → Type 0
+ReadSoFar mark text old now p = SoFar any_taken none_counted mark text old now tt tt p
+
+pub read_starts : (mark : Mark) (text : List Bool) (old : Stands) → IsFront mark text old → old.known ≡ true → ReadSoFar mark text old old start
+read_starts mark text old f known = starts any_taken none_counted mark text old tt f known
+
+pub read_more : (mark : Mark) (text : List Bool) (old now new : Stands) (p : Progress) (x : Piece) → ReadSoFar mark text old now p → (now.known ≡ true → (new.known ≡ true) × (new.errors ≡ now.errors))
+    → (IsUnderWay p.stand → now.known ≡ true → new.errors ≡ now.errors → packet_step p (ahead now) ≡ item x (ahead new)) → ReadSoFar mark text old new (next p x)
+read_more mark text old now new p x far goes step = one_more any_taken none_counted mark text old now new tt tt tt p x far goes step refl tt
+
+-- the source answered no error that nothing foretold, so that one is told only where it was foretold
+pub read_refused : (mark : Mark) (text : List Bool) (old now new : Stands) (p : Progress) (at : Place) (why : Why)
+    → ReadSoFar mark text old now p → (IsUnderWay p.stand → now.known ≡ true → new.errors ≡ now.errors → why ≢ Memory → packet_step p (ahead now) ≡ refused at why) → why ≡ Read → new.errors ≡ old.errors → mark.short ≡ Read
+read_refused mark text old now new p at why far step is calm =
+    let hands = step_refused any_taken none_counted mark text old now new tt tt p at why far step in
+    let r = hands.refused calm at why refl (λ e. room (sym is ∙ e)) refl in
+    refused_read mark text r.0 at (subst (λ (w : Why). OggRefused mark r.0 text at w) is r.1)
+  where
+    room : Read ≡ Memory → ⊥
+    room e = absurd cc
+
+-- where none was foretold, the source's count of errors rose
+pub count_rose : (fails : Option (ℕ × Why)) (old new : ℕ) → fails ≡ None → old ≤ new → (new ≡ old → short_of fails ≡ Read) → old < new
+count_rose fails old new none kept told = lt_of_le-ne kept (λ same. differ (ap short_of (sym none) ∙ told (sym same)))
+  where
+    differ : Truncated ≡ Read → ⊥
+    differ e = absurd cc

@@ -4,6 +4,7 @@ pub mod MeaningSteps
 pub mod MeaningStreams
 pub mod MeaningReadings
 pub mod MeaningHanding
+pub mod MeaningErrors
 pub mod Packeted
 pub mod UnderWay
 pub mod Stepped

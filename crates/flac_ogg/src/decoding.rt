@@ -1,6 +1,6 @@
 //! Decodes an Ogg stream, and hands its blocks and frames to a sink.
 
-ghost use Rattle.std.specs.Prelude.{◌≡◌, ◌<◌, ◌≤◌, List, Bool, true, false, OnOk, OnErr, IfErr};
+ghost use Rattle.std.specs.Prelude.{◌≡◌, ◌<◌, ◌≤◌, List, Bool, true, false, OnOk, OnErr, IfErr, None};
 ghost use Rattle.flac_bits.specs.Bits.{bits_of};
 ghost use Rattle.flac_bits.specs.State.{Mark, short_of};
 ghost use Rattle.flac_bits.specs.Handing.{outcome_of};
@@ -57,6 +57,7 @@ fn hand_out<R: Source, S: Sink>(
     requires at { IsAt track.now start }
     ensures hands { (mark : Mark) (text : List Bool) → IsFront mark text pages → pages.known ≡ true → S.known sink.old ≡ true →
         HandsOgg (taken S.takes) S.errors mark text (result.1.errors ≡ pages.errors) sink.old sink.new (outcome_of told result.0) }
+    ensures read { IfErr result.0 (λ f. f.why ≡ Why.Read → (mark : Mark) (text : List Bool) → IsFront mark text pages → pages.known ≡ true → result.1.errors ≡ pages.errors → mark.short ≡ Why.Read) }
     ensures kept { pages.errors ≤ result.1.errors }
     ensures names { result.1.names ≡ pages.names }
     ensures sink_names { S.names sink.new ≡ S.names sink.old }
@@ -100,6 +101,8 @@ pub fn decode_ogg<R: Source, S: Sink>(
     // An Ogg stream is not refused but for want of memory, and what the bytes show is the place and the reason answered.
     ensures decides { R.known source.old ≡ true → S.known sink.old ≡ true → R.errors source.new ≡ R.errors source.old → S.errors sink.new ≡ S.errors sink.old →
         DecidesOgg (beginning (short_of ((R.behind source.old).fails))) (bits_of (R.coming source.old)) (outcome_of told result) }
+    // Read is told only where the source answered an error in the call, where it foretells none.
+    ensures read { IfErr result (λ f. R.known source.old ≡ true → (R.behind source.old).fails ≡ None → f.why ≡ Why.Read → R.errors source.old < R.errors source.new) }
     ensures kept { R.errors source.old ≤ R.errors source.new }
     ensures names { S.names sink.new ≡ S.names sink.old }
     ensures source_names { R.names source.new ≡ R.names source.old }

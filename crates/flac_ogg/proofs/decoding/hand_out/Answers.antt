@@ -6,7 +6,7 @@ use Rattle.flac_native.specs.Decoding.{taken}
 use Rattle.flac_ogg.specs.Telling.{piece_of}
 use Rattle.flac_ogg.proofs.Stepped.{answer_is}
 use Rattle.flac_ogg.proofs.UnderWay.{next_begun}
-use Rattle.flac_ogg.proofs.Handed.{starts, one_more, all_done, step_refused, no_room, sink_failed}
+use Rattle.flac_ogg.proofs.Handed.{starts, one_more, all_done, step_refused, no_room, sink_failed, read_starts, read_more, read_refused}
 use Rattle.flac_ogg.proofs.decoding.hand_out.Goals as goal
 
 pub advance-read-requires-clause-begun : goal.advance-read-requires-clause-begun
@@ -23,6 +23,12 @@ returns-in-Err-clause-hands g c = λ mark text front known receives.
     let far = c.loop-packet.invariant.far in
     let step = rw c.in-Err.is at c.advance-read.ensures in
     step_refused (taken g.S.Sink.takes) g.S.Sink.errors mark text c.args.pages c.loop-packet.pages c.advance-read.result.1 c.args.sink.now c.loop-packet.sink far.0 c.in-Err.fault.at c.in-Err.fault.why (far.3 mark text front known receives) (step.steps far.0 far.1)
+
+pub returns-in-Err-clause-read : goal.returns-in-Err-clause-read
+returns-in-Err-clause-read g c = λ is mark text front known calm.
+    let far = c.loop-packet.invariant.far in
+    let step = rw c.in-Err.is at c.advance-read.ensures in
+    read_refused mark text c.args.pages c.loop-packet.pages c.advance-read.result.1 far.0 c.in-Err.fault.at c.in-Err.fault.why (far.4 mark text front known) (step.steps far.0 far.1) is calm
 
 pub returns-in-Err-hand_at-clause-hands : goal.returns-in-Err-hand_at-clause-hands
 returns-in-Err-hand_at-clause-hands g c = λ mark text front known receives.
@@ -43,7 +49,7 @@ loop-packet-init g c = record {
   kept = omega arith;
   sink_names = refl;
   known = λ receives. receives;
-  far = (start, c.requires.at, begun, λ mark text front known receives. starts (taken g.S.Sink.takes) g.S.Sink.errors mark text c.args.pages c.args.sink.now front known);
+  far = (start, c.requires.at, begun, λ mark text front known receives. starts (taken g.S.Sink.takes) g.S.Sink.errors mark text c.args.pages c.args.sink.now front known, λ mark text front known. read_starts mark text c.args.pages front known);
 }
   where
     begun : start.stand.phase ≢ Opening
@@ -70,5 +76,6 @@ loop-packet-preserved g c =
         λ mark text front known receives.
             one_more (taken g.S.Sink.takes) g.S.Sink.errors mark text c.args.pages c.loop-packet.pages c.advance-read.result.1 c.args.sink.now c.loop-packet.sink c.hand_at.new.sink far.0 piece (far.3 mark text front known receives)
             step.goes (step.steps far.0 far.1) took.counted (took.takes (inv.known receives)),
+        λ mark text front known. read_more mark text c.args.pages c.loop-packet.pages c.advance-read.result.1 far.0 piece (far.4 mark text front known) step.goes (step.steps far.0 far.1),
       );
     }
