@@ -1,14 +1,14 @@
 -- One predictor more.
-use Rattle.std.proofs.Common.{◌≡◌, ◌∙◌, sym, ℕ, ◌+◌, ◌*◌, ◌≤◌, ◌<◌, arith, ℤ, List, [], ◌∷◌, ◌++◌, take}
+use Rattle.std.proofs.Common.{◌≡◌, ◌⊎◌, ◌∙◌, inl, inr, sym, ℕ, ◌+◌, ◌*◌, ◌≤◌, ◌<◌, arith, ℤ, List, [], ◌∷◌, ◌++◌, take}
 use Rattle.std.proofs.lemmas.List.FromFn.{map-range_with_len_more}
 use Rattle.flac_subframe.specs.declared.halving.ResidualChoice.{ResidualChoice}
 use Rattle.flac_subframe.specs.Cost.{codings_of}
 use Rattle.flac_subframe.specs.Cost.{Codings, MayWrite}
 use Rattle.flac_subframe.specs.Cost.{residual_cost}
 use Rattle.flac_subframe.specs.declared.choice.PricedChoice.{PricedChoice}
-use Rattle.flac_subframe.specs.Bodies.{fields_cost, Chooses, fixed, coefficients_of, shift_of, order_of, differences}
+use Rattle.flac_subframe.specs.Bodies.{fields_cost, Chooses, fixed, coefficients_of, shift_of, order_of, differences, Among, Body, constant, verbatim, predicted, StandsFor}
 use Rattle.flac_subframe.specs.Chosen.{IsBest, IsLeastOf, HasNone, body_of, body_by, fixed_below}
-use Rattle.flac_subframe.proofs.Bodies.{least_kept, least_taken, body_stands, body_costs, body_least, none_stands, residual_is, length-predicted, method_bits}
+use Rattle.flac_subframe.proofs.Bodies.{among_more, among_last, among_split, least_kept, least_taken, body_stands, body_costs, body_least, none_stands, residual_is, length-predicted, method_bits}
 
 module _ (most d : ℕ) (s : List ℤ) (ps : List Chooses) (p : Chooses) (best : PricedChoice) (so : IsBest most d s ps best) where
   pub best_none : HasNone (coefficients_of p) (shift_of p) s → IsBest most d s (ps ++ p ∷ []) best
@@ -25,7 +25,7 @@ module _ (most d : ℕ) (s : List ℤ) (ps : List Chooses) (p : Chooses) (best :
     small = so.small;
   }
 
-  pub best_taken : (r : ResidualChoice) (new : PricedChoice) → IsLeastOf most (coefficients_of p) (shift_of p) s r → new.bits ≡ d * order_of p + fields_cost p + r.bits → new.bits < best.bits → body_of new.kind s ≡ body_by p r s → IsBest most d s (ps ++ p ∷ []) new
+  pub best_taken : (r : ResidualChoice) (new : PricedChoice) → IsLeastOf most (coefficients_of p) (shift_of p) s r → new.bits ≡ d * order_of p + fields_cost p + r.bits → new.bits ≤ best.bits → body_of new.kind s ≡ body_by p r s → IsBest most d s (ps ++ p ∷ []) new
   best_taken r new is bits less body = record {
     least = rw body (least_taken most d s ps p (body_of best.kind s) (take (order_of p) s) (codings_of r) (differences (coefficients_of p) (shift_of p) s) so.least
         (body_stands most d s ps p r is) (omega (arith, body_costs most d s ps p r is, so.priced)) (body_least most d s ps p r is));
@@ -49,3 +49,37 @@ module _ (most d : ℕ) (s : List ℤ) (ps : List Chooses) (p : Chooses) (best :
 
 pub one_fixed_more : (order : ℕ) → fixed_below (order + 1) ≡ fixed_below order ++ fixed order ∷ []
 one_fixed_more order = map-range_with_len_more fixed 0 order order (omega arith)
+
+-- ---- one predictor is tried before the others
+
+stands_by : (most : ℕ) (ps qs : List Chooses) → ((p : Chooses) → Among p ps → Among p qs) → (b : Body) (s : List ℤ) → StandsFor most ps b s → StandsFor most qs b s
+stands_by most ps qs to (constant v) s h = h
+stands_by most ps qs to (verbatim vs) s h = h
+stands_by most ps qs to (predicted p ws f rs) s h = (to p h.0, h.1)
+
+-- what is the best by some predictors is so by the same in another order
+same_best : (most d : ℕ) (s : List ℤ) (ps qs : List Chooses) (best : PricedChoice) → ((p : Chooses) → Among p ps → Among p qs) → ((p : Chooses) → Among p qs → Among p ps) → IsBest most d s ps best → IsBest most d s qs best
+same_best most d s ps qs best to from so = record {
+  least = record { member = stands_by most ps qs to (body_of best.kind s) s so.least.member; least = λ b h. so.least.least b (stands_by most qs ps from b s h) };
+  priced = so.priced;
+  small = so.small;
+}
+
+module _ (most d : ℕ) (s : List ℤ) (best : PricedChoice) where
+  pub next_tried : (first order : ℕ) → IsBest most d s ((fixed first ∷ fixed_below order) ++ fixed order ∷ []) best → IsBest most d s (fixed first ∷ fixed_below (order + 1)) best
+  next_tried first order so = rw (one_fixed_more order) so
+
+  pub first_tried : (order : ℕ) → IsBest most d s (fixed order ∷ fixed_below order) best → IsBest most d s (fixed order ∷ fixed_below (order + 1)) best
+  first_tried order so = same_best most d s (fixed order ∷ fixed_below order) (fixed order ∷ fixed_below (order + 1)) best to from so
+    where
+      to : (p : Chooses) → Among p (fixed order ∷ fixed_below order) → Among p (fixed order ∷ fixed_below (order + 1))
+      to p h = elim h [ inl e ↦ inl e | inr b ↦ inr (rw (one_fixed_more order) (among_more (fixed order) p (fixed_below order) b)) ]
+
+      from : (p : Chooses) → Among p (fixed order ∷ fixed_below (order + 1)) → Among p (fixed order ∷ fixed_below order)
+      from p h = elim h [
+        | inl e ↦ inl e
+        | inr b ↦ let b' : Among p (fixed_below order ++ fixed order ∷ []) = rw (one_fixed_more order) at b in elim (among_split (fixed order) p (fixed_below order) b') [ inl c ↦ inr c | inr e ↦ inl e ]
+      ]
+
+  pub all_tried : (first : ℕ) → Among (fixed first) (fixed_below 5) → IsBest most d s (fixed first ∷ fixed_below 5) best → IsBest most d s (fixed_below 5) best
+  all_tried first one so = same_best most d s (fixed first ∷ fixed_below 5) (fixed_below 5) best (λ p h. elim h [ inl e ↦ rw e one | inr b ↦ b ]) (λ p h. inr h) so

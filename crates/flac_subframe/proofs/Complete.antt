@@ -123,7 +123,7 @@ module _ (limit order block : ℕ) (r : Residual) (small : limit ≤ 8) (left : 
 
 -- ---- a content
 
-among : (n : ℕ) → n ≤ 4 → Among (fixed n) (fixed_below 5)
+pub among : (n : ℕ) → n ≤ 4 → Among (fixed n) (fixed_below 5)
 among zero le = inl refl
 among (suc zero) le = inr (inl refl)
 among (suc (suc zero)) le = inr (inr (inl refl))

@@ -25,6 +25,7 @@ pub mod Orders
 pub mod Greater
 pub mod Convex
 pub mod Walks
+pub mod LowerBounds
 pub mod Searching
 pub mod Lengths
 pub mod Differences

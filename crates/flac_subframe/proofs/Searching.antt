@@ -23,14 +23,14 @@ module _ (most d : ℕ) (s : List ℤ) (ps qs : List Chooses) (p : Chooses) (ste
   pub too_dear : best.bits ≤ before → IsBest most d s qs best
   too_dear h = rw step (best_above most d s ps p best so 0 (omega (arith, e₄)) (λ f m. omega arith))
 
-  pub no_better : best.bits ≤ before + (best.bits - before) → ((f : Codings) → MayWrite most order (differences cs shift s) f → best.bits - before ≤ residual_cost order (differences cs shift s) f) → IsBest most d s qs best
-  no_better h each =
+  pub no_better : (below : ℕ) → best.bits ≤ before + below → ((f : Codings) → MayWrite most order (differences cs shift s) f → below ≤ residual_cost order (differences cs shift s) f) → IsBest most d s qs best
+  no_better below h each =
       let each' = rw (e, e₂, e₃) at each in
-      rw step (best_above most d s ps p best so (best.bits - before) (omega (arith, e₄)) each')
+      rw step (best_above most d s ps p best so below (omega (arith, e₄)) each')
 
   pub better : (r : ResidualChoice) (new : PricedChoice) → order < length s → All IsResidual (differences cs shift s) →
       IsLeast (MayWrite most order (differences cs shift s)) (residual_cost order (differences cs shift s)) (codings_of r) → r.bits ≡ residual_cost order (differences cs shift s) (codings_of r) → r.bits ≤ 2 ^ 49 →
-      new.bits ≡ before + r.bits → new.bits < best.bits → body_of new.kind s ≡ body_by p r s → IsBest most d s qs new
+      new.bits ≡ before + r.bits → new.bits ≤ best.bits → body_of new.kind s ≡ body_by p r s → IsBest most d s qs new
   better r new room range least bits small is less body =
       let range' = rw (e, e₂) at range in
       let least' = rw (e, e₂, e₃) at least in

@@ -33,7 +33,7 @@ segments a b c rs h g =
     sym (take-append-drop n all) ∙ rw (front, back) refl
 
 -- a block that can be halved once more has parts of twice the size
-twice : (block p : ℕ) → block % 2 ^ (p + 1) ≡ 0 → block / 2 ^ p ≡ 2 * (block / 2 ^ (p + 1))
+pub twice : (block p : ℕ) → block % 2 ^ (p + 1) ≡ 0 → block / 2 ^ p ≡ 2 * (block / 2 ^ (p + 1))
 twice block p even =
     let a : ℕ = block / 2 ^ p in
     let half : a / 2 ≡ block / 2 ^ (p + 1) = shr-shr block p 1 in

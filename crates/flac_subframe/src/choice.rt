@@ -1,10 +1,10 @@
 //! The least content of a subframe for some samples.
-ghost use Rattle.std.specs.Prelude.{◌≡◌, ◌<◌, ◌≤◌, ◌^◌, ◌+◌, ◌∷◌, [], ◌*◌, ℕ, length, All, IsTrue, ◌↔◌, replicate};
+ghost use Rattle.std.specs.Prelude.{◌≡◌, ◌<◌, ◌≤◌, ◌^◌, ◌+◌, ◌++◌, ◌∷◌, [], ◌*◌, List, ℕ, length, All, IsTrue, ◌↔◌, replicate};
 ghost use Rattle.flac_bits.specs.Signed.{FitsBits};
 ghost use Rattle.flac_subframe.specs.Numbers.{sample_at};
 ghost use Rattle.flac_subframe.specs.Least.{IsLeast};
 ghost use Rattle.flac_bits.specs.Rice.{IsResidual};
-ghost use Rattle.flac_subframe.specs.Bodies.{differences, StandsFor, spelled};
+ghost use Rattle.flac_subframe.specs.Bodies.{Chooses, fixed, differences, StandsFor, spelled};
 ghost use Rattle.flac_subframe.specs.Chosen.{body_of, IsBest, fixed_below, priced_as};
 
 use crate::halving::ResidualChoice;
@@ -58,6 +58,42 @@ pub(crate) fn all_equal(samples: &[i64]) -> bool
     true
 }
 
+/// How many bits a predictor of an order has to stay below to be taken for the best so far: of equals the one of the lower order is.
+fn limit(best: &Held, order: usize) -> u64
+    requires { best.now.bits ≤ 2 ^ 60 }
+    ensures { (best.now.bits ≤ result) × (result ≤ best.now.bits + 1) }
+{
+    match best.kind {
+        HeldKind::AsFixed(held) if order < held => best.bits + 1,
+        _ => best.bits,
+    }
+}
+
+/// The order whose fixed predictor leaves the least sum of absolute values in the first samples.
+fn likely_order(samples: &[i64]) -> usize
+    ensures { result ≤ 4 }
+{
+    let mut last = [0i64; 4];
+    let mut sums = [0u64; 5];
+    for sample in &samples[..samples.len().min(512)] {
+        let mut left = *sample;
+        sums[0] = sums[0].wrapping_add(left.unsigned_abs());
+        for order in 0..4 {
+            let next = left.wrapping_sub(last[order]);
+            last[order] = left;
+            left = next;
+            sums[order + 1] = sums[order + 1].wrapping_add(left.unsigned_abs());
+        }
+    }
+    let mut likely = 0;
+    for order in 1..5 {
+        if sums[order] < sums[likely] {
+            likely = order;
+        }
+    }
+    likely
+}
+
 /// The lesser of the best so far and what the fixed predictor of an order gives.
 fn better_fixed(
     samples: &[i64],
@@ -83,8 +119,8 @@ fn better_fixed(
     requires four { 2 * 2 ^ most ≤ length four.old }
     requires five { 2 * 2 ^ most ≤ length five.old }
     requires widths { 2 * 2 ^ most ≤ length widths.old }
-    requires best { IsBest most bits samples.now (fixed_below order) (priced_as best.old) }
-    ensures best { IsBest most bits samples.now (fixed_below (order + 1)) (priced_as best.new) }
+    requires small { best.old.bits ≤ 2 ^ 60 }
+    ensures best { (tried : List Chooses) → IsBest most bits samples.now tried (priced_as best.old) → IsBest most bits samples.now (tried ++ fixed order ∷ []) (priced_as best.new) }
     ensures values_long { length values.new ≡ length values.old }
     ensures folds_long { length folds.new ≡ length folds.old }
     ensures sums_long { length sums.new ≡ length sums.old }
@@ -99,11 +135,12 @@ fn better_fixed(
     if !take_differences(order, samples, places) {
         return;
     }
+    let limit = limit(best, order);
     let before = u64::from(bits) * order as u64;
-    if best.bits <= before {
+    if limit <= before {
         return;
     }
-    let below = best.bits - before;
+    let below = limit - before;
     if least_residual_into(
         places,
         folds,
@@ -198,20 +235,36 @@ pub(crate) fn choose_body(
     let mut five = [0; 512];
     let mut widths = [0; 512];
     let mut best = begin(samples, bits);
+    let first = likely_order(samples);
+    better_fixed(
+        samples,
+        bits,
+        most,
+        first,
+        values,
+        folds,
+        &mut sums,
+        &mut four,
+        &mut five,
+        &mut widths,
+        &mut best,
+    );
     for order in 0..5 {
-        better_fixed(
-            samples,
-            bits,
-            most,
-            order,
-            values,
-            folds,
-            &mut sums,
-            &mut four,
-            &mut five,
-            &mut widths,
-            &mut best,
-        );
+        if order != first {
+            better_fixed(
+                samples,
+                bits,
+                most,
+                order,
+                values,
+                folds,
+                &mut sums,
+                &mut four,
+                &mut five,
+                &mut widths,
+                &mut best,
+            );
+        }
     }
     release(best)
 }

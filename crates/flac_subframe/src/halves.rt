@@ -12,7 +12,14 @@ use crate::cost::rice_bits;
 use crate::halving::power;
 
 /// What each partition costs under a parameter, at the finest partition order.
-fn price(values: &[i64], folds: &[u64], order: usize, halvings: u8, parameter: u8, sums: &mut [u64])
+pub(crate) fn price(
+    values: &[i64],
+    folds: &[u64],
+    order: usize,
+    halvings: u8,
+    parameter: u8,
+    sums: &mut [u64],
+)
     requires few { length values.now + order ≤ 65535 }
     requires range { All IsResidual values.now }
     requires folded { folds.now ≡ map folded values.now }

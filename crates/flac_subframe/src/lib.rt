@@ -13,6 +13,7 @@ mod limits;
 mod numbers;
 mod predictors;
 mod promises;
+mod pruning;
 mod residual;
 mod restoration;
 mod subframe;

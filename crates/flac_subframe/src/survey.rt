@@ -12,6 +12,7 @@ use crate::cost::{Priced, rice_bits};
 use crate::folding::fold_each;
 use crate::halves::{clear, compare, compare_down, copy};
 use crate::halving::{ResidualChoice, power};
+use crate::pruning::lower_bound;
 use crate::widths::measure;
 use arrayvec::ArrayVec;
 
@@ -243,7 +244,7 @@ fn survey(
     sums: &mut [u64],
     four: &mut [u64],
     five: &mut [u64],
-    widths: &mut [u8],
+    widths: &[u8],
 ) -> Found
     requires few { length values.now + order ≤ 65535 }
     requires range { All IsResidual values.now }
@@ -255,7 +256,8 @@ fn survey(
     requires sums { 2 ^ halvings ≤ length sums.old }
     requires four { 2 * 2 ^ halvings ≤ length four.old }
     requires five { 2 * 2 ^ halvings ≤ length five.old }
-    requires places { 2 * 2 ^ halvings ≤ length widths.old }
+    requires widths { HasWidths order values.now 0 halvings widths.now }
+    requires places { 2 * 2 ^ halvings ≤ length widths.now }
     ensures method { (result.parameter_bits ≡ 4) ⊎ (result.parameter_bits ≡ 5) }
     ensures within { result.halvings ≤ halvings }
     ensures least { IsLeastCost (MayWrite halvings order values.now) (residual_cost order values.now) result.bits }
@@ -263,13 +265,10 @@ fn survey(
     ensures small { result.bits ≤ 2 ^ 33 * 2 ^ 16 }
     ensures entries { (p j : ℕ) → p ≤ halvings → j < 2 ^ p → LeastBelow 15 (part order values.now p j) (entry four.new p j) }
     ensures more { (p j : ℕ) → p ≤ halvings → j < 2 ^ p → LeastBelow 31 (part order values.now p j) (entry five.new p j) }
-    ensures widths { HasWidths order values.now 0 halvings widths.new }
     ensures sums_long { length sums.new ≡ length sums.old }
     ensures four_long { length four.new ≡ length four.old }
     ensures five_long { length five.new ≡ length five.old }
-    ensures widths_long { length widths.new ≡ length widths.old }
 {
-    measure(values, folds, order, halvings, widths);
     tabulate(values, folds, order, halvings, sums, four, five);
     let first = best_order(values, order, halvings, 4, four, widths);
     let second = best_order(values, order, halvings, 5, five, widths);
@@ -355,6 +354,10 @@ pub(crate) fn least_residual_into(
     let halvings = greatest_halvings(values, order, most);
     let folds = &mut folds[..values.len()];
     fold_each(values, folds);
+    measure(values, folds, order, halvings, widths);
+    if lower_bound(values, folds, order, halvings, sums, widths) >= below {
+        return false;
+    }
     let found = survey(values, folds, order, halvings, sums, four, five, widths);
     if found.bits >= below {
         return false;

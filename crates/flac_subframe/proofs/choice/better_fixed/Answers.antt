@@ -1,9 +1,7 @@
-use Rattle.std.proofs.Common.{arith, ◌≡◌, ◌+◌, ◌*◌, ◌≤◌, length, refl, sym, ℕ}
+use Rattle.std.proofs.Common.{arith, ◌≡◌, ◌+◌, ◌-◌, ◌*◌, ◌≤◌, ◌++◌, ◌∷◌, [], length, refl, sym, ℕ}
 use Rattle.flac_subframe.specs.Prediction.{fixed_coefficients}
 use Rattle.flac_subframe.specs.Bodies.{fixed}
-use Rattle.flac_subframe.specs.Chosen.{fixed_below}
 use Rattle.flac_subframe.proofs.Differences.{length-fixed}
-use Rattle.flac_subframe.proofs.Best.{one_fixed_more}
 use Rattle.flac_subframe.specs.Chosen.{priced_as}
 use Rattle.flac_subframe.proofs.Searching.{too_long, out_of_range, too_dear, no_better, better}
 use Rattle.flac_subframe.proofs.choice.better_fixed.Goals as goal
@@ -15,25 +13,25 @@ before_is : (bits order from : ℕ) → order ≤ 4 → from ≡ bits → from *
 before_is bits order from h e = rw (e, length-fixed order h) (omega arith)
 
 pub returns-then-order-samples-clause-best : goal.returns-then-order-samples-clause-best
-returns-then-order-samples-clause-best c =
+returns-then-order-samples-clause-best c = λ tried so.
     let o = c.args.order in
-    too_long c.args.most c.args.bits c.args.samples.now (fixed_below o) (fixed_below (o + 1)) (fixed o) (one_fixed_more o) (fixed_coefficients o) 0 o (c.args.bits * o) refl refl (order_is o c.requires.order) (before_is c.args.bits o c.args.bits c.requires.order refl)
-    (priced_as c.args.best.now) c.requires.best c.if-order-samples.true
+    too_long c.args.most c.args.bits c.args.samples.now tried (tried ++ fixed o ∷ []) (fixed o) refl (fixed_coefficients o) 0 o (c.args.bits * o) refl refl (order_is o c.requires.order) (before_is c.args.bits o c.args.bits c.requires.order refl)
+    (priced_as c.args.best.now) so c.if-order-samples.true
 
 pub returns-then-not-take_differences-clause-best : goal.returns-then-not-take_differences-clause-best
-returns-then-not-take_differences-clause-best c =
+returns-then-not-take_differences-clause-best c = λ tried so.
     let o = c.args.order in
-    out_of_range c.args.most c.args.bits c.args.samples.now (fixed_below o) (fixed_below (o + 1)) (fixed o) (one_fixed_more o) (fixed_coefficients o) 0 o (c.args.bits * o) refl refl (order_is o c.requires.order) (before_is c.args.bits o c.args.bits c.requires.order refl)
-    (priced_as c.args.best.now) c.requires.best (λ all. cc (c.take_differences.ensures.range.1 all, c.if-not-take_differences.true))
+    out_of_range c.args.most c.args.bits c.args.samples.now tried (tried ++ fixed o ∷ []) (fixed o) refl (fixed_coefficients o) 0 o (c.args.bits * o) refl refl (order_is o c.requires.order) (before_is c.args.bits o c.args.bits c.requires.order refl)
+    (priced_as c.args.best.now) so (λ all. cc (c.take_differences.ensures.range.1 all, c.if-not-take_differences.true))
 
-pub returns-then-best-before-clause-best : goal.returns-then-best-before-clause-best
-returns-then-best-before-clause-best c =
+pub returns-then-limit-before-clause-best : goal.returns-then-limit-before-clause-best
+returns-then-limit-before-clause-best c = λ tried so.
     let o = c.args.order in
-    too_dear c.args.most c.args.bits c.args.samples.now (fixed_below o) (fixed_below (o + 1)) (fixed o) (one_fixed_more o) (fixed_coefficients o) 0 o (c.from.result * o) refl refl (order_is o c.requires.order) (before_is c.args.bits o c.from.result c.requires.order c.from.ensures)
-    (priced_as c.args.best.now) c.requires.best c.if-best-before.true
+    too_dear c.args.most c.args.bits c.args.samples.now tried (tried ++ fixed o ∷ []) (fixed o) refl (fixed_coefficients o) 0 o (c.from.result * o) refl refl (order_is o c.requires.order) (before_is c.args.bits o c.from.result c.requires.order c.from.ensures)
+    (priced_as c.args.best.now) so (omega (arith, c.if-limit-before.true, c.limit-limit.ensures.0))
 
 pub returns-then-least_residual_into-clause-best : goal.returns-then-least_residual_into-clause-best
-returns-then-least_residual_into-clause-best c =
+returns-then-least_residual_into-clause-best c = λ tried so.
     let o = c.args.order in
     let is = c.take_differences.ensures.all in
     let range = c.take_differences.ensures.range.0 c.if-not-take_differences.false in
@@ -42,14 +40,14 @@ returns-then-least_residual_into-clause-best c =
     let bits = rw is at (c.least_residual_into.ensures.bits c.if-least_residual_into.true) in
     let less = c.least_residual_into.ensures.less c.if-least_residual_into.true in
     let small = c.least_residual_into.ensures.small c.if-least_residual_into.true in
-    better c.args.most c.args.bits c.args.samples.now (fixed_below o) (fixed_below (o + 1)) (fixed o) (one_fixed_more o) (fixed_coefficients o) 0 o (c.from.result * o) refl refl (order_is o c.requires.order) (before_is c.args.bits o c.from.result c.requires.order c.from.ensures)
-    (priced_as c.args.best.now) c.requires.best r _ (omega arith) range least bits small refl (omega arith) refl
+    better c.args.most c.args.bits c.args.samples.now tried (tried ++ fixed o ∷ []) (fixed o) refl (fixed_coefficients o) 0 o (c.from.result * o) refl refl (order_is o c.requires.order) (before_is c.args.bits o c.from.result c.requires.order c.from.ensures)
+    (priced_as c.args.best.now) so r _ (omega arith) range least bits small refl (omega (arith, less, c.limit-limit.ensures.1)) refl
 
 pub returns-else-least_residual_into-clause-best : goal.returns-else-least_residual_into-clause-best
-returns-else-least_residual_into-clause-best c =
+returns-else-least_residual_into-clause-best c = λ tried so.
     let o = c.args.order in
     let is = c.take_differences.ensures.all in
     let kept = c.if-least_residual_into.ensures.kept (λ t. cc) in
     let none = rw is at (c.if-least_residual_into.ensures.none (λ t. cc)) in
-    rw kept (no_better c.args.most c.args.bits c.args.samples.now (fixed_below o) (fixed_below (o + 1)) (fixed o) (one_fixed_more o) (fixed_coefficients o) 0 o (c.from.result * o) refl refl (order_is o c.requires.order) (before_is c.args.bits o c.from.result c.requires.order c.from.ensures)
-    (priced_as c.args.best.now) c.requires.best (omega arith) none)
+    rw kept (no_better c.args.most c.args.bits c.args.samples.now tried (tried ++ fixed o ∷ []) (fixed o) refl (fixed_coefficients o) 0 o (c.from.result * o) refl refl (order_is o c.requires.order) (before_is c.args.bits o c.from.result c.requires.order c.from.ensures)
+    (priced_as c.args.best.now) so (c.limit-limit.result - c.from.result * o) (omega (arith, c.limit-limit.ensures.0)) none)

@@ -1,10 +1,11 @@
-use Rattle.std.proofs.Common.{◌≡◌, length}
+use Rattle.std.proofs.Common.{◌≡◌, ◌∷◌, length}
+use Rattle.flac_subframe.specs.Bodies.{fixed}
 use Rattle.flac_subframe.specs.Chosen.{IsBest, fixed_below, priced_as}
 use Rattle.flac_subframe.proofs.choice.choose_body.Given as goal
 
 abbrev pub invariant-loop-order : goal.invariant-loop-order
 invariant-loop-order l = record {
-  best : IsBest l.most l.bits l.samples (fixed_below l.order) (priced_as l.best);
+  best : IsBest l.most l.bits l.samples (fixed l.first ∷ fixed_below l.order) (priced_as l.best);
   values : length l.values ≡ length l.fn.values;
   folds : length l.folds ≡ length l.fn.folds;
   sums : length l.sums ≡ 256;

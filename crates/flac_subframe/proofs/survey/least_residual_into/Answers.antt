@@ -5,6 +5,18 @@ use Rattle.flac_subframe.proofs.survey.least_residual_into.Goals as goal
 room : (p h n : ℕ) → p ≤ h → 2 * 2 ^ h ≤ n → 2 * 2 ^ p ≤ n
 room p h n le big = omega (arith, pow-le-pow_right {n = 2} (omega arith) {i = p} {j = h} le)
 
+pub measure-requires-clause-places : goal.measure-requires-clause-places
+measure-requires-clause-places c = room c.greatest_halvings-halvings.result c.args.most _ (omega arith) c.requires.places
+
+pub lower_bound-requires-clause-sums : goal.lower_bound-requires-clause-sums
+lower_bound-requires-clause-sums c = omega (arith, pow-le-pow_right {n = 2} (omega arith) {i = c.greatest_halvings-halvings.result} {j = c.args.most} (omega arith))
+
+pub lower_bound-requires-clause-widths : goal.lower_bound-requires-clause-widths
+lower_bound-requires-clause-widths c = λ p j low high b. c.measure.ensures.widths p j (omega arith) (omega arith) b
+
+pub lower_bound-requires-clause-places : goal.lower_bound-requires-clause-places
+lower_bound-requires-clause-places c = room c.greatest_halvings-halvings.result c.args.most _ (omega arith) (omega arith)
+
 pub survey-found-requires-clause-sums : goal.survey-found-requires-clause-sums
 survey-found-requires-clause-sums c = omega (arith, pow-le-pow_right {n = 2} (omega arith) {i = c.greatest_halvings-halvings.result} {j = c.args.most} (omega arith))
 
@@ -15,13 +27,13 @@ pub survey-found-requires-clause-five : goal.survey-found-requires-clause-five
 survey-found-requires-clause-five c = room c.greatest_halvings-halvings.result c.args.most _ (omega arith) c.requires.five
 
 pub survey-found-requires-clause-places : goal.survey-found-requires-clause-places
-survey-found-requires-clause-places c = room c.greatest_halvings-halvings.result c.args.most _ (omega arith) c.requires.places
+survey-found-requires-clause-places c = room c.greatest_halvings-halvings.result c.args.most _ (omega arith) (omega arith)
 
 pub take_up-requires-clause-table : goal.take_up-requires-clause-table
 take_up-requires-clause-table c = room c.survey-found.result.halvings c.args.most _ (omega arith) (omega arith)
 
 pub take_up-requires-clause-widths : goal.take_up-requires-clause-widths
-take_up-requires-clause-widths c = λ p j low high b. c.survey-found.ensures.widths p j (omega arith) (omega arith) b
+take_up-requires-clause-widths c = λ p j low high b. c.measure.ensures.widths p j (omega arith) (omega arith) b
 
 pub take_up-requires-clause-places : goal.take_up-requires-clause-places
 take_up-requires-clause-places c = room c.survey-found.result.halvings c.args.most _ (omega arith) (omega arith)
@@ -30,7 +42,7 @@ pub take_up-requires-else-found-eq4-clause-table : goal.take_up-requires-else-fo
 take_up-requires-else-found-eq4-clause-table c = room c.survey-found.result.halvings c.args.most _ (omega arith) (omega arith)
 
 pub take_up-requires-else-found-eq4-clause-widths : goal.take_up-requires-else-found-eq4-clause-widths
-take_up-requires-else-found-eq4-clause-widths c = λ p j low high b. c.survey-found.ensures.widths p j (omega arith) (omega arith) b
+take_up-requires-else-found-eq4-clause-widths c = λ p j low high b. c.measure.ensures.widths p j (omega arith) (omega arith) b
 
 pub take_up-requires-else-found-eq4-clause-places : goal.take_up-requires-else-found-eq4-clause-places
 take_up-requires-else-found-eq4-clause-places c = room c.survey-found.result.halvings c.args.most _ (omega arith) (omega arith)

@@ -1,0 +1,99 @@
+//! What a residual takes at least, told before its parameters are tried.
+
+ghost use Rattle.std.specs.Prelude.{◌≡◌, ◌<◌, ◌≤◌, ◌^◌, ◌+◌, ◌*◌, ℕ, length, map, All, slice_index};
+ghost use Rattle.std.specs.List.{sum_by};
+ghost use Rattle.flac_bits.specs.Rice.{IsResidual};
+ghost use Rattle.flac_subframe.specs.Cost.{value_cost, MayWrite, Codings, residual_cost};
+ghost use Rattle.flac_subframe.specs.Spelling.{folded, FitsWidth};
+ghost use Rattle.flac_subframe.specs.Halves.{part, Halves, IsWidth, HasWidths};
+
+use crate::halves::price;
+use crate::halving::power;
+
+/// A shift that brings the bits of values near their count.
+fn shift_to(count: u64, bits: u64) -> u32
+    ensures { result ≤ 40 }
+{
+    let shift = count
+        .leading_zeros()
+        .saturating_sub(bits.leading_zeros())
+        .min(40);
+    if bits >> shift < count {
+        shift.saturating_sub(1)
+    } else {
+        shift
+    }
+}
+
+/// What the values of a partition take at least under any coding, by the bits that they take under parameter 0 and by their width.
+fn bound_part(values: &[i64], bits: u64, width: u8) -> u64
+    requires few { length values.now ≤ 65535 }
+    requires bits { bits ≡ sum_by (value_cost 0) values.now }
+    requires small_width { width ≤ 32 }
+    requires width { IsWidth values.now width }
+    ensures rice { (k : ℕ) → result ≤ sum_by (value_cost k) values.now }
+    ensures escape { (n : ℕ) → All (FitsWidth n) values.now → result ≤ n * length values.now }
+    ensures small { result ≤ 2 ^ 21 }
+{
+    let count = values.len() as u64;
+    let shift = shift_to(count, bits);
+    let quotient = bits >> shift;
+    if quotient < count || quotient >= 2 * count {
+        return 0;
+    }
+    let rice = count * u64::from(shift) + quotient;
+    rice.min(count * u64::from(width))
+}
+
+/// What the finest partitions take at least, one after another.
+fn bound_parts(values: &[i64], order: usize, halvings: u8, sums: &[u64], widths: &[u8]) -> u64
+    requires few { length values.now + order ≤ 65535 }
+    requires range { All IsResidual values.now }
+    requires most { halvings ≤ 8 }
+    requires halves { Halves order values.now halvings }
+    requires places { length sums.now ≡ 2 ^ halvings }
+    requires costs { (j : ℕ) → j < 2 ^ halvings → slice_index sums.now j ≡ sum_by (value_cost 0) (part order values.now halvings j) }
+    requires widths { HasWidths order values.now halvings halvings widths.now }
+    requires widths_long { 2 * 2 ^ halvings ≤ length widths.now }
+    ensures { (f : Codings) → MayWrite halvings order values.now f → result ≤ residual_cost order values.now f }
+{
+    let size = (values.len() + order) >> halvings;
+    let count = power(halvings);
+    let mut bits = 0;
+    let mut rest = values;
+    let mut long = size - order;
+    for j in 0..count {
+        let (front, after) = rest.split_at(long);
+        bits += bound_part(front, sums[j], widths[count + j]);
+        rest = after;
+        long = size;
+    }
+    bits
+}
+
+/// What a residual takes at least in any form.
+pub(crate) fn lower_bound(
+    values: &[i64],
+    folds: &[u64],
+    order: usize,
+    halvings: u8,
+    sums: &mut [u64],
+    widths: &[u8],
+) -> u64
+    requires few { length values.now + order ≤ 65535 }
+    requires range { All IsResidual values.now }
+    requires folded { folds.now ≡ map folded values.now }
+    requires small { All (λ n. n < 2 ^ 32) folds.now }
+    requires long { length folds.now ≡ length values.now }
+    requires most { halvings ≤ 8 }
+    requires halves { Halves order values.now halvings }
+    requires sums { 2 ^ halvings ≤ length sums.old }
+    requires widths { HasWidths order values.now halvings halvings widths.now }
+    requires places { 2 * 2 ^ halvings ≤ length widths.now }
+    ensures bound { (f : Codings) → MayWrite halvings order values.now f → result ≤ residual_cost order values.now f }
+    ensures sums_long { length sums.new ≡ length sums.old }
+{
+    let row = &mut sums[..power(halvings)];
+    price(values, folds, order, halvings, 0, row);
+    bound_parts(values, order, halvings, row, widths)
+}
