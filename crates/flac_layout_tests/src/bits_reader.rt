@@ -6,23 +6,26 @@ use std::io;
 use std::io::{ErrorKind, Read};
 use std::test::Fail;
 
-#[test]
-fn checks(rt: HostRuntime) -> Result<(), Fail> {
-    assert_eq!(rt; crc8(b"123456789"), 0xF4);
-    assert_eq!(rt; crc16(b"123456789"), 0xFEE8);
-    assert_eq!(rt; crc32_sum(0, b"123456789"), 0x89A1_897F);
-    assert_eq!(rt; crc8(&[1]), 0x07);
-    assert_eq!(rt; crc16(&[1]), 0x8005);
-    assert_eq!(rt; crc32_sum(0, &[1]), 0x04C1_1DB7);
-    let mut bits = BitReader::new(Memory::new(b"x123456789"));
+/// The three checks of some bytes.
+fn checks_of(bytes: &[u8]) -> (u8, u16, u32) {
+    (crc8(bytes), crc16(bytes), crc32_sum(0, bytes))
+}
+
+/// What a reader has of both checks of nine bytes behind the first, and how many bytes it took.
+fn checks_behind_one(source: &[u8]) -> Result<(u8, u16, u64), Why> {
+    let mut bits = BitReader::new(Memory::new(source));
     bits.take(8)?;
     bits.start_checks();
     bits.take(36)?;
     bits.take(36)?;
-    assert_eq!(rt; bits.check8(), 0xF4);
-    assert_eq!(rt; bits.check16(), 0xFEE8);
-    assert_eq!(rt; bits.bytes_taken(), 10);
-    Ok(())
+    Ok((bits.check8(), bits.check16(), bits.bytes_taken()))
+}
+
+#[test]
+fn checks(rt: HostRuntime) {
+    assert_eq!(rt; checks_of(b"123456789"), (0xF4, 0xFEE8, 0x89A1_897F));
+    assert_eq!(rt; checks_of(&[1]), (0x07, 0x8005, 0x04C1_1DB7));
+    assert_eq!(rt; checks_behind_one(b"x123456789"), Ok((0xF4, 0xFEE8, 10)));
 }
 
 fn number(bytes: &[u8]) -> Result<u64, Why> {
@@ -30,23 +33,35 @@ fn number(bytes: &[u8]) -> Result<u64, Why> {
     read_number(&mut bits, 36)
 }
 
+/// Two numbers of at most 31 bits, one behind the other.
+fn two_numbers(bytes: &[u8]) -> (Result<u64, Why>, Result<u64, Why>) {
+    let mut bits = BitReader::new(Memory::new(bytes));
+    let first = read_number(&mut bits, 31);
+    (first, read_number(&mut bits, 31))
+}
+
 #[test]
-fn numbers(rt: HostRuntime) -> Result<(), Fail> {
-    assert_eq!(rt; number(&[0x7F])?, 127);
-    assert_eq!(rt; number(&[0xC2, 0x80])?, 128);
-    assert_eq!(rt; number(&[0xEF, 0xBF, 0xBF])?, 65535);
-    assert_eq!(rt; number(&[0xF0, 0x90, 0x80, 0x80])?, 65536);
-    assert_eq!(rt; number(&[0xFD, 0xBF, 0xBF, 0xBF, 0xBF, 0xBF])?, 0x7FFF_FFFF);
+fn numbers(rt: HostRuntime) {
+    let rows: [(&[u8], Result<u64, Why>); 8] = [
+        (&[0x7F], Ok(127)),
+        (&[0xC2, 0x80], Ok(128)),
+        (&[0xEF, 0xBF, 0xBF], Ok(65535)),
+        (&[0xF0, 0x90, 0x80, 0x80], Ok(65536)),
+        (&[0xFD, 0xBF, 0xBF, 0xBF, 0xBF, 0xBF], Ok(0x7FFF_FFFF)),
+        (
+            &[0xFE, 0xBF, 0xBF, 0xBF, 0xBF, 0xBF, 0xBF],
+            Ok(0xF_FFFF_FFFF),
+        ),
+        (&[0xC1, 0xBF], Err(Why::BadNumber)),
+        (&[0xC1], Err(Why::Truncated)),
+    ];
+    for (bytes, wanted) in rows {
+        assert_eq!(rt; number(bytes), wanted);
+    }
     assert_eq!(rt;
-        number(&[0xFE, 0xBF, 0xBF, 0xBF, 0xBF, 0xBF, 0xBF])?,
-        0xF_FFFF_FFFF
+        two_numbers(&[0xFD, 0xBF, 0xBF, 0xBF, 0xBF, 0xBF, 0xFE]),
+        (Ok(0x7FFF_FFFF), Err(Why::BadNumber))
     );
-    assert_eq!(rt; number(&[0xC1, 0xBF]), Err(Why::BadNumber));
-    assert_eq!(rt; number(&[0xC1]), Err(Why::Truncated));
-    let mut counted = BitReader::new(Memory::new(&[0xFD, 0xBF, 0xBF, 0xBF, 0xBF, 0xBF, 0xFE]));
-    assert_eq!(rt; read_number(&mut counted, 31)?, 0x7FFF_FFFF);
-    assert_eq!(rt; read_number(&mut counted, 31), Err(Why::BadNumber));
-    Ok(())
 }
 
 /// A quotient of four million zeros is a value.
@@ -61,37 +76,54 @@ fn millions_of_zeros(rt: HostRuntime) -> Result<(), Fail> {
     Ok(())
 }
 
-#[test]
-fn residual_values(rt: HostRuntime) -> Result<(), Fail> {
-    let mut one = [0i64; 1];
-    let mut bits = BitReader::new(Memory::new(&[0x4C, 0xF0]));
-    bits.rice_partition(0, &mut one)?;
-    assert_eq!(rt; one[0], -1);
-    bits.rice_partition(2, &mut one)?;
-    assert_eq!(rt; one[0], 5);
-    assert_eq!(rt; bits.align()?, true);
+/// A value under the parameter 0 and one under 2, and whether the bits left of a byte are zeros.
+fn two_folded<R: Source>(bits: &mut BitReader<R>) -> Result<(i64, i64, bool), Why> {
+    let mut first = [0i64; 1];
+    let mut second = [0i64; 1];
+    bits.rice_partition(0, &mut first)?;
+    bits.rice_partition(2, &mut second)?;
+    Ok((first[0], second[0], bits.align()?))
+}
+
+/// Two values of three bits, whether the bits left of a byte are zeros, and whether the end stands there.
+fn two_plain<R: Source>(bits: &mut BitReader<R>) -> Result<([i64; 2], bool, bool), Why> {
     let mut two = [0i64; 2];
     bits.signed_partition(3, &mut two)?;
-    assert_eq!(rt; two[0], -1);
-    assert_eq!(rt; two[1], -4);
-    assert_eq!(rt; bits.align()?, true);
-    assert_eq!(rt; bits.at_end()?, true);
-    let mut least = BitReader::new(Memory::new(&[0x1F, 0xFF, 0xFF, 0xFF, 0xC0]));
-    assert_eq!(rt; least.rice_partition(30, &mut one), Err(Why::ResidualRange));
-    let mut zeros = BitReader::new(Memory::new(&[0, 0]));
-    assert_eq!(rt; zeros.rice_partition(30, &mut one), Err(Why::ResidualRange));
-    assert_eq!(rt; zeros.bytes_taken(), 1);
-    Ok(())
+    let aligned = bits.align()?;
+    Ok((two, aligned, bits.at_end()?))
+}
+
+/// How a value under the parameter 30 is read, and how many bytes were taken.
+fn widest(source: &[u8]) -> (Result<(), Why>, u64) {
+    let mut one = [0i64; 1];
+    let mut bits = BitReader::new(Memory::new(source));
+    let outcome = bits.rice_partition(30, &mut one);
+    (outcome, bits.bytes_taken())
+}
+
+#[test]
+fn residual_values(rt: HostRuntime) {
+    let mut bits = BitReader::new(Memory::new(&[0x4C, 0xF0]));
+    assert_eq!(rt; two_folded(&mut bits), Ok((-1, 5, true)));
+    assert_eq!(rt; two_plain(&mut bits), Ok(([-1, -4], true, true)));
+    let (least, _) = widest(&[0x1F, 0xFF, 0xFF, 0xFF, 0xC0]);
+    assert_eq!(rt; least, Err(Why::ResidualRange));
+    assert_eq!(rt; widest(&[0, 0]), (Err(Why::ResidualRange), 1));
+}
+
+/// Whether fields of many kinds have the values wanted.
+fn fields_stand<R: Source>(bits: &mut BitReader<R>) -> Result<bool, Why> {
+    if bits.take(12)? != 0x012 || bits.take_signed(4)? != 3 {
+        return Ok(false);
+    }
+    Ok(bits.unary(5)? == Some(1) && bits.take(46)? == 0x0567_89AB_CDEF)
 }
 
 /// Fields of many kinds, and the byte that stands last.
 fn last_of<R: Source + Drop>(source: R) -> Result<u8, Why> {
     let mut bits = BitReader::new(source);
     let mut rest = [0u8; 4];
-    if bits.take(12)? != 0x012 || bits.take_signed(4)? != 3 || bits.unary(5)? != Some(1) {
-        return Err(Why::BadNumber);
-    }
-    if bits.take(46)? != 0x0567_89AB_CDEF {
+    if !fields_stand(&mut bits)? {
         return Err(Why::BadNumber);
     }
     read_bytes(&mut bits, &mut rest)?;
@@ -111,37 +143,60 @@ fn pieces(rt: HostRuntime) -> Result<(), Fail> {
     Ok(())
 }
 
-#[test]
-fn bytes(rt: HostRuntime) -> Result<(), Fail> {
-    let mut bits = BitReader::new(Memory::new(&[1, 2, 3]));
-    assert_eq!(rt; bits.take(8)?, 1);
+/// A byte, and how many of four come behind it, and the second of these; and why a source ends.
+fn bytes_behind(source: &[u8]) -> Result<(u64, usize, u8, Why), Why> {
+    let mut bits = BitReader::new(Memory::new(source));
+    let first = bits.take(8)?;
     let mut places = [0u8; 4];
-    if bits.unread() == 0 {
-        assert_eq!(rt; bits.take_bytes(&mut places)?, 2);
-    }
-    assert_eq!(rt; places[1], 3);
-    assert_eq!(rt; bits.short(), Why::Truncated);
-    let mut few = BitReader::new(Memory::new(&[1, 2, 3]));
-    assert_eq!(rt; read_bytes(&mut few, &mut places), Err(Why::Truncated));
-    Ok(())
+    let count = if bits.unread() == 0 {
+        bits.take_bytes(&mut places)?
+    } else {
+        0
+    };
+    Ok((first, count, places[1], bits.short()))
+}
+
+/// Four bytes of a source.
+fn four(source: &[u8]) -> Result<[u8; 4], Why> {
+    let mut places = [0u8; 4];
+    read_bytes(&mut BitReader::new(Memory::new(source)), &mut places)?;
+    Ok(places)
 }
 
 #[test]
-fn fence(rt: HostRuntime) -> Result<(), Fail> {
-    let mut bits = BitReader::new(Memory::new(&[0xAB, 0xCD, 0xEF]));
-    assert_eq!(rt; bits.take(4)?, 10);
+fn bytes(rt: HostRuntime) {
+    assert_eq!(rt; bytes_behind(&[1, 2, 3]), Ok((1, 2, 3, Why::Truncated)));
+    assert_eq!(rt; four(&[1, 2, 3]), Err(Why::Truncated));
+}
+
+/// Twelve bits up to a fence, and whether the end stands there, before and after it is lifted.
+fn up_to_a_fence<R: Source>(bits: &mut BitReader<R>) -> Result<(u64, bool, bool), Why> {
     bits.fence(1);
-    assert_eq!(rt; bits.take(12)?, 0xBCD);
-    assert_eq!(rt; bits.at_end()?, true);
+    let field = bits.take(12)?;
+    let fenced = bits.at_end()?;
     bits.lift();
-    assert_eq!(rt; bits.at_end()?, false);
+    Ok((field, fenced, bits.at_end()?))
+}
+
+/// A bit behind a fence, the byte there once it is lifted, and a bit behind the last byte, where a fence stands further on.
+fn behind_a_fence<R: Source>(
+    bits: &mut BitReader<R>,
+) -> (Result<u64, Why>, Result<u64, Why>, Result<u64, Why>) {
     bits.fence(0);
-    assert_eq!(rt; bits.take(1), Err(Why::FrameTooLong));
+    let fenced = bits.take(1);
     bits.lift();
-    assert_eq!(rt; bits.take(8)?, 0xEF);
+    let byte = bits.take(8);
     bits.fence(1);
-    assert_eq!(rt; bits.take(1), Err(Why::Truncated));
-    Ok(())
+    (fenced, byte, bits.take(1))
+}
+
+#[test]
+fn fence(rt: HostRuntime) {
+    let mut bits = BitReader::new(Memory::new(&[0xAB, 0xCD, 0xEF]));
+    assert_eq!(rt; bits.take(4), Ok(10));
+    assert_eq!(rt; up_to_a_fence(&mut bits), Ok((0xBCD, true, false)));
+    let wanted = (Err(Why::FrameTooLong), Ok(0xEF), Err(Why::Truncated));
+    assert_eq!(rt; behind_a_fence(&mut bits), wanted);
 }
 
 /// A reader of one byte, which then fails once.

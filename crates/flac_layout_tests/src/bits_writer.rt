@@ -1,16 +1,21 @@
-use flac_bits::{BitWriter, Collected, Counted, Why, write_number};
+use flac_bits::{BitWriter, Collected, Counted, Target, Why, write_number};
 use std::io;
 use std::io::{ErrorKind, Write};
 use std::test::Fail;
 
-#[test]
-fn fields(rt: HostRuntime) -> Result<(), Fail> {
-    let mut writer = BitWriter::new(Collected::new(rt.alloc()));
+/// A field of each kind, and zeros up to a whole byte.
+fn put_fields<W: Target>(writer: &mut BitWriter<W>) -> Result<(), Why> {
     writer.put(4, 10)?;
     writer.put_signed(4, -3)?;
     writer.put_unary(2)?;
     writer.put_rice(2, 9)?;
-    writer.align()?;
+    writer.align()
+}
+
+#[test]
+fn fields(rt: HostRuntime) -> Result<(), Fail> {
+    let mut writer = BitWriter::new(Collected::new(rt.alloc()));
+    put_fields(&mut writer)?;
     writer.put_bytes(&[1, 2])?;
     assert_eq!(rt; writer.bytes_written(), 4);
     writer.finish()?;

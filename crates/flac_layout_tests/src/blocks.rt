@@ -27,11 +27,16 @@ fn bytes_of(alloc: Global, block: &Block, last: bool) -> Result<Vec<u8>, Why> {
     Ok(writer.into_target().into_bytes())
 }
 
+/// How many bytes of content the block has, and its bytes as they are written again.
+fn written_again(alloc: Global, bytes: &[u8]) -> Result<(u64, Vec<u8>), Why> {
+    let (last, block) = read(alloc, bytes)?;
+    Ok((block.length(), bytes_of(alloc, &block, last)?))
+}
+
 /// Whether the block is written as it was read, with so many bytes of content.
 fn comes_back(alloc: Global, bytes: &[u8], length: u64) -> Result<bool, Why> {
-    let (last, block) = read(alloc, bytes)?;
-    let written = bytes_of(alloc, &block, last)?;
-    Ok(block.length() == length && written.as_slice() == bytes)
+    let (found, written) = written_again(alloc, bytes)?;
+    Ok(found == length && written.as_slice() == bytes)
 }
 
 fn refusal(alloc: Global, bytes: &[u8]) -> Option<Why> {
@@ -62,16 +67,26 @@ fn info_bytes() -> [u8; 38] {
     ]
 }
 
+/// What those bytes tell.
+fn told() -> Result<StreamInfo, Why> {
+    let digest = [1, 2, 3, 4, 5, 6, 7, 8, 9, 10, 11, 12, 13, 14, 15, 16];
+    StreamInfo::new(4096, 4096, 14, 15, 44100, 2, 16, 1, digest)
+}
+
+/// The first block of a stream, and whether it is the last.
+fn first_block(alloc: Global, bytes: &[u8]) -> Result<(bool, Block), Why> {
+    read_block(
+        alloc,
+        &mut BitReader::new(Memory::new(bytes)),
+        &mut Seen::new(),
+    )
+}
+
 #[test]
 fn stream_info(rt: HostRuntime) -> Result<(), Fail> {
     blocks_are_spelled();
-    let alloc = rt.alloc();
-    let bytes = info_bytes();
-    let mut seen = Seen::new();
-    let mut bits = BitReader::new(Memory::new(&bytes));
-    let (last, block) = read_block(alloc, &mut bits, &mut seen)?;
-    let digest = [1, 2, 3, 4, 5, 6, 7, 8, 9, 10, 11, 12, 13, 14, 15, 16];
-    let info = StreamInfo::new(4096, 4096, 14, 15, 44100, 2, 16, 1, digest)?;
+    let (last, block) = first_block(rt.alloc(), &info_bytes())?;
+    let info = told()?;
     assert!(rt; last && matches!(&block, Block::StreamInfo(found) if *found == info));
     Ok(())
 }
@@ -79,9 +94,7 @@ fn stream_info(rt: HostRuntime) -> Result<(), Fail> {
 #[test]
 fn stream_info_is_written(rt: HostRuntime) -> Result<(), Fail> {
     let alloc = rt.alloc();
-    let digest = [1, 2, 3, 4, 5, 6, 7, 8, 9, 10, 11, 12, 13, 14, 15, 16];
-    let info = StreamInfo::new(4096, 4096, 14, 15, 44100, 2, 16, 1, digest)?;
-    let written = bytes_of(alloc, &Block::StreamInfo(info), true)?;
+    let written = bytes_of(alloc, &Block::StreamInfo(told()?), true)?;
     assert_eq!(rt; written.as_slice(), info_bytes().as_slice());
     assert_eq!(rt; refusal(alloc, &info_bytes()), Some(Why::RepeatedBlock));
     Ok(())
@@ -186,6 +199,14 @@ fn program_bytes() -> [u8; 26] {
     ]
 }
 
+/// The bytes of a comment block that is the last.
+fn comment_bytes(alloc: Global, comments: &Comments) -> Result<Vec<u8>, Why> {
+    let mut writer = BitWriter::new(Collected::new(alloc));
+    write_comments(comments, true, &mut writer)?;
+    writer.finish()?;
+    Ok(writer.into_target().into_bytes())
+}
+
 #[test]
 fn comments_are_written(rt: HostRuntime) -> Result<(), Fail> {
     let alloc = rt.alloc();
@@ -193,10 +214,8 @@ fn comments_are_written(rt: HostRuntime) -> Result<(), Fail> {
         vendor: text(alloc, b"flac profile 1")?,
         list: Texts::from_vec(Vec::new(alloc)),
     };
-    let mut writer = BitWriter::new(Collected::new(alloc));
-    write_comments(&comments, true, &mut writer)?;
-    writer.finish()?;
-    assert_eq!(rt; writer.into_target().bytes(), program_bytes().as_slice());
+    let written = comment_bytes(alloc, &comments)?;
+    assert_eq!(rt; written.as_slice(), program_bytes().as_slice());
     Ok(())
 }
 

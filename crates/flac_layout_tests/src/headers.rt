@@ -10,6 +10,14 @@ fn read(bytes: &[u8]) -> Result<FrameHeader, Why> {
     read_header(&mut bits)
 }
 
+/// The bytes of a header.
+fn bytes_of(alloc: Global, header: &FrameHeader) -> Result<Vec<u8>, Why> {
+    let mut writer = BitWriter::new(Collected::new(alloc));
+    write_header(header, &mut writer)?;
+    writer.finish()?;
+    Ok(writer.into_target().into_bytes())
+}
+
 #[test]
 fn variable_blocks(rt: HostRuntime) -> Result<(), Fail> {
     headers_are_spelled();
@@ -25,10 +33,8 @@ fn variable_blocks(rt: HostRuntime) -> Result<(), Fail> {
         (0, 16, 4608)
     );
     assert!(rt; subset_allows(&header));
-    let mut writer = BitWriter::new(Collected::new(rt.alloc()));
-    write_header(&header, &mut writer)?;
-    writer.finish()?;
-    assert_eq!(rt; writer.into_target().bytes(), bytes.as_slice());
+    let written = bytes_of(rt.alloc(), &header)?;
+    assert_eq!(rt; written.as_slice(), bytes.as_slice());
     Ok(())
 }
 
@@ -49,11 +55,9 @@ fn refused(rt: HostRuntime) {
 #[test]
 fn chosen(rt: HostRuntime) -> Result<(), Fail> {
     let header = FrameHeader::chosen(16, 44100, 0, 16, 0).ok_or(Why::BadSync)?;
-    let mut writer = BitWriter::new(Collected::new(rt.alloc()));
-    write_header(&header, &mut writer)?;
-    writer.finish()?;
+    let written = bytes_of(rt.alloc(), &header)?;
     let bytes = [0xFF, 0xF8, 0x69, 0x08, 0x00, 0x0F, 0x30];
-    assert_eq!(rt; writer.into_target().bytes(), bytes.as_slice());
+    assert_eq!(rt; written.as_slice(), bytes.as_slice());
     assert_eq!(rt; FrameHeader::chosen(16, 65537, 0, 16, 0), None);
     assert_eq!(rt; FrameHeader::chosen(16, 44100, 11, 16, 0), None);
     Ok(())
@@ -62,10 +66,7 @@ fn chosen(rt: HostRuntime) -> Result<(), Fail> {
 /// The bytes of the header that is chosen for one channel of 16 bits.
 fn chosen_bytes(alloc: Global, size: u32, rate: u32) -> Result<Vec<u8>, Why> {
     let header = FrameHeader::chosen(size, rate, 0, 16, 0).ok_or(Why::BadSync)?;
-    let mut writer = BitWriter::new(Collected::new(alloc));
-    write_header(&header, &mut writer)?;
-    writer.finish()?;
-    Ok(writer.into_target().into_bytes())
+    bytes_of(alloc, &header)
 }
 
 #[test]

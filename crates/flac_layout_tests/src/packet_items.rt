@@ -6,26 +6,42 @@ use flac_pages::{Head, Pages, read_packet, write_page};
 use std::alloc::Global;
 use std::test::Fail;
 
+/// How the packets end, or why one had not its length.
+type Outcome = Result<(), (Option<u64>, Why)>;
+
 /// How many packets had these lengths, and why the next one had not.
-type Answer = (usize, Result<(), (Option<u64>, Why)>);
+type Answer = (usize, Outcome);
+
+/// Reads the packet that was begun, which is to have this length.
+fn read_begun<R: Source>(pages: Pages<R>, length: usize) -> (Result<(), Outcome>, Pages<R>) {
+    let mut room = [0u8; 400];
+    let (read, behind) = read_packet(pages, &mut room[..length.min(400)]);
+    match read {
+        Ok(()) => (Ok(()), behind),
+        Err(why) => (Err(Err(why)), behind),
+    }
+}
+
+/// Reads the next packet, which is to have this length.
+fn read_next<R: Source>(mut pages: Pages<R>, length: usize) -> (Result<(), Outcome>, Pages<R>) {
+    if !pages.is_between_packets() {
+        return (Err(Err((None, Why::Spent))), pages);
+    }
+    match pages.next_packet() {
+        Ok(true) => read_begun(pages, length),
+        Ok(false) => (Err(Ok(())), pages),
+        Err((page, why)) => (Err(Err((Some(page), why))), pages),
+    }
+}
 
 /// Reads packets of these lengths, one after another, up to the end or to one that has another length.
 fn read_all<R: Source + Drop>(alloc: Global, source: R, lengths: &[usize]) -> Result<Answer, Why> {
     let mut pages = Pages::new(alloc, source)?;
     for (index, length) in lengths.iter().enumerate() {
-        if !pages.is_between_packets() {
-            return Ok((index, Err((None, Why::Spent))));
-        }
-        match pages.next_packet() {
-            Ok(true) => {}
-            Ok(false) => return Ok((index, Ok(()))),
-            Err((page, why)) => return Ok((index, Err((Some(page), why)))),
-        }
-        let mut room = [0u8; 400];
-        let (read, behind) = read_packet(pages, &mut room[..(*length).min(400)]);
+        let (read, behind) = read_next(pages, *length);
         pages = behind;
-        if let Err(why) = read {
-            return Ok((index, Err(why)));
+        if let Err(outcome) = read {
+            return Ok((index, outcome));
         }
     }
     Ok((lengths.len(), Ok(())))

@@ -25,31 +25,49 @@ pub(crate) const STREAM: [u8; 246] = [
     0x01, 0x00, 0x3F, 0xFF, 0xCB, 0x50,
 ];
 
-/// How long the packets are, at most four of them, and how they end: the page and the fault, or the input's end.
-fn packets<R: Source + Drop>(
-    alloc: Global,
-    source: R,
-) -> Result<([usize; 5], Option<(u64, Why)>), Why> {
+/// How packets end: the page and the fault, or the input's end.
+type End = Option<(u64, Why)>;
+
+/// Whether a packet begins here, or why not.
+fn begin<R: Source>(pages: &mut Pages<R>) -> Result<bool, (u64, Why)> {
+    if !pages.is_between_packets() {
+        return Err((pages.count(), Why::PacketLength));
+    }
+    pages.next_packet()
+}
+
+/// How long the packet is that was begun, at most 400 bytes of it; and the pages behind it.
+fn length_of<R: Source>(pages: Pages<R>) -> (Result<usize, End>, Pages<R>) {
+    let mut room = [0u8; 400];
+    let mut reader = BitReader::new(PacketBytes::over(pages));
+    let taken = reader.take_bytes(&mut room);
+    let packet = reader.into_source();
+    let fault = packet.why();
+    match taken {
+        Ok(n) => (Ok(n), packet.into_pages()),
+        Err(_) => (Err(fault), packet.into_pages()),
+    }
+}
+
+/// How long the next packet is, or how the packets end; and the pages behind it.
+fn next_length<R: Source>(mut pages: Pages<R>) -> (Result<usize, End>, Pages<R>) {
+    match begin(&mut pages) {
+        Ok(true) => length_of(pages),
+        Ok(false) => (Err(None), pages),
+        Err(fault) => (Err(Some(fault)), pages),
+    }
+}
+
+/// How long the packets are, at most five of them, and how they end.
+fn packets<R: Source + Drop>(alloc: Global, source: R) -> Result<([usize; 5], End), Why> {
     let mut pages = Pages::new(alloc, source)?;
     let mut lengths = [0usize; 5];
     for i in 0..5 {
-        if !pages.is_between_packets() {
-            return Ok((lengths, Some((pages.count(), Why::PacketLength))));
-        }
-        match pages.next_packet() {
-            Ok(true) => {}
-            Ok(false) => return Ok((lengths, None)),
-            Err(fault) => return Ok((lengths, Some(fault))),
-        }
-        let mut room = [0u8; 400];
-        let mut reader = BitReader::new(PacketBytes::over(pages));
-        let taken = reader.take_bytes(&mut room);
-        let packet = reader.into_source();
-        let fault = packet.why();
-        pages = packet.into_pages();
-        match taken {
+        let (length, behind) = next_length(pages);
+        pages = behind;
+        match length {
             Ok(n) => lengths[i] = n,
-            Err(_) => return Ok((lengths, fault)),
+            Err(end) => return Ok((lengths, end)),
         }
     }
     Ok((lengths, None))
@@ -66,24 +84,39 @@ fn packets_of_a_stream(rt: HostRuntime) -> Result<(), Fail> {
     Ok(())
 }
 
+/// The stream with another byte in its third page.
+fn other_byte() -> [u8; 246] {
+    let mut changed = STREAM;
+    changed[190] = 1;
+    changed
+}
+
+/// The stream without its third page.
+fn page_left_out() -> [u8; 196] {
+    let mut without = [0u8; 196];
+    without[..151].copy_from_slice(&STREAM[..151]);
+    without[151..].copy_from_slice(&STREAM[201..]);
+    without
+}
+
+/// The stream and one byte more.
+fn byte_more() -> [u8; 247] {
+    let mut longer = [0x4Fu8; 247];
+    longer[..246].copy_from_slice(&STREAM);
+    longer
+}
+
 #[test]
 fn damaged_streams(rt: HostRuntime) -> Result<(), Fail> {
     let cut = packets(rt.alloc(), Memory::new(&STREAM[..245]))?;
     assert_eq!(rt; cut, ([51, 44, 22, 0, 0], Some((3, Why::Truncated))));
     let short = packets(rt.alloc(), Memory::new(&STREAM[..201]))?;
     assert_eq!(rt; short, ([51, 44, 22, 0, 0], Some((3, Why::NoEndPage))));
-    let mut changed = STREAM;
-    changed[190] = 1;
-    let changed = packets(rt.alloc(), Memory::new(&changed))?;
+    let changed = packets(rt.alloc(), Memory::new(&other_byte()))?;
     assert_eq!(rt; changed, ([51, 44, 0, 0, 0], Some((2, Why::PageCheck))));
-    let mut without = [0u8; 196];
-    without[..151].copy_from_slice(&STREAM[..151]);
-    without[151..].copy_from_slice(&STREAM[201..]);
-    let without = packets(rt.alloc(), Memory::new(&without))?;
+    let without = packets(rt.alloc(), Memory::new(&page_left_out()))?;
     assert_eq!(rt; without, ([51, 44, 0, 0, 0], Some((2, Why::PageOrder))));
-    let mut longer = [0x4Fu8; 247];
-    longer[..246].copy_from_slice(&STREAM);
-    let longer = packets(rt.alloc(), Memory::new(&longer))?;
+    let longer = packets(rt.alloc(), Memory::new(&byte_more()))?;
     assert_eq!(rt; longer, ([51, 44, 22, 17, 0], Some((4, Why::PageOrder))));
     Ok(())
 }
@@ -105,17 +138,28 @@ const ENDED: [u8; 28] = [
     0x00, 0x00, 0x02, 0x00, 0x00, 0x00, 0x60, 0x56, 0x44, 0x37, 0x01, 0x00,
 ];
 
-#[test]
-fn packets_of_full_segments(rt: HostRuntime) -> Result<(), Fail> {
+/// A page of one packet, and one of a packet of 255 zeros and one of one zero.
+fn full_page() -> [u8; 365] {
     let mut one = [0u8; 365];
     one[..79].copy_from_slice(&STREAM[..79]);
     one[79..109].copy_from_slice(&FULL);
-    let one = packets(rt.alloc(), Memory::new(&one))?;
-    assert_eq!(rt; one, ([51, 255, 1, 0, 0], None));
+    one
+}
+
+/// A page of one packet, and two pages of a packet of 255 zeros.
+fn open_page() -> [u8; 390] {
     let mut two = [0u8; 390];
     two[..79].copy_from_slice(&STREAM[..79]);
     two[79..107].copy_from_slice(&BEGUN);
     two[362..].copy_from_slice(&ENDED);
+    two
+}
+
+#[test]
+fn packets_of_full_segments(rt: HostRuntime) -> Result<(), Fail> {
+    let one = packets(rt.alloc(), Memory::new(&full_page()))?;
+    assert_eq!(rt; one, ([51, 255, 1, 0, 0], None));
+    let mut two = open_page();
     let whole = packets(rt.alloc(), Memory::new(&two))?;
     assert_eq!(rt; whole, ([51, 255, 0, 0, 0], None));
     two[368] = 1;
