@@ -1,5 +1,5 @@
 -- What an encoding of raw samples has written.
-use Rattle.std.specs.Prelude.{◌≡◌, ℕ, Bool, List, [], ◌∷◌, ◌++◌, map, codes}
+use Rattle.std.specs.Prelude.{◌≡◌, ℕ, Bool, List, [], ◌∷◌, ◌++◌, ◌⊎◌, map, codes}
 use Rattle.flac_meta.specs.declared.comments.Comments.{Comments}
 use Rattle.flac_meta.specs.declared.block.Block.{Block}
 use Rattle.flac_meta.specs.declared.block.Block.TheVariants.{StreamInfo, VorbisComment}
@@ -7,8 +7,8 @@ use Rattle.flac_frame.specs.Audio.{Sound}
 use Rattle.flac_native.specs.Given.{Cut, cut_of, info_of, frames_of, closing, given}
 use Rattle.flac_native.specs.Stream.{Piece, framed}
 use Rattle.flac_native.specs.Seeking.{points_of, table_of}
-use Rattle.flac_native.specs.Writing.{Encodes}
-use Rattle.flac_ogg.specs.Writing.{EncodesOgg}
+use Rattle.flac_native.specs.Writing.{Encodes, BeginsEncoding}
+use Rattle.flac_ogg.specs.Writing.{EncodesOgg, BeginsOgg}
 use Rattle.flac_cli.specs.Raw.{IsRaw}
 use Rattle.flac_cli.specs.Samples.{all_samples}
 use Rattle.flac_cli.specs.declared.encoding.Format.{Format}
@@ -48,3 +48,19 @@ pub record EncodesRaw (format : Format) (c : Container) (words : List (List ℕ)
 abbrev pub HasEncoded : Job → (bytes : List ℕ) → (before after : List Bool) → Type 0
 HasEncoded (job.Encode input output format c comments) bytes before after = EncodesRaw format c (map (λ w. w.now) comments.items) bytes before after
 HasEncoded other bytes before after = Unit {0}
+
+-- what was written is a beginning of such a stream
+abbrev pub BeginsIn : Container → Cut → List Block → Sound → (before after : List Bool) → Type 0
+BeginsIn container.Native p list a before after = BeginsEncoding p list a before after
+BeginsIn (container.Ogg serial) p list a before after = BeginsOgg serial p list a before after
+
+-- Behind the bits that were there, a beginning of a stream of the samples that these bytes are was written.
+pub record BeginsRaw (format : Format) (c : Container) (words : List (List ℕ)) (bytes : List ℕ) (before after : List Bool) : Type 0 where
+  pub audio : Sound
+  pub raw : IsRaw format bytes audio
+  pub begins : BeginsIn c (cut_of format.block audio format.seek_every) (comment_list words) audio before after
+
+-- nothing was written, or so much, where the job is an encoding
+abbrev pub HasBegun : Job → (bytes : List ℕ) → (before after : List Bool) → Type 0
+HasBegun (job.Encode input output format c comments) bytes before after = (after ≡ before) ⊎ BeginsRaw format c (map (λ w. w.now) comments.items) bytes before after
+HasBegun other bytes before after = Unit {0}

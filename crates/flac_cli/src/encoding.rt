@@ -1,9 +1,9 @@
 //! Raw samples, encoded.
 
-ghost use Rattle.std.specs.Prelude.{◌≡◌, ◌≤◌, true, map, IfOk, OnOk, None};
+ghost use Rattle.std.specs.Prelude.{◌≡◌, ◌≤◌, ◌⊎◌, true, map, IfOk, OnOk, OnErr, None};
 ghost use Rattle.flac_bits.specs.Bits.{bits_of};
 ghost use Rattle.flac_native.specs.Given.{fits_plan};
-ghost use Rattle.flac_cli.specs.Encoded.{comments_of, comment_list, EncodesIn, EncodesRaw};
+ghost use Rattle.flac_cli.specs.Encoded.{comments_of, comment_list, EncodesIn, EncodesRaw, BeginsIn, BeginsRaw};
 ghost use Rattle.flac_cli.specs.Raw.{IsRaw};
 
 use crate::raw::{channels_of, read_all};
@@ -150,7 +150,7 @@ fn comment_list(alloc: Global, words: &[&str]) -> Result<BlockList, Why>
     BlockList::new(blocks)
 }
 
-/// Writes what was given as a stream.
+/// Writes what was given as a stream. Where it is refused, nothing was sent, or a beginning of the stream.
 fn write_stream<W: Target>(
     alloc: Global,
     container: Container,
@@ -160,7 +160,8 @@ fn write_stream<W: Target>(
     target: &mut W,
 ) -> Result<(), EncodeFault>
     requires { fits_plan plan.now audio.now ≡ true }
-    ensures { OnOk result (W.known target.old ≡ true → EncodesIn container plan.now list.now audio.now (bits_of (W.sent target.old)) (bits_of (W.sent target.new))) }
+    ensures written { OnOk result (W.known target.old ≡ true → EncodesIn container plan.now list.now audio.now (bits_of (W.sent target.old)) (bits_of (W.sent target.new))) }
+    ensures begun { OnErr result (W.known target.old ≡ true → (target.new ≡ target.old) ⊎ BeginsIn container plan.now list.now audio.now (bits_of (W.sent target.old)) (bits_of (W.sent target.new))) }
 {
     match container {
         Container::Native => encode(alloc, plan, list, audio, target),
@@ -168,7 +169,7 @@ fn write_stream<W: Target>(
     }
 }
 
-/// Encodes the raw samples of a source, and writes the stream.
+/// Encodes the raw samples of a source, and writes the stream. Where it is refused, nothing was written, or a beginning of the stream.
 pub(crate) fn encode_raw<R: Source, W: Target>(
     alloc: Global,
     source: &mut R,
@@ -177,8 +178,10 @@ pub(crate) fn encode_raw<R: Source, W: Target>(
     comments: &[&str],
     target: &mut W,
 ) -> Result<(), Refusal>
-    ensures { OnOk result (R.known source.old ≡ true → W.known target.old ≡ true →
+    ensures written { OnOk result (R.known source.old ≡ true → W.known target.old ≡ true →
         EncodesRaw format container (map (λ word. word.now) comments.now) (R.coming source.old) (bits_of (W.sent target.old)) (bits_of (W.sent target.new))) }
+    ensures begun { OnErr result (R.known source.old ≡ true → W.known target.old ≡ true → (bits_of (W.sent target.new) ≡ bits_of (W.sent target.old))
+        ⊎ BeginsRaw format container (map (λ word. word.now) comments.now) (R.coming source.old) (bits_of (W.sent target.old)) (bits_of (W.sent target.new))) }
 {
     let audio = audio_of(alloc, source, format)?;
     let plan = Plan::new(format.block, &audio, format.seek_every)?;

@@ -1,6 +1,6 @@
 //! Writes native streams.
 
-ghost use Rattle.std.specs.Prelude.{◌≡◌, ◌∷◌, ◌++◌, ◌≤◌, ◌<◌, ◌^◌, ◌↔◌, length, min, max, cond, nat_eq, true, IfOk, IfErr, OnOk, None, Err};
+ghost use Rattle.std.specs.Prelude.{◌≡◌, ◌≢◌, ◌∷◌, ◌++◌, ◌≤◌, ◌<◌, ◌^◌, ◌↔◌, length, min, max, cond, nat_eq, true, IfOk, IfErr, OnOk, None, Err};
 ghost use Rattle.flac_bits.specs.Bits.{bits_of};
 ghost use Rattle.flac_bits.specs.Sending.{Sends};
 ghost use Rattle.flac_bits.specs.Written.{Writes};
@@ -199,9 +199,9 @@ pub fn encode<W: Target>(
     ensures written { OnOk result (W.known target.old ≡ true → Encodes plan.now list.now audio.now (bits_of (W.sent target.old)) (bits_of (W.sent target.new))) }
     ensures begun { IfErr result (λ e. e ≡ EncodeFault.Write → W.known target.old ≡ true → BeginsEncoding plan.now list.now audio.now (bits_of (W.sent target.old)) (bits_of (W.sent target.new))) }
     ensures failed { IfErr result (λ e. e ≡ EncodeFault.Write → W.known target.old ≡ true → W.errors target.old < W.errors target.new) }
-    ensures memory { IfErr result (λ e. e ≡ EncodeFault.Memory → target.new ≡ target.old) }
     ensures repeated { (result ≡ Err EncodeFault.RepeatedBlock) ↔ (repeats_table plan.now list.now ≡ true) }
-    ensures kept { IfErr result (λ e. e ≡ EncodeFault.RepeatedBlock → target.new ≡ target.old) }
+    ensures mapping { result ≢ Err EncodeFault.BadMapping }
+    ensures kept { IfErr result (λ e. e ≢ EncodeFault.Write → target.new ≡ target.old) }
     ensures names { W.names target.new ≡ W.names target.old }
 {
     if repeats_table(plan, list) {

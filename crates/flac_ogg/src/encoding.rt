@@ -1,6 +1,6 @@
 //! Writes Ogg streams.
 
-ghost use Rattle.std.specs.Prelude.{◌≡◌, ◌∷◌, [], ◌++◌, ◌≤◌, ◌<◌, ◌+◌, ◌-◌, ◌^◌, ◌↔◌, List, length, min, max, cond, nat_eq, true, false, replicate, IfOk, IfErr, OnOk, None, Err};
+ghost use Rattle.std.specs.Prelude.{◌≡◌, ◌≢◌, ◌∷◌, [], ◌++◌, ◌≤◌, ◌<◌, ◌+◌, ◌-◌, ◌^◌, ◌↔◌, List, length, min, max, cond, nat_eq, true, false, replicate, IfOk, IfErr, OnOk, None, Err};
 ghost use Rattle.flac_bits.specs.Bits.{bits_of, is_nil};
 ghost use Rattle.flac_bits.specs.Written.{Writes};
 ghost use Rattle.flac_meta.specs.Listed.{block_fault};
@@ -213,9 +213,9 @@ pub fn encode_ogg<W: Target>(
     ensures written { OnOk result (W.known target.old ≡ true → EncodesOgg serial plan.now list.now audio.now (bits_of (W.sent target.old)) (bits_of (W.sent target.new))) }
     ensures begun { IfErr result (λ e. e ≡ EncodeFault.Write → W.known target.old ≡ true → BeginsOgg serial plan.now list.now audio.now (bits_of (W.sent target.old)) (bits_of (W.sent target.new))) }
     ensures failed { IfErr result (λ e. e ≡ EncodeFault.Write → W.known target.old ≡ true → W.errors target.old < W.errors target.new) }
-    ensures memory { IfErr result (λ e. e ≡ EncodeFault.Memory → target.new ≡ target.old) }
     ensures mapping { (result ≡ Err EncodeFault.BadMapping) ↔ (may_be_ogg plan.now list.now ≡ false) }
-    ensures kept { IfErr result (λ e. e ≡ EncodeFault.BadMapping → target.new ≡ target.old) }
+    ensures repeated { result ≢ Err EncodeFault.RepeatedBlock }
+    ensures kept { IfErr result (λ e. e ≢ EncodeFault.Write → target.new ≡ target.old) }
     ensures names { W.names target.new ≡ W.names target.old }
 {
     if !may_be_ogg(plan, list) {
