@@ -1,5 +1,5 @@
 -- One predictor more.
-use Rattle.std.proofs.Common.{◌≡◌, ◌⊎◌, ◌∙◌, inl, inr, sym, ℕ, ◌+◌, ◌*◌, ◌≤◌, ◌<◌, arith, ℤ, List, [], ◌∷◌, ◌++◌, take}
+use Rattle.std.proofs.Common.{◌≡◌, ◌∙◌, inl, inr, sym, ℕ, ◌+◌, ◌*◌, ◌≤◌, arith, ℤ, List, [], ◌∷◌, ◌++◌, take}
 use Rattle.std.proofs.lemmas.List.FromFn.{map-range_with_len_more}
 use Rattle.flac_subframe.specs.declared.halving.ResidualChoice.{ResidualChoice}
 use Rattle.flac_subframe.specs.Cost.{codings_of}
@@ -8,7 +8,7 @@ use Rattle.flac_subframe.specs.Cost.{residual_cost}
 use Rattle.flac_subframe.specs.declared.choice.PricedChoice.{PricedChoice}
 use Rattle.flac_subframe.specs.Bodies.{fields_cost, Chooses, fixed, coefficients_of, shift_of, order_of, differences, Among, Body, constant, verbatim, predicted, StandsFor}
 use Rattle.flac_subframe.specs.Chosen.{IsBest, IsLeastOf, HasNone, body_of, body_by, fixed_below}
-use Rattle.flac_subframe.proofs.Bodies.{among_more, among_last, among_split, least_kept, least_taken, body_stands, body_costs, body_least, none_stands, residual_is, length-predicted, method_bits}
+use Rattle.flac_subframe.proofs.Bodies.{among_more, among_split, least_kept, least_taken, body_stands, body_costs, body_least, none_stands, residual_is, length-predicted, method_bits}
 
 module _ (most d : ℕ) (s : List ℤ) (ps : List Chooses) (p : Chooses) (best : PricedChoice) (so : IsBest most d s ps best) where
   pub best_none : HasNone (coefficients_of p) (shift_of p) s → IsBest most d s (ps ++ p ∷ []) best

@@ -1,5 +1,5 @@
 -- One predictor more, with what the code knows of it.
-use Rattle.std.proofs.Common.{◌≡◌, inl, inr, ℕ, ◌+◌, ◌-◌, ◌*◌, ◌≤◌, ◌<◌, ◌^◌, arith, ℤ, List, [], ◌∷◌, ◌++◌, length, All}
+use Rattle.std.proofs.Common.{◌≡◌, inl, inr, ℕ, ◌+◌, ◌*◌, ◌≤◌, ◌<◌, ◌^◌, arith, ℤ, List, [], ◌∷◌, ◌++◌, length, All}
 use Rattle.flac_subframe.specs.declared.halving.ResidualChoice.{ResidualChoice}
 use Rattle.flac_subframe.specs.Least.{IsLeast}
 use Rattle.flac_subframe.specs.Cost.{MayWrite}

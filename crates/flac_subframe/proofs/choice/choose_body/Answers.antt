@@ -1,8 +1,7 @@
 use Rattle.std.proofs.Common.{arith, ◌∷◌, ◌≡◌, ◌∙◌}
 use Rattle.flac_subframe.specs.Bodies.{fixed}
 use Rattle.flac_subframe.specs.Chosen.{IsBest, fixed_below, priced_as}
-use Rattle.flac_subframe.proofs.Best.{next_tried, first_tried, all_tried}
-use Rattle.flac_subframe.proofs.Complete.{among}
+use Rattle.flac_subframe.proofs.Best.{next_tried, first_tried}
 use Rattle.flac_subframe.proofs.choice.choose_body.Goals as goal
 use Rattle.flac_subframe.proofs.choice.choose_body.Goals.{then-order-first, else-order-first}
 

@@ -1,6 +1,6 @@
 use Rattle.std.proofs.Common.{arith, ◌≡◌, ◌∙◌, ◌+◌, ◌-◌, ◌<◌, ◌^◌, ℕ, suc, ap, length, drop}
 use Rattle.std.proofs.lemmas.List.{drop-drop}
-use Rattle.flac_subframe.proofs.LowerBounds.{bound_start, bound_more, bound_end, bound_of_all}
+use Rattle.flac_subframe.proofs.LowerBounds.{bound_more, bound_end, bound_of_all}
 use Rattle.flac_subframe.specs.Halves.{part, start}
 use Rattle.flac_subframe.proofs.Splits.{start_next, start_rises}
 use Rattle.flac_subframe.proofs.pruning.bound_parts.Goals as goal
