@@ -130,6 +130,23 @@ put_bits w x c lt fits e = more_bits w x c 32 (32 - c) (omega (arith, lt)) fits 
 pub first_bits : (x n : ℕ) → n ≤ 63 → x / 2 ^ 1 / 2 ^ (63 - n) ≡ x / 2 ^ (64 - n)
 first_bits x n le = let e : 1 + (63 - n) ≡ 64 - n = omega (arith, le) in shr-shr x 1 (63 - n) ∙ ap (λ k. x / 2 ^ k) e
 
+-- the same by two shifts, of which the first goes past the bits held
+pub last_bits : (x c s n : ℕ) → c + s ≡ 64 - n → x / 2 ^ c / 2 ^ s ≡ x / 2 ^ (64 - n)
+last_bits x c s n e = shr-shr x c s ∙ ap (λ k. x / 2 ^ k) e
+
+pub last_small : (x c s n : ℕ) → x < 2 ^ 64 → n ≤ 64 → c + s ≡ 64 - n → x / 2 ^ c / 2 ^ s < 2 ^ n
+last_small x c s n lt le e =
+    let a : 64 ≡ n + (64 - n) = omega (arith, le) in
+    let b : x < 2 ^ (n + (64 - n)) = rw (← a) lt in
+    rw (last_bits x c s n e) (shr_below x n (64 - n) b)
+
+-- two shifts to the left
+pub shifted_twice : (w a b : ℕ) → w * 2 ^ a % 2 ^ 64 * 2 ^ b % 2 ^ 64 ≡ w * 2 ^ (a + b) % 2 ^ 64
+shifted_twice w a b =
+    let p : 2 ^ (a + b) ≡ 2 ^ a * 2 ^ b = pow-add 2 a b in
+    let assoc : (x y : ℕ) → w * x * y ≡ w * (x * y) = λ x y. grind arith in
+    mul-mod_first (w * 2 ^ a) (2 ^ b) (2 ^ 64) ∙ ap (λ v. v % 2 ^ 64) (assoc (2 ^ a) (2 ^ b) ∙ ap (λ v. w * v) (sym p))
+
 -- one is zeros and a one
 pub one_bits : (z : ℕ) → unsigned (suc z) 1 ≡ unary_bits z
 one_bits zero = refl
@@ -198,6 +215,22 @@ module _ (w z k c : ℕ) (wide : w < 2 ^ 64) (le : c ≤ 63) (is : z ≡ leading
 
   pub both_is : both ≡ 2 ^ k + both % 2 ^ k
   both_is = sym (shr_split both k) ∙ ap (λ q. q * 2 ^ k + both % 2 ^ k) one ∙ omega arith
+
+  -- the same, where the zeros were shifted out before
+  pub ahead_is : w * 2 ^ z % 2 ^ 64 / 2 ^ (63 - k) ≡ both
+  ahead_is =
+      let s = 64 - (z + 1 + k) in
+      let e : 63 - k ≡ s + z = omega (arith, fits, le) in
+      let p : 2 ^ (k + 1) ≡ 2 ^ k * 2 ^ 1 = pow-add 2 k 1 in
+      let low : both % 2 ^ k < 2 ^ k = mod_below both (2 ^ k) (pow_pos k) in
+      let small : both < 2 ^ (k + 1) = omega (arith, p, low, both_is) in
+      let alone : both ≡ 0 * 2 ^ (k + 1) + both = omega arith in
+      ap (λ j. w * 2 ^ z % 2 ^ 64 / 2 ^ j) e ∙ shifted_top w z (k + 1) s (omega (arith, fits, le)) ∙ ap (λ v. v % 2 ^ (k + 1)) alone ∙ mod_low 0 (k + 1) both small
+
+  pub rest_is : w * 2 ^ z % 2 ^ 64 * 2 ^ (k + 1) % 2 ^ 64 ≡ w * 2 ^ (z + 1 + k) % 2 ^ 64
+  rest_is =
+      let e : z + (k + 1) ≡ z + 1 + k = omega arith in
+      shifted_twice w z (k + 1) ∙ ap (λ j. w * 2 ^ j % 2 ^ 64) e
 
   pub code_taken : unsigned c (w / 2 ^ (64 - c)) ≡ (unary_bits z ++ unsigned k (both % 2 ^ k)) ++ unsigned (c - (z + 1 + k)) (w * 2 ^ (z + 1 + k) % 2 ^ 64 / 2 ^ (64 - (c - (z + 1 + k))))
   code_taken =

@@ -10,8 +10,8 @@ ghost use Rattle.flac_bits.specs.Stretches.{IsRead};
 ghost use Rattle.flac_bits.specs.Store.{Store, passed, Takes, Passes, HoldsSame, four_at, allowed, forbidden, reached, seen as seen_bytes, room_behind as room_behind_bytes, hides_late, reason_of, Came};
 
 use crate::source::Source;
-use crate::stretch::{four_bytes, values_in};
-use crate::sums::{bits_checked8, bits_checked16, checked8, checked16};
+use crate::stretch::{four_bytes, values_by};
+use crate::sums::{bits_checked8, bits_checked16, both_checked, checked8, checked16};
 use crate::why::Why;
 use crate::word::Word;
 use std::marker::Model;
@@ -141,7 +141,7 @@ impl Held {
         ensures fits { ((j : ℕ) → j < from → IsResidual (get_or values.old j (pos 0))) → (j : ℕ) → j < result → IsResidual (get_or values.new j (pos 0)) }
     {
         let mut word = self.word.copied();
-        let (used, next) = values_in(
+        let (used, next) = values_by(
             &mut word,
             &self.bytes[self.place..self.end],
             k,
@@ -273,8 +273,13 @@ impl Held {
             × (self.new.fence.hidden ++ forbidden self.new.fence.room (R.coming source.new) ≡ self.old.fence.hidden ++ forbidden self.old.fence.room (R.coming source.old)))
             × (R.known source.old ≡ true → R.raised source.old < R.raised source.new)) }
     {
-        self.check8 = checked8(self.check8, &self.bytes[self.from..self.end]);
-        self.check16 = checked16(self.check16, &self.bytes[self.from..self.end]);
+        let (check8, check16) = both_checked(
+            self.check8,
+            self.check16,
+            &self.bytes[self.from..self.end],
+        );
+        self.check8 = check8;
+        self.check16 = check16;
         self.before = self.before.saturating_add(self.end as u64);
         self.from = 0;
         self.place = 0;

@@ -63,7 +63,7 @@ fn values_held(word: &mut Word, k: u32, values: &mut [i64], from: usize, to: usi
 /// Fills the places from one on with residual values, as far as the word and the bytes behind it have them, and answers how many
 /// bytes came into the word, and where it stopped.
 #[inline(always)]
-pub(crate) fn values_in(
+fn values_in(
     word: &mut Word,
     bytes: &[u8],
     k: u32,
@@ -91,4 +91,42 @@ pub(crate) fn values_in(
         i = next;
     }
     (used, i)
+}
+
+/// What [`values_in`] does, made anew for each of the usual parameters.
+#[inline(always)]
+pub(crate) fn values_by(
+    word: &mut Word,
+    bytes: &[u8],
+    k: u32,
+    values: &mut [i64],
+    from: usize,
+) -> (usize, usize)
+    requires k { k ≤ 26 }
+    requires from { from ≤ length values.old }
+    ensures used { result.0 ≤ length bytes.now }
+    ensures within { (from ≤ result.1) × (result.1 ≤ length values.old) }
+    ensures read { (text : List Bool) × (word.old ++ bits_of (take result.0 bytes.now) ≡ text ++ word.new) × IsRead k text values.old from values.new result.1 }
+    ensures fits { ((j : ℕ) → j < from → IsResidual (get_or values.old j (pos 0))) → (j : ℕ) → j < result.1 → IsResidual (get_or values.new j (pos 0)) }
+{
+    match k {
+        0 => values_in(word, bytes, 0, values, from),
+        1 => values_in(word, bytes, 1, values, from),
+        2 => values_in(word, bytes, 2, values, from),
+        3 => values_in(word, bytes, 3, values, from),
+        4 => values_in(word, bytes, 4, values, from),
+        5 => values_in(word, bytes, 5, values, from),
+        6 => values_in(word, bytes, 6, values, from),
+        7 => values_in(word, bytes, 7, values, from),
+        8 => values_in(word, bytes, 8, values, from),
+        9 => values_in(word, bytes, 9, values, from),
+        10 => values_in(word, bytes, 10, values, from),
+        11 => values_in(word, bytes, 11, values, from),
+        12 => values_in(word, bytes, 12, values, from),
+        13 => values_in(word, bytes, 13, values, from),
+        14 => values_in(word, bytes, 14, values, from),
+        15 => values_in(word, bytes, 15, values, from),
+        16 => values_in(word, bytes, 16, values, from),
+        k => values_in(word, bytes, k, values, from),
+    }
 }

@@ -152,6 +152,25 @@ pub(crate) fn checked16(check: u16, bytes: &[u8]) -> u16
     each_checked16(check, &bytes[8 * eights..])
 }
 
+/// Both remainders after more bytes, in one pass over them.
+#[tactic(auto, unfolding(crate::specs::Check::fed))]
+pub(crate) fn both_checked(check8: u8, check16: u16, bytes: &[u8]) -> (u8, u16)
+    ensures eight { result.0 ≡ fed 8 7 check8 (bits_of bytes.now) }
+    ensures sixteen { result.1 ≡ fed 16 32773 check16 (bits_of bytes.now) }
+{
+    let eights = bytes.len() / 8;
+    let mut narrow = check8;
+    let mut wide = check16;
+    for i in 0..eights {
+        narrow = eight_checked8(narrow, &bytes[8 * i..8 * i + 8]);
+        wide = eight_checked16(wide, &bytes[8 * i..8 * i + 8]);
+    }
+    (
+        each_checked8(narrow, &bytes[8 * eights..]),
+        each_checked16(wide, &bytes[8 * eights..]),
+    )
+}
+
 /// The remainder after one more byte.
 #[inline(always)]
 fn byte_checked32(check: u32, byte: u8) -> u32

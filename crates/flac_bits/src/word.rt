@@ -111,8 +111,9 @@ impl Word {
         ensures put { self.new ≡ self.old ++ unsigned (8 * result) (eight / 2 ^ (64 - 8 * result)) }
     {
         let n = (63 - self.count) / 8;
-        let value = eight >> 1 >> (63 - 8 * n);
-        self.word += value << (64 - 8 * n - self.count);
+        let rest = 64 - 8 * n - self.count;
+        let value = eight >> self.count >> rest;
+        self.word += value << rest;
         self.count += 8 * n;
         n
     }
@@ -163,8 +164,10 @@ impl Word {
         let zeros = (self.word | 1).leading_zeros();
         let used = zeros + 1 + k;
         if used <= self.count {
-            let one_and_low = self.word >> (64 - used);
-            self.word <<= used;
+            // so that where k is known only one shift is by a number that is not
+            let ahead = self.word << zeros;
+            let one_and_low = ahead >> (63 - k);
+            self.word = ahead << (k + 1);
             self.count -= used;
             Some((u64::from(zeros) << k) + (one_and_low - (1 << k)))
         } else {

@@ -7,10 +7,10 @@ ghost use Rattle.md5.specs.Md5.{Holds};
 use md5::{Digest, Md5};
 
 /// How many bytes are gathered at once.
-const CHUNK: usize = 16384;
+const CHUNK: usize = 4096;
 
 /// How many rows are gathered at once: each has at most 8 samples of 4 bytes. They are whole blocks of the digest.
-const ROWS: usize = 512;
+const ROWS: usize = 128;
 
 /// Samples of channels.
 pub(crate) trait Channels {
@@ -27,13 +27,27 @@ pub(crate) trait Channels {
         ensures { result ≡ slice_index_or (slice_index_or (lists self.now) channel []) index (pos 0) };
 }
 
-/// Writes the lowest bytes of a sample at a place, the lowest first.
+/// Writes the lowest bytes of a sample at a place, the lowest first, and the others behind them.
+#[inline(always)]
+fn put_whole(sample: i32, width: usize, out: &mut [u8], at: usize)
+    requires width { width ≤ 4 }
+    requires room { at + 4 ≤ length out.old }
+    ensures { take (at + width) out.new ≡ take at out.old ++ sample_bytes width sample }
+{
+    out[at..at + 4].copy_from_slice(&sample.to_le_bytes());
+}
+
+/// Writes the lowest bytes of a sample at a place, the lowest first. Three are written as four, of which the next sample covers the last.
 #[inline(always)]
 fn put_sample(sample: i32, width: usize, out: &mut [u8], at: usize)
     requires width { width ≤ 4 }
-    requires room { at + width ≤ length out.old }
+    requires room { at + 4 ≤ length out.old }
     ensures { take (at + width) out.new ≡ take at out.old ++ sample_bytes width sample }
 {
+    if width == 3 {
+        put_whole(sample, width, out, at);
+        return;
+    }
     let bytes = sample.to_le_bytes();
     for i in 0..width {
         out[at + i] = bytes[i];

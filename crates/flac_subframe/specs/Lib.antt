@@ -2,6 +2,7 @@ pub mod Numbers
 pub mod Prediction
 pub mod Residual
 pub mod Subframe
+pub mod Sums
 pub mod Laws
 pub mod Spelling
 pub mod Least

@@ -4,7 +4,7 @@ ghost use Rattle.std.specs.Prelude.{◌≡◌, ◌≤◌, ◌^◌, ◌↔◌, po
 ghost use Rattle.flac_bits.specs.Signed.{FitsBits};
 
 /// Whether a number has a two's complement form of so many bits: moved up by half the range, it is within the range, and so one
-/// comparison tells.
+/// comparison tells, with a limit that a loop keeps: beside `1 << bits` the compiler would shift each number.
 #[inline(always)]
 pub(crate) fn fits_bits(number: i64, bits: u32) -> bool
     requires positive { 1 ≤ bits }
@@ -12,7 +12,7 @@ pub(crate) fn fits_bits(number: i64, bits: u32) -> bool
     ensures { IsTrue result ↔ FitsBits bits number }
 {
     let limit = 1i64 << (bits - 1);
-    number.wrapping_add(limit).cast_unsigned() < 1 << bits
+    number.wrapping_add(limit).cast_unsigned() <= u64::MAX >> (64 - bits)
 }
 
 /// Two to the power of so much.

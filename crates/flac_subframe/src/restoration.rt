@@ -1,11 +1,12 @@
 //! Restoration of samples in the residual's own places.
 
-ghost use Rattle.std.specs.Prelude.{◌≡◌, ◌∷◌, [], ◌+◌, ◌-◌, ◌<◌, ◌≤◌, ◌^◌, ℤ, List, length, All, IsTrue};
+ghost use Rattle.std.specs.Prelude.{◌≡◌, ◌∷◌, [], ◌+◌, ◌-◌, ◌<◌, ◌≤◌, ◌^◌, ◌+ℤ◌, ◌-ℤ◌, ℤ, List, length, All, IsTrue};
 ghost use Rattle.std.specs.List.{AllWithin};
 ghost use Rattle.std.specs.Int.RustNames.{unsigned_abs};
 ghost use Rattle.flac_bits.specs.Signed.{FitsBits};
 ghost use Rattle.flac_subframe.specs.Numbers.{sample_at};
 ghost use Rattle.flac_subframe.specs.Prediction.{fixed_coefficients, prediction, Restored};
+ghost use Rattle.flac_subframe.specs.Sums.{second_of, third_of, fourth_of};
 
 use crate::numbers::fits_bits;
 
@@ -45,7 +46,38 @@ fn warm_up_sample(samples: &[i64], order: usize, back: usize) -> i64
     }
 }
 
-/// Restores by the fixed predictor of an order, whose last samples are held beside the slice.
+/// By how much a number is greater than another.
+#[inline(always)]
+fn gap(number: i64, other: i64) -> i64
+    requires number { FitsBits 40 number }
+    requires other { FitsBits 40 other }
+    ensures { result ≡ number -ℤ other }
+{
+    number - other
+}
+
+/// The next sample by the fixed predictor of an order, from the nearest sample and its first three differences. As sums of differences
+/// the samples are one addition after another, and no product.
+#[inline(always)]
+fn sample_after(order: usize, residual: i64, value: i64, slope: i64, bend: i64, twist: i64) -> i64
+    requires order { order ≤ 4 }
+    requires residual { FitsBits 32 residual }
+    requires value { FitsBits 33 value }
+    requires slope { FitsBits 37 slope }
+    requires bend { FitsBits 37 bend }
+    requires twist { FitsBits 37 twist }
+    ensures { result ≡ prediction (fixed_coefficients order) 0 (fourth_of value slope bend twist ∷ third_of value slope bend ∷ second_of value slope ∷ value ∷ []) 4 +ℤ residual }
+{
+    match order {
+        0 => residual,
+        1 => value + residual,
+        2 => value + (slope + residual),
+        3 => value + (slope + (bend + residual)),
+        _ => value + (slope + (bend + (twist + residual))),
+    }
+}
+
+/// Restores by the fixed predictor of an order, whose last sample and its differences are held beside the slice.
 #[inline(always)]
 fn restore_order(order: usize, bits: u32, samples: &mut [i64]) -> bool
     requires order { order ≤ 4 }
@@ -58,20 +90,28 @@ fn restore_order(order: usize, bits: u32, samples: &mut [i64]) -> bool
     ensures fits { IsTrue result → All (FitsBits bits) samples.new }
     ensures only { (s : List ℤ) → Restored (fixed_coefficients order) 0 samples.old s → All (FitsBits bits) s → IsTrue result }
 {
-    let mut first = warm_up_sample(samples, order, 1);
-    let mut second = warm_up_sample(samples, order, 2);
-    let mut third = warm_up_sample(samples, order, 3);
-    let mut fourth = warm_up_sample(samples, order, 4);
+    let first = warm_up_sample(samples, order, 1);
+    let second = warm_up_sample(samples, order, 2);
+    let third = warm_up_sample(samples, order, 3);
+    let fourth = warm_up_sample(samples, order, 4);
+    let past_slope = gap(second, third);
+    let past_bend = gap(past_slope, gap(third, fourth));
+    let mut value = first;
+    let mut slope = gap(first, second);
+    let mut bend = gap(slope, past_slope);
+    let mut twist = gap(bend, past_bend);
     for i in order..samples.len() {
-        let sample = predict_after(order, first, second, third, fourth) + samples[i];
+        let sample = sample_after(order, samples[i], value, slope, bend, twist);
         if !fits_bits(sample, bits) {
             return false;
         }
         samples[i] = sample;
-        fourth = third;
-        third = second;
-        second = first;
-        first = sample;
+        let next_slope = gap(sample, value);
+        let next_bend = gap(next_slope, slope);
+        twist = gap(next_bend, bend);
+        bend = next_bend;
+        slope = next_slope;
+        value = sample;
     }
     true
 }

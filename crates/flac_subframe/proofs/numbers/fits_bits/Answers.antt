@@ -1,9 +1,10 @@
 use Rattle.std.proofs.Common.{arith, ◌≡◌, ◌∙◌, ℕ, zero, suc, ◌+◌, ◌-◌, ◌*◌, ◌%◌, ◌^◌, ◌<◌, ◌≤◌, pos, negsuc, ℤ, FitsSigned, of_z, w64, refl}
 use Rattle.std.proofs.lemmas.Int.{ints, of_z-to_z}
-use Rattle.std.proofs.lemmas.Nat.{one_shl}
-use Rattle.std.proofs.lemmas.Bool.{lt-ltb, ltb-true}
+use Rattle.std.proofs.lemmas.Nat.{one_shl, pow_pos}
+use Rattle.std.proofs.lemmas.Bool.{le-leb, leb-true}
 use Rattle.std.proofs.Math.Nat.{pow-suc, pow-le-pow_right}
 use Rattle.flac_bits.specs.Signed.{FitsBits}
+use Rattle.flac_bits.proofs.Signs.{all_ones}
 use Rattle.flac_subframe.proofs.numbers.fits_bits.Goals as goal
 
 twice : (n : ℕ) → 1 ≤ n → 2 ^ n ≡ 2 * 2 ^ (n - 1)
@@ -28,7 +29,7 @@ returns c =
     let moved = rw (one_shl (bits - 1) 64 low) at c.cast_unsigned.ensures in
     let is : c.cast_unsigned.result ≡ (of_z w64 c.args.number + 2 ^ (bits - 1)) % 2 ^ 64 = moved ∙ of_z-to_z w64 _ (omega arith) in
     let double = twice bits c.requires.positive in
-    rw (one_shl bits 64 high) (
-      λ t. fits_when c.args.number bits half c.cast_unsigned.result refl small c.ranges.number is (omega (arith, ltb-true _ _ t, double)),
-      λ f. lt-ltb _ _ (omega (arith, when_fits c.args.number bits half c.cast_unsigned.result refl small c.ranges.number is f, double)),
+    rw (all_ones bits (omega arith)) (
+      λ t. fits_when c.args.number bits half c.cast_unsigned.result refl small c.ranges.number is (omega (arith, leb-true _ _ t, double, pow_pos bits)),
+      λ f. le-leb _ _ (omega (arith, when_fits c.args.number bits half c.cast_unsigned.result refl small c.ranges.number is f, double)),
     )

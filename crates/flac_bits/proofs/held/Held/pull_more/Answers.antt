@@ -10,21 +10,21 @@ returns-in-Ok-eq0-clause-mark g c =
     let inv = c.self.invariant in
     let none = ap (λ (s : Store). s.word) c.self.view_is ∙ c.requires.taken.0 in
     let out = ap (λ (s : Store). s.bytes) c.self.view_is ∙ c.requires.taken.1 in
-    pulled_mark c.self.inside.bytes c.self.inside.from c.self.inside.place c.self.inside.end c.self.inside.before c.self.inside.check8 c.self.inside.check16 _ _ _ c.self.inside.word _ inv.0 inv.1 (omega (arith, inv.2, c.self.told)) none out c.checked8-self-inside.ensures c.checked16-self-inside.ensures c.saturating_add-self-inside.ensures (ap (λ (s : Store). s.mark) c.self.view_is)
+    pulled_mark c.self.inside.bytes c.self.inside.from c.self.inside.place c.self.inside.end c.self.inside.before c.self.inside.check8 c.self.inside.check16 _ _ _ c.self.inside.word _ inv.0 inv.1 (omega (arith, inv.2, c.self.told)) none out c.both_checked-check8.ensures.eight c.both_checked-check8.ensures.sixteen c.saturating_add-self-inside.ensures (ap (λ (s : Store). s.mark) c.self.view_is)
 
 pub returns-in-Ok-clause-mark : goal.returns-in-Ok-clause-mark
 returns-in-Ok-clause-mark g c =
     let inv = c.self.invariant in
     let none = ap (λ (s : Store). s.word) c.self.view_is ∙ c.requires.taken.0 in
     let out = ap (λ (s : Store). s.bytes) c.self.view_is ∙ c.requires.taken.1 in
-    pulled_mark c.self.inside.bytes c.self.inside.from c.self.inside.place c.self.inside.end c.self.inside.before c.self.inside.check8 c.self.inside.check16 _ _ _ c.self.inside.word _ inv.0 inv.1 (omega (arith, inv.2, c.self.told)) none out c.checked8-self-inside.ensures c.checked16-self-inside.ensures c.saturating_add-self-inside.ensures (ap (λ (s : Store). s.mark) c.self.view_is)
+    pulled_mark c.self.inside.bytes c.self.inside.from c.self.inside.place c.self.inside.end c.self.inside.before c.self.inside.check8 c.self.inside.check16 _ _ _ c.self.inside.word _ inv.0 inv.1 (omega (arith, inv.2, c.self.told)) none out c.both_checked-check8.ensures.eight c.both_checked-check8.ensures.sixteen c.saturating_add-self-inside.ensures (ap (λ (s : Store). s.mark) c.self.view_is)
 
 pub returns-in-Err-clause-mark : goal.returns-in-Err-clause-mark
 returns-in-Err-clause-mark g c =
     let inv = c.self.invariant in
     let none = ap (λ (s : Store). s.word) c.self.view_is ∙ c.requires.taken.0 in
     let out = ap (λ (s : Store). s.bytes) c.self.view_is ∙ c.requires.taken.1 in
-    pulled_mark c.self.inside.bytes c.self.inside.from c.self.inside.place c.self.inside.end c.self.inside.before c.self.inside.check8 c.self.inside.check16 _ _ _ c.self.inside.word _ inv.0 inv.1 (omega (arith, inv.2, c.self.told)) none out c.checked8-self-inside.ensures c.checked16-self-inside.ensures c.saturating_add-self-inside.ensures (ap (λ (s : Store). s.mark) c.self.view_is)
+    pulled_mark c.self.inside.bytes c.self.inside.from c.self.inside.place c.self.inside.end c.self.inside.before c.self.inside.check8 c.self.inside.check16 _ _ _ c.self.inside.word _ inv.0 inv.1 (omega (arith, inv.2, c.self.told)) none out c.both_checked-check8.ensures.eight c.both_checked-check8.ensures.sixteen c.saturating_add-self-inside.ensures (ap (λ (s : Store). s.mark) c.self.view_is)
 
 pub returns-in-Ok-clause-ok : goal.returns-in-Ok-clause-ok
 returns-in-Ok-clause-ok g c =

@@ -11,7 +11,7 @@ pub invariant_of-self : goal.invariant_of-self
 invariant_of-self c =
     let inv = c.self.invariant in
     let h = c.self.inside in
-    let took = c.values_in-used in
+    let took = c.values_by-used in
     let read = took.ensures.read in
     let inside : h.end ≤ length h.bytes = omega (arith, inv.2, inv.4) in
     let within : h.place + took.result.0 ≤ h.end = omega (arith, took.ensures.used, length-take (h.end - h.place) (drop h.place h.bytes), length-drop h.place h.bytes, inv.1, inside) in
@@ -22,7 +22,7 @@ pub returns-clause-read : goal.returns-clause-read
 returns-clause-read c =
     let inv = c.self.invariant in
     let h = c.self.inside in
-    let took = c.values_in-used in
+    let took = c.values_by-used in
     let read = took.ensures.read in
     let inside : h.end ≤ length h.bytes = omega (arith, inv.2, inv.4) in
     let within : h.place + took.result.0 ≤ h.end = omega (arith, took.ensures.used, length-take (h.end - h.place) (drop h.place h.bytes), length-drop h.place h.bytes, inv.1, inside) in
