@@ -32,6 +32,7 @@ pub(crate) fn read_all<R: Source>(alloc: Global, source: &mut R) -> Result<Vec<u
 }
 
 /// The number of 1 to 4 bytes in two's complement, the lowest byte first.
+#[inline(always)]
 fn sample(bytes: &[u8]) -> i32
     requires { (1 ≤ length bytes.now) × (length bytes.now ≤ 4) }
     ensures bytes { sample_bytes (length bytes.now) result ≡ bytes.now }
@@ -47,8 +48,9 @@ fn sample(bytes: &[u8]) -> i32
     i32::from_le_bytes(whole)
 }
 
-/// The samples of one channel of rows of samples, which begin at this byte of each row and have so many bytes.
-fn channel_of(
+/// What [`channel_of`] does, for a width that its caller fixes: it is made anew for each of them.
+#[inline(always)]
+fn channel_in(
     alloc: Global,
     bytes: &[u8],
     rows: usize,
@@ -67,6 +69,28 @@ fn channel_of(
         samples.push(sample(&bytes[at..at + width]))?;
     }
     Ok(samples)
+}
+
+/// The samples of one channel of rows of samples, which begin at this byte of each row and have so many bytes.
+fn channel_of(
+    alloc: Global,
+    bytes: &[u8],
+    rows: usize,
+    row: usize,
+    start: usize,
+    width: usize,
+) -> Result<Vec<i32>, Why>
+    requires whole { length bytes.now ≡ rows * row }
+    requires width { (1 ≤ width) × (width ≤ 4) }
+    requires within { start + width ≤ row }
+    ensures { IfOk result (λ c. IsChannel bytes.now rows row start width c.items) }
+{
+    match width {
+        1 => channel_in(alloc, bytes, rows, row, start, 1),
+        2 => channel_in(alloc, bytes, rows, row, start, 2),
+        3 => channel_in(alloc, bytes, rows, row, start, 3),
+        width => channel_in(alloc, bytes, rows, row, start, width),
+    }
 }
 
 /// The samples of each of 1 to 8 channels, which are interleaved and have 1 to 4 bytes each, the lowest first.

@@ -24,7 +24,7 @@ pub struct EncodeBuffers {
     middle: Vec<i64>,
     shortened: Vec<i64>,
     values: Vec<i64>,
-    folds: Vec<u64>,
+    folds: Vec<u32>,
     max_block: usize,
 }
 
@@ -63,7 +63,7 @@ impl EncodeBuffers {
         let middle = vec![in alloc; 0i64; max_block]?;
         let shortened = vec![in alloc; 0i64; max_block]?;
         let values = vec![in alloc; 0i64; max_block]?;
-        let folds = vec![in alloc; 0u64; max_block]?;
+        let folds = vec![in alloc; 0u32; max_block]?;
         Ok(EncodeBuffers {
             samples,
             right,
@@ -93,7 +93,7 @@ fn write_least<W: Target>(
     depth: u32,
     shortened: &mut [i64],
     values: &mut [i64],
-    folds: &mut [u64],
+    folds: &mut [u32],
     writer: &mut BitWriter<W>,
 ) -> Result<(), Why>
     requires some { 0 < length samples.now }
@@ -117,7 +117,7 @@ fn write_channels<W: Target>(
     samples: &mut [i64],
     shortened: &mut [i64],
     values: &mut [i64],
-    folds: &mut [u64],
+    folds: &mut [u32],
     writer: &mut BitWriter<W>,
 ) -> Result<(), Why>
     requires some { 0 < length samples.old }
@@ -156,7 +156,7 @@ fn write_frame<W: Target>(
     samples: &mut [i64],
     shortened: &mut [i64],
     values: &mut [i64],
-    folds: &mut [u64],
+    folds: &mut [u32],
     writer: &mut BitWriter<W>,
 ) -> Result<(), Why>
     requires some { 0 < length samples.old }
@@ -185,7 +185,7 @@ fn encode_into<W: Target>(
     samples: &mut [i64],
     shortened: &mut [i64],
     values: &mut [i64],
-    folds: &mut [u64],
+    folds: &mut [u32],
     writer: &mut BitWriter<W>,
 ) -> Result<(), Why>
     requires some { 0 < length samples.old }
@@ -224,7 +224,7 @@ fn encode_first<W: Target>(
     middle: &mut [i64],
     shortened: &mut [i64],
     values: &mut [i64],
-    folds: &mut [u64],
+    folds: &mut [u32],
     writer: &mut BitWriter<W>,
 ) -> Result<(), Why>
     requires some { 0 < size }

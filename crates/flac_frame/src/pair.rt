@@ -105,7 +105,7 @@ fn write_least_pair<W: Target>(
     middle: &[i64],
     shortened: &mut [i64],
     values: &mut [i64],
-    folds: &mut [u64],
+    folds: &mut [u32],
     writer: &mut BitWriter<W>,
 ) -> Result<(), Why>
     requires sound { IsSound audio.now }
@@ -173,7 +173,7 @@ pub(crate) fn encode_pair<W: Target>(
     middle: &mut [i64],
     shortened: &mut [i64],
     values: &mut [i64],
-    folds: &mut [u64],
+    folds: &mut [u32],
     writer: &mut BitWriter<W>,
 ) -> Result<(), Why>
     requires two { length audio.now.channels ≡ 2 }

@@ -28,7 +28,7 @@ pub(crate) fn choose_plane<'a>(
     depth: u32,
     shortened: &mut [i64],
     values: &mut [i64],
-    folds: &mut [u64],
+    folds: &mut [u32],
 ) -> Plane<'a>
     requires some { 0 < length samples.now }
     requires few { length samples.now ≤ 65535 }

@@ -26,11 +26,11 @@ fits_from_below (suc n) (pos a) h = record { low = omega (arith, ints, half n); 
 fits_from_below (suc n) (negsuc a) h = record { low = omega (arith, ints, half n); high = omega (arith, ints, half n) }
 
 -- the digits of a number
-pub digits_least : (f n : ℕ) → f < 2 ^ 64 → ((f < 2 ^ n → 64 - count_leading_zeros 64 f ≤ n) × (64 - count_leading_zeros 64 f ≤ n → f < 2 ^ n))
-digits_least f n within =
-    let top = leading_length 64 f within in
+pub digits_least : (size f n : ℕ) → f < 2 ^ size → ((f < 2 ^ n → size - count_leading_zeros size f ≤ n) × (size - count_leading_zeros size f ≤ n → f < 2 ^ n))
+digits_least size f n within =
+    let top = leading_length size f within in
     let m : ℕ = top.0 in
-    let is : count_leading_zeros 64 f + m ≡ 64 = top.1 in
+    let is : count_leading_zeros size f + m ≡ size = top.1 in
     let below : f < 2 ^ m = top.2 in
     let reaches : 2 ^ m ≤ 2 * f + 1 = top.3 in (
       λ h. elim (cases_lt n m) [

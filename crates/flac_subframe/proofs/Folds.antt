@@ -29,14 +29,14 @@ folds_small rs all = All-map (λ n. n < 2 ^ 32) folded rs (All-weaker IsResidual
 segment_folded : (a b : ℕ) (rs : List ℤ) (ns : List ℕ) → ns ≡ map folded rs → take (b - a) (drop a ns) ≡ map folded (segment a b rs)
 segment_folded a b rs ns is = rw is (ap (λ k. take (b - a) k) (drop-map folded a rs) ∙ take-map folded (b - a) (drop a rs))
 
-costs_folded : (k : ℕ) (rs : List ℤ) → sum_by (folded_cost k) (map folded rs) ≡ sum_by (value_cost k) rs
+pub costs_folded : (k : ℕ) (rs : List ℤ) → sum_by (folded_cost k) (map folded rs) ≡ sum_by (value_cost k) rs
 costs_folded k [] = refl
 costs_folded k (r ∷ rs) = omega (arith, sum_by-cons (folded_cost k) (folded r) (map folded rs), sum_by-cons (value_cost k) r rs, costs_folded k rs)
 
 pub segment_cost : (k a b : ℕ) (rs : List ℤ) (ns : List ℕ) → ns ≡ map folded rs → sum_by (folded_cost k) (take (b - a) (drop a ns)) ≡ sum_by (value_cost k) (segment a b rs)
 segment_cost k a b rs ns is = ap (λ l. sum_by (folded_cost k) l) (segment_folded a b rs ns is) ∙ costs_folded k (segment a b rs)
 
-below_of : (n : ℕ) (rs : List ℤ) → All (FitsWidth n) rs → All (λ k. k < 2 ^ n) (map folded rs)
+pub below_of : (n : ℕ) (rs : List ℤ) → All (FitsWidth n) rs → All (λ k. k < 2 ^ n) (map folded rs)
 below_of n rs fit = All-map (λ k. k < 2 ^ n) folded rs (All-weaker (FitsWidth n) (λ r. folded r < 2 ^ n) (below_from_fits n) rs fit)
 
 fits_of : (n : ℕ) (rs : List ℤ) → All (λ k. k < 2 ^ n) (map folded rs) → All (FitsWidth n) rs

@@ -22,13 +22,17 @@ pub mod Pricing
 pub mod Splits
 pub mod Entries
 pub mod Orders
+pub mod Settled
+pub mod Bounded
 pub mod Greater
 pub mod Convex
 pub mod Walks
 pub mod LowerBounds
+pub mod Close
 pub mod Searching
 pub mod Lengths
 pub mod Differences
+pub mod Narrow
 pub mod Bodies
 pub mod Best
 pub mod Powers

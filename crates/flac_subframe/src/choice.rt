@@ -8,7 +8,7 @@ ghost use Rattle.flac_subframe.specs.Bodies.{Chooses, fixed, differences, Stands
 ghost use Rattle.flac_subframe.specs.Chosen.{body_of, IsBest, fixed_below, priced_as};
 
 use crate::halving::ResidualChoice;
-use crate::leaving::take_differences;
+use crate::leaving::{are_narrow, take_differences};
 use crate::survey::least_residual_into;
 use arrayvec::ArrayVec;
 
@@ -69,21 +69,33 @@ fn limit(best: &Held, order: usize) -> u64
     }
 }
 
-/// The order whose fixed predictor leaves the least sum of absolute values in the first samples.
-fn likely_order(samples: &[i64]) -> usize
-    ensures { result ≤ 4 }
-{
+/// Adds the absolute values of what each fixed predictor leaves of the samples of a run that have four before them there.
+fn add_left(run: &[i64], sums: &mut [u64; 5]) {
     let mut last = [0i64; 4];
-    let mut sums = [0u64; 5];
-    for sample in &samples[..samples.len().min(512)] {
+    for (at, sample) in run.iter().enumerate() {
         let mut left = *sample;
-        sums[0] = sums[0].wrapping_add(left.unsigned_abs());
+        let mut lefts = [left; 5];
         for order in 0..4 {
             let next = left.wrapping_sub(last[order]);
             last[order] = left;
             left = next;
-            sums[order + 1] = sums[order + 1].wrapping_add(left.unsigned_abs());
+            lefts[order + 1] = left;
         }
+        if at >= 4 {
+            for (sum, left) in sums.iter_mut().zip(lefts.iter()) {
+                *sum = sum.wrapping_add(left.unsigned_abs());
+            }
+        }
+    }
+}
+
+/// The order whose fixed predictor leaves the least sum of absolute values in some short runs of the samples.
+fn likely_order(samples: &[i64]) -> usize
+    ensures { result ≤ 4 }
+{
+    let mut sums = [0u64; 5];
+    for part in samples.chunks((samples.len() / 8).max(1)) {
+        add_left(&part[..part.len().min(68)], &mut sums);
     }
     let mut likely = 0;
     for order in 1..5 {
@@ -97,11 +109,12 @@ fn likely_order(samples: &[i64]) -> usize
 /// The lesser of the best so far and what the fixed predictor of an order gives.
 fn better_fixed(
     samples: &[i64],
+    narrow: bool,
     bits: u32,
     most: u8,
     order: usize,
     values: &mut [i64],
-    folds: &mut [u64],
+    folds: &mut [u32],
     sums: &mut [u64],
     four: &mut [u64],
     five: &mut [u64],
@@ -112,6 +125,7 @@ fn better_fixed(
     requires most { most ≤ 8 }
     requires bits { bits ≤ 33 }
     requires fits { All (FitsBits 33) samples.now }
+    requires narrow { IsTrue narrow → All (FitsBits 27) samples.now }
     requires order { order ≤ 4 }
     requires places { length samples.now ≤ length values.old }
     requires folds { length samples.now ≤ length folds.old }
@@ -132,7 +146,7 @@ fn better_fixed(
         return;
     }
     let places = &mut values[..samples.len() - order];
-    if !take_differences(order, samples, places) {
+    if !take_differences(order, samples, narrow, places) {
         return;
     }
     let limit = limit(best, order);
@@ -219,7 +233,7 @@ pub(crate) fn choose_body(
     bits: u32,
     most: u8,
     values: &mut [i64],
-    folds: &mut [u64],
+    folds: &mut [u32],
 ) -> PricedChoice
     requires some { 0 < length samples.now }
     requires few { length samples.now ≤ 65535 }
@@ -236,8 +250,10 @@ pub(crate) fn choose_body(
     let mut widths = [0; 512];
     let mut best = begin(samples, bits);
     let first = likely_order(samples);
+    let narrow = are_narrow(samples);
     better_fixed(
         samples,
+        narrow,
         bits,
         most,
         first,
@@ -253,6 +269,7 @@ pub(crate) fn choose_body(
         if order != first {
             better_fixed(
                 samples,
+                narrow,
                 bits,
                 most,
                 order,

@@ -41,7 +41,7 @@ pub fn choose_into(
     depth: u32,
     shortened: &mut [i64],
     values: &mut [i64],
-    folds: &mut [u64],
+    folds: &mut [u32],
 ) -> Choice
     requires some { 0 < length samples.now }
     requires few { length samples.now ≤ 65535 }

@@ -1,6 +1,6 @@
 //! What the values of a partition cost under a parameter, and how wide they are.
 
-ghost use Rattle.std.specs.Prelude.{◌≡◌, ◌<◌, ◌≤◌, ◌^◌, ◌*◌, ◌↔◌, ℕ, length, All};
+ghost use Rattle.std.specs.Prelude.{◌≡◌, ◌<◌, ◌≤◌, ◌^◌, ◌*◌, ◌/◌, ◌+◌, ◌↔◌, ℕ, length, All};
 ghost use Rattle.std.specs.List.{sum_by};
 ghost use Rattle.flac_subframe.specs.Cost.{folded_cost};
 
@@ -13,30 +13,90 @@ pub struct Priced {
     pub bits: u64,
 }
 
-/// How many bits values take under a Rice parameter, by their folded numbers.
-pub(crate) fn rice_bits(folds: &[u64], parameter: u8) -> u64
+/// The sum of what is above the lowest bits of sixteen numbers of few bits: in 32 bits, and by a loop of fixed length.
+#[inline(always)]
+fn sixteen_quotients(folds: &[u32], parameter: u8, width: u8) -> u32
+    requires long { length folds.now ≡ 16 }
+    requires bounded { All (λ n. n < 2 ^ width) folds.now }
+    requires few { width ≤ 28 + parameter }
+    requires parameter { parameter < 31 }
+    ensures { result ≡ sum_by (λ n. n / 2 ^ parameter) folds.now }
+{
+    let mut sum: u32 = 0;
+    for i in 0..16 {
+        sum += folds[i] >> parameter;
+    }
+    sum
+}
+
+/// The sum of what is above the lowest bits of numbers.
+#[inline(always)]
+pub(crate) fn quotients(folds: &[u32], parameter: u8, width: u8) -> u64
     requires few { length folds.now ≤ 65535 }
+    requires bounded { All (λ n. n < 2 ^ width) folds.now }
+    requires small { All (λ n. n < 2 ^ 32) folds.now }
+    requires parameter { parameter < 31 }
+    ensures value { result ≡ sum_by (λ n. n / 2 ^ parameter) folds.now }
+    ensures small { result ≤ 2 ^ 32 * length folds.now }
+{
+    if folds.len() == 16 && width <= 28 + parameter {
+        return u64::from(sixteen_quotients(folds, parameter, width));
+    }
+    let mut sum = 0;
+    for number in folds {
+        sum += u64::from(*number >> parameter);
+    }
+    sum
+}
+
+/// How many bits values take under a Rice parameter, by their folded numbers, which are of a width.
+#[inline(always)]
+pub(crate) fn rice_bits(folds: &[u32], parameter: u8, width: u8) -> u64
+    requires few { length folds.now ≤ 65535 }
+    requires bounded { All (λ n. n < 2 ^ width) folds.now }
     requires small { All (λ n. n < 2 ^ 32) folds.now }
     requires parameter { parameter < 31 }
     ensures value { result ≡ sum_by (folded_cost parameter) folds.now }
     ensures small { result ≤ 2 ^ 33 * length folds.now }
 {
-    let mut quotients = 0;
-    for number in folds {
-        quotients += *number >> parameter;
+    quotients(folds, parameter, width) + folds.len() as u64 * (1 + u64::from(parameter))
+}
+
+/// The greatest of sixteen numbers, by a loop of fixed length.
+#[inline(always)]
+fn greatest_of_sixteen(folds: &[u32]) -> u32
+    requires long { length folds.now ≡ 16 }
+    ensures { (n : ℕ) → All (λ k. k < 2 ^ n) folds.now ↔ (result < 2 ^ n) }
+{
+    let mut greatest: u32 = 0;
+    for i in 0..16 {
+        greatest = greatest.max(folds[i]);
     }
-    quotients + folds.len() as u64 * (1 + u64::from(parameter))
+    greatest
+}
+
+/// The greatest of some numbers, 0 where there are none.
+#[inline(always)]
+fn greatest(folds: &[u32]) -> u32
+    requires small { All (λ n. n < 2 ^ 32) folds.now }
+    ensures { (n : ℕ) → All (λ k. k < 2 ^ n) folds.now ↔ (result < 2 ^ n) }
+{
+    if folds.len() == 16 {
+        return greatest_of_sixteen(folds);
+    }
+    let mut greatest: u32 = 0;
+    for number in folds {
+        greatest = greatest.max(*number);
+    }
+    greatest
 }
 
 /// The fewest bits that hold each value as a signed number, by their folded numbers; 0 where all are 0.
-pub(crate) fn width(folds: &[u64]) -> u8
+#[inline(always)]
+pub(crate) fn width(folds: &[u32]) -> u8
     requires small { All (λ n. n < 2 ^ 32) folds.now }
     ensures small { result ≤ 32 }
     ensures least { (n : ℕ) → All (λ k. k < 2 ^ n) folds.now ↔ (result ≤ n) }
 {
-    let mut greatest: u64 = 0;
-    for number in folds {
-        greatest = greatest.max(*number);
-    }
-    (64 - greatest.leading_zeros()) as u8
+    (32 - greatest(folds).leading_zeros()) as u8
 }

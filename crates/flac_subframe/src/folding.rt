@@ -17,14 +17,29 @@ pub(crate) fn fold(value: i64) -> u64
     }
 }
 
+/// The same in 32 bits.
+#[inline(always)]
+fn fold_narrow(value: i64) -> u32
+    requires { IsResidual value }
+    ensures value { result ≡ folded value }
+    ensures small { result < 2 ^ 32 }
+{
+    let narrow = value as i32;
+    if narrow >= 0 {
+        narrow as u32 * 2
+    } else {
+        (-(narrow + 1)) as u32 * 2 + 1
+    }
+}
+
 /// Each value as an unsigned number.
-pub(crate) fn fold_each(values: &[i64], folds: &mut [u64])
+pub(crate) fn fold_each(values: &[i64], folds: &mut [u32])
     requires range { All IsResidual values.now }
     requires places { length folds.old ≡ length values.now }
     ensures folded { folds.new ≡ map folded values.now }
     ensures small { All (λ n. n < 2 ^ 32) folds.new }
 {
     for i in 0..values.len() {
-        folds[i] = fold(values[i]);
+        folds[i] = fold_narrow(values[i]);
     }
 }

@@ -14,7 +14,8 @@ use crate::halving::power;
 /// What each partition costs under a parameter, at the finest partition order.
 pub(crate) fn price(
     values: &[i64],
-    folds: &[u64],
+    folds: &[u32],
+    width: u8,
     order: usize,
     halvings: u8,
     parameter: u8,
@@ -23,6 +24,7 @@ pub(crate) fn price(
     requires few { length values.now + order ≤ 65535 }
     requires range { All IsResidual values.now }
     requires folded { folds.now ≡ map folded values.now }
+    requires bounded { All (λ n. n < 2 ^ width) folds.now }
     requires small { All (λ n. n < 2 ^ 32) folds.now }
     requires long { length folds.now ≡ length values.now }
     requires parameter { parameter < 31 }
@@ -35,7 +37,7 @@ pub(crate) fn price(
     let mut from = 0;
     let mut to = size - order;
     for sum in sums.iter_mut() {
-        *sum = rice_bits(&folds[from..to], parameter);
+        *sum = rice_bits(&folds[from..to], parameter, width);
         from = to;
         to += size;
     }
@@ -96,7 +98,8 @@ fn gains(sums: &[u64], best: &[u64], parameter: u8) -> bool
 /// Compares, at each partition order, each partition's cost under a parameter with the best so far: whether it lowers that of one of the finest.
 fn pass(
     values: &[i64],
-    folds: &[u64],
+    folds: &[u32],
+    width: u8,
     order: usize,
     halvings: u8,
     parameter: u8,
@@ -106,6 +109,7 @@ fn pass(
     requires few { length values.now + order ≤ 65535 }
     requires range { All IsResidual values.now }
     requires folded { folds.now ≡ map folded values.now }
+    requires bounded { All (λ n. n < 2 ^ width) folds.now }
     requires small { All (λ n. n < 2 ^ 32) folds.now }
     requires long { length folds.now ≡ length values.now }
     requires parameter { parameter < 31 }
@@ -117,7 +121,7 @@ fn pass(
     ensures entries { (p j : ℕ) → p ≤ halvings → j < 2 ^ p → entry table.new p j ≡ min (entry table.old p j) (priced parameter (sum_by (value_cost parameter) (part order values.now p j))) }
     ensures none { result ≡ false → (j : ℕ) → j < 2 ^ halvings → entry table.old halvings j ≤ priced parameter (sum_by (value_cost parameter) (part order values.now halvings j)) }
 {
-    price(values, folds, order, halvings, parameter, sums);
+    price(values, folds, width, order, halvings, parameter, sums);
     let first = power(halvings);
     let gained = gains(sums, &table[first..2 * first], parameter);
     note_level(sums, table, halvings, parameter);
@@ -133,7 +137,8 @@ fn pass(
 /// Fills an empty table with the least of the parameters below one: tries them downwards, as long as one of the finest partitions gains by it.
 pub(crate) fn compare_down(
     values: &[i64],
-    folds: &[u64],
+    folds: &[u32],
+    width: u8,
     order: usize,
     halvings: u8,
     from: u8,
@@ -143,6 +148,7 @@ pub(crate) fn compare_down(
     requires few { length values.now + order ≤ 65535 }
     requires range { All IsResidual values.now }
     requires folded { folds.now ≡ map folded values.now }
+    requires bounded { All (λ n. n < 2 ^ width) folds.now }
     requires small { All (λ n. n < 2 ^ 32) folds.now }
     requires long { length folds.now ≡ length values.now }
     requires from { from ≤ 31 }
@@ -157,7 +163,7 @@ pub(crate) fn compare_down(
     let mut low = from;
     while low > 0 {
         low -= 1;
-        if !pass(values, folds, order, halvings, low, sums, table) {
+        if !pass(values, folds, width, order, halvings, low, sums, table) {
             return;
         }
     }
@@ -166,7 +172,8 @@ pub(crate) fn compare_down(
 /// Goes on with a table of the parameters below one, upwards, as long as one of the finest partitions gains by it: whether none gains by any above.
 pub(crate) fn compare(
     values: &[i64],
-    folds: &[u64],
+    folds: &[u32],
+    width: u8,
     order: usize,
     halvings: u8,
     from: u8,
@@ -177,6 +184,7 @@ pub(crate) fn compare(
     requires few { length values.now + order ≤ 65535 }
     requires range { All IsResidual values.now }
     requires folded { folds.now ≡ map folded values.now }
+    requires bounded { All (λ n. n < 2 ^ width) folds.now }
     requires small { All (λ n. n < 2 ^ 32) folds.now }
     requires long { length folds.now ≡ length values.now }
     requires from { from ≤ parameters }
@@ -191,7 +199,9 @@ pub(crate) fn compare(
     ensures long { length table.new ≡ length table.old }
 {
     for parameter in from..parameters {
-        if !pass(values, folds, order, halvings, parameter, sums, table) {
+        if !pass(
+            values, folds, width, order, halvings, parameter, sums, table,
+        ) {
             return true;
         }
     }

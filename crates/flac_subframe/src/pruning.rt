@@ -1,12 +1,13 @@
 //! What a residual takes at least, told before its parameters are tried.
 
-ghost use Rattle.std.specs.Prelude.{◌≡◌, ◌<◌, ◌≤◌, ◌^◌, ◌+◌, ◌*◌, ℕ, length, map, All, slice_index};
+ghost use Rattle.std.specs.Prelude.{◌≡◌, ◌<◌, ◌≤◌, ◌^◌, ◌+◌, ◌*◌, ℕ, length, map, All, IsTrue, slice_index};
 ghost use Rattle.std.specs.List.{sum_by};
 ghost use Rattle.flac_bits.specs.Rice.{IsResidual};
 ghost use Rattle.flac_subframe.specs.Cost.{value_cost, MayWrite, Codings, residual_cost};
 ghost use Rattle.flac_subframe.specs.Spelling.{folded, FitsWidth};
 ghost use Rattle.flac_subframe.specs.Halves.{part, Halves, IsWidth, HasWidths};
 
+use crate::cost::quotients;
 use crate::halves::price;
 use crate::halving::power;
 
@@ -45,13 +46,71 @@ fn bound_part(values: &[i64], bits: u64, width: u8) -> u64
     rice.min(count * u64::from(width))
 }
 
+/// The same by the values' exact cost under two parameters, the least of all where the quotients' sum falls between them below the count.
+fn bound_closely(values: &[i64], folds: &[u32], bits: u64, width: u8) -> u64
+    requires few { length values.now ≤ 65535 }
+    requires folded { folds.now ≡ map folded values.now }
+    requires long { length folds.now ≡ length values.now }
+    requires small_folds { All (λ n. n < 2 ^ 32) folds.now }
+    requires bits { bits ≡ sum_by (value_cost 0) values.now }
+    requires small_width { width ≤ 32 }
+    requires width { IsWidth values.now width }
+    ensures rice { (k : ℕ) → result ≤ sum_by (value_cost k) values.now }
+    ensures escape { (n : ℕ) → All (FitsWidth n) values.now → result ≤ n * length values.now }
+    ensures small { result ≤ 2 ^ 21 }
+{
+    let count = values.len() as u64;
+    let least = count + count / 2;
+    let shift = shift_to(least, bits).min(29) as u8;
+    let low = quotients(folds, shift, width);
+    let high = quotients(folds, shift + 1, width);
+    if low < count || high > count {
+        return bound_part(values, bits, width);
+    }
+    let under = low + count * (1 + u64::from(shift));
+    let over = high + count * (2 + u64::from(shift));
+    under.min(over).min(count * u64::from(width))
+}
+
+/// What the values of a partition take at least, closely or roughly.
+#[inline(always)]
+fn bound_values(values: &[i64], folds: &[u32], bits: u64, width: u8, closely: bool) -> u64
+    requires few { length values.now ≤ 65535 }
+    requires folded { folds.now ≡ map folded values.now }
+    requires long { length folds.now ≡ length values.now }
+    requires small_folds { All (λ n. n < 2 ^ 32) folds.now }
+    requires bits { bits ≡ sum_by (value_cost 0) values.now }
+    requires small_width { width ≤ 32 }
+    requires width { IsWidth values.now width }
+    ensures rice { (k : ℕ) → result ≤ sum_by (value_cost k) values.now }
+    ensures escape { (n : ℕ) → All (FitsWidth n) values.now → result ≤ n * length values.now }
+    ensures small { result ≤ 2 ^ 21 }
+{
+    if closely {
+        bound_closely(values, folds, bits, width)
+    } else {
+        bound_part(values, bits, width)
+    }
+}
+
 /// What the finest partitions take at least, one after another.
-fn bound_parts(values: &[i64], order: usize, halvings: u8, sums: &[u64], widths: &[u8]) -> u64
+fn bound_parts(
+    values: &[i64],
+    folds: &[u32],
+    order: usize,
+    halvings: u8,
+    sums: &[u64],
+    widths: &[u8],
+    closely: bool,
+) -> u64
     requires few { length values.now + order ≤ 65535 }
     requires range { All IsResidual values.now }
+    requires folded { folds.now ≡ map folded values.now }
+    requires small { All (λ n. n < 2 ^ 32) folds.now }
+    requires long { length folds.now ≡ length values.now }
     requires most { halvings ≤ 8 }
     requires halves { Halves order values.now halvings }
-    requires places { length sums.now ≡ 2 ^ halvings }
+    requires places { 2 ^ halvings ≤ length sums.now }
     requires costs { (j : ℕ) → j < 2 ^ halvings → slice_index sums.now j ≡ sum_by (value_cost 0) (part order values.now halvings j) }
     requires widths { HasWidths order values.now halvings halvings widths.now }
     requires widths_long { 2 * 2 ^ halvings ≤ length widths.now }
@@ -61,11 +120,14 @@ fn bound_parts(values: &[i64], order: usize, halvings: u8, sums: &[u64], widths:
     let count = power(halvings);
     let mut bits = 0;
     let mut rest = values;
+    let mut left = folds;
     let mut long = size - order;
     for j in 0..count {
         let (front, after) = rest.split_at(long);
-        bits += bound_part(front, sums[j], widths[count + j]);
+        let (first, others) = left.split_at(long);
+        bits += bound_values(front, first, sums[j], widths[count + j], closely);
         rest = after;
+        left = others;
         long = size;
     }
     bits
@@ -74,7 +136,7 @@ fn bound_parts(values: &[i64], order: usize, halvings: u8, sums: &[u64], widths:
 /// What a residual takes at least in any form.
 pub(crate) fn lower_bound(
     values: &[i64],
-    folds: &[u64],
+    folds: &[u32],
     order: usize,
     halvings: u8,
     sums: &mut [u64],
@@ -88,12 +150,43 @@ pub(crate) fn lower_bound(
     requires most { halvings ≤ 8 }
     requires halves { Halves order values.now halvings }
     requires sums { 2 ^ halvings ≤ length sums.old }
-    requires widths { HasWidths order values.now halvings halvings widths.now }
+    requires widths { HasWidths order values.now 0 halvings widths.now }
     requires places { 2 * 2 ^ halvings ≤ length widths.now }
     ensures bound { (f : Codings) → MayWrite halvings order values.now f → result ≤ residual_cost order values.now f }
+    ensures costs { (j : ℕ) → j < 2 ^ halvings → slice_index sums.new j ≡ sum_by (value_cost 0) (part order values.now halvings j) }
     ensures sums_long { length sums.new ≡ length sums.old }
 {
     let row = &mut sums[..power(halvings)];
-    price(values, folds, order, halvings, 0, row);
-    bound_parts(values, order, halvings, row, widths)
+    price(values, folds, widths[1], order, halvings, 0, row);
+    bound_parts(values, folds, order, halvings, row, widths, false)
+}
+
+/// The same more closely, behind a rough bound, where that is near enough to what it has to reach.
+pub(crate) fn reaches(
+    values: &[i64],
+    folds: &[u32],
+    order: usize,
+    halvings: u8,
+    sums: &[u64],
+    widths: &[u8],
+    bound: u64,
+    below: u64,
+) -> bool
+    requires few { length values.now + order ≤ 65535 }
+    requires range { All IsResidual values.now }
+    requires folded { folds.now ≡ map folded values.now }
+    requires small { All (λ n. n < 2 ^ 32) folds.now }
+    requires long { length folds.now ≡ length values.now }
+    requires most { halvings ≤ 8 }
+    requires halves { Halves order values.now halvings }
+    requires sums { 2 ^ halvings ≤ length sums.now }
+    requires costs { (j : ℕ) → j < 2 ^ halvings → slice_index sums.now j ≡ sum_by (value_cost 0) (part order values.now halvings j) }
+    requires widths { HasWidths order values.now halvings halvings widths.now }
+    requires places { 2 * 2 ^ halvings ≤ length widths.now }
+    ensures { IsTrue result → (f : Codings) → MayWrite halvings order values.now f → below ≤ residual_cost order values.now f }
+{
+    if bound < below / 2 {
+        return false;
+    }
+    bound_parts(values, folds, order, halvings, sums, widths, true) >= below
 }

@@ -1,6 +1,6 @@
 //! The least way to write a residual, found from tables and gathered once.
 
-ghost use Rattle.std.specs.Prelude.{◌≡◌, ◌<◌, ◌≤◌, ◌^◌, ◌+◌, ◌-◌, ◌*◌, ◌/◌, ℕ, length, map, All, IsTrue, ◌⊎◌, []};
+ghost use Rattle.std.specs.Prelude.{◌≡◌, ◌≢◌, ◌<◌, ◌≤◌, ◌^◌, ◌+◌, ◌-◌, ◌*◌, ◌/◌, ℕ, length, map, All, IsTrue, ◌⊎◌, []};
 ghost use Rattle.flac_bits.specs.Rice.{IsResidual};
 ghost use Rattle.flac_subframe.specs.Least.{IsLeast, IsLeastCost};
 ghost use Rattle.flac_subframe.specs.Cost.{MayCode, MayWrite, Codings, codings_of, HalvedTo, ByMethod, coding_cost, partitions_cost, residual_cost, Partitioned};
@@ -8,11 +8,11 @@ ghost use Rattle.flac_subframe.specs.Spelling.{folded};
 ghost use Rattle.flac_subframe.specs.Halves.{part, Halves, entry, LeastBelow, IsWidth, HasWidths};
 
 use crate::coding::Coding;
-use crate::cost::{Priced, rice_bits};
+use crate::cost::Priced;
 use crate::folding::fold_each;
 use crate::halves::{clear, compare, compare_down, copy};
 use crate::halving::{ResidualChoice, power};
-use crate::pruning::lower_bound;
+use crate::pruning::{lower_bound, reaches};
 use crate::widths::measure;
 use arrayvec::ArrayVec;
 
@@ -187,29 +187,33 @@ fn best_order(
     best
 }
 
-/// A parameter near the best one of most partitions.
-fn middle(folds: &[u64]) -> u8
-    requires few { length folds.now ≤ 65535 }
-    requires small { All (λ n. n < 2 ^ 32) folds.now }
+/// A parameter near the best one of most partitions, by what the finest take under parameter 0.
+fn middle(sums: &[u64], count: usize) -> u8
     ensures { result ≤ 15 }
 {
-    let mean = rice_bits(folds, 0) / (folds.len() as u64).max(1);
-    ((64 - mean.leading_zeros()) as u8).min(15)
+    let mut bits: u64 = 0;
+    for sum in sums {
+        bits = bits.wrapping_add(*sum);
+    }
+    let mean = bits / (count as u64).max(1);
+    (64 - mean.leading_zeros()).saturating_sub(1).min(15) as u8
 }
 
-/// Fills the tables of both methods.
+/// Fills the table of the first method, and that of the second where it is another: whether it is the same.
 fn tabulate(
     values: &[i64],
-    folds: &[u64],
+    folds: &[u32],
+    width: u8,
     order: usize,
     halvings: u8,
     sums: &mut [u64],
     four: &mut [u64],
     five: &mut [u64],
-)
+) -> bool
     requires few { length values.now + order ≤ 65535 }
     requires range { All IsResidual values.now }
     requires folded { folds.now ≡ map folded values.now }
+    requires bounded { All (λ n. n < 2 ^ width) folds.now }
     requires small { All (λ n. n < 2 ^ 32) folds.now }
     requires long { length folds.now ≡ length values.now }
     requires most { halvings ≤ 8 }
@@ -218,27 +222,29 @@ fn tabulate(
     requires four { 2 * 2 ^ halvings ≤ length four.old }
     requires five { 2 * 2 ^ halvings ≤ length five.old }
     ensures entries { (p j : ℕ) → p ≤ halvings → j < 2 ^ p → LeastBelow 15 (part order values.now p j) (entry four.new p j) }
-    ensures more { (p j : ℕ) → p ≤ halvings → j < 2 ^ p → LeastBelow 31 (part order values.now p j) (entry five.new p j) }
+    ensures same { IsTrue result → (p j : ℕ) → p ≤ halvings → j < 2 ^ p → LeastBelow 31 (part order values.now p j) (entry four.new p j) }
+    ensures more { (IsTrue result → ⊥) → (p j : ℕ) → p ≤ halvings → j < 2 ^ p → LeastBelow 31 (part order values.now p j) (entry five.new p j) }
     ensures sums_long { length sums.new ≡ length sums.old }
     ensures four_long { length four.new ≡ length four.old }
     ensures five_long { length five.new ≡ length five.old }
 {
     let count = power(halvings);
-    let middle = middle(folds);
-    clear(four, 2 * count);
     let row = &mut sums[..count];
-    compare_down(values, folds, order, halvings, middle, row, four);
-    let settled = compare(values, folds, order, halvings, middle, 15, row, four);
-    copy(four, five, 2 * count);
-    if !settled {
-        compare(values, folds, order, halvings, 15, 31, row, five);
+    let middle = middle(row, values.len());
+    clear(four, 2 * count);
+    compare_down(values, folds, width, order, halvings, middle, row, four);
+    if compare(values, folds, width, order, halvings, middle, 15, row, four) {
+        return true;
     }
+    copy(four, five, 2 * count);
+    compare(values, folds, width, order, halvings, 15, 31, row, five);
+    false
 }
 
-/// The best method and partition order, with the tables of both methods filled.
+/// The best method and partition order, with the table of that method filled.
 fn survey(
     values: &[i64],
-    folds: &[u64],
+    folds: &[u32],
     order: usize,
     halvings: u8,
     sums: &mut [u64],
@@ -264,13 +270,16 @@ fn survey(
     ensures here { IsLeastCost (HalvedTo result.parameter_bits result.halvings halvings order values.now) (residual_cost order values.now) result.bits }
     ensures small { result.bits ≤ 2 ^ 33 * 2 ^ 16 }
     ensures entries { (p j : ℕ) → p ≤ halvings → j < 2 ^ p → LeastBelow 15 (part order values.now p j) (entry four.new p j) }
-    ensures more { (p j : ℕ) → p ≤ halvings → j < 2 ^ p → LeastBelow 31 (part order values.now p j) (entry five.new p j) }
+    ensures more { result.parameter_bits ≢ 4 → (p j : ℕ) → p ≤ halvings → j < 2 ^ p → LeastBelow 31 (part order values.now p j) (entry five.new p j) }
     ensures sums_long { length sums.new ≡ length sums.old }
     ensures four_long { length four.new ≡ length four.old }
     ensures five_long { length five.new ≡ length five.old }
 {
-    tabulate(values, folds, order, halvings, sums, four, five);
+    let same = tabulate(values, folds, widths[1], order, halvings, sums, four, five);
     let first = best_order(values, order, halvings, 4, four, widths);
+    if same {
+        return first;
+    }
     let second = best_order(values, order, halvings, 5, five, widths);
     if second.bits < first.bits {
         second
@@ -320,7 +329,7 @@ fn take_up(
 /// The least form of all for the residual of a predictor of an order, where it takes fewer bits than so many.
 pub(crate) fn least_residual_into(
     values: &[i64],
-    folds: &mut [u64],
+    folds: &mut [u32],
     order: usize,
     most: u8,
     sums: &mut [u64],
@@ -355,7 +364,11 @@ pub(crate) fn least_residual_into(
     let folds = &mut folds[..values.len()];
     fold_each(values, folds);
     measure(values, folds, order, halvings, widths);
-    if lower_bound(values, folds, order, halvings, sums, widths) >= below {
+    let bound = lower_bound(values, folds, order, halvings, sums, widths);
+    if bound >= below {
+        return false;
+    }
+    if reaches(values, folds, order, halvings, sums, widths, bound, below) {
         return false;
     }
     let found = survey(values, folds, order, halvings, sums, four, five, widths);

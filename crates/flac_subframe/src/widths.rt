@@ -8,7 +8,7 @@ use crate::cost::width;
 use crate::halving::power;
 
 /// The width of each partition at the finest partition order.
-fn leaves(values: &[i64], folds: &[u64], order: usize, halvings: u8, widths: &mut [u8])
+fn leaves(values: &[i64], folds: &[u32], order: usize, halvings: u8, widths: &mut [u8])
     requires few { length values.now + order ≤ 65535 }
     requires folded { folds.now ≡ map folded values.now }
     requires small { All (λ n. n < 2 ^ 32) folds.now }
@@ -30,7 +30,7 @@ fn leaves(values: &[i64], folds: &[u64], order: usize, halvings: u8, widths: &mu
 }
 
 /// The same, each at its place behind the coarser ones.
-fn lowest(values: &[i64], folds: &[u64], order: usize, halvings: u8, widths: &mut [u8])
+fn lowest(values: &[i64], folds: &[u32], order: usize, halvings: u8, widths: &mut [u8])
     requires few { length values.now + order ≤ 65535 }
     requires folded { folds.now ≡ map folded values.now }
     requires small { All (λ n. n < 2 ^ 32) folds.now }
@@ -52,7 +52,7 @@ fn lowest(values: &[i64], folds: &[u64], order: usize, halvings: u8, widths: &mu
 }
 
 /// The width of each partition at each partition order: the greater of its two halves'.
-pub(crate) fn measure(values: &[i64], folds: &[u64], order: usize, halvings: u8, widths: &mut [u8])
+pub(crate) fn measure(values: &[i64], folds: &[u32], order: usize, halvings: u8, widths: &mut [u8])
     requires few { length values.now + order ≤ 65535 }
     requires folded { folds.now ≡ map folded values.now }
     requires small { All (λ n. n < 2 ^ 32) folds.now }

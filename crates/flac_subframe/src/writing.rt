@@ -156,7 +156,7 @@ fn write_fixed<W: Target>(
     let coefficients = fixed_coefficients(order as u32);
     let count = coefficients.len();
     let places = &mut values[..samples.len() - count];
-    let _all = take_differences(order, samples, places);
+    let _all = take_differences(order, samples, false, places);
     write_signed(writer, depth, &samples[..count])?;
     write_residual(writer, residual, count, places)
 }

@@ -163,7 +163,7 @@ fn write_least<W: Target>(
     }
     let mut shortened = [0i64; 16];
     let mut values = [0i64; 16];
-    let mut folds = [0u64; 16];
+    let mut folds = [0u32; 16];
     let choice = choose_into(samples, depth, &mut shortened, &mut values, &mut folds);
     write_subframe_into(&choice, samples, depth, &mut shortened, &mut values, writer)?;
     writer.align()?;

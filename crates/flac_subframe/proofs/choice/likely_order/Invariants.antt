@@ -1,5 +1,5 @@
 use Rattle.std.proofs.Common.{◌≤◌}
 use Rattle.flac_subframe.proofs.choice.likely_order.Given as goal
 
-abbrev pub invariant-loop-order-2 : goal.invariant-loop-order-2
-invariant-loop-order-2 l = l.likely ≤ 4
+abbrev pub invariant-loop-order : goal.invariant-loop-order
+invariant-loop-order l = l.likely ≤ 4

@@ -10,7 +10,7 @@ loop-i-preserved c =
     let i = c.loop-i.i in
     let xs = c.args.values.now in
     let x : ℤ = get_or xs i (pos 0) in
-    let e = c.fold.ensures.value ∙ ap folded (back x (c.requires.range i (pos 0) c.loop-i-test.true)) in
+    let e = c.fold_narrow.ensures.value ∙ ap folded (back x (c.requires.range i (pos 0) c.loop-i-test.true)) in
     let long : length c.loop-i.folds ≡ length xs = omega (arith, c.loop-i.auto.folds, c.requires.places) in
     fold_more xs c.loop-i.folds i _ c.loop-i-test.true long e c.loop-i.invariant
 

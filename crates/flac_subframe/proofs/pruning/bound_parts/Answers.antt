@@ -1,28 +1,40 @@
-use Rattle.std.proofs.Common.{arith, ◌≡◌, ◌∙◌, ◌+◌, ◌-◌, ◌<◌, ◌^◌, ℕ, suc, ap, length, drop}
-use Rattle.std.proofs.lemmas.List.{drop-drop}
+use Rattle.std.proofs.Common.{arith, ◌≡◌, ◌∙◌, ◌+◌, ◌-◌, ◌<◌, ◌^◌, ℤ, List, ℕ, suc, ap, sym, length, drop, take, map, All}
+use Rattle.std.proofs.lemmas.List.{drop-drop, drop-map}
+use Rattle.std.proofs.lemmas.List.Elements.{All-take, All-drop}
+use Rattle.flac_bits.specs.Rice.{IsResidual}
+use Rattle.flac_subframe.specs.Spelling.{folded}
+use Rattle.flac_subframe.proofs.Folds.{folds_small}
 use Rattle.flac_subframe.proofs.LowerBounds.{bound_more, bound_end, bound_of_all}
 use Rattle.flac_subframe.specs.Halves.{part, start}
 use Rattle.flac_subframe.proofs.Splits.{start_next, start_rises}
 use Rattle.flac_subframe.proofs.pruning.bound_parts.Goals as goal
 
-pub bound_part-bits-requires-clause-bits : goal.bound_part-bits-requires-clause-bits
+pub bound_values-bits-requires-clause-bits : goal.bound_values-bits-requires-clause-bits
 unfolding part
-bound_part-bits-requires-clause-bits c =
+bound_values-bits-requires-clause-bits c =
     let so = c.loop-j.invariant in
     let b : c.loop-j.j < 2 ^ c.args.halvings = omega arith in
     rw (c.split_at.ensures.front, so.rest, so.long) (c.requires.costs c.loop-j.j b)
 
-pub bound_part-bits-requires-clause-width : goal.bound_part-bits-requires-clause-width
+pub bound_values-bits-requires-clause-width : goal.bound_values-bits-requires-clause-width
 unfolding part
-bound_part-bits-requires-clause-width c =
+bound_values-bits-requires-clause-width c =
     let so = c.loop-j.invariant in
     let b : c.loop-j.j < 2 ^ c.args.halvings = omega arith in
     rw (c.split_at.ensures.front, so.rest, so.long, c.power-count.ensures) (c.requires.widths c.args.halvings c.loop-j.j (omega arith) (omega arith) b).0
 
-pub bound_part-bits-requires-clause-small_width : goal.bound_part-bits-requires-clause-small_width
-bound_part-bits-requires-clause-small_width c =
+pub bound_values-bits-requires-clause-small_width : goal.bound_values-bits-requires-clause-small_width
+bound_values-bits-requires-clause-small_width c =
     let b : c.loop-j.j < 2 ^ c.args.halvings = omega arith in
     rw c.power-count.ensures (c.requires.widths c.args.halvings c.loop-j.j (omega arith) (omega arith) b).1
+
+pub bound_values-bits-requires-clause-small_folds : goal.bound_values-bits-requires-clause-small_folds
+bound_values-bits-requires-clause-small_folds c =
+    let so = c.loop-j.invariant in
+    let from : ℕ = start c.args.order (length c.args.values.now + c.args.order) c.args.halvings c.loop-j.j in
+    let rest = drop from c.args.values.now in
+    let all : All (λ n. n < 2 ^ 32) (take c.loop-j.long (map folded rest)) = All-take (λ n. n < 2 ^ 32) c.loop-j.long (map folded rest) (folds_small rest (All-drop IsResidual from c.args.values.now c.requires.range)) in
+    rw (c.split_at-in-loop-j.ensures.front, so.left, so.rest) all
 
 pub loop-j-preserved : goal.loop-j-preserved
 loop-j-preserved c =
@@ -35,10 +47,11 @@ loop-j-preserved c =
     let front = c.split_at.ensures.front in
     let next : start c.args.order n c.args.halvings j + c.loop-j.long ≡ start c.args.order n c.args.halvings (j + 1) = omega (arith, start_rises c.args.order n c.args.halvings j) in
     record {
-      bound = λ w. rw c.split_at.ensures.back (bound_more w _ _ _ _ _ _ m _ _ (rw front at c.bound_part-bits.ensures.rice) (rw front at c.bound_part-bits.ensures.escape) (bound w));
+      bound = λ w. rw c.split_at.ensures.back (bound_more w _ _ _ _ _ _ m _ _ (rw front at c.bound_values-bits.ensures.rice) (rw front at c.bound_values-bits.ensures.escape) (bound w));
       rest = c.split_at.ensures.back ∙ rw so.rest (drop-drop c.loop-j.long (start c.args.order n c.args.halvings j) c.args.values.now) ∙ ap (λ (k : ℕ). drop k c.args.values.now) next;
+      left = c.split_at-in-loop-j.ensures.back ∙ rw so.left (drop-map folded c.loop-j.long c.loop-j.rest.now) ∙ ap (λ (l : List ℤ). map folded l) (sym c.split_at.ensures.back);
       long = omega (arith, start_next c.args.order n c.args.halvings j c.requires.halves.room, start_rises c.args.order n c.args.halvings (j + 1));
-      small = omega (arith, so.small, c.bound_part-bits.ensures.small);
+      small = omega (arith, so.small, c.bound_values-bits.ensures.small);
     }
 
 pub returns : goal.returns

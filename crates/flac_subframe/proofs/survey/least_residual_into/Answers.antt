@@ -8,14 +8,23 @@ room p h n le big = omega (arith, pow-le-pow_right {n = 2} (omega arith) {i = p}
 pub measure-requires-clause-places : goal.measure-requires-clause-places
 measure-requires-clause-places c = room c.greatest_halvings-halvings.result c.args.most _ (omega arith) c.requires.places
 
-pub lower_bound-requires-clause-sums : goal.lower_bound-requires-clause-sums
-lower_bound-requires-clause-sums c = omega (arith, pow-le-pow_right {n = 2} (omega arith) {i = c.greatest_halvings-halvings.result} {j = c.args.most} (omega arith))
+pub lower_bound-bound-requires-clause-sums : goal.lower_bound-bound-requires-clause-sums
+lower_bound-bound-requires-clause-sums c = omega (arith, pow-le-pow_right {n = 2} (omega arith) {i = c.greatest_halvings-halvings.result} {j = c.args.most} (omega arith))
 
-pub lower_bound-requires-clause-widths : goal.lower_bound-requires-clause-widths
-lower_bound-requires-clause-widths c = λ p j low high b. c.measure.ensures.widths p j (omega arith) (omega arith) b
+pub lower_bound-bound-requires-clause-widths : goal.lower_bound-bound-requires-clause-widths
+lower_bound-bound-requires-clause-widths c = λ p j low high b. c.measure.ensures.widths p j (omega arith) (omega arith) b
 
-pub lower_bound-requires-clause-places : goal.lower_bound-requires-clause-places
-lower_bound-requires-clause-places c = room c.greatest_halvings-halvings.result c.args.most _ (omega arith) (omega arith)
+pub lower_bound-bound-requires-clause-places : goal.lower_bound-bound-requires-clause-places
+lower_bound-bound-requires-clause-places c = room c.greatest_halvings-halvings.result c.args.most _ (omega arith) (omega arith)
+
+pub reaches-requires-clause-sums : goal.reaches-requires-clause-sums
+reaches-requires-clause-sums c = omega (arith, pow-le-pow_right {n = 2} (omega arith) {i = c.greatest_halvings-halvings.result} {j = c.args.most} (omega arith))
+
+pub reaches-requires-clause-widths : goal.reaches-requires-clause-widths
+reaches-requires-clause-widths c = λ p j low high b. c.measure.ensures.widths p j (omega arith) (omega arith) b
+
+pub reaches-requires-clause-places : goal.reaches-requires-clause-places
+reaches-requires-clause-places c = room c.greatest_halvings-halvings.result c.args.most _ (omega arith) (omega arith)
 
 pub survey-found-requires-clause-sums : goal.survey-found-requires-clause-sums
 survey-found-requires-clause-sums c = omega (arith, pow-le-pow_right {n = 2} (omega arith) {i = c.greatest_halvings-halvings.result} {j = c.args.most} (omega arith))

@@ -1,4 +1,4 @@
-use Rattle.std.proofs.Common.{arith, refl, ◌+◌, ◌*◌, ◌<◌, ◌^◌}
+use Rattle.std.proofs.Common.{arith, ◌+◌, ◌*◌, ◌<◌, ◌^◌}
 use Rattle.flac_subframe.proofs.Orders.{place_within}
 use Rattle.flac_subframe.proofs.survey.tabulate.Goals as goal
 
@@ -7,12 +7,7 @@ compare_down-requires-clause-start c = λ p j le b.
     let h : 2 ^ p + j < 2 * c.power-count.result = omega (arith, place_within p j c.args.halvings le b) in
     c.clear.ensures (2 ^ p + j) h
 
-pub compare-requires-clause-start : goal.compare-requires-clause-start
-compare-requires-clause-start c = λ p j le b.
+pub compare-requires-2-clause-start : goal.compare-requires-2-clause-start
+compare-requires-2-clause-start c = λ p j le b.
     let h : 2 ^ p + j < 2 * c.power-count.result = omega (arith, place_within p j c.args.halvings le b) in
-    rw (c.copy.ensures (2 ^ p + j) h) (c.compare-settled.ensures.entries p j le b)
-
-pub returns-else-not-settled-clause-more : goal.returns-else-not-settled-clause-more
-returns-else-not-settled-clause-more c = λ p j le b.
-    let h : 2 ^ p + j < 2 * c.power-count.result = omega (arith, place_within p j c.args.halvings le b) in
-    rw (c.copy.ensures (2 ^ p + j) h) (c.if-not-settled.ensures.settled refl p j le b)
+    rw (c.copy.ensures (2 ^ p + j) h) (c.compare.ensures.entries p j le b)

@@ -1,7 +1,7 @@
 use Rattle.std.proofs.Common.{rules, arith, w32, SFits}
 use Rattle.std.proofs.lemmas.Int.{to_z-of_z}
 use Rattle.flac_cli.proofs.Rows.{sample_pushed}
-use Rattle.flac_cli.proofs.raw.channel_of.Goals as goal
+use Rattle.flac_cli.proofs.raw.channel_in.Goals as goal
 
 pub loop-i-preserved : goal.loop-i-preserved
 loop-i-preserved c =

@@ -1,0 +1,50 @@
+-- What the fixed predictors leave of samples of few bits is in the range of a residual.
+use Rattle.std.proofs.Common.{inl, inr, refl, ℕ, zero, suc, ◌+◌, ◌-◌, ◌≤◌, arith, ℤ, pos, ◌-ℤ◌, List, [], ◌∷◌, length, All}
+use Rattle.std.specs.List.{range_with_len}
+use Rattle.std.proofs.lemmas.Int.{ints}
+use Rattle.std.proofs.lemmas.Bool.{cases_lt}
+use Rattle.std.proofs.lemmas.List.Elements.{All-map}
+use Rattle.std.proofs.Math.ListN.{get_or-eq_default}
+use Rattle.flac_bits.specs.Signed.{FitsBits}
+use Rattle.flac_bits.specs.Rice.{IsResidual}
+use Rattle.flac_subframe.specs.Numbers.{sample_at}
+use Rattle.flac_subframe.specs.Prediction.{prediction, fixed_coefficients}
+use Rattle.flac_subframe.specs.Bodies.{difference, differences}
+use Rattle.flac_subframe.proofs.Bounds.{fits_more}
+use Rattle.flac_subframe.proofs.Differences.{length-fixed}
+use Rattle.flac_subframe.proofs.FixedSums.{no_terms, one_term, two_terms, three_terms, four_terms}
+use Rattle.flac_subframe.proofs.Nearest.{HoldsLast, predicted_after}
+
+module _ (x a b c d : ℤ) (fx : FitsBits 27 x) (fa : FitsBits 27 a) (fb : FitsBits 27 b) (fc : FitsBits 27 c) (fd : FitsBits 27 d) where
+  within : (o : ℕ) → o ≤ 4 → IsResidual (x -ℤ prediction (fixed_coefficients o) 0 (d ∷ c ∷ b ∷ a ∷ []) 4)
+  within zero few = rw (no_terms a b c d) (record { low = omega (arith, ints, fx.low, fx.high); high = omega (arith, ints, fx.low, fx.high) })
+  within (suc zero) few = rw (one_term a b c d) (record { low = omega (arith, ints, fx.low, fx.high, fa.low, fa.high); high = omega (arith, ints, fx.low, fx.high, fa.low, fa.high) })
+  within (suc (suc zero)) few = rw (two_terms a b c d) (record { low = omega (arith, ints, fx.low, fx.high, fa.low, fa.high, fb.low, fb.high); high = omega (arith, ints, fx.low, fx.high, fa.low, fa.high, fb.low, fb.high) })
+  within (suc (suc (suc zero))) few = rw (three_terms a b c d) (record { low = omega (arith, ints, fx.low, fx.high, fa.low, fa.high, fb.low, fb.high, fc.low, fc.high); high = omega (arith, ints, fx.low, fx.high, fa.low, fa.high, fb.low, fb.high, fc.low, fc.high) })
+  within (suc (suc (suc (suc zero)))) few = rw (four_terms a b c d) (record { low = omega (arith, ints, fx.low, fx.high, fa.low, fa.high, fb.low, fb.high, fc.low, fc.high, fd.low, fd.high); high = omega (arith, ints, fx.low, fx.high, fa.low, fa.high, fb.low, fb.high, fc.low, fc.high, fd.low, fd.high) })
+  within (suc (suc (suc (suc (suc n))))) few = absurd (omega arith)
+
+module _ (o : ℕ) (s : List ℤ) (few : o ≤ 4) (fits : (k : ℕ) → FitsBits 27 (sample_at s k)) where
+  one_narrow : (j : ℕ) → IsResidual (difference (fixed_coefficients o) 0 s j)
+  unfolding difference
+  one_narrow j =
+      let i : ℕ = o + j in
+      let wide : (k : ℕ) → FitsBits 33 (sample_at s k) = λ k. fits_more 27 (sample_at s k) (omega arith) (fits k) in
+      let last : HoldsLast o s i (sample_at s (i - 1)) (sample_at s (i - 2)) (sample_at s (i - 3)) (sample_at s (i - 4)) = record {
+        one = λ h. refl;
+        two = λ h. refl;
+        three = λ h. refl;
+        four = λ h. refl;
+        first_fits = wide (i - 1);
+        second_fits = wide (i - 2);
+        third_fits = wide (i - 3);
+        fourth_fits = wide (i - 4);
+      } in
+      let is = predicted_after o s i (sample_at s (i - 1)) (sample_at s (i - 2)) (sample_at s (i - 3)) (sample_at s (i - 4)) few (omega arith) last in
+      rw (length-fixed o few, ← is) (within (sample_at s i) (sample_at s (i - 1)) (sample_at s (i - 2)) (sample_at s (i - 3)) (sample_at s (i - 4)) (fits i) (fits (i - 1)) (fits (i - 2)) (fits (i - 3)) (fits (i - 4)) o few)
+
+pub narrow_differences : (o : ℕ) (s : List ℤ) → o ≤ 4 → All (FitsBits 27) s → All IsResidual (differences (fixed_coefficients o) 0 s)
+narrow_differences o s few all =
+    let zero_fits : FitsBits 27 (pos 0) = record { low = omega (arith, ints); high = omega (arith, ints) } in
+    let fits : (k : ℕ) → FitsBits 27 (sample_at s k) = λ k. elim (cases_lt k (length s)) [ inl b ↦ all k (pos 0) b | inr b ↦ rw (get_or-eq_default s (pos 0) {n = k} b) zero_fits ] in
+    All-map IsResidual (difference (fixed_coefficients o) 0 s) (range_with_len 0 (length s - length (fixed_coefficients o))) (λ k d h. one_narrow o s few fits _)
