@@ -35,3 +35,5 @@ pub mod Entries16
 pub mod Entries32
 pub mod Eights
 pub mod Stretches
+pub mod Counting
+pub mod Telling

@@ -56,8 +56,11 @@ fn put_groups<W: Target>(writer: &mut BitWriter<W>, count: u32, value: u64) -> R
     Ok(())
 }
 
-/// Writes the number in the shortest of its forms.
-pub fn write_number<W: Target>(writer: &mut BitWriter<W>, value: u64) -> Result<(), Why>
+/// Writes a number below 2^36 as a coded number, in the shortest of its forms (RFC 9639, section 9.1.5): 1 to 7 bytes.
+///
+/// # Errors
+/// [`Why::Write`] if the target fails.
+pub fn write_number<W: Target>(value: u64, writer: &mut BitWriter<W>) -> Result<(), Why>
     requires { value < 2 ^ 36 }
     ensures { Writes (number_spelling value) writer.old writer.new result }
 {

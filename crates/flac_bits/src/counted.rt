@@ -30,6 +30,18 @@ impl<T> Counted<T> {
             room: u64::MAX,
         }
     }
+
+    /// The device again.
+    pub fn into_inner(self) -> T
+        ensures { result ≡ self.device }
+    {
+        let Counted {
+            device,
+            errors: _,
+            room: _,
+        } = self;
+        device
+    }
 }
 
 impl<T: Read> Source for Counted<T> {

@@ -119,6 +119,14 @@ impl<S: Source> Pieces<S> {
     {
         Pieces { source, most }
     }
+
+    /// The source again, with the bytes that were not asked for yet.
+    pub fn into_inner(self) -> S
+        ensures { result ≡ self.source }
+    {
+        let Pieces { source, most: _ } = self;
+        source
+    }
 }
 
 impl<S: Source> Source for Pieces<S> {

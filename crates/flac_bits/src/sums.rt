@@ -235,6 +235,14 @@ pub fn crc16(bytes: &[u8]) -> u16
     checked16(0, bytes)
 }
 
+/// The checksum of an Ogg page whose own field for it is zero (RFC 3533, section 6): generator 04C11DB7, from 0, no reflection.
+#[tactic(auto, using(crate::proofs::Check::fed_from_zero))]
+pub fn page_sum(bytes: &[u8]) -> u32
+    ensures { result ≡ remainder 32 79764919 (bits_of bytes.now) }
+{
+    crc32_sum(0, bytes)
+}
+
 /// The checks that a reader tells are the remainders of the bits that were read since the checks began.
 pub fn checks_are_remainders()
     ensures { ChecksAreRemainders }

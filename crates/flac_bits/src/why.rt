@@ -5,8 +5,11 @@ ghost use Rattle.flac_bits.specs.declared.why.Why.TheVariants.{Memory};
 ghost use Rattle.flac_bits.specs.Reasons.{number_of};
 
 use std::alloc::{AllocError, AllocFailed};
+use std::fmt;
 
-/// Why something was refused. Each reason has a number, which [`Why::number`] answers.
+/// Why something was refused. Each reason has a number, which [`Why::number`] returns.
+///
+/// It prints as its number and its name: `26 FrameCheck`.
 #[derive(Clone, Copy, Debug, PartialEq, Eq)]
 pub enum Why {
     /// The reader answered an error in this call.
@@ -87,19 +90,21 @@ pub enum Why {
     Spent,
     /// The writer answered an error in this call.
     Write,
-    /// Allowed by the format, and not served yet.
-    NotYet,
 }
 
 impl Why {
-    /// The number of the reason: 1 to 39, and 49 for what is not served yet.
+    /// The number of the reason: 1 to 39.
     pub fn number(self) -> u8
         ensures { result ≡ number_of self }
     {
-        match self {
-            Why::NotYet => 49,
-            other => other as u8 + 1,
-        }
+        self as u8 + 1
+    }
+}
+
+impl fmt::Display for Why {
+    fn fmt<W: fmt::Write>(&self, f: &mut fmt::Formatter<W>) -> fmt::Result {
+        let number = self.number();
+        write!(f, "{number} {self:?}")
     }
 }
 

@@ -48,7 +48,7 @@ fn put_fields<W: Target>(writer: &mut BitWriter<W>, header: &FrameHeader) -> Res
     writer.put(4, header.channel_code as u64)?;
     writer.put(3, header.depth_code as u64)?;
     writer.put(1, 0)?;
-    write_number(writer, header.number)?;
+    write_number(header.number, writer)?;
     put_size(writer, header.size_code, header.size)?;
     put_rate(writer, header.rate_code, header.rate)?;
     Ok(())

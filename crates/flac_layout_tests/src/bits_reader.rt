@@ -236,5 +236,5 @@ fn a_failing_source(rt: HostRuntime) -> Result<(), Fail> {
 fn reasons(rt: HostRuntime) {
     assert_eq!(rt; Why::Read.number(), 1);
     assert_eq!(rt; Why::FrameCheck.number(), 26);
-    assert_eq!(rt; Why::NotYet.number(), 49);
+    assert_eq!(rt; Why::Write.number(), 39);
 }

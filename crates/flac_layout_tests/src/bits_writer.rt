@@ -37,7 +37,7 @@ fn checks(rt: HostRuntime) -> Result<(), Fail> {
 #[test]
 fn number(rt: HostRuntime) -> Result<(), Fail> {
     let mut writer = BitWriter::new(Collected::new(rt.alloc()));
-    write_number(&mut writer, 0x20AC)?;
+    write_number(0x20AC, &mut writer)?;
     writer.finish()?;
     assert_eq!(rt; writer.into_target().bytes(), [0xE2, 0x82, 0xAC].as_slice());
     Ok(())
@@ -47,7 +47,7 @@ fn number(rt: HostRuntime) -> Result<(), Fail> {
 fn greatest_numbers(rt: HostRuntime) -> Result<(), Fail> {
     let mut writer = BitWriter::new(Collected::new(rt.alloc()));
     for number in [127, 128, 65535, 65536, 0x7FFF_FFFF, 0xF_FFFF_FFFF] {
-        write_number(&mut writer, number)?;
+        write_number(number, &mut writer)?;
     }
     writer.finish()?;
     let bytes = [

@@ -1,0 +1,37 @@
+-- What several calls one after another count.
+use Rattle.std.proofs.Common.{◌≡◌, ◌<◌, ◌≤◌, true, Result, sym, ◌∙◌, arith}
+use Rattle.flac_bits.specs.State.{State}
+use Rattle.flac_bits.specs.Layout.{Reason}
+use Rattle.flac_bits.specs.Reading.{Goes}
+use Rattle.flac_bits.specs.declared.why.Why.{Why}
+use Rattle.flac_bits.specs.declared.why.Why.TheVariants.{Read}
+
+-- the clause Counts of a call that answered a value
+abbrev pub Answered : State → State → Type 0
+Answered old new = (old.known ≡ true → new.known ≡ true) × (new.errors ≡ old.errors) × (new.raised ≡ old.raised) × (old.known ≡ true → new.behind ≡ old.behind) × (new.names ≡ old.names)
+
+-- and of one that answered a reason
+abbrev pub Failed : Why → State → State → Type 0
+Failed e old new = (old.errors ≤ new.errors) × (old.known ≡ true → new.errors ≡ old.errors → new.behind ≡ old.behind) × (old.known ≡ true → e ≡ Read → old.raised < new.raised) × (new.names ≡ old.names)
+
+pub answered_then : (old mid new : State) → Answered old mid → Answered mid new → Answered old new
+answered_then old mid new a b = (λ k. b.0 (a.0 k), b.1 ∙ a.1, b.2 ∙ a.2, λ k. b.3 (a.0 k) ∙ a.3 k, b.4 ∙ a.4)
+
+pub failed_then : {e : Why} (old mid new : State) → Answered old mid → Failed e mid new → Failed e old new
+failed_then old mid new a b =
+    let errors : mid.errors ≡ old.errors = a.1 in
+    let raised : mid.raised ≡ old.raised = a.2 in
+    let more : mid.errors ≤ new.errors = b.0 in (
+      omega arith,
+      λ k same. b.1 (a.0 k) (same ∙ sym errors) ∙ a.3 k,
+      λ k q. let lt : mid.raised < new.raised = b.2 (a.0 k) q in omega arith,
+      b.3 ∙ a.4,
+    )
+
+-- a loop that went so far
+pub gone : {Y : Type 0} {old now : State} {rest whole : Result Y Reason} → Goes old now rest whole → Answered old now
+gone h = (h.known, h.errors, h.raised, h.behind, h.names)
+
+-- a refusal behind a call that answered a value
+pub refused_then : {e : Why} (old new : State) → Answered old new → (e ≡ Read → ⊥) → Failed e old new
+refused_then old new a never = (omega (arith, a.1), λ k same. a.3 k, λ k q. absurd (never q), a.4)
