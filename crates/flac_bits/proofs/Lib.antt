@@ -37,3 +37,4 @@ pub mod Eights
 pub mod Stretches
 pub mod Counting
 pub mod Telling
+pub mod LittleNumbers

@@ -22,3 +22,4 @@ pub mod Fencing
 pub mod Reasons
 pub mod Meant
 pub mod Stretches
+pub mod LittleEndian

@@ -1,0 +1,58 @@
+//! Numbers whose lowest byte comes first.
+
+ghost use Rattle.std.specs.Prelude.{◌≢◌, ◌≤◌, ◌+◌, OnOk, IfErr};
+ghost use Rattle.flac_bits.specs.LittleEndian.{little_32, little_64, little_bits};
+ghost use Rattle.flac_bits.specs.Reading.{Counts, Reads};
+ghost use Rattle.flac_bits.specs.Written.{Writes};
+
+use crate::bytes::read_bytes;
+use crate::reader::BitReader;
+use crate::source::Source;
+use crate::target::Target;
+use crate::why::Why;
+use crate::writer::BitWriter;
+use byteorder::{ByteOrder, LittleEndian};
+
+/// A number of four bytes, the lowest first (RFC 9639, section 8.6; RFC 3533, section 6).
+///
+/// # Errors
+/// That of the reader's end: [`Why::Truncated`], [`Why::FrameTooLong`] at a fence, or [`Why::Read`] if the source fails.
+#[tactic(auto, using(crate::proofs::LittleNumbers::bytes_are_little_32))]
+pub fn read_little_32<R: Source>(bits: &mut BitReader<R>) -> Result<u32, Why>
+    ensures spends { OnOk result (bits.new.most + 32 ≤ bits.old.most) }
+    ensures counts { Counts bits.old bits.new result }
+    ensures memory { IfErr result (λ e. e ≢ Why.Memory) }
+    ensures reads { Reads (λ v. v) little_32 bits.old bits.new result }
+{
+    let mut bytes = [0; 4];
+    read_bytes(bits, &mut bytes)?;
+    Ok(LittleEndian::read_u32(&bytes))
+}
+
+/// A number of eight bytes, the lowest first (RFC 3533, section 6).
+///
+/// # Errors
+/// As [`read_little_32`].
+#[tactic(auto, unfolding(crate::specs::LittleEndian::little_64))]
+pub fn read_little_64<R: Source>(bits: &mut BitReader<R>) -> Result<u64, Why>
+    ensures spends { OnOk result (bits.new.most + 64 ≤ bits.old.most) }
+    ensures counts { Counts bits.old bits.new result }
+    ensures memory { IfErr result (λ e. e ≢ Why.Memory) }
+    ensures reads { Reads (λ v. v) little_64 bits.old bits.new result }
+{
+    let low = read_little_32(bits)?;
+    let high = read_little_32(bits)?;
+    Ok(u64::from(low) + 4_294_967_296 * u64::from(high))
+}
+
+/// Writes a number as four bytes, the lowest first (RFC 9639, section 8.6).
+///
+/// # Errors
+/// [`Why::Write`] if the target fails.
+pub fn put_little_32<W: Target>(value: u32, writer: &mut BitWriter<W>) -> Result<(), Why>
+    ensures { Writes (little_bits value) writer.old writer.new result }
+{
+    let mut bytes = [0; 4];
+    LittleEndian::write_u32(&mut bytes, value);
+    writer.put_bytes(&bytes)
+}
