@@ -38,8 +38,8 @@ impl FrameHeader {
         self.variable
     }
 
-    /// Samples a channel, 1 to 65535 (section 9.1.1).
-    pub fn block_size(&self) -> u32
+    /// The block size: how many samples of each channel the frame has, 1 to 65535 (section 9.1.1).
+    pub fn size(&self) -> u32
         ensures size { result ≡ self.now.size }
         ensures least { 1 ≤ result }
         ensures greatest { result ≤ 65535 }

@@ -34,6 +34,15 @@ module _ (depth block limit order : ℕ) where
   fail_then : (f : Residual → Option (List ℤ)) (w : Reason) (d : Cursor) → and_then (run (residual limit order block) d) (λ r g. Ok (residual_values r, g)) ≡ Err w → and_then (run (residual limit order block) d) (λ r g. Ok (f r, g)) ≡ Err w
   fail_then f w d is = rw (fails_before (run (residual limit order block) d) residual_values w is) refl
 
+  -- the warm-up samples were refused
+  pub linear_fails_first : (c : Cursor) (w : Reason) → run (list_of order (signed_field depth)) c ≡ Err w → run (bind (linear depth block limit order) (λ x. done (fitting depth block x))) c ≡ Err w
+  unfolding linear
+  linear_fails_first c w is = rw is refl
+
+  pub fixed_fails_first : (c : Cursor) (w : Reason) → run (list_of order (signed_field depth)) c ≡ Err w → run (bind (fixed depth block limit order) (λ x. done (fitting depth block x))) c ≡ Err w
+  unfolding fixed
+  fixed_fails_first c w is = rw is refl
+
   module _ (c d : Cursor) (warm_up : List ℤ) (warm : run (list_of order (signed_field depth)) c ≡ Ok (warm_up, d)) where
     fixed_run : run (bind (fixed depth block limit order) (λ x. done (fitting depth block x))) c ≡ and_then (run (residual limit order block) d) (λ r g. Ok (fitting depth block (Fixed warm_up r), g))
     unfolding fixed
@@ -48,6 +57,11 @@ module _ (depth block limit order : ℕ) where
     unfolding fitting
     fixed_read e rest s b long is same =
         fixed_run ∙ values_then (λ r. fitting depth block (Fixed warm_up r)) rest (cond b (Some s) None) d e (λ r v. rw (long, v) same) is
+
+    -- the predictor was refused
+    pub linear_fails_next : (w : Reason) → run (predictor order) d ≡ Err w → run (bind (linear depth block limit order) (λ x. done (fitting depth block x))) c ≡ Err w
+    unfolding linear
+    linear_fails_next w is = rw (warm, is) refl
 
     module _ (f : Cursor) (p : Predictor) (chosen : run (predictor order) d ≡ Ok (p, f)) where
       linear_run : run (bind (linear depth block limit order) (λ x. done (fitting depth block x))) c ≡ and_then (run (residual limit order block) f) (λ r g. Ok (fitting depth block (Linear warm_up p r), g))

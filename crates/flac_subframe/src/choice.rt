@@ -13,7 +13,7 @@ use crate::survey::least_residual_into;
 use arrayvec::ArrayVec;
 
 /// How the samples of a subframe are written.
-#[derive(Drop)]
+#[derive(Drop, Clone, Debug, PartialEq, Eq)]
 pub enum Kind {
     Constant,
     Verbatim,

@@ -13,7 +13,7 @@ use crate::choice::{Kind, choose_body};
 use crate::wasted::drop_wasted;
 
 /// How a subframe is written: how many lowest bits are left out, how the rest is written, and how many bits it all takes.
-#[derive(Drop)]
+#[derive(Drop, Clone, Debug, PartialEq, Eq)]
 pub struct Choice {
     pub(crate) wasted: u32,
     pub(crate) kind: Kind,
@@ -31,6 +31,30 @@ impl Choice {
 
 /// The greatest partition order that is tried, as the subset allows.
 pub const MOST_HALVINGS: u8 = 8;
+
+/// The most samples that a block has.
+pub(crate) const MOST_SAMPLES: usize = 65535;
+
+/// The subframe of the fewest bits for 1 to 65535 samples of a depth of 1 to 33 bits (RFC 9639, section 9.2).
+///
+/// The work is done in arrays of 1.3 MB on the stack. For many blocks [`choose_into`] takes arrays that are used again; it says what is chosen.
+pub fn choose(samples: &[i64], depth: u32) -> Choice
+    requires some { 0 < length samples.now }
+    requires few { length samples.now ≤ 65535 }
+    requires depth { (1 ≤ depth) × (depth ≤ 33) }
+    requires fits { All (FitsBits depth) samples.now }
+    ensures least { IsLeast (λ f. Stands 8 (fixed_below 5) f samples.now) (λ f. length (subframe_spelling depth f)) (form_of result samples.now) }
+    ensures bits { result.bits ≡ length (subframe_spelling depth (form_of result samples.now)) }
+    ensures made { IsMadeOf result samples.now }
+    ensures valid { (limits : Limits) → 8 ≤ limits.partition → IsSubframe depth (length samples.now) limits (form_of result samples.now) }
+    ensures restored { samples_of depth (length samples.now) (form_of result samples.now) ≡ Some samples.now }
+    ensures small { result.bits ≤ 2 ^ 61 }
+{
+    let mut shortened = [0; MOST_SAMPLES];
+    let mut values = [0; MOST_SAMPLES];
+    let mut folds = [0; MOST_SAMPLES];
+    choose_into(samples, depth, &mut shortened, &mut values, &mut folds)
+}
 
 /// The subframe of the fewest bits for samples of a depth, worked out in places that are handed in, each as many as the samples at least.
 ///

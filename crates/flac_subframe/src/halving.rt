@@ -6,7 +6,7 @@ use crate::coding::Coding;
 use arrayvec::ArrayVec;
 
 /// How a residual is written: the bits of a parameter, how often the block is halved, the codings, and the bits that it all takes.
-#[derive(Drop)]
+#[derive(Drop, Clone, Debug, PartialEq, Eq)]
 pub struct ResidualChoice {
     pub parameter_bits: u8,
     pub halvings: u8,

@@ -22,11 +22,11 @@ mod wasted;
 mod widths;
 mod writing;
 
-pub use chosen::{Choice, choose_into};
+pub use chosen::{Choice, choose, choose_into};
 pub use limits::Limits;
 pub use predictors::{predict_fixed, predict_linear};
 pub use promises::{
     family_is_whole, samples_are_restored, subframes_are_read_again, subframes_are_spelled,
 };
 pub use subframe::read_subframe;
-pub use writing::write_subframe_into;
+pub use writing::{write_subframe, write_subframe_into};

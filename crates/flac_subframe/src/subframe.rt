@@ -10,6 +10,7 @@ use crate::limits::Limits;
 use crate::numbers::{power_of_two, repeat};
 use crate::residual::read_residual;
 use crate::restoration::{restore_fixed, restore_linear};
+use arrayvec::ArrayVec;
 use flac_bits::{BitReader, Source, Why};
 
 /// The type of a subframe, and how many of its lowest bits are zeros and left out.
@@ -229,14 +230,9 @@ fn read_linear<R: Source>(
     ensures reads { Reads (λ fits. cond fits (Some samples.new) None)
         (bind (linear depth (length samples.old) limit order) (λ c. done (fitting depth (length samples.old) c))) bits.old bits.new result }
 {
-    let mut coefficients = [0i64; 32];
-    read_linear_into(
-        bits,
-        depth,
-        limit,
-        &mut coefficients[..order as usize],
-        samples,
-    )
+    let mut coefficients: ArrayVec<i64, 32> = ArrayVec::from([0; 32]);
+    coefficients.truncate(order as usize);
+    read_linear_into(bits, depth, limit, coefficients.as_mut_slice(), samples)
 }
 
 /// The samples of a content before the wasted bits are put back, where each fits; else `false`.

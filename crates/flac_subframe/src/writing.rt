@@ -11,7 +11,7 @@ ghost use Rattle.flac_subframe.specs.Cost.{MayCode, MayCodeEach, MayWrite, codin
 ghost use Rattle.flac_subframe.specs.Spelling.{value_spelling, coding_spelling, partition_spelling, residual_spelling, content_spelling, header_spelling, subframe_spelling};
 
 use crate::choice::Kind;
-use crate::chosen::Choice;
+use crate::chosen::{Choice, MOST_SAMPLES};
 use crate::coding::Coding;
 use crate::folding::fold;
 use crate::halving::{ResidualChoice, power};
@@ -209,6 +209,28 @@ fn type_of_kind(kind: &Kind) -> u64
         Kind::Verbatim => 1,
         Kind::Fixed { order, residual: _ } => 8 + *order as u64,
     }
+}
+
+/// Writes the subframe that was chosen for samples of a depth (RFC 9639, section 9.2).
+///
+/// The choice is one that was made of these samples at this depth. The work is done in arrays of 1 MB on the stack; for many blocks
+/// [`write_subframe_into`] takes arrays that are used again. Errors: `Write`.
+pub fn write_subframe<W: Target>(
+    choice: &Choice,
+    samples: &[i64],
+    depth: u32,
+    bits: &mut BitWriter<W>,
+) -> Result<(), Why>
+    requires some { 0 < length samples.now }
+    requires few { length samples.now ≤ 65535 }
+    requires depth { (1 ≤ depth) × (depth ≤ 33) }
+    requires fits { All (FitsBits depth) samples.now }
+    requires made { IsMadeOf choice.now samples.now }
+    ensures { Writes (subframe_spelling depth (form_of choice.now samples.now)) bits.old bits.new result }
+{
+    let mut shortened = [0; MOST_SAMPLES];
+    let mut values = [0; MOST_SAMPLES];
+    write_subframe_into(choice, samples, depth, &mut shortened, &mut values, bits)
 }
 
 /// Writes the subframe that was chosen for samples of a depth, with places for them and for the residual, which are overwritten.
