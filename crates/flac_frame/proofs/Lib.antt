@@ -17,3 +17,4 @@ pub mod Pairs
 pub mod PairLeast
 pub mod Encodings
 pub mod WholeFamily
+pub mod Sizes

@@ -153,4 +153,12 @@ impl Audio {
     {
         self.len() == 0
     }
+
+    /// The samples of each channel, given back.
+    pub fn into_channels(self) -> Vec<Vec<i32>>
+        ensures { map (λ c. c.items) result.items ≡ self.channels }
+    {
+        let Audio { channels, .. } = self;
+        channels
+    }
 }

@@ -1,6 +1,6 @@
 //! Frames, written.
 
-ghost use Rattle.std.specs.Prelude.{◌≡◌, ◌≤◌, ◌<◌, ◌+◌, ◌-◌, ◌^◌, map, length, All, IfOk, IfErr};
+ghost use Rattle.std.specs.Prelude.{◌≡◌, ◌≤◌, ◌<◌, ◌+◌, ◌-◌, ◌*◌, ◌^◌, true, map, length, All, IfOk, IfErr};
 ghost use Rattle.flac_bits.specs.Signed.{FitsBits};
 ghost use Rattle.flac_bits.specs.Written.{Writes};
 ghost use Rattle.flac_frame.specs.Audio.{samples_each};
@@ -268,14 +268,17 @@ fn encode_first<W: Target>(
 /// (section 9.1.3), whichever takes the fewest bits; among equals the first of these.
 ///
 /// The range lies in the samples and has 1 sample at least, and as many as the buffers have places for at most; the number is below 2^31.
-/// Refuses [`Why::Write`] alone, where the target does.
+/// Returns how many bytes the frame has, 1 to 16777215.
+///
+/// # Errors
+/// [`Why::Write`] alone, if the target answers an error.
 pub fn encode_frame<W: Target>(
     audio: &Audio,
     range: Range<usize>,
     number: u64,
     buffers: &mut EncodeBuffers,
     writer: &mut BitWriter<W>,
-) -> Result<(), Why>
+) -> Result<u64, Why>
     requires some { range.start < range.end }
     requires within { range.end ≤ samples_each audio.now.channels }
     requires room { range.end - range.start ≤ buffers.old }
@@ -283,7 +286,11 @@ pub fn encode_frame<W: Target>(
     requires whole { writer.old.mark.unread ≡ 0 }
     ensures kept { buffers.new ≡ buffers.old }
     ensures wrote { WritesFrame audio.now (range.end - range.start) number (block_of range.start (range.end - range.start) audio.now.channels) writer.old writer.new result }
+    ensures counted { IfOk result (λ bytes. writer.new.mark.bytes ≡ writer.old.mark.bytes + bytes) }
+    // The count of the writer stops at 2^64 - 1.
+    ensures bytes { IfOk result (λ bytes. writer.old.known ≡ true → writer.new.mark.bytes < 2 ^ 64 - 1 → length writer.new.bits ≡ length writer.old.bits + 8 * bytes) }
 {
+    let before = writer.bytes_written();
     encode_first(
         audio,
         range.start,
@@ -297,5 +304,6 @@ pub fn encode_frame<W: Target>(
         &mut buffers.values,
         &mut buffers.folds,
         writer,
-    )
+    )?;
+    Ok(writer.bytes_written() - before)
 }

@@ -1,8 +1,13 @@
 //! Why something cannot be encoded.
 
+ghost use Rattle.std.specs.Prelude.{◌≡◌};
+ghost use Rattle.flac_frame.specs.Setup.{number_of};
+
 use thiserror::Error;
 
-/// Why samples or a plan are refused.
+/// Why samples or a plan are refused. Each reason has a number, which [`SetupFault::number`] returns.
+///
+/// It prints as its number and its name: `44 SampleTooLarge`.
 #[derive(Clone, Copy, Debug, PartialEq, Eq, Error)]
 pub enum SetupFault {
     /// The rate is 0, or no frame header of the streamable subset can tell it.
@@ -29,4 +34,13 @@ pub enum SetupFault {
     /// A seek table would have more points than a block has room for.
     #[error("47 TooManyPoints")]
     TooManyPoints,
+}
+
+impl SetupFault {
+    /// The number of the reason: 40 to 47.
+    pub fn number(self) -> u8
+        ensures { result ≡ number_of self }
+    {
+        self as u8 + 40
+    }
 }

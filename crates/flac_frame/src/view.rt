@@ -3,7 +3,7 @@
 ghost use Rattle.std.specs.Prelude.{◌≡◌, ◌<◌, ◌≤◌, ◌*◌, length, slice_index_or, [], nat_eq};
 
 /// A frame, lent by the buffers that it was read into.
-#[derive(Clone, Copy)]
+#[derive(Clone, Copy, Debug, PartialEq, Eq)]
 pub struct FrameView<'a> {
     pub(crate) samples: &'a [i32],
     pub(crate) channels: usize,
