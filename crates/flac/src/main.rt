@@ -17,7 +17,9 @@ mod sweep_tests;
 mod tests;
 
 use flac_bits::Counted;
-use flac_cli::{Job, LineFault, job, run};
+use flac_cli::run;
+use flac_jobs::{Job, LineFault};
+use flac_words::job;
 use std::fs::File;
 use std::io;
 use std::process::ExitCode;
