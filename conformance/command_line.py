@@ -1,7 +1,56 @@
 """Cases of the command line: files that are not there, refused words."""
+import os
+
 import program
 import vectors
-from program import Wrong
+from program import Wrong, expect, read
+
+
+def spellings(bench, path):
+    """The ways in which OUT can name the file at `path`: (name, word)."""
+    folder, name = os.path.split(path)
+    below = bench.path("")
+    os.mkdir(below)
+    symbolic, of_folder, hard = bench.path(), bench.path(""), bench.path()
+    os.symlink(path, symbolic)
+    os.symlink(folder, of_folder)
+    os.link(path, hard)
+    yield "same path", path
+    yield "./", os.path.join(folder, ".", name)
+    yield "..", os.path.join(below, "..", name)
+    yield "relative path", os.path.relpath(path)
+    yield "symbolic link", symbolic
+    yield "symbolic link to its folder", os.path.join(of_folder, name)
+    yield "hard link", hard
+
+
+def output_is_input(bench, data, words):
+    """A job whose OUT is its IN, however it is spelled, is refused, and the file keeps its bytes."""
+    path = bench.put(data)
+    for name, out in spellings(bench, path):
+        for given, written in ((path, out), (out, path)):
+            found, printed, err = program.call(words[0], given, written, *words[1:])
+            if (found, printed, err) != (1, b"", f"flac: {written}: cannot be created\n".encode()):
+                raise Wrong(f"{name}: status {found}, {err[:200]!r}")
+            if read(path) != data:
+                raise Wrong(f"{name}: the file lost its bytes")
+
+
+def output_is_another(bench, data, words):
+    """A longer file that is there already is written anew, also through a symbolic link, and IN keeps its bytes."""
+    path, out, link = bench.put(data), bench.put(bytes(100000)), bench.path()
+    os.symlink(out, link)
+    program.succeeds(words[0], path, link, *words[1:])
+    due = bench.path()
+    program.succeeds(words[0], path, due, *words[1:])
+    expect(read(out), read(due))
+    expect(read(path), data)
+
+
+def said_in_help(command):
+    text = " ".join(program.succeeds(command, "--help").decode().split())
+    if "OUT has to be another file than IN" not in text:
+        raise Wrong("--help does not say that OUT has to be another file than IN")
 
 
 def cases(bench):
@@ -26,3 +75,9 @@ def cases(bench):
     yield "Ogg and seek table", lambda: line(["encode", good, bench.path(), *encode, "--ogg", "--seek-every", "5"], 2,
                                               "flac: command: --ogg with --seek-every\n")
     yield "list, no such file", lambda: line(["list", absent], 1, f"flac: {absent}: cannot be opened\n")
+    jobs = [("decode", vectors.ROW_1, ["decode"]), ("retag", vectors.ROW_1, ["retag", "A=b"]), ("encode", bytes(400), ["encode", *encode])]
+    for name, data, words in jobs:
+        yield f"{name}, OUT is IN", lambda data=data, words=words: output_is_input(bench, data, words)
+        yield f"{name}, OUT is another file", lambda data=data, words=words: output_is_another(bench, data, words)
+        yield f"{name}, OUT is no file", lambda data=data, words=words: program.succeeds(words[0], bench.put(data), "/dev/null", *words[1:])
+        yield f"{name}, help on OUT", lambda words=words: said_in_help(words[0])

@@ -3,6 +3,7 @@
 
 #[cfg(test)]
 mod encoding_tests;
+mod files;
 #[cfg(test)]
 mod list_tests;
 #[cfg(test)]
@@ -16,8 +17,11 @@ mod sweep_tests;
 #[cfg(test)]
 mod tests;
 
+use crate::files::create;
 use flac_bits::Counted;
-use flac_cli::{Job, LineFault, job, run};
+use flac_cli::run;
+use flac_jobs::{Job, LineFault};
+use flac_words::job;
 use std::fs::File;
 use std::io;
 use std::process::ExitCode;
@@ -36,7 +40,7 @@ fn main(rt: HostRuntime) -> io::Result<ExitCode> {
 /// The words of the command line, the program's name first.
 ///
 /// # Errors
-/// A word that is not text, or want of memory.
+/// A word that is not text, or out of memory.
 fn given_words(rt: &HostRuntime) -> Result<Vec<String>, LineFault> {
     let given = std::env::args(rt).map_err(|error| LineFault::reading(error.kind()))?;
     given
@@ -44,7 +48,7 @@ fn given_words(rt: &HostRuntime) -> Result<Vec<String>, LineFault> {
         .map_err(|_| LineFault::no_memory())
 }
 
-/// Prints what stands in place of a job, and answers its status.
+/// Prints what there is in place of a job, and returns its status.
 ///
 /// # Errors
 /// The help cannot be printed.
@@ -57,7 +61,7 @@ fn tell(rt: &HostRuntime, fault: &LineFault) -> io::Result<ExitCode> {
     Ok(ExitCode::from(fault.status))
 }
 
-/// Opens the job's files, and does it. Answers the status.
+/// Opens the job's files, and does it. Returns the status.
 fn perform(rt: &HostRuntime, job: &Job<'_>) -> u8 {
     let alloc = rt.alloc();
     let input = job.input();
@@ -65,17 +69,18 @@ fn perform(rt: &HostRuntime, job: &Job<'_>) -> u8 {
         let _ = eprintln!(rt; "flac: {input}: cannot be opened");
         return 1;
     };
-    let mut source = Counted::new(file);
     let mut out = Counted::new(rt.stdout());
     let mut err = Counted::new(rt.stderr());
     let Some(path) = job.output() else {
+        let mut source = Counted::new(file);
         let mut nothing = Counted::new(io::sink());
         return run(alloc, job, &mut source, &mut nothing, &mut out, &mut err);
     };
-    let Ok(file) = File::create(rt, path) else {
+    let Ok(output) = create(rt, path, &file, input) else {
         let _ = eprintln!(rt; "flac: {path}: cannot be created");
         return 1;
     };
-    let mut target = Counted::new(file);
+    let mut source = Counted::new(file);
+    let mut target = Counted::new(output);
     run(alloc, job, &mut source, &mut target, &mut out, &mut err)
 }

@@ -12,8 +12,8 @@ use Rattle.flac_native.specs.Seeking.{points_of, table_of}
 use Rattle.flac_native.proofs.Messages.{rows_split}
 use Rattle.flac_native.proofs.Planned.{planned}
 use Rattle.flac_cli.specs.Encoded.{comment_list, EncodesIn, parts_in}
-use Rattle.flac_cli.specs.declared.encoding.Container.{Container}
-use Rattle.flac_cli.specs.declared.encoding.Container.TheVariants as container
+use Rattle.flac_jobs.specs.declared.formats.Container.{Container}
+use Rattle.flac_jobs.specs.declared.formats.Container.TheVariants as container
 use Rattle.flac_cli.specs.Samples.{all_samples}
 
 part_row : (width start size k : ℕ) (channels : List (List ℤ)) → k < size → row_bytes width (block_of start size channels) k ≡ row_bytes width channels (start + k)

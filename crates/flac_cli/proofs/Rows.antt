@@ -11,7 +11,7 @@ use Rattle.flac_native.specs.Given.{sound_message}
 use Rattle.std.proofs.lemmas.Bool.Decides.{nat_tests}
 use Rattle.flac_header.specs.Choice.{depth_choice}
 use Rattle.flac_frame.specs.Audio.{Sound, IsSound, samples_each}
-use Rattle.flac_cli.specs.declared.encoding.Format.{Format}
+use Rattle.flac_jobs.specs.declared.formats.Format.{Format}
 use Rattle.flac_cli.specs.Raw.{IsChannel, AreChannels, IsRaw}
 
 -- the first so many channels

@@ -11,11 +11,11 @@ use Rattle.flac_native.specs.Writing.{Encodes, BeginsEncoding}
 use Rattle.flac_ogg.specs.Writing.{EncodesOgg, BeginsOgg}
 use Rattle.flac_cli.specs.Raw.{IsRaw}
 use Rattle.flac_cli.specs.Samples.{all_samples}
-use Rattle.flac_cli.specs.declared.encoding.Format.{Format}
-use Rattle.flac_cli.specs.declared.encoding.Container.{Container}
-use Rattle.flac_cli.specs.declared.encoding.Container.TheVariants as container
-use Rattle.flac_cli.specs.declared.jobs.Job.{Job}
-use Rattle.flac_cli.specs.declared.jobs.Job.TheVariants as job
+use Rattle.flac_jobs.specs.declared.formats.Format.{Format}
+use Rattle.flac_jobs.specs.declared.formats.Container.{Container}
+use Rattle.flac_jobs.specs.declared.formats.Container.TheVariants as container
+use Rattle.flac_jobs.specs.declared.jobs.Job.{Job}
+use Rattle.flac_jobs.specs.declared.jobs.Job.TheVariants as job
 
 -- the program's name, and the words as comments (RFC 9639, section 8.6)
 abbrev pub comments_of : List (List ℕ) → Comments

@@ -1,4 +1,3 @@
-pub mod Asks
 pub mod Encoded
 pub mod Fronts
 pub mod Raw

@@ -5,7 +5,7 @@ use Rattle.flac_bits.specs.Signed.{FitsBits}
 use Rattle.flac_frame.specs.Audio.{Sound, IsSound, samples_each}
 use Rattle.flac_native.specs.Given.{sound_message}
 use Rattle.flac_native.specs.Message.{sample_bytes, rows_bytes}
-use Rattle.flac_cli.specs.declared.encoding.Format.{Format}
+use Rattle.flac_jobs.specs.declared.formats.Format.{Format}
 
 -- These are the samples of one channel in rows of so many bytes: each stands behind the same number of bytes of its row, in so
 -- many bytes.

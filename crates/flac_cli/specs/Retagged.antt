@@ -5,8 +5,8 @@ use Rattle.flac_bits.specs.State.{Behind, short_of}
 use Rattle.flac_native.specs.Decoding.{beginning}
 use Rattle.flac_native.specs.Retag.{Retags}
 use Rattle.flac_cli.specs.Encoded.{comments_of}
-use Rattle.flac_cli.specs.declared.jobs.Job.{Job}
-use Rattle.flac_cli.specs.declared.jobs.Job.TheVariants as job
+use Rattle.flac_jobs.specs.declared.jobs.Job.{Job}
+use Rattle.flac_jobs.specs.declared.jobs.Job.TheVariants as job
 
 -- Behind the bits that were there, the stream was written with the program's name and these words in place of its comments.
 abbrev pub RetagsWith : (words : List (List ℕ)) → (bytes : List ℕ) → Behind → (before after : List Bool) → Type 0

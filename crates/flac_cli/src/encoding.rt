@@ -10,6 +10,7 @@ use crate::raw::{channels_of, read_all};
 use flac_bits::{Source, Target, Why};
 use flac_frame::{Audio, SetupFault};
 use flac_header::{depth_code, rate_code};
+use flac_jobs::{Container, Format};
 use flac_meta::{Block, BlockList, Bytes, Comments, Texts};
 use flac_native::{EncodeFault, Plan, encode};
 use flac_ogg::encode_ogg;
@@ -18,26 +19,6 @@ use std::fmt;
 
 /// The program's name in the streams that it writes.
 const VENDOR: &[u8] = b"flac profile 1";
-
-/// What raw samples are, and how they are cut: samples a second, channels, bits of a sample, samples of a block, and samples from one seek point to the
-/// next, 0 for none.
-#[derive(Clone, Copy, Debug, PartialEq, Eq)]
-pub struct Format {
-    pub rate: u32,
-    pub channels: u32,
-    pub bits: u32,
-    pub block: u32,
-    pub seek_every: u32,
-}
-
-/// What the blocks and frames of a stream stand in.
-#[derive(Clone, Copy, Debug, PartialEq, Eq)]
-pub enum Container {
-    /// Nothing: a native stream (RFC 9639, section 6).
-    Native,
-    /// The packets of an Ogg stream of this serial number (RFC 9639, section 10.1).
-    Ogg { serial: u32 },
-}
 
 /// Why raw samples are not encoded.
 #[derive(Clone, Copy, Debug, PartialEq, Eq)]

@@ -1,4 +1,4 @@
-//! The program `flac` as a library: its command line is a job, and a job is run over a source and targets.
+//! The program `flac` as a library: a job is run over a source and targets.
 #![tactic(auto)]
 
 mod counts;
@@ -7,7 +7,6 @@ mod encoding;
 mod failures;
 mod frames;
 mod fronted;
-mod jobs;
 mod lines;
 mod list;
 mod listing;
@@ -16,9 +15,6 @@ mod retagging;
 mod runs;
 mod samples;
 mod texts;
-mod words;
 
-pub use encoding::{Container, Format};
-pub use jobs::{Job, LineFault};
+pub use flac_jobs::{Container, Format, Job, LineFault};
 pub use runs::run;
-pub use words::job;

@@ -1,7 +1,7 @@
 -- What a job asks for.
 use Rattle.std.specs.Prelude.{ℕ, List, Option, Some, None}
-use Rattle.flac_cli.specs.declared.jobs.Job.{Job}
-use Rattle.flac_cli.specs.declared.jobs.Job.TheVariants as job
+use Rattle.flac_jobs.specs.declared.jobs.Job.{Job}
+use Rattle.flac_jobs.specs.declared.jobs.Job.TheVariants as job
 
 -- the job is a decoding
 abbrev pub AsksDecode : Job → Type 0
@@ -22,7 +22,7 @@ input_of (job.List input) = input.now
 input_of (job.Encode input output format container comments) = input.now
 input_of (job.Retag input output comments) = input.now
 
--- the path of the file that is written, where there is one
+-- the path of the file that is written, if there is one
 abbrev pub output_of : Job → Option (List ℕ)
 output_of (job.Decode input output) = Some output.now
 output_of (job.Encode input output format container comments) = Some output.now

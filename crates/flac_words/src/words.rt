@@ -2,31 +2,30 @@
 
 ghost use Rattle.std.specs.Prelude.{◌≤◌, IfErr};
 
-use crate::encoding::{Container, Format};
-use crate::jobs::{Job, LineFault};
 use clap::builder::ValueParser;
 use clap::error::ErrorKind;
 use clap::{Arg, ArgAction, ArgMatches, Command};
+use flac_jobs::{Container, Format, Job, LineFault};
 use std::alloc::{AllocError, Global};
 use std::borrow::CowStr;
 
 const EXAMPLES: &str = "Examples:
   flac test song.flac             is the stream whole and right?
-  flac list song.flac             what its metadata tells
+  flac list song.flac             its metadata
   flac decode song.flac song.raw  its samples
   flac encode song.raw song.flac --rate 44100 --channels 2 --bits 16
   flac encode song.raw song.oga --ogg --rate 44100 --channels 2 --bits 16
   flac retag song.flac other.flac TITLE=Song
 
-The status is 0 where all is done. Where a stream is refused it is 1, and a line tells
-where and why, as in
+The status is 0 if all is done. It is 1 if a stream is refused, and a line says where and
+why:
   flac: song.flac: frame 3: 26 FrameCheck";
 
 const TEST_EXAMPLE: &str = "Example:
   $ flac test song.flac
   frames 2584 samples 10584000
 
-The samples are those of each channel. Where the stream states their number and their MD5,
+The samples are those of each channel. If the stream states their number and their MD5,
 both were compared. A file that was cut:
   $ flac test cut.flac
   flac: cut.flac: frame 1291: 3 Truncated";
@@ -35,7 +34,8 @@ const DECODE_EXAMPLE: &str = "Example, of a stream of 44100 Hz with two channels
   $ flac decode song.flac song.raw
   $ sox -t raw -r 44100 -c 2 -b 16 -e signed -L song.raw song.wav
 
-What was written before a fault stays in OUT.";
+OUT has to be another file than IN: else it cannot be created, and IN stays as it is. What
+was written before a fault stays in OUT.";
 
 const ENCODE_EXAMPLE: &str =
     "Example, of raw samples of 44100 Hz with two channels of 16 bits, interleaved, little-endian:
@@ -43,14 +43,16 @@ const ENCODE_EXAMPLE: &str =
 
 A sample has whole bytes: of 12 bits two, of 20 bits three. With --seek-every 441000 a seek
 table has a point for each frame that holds the begin of ten seconds. With --ogg the stream
-is an Ogg stream. What was written before a fault stays in OUT.";
+is an Ogg stream. OUT has to be another file than IN: else it cannot be created, and IN
+stays as it is. What was written before a fault stays in OUT.";
 
 const RETAG_EXAMPLE: &str = "Example:
   $ flac retag song.flac other.flac TITLE=Song ARTIST=Someone
 
 STREAMINFO, the other blocks and the frames stay as they are; the frames are not read. A
-stream whose metadata is refused writes nothing. What was written before another fault stays
-in OUT.";
+stream whose metadata is refused writes nothing. OUT has to be another file than IN: else it
+cannot be created, and IN stays as it is. What was written before another fault stays in
+OUT.";
 
 const LIST_EXAMPLE: &str = "Example:
   $ flac list song.flac
@@ -63,10 +65,11 @@ const LIST_EXAMPLE: &str = "Example:
 
 Bytes of a text outside 20 to 7E, and the backslash, are shown as \\x and two digits.";
 
-/// Reads the words, of which the first is the program's name.
+/// Reads the words of the command line, of which the first is the program's name.
 ///
 /// # Errors
-/// What to print in place of a job: the help that was asked for, or why the words are refused.
+/// What to print in place of a job: the help that was asked for (status 0), that memory ran out (1), or why the words
+/// are refused (2).
 pub fn job<'a>(alloc: Global, words: &'a [String]) -> Result<Job<'a>, LineFault>
     ensures { IfErr result (λ fault. fault.status ≤ 2) }
 {
@@ -104,7 +107,7 @@ fn has_table_in_ogg(job: &Job<'_>) -> bool {
     }
 }
 
-/// The line of clap's refusal.
+/// What to print for a refusal of `clap`: help is one of them.
 fn refused(alloc: Global, error: &clap::Error) -> LineFault
     ensures { result.status ≤ 2 }
 {
@@ -119,6 +122,7 @@ fn refused(alloc: Global, error: &clap::Error) -> LineFault
     LineFault::no_memory()
 }
 
+/// The job of the words, or `None` if a word is missing.
 fn parsed<'a>(alloc: Global, words: &'a [String]) -> Result<Option<Job<'a>>, clap::Error> {
     let matches = command(alloc)?.try_get_matches_from(words)?;
     let Some((name, given)) = matches.subcommand() else {
@@ -162,7 +166,7 @@ fn parsed<'a>(alloc: Global, words: &'a [String]) -> Result<Option<Job<'a>>, cla
     }))
 }
 
-/// The format that the options tell.
+/// The format of raw samples by the options.
 fn format_of(given: &ArgMatches<'_>) -> Option<Format> {
     Some(Format {
         rate: given.get_one("rate")?,
@@ -173,7 +177,7 @@ fn format_of(given: &ArgMatches<'_>) -> Option<Format> {
     })
 }
 
-/// What the options tell the stream to stand in.
+/// The container of the stream by the options.
 fn container_of(given: &ArgMatches<'_>) -> Option<Container> {
     if !given.get_flag("ogg") {
         return Some(Container::Native);

@@ -1,0 +1,45 @@
+//! The files of a job.
+
+use std::fs::{File, OpenOptions};
+use std::io;
+use std::io::ErrorKind;
+use std::os::unix::fs::MetadataExt;
+
+/// Opens the file that a job writes, and leaves it empty. A file that is the job's input stays as it is.
+///
+/// The paths are compared first, with `.`, `..` and symbolic links resolved. Then the file is opened as it is, and
+/// its device and inode are compared with those of the input, so that a hard link is seen too. Only then does it lose
+/// what it holds. Terminals, pipes and devices hold nothing that an input could lose, and stay as they are.
+///
+/// # Errors
+/// The file cannot be created, or it is the input.
+pub(crate) fn create(
+    rt: &HostRuntime,
+    path: &str,
+    input: &File,
+    input_path: &str,
+) -> io::Result<File> {
+    if is_one_path(rt, path, input_path) {
+        return Err(io::Error::from(ErrorKind::AlreadyExists));
+    }
+    let file = OpenOptions::new().write(true).create(true).open(rt, path)?;
+    let (found, read) = (file.metadata()?, input.metadata()?);
+    if found.dev() == read.dev() && found.ino() == read.ino() {
+        return Err(io::Error::from(ErrorKind::AlreadyExists));
+    }
+    if found.is_file() {
+        file.set_len(0)?;
+    }
+    Ok(file)
+}
+
+/// Whether both paths name one file that is there.
+fn is_one_path(rt: &HostRuntime, path: &str, other: &str) -> bool {
+    match (
+        std::fs::canonicalize(rt, path),
+        std::fs::canonicalize(rt, other),
+    ) {
+        (Ok(path), Ok(other)) => path.as_str() == other.as_str(),
+        _ => false,
+    }
+}

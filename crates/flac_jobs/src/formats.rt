@@ -1,0 +1,27 @@
+//! The format of raw samples, and the container of a stream.
+
+/// The format of raw samples, and how an encoding divides them into blocks.
+///
+/// A `Format` holds the numbers of the command line as they were given; an encoding refuses those out of range.
+#[derive(Clone, Copy, Debug, PartialEq, Eq)]
+pub struct Format {
+    /// Inter-channel samples a second.
+    pub rate: u32,
+    /// The number of channels.
+    pub channels: u32,
+    /// Bits of a sample.
+    pub bits: u32,
+    /// Inter-channel samples of a block.
+    pub block: u32,
+    /// Inter-channel samples from one seek point to the next; 0: no seek table.
+    pub seek_every: u32,
+}
+
+/// The container of a stream.
+#[derive(Clone, Copy, Debug, PartialEq, Eq)]
+pub enum Container {
+    /// None: a native stream (RFC 9639, section 6).
+    Native,
+    /// An Ogg stream of this serial number (RFC 9639, section 10.1).
+    Ogg { serial: u32 },
+}

@@ -1,0 +1,64 @@
+//! Jobs: what the program is asked for.
+
+ghost use Rattle.std.specs.Prelude.{◌≡◌, option_map};
+ghost use Rattle.flac_jobs.specs.Asks.{input_of, output_of};
+
+use crate::formats::{Container, Format};
+
+/// What the program is asked for: one variant a command, with the command's words.
+///
+/// `input` is the path of the file that is read, `output` of the file that is written.
+#[derive(Debug, Drop, PartialEq, Eq)]
+pub enum Job<'a> {
+    /// Decodes the stream, and prints how many frames and samples it has.
+    Test {
+        input: &'a str,
+    },
+    /// Decodes the stream, and writes its samples.
+    Decode {
+        input: &'a str,
+        output: &'a str,
+    },
+    /// Decodes the stream, and lists its metadata.
+    List {
+        input: &'a str,
+    },
+    /// Encodes raw samples of this format to a native or an Ogg stream with these comments.
+    Encode {
+        input: &'a str,
+        output: &'a str,
+        format: Format,
+        container: Container,
+        comments: Vec<&'a str>,
+    },
+    /// Writes the stream with these comments in place of its own.
+    Retag {
+        input: &'a str,
+        output: &'a str,
+        comments: Vec<&'a str>,
+    },
+}
+
+impl<'a> Job<'a> {
+    /// The path of the file that is read.
+    pub fn input(&self) -> &'a str
+        ensures { result.now ≡ input_of self.now }
+    {
+        match self {
+            Job::Test { input } | Job::List { input } => input,
+            Job::Decode { input, .. } | Job::Encode { input, .. } => input,
+            Job::Retag { input, .. } => input,
+        }
+    }
+
+    /// The path of the file that is written, if there is one.
+    pub fn output(&self) -> Option<&'a str>
+        ensures { option_map (λ path. path.now) result ≡ output_of self.now }
+    {
+        match self {
+            Job::Test { .. } | Job::List { .. } => None,
+            Job::Decode { output, .. } | Job::Encode { output, .. } => Some(output),
+            Job::Retag { output, .. } => Some(output),
+        }
+    }
+}

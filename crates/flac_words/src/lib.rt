@@ -1,0 +1,6 @@
+//! The words of the command line, read as a job.
+#![tactic(auto)]
+
+mod words;
+
+pub use words::job;
