@@ -1,4 +1,4 @@
-//! The least content of a subframe for some samples.
+//! The content of the fewest bits for the samples of a subframe.
 ghost use Rattle.std.specs.Prelude.{◌≡◌, ◌<◌, ◌≤◌, ◌^◌, ◌+◌, ◌++◌, ◌∷◌, [], ◌*◌, List, ℕ, length, All, IsTrue, ◌↔◌, replicate};
 ghost use Rattle.flac_bits.specs.Signed.{FitsBits};
 ghost use Rattle.flac_subframe.specs.Numbers.{sample_at};
@@ -31,7 +31,7 @@ pub enum HeldKind {
     AsFixed(usize),
 }
 
-/// The best so far. Its residual stands in place and is written anew only by a better one.
+/// The best so far. Its residual stays in place and is overwritten only by a better one.
 #[derive(Drop)]
 pub struct Held {
     pub kind: HeldKind,
@@ -58,7 +58,8 @@ pub(crate) fn all_equal(samples: &[i64]) -> bool
     true
 }
 
-/// How many bits a predictor of an order has to stay below to be taken for the best so far: of equals the one of the lower order is.
+/// The number of bits that a predictor of an order must stay below to replace the best so far: of two that take as many, the one of
+/// the lower order is kept.
 fn limit(best: &Held, order: usize) -> u64
     requires { best.now.bits ≤ 2 ^ 60 }
     ensures { (best.now.bits ≤ result) × (result ≤ best.now.bits + 1) }
@@ -69,7 +70,7 @@ fn limit(best: &Held, order: usize) -> u64
     }
 }
 
-/// Adds the absolute values of what each fixed predictor leaves of the samples of a run that have four before them there.
+/// Adds to each fixed predictor's sum the absolute values of its residual in a run, from the run's fifth sample on.
 fn add_left(run: &[i64], sums: &mut [u64; 5]) {
     let mut last = [0i64; 4];
     for (at, sample) in run.iter().enumerate() {
@@ -89,7 +90,8 @@ fn add_left(run: &[i64], sums: &mut [u64; 5]) {
     }
 }
 
-/// The order whose fixed predictor leaves the least sum of absolute values in some short runs of the samples.
+/// The order of the fixed predictor whose residual has the smallest sum of absolute values over eight short runs of the samples. It is a
+/// guess of the best order, which is priced first, so that bounds can rule out the others.
 fn likely_order(samples: &[i64]) -> usize
     ensures { result ≤ 4 }
 {
@@ -106,7 +108,7 @@ fn likely_order(samples: &[i64]) -> usize
     likely
 }
 
-/// The lesser of the best so far and what the fixed predictor of an order gives.
+/// Replaces the best so far by the fixed predictor of an order, if that takes fewer bits.
 fn better_fixed(
     samples: &[i64],
     narrow: bool,
@@ -201,7 +203,7 @@ fn begin(samples: &[i64], bits: u32) -> Held
     }
 }
 
-/// The choice that is held.
+/// The best of all as a choice.
 fn release(held: Held) -> PricedChoice
     ensures { result ≡ priced_as held }
 {
@@ -227,7 +229,7 @@ fn plain(kind: Kind, _residual: ResidualChoice, bits: u64) -> PricedChoice
     PricedChoice { kind, bits }
 }
 
-/// The least choice over the fixed predictors, with partition orders up to the greatest.
+/// The content of the fewest bits: constant, verbatim, or a fixed predictor with a partition order up to the greatest.
 pub(crate) fn choose_body(
     samples: &[i64],
     bits: u32,

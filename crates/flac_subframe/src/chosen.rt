@@ -56,7 +56,8 @@ pub fn choose(samples: &[i64], depth: u32) -> Choice
     choose_into(samples, depth, &mut shortened, &mut values, &mut folds)
 }
 
-/// The subframe of the fewest bits for samples of a depth, worked out in places that are handed in, each as many as the samples at least.
+/// The subframe of the fewest bits for 1 to 65535 samples of a depth of 1 to 33 bits, worked out in the caller's arrays, each at least as
+/// long as the samples, which are overwritten.
 ///
 /// The family is constant, verbatim, and the fixed predictors of order 0 to 4 with either coding method, partition orders up to 8 and every
 /// parameter and escape; the wasted bits are as many as all samples lack. Among equals the first of this order is chosen.

@@ -5,7 +5,7 @@
 pub enum Coding {
     /// As folded numbers under a Rice parameter, 0 to 30.
     Rice(u8),
-    /// As signed numbers of so many bits, 0 to 31.
+    /// As signed numbers of this many bits each, 0 to 31.
     Escape(u8),
 }
 

@@ -10,7 +10,7 @@ ghost use Rattle.flac_subframe.specs.Bodies.{differences};
 use crate::numbers::fits_bits;
 use crate::restoration::predict_after;
 
-/// The sample so many places before an index, 0 where a predictor of the order does not read it.
+/// The sample `back` places before an index, 0 where a predictor of the order does not read it.
 #[inline(always)]
 fn sample_before(samples: &[i64], order: usize, at: usize, back: usize) -> i64
     requires some { 1 ≤ back }

@@ -3,8 +3,8 @@
 ghost use Rattle.std.specs.Prelude.{◌≡◌, ◌≤◌, ◌^◌, ◌↔◌, pos, length, replicate, IsTrue};
 ghost use Rattle.flac_bits.specs.Signed.{FitsBits};
 
-/// Whether a number has a two's complement form of so many bits: moved up by half the range, it is within the range, and so one
-/// comparison tells, with a limit that a loop keeps: beside `1 << bits` the compiler would shift each number.
+/// Whether a number has a two's complement form of `bits` bits. Moved up by half the range it is within the range, so one comparison
+/// decides, and its limit is the same for each number of a loop.
 #[inline(always)]
 pub(crate) fn fits_bits(number: i64, bits: u32) -> bool
     requires positive { 1 ≤ bits }

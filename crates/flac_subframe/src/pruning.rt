@@ -1,4 +1,4 @@
-//! What a residual takes at least, told before its parameters are tried.
+//! Lower bounds on the bits of a residual, known before its parameters are tried.
 
 ghost use Rattle.std.specs.Prelude.{◌≡◌, ◌<◌, ◌≤◌, ◌^◌, ◌+◌, ◌*◌, ℕ, length, map, All, IsTrue, slice_index};
 ghost use Rattle.std.specs.List.{sum_by};
@@ -161,7 +161,7 @@ pub(crate) fn lower_bound(
     bound_parts(values, folds, order, halvings, row, widths, false)
 }
 
-/// The same more closely, behind a rough bound, where that is near enough to what it has to reach.
+/// Whether the close bound shows that the residual takes `below` bits or more. It is worked out only if the rough bound is near that.
 pub(crate) fn reaches(
     values: &[i64],
     folds: &[u32],

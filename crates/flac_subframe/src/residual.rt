@@ -114,7 +114,7 @@ fn read_residual_header<R: Source>(
     Ok((method, times))
 }
 
-/// Fills the places behind the warm-up samples of a block with the residual of a predictor of an order (RFC 9639, section 9.2.7).
+/// Fills the places after the warm-up samples of a block with the residual of a predictor of an order (RFC 9639, section 9.2.7).
 #[tactic(auto, unfolding(crate::specs::Residual::residual))]
 pub(crate) fn read_residual<R: Source>(
     bits: &mut BitReader<R>,

@@ -30,7 +30,7 @@ pub(crate) fn predict_after(order: usize, first: i64, second: i64, third: i64, f
     }
 }
 
-/// The sample so many places before the end of the warm-up samples, 0 where they are fewer.
+/// The sample `back` places before the end of the warm-up samples, 0 if they are fewer.
 #[inline(always)]
 fn warm_up_sample(samples: &[i64], order: usize, back: usize) -> i64
     requires some { 1 ≤ back }

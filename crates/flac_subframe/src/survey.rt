@@ -1,4 +1,4 @@
-//! The least way to write a residual, found from tables and gathered once.
+//! The way to write a residual in the fewest bits: tables give each partition's cost, and the codings are gathered once, for the best.
 
 ghost use Rattle.std.specs.Prelude.{◌≡◌, ◌≢◌, ◌<◌, ◌≤◌, ◌^◌, ◌+◌, ◌-◌, ◌*◌, ◌/◌, ℕ, length, map, All, IsTrue, ◌⊎◌, []};
 ghost use Rattle.flac_bits.specs.Rice.{IsResidual};
@@ -326,7 +326,8 @@ fn take_up(
     into.bits = 6 + bits;
 }
 
-/// The least form of all for the residual of a predictor of an order, where it takes fewer bits than so many.
+/// Puts the residual form of the fewest bits for a predictor of an order into its place, if it takes fewer bits than `below`, and says
+/// whether it does. Cheap lower bounds come first, so that most predictors are refused before their parameters are tried.
 pub(crate) fn least_residual_into(
     values: &[i64],
     folds: &mut [u32],

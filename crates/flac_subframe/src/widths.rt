@@ -29,7 +29,7 @@ fn leaves(values: &[i64], folds: &[u32], order: usize, halvings: u8, widths: &mu
     }
 }
 
-/// The same, each at its place behind the coarser ones.
+/// The same, each at its place after the coarser ones.
 fn lowest(values: &[i64], folds: &[u32], order: usize, halvings: u8, widths: &mut [u8])
     requires few { length values.now + order ≤ 65535 }
     requires folded { folds.now ≡ map folded values.now }
