@@ -115,6 +115,15 @@ impl BlockList {
         }
     }
 
+    /// The blocks as a vector.
+    pub fn into_blocks(self) -> Vec<Block>
+        ensures items { result.items ≡ self }
+        ensures good { list_fault info_seen self ≡ None }
+        ensures fits { AllAre FitsFields self }
+    {
+        self.blocks
+    }
+
     /// The blocks.
     pub fn blocks(&self) -> &[Block]
         ensures items { result.now ≡ self.now }

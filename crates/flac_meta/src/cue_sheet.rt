@@ -68,6 +68,13 @@ impl CueIndices {
         CueIndices { items }
     }
 
+    /// The places as a vector.
+    pub fn into_vec(self) -> Vec<CueIndex>
+        ensures { result.items ≡ self }
+    {
+        self.items
+    }
+
     /// The places.
     pub fn as_slice(&self) -> &[CueIndex]
         ensures { result.now ≡ self.now }
@@ -143,6 +150,13 @@ impl CueTracks {
         ensures { result ≡ tracks.items }
     {
         CueTracks { tracks }
+    }
+
+    /// The tracks as a vector.
+    pub fn into_vec(self) -> Vec<CueTrack>
+        ensures { result.items ≡ self }
+    {
+        self.tracks
     }
 
     /// The tracks.

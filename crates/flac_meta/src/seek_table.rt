@@ -70,6 +70,13 @@ impl SeekTable {
         SeekTable { points }
     }
 
+    /// The points as a vector.
+    pub fn into_vec(self) -> Vec<SeekPoint>
+        ensures { result.items ≡ self }
+    {
+        self.points
+    }
+
     /// The points.
     pub fn points(&self) -> &[SeekPoint]
         ensures { result.now ≡ self.now }
