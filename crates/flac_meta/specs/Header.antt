@@ -1,5 +1,5 @@
 -- The header of a metadata block (RFC 9639, section 8.1).
-use Rattle.std.specs.Prelude.{ℕ, ◌%◌, Bool, true, false, not, ◌&&◌, ◌||◌, [], ◌∷◌, nat_eq, nat_lt}
+use Rattle.std.specs.Prelude.{ℕ, ◌%◌, Bool, false, not, ◌&&◌, ◌||◌, [], ◌∷◌, nat_eq, nat_lt}
 use Rattle.flac_bits.specs.Layout.{Layout, done, judge, ◌>>=◌, bits}
 use Rattle.flac_bits.specs.declared.why.Why.TheVariants.{NotStreamInfoFirst, ForbiddenType, RepeatedBlock, BlockLength}
 use Rattle.flac_meta.specs.declared.seen.Seen.{Seen}

@@ -1,5 +1,5 @@
 -- Which blocks may be written, and which may stand behind STREAMINFO in one list (RFC 9639, section 8.1).
-use Rattle.std.specs.Prelude.{ℕ, Bool, true, false, not, ◌||◌, ◌&&◌, cond, List, [], ◌∷◌, length, nat_eq, nat_lt, Option, Some, None}
+use Rattle.std.specs.Prelude.{Bool, true, false, not, ◌||◌, cond, List, [], ◌∷◌, length, nat_eq, nat_lt, Option, Some, None}
 use Rattle.flac_bits.specs.Layout.{Rule}
 use Rattle.flac_bits.specs.declared.why.Why.{Why}
 use Rattle.flac_bits.specs.declared.why.Why.TheVariants as why

@@ -1,5 +1,5 @@
 -- Padding (RFC 9639, section 8.3).
-use Rattle.std.specs.Prelude.{ℕ, ◌*◌, ⊤}
+use Rattle.std.specs.Prelude.{ℕ, ⊤}
 use Rattle.flac_bits.specs.Layout.{Layout, done, ◌>>=◌, bits}
 
 -- so many bits of any value

@@ -1,5 +1,5 @@
 -- Name and value of a comment (RFC 9639, section 8.6).
-use Rattle.std.specs.Prelude.{◌≡◌, ◌≢◌, ℕ, ◌<◌, ◌≤◌, List, [], ◌∷◌, ◌++◌, length, get_or, ◌⊎◌}
+use Rattle.std.specs.Prelude.{◌≡◌, ◌≢◌, ℕ, ◌<◌, List, [], ◌∷◌, ◌++◌, length, get_or}
 
 -- no byte of the text is `=`, whose code is 61
 abbrev pub HasNoEquals : List ℕ → Type 0

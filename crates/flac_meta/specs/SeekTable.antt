@@ -1,5 +1,5 @@
 -- The seek table (RFC 9639, section 8.5).
-use Rattle.std.specs.Prelude.{ℕ, Bool, true, false, not, ◌&&◌, ◌||◌, List, [], ◌∷◌, nat_eq, nat_lt, Option, Some, None}
+use Rattle.std.specs.Prelude.{ℕ, Bool, true, not, ◌&&◌, ◌||◌, List, [], ◌∷◌, nat_eq, nat_lt, Option, Some, None}
 use Rattle.flac_bits.specs.Layout.{Layout, done, judge, ◌>>=◌, bits}
 use Rattle.flac_meta.specs.Fields.{in_turn}
 use Rattle.flac_bits.specs.declared.why.Why.TheVariants.{SeekOrder}

@@ -8,7 +8,7 @@ use crate::seek_table::SeekTable;
 use crate::stream_info::StreamInfo;
 
 /// A metadata block (RFC 9639, section 8.1).
-#[derive(Debug, Drop)]
+#[derive(Clone, Debug, PartialEq, Eq, Drop)]
 pub enum Block {
     /// Type 0: what the stream says of itself.
     StreamInfo(StreamInfo),

@@ -1,6 +1,8 @@
 //! Blocks that stand behind STREAMINFO.
 
 ghost use Rattle.std.specs.Prelude.{◌≡◌, MatchResult, OnOk, None, Some};
+ghost use Rattle.std.specs.Cmp.{partial_equiv_from_equiv};
+ghost use Rattle.std.specs.Cmp.Lexicographic.{pointwise, lists_equiv};
 ghost use Rattle.flac_meta.specs.Listed.{fault_behind, list_fault, info_seen};
 ghost use Rattle.flac_meta.specs.Valid.{AllAre, FitsFields};
 
@@ -9,6 +11,7 @@ use crate::faults::fault_of;
 use crate::fits::blocks_fit;
 use crate::seen::Seen;
 use flac_bits::Why;
+use std::alloc::AllocError;
 use std::marker::Model;
 
 /// Blocks that may stand behind STREAMINFO, in their order: each may be written, none is a STREAMINFO, and there is at most
@@ -31,6 +34,35 @@ impl Model for BlockList {
     ghost view = { λ b. b.blocks.items };
 
     ghost invariant = { λ b. (list_fault info_seen b.blocks.items ≡ None) × AllAre FitsFields b.blocks.items };
+}
+
+impl Clone for BlockList {
+    ghost is_clone = { λ a b. b ≡ a };
+
+    fn clone(&self) -> Result<BlockList, AllocError> {
+        Ok(BlockList {
+            blocks: self.blocks.clone()?,
+        })
+    }
+}
+
+impl PartialEq for BlockList {
+    ghost use Rattle.flac_meta.specs.contracts.block.BlockPartialEq.TheImpl as item;
+    ghost use Rattle.flac_meta.specs.contracts.block.BlockEq.TheImpl.Laws.{laws-law};
+
+    ghost eq = { pointwise (item.ghosts).eq };
+
+    ghost laws = { partial_equiv_from_equiv (lists_equiv laws-law) };
+
+    fn eq(&self, other: &BlockList) -> bool {
+        self.blocks == other.blocks
+    }
+}
+
+impl Eq for BlockList {
+    ghost use Rattle.flac_meta.specs.contracts.block.BlockEq.TheImpl.Laws.{laws-law};
+
+    ghost laws = { lists_equiv laws-law };
 }
 
 /// Why a block may not stand behind those that came, if it may not.
@@ -81,6 +113,15 @@ impl BlockList {
                 Ok(BlockList { blocks })
             }
         }
+    }
+
+    /// The blocks as a vector.
+    pub fn into_blocks(self) -> Vec<Block>
+        ensures items { result.items ≡ self }
+        ensures good { list_fault info_seen self ≡ None }
+        ensures fits { AllAre FitsFields self }
+    {
+        self.blocks
     }
 
     /// The blocks.

@@ -6,7 +6,7 @@ ghost use Rattle.flac_meta.specs.Parts.{HasNoEquals, LacksParts, AreParts};
 use crate::lists::{Bytes, Texts};
 
 /// A Vorbis comment (RFC 9639, section 8.6).
-#[derive(Debug, Drop)]
+#[derive(Clone, Debug, PartialEq, Eq, Drop)]
 pub struct Comments {
     /// The name of the program that wrote the stream.
     pub vendor: Bytes,

@@ -1,7 +1,10 @@
 //! Cue sheets.
 
 ghost use Rattle.std.specs.Prelude.{◌≡◌};
+ghost use Rattle.std.specs.Cmp.{partial_equiv_from_equiv};
+ghost use Rattle.std.specs.Cmp.Lexicographic.{pointwise, lists_equiv};
 
+use std::alloc::AllocError;
 use std::marker::Model;
 
 /// A place in a track (RFC 9639, section 8.7.1.1).
@@ -28,12 +31,48 @@ impl Model for CueIndices {
     ghost view = { λ t. t.items.items };
 }
 
+impl Clone for CueIndices {
+    ghost is_clone = { λ a b. b ≡ a };
+
+    fn clone(&self) -> Result<CueIndices, AllocError> {
+        Ok(CueIndices {
+            items: self.items.clone()?,
+        })
+    }
+}
+
+impl PartialEq for CueIndices {
+    ghost use Rattle.flac_meta.specs.contracts.cue_sheet.CueIndexPartialEq.TheImpl as item;
+    ghost use Rattle.flac_meta.specs.contracts.cue_sheet.CueIndexEq.TheImpl.Laws.{laws-law};
+
+    ghost eq = { pointwise (item.ghosts).eq };
+
+    ghost laws = { partial_equiv_from_equiv (lists_equiv laws-law) };
+
+    fn eq(&self, other: &CueIndices) -> bool {
+        self.items == other.items
+    }
+}
+
+impl Eq for CueIndices {
+    ghost use Rattle.flac_meta.specs.contracts.cue_sheet.CueIndexEq.TheImpl.Laws.{laws-law};
+
+    ghost laws = { lists_equiv laws-law };
+}
+
 impl CueIndices {
     /// The places of a vector.
     pub fn from_vec(items: Vec<CueIndex>) -> CueIndices
         ensures { result ≡ items.items }
     {
         CueIndices { items }
+    }
+
+    /// The places as a vector.
+    pub fn into_vec(self) -> Vec<CueIndex>
+        ensures { result.items ≡ self }
+    {
+        self.items
     }
 
     /// The places.
@@ -45,7 +84,7 @@ impl CueIndices {
 }
 
 /// A track of a cue sheet (RFC 9639, section 8.7.1).
-#[derive(Debug, Drop)]
+#[derive(Clone, Debug, PartialEq, Eq, Drop)]
 pub struct CueTrack {
     /// Samples from the first sample of the stream.
     pub offset: u64,
@@ -76,12 +115,48 @@ impl Model for CueTracks {
     ghost view = { λ t. t.tracks.items };
 }
 
+impl Clone for CueTracks {
+    ghost is_clone = { λ a b. b ≡ a };
+
+    fn clone(&self) -> Result<CueTracks, AllocError> {
+        Ok(CueTracks {
+            tracks: self.tracks.clone()?,
+        })
+    }
+}
+
+impl PartialEq for CueTracks {
+    ghost use Rattle.flac_meta.specs.contracts.cue_sheet.CueTrackPartialEq.TheImpl as item;
+    ghost use Rattle.flac_meta.specs.contracts.cue_sheet.CueTrackEq.TheImpl.Laws.{laws-law};
+
+    ghost eq = { pointwise (item.ghosts).eq };
+
+    ghost laws = { partial_equiv_from_equiv (lists_equiv laws-law) };
+
+    fn eq(&self, other: &CueTracks) -> bool {
+        self.tracks == other.tracks
+    }
+}
+
+impl Eq for CueTracks {
+    ghost use Rattle.flac_meta.specs.contracts.cue_sheet.CueTrackEq.TheImpl.Laws.{laws-law};
+
+    ghost laws = { lists_equiv laws-law };
+}
+
 impl CueTracks {
     /// The tracks of a vector.
     pub fn from_vec(tracks: Vec<CueTrack>) -> CueTracks
         ensures { result ≡ tracks.items }
     {
         CueTracks { tracks }
+    }
+
+    /// The tracks as a vector.
+    pub fn into_vec(self) -> Vec<CueTrack>
+        ensures { result.items ≡ self }
+    {
+        self.tracks
     }
 
     /// The tracks.
@@ -93,7 +168,7 @@ impl CueTracks {
 }
 
 /// A cue sheet (RFC 9639, section 8.7).
-#[derive(Debug, Drop)]
+#[derive(Clone, Debug, PartialEq, Eq, Drop)]
 pub struct CueSheet {
     /// The media catalogue number, zeros behind it.
     pub catalogue: [u8; 128],

@@ -1,7 +1,10 @@
 //! Bytes and texts, which contracts see as lists.
 
-ghost use Rattle.std.specs.Prelude.{◌≡◌, ℕ, List, length};
+ghost use Rattle.std.specs.Prelude.{◌≡◌, ℕ, List, length, nat_eq};
+ghost use Rattle.std.specs.Cmp.{partial_equiv_from_equiv};
+ghost use Rattle.std.specs.Cmp.Lexicographic.{pointwise, lists_equiv, nat_list_eq_equiv};
 
+use std::alloc::AllocError;
 use std::marker::Model;
 
 /// Bytes.
@@ -14,6 +17,30 @@ impl Model for Bytes {
     ghost Value = { List ℕ };
 
     ghost view = { λ b. b.items.items };
+}
+
+impl Clone for Bytes {
+    ghost is_clone = { λ a b. b ≡ a };
+
+    fn clone(&self) -> Result<Bytes, AllocError> {
+        Ok(Bytes {
+            items: self.items.clone()?,
+        })
+    }
+}
+
+impl PartialEq for Bytes {
+    ghost eq = { pointwise nat_eq };
+
+    ghost laws = { partial_equiv_from_equiv nat_list_eq_equiv };
+
+    fn eq(&self, other: &Bytes) -> bool {
+        self.items == other.items
+    }
+}
+
+impl Eq for Bytes {
+    ghost laws = { nat_list_eq_equiv };
 }
 
 impl Bytes {
@@ -56,6 +83,30 @@ impl Model for Texts {
     ghost Value = { List (List ℕ) };
 
     ghost view = { λ t. t.texts.items };
+}
+
+impl Clone for Texts {
+    ghost is_clone = { λ a b. b ≡ a };
+
+    fn clone(&self) -> Result<Texts, AllocError> {
+        Ok(Texts {
+            texts: self.texts.clone()?,
+        })
+    }
+}
+
+impl PartialEq for Texts {
+    ghost eq = { pointwise (pointwise nat_eq) };
+
+    ghost laws = { partial_equiv_from_equiv (lists_equiv nat_list_eq_equiv) };
+
+    fn eq(&self, other: &Texts) -> bool {
+        self.texts == other.texts
+    }
+}
+
+impl Eq for Texts {
+    ghost laws = { lists_equiv nat_list_eq_equiv };
 }
 
 impl Texts {

@@ -3,7 +3,7 @@
 use crate::lists::Bytes;
 
 /// A picture (RFC 9639, section 8.8).
-#[derive(Debug, Drop)]
+#[derive(Clone, Debug, PartialEq, Eq, Drop)]
 pub struct Picture {
     /// What it shows, as 3 for the front cover.
     pub kind: u32,

@@ -1,7 +1,10 @@
 //! Seek points.
 
 ghost use Rattle.std.specs.Prelude.{◌≡◌};
+ghost use Rattle.std.specs.Cmp.{partial_equiv_from_equiv};
+ghost use Rattle.std.specs.Cmp.Lexicographic.{pointwise, lists_equiv};
 
+use std::alloc::AllocError;
 use std::marker::Model;
 
 /// A place to which a player can jump (RFC 9639, section 8.5.1).
@@ -30,12 +33,48 @@ impl Model for SeekTable {
     ghost view = { λ t. t.points.items };
 }
 
+impl Clone for SeekTable {
+    ghost is_clone = { λ a b. b ≡ a };
+
+    fn clone(&self) -> Result<SeekTable, AllocError> {
+        Ok(SeekTable {
+            points: self.points.clone()?,
+        })
+    }
+}
+
+impl PartialEq for SeekTable {
+    ghost use Rattle.flac_meta.specs.contracts.seek_table.SeekPointPartialEq.TheImpl as item;
+    ghost use Rattle.flac_meta.specs.contracts.seek_table.SeekPointEq.TheImpl.Laws.{laws-law};
+
+    ghost eq = { pointwise (item.ghosts).eq };
+
+    ghost laws = { partial_equiv_from_equiv (lists_equiv laws-law) };
+
+    fn eq(&self, other: &SeekTable) -> bool {
+        self.points == other.points
+    }
+}
+
+impl Eq for SeekTable {
+    ghost use Rattle.flac_meta.specs.contracts.seek_table.SeekPointEq.TheImpl.Laws.{laws-law};
+
+    ghost laws = { lists_equiv laws-law };
+}
+
 impl SeekTable {
     /// The table of these points.
     pub fn from_vec(points: Vec<SeekPoint>) -> SeekTable
         ensures { result ≡ points.items }
     {
         SeekTable { points }
+    }
+
+    /// The points as a vector.
+    pub fn into_vec(self) -> Vec<SeekPoint>
+        ensures { result.items ≡ self }
+    {
+        self.points
     }
 
     /// The points.

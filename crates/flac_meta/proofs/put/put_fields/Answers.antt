@@ -1,6 +1,5 @@
 use Rattle.std.proofs.Common.{◌+◌, drop}
 use Rattle.std.proofs.lemmas.Result.{err_from_is_err_and}
-use Rattle.flac_bits.specs.Bits.{unsigned}
 use Rattle.flac_bits.proofs.Writing.{towards_more, towards_end, towards_fail}
 use Rattle.flac_meta.specs.Spelling.{each_spelled}
 use Rattle.flac_meta.specs.Fielded.{field_spelling}

@@ -1,9 +1,8 @@
 use Rattle.std.proofs.Common.{◌++◌, [], refl}
 use Rattle.std.proofs.lemmas.Result.{err_from_is_err_and}
 use Rattle.flac_bits.specs.Bits.{bits_of}
-use Rattle.flac_bits.proofs.Writing.{towards_start, towards_more, towards_end, towards_fail, towards_last}
-use Rattle.flac_meta.specs.Spelling.{each_spelled, info_spelling}
-use Rattle.flac_meta.specs.Fielded.{fields_spelling}
+use Rattle.flac_bits.proofs.Writing.{towards_start, towards_more, towards_end, towards_fail}
+use Rattle.flac_meta.specs.Spelling.{info_spelling}
 use Rattle.flac_meta.proofs.Steps.{fields_are}
 use Rattle.flac_meta.proofs.put.put_info.Goals as goal
 

@@ -1,4 +1,4 @@
-use Rattle.std.proofs.Common.{◌≡◌, ◌<◌, ◌^◌, false, drop}
+use Rattle.std.proofs.Common.{◌≡◌, false, drop}
 use Rattle.flac_bits.proofs.Writing.{Towards}
 use Rattle.flac_meta.specs.Spelling as s
 use Rattle.flac_meta.specs.Listed.{overflows}

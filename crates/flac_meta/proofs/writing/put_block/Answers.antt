@@ -1,10 +1,8 @@
-use Rattle.std.proofs.Common.{◌+◌, ◌-◌, ◌*◌, ◌++◌, ◌∷◌, [], length, drop, get_or, refl, not, ap, sym}
+use Rattle.std.proofs.Common.{◌∷◌, [], refl}
 use Rattle.std.proofs.lemmas.Result.{err_from_is_err_and}
-use Rattle.flac_bits.specs.Bits.{unsigned, bits_of, bit_value}
 use Rattle.flac_bits.specs.Forms.{joined}
 use Rattle.flac_bits.proofs.Writing.{towards_start, towards_more, towards_end, towards_fail}
 use Rattle.flac_meta.specs.Spelling as s
-use Rattle.flac_meta.proofs.Steps.{fields_are, each_step, each_step_at, each_end}
 use Rattle.flac_meta.proofs.Lengths as lengths
 use Rattle.std.proofs.Common.{◌≡◌, ◌∙◌}
 use Rattle.flac_meta.proofs.writing.put_block.Goals as goal
