@@ -21,7 +21,7 @@ impl Before {
     pub(crate) fn after(before: &Option<Before>, header: &FrameHeader) -> Before
         ensures { result ≡ left_by before.now header.now.variable header.now.number header.now.size }
     {
-        let size = header.block_size();
+        let size = header.size();
         let step = if header.variable() { size as u64 } else { 1 };
         Before {
             first_size: match before {

@@ -141,7 +141,7 @@ impl FrameBuffers {
         self.before = Some(Before::after(&self.before, &header));
         self.variable = header.variable();
         self.number = header.number();
-        self.block = header.block_size() as usize;
+        self.block = header.size() as usize;
         self.used = info.channels() as usize;
         Ok(())
     }

@@ -36,7 +36,7 @@ fn read_body<R: Source>(
 {
     let channels = info.channels() as usize;
     let depth = info.depth() as u32;
-    let block = header.block_size();
+    let block = header.size();
     let limits = limits_of(info);
     let fits = read_subframes(
         bits,
@@ -77,7 +77,7 @@ pub(crate) fn read_into<R: Source>(
     ensures reads { Reads (λ h. frame_in info.now.channels h (take (info.now.channels * h.size) out.new)) (frame info.now before.now) (started bits.old) bits.new result }
 {
     let header = read_start(bits, info, profile, before)?;
-    let places = info.channels() as usize * header.block_size() as usize;
+    let places = info.channels() as usize * header.size() as usize;
     read_body(bits, info, &header, &mut wide[..places], &mut out[..places])?;
     Ok(header)
 }

@@ -34,7 +34,7 @@ fn breaks_sequence(before: &Option<Before>, header: &FrameHeader) -> bool
 fn breaks_size(info: &StreamInfo, before: &Option<Before>, header: &FrameHeader) -> bool
     ensures { result ≡ breaks_size info.now before.now header.now }
 {
-    let size = header.block_size();
+    let size = header.size();
     let too_long = size > info.greatest_block() as u32;
     match before {
         None => too_long,

@@ -41,21 +41,6 @@ fn join_two(code: u8, first: &mut [i64], second: &mut [i64])
     }
 }
 
-/// [`join_two`], made anew for each code.
-fn join_by(code: u8, first: &mut [i64], second: &mut [i64])
-    requires long { length second.old ≡ length first.old }
-    requires first { All (FitsBits 34) first.old }
-    requires second { All (FitsBits 34) second.old }
-    ensures left { first.new ≡ zip2 (left_of code) first.old second.old }
-    ensures right { second.new ≡ zip2 (right_of code) first.old second.old }
-{
-    match code {
-        8 => join_two(8, first, second),
-        9 => join_two(9, first, second),
-        code => join_two(code, first, second),
-    }
-}
-
 /// Puts the channels into the places of those that they are kept as, which stand one after another.
 #[tactic(auto, unfolding(crate::specs::Stereo::joined))]
 pub(crate) fn join_channels(code: u8, channels: usize, block: usize, samples: &mut [i64])
@@ -66,6 +51,6 @@ pub(crate) fn join_channels(code: u8, channels: usize, block: usize, samples: &m
 {
     if code > 7 {
         let (first, second) = samples.split_at_mut(block);
-        join_by(code, first, second);
+        join_two(code, first, second);
     }
 }

@@ -25,7 +25,7 @@ fn variable_blocks(rt: HostRuntime) -> Result<(), Fail> {
     let header = read(&bytes)?;
     assert!(rt; header.variable());
     assert_eq!(rt;
-        (header.block_size(), header.rate(), header.channels()),
+        (header.size(), header.rate(), header.channels()),
         (4096, 44100, 1)
     );
     assert_eq!(rt;
