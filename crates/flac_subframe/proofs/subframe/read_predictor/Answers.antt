@@ -1,7 +1,8 @@
-use Rattle.std.proofs.Common.{arith, ◌+◌}
+use Rattle.std.proofs.Common.{arith, rules, ◌+◌}
 use Rattle.flac_subframe.proofs.Bounds.{all_fit_15}
 use Rattle.std.proofs.lemmas.Result.{err_from_is_err_and}
 use Rattle.flac_bits.proofs.Counting.{answered_then, failed_then, refused_then}
+use Rattle.flac_subframe.specs.Subframe.{predictor}
 use Rattle.flac_subframe.proofs.subframe.read_predictor.Goals as goal
 
 pub returns-clause-fits : goal.returns-clause-fits
@@ -25,3 +26,27 @@ returns-in_err-signed_partition-clause-counts g c =
 
 pub returns-clause-counts : goal.returns-clause-counts
 returns-clause-counts g c = answered_then c.args.bits.now c.take.new.self c.signed_partition.new.self c.in_ok-low.ensures.counts (answered_then c.take.new.self c.take-2.new.self c.signed_partition.new.self c.in_ok-shift.ensures.counts c.in_ok-signed_partition.ensures.counts)
+
+pub returns-in_err-low-clause-reads : goal.returns-in_err-low-clause-reads
+unfolding predictor
+returns-in_err-low-clause-reads g c = search rules
+
+pub returns-then-low-eq15-clause-reads : goal.returns-then-low-eq15-clause-reads
+unfolding predictor
+returns-then-low-eq15-clause-reads g c = search rules
+
+pub returns-in_err-shift-clause-reads : goal.returns-in_err-shift-clause-reads
+unfolding predictor
+returns-in_err-shift-clause-reads g c = search rules
+
+pub returns-then-shift-gt15-clause-reads : goal.returns-then-shift-gt15-clause-reads
+unfolding predictor
+returns-then-shift-gt15-clause-reads g c = search rules
+
+pub returns-in_err-signed_partition-clause-reads : goal.returns-in_err-signed_partition-clause-reads
+unfolding predictor
+returns-in_err-signed_partition-clause-reads g c = search rules
+
+pub returns-clause-reads : goal.returns-clause-reads
+unfolding predictor
+returns-clause-reads g c = search rules
