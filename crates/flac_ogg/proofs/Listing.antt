@@ -1,5 +1,5 @@
 -- Packets that lie one after another in memory.
-use Rattle.std.proofs.Common.{◌≡◌, ℕ, zero, suc, ◌-◌, ◌^◌, ◌<◌, ◌≤◌, Bool, List, [], ◌∷◌, ◌++◌, length, take, drop, get_or, map, refl, sym, ap, subst, ◌∙◌, arith, length-append, append_assoc}
+use Rattle.std.proofs.Common.{◌≡◌, ℕ, zero, suc, ◌-◌, ◌^◌, ◌<◌, ◌≤◌, Bool, true, List, [], ◌∷◌, ◌++◌, length, take, drop, get_or, map, refl, sym, ap, subst, ◌∙◌, arith, length-append, append_assoc}
 use Rattle.std.specs.List.{All, flat_map}
 use Rattle.std.specs.Int.{to_le_bytes, w32, w64}
 use Rattle.std.proofs.Math.Seq.{take-append_seam}
@@ -10,20 +10,22 @@ use Rattle.flac_bits.specs.Bits.{bits_of}
 use Rattle.flac_bits.specs.Forms.{AreBytes, joined}
 use Rattle.flac_native.proofs.WholeBytes.{Whole, whole_nil, whole_append, bits_whole}
 use Rattle.flac_pages.specs.declared.writing.PacketAt.{PacketAt}
+use Rattle.flac_pages.specs.declared.writing.PacketKind.{PacketKind}
 use Rattle.flac_pages.specs.Page.{Page, page_spelling}
 use Rattle.flac_pages.specs.Placed.{Placed, IsPlaced, AreInOrder, placed_in, end_of, stream_pages, stream_spelling}
+use Rattle.flac_pages.specs.Written.{granule_at}
 use Rattle.flac_pages.proofs.PlacedMore.{packets_placed}
-use Rattle.flac_ogg.specs.Listed.{Holds, Puts, texts_of, positions_in}
+use Rattle.flac_ogg.specs.Listed.{Holds, Puts, texts_of, kinds_in}
 use Rattle.flac_ogg.specs.declared.packet_list.PacketList.{PacketList}
 
 -- ---- packets put behind others
 
-one_more : (l m : PacketList) (packet : List ℕ) (granule : ℕ) → m.bytes.items ≡ l.bytes.items ++ packet → m.ends.items ≡ l.ends.items ++ record { end = length m.bytes.items; granule = granule } ∷ []
-    → AreBytes packet → granule < 2 ^ 64 → (before : List Placed) → Holds l before → Holds m (before ++ record { packet = packet; granule = granule } ∷ [])
-one_more l m packet granule bytes ends small fits before h =
-    let t = packets_placed l.bytes.items packet granule l.ends.items h.order h.over in
-    let new : Placed = record { packet = packet; granule = granule } in
-    let at : m.ends.items ≡ l.ends.items ++ record { end = length (l.bytes.items ++ packet); granule = granule } ∷ [] = ends ∙ ap (λ (b : List ℕ). l.ends.items ++ record { end = length b; granule = granule } ∷ []) bytes in
+one_more : (l m : PacketList) (packet : List ℕ) (kind : PacketKind) → m.bytes.items ≡ l.bytes.items ++ packet → m.ends.items ≡ l.ends.items ++ record { end = length m.bytes.items; kind = kind } ∷ []
+    → AreBytes packet → granule_at kind true < 2 ^ 64 → (before : List Placed) → Holds l before → Holds m (before ++ record { packet = packet; kind = kind } ∷ [])
+one_more l m packet kind bytes ends small fits before h =
+    let t = packets_placed l.bytes.items packet kind l.ends.items h.order h.over in
+    let new : Placed = record { packet = packet; kind = kind } in
+    let at : m.ends.items ≡ l.ends.items ++ record { end = length (l.bytes.items ++ packet); kind = kind } ∷ [] = ends ∙ ap (λ (b : List ℕ). l.ends.items ++ record { end = length b; kind = kind } ∷ []) bytes in
     record {
       order = rw (at, bytes) t.order;
       over = rw (at, bytes) t.ends;
@@ -34,27 +36,27 @@ one_more l m packet granule bytes ends small fits before h =
     one_good : (p : Placed) → IsPlaced p → All IsPlaced (p ∷ [])
     one_good p is = grind (arith, is)
 
-pub puts_one : (l m : PacketList) (packet : List ℕ) (granule : ℕ) → m.bytes.items ≡ l.bytes.items ++ packet → m.ends.items ≡ l.ends.items ++ record { end = length m.bytes.items; granule = granule } ∷ []
-    → AreBytes packet → granule < 2 ^ 64 → Puts (bits_of packet ∷ []) (granule ∷ []) l m
-puts_one l m packet granule bytes ends small fits =
-    record { packets = record { packet = packet; granule = granule } ∷ []; texts_are = refl; positions_are = refl; held = one_more l m packet granule bytes ends small fits }
+pub puts_one : (l m : PacketList) (packet : List ℕ) (kind : PacketKind) → m.bytes.items ≡ l.bytes.items ++ packet → m.ends.items ≡ l.ends.items ++ record { end = length m.bytes.items; kind = kind } ∷ []
+    → AreBytes packet → granule_at kind true < 2 ^ 64 → Puts (bits_of packet ∷ []) (kind ∷ []) l m
+puts_one l m packet kind bytes ends small fits =
+    record { packets = record { packet = packet; kind = kind } ∷ []; texts_are = refl; kinds_are = refl; held = one_more l m packet kind bytes ends small fits }
 
 pub puts_none : (l : PacketList) → Puts [] [] l l
-puts_none l = record { packets = []; texts_are = refl; positions_are = refl; held = λ before h. subst (λ p. Holds l p) (sym (append-nil before)) h }
+puts_none l = record { packets = []; texts_are = refl; kinds_are = refl; held = λ before h. subst (λ p. Holds l p) (sym (append-nil before)) h }
 
 pub texts_append : (ps qs : List Placed) → texts_of (ps ++ qs) ≡ texts_of ps ++ texts_of qs
 texts_append [] qs = refl
 texts_append (p ∷ ps) qs = ap (λ (t : List (List Bool)). bits_of p.packet ∷ t) (texts_append ps qs)
 
-pub positions_append : (ps qs : List Placed) → positions_in (ps ++ qs) ≡ positions_in ps ++ positions_in qs
-positions_append [] qs = refl
-positions_append (p ∷ ps) qs = ap (λ (t : List ℕ). p.granule ∷ t) (positions_append ps qs)
+pub kinds_append : (ps qs : List Placed) → kinds_in (ps ++ qs) ≡ kinds_in ps ++ kinds_in qs
+kinds_append [] qs = refl
+kinds_append (p ∷ ps) qs = ap (λ (t : List PacketKind). p.kind ∷ t) (kinds_append ps qs)
 
-pub puts_then : (a b : List (List Bool)) (x y : List ℕ) (l m n : PacketList) → Puts a x l m → Puts b y m n → Puts (a ++ b) (x ++ y) l n
+pub puts_then : (a b : List (List Bool)) (x y : List PacketKind) (l m n : PacketList) → Puts a x l m → Puts b y m n → Puts (a ++ b) (x ++ y) l n
 puts_then a b x y l m n h k = record {
   packets = h.packets ++ k.packets;
   texts_are = texts_append h.packets k.packets ∙ ap (λ t. t ++ texts_of k.packets) h.texts_are ∙ ap (λ t. a ++ t) k.texts_are;
-  positions_are = positions_append h.packets k.packets ∙ ap (λ t. t ++ positions_in k.packets) h.positions_are ∙ ap (λ t. x ++ t) k.positions_are;
+  kinds_are = kinds_append h.packets k.packets ∙ ap (λ t. t ++ kinds_in k.packets) h.kinds_are ∙ ap (λ t. x ++ t) k.kinds_are;
   held = λ before is. subst (λ p. Holds n p) (append_assoc before h.packets k.packets) (k.held (before ++ h.packets) (h.held before is));
 }
 
@@ -70,8 +72,8 @@ behind (x ∷ xs) (y ∷ ys) (suc from) le few = behind xs ys from (omega (arith
 same_behind : (front bytes : List ℕ) (from : ℕ) (ps : List PacketAt) → length front ≤ from → length front ≤ length bytes → AreInOrder from (length bytes) ps → placed_in (front ++ drop (length front) bytes) from ps ≡ placed_in bytes from ps
 same_behind front bytes from [] le few order = refl
 same_behind front bytes from (p ∷ ps) le few (a, b, others) =
-    ap (λ (x : List ℕ). record { packet = take (p.end - from) x; granule = p.granule } ∷ placed_in (front ++ drop (length front) bytes) p.end ps) (behind front bytes from le few)
-    ∙ ap (λ l. record { packet = take (p.end - from) (drop from bytes); granule = p.granule } ∷ l) (same_behind front bytes p.end ps (omega (arith, a, le)) few others)
+    ap (λ (x : List ℕ). record { packet = take (p.end - from) x; kind = p.kind } ∷ placed_in (front ++ drop (length front) bytes) p.end ps) (behind front bytes from le few)
+    ∙ ap (λ l. record { packet = take (p.end - from) (drop from bytes); kind = p.kind } ∷ l) (same_behind front bytes p.end ps (omega (arith, a, le)) few others)
 
 other_good : (old new : Placed) (others : List Placed) → All IsPlaced (old ∷ others) → IsPlaced new → All IsPlaced (new ∷ others)
 other_good old new others all is zero p at = grind (arith, at, is)
@@ -82,11 +84,11 @@ from_front n [] = let e : n - 0 ≡ n = omega arith in ap (λ (k : ℕ). take k 
 from_front n (x ∷ xs) = let e : n - 0 ≡ n = omega arith in ap (λ (k : ℕ). take k (x ∷ xs)) e
 
 first_ends : (l : PacketList) (p : PacketAt) (ps : List PacketAt) (first : Placed) (others : List Placed) → l.ends.items ≡ p ∷ ps → Holds l (first ∷ others)
-    → (p.end ≤ length l.bytes.items) × (take p.end l.bytes.items ≡ first.packet) × (p.granule ≡ first.granule) × (placed_in l.bytes.items p.end ps ≡ others) × AreInOrder p.end (length l.bytes.items) ps
+    → (p.end ≤ length l.bytes.items) × (take p.end l.bytes.items ≡ first.packet) × (p.kind ≡ first.kind) × (placed_in l.bytes.items p.end ps ≡ others) × AreInOrder p.end (length l.bytes.items) ps
 first_ends l p ps first others is h =
     let order = subst (λ e. AreInOrder 0 (length l.bytes.items) e) is h.order in
     let placed : placed_in l.bytes.items 0 (p ∷ ps) ≡ first ∷ others = ap (λ e. placed_in l.bytes.items 0 e) (sym is) ∙ h.placed in
-    (order.1, sym (from_front p.end l.bytes.items) ∙ ap (λ (l : List Placed). (get_or l 0 first).packet) placed, ap (λ (l : List Placed). (get_or l 0 first).granule) placed, ap (λ (l : List Placed). drop 1 l) placed, order.2)
+    (order.1, sym (from_front p.end l.bytes.items) ∙ ap (λ (l : List Placed). (get_or l 0 first).packet) placed, ap (λ (l : List Placed). (get_or l 0 first).kind) placed, ap (λ (l : List Placed). drop 1 l) placed, order.2)
 
 pub first_long : (l : PacketList) (first : Placed) (others : List Placed) → Holds l (first ∷ others) → length first.packet ≤ length l.bytes.items
 first_long l first others h = go l.ends.items refl
@@ -98,11 +100,11 @@ first_long l first others h = go l.ends.items refl
         omega (arith, f.0, ap (λ (k : List ℕ). length k) f.1, length-take p.end l.bytes.items)
 
 pub holds_first : (l m : PacketList) (packet : List ℕ) (first : Placed) (others : List Placed) → m.bytes.items ≡ packet ++ drop (length packet) l.bytes.items → m.ends.items ≡ l.ends.items → AreBytes packet
-    → length first.packet ≡ length packet → Holds l (first ∷ others) → Holds m (record { packet = packet; granule = first.granule } ∷ others)
+    → length first.packet ≡ length packet → Holds l (first ∷ others) → Holds m (record { packet = packet; kind = first.kind } ∷ others)
 holds_first l m packet first others bytes ends small same h = go l.ends.items refl
   where
     new : Placed
-    new = record { packet = packet; granule = first.granule }
+    new = record { packet = packet; kind = first.kind }
 
     go : (es : List PacketAt) → l.ends.items ≡ es → Holds m (new ∷ others)
     go [] is = absurd cc
@@ -116,8 +118,8 @@ holds_first l m packet first others bytes ends small same h = go l.ends.items re
         record {
           order = subst (λ e. AreInOrder 0 (length m.bytes.items) e) (sym at) (subst (λ n. AreInOrder 0 n (p ∷ ps)) (sym all) (omega arith, f.0, f.4));
           over = ap (λ e. end_of 0 e) (ends) ∙ h.over ∙ sym all;
-          placed = ap (λ e. placed_in m.bytes.items 0 e) at ∙ ap (λ b. placed_in b 0 (p ∷ ps)) bytes ∙ (ap (λ (x : List ℕ). record { packet = x; granule = p.granule } ∷ placed_in (packet ++ drop (length packet) l.bytes.items) p.end ps) (from_front p.end (packet ++ drop (length packet) l.bytes.items) ∙ ap (λ n. take n (packet ++ drop (length packet) l.bytes.items)) end ∙ take-append_seam packet (drop (length packet) l.bytes.items))
-              ∙ ap (λ (n : ℕ). record { packet = packet; granule = n } ∷ placed_in (packet ++ drop (length packet) l.bytes.items) p.end ps) f.2
+          placed = ap (λ e. placed_in m.bytes.items 0 e) at ∙ ap (λ b. placed_in b 0 (p ∷ ps)) bytes ∙ (ap (λ (x : List ℕ). record { packet = x; kind = p.kind } ∷ placed_in (packet ++ drop (length packet) l.bytes.items) p.end ps) (from_front p.end (packet ++ drop (length packet) l.bytes.items) ∙ ap (λ n. take n (packet ++ drop (length packet) l.bytes.items)) end ∙ take-append_seam packet (drop (length packet) l.bytes.items))
+              ∙ ap (λ (n : PacketKind). record { packet = packet; kind = n } ∷ placed_in (packet ++ drop (length packet) l.bytes.items) p.end ps) f.2
               ∙ ap (λ (r : List Placed). new ∷ r) (same_behind packet l.bytes.items p.end ps (omega (arith, end)) few f.4 ∙ f.3));
           good = other_good first new others h.good (record { bytes = small; position = (h.good 0 first (omega arith)).position });
         }

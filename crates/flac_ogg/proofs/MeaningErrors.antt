@@ -5,6 +5,7 @@ use Rattle.std.specs.List.{sum}
 use Rattle.flac_bits.specs.State.{Mark, Cursor, past}
 use Rattle.flac_bits.specs.Layout.{Layout, done, bind, bits, unary, judge, refuse, mark, Rule, Reason, number_at}
 use Rattle.flac_bits.specs.Lists.{list_of}
+use Rattle.flac_bits.specs.LittleEndian.{little_32, little_64}
 use Rattle.flac_bits.specs.Meaning.{BreaksFirst, Shows}
 use Rattle.flac_bits.specs.declared.why.Why.{Why}
 use Rattle.flac_bits.specs.declared.why.Why.TheVariants.{Read, Truncated, FrameTooLong, PacketLength, NoEndPage, PageOrder, BadPage}
@@ -13,7 +14,7 @@ use Rattle.flac_meta.specs.Info.{Info}
 use Rattle.flac_native.specs.Stream.{Piece, Progress, grammar, end_rules as stream_rules}
 use Rattle.flac_native.specs.declared.fault.Place.{Place}
 use Rattle.flac_pages.specs.declared.page.Before.{Before}
-use Rattle.flac_pages.specs.Page.{Page, page, page_behind, head_behind, little_32, little_64, end_rules}
+use Rattle.flac_pages.specs.Page.{Page, page, page_behind, head_behind, end_rules}
 use Rattle.flac_pages.specs.Pages.{Stop, closed, broken, between, unless_over, fault_behind, end_fault}
 use Rattle.flac_pages.specs.Packets.{page_index, at_page, fault_of, stop_of}
 use Rattle.flac_pages.specs.Runs.{left_by, IsNoPage, EndsSo}

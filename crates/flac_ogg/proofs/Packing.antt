@@ -18,9 +18,11 @@ use Rattle.flac_native.specs.Writing.{SpellsFrame, SpellsLeast, AreSizes}
 use Rattle.flac_native.proofs.WholeBytes.{Whole, length-joined}
 use Rattle.flac_native.proofs.BlocksWritten.{nil_is}
 use Rattle.flac_native.proofs.Gathered.{nth, snoc, length-snoc, each_more, sizes_with, least_with, no_sizes, all_gathered}
+use Rattle.flac_pages.specs.declared.writing.PacketKind.{PacketKind}
+use Rattle.flac_pages.specs.declared.writing.PacketKind.TheVariants.{Header, Frame}
 use Rattle.flac_ogg.specs.Listed.{Puts}
 use Rattle.flac_ogg.specs.Native.{mapping_spelling, block_spellings}
-use Rattle.flac_ogg.specs.Writing.{IsFrameText, PutsFrames, positions_to}
+use Rattle.flac_ogg.specs.Writing.{IsFrameText, PutsFrames, frames_to}
 use Rattle.flac_ogg.specs.declared.packet_list.PacketList.{PacketList}
 use Rattle.flac_ogg.proofs.Listing.{puts_none, puts_then}
 
@@ -68,9 +70,12 @@ all_blocks bs i e = take_over (block_spellings bs) i (e ∙ sym (count_blocks bs
 abbrev pub zeros : ℕ → List ℕ
 zeros n = replicate n 0
 
-pub zeros_more : (i : ℕ) → zeros (i + 1) ≡ zeros i ++ 0 ∷ []
-zeros_more zero = refl
-zeros_more (suc i) = let e : suc i + 1 ≡ suc (i + 1) = omega arith in ap zeros e ∙ ap (λ (l : List ℕ). 0 ∷ l) (zeros_more i)
+abbrev pub headers : ℕ → List PacketKind
+headers n = replicate n Header
+
+pub headers_more : (i : ℕ) → headers (i + 1) ≡ headers i ++ Header ∷ []
+headers_more zero = refl
+headers_more (suc i) = let e : suc i + 1 ≡ suc (i + 1) = omega arith in ap headers e ∙ ap (λ (l : List PacketKind). Header ∷ l) (headers_more i)
 
 -- ---- the frames
 
@@ -86,29 +91,29 @@ pub record FramesSoFar (p : Cut) (a : Sound) (old new : PacketList) (number leas
   pub each : (i : ℕ) → i < length frames → SpellsFrame a (frame_of p.block_size a i) (nth frames i)
   pub each_least : (i : ℕ) → i < length frames → SpellsLeast a (frame_of p.block_size a i) (nth frames i)
   pub sizes : AreSizes frames least greatest
-  pub put : Puts frames (positions_to p.block_size (samples_each a.channels) number) old new
+  pub put : Puts frames (frames_to p.block_size (samples_each a.channels) number) old new
 
 pub no_frames : (p : Cut) (a : Sound) (l : PacketList) → FramesSoFar p a l l 0 0 0
 no_frames p a l = record { frames = []; many = refl; each = λ i h. absurd (omega arith); each_least = λ i h. absurd (omega arith); sizes = no_sizes; put = puts_none l }
 
-pub one_frame : (p : Cut) (a : Sound) (l m n : PacketList) (number least greatest bytes start size granule : ℕ) (packet : List ℕ) → FramesSoFar p a l m number least greatest
-    → start ≡ p.block_size * number → size ≡ size_of p.block_size (samples_each a.channels) number → granule ≡ min (samples_each a.channels) (p.block_size * (number + 1)) → bytes ≡ length packet
-    → IsFrameText a start size number (bits_of packet) → Puts (bits_of packet ∷ []) (granule ∷ []) m n → FramesSoFar p a l n (number + 1) (least_with number least bytes) (max greatest bytes)
-one_frame p a l m n number least greatest bytes start size granule packet g start_is size_is granule_is bytes_is text put =
+pub one_frame : (p : Cut) (a : Sound) (l m n : PacketList) (number least greatest bytes start size end : ℕ) (packet : List ℕ) → FramesSoFar p a l m number least greatest
+    → start ≡ p.block_size * number → size ≡ size_of p.block_size (samples_each a.channels) number → end ≡ min (samples_each a.channels) (p.block_size * (number + 1)) → bytes ≡ length packet
+    → IsFrameText a start size number (bits_of packet) → Puts (bits_of packet ∷ []) (Frame end ∷ []) m n → FramesSoFar p a l n (number + 1) (least_with number least bytes) (max greatest bytes)
+one_frame p a l m n number least greatest bytes start size end packet g start_is size_is end_is bytes_is text put =
     let t = bits_of packet in
     let total = samples_each a.channels in
     let here = subst (λ k. IsFrameText a (p.block_size * number) k number t) size_is (subst (λ k. IsFrameText a k size number t) start_is text) in
     let next : number + 1 ≡ suc number = omega arith in
-    let position : granule ≡ min total (p.block_size * suc number) = granule_is ∙ ap (λ k. min total (p.block_size * k)) next in
-    let positions : positions_to p.block_size total number ++ granule ∷ [] ≡ positions_to p.block_size total (number + 1) =
-    ap (λ k. positions_to p.block_size total number ++ k ∷ []) position ∙ ap (λ k. positions_to p.block_size total k) (sym next) in
+    let at : end ≡ min total (p.block_size * suc number) = end_is ∙ ap (λ k. min total (p.block_size * k)) next in
+    let kinds : frames_to p.block_size total number ++ Frame end ∷ [] ≡ frames_to p.block_size total (number + 1) =
+    ap (λ k. frames_to p.block_size total number ++ Frame k ∷ []) at ∙ ap (λ k. frames_to p.block_size total k) (sym next) in
     record {
       frames = snoc g.frames t;
       many = omega (arith, length-snoc g.frames t, g.many);
       each = each_more (λ i k. SpellsFrame a (frame_of p.block_size a i) k) g.frames t g.each (subst (λ k. SpellsFrame a (frame_of p.block_size a k) t) (sym g.many) here.frame);
       each_least = each_more (λ i k. SpellsLeast a (frame_of p.block_size a i) k) g.frames t g.each_least (subst (λ k. SpellsLeast a (frame_of p.block_size a k) t) (sym g.many) here.least);
       sizes = sizes_with g.frames t number least greatest bytes g.many (length-bits_of packet ∙ ap (λ k. 8 * k) (sym bytes_is)) g.sizes;
-      put = subst (λ k. Puts (snoc g.frames t) k l n) positions (puts_then g.frames (t ∷ []) (positions_to p.block_size total number) (granule ∷ []) l m n g.put put);
+      put = subst (λ k. Puts (snoc g.frames t) k l n) kinds (puts_then g.frames (t ∷ []) (frames_to p.block_size total number) (Frame end ∷ []) l m n g.put put);
     }
 
 pub all_frames : (p : Cut) (a : Sound) (l m : PacketList) (number least greatest start : ℕ) → 16 ≤ p.block_size → FramesSoFar p a l m number least greatest → number ≤ blocks_in p.block_size (samples_each a.channels)
@@ -120,5 +125,5 @@ all_frames p a l m number least greatest start some g few at over =
       are = record { many = g.many ∙ all; each = g.each };
       are_least = g.each_least;
       sizes = g.sizes;
-      put = subst (λ k. Puts g.frames (positions_to p.block_size (samples_each a.channels) k) l m) all g.put;
+      put = subst (λ k. Puts g.frames (frames_to p.block_size (samples_each a.channels) k) l m) all g.put;
     }

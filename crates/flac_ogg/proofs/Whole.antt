@@ -30,12 +30,14 @@ use Rattle.flac_pages.specs.Placed.{Placed, IsPlaced, stream_pages, stream_spell
 use Rattle.flac_pages.proofs.PlacedPages.{written_pages_are_good}
 use Rattle.flac_ogg.specs.Stream.{OggStream}
 use Rattle.flac_ogg.specs.Native.{mapping_spelling, block_spellings, AreStream}
-use Rattle.flac_ogg.specs.Listed.{Holds, Puts, texts_of, positions_in}
-use Rattle.flac_ogg.specs.Writing.{PutsFrames, ArePackets, EncodesOgg, BeginsOgg, header_count, positions_to}
+use Rattle.flac_pages.specs.declared.writing.PacketKind.{PacketKind}
+use Rattle.flac_pages.specs.declared.writing.PacketKind.TheVariants.{Header}
+use Rattle.flac_ogg.specs.Listed.{Holds, Puts, texts_of, kinds_in}
+use Rattle.flac_ogg.specs.Writing.{PutsFrames, ArePackets, EncodesOgg, BeginsOgg, header_count, frames_to}
 use Rattle.flac_ogg.specs.declared.packet_list.PacketList.{PacketList}
 use Rattle.flac_ogg.proofs.NativeFrames.{encoded_are_ogg_items}
-use Rattle.flac_ogg.proofs.Listing.{texts_append, positions_append}
-use Rattle.flac_ogg.proofs.Packing.{mapping_long, zeros}
+use Rattle.flac_ogg.proofs.Listing.{texts_append, kinds_append}
+use Rattle.flac_ogg.proofs.Packing.{mapping_long, zeros, headers}
 
 -- ---- the first packet has 51 bytes
 
@@ -88,34 +90,34 @@ pub record Made (p : Cut) (list : List Block) (a : Sound) (l : PacketList) (firs
   pub others : List Placed
   pub held : Holds l (old ∷ others)
   pub long : length old.packet ≡ length first
-  pub are : ArePackets p list a (record { packet = first; granule = old.granule } ∷ others)
+  pub are : ArePackets p list a (record { packet = first; kind = old.kind } ∷ others)
 
 -- one packet alone
-record One (l m : PacketList) (text : List Bool) (position : ℕ) : Type 0 where
+record One (l m : PacketList) (text : List Bool) (kind : PacketKind) : Type 0 where
   pub only : Placed
   pub text_is : bits_of only.packet ≡ text
-  pub position_is : only.granule ≡ position
+  pub kind_is : only.kind ≡ kind
   pub held : Holds l [] → Holds m (only ∷ [])
 
-one_put : (l m : PacketList) (text : List Bool) (position : ℕ) → Puts (text ∷ []) (position ∷ []) l m → One l m text position
-one_put l m text position h = go h.packets h.texts_are h.positions_are (h.held [])
+one_put : (l m : PacketList) (text : List Bool) (kind : PacketKind) → Puts (text ∷ []) (kind ∷ []) l m → One l m text kind
+one_put l m text kind h = go h.packets h.texts_are h.kinds_are (h.held [])
   where
-    go : (ps : List Placed) → texts_of ps ≡ text ∷ [] → positions_in ps ≡ position ∷ [] → (Holds l [] → Holds m ps) → One l m text position
-    go [] e f k = absurd (omega (arith, ap (λ (x : List ℕ). length x) f))
-    go (x ∷ []) e f k = record { only = x; text_is = ap (λ (t : List (List Bool)). get_or t 0 text) e; position_is = ap (λ (t : List ℕ). get_or t 0 position) f; held = k }
-    go (x ∷ y ∷ zs) e f k = absurd (omega (arith, ap (λ (x : List ℕ). length x) f))
+    go : (ps : List Placed) → texts_of ps ≡ text ∷ [] → kinds_in ps ≡ kind ∷ [] → (Holds l [] → Holds m ps) → One l m text kind
+    go [] e f k = absurd (omega (arith, ap (λ (x : List PacketKind). length x) f))
+    go (x ∷ []) e f k = record { only = x; text_is = ap (λ (t : List (List Bool)). get_or t 0 text) e; kind_is = ap (λ (t : List PacketKind). get_or t 0 kind) f; held = k }
+    go (x ∷ y ∷ zs) e f k = absurd (omega (arith, ap (λ (x : List PacketKind). length x) f))
 
-pub packets_made : (p : Cut) (list : List Block) (a : Sound) (l0 l1 l2 l3 : PacketList) (blank first : List ℕ) (least greatest : ℕ) → length blank ≡ 51 → Holds l0 [] → Puts (bits_of blank ∷ []) (0 ∷ []) l0 l1
-    → Puts (block_spellings list) (zeros (length list)) l1 l2 → PutsFrames p a l2 l3 least greatest
+pub packets_made : (p : Cut) (list : List Block) (a : Sound) (l0 l1 l2 l3 : PacketList) (blank first : List ℕ) (least greatest : ℕ) → length blank ≡ 51 → Holds l0 [] → Puts (bits_of blank ∷ []) (Header ∷ []) l0 l1
+    → Puts (block_spellings list) (headers (length list)) l1 l2 → PutsFrames p a l2 l3 least greatest
     → bits_of first ≡ mapping_spelling (header_count (length list)) ++ s.block_spelling (is_nil list) (block_of.StreamInfo (info_of p a least greatest)) → Made p list a l3 first
 packets_made p list a l0 l1 l2 l3 blank first least greatest many none put blocks frames is =
-    let o = one_put l0 l1 (bits_of blank) 0 put in
+    let o = one_put l0 l1 (bits_of blank) Header put in
     let old = o.only in
     let others : List Placed = blocks.packets ++ frames.put.packets in
     let blank_long : length old.packet ≡ length blank = omega (arith, ap (λ (k : List Bool). length k) o.text_is, length-bits_of old.packet, length-bits_of blank) in
-    let behind : List ℕ = positions_to p.block_size (samples_each a.channels) (blocks_in p.block_size (samples_each a.channels)) in
+    let behind : List PacketKind = frames_to p.block_size (samples_each a.channels) (blocks_in p.block_size (samples_each a.channels)) in
     let up : suc (length list) ≡ length list + 1 = omega arith in
-    let positions : positions_in others ≡ zeros (length list) ++ behind = positions_append blocks.packets frames.put.packets ∙ ap (λ t. t ++ positions_in frames.put.packets) blocks.positions_are ∙ ap (λ t. zeros (length list) ++ t) frames.put.positions_are in
+    let kinds : kinds_in others ≡ headers (length list) ++ behind = kinds_append blocks.packets frames.put.packets ∙ ap (λ t. t ++ kinds_in frames.put.packets) blocks.kinds_are ∙ ap (λ t. headers (length list) ++ t) frames.put.kinds_are in
     record {
       old = old;
       others = others;
@@ -130,7 +132,7 @@ packets_made p list a l0 l1 l2 l3 blank first least greatest many none put block
         sizes = frames.sizes;
         texts = ap (λ (t : List Bool). t ∷ texts_of others) is ∙ ap (λ (t : List (List Bool)). (mapping_spelling (header_count (length list)) ++ s.block_spelling (is_nil list) (block_of.StreamInfo (info_of p a least greatest))) ∷ t)
             (texts_append blocks.packets frames.put.packets ∙ ap (λ t. t ++ texts_of frames.put.packets) blocks.texts_are ∙ ap (λ t. block_spellings list ++ t) frames.put.texts_are);
-        positions = ap (λ (n : ℕ). n ∷ positions_in others) o.position_is ∙ ap (λ (t : List ℕ). 0 ∷ t) positions ∙ ap (λ n. zeros n ++ behind) up;
+        kinds = ap (λ (n : PacketKind). n ∷ kinds_in others) o.kind_is ∙ ap (λ (t : List PacketKind). Header ∷ t) kinds ∙ ap (λ n. headers n ++ behind) up;
       };
     }
 

@@ -10,10 +10,12 @@ use Rattle.flac_native.specs.Decoding.{beginning}
 use Rattle.flac_native.specs.Stream.{framed}
 use Rattle.flac_native.specs.Given.{Cut, blocks_in, info_of, frames_of, closing}
 use Rattle.flac_native.specs.Writing.{AreFrames, AreLeastFrames, AreSizes, SpellsFrame, SpellsLeast}
+use Rattle.flac_pages.specs.declared.writing.PacketKind.{PacketKind}
+use Rattle.flac_pages.specs.declared.writing.PacketKind.TheVariants as kind_of
 use Rattle.flac_pages.specs.Placed.{Placed, stream_spelling}
 use Rattle.flac_ogg.specs.Stream.{OggStream}
 use Rattle.flac_ogg.specs.Native.{packet_spellings}
-use Rattle.flac_ogg.specs.Listed.{texts_of, positions_in, Puts}
+use Rattle.flac_ogg.specs.Listed.{texts_of, kinds_in, Puts}
 use Rattle.flac_ogg.specs.declared.packet_list.PacketList.{PacketList}
 
 -- The first block behind STREAMINFO is a Vorbis comment.
@@ -38,14 +40,14 @@ pub record IsFrameText (a : Sound) (start size number : ℕ) (text : List Bool) 
   pub frame : SpellsFrame a (frame_at a start size number) text
   pub least : SpellsLeast a (frame_at a start size number) text
 
--- behind each of the first n frames, the number of samples so far
-abbrev pub positions_to : (block_size total n : ℕ) → List ℕ
-positions_to block_size total zero = []
-positions_to block_size total (suc n) = positions_to block_size total n ++ min total (block_size * suc n) ∷ []
+-- the first n frames, each with the number of samples so far at its end
+abbrev pub frames_to : (block_size total n : ℕ) → List PacketKind
+frames_to block_size total zero = []
+frames_to block_size total (suc n) = frames_to block_size total n ++ kind_of.Frame (min total (block_size * suc n)) ∷ []
 
--- 0 for each header packet, and behind a frame the number of samples so far
-abbrev pub positions_of : Cut → List Block → Sound → List ℕ
-positions_of p list a = replicate (length list + 1) 0 ++ positions_to p.block_size (samples_each a.channels) (blocks_in p.block_size (samples_each a.channels))
+-- header packets, one more than there are blocks, and behind them the frames
+abbrev pub kinds_of : Cut → List Block → Sound → List PacketKind
+kinds_of p list a = replicate (length list + 1) kind_of.Header ++ frames_to p.block_size (samples_each a.channels) (blocks_in p.block_size (samples_each a.channels))
 
 -- all frames of the samples were put behind the other packets, each the least of its block, of which the shortest and the longest have so many bytes
 pub record PutsFrames (p : Cut) (a : Sound) (old new : PacketList) (least greatest : ℕ) : Type 0 where
@@ -53,7 +55,7 @@ pub record PutsFrames (p : Cut) (a : Sound) (old new : PacketList) (least greate
   pub are : AreFrames p a frames
   pub are_least : AreLeastFrames p a frames
   pub sizes : AreSizes frames least greatest
-  pub put : Puts frames (positions_to p.block_size (samples_each a.channels) (blocks_in p.block_size (samples_each a.channels))) old new
+  pub put : Puts frames (frames_to p.block_size (samples_each a.channels) (blocks_in p.block_size (samples_each a.channels))) old new
 
 -- The packets are those of what was given: the mapping with STREAMINFO, a block each, and a frame each: all frames of the samples, each the least of its
 -- block, whose least and greatest sizes STREAMINFO tells.
@@ -65,7 +67,7 @@ pub record ArePackets (p : Cut) (list : List Block) (a : Sound) (packets : List 
   pub are_least : AreLeastFrames p a frames
   pub sizes : AreSizes frames least greatest
   pub texts : texts_of packets ≡ packet_spellings (header_count (length list)) (info_of p a least greatest) list frames
-  pub positions : positions_in packets ≡ positions_of p list a
+  pub kinds : kinds_in packets ≡ kinds_of p list a
 
 -- Behind the bits that were there, an Ogg stream of what was given was written, of these packets.
 pub record EncodesOgg (serial : ℕ) (p : Cut) (list : List Block) (a : Sound) (before after : List Bool) : Type 0 where

@@ -9,6 +9,7 @@ ghost use Rattle.flac_meta.specs.declared.block.Block.TheVariants as block_of;
 ghost use Rattle.flac_frame.specs.Audio.{samples_each};
 ghost use Rattle.flac_native.specs.Given.{fits_plan};
 ghost use Rattle.flac_pages.specs.Placed.{Placed};
+ghost use Rattle.flac_pages.specs.declared.writing.PacketKind.TheVariants.{Header};
 ghost use Rattle.flac_ogg.specs.Listed.{Holds, Puts};
 ghost use Rattle.flac_ogg.specs.Native.{mapping_spelling, block_spellings};
 ghost use Rattle.flac_ogg.specs.Writing.{begins_with_comment, may_be_ogg, header_count, IsFrameText, PutsFrames, ArePackets, EncodesOgg, BeginsOgg};
@@ -18,6 +19,7 @@ use flac_bits::{BitWriter, Collected, Target, Why, send_all};
 use flac_frame::{Audio, EncodeBuffers, encode_frame};
 use flac_meta::{Block, BlockList, StreamInfo, write_block};
 use flac_native::{EncodeFault, Plan, info_of};
+use flac_pages::PacketKind;
 use std::alloc::Global;
 
 /// Whether the first block is a Vorbis comment.
@@ -83,13 +85,13 @@ fn block_packet(alloc: Global, block: &Block, last: bool) -> Result<Vec<u8>, Why
 
 /// Puts each block behind the others as a packet.
 fn push_blocks(alloc: Global, list: &BlockList, packets: &mut PacketList) -> Result<(), Why>
-    ensures { OnOk result (Puts (block_spellings list.now) (replicate (length list.now) 0) packets.old packets.new) }
+    ensures { OnOk result (Puts (block_spellings list.now) (replicate (length list.now) Header) packets.old packets.new) }
 {
     let blocks = list.blocks();
     let count = blocks.len();
     for i in 0..count {
         let packet = block_packet(alloc, &blocks[i], i + 1 == count)?;
-        packets.push(packet.as_slice(), 0)?;
+        packets.push(packet.as_slice(), PacketKind::Header)?;
     }
     Ok(())
 }
@@ -162,7 +164,7 @@ fn push_frames(
     while start < total {
         let end = start + size.min(total - start);
         let packet = frame_packet(alloc, audio, start, end, number, &mut buffers)?;
-        packets.push(packet.as_slice(), end as u64)?;
+        packets.push(packet.as_slice(), PacketKind::Frame { end: end as u64 })?;
         sizes = sizes_with(sizes, number, packet.len() as u32);
         number += 1;
         start = end;
@@ -182,7 +184,7 @@ fn packets_of(
 {
     let mut packets = PacketList::new(alloc);
     // The frames' sizes, which the first packet tells, are known once all are made: till then zeros stand there.
-    packets.push(&[0; 51], 0)?;
+    packets.push(&[0; 51], PacketKind::Header)?;
     push_blocks(alloc, list, &mut packets)?;
     let sizes = push_frames(alloc, plan, audio, &mut packets)?;
     let info = info_of(plan, audio, sizes.least, sizes.greatest);
@@ -192,8 +194,8 @@ fn packets_of(
 }
 
 /// Writes samples as an Ogg stream of FLAC (RFC 9639, section 10.1; RFC 3533): the mapping with STREAMINFO, each block of the list, of which the last is marked,
-/// and a frame for each block of the plan, each in a packet of its own that begins a page. A page that ends a header packet tells position 0, and one that ends
-/// a frame the number of samples so far. The whole stream is held in memory before its first byte is sent.
+/// and a frame for each block of the plan, each in a packet of its own that begins a page. Each page of a header packet has granule position 0. A page on which
+/// a frame ends has the number of samples so far, and the pages before it have all ones. The whole stream is held in memory before its first byte is sent.
 ///
 /// The plan fits the samples: see [`Plan::fits`]. `serial` is the number of the stream.
 ///

@@ -14,5 +14,12 @@ mod places;
 
 pub use decoding::decode_ogg;
 pub use encoding::encode_ogg;
-pub use flac_native::{Fault, Place, Profile, Sink, SinkFault, Source, Why};
+pub use flac_bits::{Collected, Counted, Memory, Pieces, Source, Target, Why};
+pub use flac_frame::{Audio, FrameView, SetupFault};
+pub use flac_meta::{
+    Block, BlockList, Bytes, Comments, CueIndex, CueIndices, CueSheet, CueTrack, CueTracks,
+    Picture, SeekPoint, SeekTable, StreamInfo, Texts,
+};
+pub use flac_native::{EncodeFault, Fault, Place, Plan, Profile, Sink, SinkFault};
+pub use flac_pages::{PacketBytes, Pages};
 pub use laws::{encoded_items, only_one_way, same_items, some_way};

@@ -1,13 +1,14 @@
 //! Packets in memory, one after another.
 
-ghost use Rattle.std.specs.Prelude.{◌≡◌, ◌≤◌, ◌∷◌, [], ◌++◌, List, length, drop, vec_len, IfOk, OnOk};
+ghost use Rattle.std.specs.Prelude.{◌≡◌, ◌≤◌, ◌<◌, ◌^◌, ◌∷◌, [], ◌++◌, true, List, length, drop, vec_len, IfOk, OnOk};
 ghost use Rattle.flac_bits.specs.Bits.{bits_of};
 ghost use Rattle.flac_bits.specs.Forms.{AreBytes};
 ghost use Rattle.flac_pages.specs.Placed.{Placed, AreInOrder, placed_in, stream_spelling};
+ghost use Rattle.flac_pages.specs.Written.{granule_at};
 ghost use Rattle.flac_ogg.specs.Listed.{Holds, Puts};
 
 use flac_bits::{BitWriter, Collected, Why};
-use flac_pages::{PacketAt, write_packets};
+use flac_pages::{PacketAt, PacketKind, write_packets};
 use std::alloc::Global;
 
 /// Packets that lie one after another, and where each ends.
@@ -21,6 +22,13 @@ pub(crate) struct PacketList {
 fn bytes_fit(bytes: &[u8])
     ensures { AreBytes bytes.now }
 {}
+
+/// The number of samples at a frame's end is below 2^64.
+fn kind_fits(kind: PacketKind)
+    ensures { granule_at kind true < 2 ^ 64 }
+{
+    let _granule = kind.granule(true);
+}
 
 /// Puts bytes in the place of the first ones.
 fn put_first(bytes: &mut [u8], first: &[u8])
@@ -41,21 +49,22 @@ impl PacketList {
         }
     }
 
-    /// Puts a packet behind the others; its last page is to tell this position. After an error the list is of no use.
-    pub(crate) fn push(&mut self, packet: &[u8], granule: u64) -> Result<(), Why>
-        ensures { OnOk result (Puts (bits_of packet.now ∷ []) (granule ∷ []) self.old self.new) }
+    /// Puts a packet of this kind behind the others. After an error the list is of no use.
+    pub(crate) fn push(&mut self, packet: &[u8], kind: PacketKind) -> Result<(), Why>
+        ensures { OnOk result (Puts (bits_of packet.now ∷ []) (kind ∷ []) self.old self.new) }
     {
         bytes_fit(packet);
+        kind_fits(kind);
         self.bytes.extend_from_slice(packet)?;
         let end = self.bytes.len();
-        self.ends.push(PacketAt { end, granule })?;
+        self.ends.push(PacketAt { end, kind })?;
         Ok(())
     }
 
     /// Puts another packet of as many bytes in the place of the first.
     pub(crate) fn set_first(&mut self, packet: &[u8])
         requires { length packet.now ≤ vec_len self.old.bytes }
-        ensures { (first : Placed) (others : List Placed) → length first.packet ≡ length packet.now → Holds self.old (first ∷ others) → Holds self.new (record { packet = packet.now; granule = first.granule } ∷ others) }
+        ensures { (first : Placed) (others : List Placed) → length first.packet ≡ length packet.now → Holds self.old (first ∷ others) → Holds self.new (record { packet = packet.now; kind = first.kind } ∷ others) }
     {
         bytes_fit(packet);
         put_first(&mut self.bytes, packet);

@@ -1,5 +1,5 @@
 -- A packet's pages may stand one behind another.
-use Rattle.std.proofs.Common.{◌≡◌, ℕ, zero, suc, ◌+◌, ◌-◌, ◌*◌, ◌/◌, ◌%◌, ◌^◌, ◌<◌, ◌≤◌, Bool, true, false, not, cond, ◌&&◌, ◌||◌, nat_eq, bit_xor, List, [], ◌∷◌, ◌++◌, length, take, drop, replicate, Option, Some, None, refl, sym, ap, ◌∙◌, arith, length-append}
+use Rattle.std.proofs.Common.{◌≡◌, ℕ, zero, suc, ◌+◌, ◌*◌, ◌/◌, ◌%◌, ◌^◌, ◌<◌, ◌≤◌, Bool, true, false, not, cond, ◌&&◌, ◌||◌, nat_eq, bit_xor, List, [], ◌∷◌, ◌++◌, length, take, drop, replicate, Option, Some, None, refl, sym, ap, ◌∙◌, arith, length-append}
 use Rattle.std.specs.Int.{bit_at}
 use Rattle.std.specs.List.{sum}
 use Rattle.std.proofs.lemmas.Bool.Decides.{nat_tests}
@@ -9,10 +9,12 @@ use Rattle.flac_bits.specs.Check.{remainder, power}
 use Rattle.flac_bits.specs.Forms.{AreBytes}
 use Rattle.flac_bits.specs.Meaning.{AllKept}
 use Rattle.flac_pages.specs.declared.page.Before.{Before}
+use Rattle.flac_pages.specs.declared.writing.PacketKind.{PacketKind}
+use Rattle.flac_pages.specs.declared.writing.PacketKind.TheVariants.{Header, Frame}
 use Rattle.flac_pages.specs.declared.writing.PacketMarks.{PacketMarks}
 use Rattle.flac_pages.specs.Page.{Page, page_spelling, page_sum, with_sum, end_rules, goes_on_behind, went_on, after, is_first, is_continued, is_last}
 use Rattle.flac_pages.specs.Packets.{lacing_of}
-use Rattle.flac_pages.specs.Written.{IsPage, summed, page_at}
+use Rattle.flac_pages.specs.Written.{IsPage, granule_at, summed, page_at}
 use Rattle.flac_pages.proofs.Stepping.{sum_more}
 use Rattle.flac_pages.proofs.Cut.{full_lacing, last_lacing, last_body, rest_short}
 
@@ -112,9 +114,10 @@ flags_small true false false = omega arith
 flags_small false b true = omega arith
 flags_small false b false = omega arith
 
-granule_small : (a : Bool) (v : ℕ) → v < 2 ^ 64 → cond a v (2 ^ 64 - 1) < 2 ^ 64
-granule_small true v h = h
-granule_small false v h = omega arith
+granule_small : (kind : PacketKind) (ends : Bool) → granule_at kind true < 2 ^ 64 → granule_at kind ends < 2 ^ 64
+granule_small Header ends h = h
+granule_small (Frame end) true h = h
+granule_small (Frame end) false h = omega arith
 
 -- ---- what a packet's page has
 
@@ -156,7 +159,7 @@ filled packet k (suc n) small e = full_filled packet k small (omega (arith, e))
 
 -- what a packet needs to be written in pages
 pub record MayBeWritten (m : PacketMarks) (packet : List ℕ) : Type 0 where
-  pub position : m.granule < 2 ^ 64
+  pub position : granule_at m.kind true < 2 ^ 64
   pub stream : m.serial < 2 ^ 32
   pub bytes : AreBytes packet
 
@@ -166,7 +169,7 @@ stands m packet k n before may e kept =
     let f = filled packet k n may.bytes e in
     record {
       flags = flags_small (nat_eq k 0) m.first (nat_eq k last && m.last);
-      granule = granule_small (nat_eq k last) m.granule may.position;
+      granule = granule_small m.kind (nat_eq k last) may.position;
       serial = may.stream;
       sequence = omega arith;
       stated = sum_small _;

@@ -7,13 +7,14 @@ use Rattle.flac_bits.specs.Bits.{unsigned, bits_of}
 use Rattle.flac_bits.specs.State.{Mark}
 use Rattle.flac_bits.specs.Layout.{bits}
 use Rattle.flac_bits.specs.Lists.{list_of}
+use Rattle.flac_bits.specs.LittleEndian.{little_32, little_64}
 use Rattle.flac_bits.specs.Forms.{Ties, IsBytes}
 use Rattle.flac_bits.specs.Meaning.{Spells}
 use Rattle.flac_bits.proofs.Meaning.{again}
 use Rattle.flac_bits.proofs.Ties.{tie, each_tied, some_tied, bytes_tie}
 use Rattle.flac_pages.specs.declared.page.Before.{Before}
 use Rattle.flac_pages.specs.declared.page.Head.{Head}
-use Rattle.flac_pages.specs.Page.{Page, page, page_behind, head_behind, little_32, little_64, page_spelling}
+use Rattle.flac_pages.specs.Page.{Page, page, page_behind, head_behind, page_spelling}
 use Rattle.flac_pages.specs.Written.{IsPage, PagesAreSpelled, PagesAreReadAgain}
 
 -- ---- numbers, the lowest byte first

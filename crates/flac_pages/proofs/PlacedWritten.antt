@@ -30,11 +30,11 @@ none_placed bytes from (p ∷ ps) = let e : nat_eq (suc (length ps)) 0 ≡ false
 -- the first packet, and those behind it
 first_of_them : (serial sequence : ℕ) (first : Bool) (bytes : List ℕ) (from : ℕ) (p : PacketAt) (ps : List PacketAt) (last : Bool) → nat_eq (length ps) 0 ≡ last
     → bits_from serial sequence first bytes from (p ∷ ps)
-    ≡ packet_spelling (record { serial = serial; sequence = sequence; granule = p.granule; first = first; last = last }) (take (p.end - from) (drop from bytes))
+    ≡ packet_spelling (record { serial = serial; sequence = sequence; kind = p.kind; first = first; last = last }) (take (p.end - from) (drop from bytes))
     ++ bits_from serial (sequence_behind sequence (take (p.end - from) (drop from bytes))) false bytes p.end ps
 first_of_them serial sequence first bytes from p ps last is =
     let packet = take (p.end - from) (drop from bytes) in
-    let q : Placed = record { packet = packet; granule = p.granule } in
+    let q : Placed = record { packet = packet; kind = p.kind } in
     let m = marks_of serial sequence first (is_nil (placed_in bytes p.end ps)) q in
     let others = pages_from serial (sequence_behind sequence packet) false (placed_in bytes p.end ps) in
     flat_map-append page_spelling (pages_of_packet m packet) others ∙ ap (λ t. t ++ flat_map page_spelling others) (packet_joined m packet)
@@ -66,11 +66,11 @@ in_order packets i from most p d lt is order = subst (λ l. AreInOrder from most
 pub step_is : (serial sequence next : ℕ) (bytes : List ℕ) (from i : ℕ) (packets : List PacketAt) (p d : PacketAt) → i < length packets → p ≡ get_or packets i d
     → next ≡ sequence_behind sequence (take (p.end - from) (drop from bytes))
     → bits_from serial sequence (nat_eq i 0) bytes from (drop i packets)
-    ≡ packet_spelling (record { serial = serial; sequence = sequence; granule = p.granule; first = nat_eq i 0; last = nat_eq (i + 1) (length packets) }) (take (p.end - from) (drop from bytes))
+    ≡ packet_spelling (record { serial = serial; sequence = sequence; kind = p.kind; first = nat_eq i 0; last = nat_eq (i + 1) (length packets) }) (take (p.end - from) (drop from bytes))
     ++ bits_from serial next (nat_eq (i + 1) 0) bytes p.end (drop (i + 1) packets)
 step_is serial sequence next bytes from i packets p d lt is number =
     let packet = take (p.end - from) (drop from bytes) in
-    let front = packet_spelling (record { serial = serial; sequence = sequence; granule = p.granule; first = nat_eq i 0; last = nat_eq (i + 1) (length packets) }) packet in
+    let front = packet_spelling (record { serial = serial; sequence = sequence; kind = p.kind; first = nat_eq i 0; last = nat_eq (i + 1) (length packets) }) packet in
     let further : nat_eq (i + 1) 0 ≡ false = grind (arith, nat_tests) in
     ap (λ l. bits_from serial sequence (nat_eq i 0) bytes from l) (next_is packets i p d lt is)
     ∙ first_of_them serial sequence (nat_eq i 0) bytes from p (drop (i + 1) packets) (nat_eq (i + 1) (length packets)) (last_is packets i lt)

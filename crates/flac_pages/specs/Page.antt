@@ -1,5 +1,5 @@
 -- A page of an Ogg stream (RFC 3533, section 6).
-use Rattle.std.specs.Prelude.{ℕ, ◌+◌, ◌*◌, ◌/◌, ◌%◌, ◌^◌, Bool, false, not, ◌||◌, cond, List, [], ◌∷◌, length, Option, Some, None, nat_eq}
+use Rattle.std.specs.Prelude.{ℕ, ◌+◌, ◌/◌, ◌%◌, ◌^◌, Bool, false, not, ◌||◌, cond, List, [], ◌∷◌, length, Option, Some, None, nat_eq}
 use Rattle.std.specs.Int.{to_le_bytes, w32, w64}
 use Rattle.std.specs.List.{sum}
 use Rattle.flac_bits.specs.Bits.{bits_of}
@@ -7,6 +7,7 @@ use Rattle.flac_bits.specs.Check.{remainder}
 use Rattle.flac_bits.specs.Forms.{joined}
 use Rattle.flac_bits.specs.Layout.{Layout, done, judge, ◌>>=◌, bits, Rule}
 use Rattle.flac_bits.specs.Lists.{list_of}
+use Rattle.flac_bits.specs.LittleEndian.{little_32, little_64}
 use Rattle.flac_bits.specs.declared.why.Why.{Why}
 use Rattle.flac_bits.specs.declared.why.Why.TheVariants.{BadPage, PageCheck, PageOrder, OtherStream, BadMapping}
 use Rattle.flac_pages.specs.declared.page.Head.{Head}
@@ -90,21 +91,6 @@ first_broken [] = None
 first_broken (rule ∷ rules) = cond rule.broken (Some rule.why) (first_broken rules)
 
 -- ---- the layout
-
--- a number of four bytes, the lowest first, and one of eight
-unfoldable pub little_32 : Layout ℕ
-little_32 = do
-  a ← bits 8
-  b ← bits 8
-  c ← bits 8
-  d ← bits 8
-  done (a + 256 * b + 65536 * c + 16777216 * d)
-
-unfoldable pub little_64 : Layout ℕ
-little_64 = do
-  low ← little_32
-  high ← little_32
-  done (low + 4294967296 * high)
 
 -- the fields behind the page's first byte and before the number of lacing values
 unfoldable pub head_behind : ℕ → Layout Head

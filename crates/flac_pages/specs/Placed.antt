@@ -6,20 +6,21 @@ use Rattle.flac_bits.specs.Bits.{is_nil}
 use Rattle.flac_bits.specs.Forms.{AreBytes}
 use Rattle.flac_bits.specs.State.{Mark, past}
 use Rattle.flac_pages.specs.declared.writing.PacketAt.{PacketAt}
+use Rattle.flac_pages.specs.declared.writing.PacketKind.{PacketKind}
 use Rattle.flac_pages.specs.declared.writing.PacketMarks.{PacketMarks}
 use Rattle.flac_pages.specs.Page.{Page, page_spelling}
 use Rattle.flac_pages.specs.Pages.{GoodPages, closed, pages_of}
 use Rattle.flac_pages.specs.Packets.{Packets}
-use Rattle.flac_pages.specs.Written.{pages_of_packet}
+use Rattle.flac_pages.specs.Written.{granule_at, pages_of_packet}
 use Rattle.flac_pages.specs.Runs.{FinalLast}
 
--- a packet, and the position that its last page tells
+-- a packet and what it is
 pub record Placed : Type 0 where
   pub packet : List ℕ
-  pub granule : ℕ
+  pub kind : PacketKind
 
 abbrev pub marks_of : (serial sequence : ℕ) → (first last : Bool) → Placed → PacketMarks
-marks_of serial sequence first last p = record { serial = serial; sequence = sequence; granule = p.granule; first = first; last = last }
+marks_of serial sequence first last p = record { serial = serial; sequence = sequence; kind = p.kind; first = first; last = last }
 
 -- the number of the page behind a packet's pages, of which the first has this number
 abbrev pub sequence_behind : ℕ → List ℕ → ℕ
@@ -47,7 +48,7 @@ AreInOrder from most (p ∷ ps) = (from ≤ p.end) × (p.end ≤ most) × AreInO
 -- these packets, of which the first begins at this place
 abbrev pub placed_in : List ℕ → (from : ℕ) → List PacketAt → List Placed
 placed_in bytes from [] = []
-placed_in bytes from (p ∷ ps) = record { packet = take (p.end - from) (drop from bytes); granule = p.granule } ∷ placed_in bytes p.end ps
+placed_in bytes from (p ∷ ps) = record { packet = take (p.end - from) (drop from bytes); kind = p.kind } ∷ placed_in bytes p.end ps
 
 -- the place behind them
 abbrev pub end_of : (from : ℕ) → List PacketAt → ℕ
@@ -58,7 +59,7 @@ end_of from (p ∷ ps) = end_of p.end ps
 
 pub record IsPlaced (p : Placed) : Type 0 where
   pub bytes : AreBytes p.packet
-  pub position : p.granule < 2 ^ 64
+  pub position : granule_at p.kind true < 2 ^ 64
 
 -- the pages are good, the final one alone is marked last, and they have just these packets; and so they are read again, whatever follows
 pub record HoldsPackets (m : Mark) (pages : List Page) (text : List Bool) (packets : List (List ℕ)) : Type 0 where
@@ -73,15 +74,15 @@ WrittenPagesAreGood = (serial : ℕ) (p : Placed) (ps : List Placed) (m : Mark) 
     → HoldsPackets m (stream_pages serial (p ∷ ps)) (stream_spelling serial (p ∷ ps)) (map (λ q. q.packet) (p ∷ ps))
 
 -- bytes put behind the last packet's end are the next packet
-pub record TakesPacket (bytes packet : List ℕ) (granule : ℕ) (packets : List PacketAt) (p : PacketAt) : Type 0 where
+pub record TakesPacket (bytes packet : List ℕ) (kind : PacketKind) (packets : List PacketAt) (p : PacketAt) : Type 0 where
   pub order : AreInOrder 0 (length (bytes ++ packet)) (packets ++ p ∷ [])
   pub ends : end_of 0 (packets ++ p ∷ []) ≡ length (bytes ++ packet)
-  pub placed : placed_in (bytes ++ packet) 0 (packets ++ p ∷ []) ≡ placed_in bytes 0 packets ++ record { packet = packet; granule = granule } ∷ []
+  pub placed : placed_in (bytes ++ packet) 0 (packets ++ p ∷ []) ≡ placed_in bytes 0 packets ++ record { packet = packet; kind = kind } ∷ []
 
 abbrev pub PacketsArePlaced : Type 0
-PacketsArePlaced = (bytes packet : List ℕ) (granule : ℕ) (packets : List PacketAt) → AreInOrder 0 (length bytes) packets → end_of 0 packets ≡ length bytes
-    → TakesPacket bytes packet granule packets (record { end = length (bytes ++ packet); granule = granule })
+PacketsArePlaced = (bytes packet : List ℕ) (kind : PacketKind) (packets : List PacketAt) → AreInOrder 0 (length bytes) packets → end_of 0 packets ≡ length bytes
+    → TakesPacket bytes packet kind packets (record { end = length (bytes ++ packet); kind = kind })
 
 -- packets that lie in bytes may be written
 abbrev pub BytesArePlaced : Type 0
-BytesArePlaced = (bytes : List ℕ) (from : ℕ) (packets : List PacketAt) → AreBytes bytes → All (λ p. p.granule < 2 ^ 64) packets → All IsPlaced (placed_in bytes from packets)
+BytesArePlaced = (bytes : List ℕ) (from : ℕ) (packets : List PacketAt) → AreBytes bytes → All (λ p. granule_at p.kind true < 2 ^ 64) packets → All IsPlaced (placed_in bytes from packets)

@@ -7,6 +7,8 @@ use Rattle.flac_bits.specs.Meaning.{Spells, AllKept}
 use Rattle.flac_bits.specs.State.{Mark, past}
 use Rattle.flac_pages.specs.declared.page.Before.{Before}
 use Rattle.flac_pages.specs.declared.page.Head.{Head}
+use Rattle.flac_pages.specs.declared.writing.PacketKind.{PacketKind}
+use Rattle.flac_pages.specs.declared.writing.PacketKind.TheVariants.{Header, Frame}
 use Rattle.flac_pages.specs.declared.writing.PacketMarks.{PacketMarks}
 use Rattle.flac_pages.specs.Page.{Page, page, page_spelling, page_sum, with_sum, end_rules}
 use Rattle.flac_pages.specs.Packets.{Packets, lacing_of}
@@ -15,12 +17,17 @@ use Rattle.flac_pages.specs.Packets.{Packets, lacing_of}
 abbrev pub summed : Page → Page
 summed p = with_sum (page_sum p) p
 
--- The fixed fields of a packet's page k, counted from 0: only the first begins no part of a packet, and may be the stream's first; only the last may be the stream's last,
--- and tells the position, for which the others have all ones.
+-- The granule position of a packet's page, on which the packet ends or goes on (RFC 9639, section 10.1): 0 on each page of a header packet; on a page of a frame the samples
+-- so far if the frame ends there, and all ones if it goes on.
+abbrev pub granule_at : PacketKind → (ends : Bool) → ℕ
+granule_at Header ends = 0
+granule_at (Frame end) ends = cond ends end (2 ^ 64 - 1)
+
+-- The fixed fields of a packet's page k, counted from 0: only the first begins no part of a packet, and may be the stream's first; only the last may be the stream's last.
 abbrev pub head_at : PacketMarks → (last k : ℕ) → Head
 head_at m last k = record {
   flags = cond (nat_eq k 0) (cond m.first 2 0) 1 + cond (nat_eq k last && m.last) 4 0;
-  granule = cond (nat_eq k last) m.granule (2 ^ 64 - 1);
+  granule = granule_at m.kind (nat_eq k last);
   serial = m.serial;
   sequence = (m.sequence + k) % 2 ^ 32;
   sum = 0;

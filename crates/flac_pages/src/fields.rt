@@ -1,39 +1,11 @@
-//! Fields of a page.
+//! The fixed fields of a page, read.
 
-ghost use Rattle.std.specs.Prelude.{◌≡◌, ◌≢◌, ◌≤◌, ◌+◌, OnOk, IfErr};
+ghost use Rattle.std.specs.Prelude.{◌≢◌, ◌≤◌, OnOk, IfErr};
 ghost use Rattle.flac_bits.specs.Reading.{Counts, Reads};
-ghost use Rattle.flac_pages.specs.Page.{little_32, little_64, head_behind};
+ghost use Rattle.flac_pages.specs.Page.{head_behind};
 
 use crate::page::Head;
-use flac_bits::{BitReader, Source, Why};
-
-/// A number of four bytes, the lowest first.
-#[tactic(auto, unfolding(crate::specs::Page::little_32))]
-fn read_little_32<R: Source>(reader: &mut BitReader<R>) -> Result<u32, Why>
-    ensures spends { OnOk result (reader.new.most ≤ reader.old.most) }
-    ensures counts { Counts reader.old reader.new result }
-    ensures memory { IfErr result (λ e. e ≢ Why.Memory) }
-    ensures reads { Reads (λ v. v) little_32 reader.old reader.new result }
-{
-    let a = reader.take(8)? as u32;
-    let b = reader.take(8)? as u32;
-    let c = reader.take(8)? as u32;
-    let d = reader.take(8)? as u32;
-    Ok(a + 256 * b + 65536 * c + 16777216 * d)
-}
-
-/// A number of eight bytes, the lowest first.
-#[tactic(auto, unfolding(crate::specs::Page::little_64))]
-fn read_little_64<R: Source>(reader: &mut BitReader<R>) -> Result<u64, Why>
-    ensures spends { OnOk result (reader.new.most ≤ reader.old.most) }
-    ensures counts { Counts reader.old reader.new result }
-    ensures memory { IfErr result (λ e. e ≢ Why.Memory) }
-    ensures reads { Reads (λ v. v) little_64 reader.old reader.new result }
-{
-    let low = read_little_32(reader)?;
-    let high = read_little_32(reader)?;
-    Ok(u64::from(low) + 4_294_967_296 * u64::from(high))
-}
+use flac_bits::{BitReader, Source, Why, read_little_32, read_little_64};
 
 /// Reads what stands between a page's first byte and the number of its lacing values.
 #[tactic(auto, unfolding(crate::specs::Page::head_behind))]

@@ -19,4 +19,6 @@ pub use promises::{
     pages_are_spelled, pages_have_packets, written_pages_are_good,
 };
 pub use room::{PageRoom, next_page};
-pub use writing::{PacketAt, PacketMarks, page_sum, write_packet, write_packets, write_page};
+pub use writing::{
+    PacketAt, PacketKind, PacketMarks, sum_of_page, write_packet, write_packets, write_page,
+};

@@ -10,7 +10,7 @@ ghost use Rattle.flac_pages.specs.Page.{page_sum, page_behind, end_rules, first_
 
 use crate::fields::read_head;
 use crate::page::{Before, Head};
-use crate::writing::{MOST_BYTES, page_sum};
+use crate::writing::{MOST_BYTES, sum_of_page};
 use flac_bits::{BitReader, Source, Why, read_bytes};
 use std::alloc::Global;
 use std::marker::Model;
@@ -104,7 +104,7 @@ impl PageRoom {
     fn sum(&self) -> u32
         ensures { result ≡ page_sum self.now }
     {
-        page_sum(self.head, self.lacing(), self.body())
+        sum_of_page(self.head, self.lacing(), self.body())
     }
 
     /// The reason of the first rule that is broken at the page's end, in the order of their rank.

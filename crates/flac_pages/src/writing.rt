@@ -5,13 +5,39 @@ ghost use Rattle.flac_bits.specs.Written.{Writes};
 ghost use Rattle.flac_pages.specs.Page.{page_sum, page_spelling};
 ghost use Rattle.flac_pages.specs.Packets.{lacing_of};
 ghost use Rattle.flac_pages.specs.Placed.{AreInOrder, placed_in, stream_spelling};
-ghost use Rattle.flac_pages.specs.Written.{summed, head_at, packet_spelling};
+ghost use Rattle.flac_pages.specs.Written.{granule_at, summed, head_at, packet_spelling};
 
 use crate::page::Head;
 use flac_bits::{BitWriter, Target, Why, crc32_sum};
 
 /// The greatest number of bytes in a page.
 pub(crate) const MOST_BYTES: usize = 65025;
+
+/// What a packet is (RFC 9639, section 10.1).
+#[derive(Clone, Copy, Debug, PartialEq, Eq)]
+pub enum PacketKind {
+    /// A header packet, which has no samples.
+    Header,
+    /// A frame.
+    Frame {
+        /// The number of inter-channel samples from the start of the stream to the end of this frame.
+        end: u64,
+    },
+}
+
+impl PacketKind {
+    /// The granule position of a page of such a packet, on which the packet ends or goes on (RFC 9639, section 10.1; RFC 3533, section 6).
+    ///
+    /// 0 on each page of a header packet; on a page of a frame the samples so far if the frame ends there, and all ones if it goes on.
+    pub fn granule(self, ends: bool) -> u64
+        ensures { result ≡ granule_at self ends }
+    {
+        match self {
+            PacketKind::Header => 0,
+            PacketKind::Frame { end } => { if ends { end } else { u64::MAX } }
+        }
+    }
+}
 
 /// Where a packet stands in its stream.
 #[derive(Clone, Copy, Debug, PartialEq, Eq)]
@@ -20,8 +46,8 @@ pub struct PacketMarks {
     pub serial: u32,
     /// The number of the page that the packet begins.
     pub sequence: u32,
-    /// The position that the packet's last page tells.
-    pub granule: u64,
+    /// What the packet is, which gives its pages their granule positions.
+    pub kind: PacketKind,
     /// It is the stream's first packet.
     pub first: bool,
     /// It is the stream's last packet.
@@ -33,12 +59,12 @@ pub struct PacketMarks {
 pub struct PacketAt {
     /// The place behind its last byte.
     pub end: usize,
-    /// The position that the packet's last page tells.
-    pub granule: u64,
+    /// What the packet is, which gives its pages their granule positions.
+    pub kind: PacketKind,
 }
 
 /// The sum that a page states (RFC 3533, section 6, field 7): the remainder over all of the page, whose own sum counts as 0. At most 255 segments.
-pub fn page_sum(head: Head, lacing: &[u8], body: &[u8]) -> u32
+pub fn sum_of_page(head: Head, lacing: &[u8], body: &[u8]) -> u32
     requires { length lacing.now ≤ 255 }
     ensures { result ≡ page_sum (record { head = head; lacing = lacing.now; body = body.now }) }
 {
@@ -65,7 +91,7 @@ pub fn write_page<W: Target>(
     requires { length lacing.now ≤ 255 }
     ensures { Writes (page_spelling (summed (record { head = head; lacing = lacing.now; body = body.now }))) writer.old writer.new result }
 {
-    let sum = page_sum(head, lacing, body);
+    let sum = sum_of_page(head, lacing, body);
     let count = lacing.len() as u8;
     writer.put_bytes(&[0x4F, 0x67, 0x67, 0x53, 0, head.flags])?;
     writer.put_bytes(&head.granule.to_le_bytes())?;
@@ -89,11 +115,7 @@ fn head_of(marks: PacketMarks, last: usize, page: usize) -> Head
     let ends = if page == last && marks.last { 4 } else { 0 };
     Head {
         flags: begins + ends,
-        granule: if page == last {
-            marks.granule
-        } else {
-            0xFFFF_FFFF_FFFF_FFFF
-        },
+        granule: marks.kind.granule(page == last),
         serial: marks.serial,
         sequence: marks.sequence.wrapping_add((page % 4_294_967_296) as u32),
         sum: 0,
@@ -163,11 +185,11 @@ pub fn write_packets<W: Target>(
     let mut from = 0;
     let mut sequence = 0;
     for i in 0..count {
-        let PacketAt { end, granule } = packets[i];
+        let PacketAt { end, kind } = packets[i];
         let marks = PacketMarks {
             serial,
             sequence,
-            granule,
+            kind,
             first: i == 0,
             last: i + 1 == count,
         };

@@ -30,4 +30,4 @@ returns c =
     let is = first_text c.blocks-2.result.now list c.info_of-info.result (info_of p a least greatest) (bits_of first) c.blocks-2.ensures.items c.info_of-info.ensures (ap bits_of c.as_slice.ensures.value ∙ c.in_ok-first.ensures) in
     let made : Made p list a c.push_frames.new.packets first =
     packets_made p list a c.new-packets.result c.push.new.self c.push_blocks.new.packets c.push_frames.new.packets (zeros 51) first least greatest blank_long c.new-packets.ensures c.in_ok-push.ensures c.in_ok-push_blocks.ensures c.in_ok-sizes.ensures.put is in
-    (record { packet = first; granule = made.old.granule } ∷ made.others, c.set_first.ensures made.old made.others made.long made.held, made.are)
+    (record { packet = first; kind = made.old.kind } ∷ made.others, c.set_first.ensures made.old made.others made.long made.held, made.are)

@@ -4,10 +4,11 @@ use Rattle.flac_meta.specs.Listed.{list_fault, info_seen}
 use Rattle.flac_meta.specs.Spelling.{block_spelling}
 use Rattle.flac_meta.specs.declared.block.Block.{Block}
 use Rattle.flac_native.proofs.BlocksWritten.{each_written}
+use Rattle.flac_pages.specs.declared.writing.PacketKind.TheVariants.{Header}
 use Rattle.flac_ogg.specs.Listed.{Puts}
 use Rattle.flac_ogg.specs.Native.{block_spellings}
 use Rattle.flac_ogg.proofs.Listing.{puts_then}
-use Rattle.flac_ogg.proofs.Packing.{block_more, all_blocks, zeros, zeros_more}
+use Rattle.flac_ogg.proofs.Packing.{block_more, all_blocks, headers, headers_more}
 use Rattle.flac_ogg.proofs.encoding.push_blocks.Goals as goal
 
 pub block_packet-requires : goal.block_packet-requires
@@ -28,10 +29,10 @@ loop-i-preserved c =
     let text : List Bool = bits_of c.as_slice.result.now in
     let here : text ≡ block_spelling (nat_eq (i + 1) (length bs)) c.index-blocks-i.result = ap bits_of c.as_slice.ensures.value ∙ c.in_ok-packet.ensures in
     let texts : so_far ++ text ∷ [] ≡ take (i + 1) (block_spellings bs) = ap (λ t. so_far ++ t ∷ []) here ∙ sym (block_more bs i c.index-blocks-i.result lt c.index-blocks-i.is) in
-    let more : Puts (so_far ++ text ∷ []) (zeros i ++ 0 ∷ []) old new = puts_then so_far (text ∷ []) (zeros i) (0 ∷ []) old c.loop-i.packets new c.loop-i.invariant.put c.in_ok-push.ensures in
+    let more : Puts (so_far ++ text ∷ []) (headers i ++ Header ∷ []) old new = puts_then so_far (text ∷ []) (headers i) (Header ∷ []) old c.loop-i.packets new c.loop-i.invariant.put c.in_ok-push.ensures in
     record {
       few = omega (arith, lt);
-      put = subst (λ t. Puts t (zeros (i + 1)) old new) texts (subst (λ z. Puts (so_far ++ text ∷ []) z old new) (sym (zeros_more i)) more);
+      put = subst (λ t. Puts t (headers (i + 1)) old new) texts (subst (λ z. Puts (so_far ++ text ∷ []) z old new) (sym (headers_more i)) more);
     }
 
 pub returns : goal.returns
@@ -41,5 +42,5 @@ returns c =
     let old = c.args.packets.now in
     let new = c.loop-i.packets in
     let i_is : i ≡ length bs = omega (arith, c.loop-i-test.false, c.loop-i.invariant.few) in
-    subst (λ (l : List Block). Puts (block_spellings l) (zeros (length l)) old new) c.blocks-blocks.ensures.items
-    (subst (λ n. Puts (block_spellings bs) (zeros n) old new) i_is (subst (λ t. Puts t (zeros i) old new) (all_blocks bs i i_is) c.loop-i.invariant.put))
+    subst (λ (l : List Block). Puts (block_spellings l) (headers (length l)) old new) c.blocks-blocks.ensures.items
+    (subst (λ n. Puts (block_spellings bs) (headers n) old new) i_is (subst (λ t. Puts t (headers i) old new) (all_blocks bs i i_is) c.loop-i.invariant.put))

@@ -2,6 +2,7 @@ use Rattle.std.proofs.Common.{ℕ, ◌+◌, ◌-◌, ◌<◌, nat_eq, length, ta
 use Rattle.std.proofs.lemmas.Result.{err_from_is_err_and}
 use Rattle.flac_bits.proofs.Writing.{towards_start, towards_more, towards_fail}
 use Rattle.flac_pages.specs.declared.writing.PacketAt.{PacketAt}
+use Rattle.flac_pages.specs.declared.writing.PacketKind.TheVariants.{Header}
 use Rattle.flac_pages.specs.Placed.{sequence_behind, stream_spelling}
 use Rattle.flac_pages.proofs.PlacedWritten.{bits_from, in_order, step_is}
 use Rattle.flac_pages.proofs.writing.write_packets.Goals as goal
@@ -14,7 +15,7 @@ pub returns-in_err-sequence : goal.returns-in_err-sequence
 returns-in_err-sequence g c =
     let e = err_from_is_err_and c.from_residual.result c.from_residual.ensures.1 in
     let ps = c.args.packets.now in let i = c.loop-i.i in let bytes = c.args.bytes.now in
-    let none : PacketAt = record { end = 0; granule = 0 } in
+    let none : PacketAt = record { end = 0; kind = Header } in
     let p : PacketAt = slice_index_or ps i none in
     let next : ℕ = sequence_behind c.loop-i.sequence (take (p.end - c.loop-i.from) (drop c.loop-i.from bytes)) in
     rw (e.1, e.2) (towards_fail _ (bits_from c.args.serial next (nat_eq (i + 1) 0) bytes p.end (drop (i + 1) ps))
@@ -23,7 +24,7 @@ returns-in_err-sequence g c =
 pub loop-i-preserved : goal.loop-i-preserved
 loop-i-preserved g c =
     let ps = c.args.packets.now in let i = c.loop-i.i in let bytes = c.args.bytes.now in
-    let none : PacketAt = record { end = 0; granule = 0 } in
+    let none : PacketAt = record { end = 0; kind = Header } in
     let p : PacketAt = slice_index_or ps i none in
     let lt : i < length ps = omega (arith, c.loop-i-test.true) in
     let next = c.in_ok-sequence.sequence in

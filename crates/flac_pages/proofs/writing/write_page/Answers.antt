@@ -48,7 +48,7 @@ returns-in_err-put_bytes-5 g c =
     let p = err_from_is_err_and c.from_residual-in_err-put_bytes-5.result c.from_residual-in_err-put_bytes-5.ensures.1 in
     let h = c.args.head in let l = c.args.lacing.now in let b = c.args.body.now in
     let sum = page_sum (record { head = h; lacing = l; body = b }) in
-    rw (p.1, p.2) (towards_fail _ (joined (bits_of (length l ∷ []) ∷ bits_of l ∷ bits_of b ∷ [])) (same (joined (bits_of (length l ∷ []) ∷ bits_of l ∷ bits_of b ∷ [])) (c.to_le_bytes-4.ensures ∙ ap (λ n. to_le_bytes w32 n) c.page_sum-sum.ensures)) (towards_more (joined (bits_of (to_le_bytes w32 sum) ∷ bits_of (length l ∷ []) ∷ bits_of l ∷ bits_of b ∷ [])) (same (joined (bits_of (to_le_bytes w32 sum) ∷ bits_of (length l ∷ []) ∷ bits_of l ∷ bits_of b ∷ [])) c.to_le_bytes-3.ensures) (towards_more (joined (bits_of (to_le_bytes w32 h.sequence) ∷ bits_of (to_le_bytes w32 sum) ∷ bits_of (length l ∷ []) ∷ bits_of l ∷ bits_of b ∷ [])) (same (joined (bits_of (to_le_bytes w32 h.sequence) ∷ bits_of (to_le_bytes w32 sum) ∷ bits_of (length l ∷ []) ∷ bits_of l ∷ bits_of b ∷ [])) c.to_le_bytes-2.ensures) (towards_more (joined (bits_of (to_le_bytes w32 h.serial) ∷ bits_of (to_le_bytes w32 h.sequence) ∷ bits_of (to_le_bytes w32 sum) ∷ bits_of (length l ∷ []) ∷ bits_of l ∷ bits_of b ∷ [])) (same (joined (bits_of (to_le_bytes w32 h.serial) ∷ bits_of (to_le_bytes w32 h.sequence) ∷ bits_of (to_le_bytes w32 sum) ∷ bits_of (length l ∷ []) ∷ bits_of l ∷ bits_of b ∷ [])) c.to_le_bytes.ensures) (towards_more (joined (bits_of (to_le_bytes w64 h.granule) ∷ bits_of (to_le_bytes w32 h.serial) ∷ bits_of (to_le_bytes w32 h.sequence) ∷ bits_of (to_le_bytes w32 sum) ∷ bits_of (length l ∷ []) ∷ bits_of l ∷ bits_of b ∷ [])) refl (towards_start _ c.args.writer.now) c.in_ok-put_bytes.ensures) c.in_ok-put_bytes-2.ensures) c.in_ok-put_bytes-3.ensures) c.in_ok-put_bytes-4.ensures) c.in_err-put_bytes-5.ensures)
+    rw (p.1, p.2) (towards_fail _ (joined (bits_of (length l ∷ []) ∷ bits_of l ∷ bits_of b ∷ [])) (same (joined (bits_of (length l ∷ []) ∷ bits_of l ∷ bits_of b ∷ [])) (c.to_le_bytes-4.ensures ∙ ap (λ n. to_le_bytes w32 n) c.sum_of_page-sum.ensures)) (towards_more (joined (bits_of (to_le_bytes w32 sum) ∷ bits_of (length l ∷ []) ∷ bits_of l ∷ bits_of b ∷ [])) (same (joined (bits_of (to_le_bytes w32 sum) ∷ bits_of (length l ∷ []) ∷ bits_of l ∷ bits_of b ∷ [])) c.to_le_bytes-3.ensures) (towards_more (joined (bits_of (to_le_bytes w32 h.sequence) ∷ bits_of (to_le_bytes w32 sum) ∷ bits_of (length l ∷ []) ∷ bits_of l ∷ bits_of b ∷ [])) (same (joined (bits_of (to_le_bytes w32 h.sequence) ∷ bits_of (to_le_bytes w32 sum) ∷ bits_of (length l ∷ []) ∷ bits_of l ∷ bits_of b ∷ [])) c.to_le_bytes-2.ensures) (towards_more (joined (bits_of (to_le_bytes w32 h.serial) ∷ bits_of (to_le_bytes w32 h.sequence) ∷ bits_of (to_le_bytes w32 sum) ∷ bits_of (length l ∷ []) ∷ bits_of l ∷ bits_of b ∷ [])) (same (joined (bits_of (to_le_bytes w32 h.serial) ∷ bits_of (to_le_bytes w32 h.sequence) ∷ bits_of (to_le_bytes w32 sum) ∷ bits_of (length l ∷ []) ∷ bits_of l ∷ bits_of b ∷ [])) c.to_le_bytes.ensures) (towards_more (joined (bits_of (to_le_bytes w64 h.granule) ∷ bits_of (to_le_bytes w32 h.serial) ∷ bits_of (to_le_bytes w32 h.sequence) ∷ bits_of (to_le_bytes w32 sum) ∷ bits_of (length l ∷ []) ∷ bits_of l ∷ bits_of b ∷ [])) refl (towards_start _ c.args.writer.now) c.in_ok-put_bytes.ensures) c.in_ok-put_bytes-2.ensures) c.in_ok-put_bytes-3.ensures) c.in_ok-put_bytes-4.ensures) c.in_err-put_bytes-5.ensures)
 
 pub returns-in_err-put_bytes-6 : goal.returns-in_err-put_bytes-6
 unfolding page_spelling
@@ -56,7 +56,7 @@ returns-in_err-put_bytes-6 g c =
     let p = err_from_is_err_and c.from_residual-in_err-put_bytes-6.result c.from_residual-in_err-put_bytes-6.ensures.1 in
     let h = c.args.head in let l = c.args.lacing.now in let b = c.args.body.now in
     let sum = page_sum (record { head = h; lacing = l; body = b }) in
-    rw (p.1, p.2) (towards_fail _ (joined (bits_of l ∷ bits_of b ∷ [])) refl (towards_more (joined (bits_of (length l ∷ []) ∷ bits_of l ∷ bits_of b ∷ [])) (same (joined (bits_of (length l ∷ []) ∷ bits_of l ∷ bits_of b ∷ [])) (c.to_le_bytes-4.ensures ∙ ap (λ n. to_le_bytes w32 n) c.page_sum-sum.ensures)) (towards_more (joined (bits_of (to_le_bytes w32 sum) ∷ bits_of (length l ∷ []) ∷ bits_of l ∷ bits_of b ∷ [])) (same (joined (bits_of (to_le_bytes w32 sum) ∷ bits_of (length l ∷ []) ∷ bits_of l ∷ bits_of b ∷ [])) c.to_le_bytes-3.ensures) (towards_more (joined (bits_of (to_le_bytes w32 h.sequence) ∷ bits_of (to_le_bytes w32 sum) ∷ bits_of (length l ∷ []) ∷ bits_of l ∷ bits_of b ∷ [])) (same (joined (bits_of (to_le_bytes w32 h.sequence) ∷ bits_of (to_le_bytes w32 sum) ∷ bits_of (length l ∷ []) ∷ bits_of l ∷ bits_of b ∷ [])) c.to_le_bytes-2.ensures) (towards_more (joined (bits_of (to_le_bytes w32 h.serial) ∷ bits_of (to_le_bytes w32 h.sequence) ∷ bits_of (to_le_bytes w32 sum) ∷ bits_of (length l ∷ []) ∷ bits_of l ∷ bits_of b ∷ [])) (same (joined (bits_of (to_le_bytes w32 h.serial) ∷ bits_of (to_le_bytes w32 h.sequence) ∷ bits_of (to_le_bytes w32 sum) ∷ bits_of (length l ∷ []) ∷ bits_of l ∷ bits_of b ∷ [])) c.to_le_bytes.ensures) (towards_more (joined (bits_of (to_le_bytes w64 h.granule) ∷ bits_of (to_le_bytes w32 h.serial) ∷ bits_of (to_le_bytes w32 h.sequence) ∷ bits_of (to_le_bytes w32 sum) ∷ bits_of (length l ∷ []) ∷ bits_of l ∷ bits_of b ∷ [])) refl (towards_start _ c.args.writer.now) c.in_ok-put_bytes.ensures) c.in_ok-put_bytes-2.ensures) c.in_ok-put_bytes-3.ensures) c.in_ok-put_bytes-4.ensures) c.in_ok-put_bytes-5.ensures) c.in_err-put_bytes-6.ensures)
+    rw (p.1, p.2) (towards_fail _ (joined (bits_of l ∷ bits_of b ∷ [])) refl (towards_more (joined (bits_of (length l ∷ []) ∷ bits_of l ∷ bits_of b ∷ [])) (same (joined (bits_of (length l ∷ []) ∷ bits_of l ∷ bits_of b ∷ [])) (c.to_le_bytes-4.ensures ∙ ap (λ n. to_le_bytes w32 n) c.sum_of_page-sum.ensures)) (towards_more (joined (bits_of (to_le_bytes w32 sum) ∷ bits_of (length l ∷ []) ∷ bits_of l ∷ bits_of b ∷ [])) (same (joined (bits_of (to_le_bytes w32 sum) ∷ bits_of (length l ∷ []) ∷ bits_of l ∷ bits_of b ∷ [])) c.to_le_bytes-3.ensures) (towards_more (joined (bits_of (to_le_bytes w32 h.sequence) ∷ bits_of (to_le_bytes w32 sum) ∷ bits_of (length l ∷ []) ∷ bits_of l ∷ bits_of b ∷ [])) (same (joined (bits_of (to_le_bytes w32 h.sequence) ∷ bits_of (to_le_bytes w32 sum) ∷ bits_of (length l ∷ []) ∷ bits_of l ∷ bits_of b ∷ [])) c.to_le_bytes-2.ensures) (towards_more (joined (bits_of (to_le_bytes w32 h.serial) ∷ bits_of (to_le_bytes w32 h.sequence) ∷ bits_of (to_le_bytes w32 sum) ∷ bits_of (length l ∷ []) ∷ bits_of l ∷ bits_of b ∷ [])) (same (joined (bits_of (to_le_bytes w32 h.serial) ∷ bits_of (to_le_bytes w32 h.sequence) ∷ bits_of (to_le_bytes w32 sum) ∷ bits_of (length l ∷ []) ∷ bits_of l ∷ bits_of b ∷ [])) c.to_le_bytes.ensures) (towards_more (joined (bits_of (to_le_bytes w64 h.granule) ∷ bits_of (to_le_bytes w32 h.serial) ∷ bits_of (to_le_bytes w32 h.sequence) ∷ bits_of (to_le_bytes w32 sum) ∷ bits_of (length l ∷ []) ∷ bits_of l ∷ bits_of b ∷ [])) refl (towards_start _ c.args.writer.now) c.in_ok-put_bytes.ensures) c.in_ok-put_bytes-2.ensures) c.in_ok-put_bytes-3.ensures) c.in_ok-put_bytes-4.ensures) c.in_ok-put_bytes-5.ensures) c.in_err-put_bytes-6.ensures)
 
 pub returns-in_err-put_bytes-7 : goal.returns-in_err-put_bytes-7
 unfolding page_spelling
@@ -64,11 +64,11 @@ returns-in_err-put_bytes-7 g c =
     let p = err_from_is_err_and c.from_residual-in_err-put_bytes-7.result c.from_residual-in_err-put_bytes-7.ensures.1 in
     let h = c.args.head in let l = c.args.lacing.now in let b = c.args.body.now in
     let sum = page_sum (record { head = h; lacing = l; body = b }) in
-    rw (p.1, p.2) (towards_fail _ (joined (bits_of b ∷ [])) refl (towards_more (joined (bits_of l ∷ bits_of b ∷ [])) refl (towards_more (joined (bits_of (length l ∷ []) ∷ bits_of l ∷ bits_of b ∷ [])) (same (joined (bits_of (length l ∷ []) ∷ bits_of l ∷ bits_of b ∷ [])) (c.to_le_bytes-4.ensures ∙ ap (λ n. to_le_bytes w32 n) c.page_sum-sum.ensures)) (towards_more (joined (bits_of (to_le_bytes w32 sum) ∷ bits_of (length l ∷ []) ∷ bits_of l ∷ bits_of b ∷ [])) (same (joined (bits_of (to_le_bytes w32 sum) ∷ bits_of (length l ∷ []) ∷ bits_of l ∷ bits_of b ∷ [])) c.to_le_bytes-3.ensures) (towards_more (joined (bits_of (to_le_bytes w32 h.sequence) ∷ bits_of (to_le_bytes w32 sum) ∷ bits_of (length l ∷ []) ∷ bits_of l ∷ bits_of b ∷ [])) (same (joined (bits_of (to_le_bytes w32 h.sequence) ∷ bits_of (to_le_bytes w32 sum) ∷ bits_of (length l ∷ []) ∷ bits_of l ∷ bits_of b ∷ [])) c.to_le_bytes-2.ensures) (towards_more (joined (bits_of (to_le_bytes w32 h.serial) ∷ bits_of (to_le_bytes w32 h.sequence) ∷ bits_of (to_le_bytes w32 sum) ∷ bits_of (length l ∷ []) ∷ bits_of l ∷ bits_of b ∷ [])) (same (joined (bits_of (to_le_bytes w32 h.serial) ∷ bits_of (to_le_bytes w32 h.sequence) ∷ bits_of (to_le_bytes w32 sum) ∷ bits_of (length l ∷ []) ∷ bits_of l ∷ bits_of b ∷ [])) c.to_le_bytes.ensures) (towards_more (joined (bits_of (to_le_bytes w64 h.granule) ∷ bits_of (to_le_bytes w32 h.serial) ∷ bits_of (to_le_bytes w32 h.sequence) ∷ bits_of (to_le_bytes w32 sum) ∷ bits_of (length l ∷ []) ∷ bits_of l ∷ bits_of b ∷ [])) refl (towards_start _ c.args.writer.now) c.in_ok-put_bytes.ensures) c.in_ok-put_bytes-2.ensures) c.in_ok-put_bytes-3.ensures) c.in_ok-put_bytes-4.ensures) c.in_ok-put_bytes-5.ensures) c.in_ok-put_bytes-6.ensures) c.in_err-put_bytes-7.ensures)
+    rw (p.1, p.2) (towards_fail _ (joined (bits_of b ∷ [])) refl (towards_more (joined (bits_of l ∷ bits_of b ∷ [])) refl (towards_more (joined (bits_of (length l ∷ []) ∷ bits_of l ∷ bits_of b ∷ [])) (same (joined (bits_of (length l ∷ []) ∷ bits_of l ∷ bits_of b ∷ [])) (c.to_le_bytes-4.ensures ∙ ap (λ n. to_le_bytes w32 n) c.sum_of_page-sum.ensures)) (towards_more (joined (bits_of (to_le_bytes w32 sum) ∷ bits_of (length l ∷ []) ∷ bits_of l ∷ bits_of b ∷ [])) (same (joined (bits_of (to_le_bytes w32 sum) ∷ bits_of (length l ∷ []) ∷ bits_of l ∷ bits_of b ∷ [])) c.to_le_bytes-3.ensures) (towards_more (joined (bits_of (to_le_bytes w32 h.sequence) ∷ bits_of (to_le_bytes w32 sum) ∷ bits_of (length l ∷ []) ∷ bits_of l ∷ bits_of b ∷ [])) (same (joined (bits_of (to_le_bytes w32 h.sequence) ∷ bits_of (to_le_bytes w32 sum) ∷ bits_of (length l ∷ []) ∷ bits_of l ∷ bits_of b ∷ [])) c.to_le_bytes-2.ensures) (towards_more (joined (bits_of (to_le_bytes w32 h.serial) ∷ bits_of (to_le_bytes w32 h.sequence) ∷ bits_of (to_le_bytes w32 sum) ∷ bits_of (length l ∷ []) ∷ bits_of l ∷ bits_of b ∷ [])) (same (joined (bits_of (to_le_bytes w32 h.serial) ∷ bits_of (to_le_bytes w32 h.sequence) ∷ bits_of (to_le_bytes w32 sum) ∷ bits_of (length l ∷ []) ∷ bits_of l ∷ bits_of b ∷ [])) c.to_le_bytes.ensures) (towards_more (joined (bits_of (to_le_bytes w64 h.granule) ∷ bits_of (to_le_bytes w32 h.serial) ∷ bits_of (to_le_bytes w32 h.sequence) ∷ bits_of (to_le_bytes w32 sum) ∷ bits_of (length l ∷ []) ∷ bits_of l ∷ bits_of b ∷ [])) refl (towards_start _ c.args.writer.now) c.in_ok-put_bytes.ensures) c.in_ok-put_bytes-2.ensures) c.in_ok-put_bytes-3.ensures) c.in_ok-put_bytes-4.ensures) c.in_ok-put_bytes-5.ensures) c.in_ok-put_bytes-6.ensures) c.in_err-put_bytes-7.ensures)
 
 pub returns : goal.returns
 unfolding page_spelling
 returns g c =
     let h = c.args.head in let l = c.args.lacing.now in let b = c.args.body.now in
     let sum = page_sum (record { head = h; lacing = l; body = b }) in
-    towards_last c.put_bytes-8.new.self c.put_bytes-8.result (towards_more (joined (bits_of b ∷ [])) refl (towards_more (joined (bits_of l ∷ bits_of b ∷ [])) refl (towards_more (joined (bits_of (length l ∷ []) ∷ bits_of l ∷ bits_of b ∷ [])) (same (joined (bits_of (length l ∷ []) ∷ bits_of l ∷ bits_of b ∷ [])) (c.to_le_bytes-4.ensures ∙ ap (λ n. to_le_bytes w32 n) c.page_sum-sum.ensures)) (towards_more (joined (bits_of (to_le_bytes w32 sum) ∷ bits_of (length l ∷ []) ∷ bits_of l ∷ bits_of b ∷ [])) (same (joined (bits_of (to_le_bytes w32 sum) ∷ bits_of (length l ∷ []) ∷ bits_of l ∷ bits_of b ∷ [])) c.to_le_bytes-3.ensures) (towards_more (joined (bits_of (to_le_bytes w32 h.sequence) ∷ bits_of (to_le_bytes w32 sum) ∷ bits_of (length l ∷ []) ∷ bits_of l ∷ bits_of b ∷ [])) (same (joined (bits_of (to_le_bytes w32 h.sequence) ∷ bits_of (to_le_bytes w32 sum) ∷ bits_of (length l ∷ []) ∷ bits_of l ∷ bits_of b ∷ [])) c.to_le_bytes-2.ensures) (towards_more (joined (bits_of (to_le_bytes w32 h.serial) ∷ bits_of (to_le_bytes w32 h.sequence) ∷ bits_of (to_le_bytes w32 sum) ∷ bits_of (length l ∷ []) ∷ bits_of l ∷ bits_of b ∷ [])) (same (joined (bits_of (to_le_bytes w32 h.serial) ∷ bits_of (to_le_bytes w32 h.sequence) ∷ bits_of (to_le_bytes w32 sum) ∷ bits_of (length l ∷ []) ∷ bits_of l ∷ bits_of b ∷ [])) c.to_le_bytes.ensures) (towards_more (joined (bits_of (to_le_bytes w64 h.granule) ∷ bits_of (to_le_bytes w32 h.serial) ∷ bits_of (to_le_bytes w32 h.sequence) ∷ bits_of (to_le_bytes w32 sum) ∷ bits_of (length l ∷ []) ∷ bits_of l ∷ bits_of b ∷ [])) refl (towards_start _ c.args.writer.now) c.in_ok-put_bytes.ensures) c.in_ok-put_bytes-2.ensures) c.in_ok-put_bytes-3.ensures) c.in_ok-put_bytes-4.ensures) c.in_ok-put_bytes-5.ensures) c.in_ok-put_bytes-6.ensures) c.in_ok-put_bytes-7.ensures) (rw (append-nil (bits_of b)) c.put_bytes-8.ensures)
+    towards_last c.put_bytes-8.new.self c.put_bytes-8.result (towards_more (joined (bits_of b ∷ [])) refl (towards_more (joined (bits_of l ∷ bits_of b ∷ [])) refl (towards_more (joined (bits_of (length l ∷ []) ∷ bits_of l ∷ bits_of b ∷ [])) (same (joined (bits_of (length l ∷ []) ∷ bits_of l ∷ bits_of b ∷ [])) (c.to_le_bytes-4.ensures ∙ ap (λ n. to_le_bytes w32 n) c.sum_of_page-sum.ensures)) (towards_more (joined (bits_of (to_le_bytes w32 sum) ∷ bits_of (length l ∷ []) ∷ bits_of l ∷ bits_of b ∷ [])) (same (joined (bits_of (to_le_bytes w32 sum) ∷ bits_of (length l ∷ []) ∷ bits_of l ∷ bits_of b ∷ [])) c.to_le_bytes-3.ensures) (towards_more (joined (bits_of (to_le_bytes w32 h.sequence) ∷ bits_of (to_le_bytes w32 sum) ∷ bits_of (length l ∷ []) ∷ bits_of l ∷ bits_of b ∷ [])) (same (joined (bits_of (to_le_bytes w32 h.sequence) ∷ bits_of (to_le_bytes w32 sum) ∷ bits_of (length l ∷ []) ∷ bits_of l ∷ bits_of b ∷ [])) c.to_le_bytes-2.ensures) (towards_more (joined (bits_of (to_le_bytes w32 h.serial) ∷ bits_of (to_le_bytes w32 h.sequence) ∷ bits_of (to_le_bytes w32 sum) ∷ bits_of (length l ∷ []) ∷ bits_of l ∷ bits_of b ∷ [])) (same (joined (bits_of (to_le_bytes w32 h.serial) ∷ bits_of (to_le_bytes w32 h.sequence) ∷ bits_of (to_le_bytes w32 sum) ∷ bits_of (length l ∷ []) ∷ bits_of l ∷ bits_of b ∷ [])) c.to_le_bytes.ensures) (towards_more (joined (bits_of (to_le_bytes w64 h.granule) ∷ bits_of (to_le_bytes w32 h.serial) ∷ bits_of (to_le_bytes w32 h.sequence) ∷ bits_of (to_le_bytes w32 sum) ∷ bits_of (length l ∷ []) ∷ bits_of l ∷ bits_of b ∷ [])) refl (towards_start _ c.args.writer.now) c.in_ok-put_bytes.ensures) c.in_ok-put_bytes-2.ensures) c.in_ok-put_bytes-3.ensures) c.in_ok-put_bytes-4.ensures) c.in_ok-put_bytes-5.ensures) c.in_ok-put_bytes-6.ensures) c.in_ok-put_bytes-7.ensures) (rw (append-nil (bits_of b)) c.put_bytes-8.ensures)

@@ -1,7 +1,7 @@
 use Rattle.std.proofs.Common.{◌≡◌, List, ℕ, ap, ◌∙◌}
 use Rattle.flac_bits.specs.Bits.{bits_of}
 use Rattle.flac_pages.proofs.PageSum.{page_sum_is, step}
-use Rattle.flac_pages.proofs.writing.page_sum.Goals as goal
+use Rattle.flac_pages.proofs.writing.sum_of_page.Goals as goal
 
 pub returns : goal.returns
 returns c =
