@@ -1,21 +1,7 @@
 //! The program `flac`: tests, decodes, lists, encodes and retags FLAC streams (RFC 9639).
 #![tactic(auto)]
 
-#[cfg(test)]
-mod encoding_tests;
 mod files;
-#[cfg(test)]
-mod list_tests;
-#[cfg(test)]
-mod ogg_tests;
-#[cfg(test)]
-mod retagging_tests;
-#[cfg(test)]
-mod row_tests;
-#[cfg(test)]
-mod sweep_tests;
-#[cfg(test)]
-mod tests;
 
 use crate::files::create;
 use flac_bits::Counted;

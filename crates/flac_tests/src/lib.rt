@@ -9,10 +9,16 @@ mod encoding;
 #[cfg(test)]
 mod frames;
 #[cfg(test)]
+mod hostile;
+#[cfg(test)]
 mod ogg;
+#[cfg(test)]
+mod program;
 #[cfg(test)]
 mod retagging;
 #[cfg(test)]
 mod seeking;
 #[cfg(test)]
 mod subframes;
+#[cfg(test)]
+mod tables;

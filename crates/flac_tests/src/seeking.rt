@@ -1,9 +1,9 @@
 //! Seek tables that are written, and a stream that is read from a point on.
 
-use flac_bits::{Collected, Memory};
-use flac_frame::Audio;
+use flac_bits::{Collected, Memory, Source};
+use flac_frame::{Audio, FrameView};
 use flac_meta::{Block, BlockList, SeekPoint, SeekTable, StreamInfo};
-use flac_native::{Decoder, EncodeFault, Item, Plan, Profile, encode};
+use flac_native::{Decoder, EncodeFault, Fault, Item, Plan, Profile, encode};
 use std::alloc::Global;
 use std::test::Fail;
 
@@ -40,36 +40,65 @@ fn repeated_table(rt: HostRuntime) -> Result<(), Fail> {
     Ok(())
 }
 
-/// The two points of seventeen samples in blocks of sixteen: the first frame has 16 bytes.
-const POINTS: [u8; 40] = [
-    0x83, 0x00, 0x00, 0x24, 0, 0, 0, 0, 0, 0, 0, 0, 0, 0, 0, 0, 0, 0, 0, 0, 0, 16, 0, 0, 0, 0, 0,
-    0, 0, 16, 0, 0, 0, 0, 0, 0, 0, 16, 0, 1,
+/// The samples 0, 1, .., 9999 of one channel of 16 bits, in blocks of 4096 with seek points at every 1000: STREAMINFO, the three points, and the frames, each
+/// by a fixed predictor of order 2 that leaves nothing.
+const TEN_THOUSAND: &str = "664c6143000000221000100000000f0000110ac440f000002710fbaf22f91d9bc53a48e9bcd88d4a22ff\
+    8300003600000000000000000000000000000000100000000000000010000000000000000f1000000000000000200000000000000000\
+    1e0710fff8c9080095140000000103c080fcfff8c9080192141000100103c0b699fff8790802070ff1142000200103c0c8ca";
+
+/// The MD5 of those samples.
+const DIGEST: [u8; 16] = [
+    0xFB, 0xAF, 0x22, 0xF9, 0x1D, 0x9B, 0xC5, 0x3A, 0x48, 0xE9, 0xBC, 0xD8, 0x8D, 0x4A, 0x22, 0xFF,
 ];
 
-/// STREAMINFO of those samples, of which neither the number nor the digest is that of the last frame.
-fn told() -> Option<StreamInfo> {
-    StreamInfo::new(16, 16, 0, 0, 44100, 1, 16, 17, [1; 16]).ok()
-}
-
-#[test]
-fn resumed_at_a_point(rt: HostRuntime) -> Result<(), Fail> {
-    let alloc = rt.alloc();
-    let audio = seventeen(alloc)?;
-    let plan = Plan::new(16, &audio, 16)?;
+/// Those samples, encoded.
+fn ten_thousand(alloc: Global) -> Result<Vec<u8>, Fail> {
+    let mut samples = Vec::new(alloc);
+    for i in 0..10000 {
+        samples.push(i)?;
+    }
+    let audio = Audio::new(44100, 16, vec![in alloc; samples]?)?;
+    let plan = Plan::new(4096, &audio, 1000)?;
     let list = BlockList::new(Vec::new(alloc))?;
     let mut target = Collected::new(alloc);
     encode(alloc, &plan, &list, &audio, &mut target)?;
-    let stream = target.bytes();
-    assert!(rt; stream.len() > 98);
-    assert_eq!(rt; &stream[42..82], &POINTS[..]);
-    if let Some(info) = told() {
-        let source = Memory::new(&stream[98..]);
-        let mut decoder = Decoder::resume(alloc, source, &info, Profile::Subset)?;
-        match decoder.next()? {
-            Item::Frame(frame) => assert_eq!(rt; (frame.channels(), frame.len()), (1, 1)),
-            _ => assert!(rt; false, "no frame"),
-        }
-        assert!(rt; matches!(decoder.next()?, Item::End));
+    Ok(target.into_bytes())
+}
+
+/// The next frame: its number, its channels, how many samples a channel has, and the first and the last of them.
+fn next_frame<R: Source>(decoder: &mut Decoder<R>) -> Result<Option<Told>, Fault> {
+    match decoder.next()? {
+        Item::Frame(frame) => Ok(Some(told(&frame))),
+        _ => Ok(None),
     }
+}
+
+/// A frame's number, its channels, how many samples a channel has, and the first and the last sample of the first channel.
+type Told = (u64, usize, usize, Option<i32>, Option<i32>);
+
+fn told(frame: &FrameView<'_>) -> Told {
+    let (mut first, mut last) = (None, None);
+    if frame.channels() > 0 {
+        first = frame.channel(0).first().copied();
+        last = frame.channel(0).last().copied();
+    }
+    (frame.number(), frame.channels(), frame.len(), first, last)
+}
+
+/// The stream is written with its points, and read from the second one on: two frames, and the end.
+#[test]
+fn resumed_at_a_point(rt: HostRuntime) -> Result<(), Fail> {
+    let alloc = rt.alloc();
+    let stream = ten_thousand(alloc)?;
+    let wanted = hex::decode(alloc, TEN_THOUSAND)?;
+    assert_eq!(rt; stream.as_slice(), wanted.as_slice());
+    let info = StreamInfo::new(4096, 4096, 15, 17, 44100, 1, 16, 10000, DIGEST)?;
+    let source = Memory::new(stream.get(100 + 15..).unwrap_or(&[]));
+    let mut decoder = Decoder::resume(alloc, source, &info, Profile::Subset)?;
+    let second = Some((1, 1, 4096, Some(4096), Some(8191)));
+    assert_eq!(rt; next_frame(&mut decoder)?, second);
+    let third = Some((2, 1, 1808, Some(8192), Some(9999)));
+    assert_eq!(rt; next_frame(&mut decoder)?, third);
+    assert!(rt; matches!(decoder.next()?, Item::End));
     Ok(())
 }

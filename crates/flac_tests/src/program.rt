@@ -1,0 +1,383 @@
+//! The program over memory, by tables of text.
+
+use crate::tables::{
+    CHANGES, COME_BACK, ENCODINGS, JOBS, LAST_BYTE, LISTS, NATIVE, OGG, PIECES, PREFIXES,
+    RETAGGINGS, SWEPT,
+};
+use flac_bits::{Collected, Counted, Memory, Pieces};
+use flac_cli::{Container, Format, Job, job, run};
+use std::alloc::Global;
+use std::io;
+use std::io::Write;
+use std::process::Abort;
+use std::test::Fail;
+
+pub(crate) const TEST: Job<'static> = Job::Test { input: "a.flac" };
+
+const DECODE: Job<'static> = Job::Decode {
+    input: "a.flac",
+    output: "a.raw",
+};
+
+const LIST: Job<'static> = Job::List { input: "a.flac" };
+
+/// The status of a command, and what it wrote to its file, to standard output and to standard error.
+#[derive(Drop)]
+pub(crate) struct Outcome {
+    status: u8,
+    file: Vec<u8>,
+    out: Vec<u8>,
+    err: Vec<u8>,
+}
+
+impl Outcome {
+    /// Whether this status and just these bytes came of it.
+    fn is(&self, status: u8, file: &[u8], out: &str, err: &str) -> bool {
+        self.status == status
+            && self.file.as_slice() == file
+            && self.out.as_slice() == out.as_bytes()
+            && self.err.as_slice() == err.as_bytes()
+    }
+}
+
+/// The hex digits of the piece of this name, or else the word itself.
+fn digits_of<'a>(word: &'a str) -> &'a str {
+    for line in PIECES.lines() {
+        if let Some((name, digits)) = line.split_once(' ') {
+            if name == word {
+                return digits;
+            }
+        }
+    }
+    word
+}
+
+/// The bytes of some words: each is the name of a piece or hex digits, and `WORD*COUNT` is that often.
+pub(crate) fn bytes_of(alloc: Global, words: &str) -> Result<Vec<u8>, Fail> {
+    let mut bytes = Vec::new(alloc);
+    for word in words.split_whitespace() {
+        let (name, count) = word.split_once('*').unwrap_or((word, "1"));
+        let part = hex::decode(alloc, digits_of(name))?;
+        for _ in 0..count.parse::<usize>()? {
+            bytes.extend_from_slice(&part)?;
+        }
+    }
+    Ok(bytes)
+}
+
+/// The lines of a text, each of which ends at a `;`.
+fn lines_of(alloc: Global, text: &str) -> Result<String, Fail> {
+    Ok(text.replace(alloc, ';', "\n")?)
+}
+
+/// The words of a command line, the program's name first.
+fn words_of(alloc: Global, line: &str) -> Result<Vec<String>, Fail> {
+    let mut words = Vec::new(alloc);
+    for word in line.split_whitespace() {
+        words.push(String::from_str(alloc, word)?)?;
+    }
+    Ok(words)
+}
+
+/// Does a job over memory, which gives at most `most` bytes at once.
+pub(crate) fn perform(alloc: Global, job: &Job<'_>, input: &[u8], most: usize) -> Outcome {
+    let mut source = Pieces::new(Memory::new(input), most);
+    let mut file = Collected::new(alloc);
+    let mut out = Collected::new(alloc);
+    let mut err = Collected::new(alloc);
+    let status = run(alloc, job, &mut source, &mut file, &mut out, &mut err);
+    Outcome {
+        status,
+        file: file.into_bytes(),
+        out: out.into_bytes(),
+        err: err.into_bytes(),
+    }
+}
+
+/// Does the job of a command line over memory; the status is 2 where its words are refused.
+fn commanded(alloc: Global, line: &str, input: &[u8], most: usize) -> Result<Outcome, Fail> {
+    let words = words_of(alloc, line)?;
+    match job(alloc, words.as_slice()) {
+        Ok(job) => Ok(perform(alloc, &job, input, most)),
+        Err(_) => Ok(Outcome {
+            status: 2,
+            file: Vec::new(alloc),
+            out: Vec::new(alloc),
+            err: Vec::new(alloc),
+        }),
+    }
+}
+
+/// Does the command of a row, on an input that comes in pieces of 1, 2, 3 and 4096 bytes, and compares all that came of it.
+fn check_row(rt: &impl Abort, alloc: Global, row: &str) -> Result<(), Fail> {
+    let mut fields = row.split(" | ");
+    let line = format!(in alloc; "flac {}", fields.next().unwrap_or(""))?;
+    let input = bytes_of(alloc, fields.next().unwrap_or(""))?;
+    let status = fields.next().unwrap_or("").parse::<u8>()?;
+    let file = bytes_of(alloc, fields.next().unwrap_or(""))?;
+    let out = lines_of(alloc, fields.next().unwrap_or(""))?;
+    let err = lines_of(alloc, fields.next().unwrap_or(""))?;
+    for most in [1, 2, 3, 4096] {
+        let found = commanded(alloc, &line, &input, most)?;
+        assert!(rt;
+            found.is(status, &file, &out, &err),
+            "in pieces of {most}: {row}"
+        );
+    }
+    Ok(())
+}
+
+/// Checks each row of a table but those that begin with `#`.
+fn check_table(rt: &impl Abort, alloc: Global, table: &str) -> Result<(), Fail> {
+    for row in table.lines() {
+        if !row.starts_with('#') {
+            check_row(rt, alloc, row)?;
+        }
+    }
+    Ok(())
+}
+
+#[test]
+fn native(rt: HostRuntime) -> Result<(), Fail> {
+    check_table(&rt, rt.alloc(), NATIVE)
+}
+
+#[test]
+fn lists(rt: HostRuntime) -> Result<(), Fail> {
+    check_table(&rt, rt.alloc(), LISTS)
+}
+
+#[test]
+fn encodings(rt: HostRuntime) -> Result<(), Fail> {
+    check_table(&rt, rt.alloc(), ENCODINGS)
+}
+
+#[test]
+fn retaggings(rt: HostRuntime) -> Result<(), Fail> {
+    check_table(&rt, rt.alloc(), RETAGGINGS)
+}
+
+#[test]
+fn ogg(rt: HostRuntime) -> Result<(), Fail> {
+    check_table(&rt, rt.alloc(), OGG)
+}
+
+/// `test` answers a stream by the line of its counts, or refuses it by the line of a fault.
+pub(crate) fn answers(
+    rt: &impl Abort,
+    alloc: Global,
+    input: &[u8],
+    line: &str,
+) -> Result<(), Fail> {
+    let found = perform(alloc, &TEST, input, 4096);
+    let same = if line.starts_with("frames ") {
+        found.is(0, &[], &format!(in alloc; "{line}\n")?, "")
+    } else {
+        found.is(1, &[], "", &format!(in alloc; "flac: a.flac: {line}\n")?)
+    };
+    assert!(rt; same, "at {line}");
+    Ok(())
+}
+
+/// Each refusal needs the last byte that was given: without it the input ends too early, in the same item.
+#[test]
+fn refused_at_the_last_byte(rt: HostRuntime) -> Result<(), Fail> {
+    for row in LAST_BYTE.lines() {
+        if let Some((words, line)) = row.split_once(" | ") {
+            let mut input = bytes_of(rt.alloc(), words)?;
+            answers(&rt, rt.alloc(), &input, line)?;
+            let _last = input.pop();
+            let (place, _) = line.split_once(": ").unwrap_or((line, ""));
+            let short = format!(in rt.alloc(); "{place}: 3 Truncated")?;
+            answers(&rt, rt.alloc(), &input, &short)?;
+        }
+    }
+    Ok(())
+}
+
+/// The two numbers of a range.
+fn range_of(words: &str) -> Result<(usize, usize), Fail> {
+    let (from, to) = words.split_once(' ').unwrap_or(("", ""));
+    Ok((from.parse::<usize>()?, to.parse::<usize>()?))
+}
+
+/// Each prefix of two streams, one that states its number of samples and one that does not.
+#[test]
+fn prefixes(rt: HostRuntime) -> Result<(), Fail> {
+    for row in PREFIXES.lines() {
+        let mut fields = row.split(" | ");
+        let stream = bytes_of(rt.alloc(), fields.next().unwrap_or(""))?;
+        let (from, to) = range_of(fields.next().unwrap_or(""))?;
+        let line = fields.next().unwrap_or("");
+        for count in from..to {
+            answers(&rt, rt.alloc(), stream.get(..count).unwrap_or(&[]), line)?;
+        }
+    }
+    Ok(())
+}
+
+/// Some bytes, of which one is changed by these bits.
+fn changed(alloc: Global, bytes: &[u8], place: usize, bits: u8) -> Result<Vec<u8>, Fail> {
+    let mut all = Vec::from_slice(alloc, bytes)?;
+    if let Some(byte) = all.get_mut(place) {
+        *byte ^= bits;
+    }
+    Ok(all)
+}
+
+/// Each byte of two streams with its lowest bit, its highest bit and all its bits changed.
+#[test]
+fn changes(rt: HostRuntime) -> Result<(), Fail> {
+    for row in CHANGES.lines() {
+        let mut fields = row.split(" | ");
+        let stream = bytes_of(rt.alloc(), fields.next().unwrap_or(""))?;
+        let (from, to) = range_of(fields.next().unwrap_or(""))?;
+        for bits in [0x01, 0x80, 0xFF] {
+            let line = fields.next().unwrap_or("");
+            for place in from..to {
+                let other = changed(rt.alloc(), &stream, place, bits)?;
+                answers(&rt, rt.alloc(), &other, line)?;
+            }
+        }
+    }
+    Ok(())
+}
+
+/// A stream of one frame with a byte of it changed is refused there, and none of its samples is written.
+fn refused_in_frame(rt: &impl Abort, alloc: Global, input: &[u8], place: usize) {
+    let found = perform(alloc, &DECODE, input, 4096);
+    assert!(rt;
+        found.status == 1 && found.file.is_empty() && found.out.is_empty(),
+        "at {place}"
+    );
+    assert!(rt;
+        found.err.as_slice().starts_with(b"flac: a.flac: frame 0: "),
+        "at {place}"
+    );
+}
+
+/// Each change of one bit, and of all bits of one byte, of a frame.
+#[test]
+fn each_bit(rt: HostRuntime) -> Result<(), Fail> {
+    for row in SWEPT.lines() {
+        let stream = bytes_of(rt.alloc(), row)?;
+        for place in 42..stream.len() {
+            for bits in [1, 2, 4, 8, 16, 32, 64, 128, 255] {
+                let other = changed(rt.alloc(), &stream, place, bits)?;
+                refused_in_frame(&rt, rt.alloc(), &other, place);
+            }
+        }
+    }
+    Ok(())
+}
+
+/// What a command line is read as: the job, or the status and the text of the refusal, its lines ended by `;`.
+fn read_as(alloc: Global, line: &str) -> Result<String, Fail> {
+    let words = words_of(alloc, line)?;
+    match job(alloc, words.as_slice()) {
+        Ok(job) => Ok(format!(in alloc; "{job:?}")?),
+        Err(fault) => {
+            let text = fault.text.replace(alloc, '\n', ";")?;
+            Ok(format!(in alloc; "{} {text}", fault.status)?)
+        }
+    }
+}
+
+/// The words of command lines. Of a help, whose row ends with `*`, the text is compared up to there.
+#[test]
+fn words(rt: HostRuntime) -> Result<(), Fail> {
+    for row in JOBS.lines() {
+        let (line, answer) = row.split_once(" | ").unwrap_or((row, ""));
+        let found = read_as(rt.alloc(), line)?;
+        let same = match answer.strip_suffix('*') {
+            Some(start) => found.starts_with(start),
+            None => found.as_str() == answer,
+        };
+        assert!(rt; same, "{line}: {found}");
+    }
+    Ok(())
+}
+
+/// Bytes that rise, and begin anew after 250.
+fn rising(alloc: Global, len: usize) -> Result<Vec<u8>, Fail> {
+    let mut bytes = Vec::new(alloc);
+    for i in 0..len {
+        bytes.push((i % 251) as u8)?;
+    }
+    Ok(bytes)
+}
+
+/// Seventeen samples of each channel, in blocks of sixteen: what is encoded is decoded to what was put in.
+#[test]
+fn comes_back(rt: HostRuntime) -> Result<(), Fail> {
+    for row in COME_BACK.lines() {
+        let (options, len) = row.split_once(" | ").unwrap_or((row, ""));
+        let raw = rising(rt.alloc(), len.parse::<usize>()?)?;
+        let line = format!(in rt.alloc();
+            "flac encode a.raw a.flac --rate 44100 --block 16 {options}"
+        )?;
+        let encoded = commanded(rt.alloc(), &line, &raw, 4096)?;
+        assert!(rt; encoded.is(0, &encoded.file, "", ""), "{options}");
+        let decoded = perform(rt.alloc(), &DECODE, &encoded.file, 4096);
+        assert!(rt; decoded.is(0, &raw, "", ""), "{options}");
+    }
+    Ok(())
+}
+
+/// A writer without room.
+#[derive(Drop)]
+struct Full;
+
+impl Write for Full {
+    fn write(&mut self, _bytes: &[u8]) -> io::Result<usize> {
+        Ok(0)
+    }
+
+    fn flush(&mut self) -> io::Result<()> {
+        Ok(())
+    }
+}
+
+/// A file or an output that fails. The path is that of the file at fault.
+#[test]
+fn failing(rt: HostRuntime) -> Result<(), Fail> {
+    let alloc = rt.alloc();
+    let stream = bytes_of(alloc, "ROW")?;
+    let rows = [
+        (TEST, "flac: a.flac: 39 Write\n"),
+        (DECODE, "flac: a.raw: frame 0: 30 Sink\n"),
+        (LIST, "flac: a.flac: block 0: 30 Sink\n"),
+    ];
+    for (job, wanted) in rows {
+        let mut source = Memory::new(&stream);
+        let mut file = Counted::new(Full);
+        let mut out = Counted::new(Full);
+        let mut err = Collected::new(alloc);
+        let status = run(alloc, &job, &mut source, &mut file, &mut out, &mut err);
+        assert_eq!(rt; status, 1);
+        assert!(rt; err.bytes() == wanted.as_bytes(), "at {wanted}");
+    }
+    Ok(())
+}
+
+/// An encoding in Ogg that asks for a seek table, which no command line does, is refused, and nothing is written.
+#[test]
+fn no_table_in_ogg(rt: HostRuntime) {
+    let alloc = rt.alloc();
+    let format = Format {
+        rate: 44100,
+        channels: 2,
+        bits: 16,
+        block: 4096,
+        seek_every: 1,
+    };
+    let job = Job::Encode {
+        input: "a.raw",
+        output: "a.oga",
+        format,
+        container: Container::Ogg { serial: 1 },
+        comments: Vec::new(alloc),
+    };
+    let found = perform(alloc, &job, &[0xF4, 0x63, 0xB0, 0x28], 4096);
+    assert!(rt; found.is(1, &[], "", "flac: a.raw: 37 BadMapping\n"));
+}
