@@ -1,0 +1,104 @@
+#!/usr/bin/env python3
+"""Compares docs/errors.md with the errors in the sources. usage: conformance/errors_page.py
+
+The page has to list each number once, with the name that the sources give it. The numbers are those of `Why`
+(flac_bits), `SetupFault` (flac_frame), `EncodeFault` (flac_native) and of the program (flac_cli). The status is 1 if
+something differs."""
+import pathlib
+import re
+import sys
+
+TOP = pathlib.Path(__file__).resolve().parent.parent
+CRATES = TOP / "crates"
+PAGE = TOP / "docs" / "errors.md"
+
+
+def source(path):
+    """A source file's text, without comments."""
+    return re.sub(r"//[^\n]*", "", (CRATES / path).read_text())
+
+
+def variants(text, name):
+    """The names of an enum's variants, in their order."""
+    body = re.search(rf"\benum {name} \{{(.*?)\n\}}", text, re.S)
+    if body is None:
+        raise SystemExit(f"errors_page: enum {name} is not found")
+    return re.findall(r"^    (\w+),$", body[1], re.M)
+
+
+def reasons():
+    """`Why`: its variants have the numbers from 1 on."""
+    text = source("flac_bits/src/why.rt")
+    if "self as u8 + 1" not in text:
+        raise SystemExit("errors_page: Why::number is not `self as u8 + 1`")
+    return list(enumerate(variants(text, "Why"), 1))
+
+
+def printed(path, name):
+    """An enum whose variants print as `NUMBER NAME`, by an attribute each."""
+    text = source(path)
+    found = re.findall(r'#\[error\("(\d+) (\w+)"\)\]\s*(\w+),', text)
+    if [variant for _, _, variant in found] != variants(text, name):
+        raise SystemExit(f"errors_page: a variant of {name} has no number")
+    wrong = [variant for _, shown, variant in found if shown != variant]
+    if wrong:
+        raise SystemExit(f"errors_page: of {name} these print another name: {', '.join(wrong)}")
+    return [(int(number), shown) for number, shown, _ in found]
+
+
+def numbered():
+    """`EncodeFault::number`: the arms of its `match`."""
+    text = source("flac_native/src/encode_fault.rt")
+    return [(int(number), name) for name, number in re.findall(r"EncodeFault::(\w+) => (\d+)", text)]
+
+
+def own():
+    """What the program adds: texts `NUMBER NAME` in its sources."""
+    found = []
+    for path in sorted((CRATES / "flac_cli" / "src").glob("*.rt")):
+        found += re.findall(r'"(\d+) (\w+)"', source(path.relative_to(CRATES)))
+    if not found:
+        raise SystemExit("errors_page: flac_cli has no number of its own")
+    return [(int(number), name) for number, name in found]
+
+
+def due():
+    """The name of each number in the sources. A number that occurs in several has one name."""
+    names = {}
+    encode = printed("flac_native/src/encode_fault.rt", "EncodeFault")
+    if encode != numbered():
+        raise SystemExit("errors_page: EncodeFault::number and its text differ")
+    for number, name in reasons() + printed("flac_frame/src/setup.rt", "SetupFault") + encode + own():
+        if names.setdefault(number, name) != name:
+            raise SystemExit(f"errors_page: {number} is {names[number]} and {name} in the sources")
+    return names
+
+
+def page():
+    """The rows of the page: number and name."""
+    rows = re.findall(r"^\| (\d+) \| (\w+) \|(.*)\|$", PAGE.read_text(), re.M)
+    for number, name, rest in rows:
+        cells = [cell.strip() for cell in rest.split("|")]
+        if len(cells) != 3 or not all(cells):
+            raise SystemExit(f"errors_page: row {number} {name} has not five filled cells")
+    return [(int(number), name) for number, name, _ in rows]
+
+
+def main():
+    names, rows, wrong = due(), page(), []
+    for number, name in rows:
+        if [listed for listed, _ in rows].count(number) > 1:
+            wrong.append(f"{number} {name}: more than one row")
+        if names.get(number) != name:
+            wrong.append(f"{number} {name}: the sources have {names.get(number, 'no such number')}")
+    listed = {number for number, _ in rows}
+    wrong += [f"{number} {name}: no row" for number, name in sorted(names.items()) if number not in listed]
+    for line in wrong:
+        print(f"errors_page: {line}")
+    if not wrong:
+        print(f"errors_page: {len(rows)} errors, as in the sources")
+    return 1 if wrong else 0
+
+
+if __name__ == "__main__":
+    sys.exit(main())
