@@ -10,5 +10,3 @@ pub mod Pictures
 pub mod Sheets
 pub mod Blocks
 pub mod Small
-pub mod Counting
-pub mod Telling

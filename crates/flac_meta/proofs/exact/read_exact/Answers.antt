@@ -7,7 +7,7 @@ use Rattle.flac_bits.specs.Lists.{list_of, behind}
 use Rattle.flac_bits.proofs.Loops.{goes_on}
 use Rattle.flac_bits.proofs.Lists.{list_more, list_end}
 use Rattle.std.proofs.lemmas.Result.{err_from_is_err_and}
-use Rattle.flac_meta.proofs.Counting.{gone, failed_then}
+use Rattle.flac_bits.proofs.Counting.{gone, failed_then}
 use Rattle.flac_meta.proofs.exact.read_exact.Goals as goal
 
 pub loop-i-preserved : goal.loop-i-preserved

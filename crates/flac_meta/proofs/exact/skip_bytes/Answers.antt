@@ -6,8 +6,8 @@ use Rattle.flac_bits.proofs.Loops.{goes_on}
 use Rattle.flac_meta.specs.Padding.{skipped}
 use Rattle.flac_meta.proofs.Skips.{skip_more, skip_last}
 use Rattle.std.proofs.lemmas.Result.{err_from_is_err_and}
-use Rattle.flac_meta.proofs.Counting.{gone, answered_then, failed_then}
-use Rattle.flac_meta.proofs.Telling.{gone_fault, gone_then}
+use Rattle.flac_bits.proofs.Counting.{gone, answered_then, failed_then}
+use Rattle.flac_bits.proofs.Telling.{gone_fault, gone_then}
 use Rattle.flac_meta.proofs.exact.skip_bytes.Goals as goal
 
 pub loop-i-preserved : goal.loop-i-preserved

@@ -1,7 +1,7 @@
 use Rattle.std.proofs.lemmas.Result.{err_from_is_err_and}
-use Rattle.flac_meta.proofs.Counting.{answered_then, failed_then}
+use Rattle.flac_bits.proofs.Counting.{answered_then, failed_then}
 use Rattle.std.proofs.Common.{refl}
-use Rattle.flac_meta.proofs.Telling.{told_then, told_fault}
+use Rattle.flac_bits.proofs.Telling.{told_then, told_fault}
 use Rattle.flac_meta.specs.Fields.{little_endian}
 use Rattle.flac_meta.proofs.fields.read_little_endian.Goals as goal
 

@@ -3,8 +3,8 @@ use Rattle.flac_bits.specs.State.{Cursor}
 use Rattle.flac_bits.specs.Layout.{number_at}
 use Rattle.flac_bits.proofs.Loops.{goes_on}
 use Rattle.std.proofs.lemmas.Result.{err_from_is_err_and}
-use Rattle.flac_meta.proofs.Counting.{gone, failed_then}
-use Rattle.flac_meta.proofs.Telling.{gone_fault}
+use Rattle.flac_bits.proofs.Counting.{gone, failed_then}
+use Rattle.flac_bits.proofs.Telling.{gone_fault}
 use Rattle.flac_meta.proofs.Zeros.{zeros_then, zeros_more}
 use Rattle.flac_meta.proofs.fields.read_zeros.Goals as goal
 

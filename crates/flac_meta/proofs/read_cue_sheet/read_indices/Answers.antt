@@ -6,7 +6,7 @@ use Rattle.flac_bits.specs.Lists.{list_of, behind}
 use Rattle.flac_bits.proofs.Lists.{list_more, list_end}
 use Rattle.flac_meta.specs.CueSheet.{cue_index}
 use Rattle.flac_meta.specs.declared.cue_sheet.CueIndex.{CueIndex}
-use Rattle.flac_meta.proofs.Counting.{gone, failed_then}
+use Rattle.flac_bits.proofs.Counting.{gone, failed_then}
 use Rattle.flac_meta.proofs.read_cue_sheet.read_indices.Goals as goal
 
 pub returns-in_err-index-clause-reads : goal.returns-in_err-index-clause-reads

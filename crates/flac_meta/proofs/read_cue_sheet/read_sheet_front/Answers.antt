@@ -1,6 +1,6 @@
 use Rattle.std.proofs.lemmas.Result.{err_from_is_err_and}
-use Rattle.flac_meta.proofs.Counting.{answered_then, failed_then}
-use Rattle.flac_meta.proofs.Telling.{told_then, told_fault}
+use Rattle.flac_bits.proofs.Counting.{answered_then, failed_then}
+use Rattle.flac_bits.proofs.Telling.{told_then, told_fault}
 use Rattle.flac_meta.specs.CueSheet.{sheet_front}
 use Rattle.flac_meta.proofs.read_cue_sheet.read_sheet_front.Goals as goal
 

@@ -7,7 +7,7 @@ use Rattle.flac_bits.proofs.Loops.{goes_on}
 use Rattle.flac_meta.specs.CueSheet.{cue_track, cue_tracks}
 use Rattle.flac_meta.specs.declared.cue_sheet.CueTrack.{CueTrack}
 use Rattle.flac_meta.proofs.Turns.{tracks_more}
-use Rattle.flac_meta.proofs.Counting.{gone, failed_then}
+use Rattle.flac_bits.proofs.Counting.{gone, failed_then}
 use Rattle.flac_meta.proofs.read_cue_sheet.read_tracks.Goals as goal
 
 pub returns-in_err-track-clause-reads : goal.returns-in_err-track-clause-reads

@@ -1,7 +1,7 @@
 use Rattle.std.proofs.Common.{rules}
 use Rattle.flac_meta.specs.Comments.{comments}
 use Rattle.std.proofs.lemmas.Result.{err_from_is_err_and}
-use Rattle.flac_meta.proofs.Counting.{answered_then, failed_then}
+use Rattle.flac_bits.proofs.Counting.{answered_then, failed_then}
 use Rattle.flac_meta.proofs.read_lists.read_comments.Goals as goal
 
 pub returns-in_err-vendor-clause-reads : goal.returns-in_err-vendor-clause-reads

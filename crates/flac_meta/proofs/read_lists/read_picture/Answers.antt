@@ -1,5 +1,5 @@
 use Rattle.std.proofs.lemmas.Result.{err_from_is_err_and}
-use Rattle.flac_meta.proofs.Counting.{answered_then, failed_then}
+use Rattle.flac_bits.proofs.Counting.{answered_then, failed_then}
 use Rattle.flac_meta.proofs.read_lists.read_picture.Goals as goal
 
 pub returns-in_err-width-clause-counts : goal.returns-in_err-width-clause-counts

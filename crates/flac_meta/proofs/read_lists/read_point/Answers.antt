@@ -1,6 +1,6 @@
 use Rattle.std.proofs.lemmas.Result.{err_from_is_err_and}
-use Rattle.flac_meta.proofs.Counting.{answered_then, failed_then}
-use Rattle.flac_meta.proofs.Telling.{told_then, told_fault}
+use Rattle.flac_bits.proofs.Counting.{answered_then, failed_then}
+use Rattle.flac_bits.proofs.Telling.{told_then, told_fault}
 use Rattle.flac_meta.specs.SeekTable.{seek_point}
 use Rattle.flac_meta.proofs.read_lists.read_point.Goals as goal
 

@@ -6,7 +6,7 @@ use Rattle.flac_bits.specs.Lists.{behind}
 use Rattle.flac_meta.specs.SeekTable.{seek_points}
 use Rattle.flac_meta.specs.declared.seek_table.SeekPoint.{SeekPoint}
 use Rattle.flac_meta.proofs.Turns.{points_more, points_end}
-use Rattle.flac_meta.proofs.Counting.{gone, failed_then}
+use Rattle.flac_bits.proofs.Counting.{gone, failed_then}
 use Rattle.flac_meta.proofs.read_lists.read_seek_table.Goals as goal
 
 pub returns-in_err-point-clause-reads : goal.returns-in_err-point-clause-reads

@@ -7,7 +7,7 @@ use Rattle.flac_bits.proofs.Loops.{goes_on}
 use Rattle.flac_meta.specs.Comments.{texts}
 use Rattle.flac_meta.specs.Fields.{little_endian, sized}
 use Rattle.flac_meta.proofs.Turns.{texts_more}
-use Rattle.flac_meta.proofs.Counting.{gone, failed_then}
+use Rattle.flac_bits.proofs.Counting.{gone, failed_then}
 use Rattle.flac_meta.proofs.read_lists.read_texts.Goals as goal
 
 pub returns-in_err-text-clause-reads : goal.returns-in_err-text-clause-reads
