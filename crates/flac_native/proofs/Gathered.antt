@@ -13,7 +13,6 @@ use Rattle.flac_bits.specs.State.{Mark, fresh}
 use Rattle.flac_bits.specs.Forms.{joined}
 use Rattle.flac_bits.specs.Written.{Written, Adds}
 use Rattle.flac_bits.proofs.ItemSpellings.{fresh_unread, behind_whole}
-use Rattle.flac_bits.proofs.Marks.{past-bytes}
 use Rattle.flac_meta.proofs.Tied.{joined_append}
 use Rattle.flac_meta.specs.declared.seek_table.SeekPoint.{SeekPoint}
 use Rattle.flac_header.specs.Spelling.{restarted}
@@ -21,6 +20,7 @@ use Rattle.flac_frame.specs.Audio.{Sound, samples_each}
 use Rattle.flac_frame.specs.Encoding.{IsEncoding, IsLeastFrame, block_of}
 use Rattle.flac_frame.specs.Spelling.{FrameForm, frame_spelling}
 use Rattle.flac_frame.proofs.FrameTie.{frames_bytes}
+use Rattle.flac_frame.proofs.Sizes.{bytes_after}
 use Rattle.flac_native.specs.Given.{Cut, blocks_in, size_of, frame_of}
 use Rattle.flac_native.specs.Writing.{SpellsFrame, SpellsLeast, AreSizes, IsEncoded}
 use Rattle.flac_native.specs.Seeking.{point_at, points_of}
@@ -116,9 +116,6 @@ pub gathered_new : (p : Cut) (a : Sound) (w : Written) (k : Bool) (e : ℕ) (nam
 gathered_new p a w k e names s is known sent =
     gathered_none p a w (ap (λ (v : Written). v.known) is ∙ known) (ap (λ (v : Written). v.bits) is ∙ ap bits_of sent) (ap (λ (v : Written). v.mark.unread) is) (ap (λ (v : Written). v.mark.bytes) is)
 
-fresh_bytes : (m : Mark) → m.unread ≡ 0 → (fresh m).bytes ≡ m.bytes
-fresh_bytes m z = rw z refl
-
 counted : (n long after bytes : ℕ) → n < 2 ^ 60 → long % 8 ≡ 0 → after ≡ min (n + (long + 7 - 0) / 8) (2 ^ 64 - 1) → bytes ≡ after - n → bytes ≤ 16777215 → (long ≡ 8 * bytes) × (after ≡ n + bytes)
 counted n long after bytes small whole e is few = (omega (arith, small, whole, e, is, few), omega (arith, small, whole, e, is, few))
 
@@ -146,8 +143,7 @@ gathered_more p a w v number least greatest bytes start n f points more g noted 
     let t = frame_spelling a.bits f in
     let whole = frames_bytes a.bits f in
     let u = fresh_unread w.mark g.whole in
-    let b = fresh_bytes w.mark g.whole in
-    let after : v.mark.bytes ≡ min (w.mark.bytes + (length t + 7 - 0) / 8) (2 ^ 64 - 1) = ap (λ (m : Mark). m.bytes) adds.mark ∙ past-bytes t 0 w.mark.bytes (fresh w.mark) u (omega arith) b (omega (arith, g.count, small)) in
+    let after = bytes_after t w v g.whole (omega (arith, g.count, small)) adds in
     let k = counted w.mark.bytes (length t) v.mark.bytes bytes (omega (arith, g.count, small)) whole after is few in
     let here : SpellsFrame a (frame_of p.block_size a number) t = record { form = f; encoding = encoding; spelling = refl; short = omega (arith, k.0, few) } in
     let here_least : SpellsLeast a (frame_of p.block_size a number) t = record { form = f; least = least_frame; spelling = refl } in
@@ -181,18 +177,7 @@ all_gathered b total number some few h = elim (cases_lt number (blocks_in b tota
 pub all_encoded : (p : Cut) (a : Sound) (w : Written) (number least greatest : ℕ) (text : List Bool) (points : List SeekPoint) → Gathered p a w number least greatest points → number ≡ blocks_in p.block_size (samples_each a.channels) → text ≡ w.bits → IsEncoded p a text least greatest points
 all_encoded p a w number least greatest text points g all is = record { frames = g.frames; are = record { many = g.many ∙ all; each = g.each }; are_least = g.each_least; sizes = g.sizes; spelled = is ∙ g.bits; pointed = g.pointed }
 
--- the count of bytes does not fall
-pub bytes_grow : (t : List Bool) (w v : Written) → w.mark.unread ≡ 0 → w.mark.bytes < 2 ^ 64 → Adds t (restarted w) v → w.mark.bytes ≤ v.mark.bytes
-bytes_grow t w v z small adds =
-    let u = fresh_unread w.mark z in
-    let b = fresh_bytes w.mark z in
-    let after : v.mark.bytes ≡ min (w.mark.bytes + (length t + 7 - 0) / 8) (2 ^ 64 - 1) = ap (λ (m : Mark). m.bytes) adds.mark ∙ past-bytes t 0 w.mark.bytes (fresh w.mark) u (omega arith) b (omega (arith, small)) in
-    omega (arith, after, small)
-
 -- a short frame adds few bytes to the count
 pub short_bytes : (t : List Bool) (w v : Written) → w.mark.unread ≡ 0 → w.mark.bytes < 2 ^ 64 → Adds t (restarted w) v → length t ≤ 8 * 16777215 → v.mark.bytes - w.mark.bytes ≤ 16777215
 short_bytes t w v z small adds short =
-    let u = fresh_unread w.mark z in
-    let b = fresh_bytes w.mark z in
-    let after : v.mark.bytes ≡ min (w.mark.bytes + (length t + 7 - 0) / 8) (2 ^ 64 - 1) = ap (λ (m : Mark). m.bytes) adds.mark ∙ past-bytes t 0 w.mark.bytes (fresh w.mark) u (omega arith) b (omega (arith, small)) in
-    omega (arith, after, small, short)
+    omega (arith, bytes_after t w v z small adds, small, short)

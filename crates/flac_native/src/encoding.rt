@@ -128,12 +128,10 @@ fn encode_frames(alloc: Global, plan: &Plan, audio: &Audio) -> Result<Frames, Wh
     let mut start = 0;
     while start < total {
         let end = start + size.min(total - start);
-        let before = writer.bytes_written();
-        plan.note_point(number, before, &mut points)?;
-        encode_frame(audio, start..end, number, &mut buffers, &mut writer)?;
-        let bytes = writer.bytes_written() - before;
-        least = least_with(number, least, bytes);
-        greatest = greatest_with(greatest, bytes);
+        plan.note_point(number, writer.bytes_written(), &mut points)?;
+        let frame_bytes = encode_frame(audio, start..end, number, &mut buffers, &mut writer)?;
+        least = least_with(number, least, frame_bytes);
+        greatest = greatest_with(greatest, frame_bytes);
         number += 1;
         start = end;
     }

@@ -1,4 +1,6 @@
 //! Streams of FLAC: a marker, metadata blocks and frames, one after another (RFC 9639, section 6).
+//!
+//! What users of these calls need of the crates below stands here too, so that a program names this crate alone.
 #![tactic(auto)]
 
 mod advance;
@@ -39,10 +41,15 @@ pub use encode_fault::EncodeFault;
 pub use encoded_info::info_of;
 pub use encoding::encode;
 pub use fault::{Fault, Place};
-pub use flac_bits::{Source, Why};
-pub use flac_frame::FrameView;
+pub use flac_bits::{
+    BitReader, BitWriter, Collected, Counted, Memory, Pieces, Source, Target, Why,
+};
+pub use flac_frame::{Audio, FrameView, SetupFault};
 pub use flac_header::Profile;
-pub use flac_meta::{Block, StreamInfo};
+pub use flac_meta::{
+    Block, BlockList, Bytes, Comments, CueIndex, CueIndices, CueSheet, CueTrack, CueTracks,
+    Picture, SeekPoint, SeekTable, StreamInfo, Texts,
+};
 pub use item::Item;
 pub use laws::{only_one_head, only_one_way, retagged_are_read};
 pub use message::put_rows;

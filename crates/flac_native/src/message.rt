@@ -21,7 +21,7 @@ impl<'a> Channels for FrameView<'a> {
 }
 
 /// Writes the samples of all channels at `count` indices from `start` on, interleaved, each in its lowest `width` bytes, the
-/// lowest first, to the front of `out`, and answers how many bytes these are. A row has at most 32 bytes.
+/// lowest first, to the front of `out`, and returns how many bytes these are: at most 32 for each index. Bytes of `out` after them may change.
 pub fn put_rows(
     view: &FrameView<'_>,
     width: usize,

@@ -6,10 +6,10 @@ ghost use Rattle.md5.specs.Md5.{Holds};
 
 use md5::{Digest, Md5};
 
-/// How many bytes are gathered at once.
+/// How many bytes the digest is fed at once, at most.
 const CHUNK: usize = 4096;
 
-/// How many rows are gathered at once: each has at most 8 samples of 4 bytes. They are whole blocks of the digest.
+/// How many inter-channel samples fit into these bytes: each has at most 8 samples of 4 bytes. If all are gathered, they are whole blocks of the digest.
 const ROWS: usize = 128;
 
 /// Samples of channels.
@@ -27,7 +27,7 @@ pub(crate) trait Channels {
         ensures { result ≡ slice_index_or (slice_index_or (lists self.now) channel []) index (pos 0) };
 }
 
-/// Writes the lowest bytes of a sample at a place, the lowest first, and the others behind them.
+/// Writes all four bytes of a sample at a place, the lowest first. The caller counts the first `width` of them.
 #[inline(always)]
 fn put_whole(sample: i32, width: usize, out: &mut [u8], at: usize)
     requires width { width ≤ 4 }
@@ -37,7 +37,8 @@ fn put_whole(sample: i32, width: usize, out: &mut [u8], at: usize)
     out[at..at + 4].copy_from_slice(&sample.to_le_bytes());
 }
 
-/// Writes the lowest bytes of a sample at a place, the lowest first. Three are written as four, of which the next sample covers the last.
+/// Writes the lowest `width` bytes of a sample at a place, the lowest first. If these are three, the fourth is written after them, and the next sample
+/// overwrites it: one word is stored faster than three bytes.
 #[inline(always)]
 fn put_sample(sample: i32, width: usize, out: &mut [u8], at: usize)
     requires width { width ≤ 4 }
@@ -81,7 +82,7 @@ fn put_row<C: Channels>(
     place
 }
 
-/// What [`put_rows_in`] does, for a count of channels and a width that its callers fix: it is made anew for each of them.
+/// [`put_rows_in`] for a number of channels and a width that its callers fix. It is inlined, so that its loops have fixed lengths.
 #[inline(always)]
 #[tactic(auto, unfolding(crate::specs::Message::rows_bytes), using(crate::proofs::Messages::rows_more))]
 fn put_rows_of<C: Channels>(
@@ -108,7 +109,7 @@ fn put_rows_of<C: Channels>(
     at
 }
 
-/// [`put_rows_in`] for a count of channels that its callers fix.
+/// [`put_rows_in`] for a number of channels that its callers fix.
 #[inline(always)]
 fn put_channels<C: Channels>(
     samples: &C,
@@ -136,7 +137,7 @@ fn put_channels<C: Channels>(
 }
 
 /// Writes the samples of all channels at `count` indices from `start` on, interleaved, each in its lowest `width` bytes, the
-/// lowest first, to the front of `out`, and answers how many bytes these are. A row has at most 32 bytes.
+/// lowest first, to the front of `out`, and returns how many bytes these are: at most 32 for each index. Bytes of `out` after them may change.
 #[inline(always)]
 pub(crate) fn put_rows_in<C: Channels>(
     samples: &C,

@@ -12,7 +12,7 @@ use Rattle.flac_native.specs.Seeking.{point_at}
 use Rattle.flac_native.specs.Writing.{IsEncoded}
 use Rattle.flac_native.proofs.Planned.{Planned, planned, fit, block_small}
 use Rattle.flac_native.proofs.Tables.{table_good}
-use Rattle.flac_native.proofs.Gathered.{Gathered, least_with, gathered_new, gathered_more, still_some, all_gathered, all_encoded, bytes_grow, short_bytes}
+use Rattle.flac_native.proofs.Gathered.{Gathered, least_with, gathered_new, gathered_more, still_some, all_gathered, all_encoded, short_bytes}
 use Rattle.flac_native.proofs.encoding.encode_frames.Goals as goal
 
 ordered : (n least greatest bytes : ℕ) {l m : ℕ} → least ≤ greatest → l ≡ least_with n least bytes → m ≡ max greatest bytes → l ≤ m
@@ -46,13 +46,6 @@ encode_frame-requires-clause-number c =
     let blocks : blocks_in p.block_size total ≤ 2 ^ 31 = subst (λ t. blocks_in p.block_size t ≤ 2 ^ 31) f.total q.blocks in
     omega (arith, still_some p.block_size total c.loop-start.number q.least more, blocks)
 
-pub overflow_sub-bytes : goal.overflow_sub-bytes
-overflow_sub-bytes c =
-    let wrote = c.in_ok-encode_frame.ensures.wrote in
-    let few : c.loop-start.writer.mark.bytes < 2 ^ 64 = omega (arith, c.bytes_written-before.ensures, c.bytes_written-before.type_inv) in
-    let grows = bytes_grow (frame_spelling c.args.audio.now.bits wrote.0) c.loop-start.writer c.encode_frame.new.writer c.loop-start.invariant.gathered.whole few wrote.3 in
-    omega (arith, grows, c.bytes_written-before.ensures, c.bytes_written.ensures)
-
 pub loop-start-preserved : goal.loop-start-preserved
 loop-start-preserved c =
     let p = c.args.plan.now in
@@ -73,12 +66,12 @@ loop-start-preserved c =
     let up : b * (n + 1) ≡ b * n + b = omega (arith, mul-suc b n) in
     let at : c.loop-start.start ≡ b * n = omega (arith, inv.start, more) in
     let part : c.loop-start.start + c.min.result - c.loop-start.start ≡ min b (total - b * n) = omega (arith, step, at, size_is, total_is) in
-    let wrote = c.in_ok-encode_frame.ensures.wrote in
-    let noted = c.in_ok-note_point.ensures ∙ ap (λ o. c.loop-start.points.items ++ point_at p n o) c.bytes_written-before.ensures in
-    let bytes : ℕ = c.bytes_written.result - c.bytes_written-before.result in
-    let bytes_is : bytes ≡ c.encode_frame.new.writer.mark.bytes - c.loop-start.writer.mark.bytes = omega (arith, c.bytes_written.ensures, c.bytes_written-before.ensures) in
+    let wrote = c.in_ok-frame_bytes.ensures.wrote in
+    let noted = c.in_ok-note_point.ensures ∙ ap (λ o. c.loop-start.points.items ++ point_at p n o) c.bytes_written.ensures in
+    let bytes : ℕ = c.in_ok-frame_bytes.frame_bytes in
+    let bytes_is : bytes ≡ c.encode_frame.new.writer.mark.bytes - c.loop-start.writer.mark.bytes = omega (arith, c.in_ok-frame_bytes.ensures.counted) in
     let w = c.encode_frame.new.writer in
-    let held : c.loop-start.writer.mark.bytes < 2 ^ 64 = omega (arith, c.bytes_written-before.ensures, c.bytes_written-before.type_inv) in
+    let held : c.loop-start.writer.mark.bytes < 2 ^ 64 = omega (arith, c.bytes_written.ensures, c.bytes_written.type_inv) in
     let small : bytes ≤ 16777215 = omega (arith, bytes_is, short_bytes (frame_spelling a.bits wrote.0) c.loop-start.writer w inv.gathered.whole held wrote.3 wrote.2.1) in
     let g = gathered_more p a c.loop-start.writer w n c.loop-start.least c.loop-start.greatest bytes c.loop-start.start _ wrote.0 c.loop-start.points.items c.note_point.new.points.items inv.gathered noted (omega (arith, few, blocks)) at part wrote.1 wrote.2.0 wrote.3 bytes_is small in
     let max_is : c.greatest_with-greatest.result ≡ max c.loop-start.greatest bytes = c.greatest_with-greatest.ensures in
@@ -87,7 +80,7 @@ loop-start-preserved c =
     let made = subst (λ l. Gathered p a w (n + 1) l c.greatest_with-greatest.result now) (sym least_is) (subst (λ m. Gathered p a w (n + 1) (least_with n c.loop-start.least bytes) m now) (sym max_is) g) in
     record {
       gathered = made;
-      buffers = c.in_ok-encode_frame.ensures.kept ∙ inv.buffers;
+      buffers = c.in_ok-frame_bytes.ensures.kept ∙ inv.buffers;
       start = omega (arith, at, step, up, more, size_is, total_is);
       few = omega (arith, few);
       greatest = omega (arith, max_is, inv.greatest, small);
