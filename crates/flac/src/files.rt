@@ -5,11 +5,11 @@ use std::io;
 use std::io::ErrorKind;
 use std::os::unix::fs::MetadataExt;
 
-/// Opens the file that a job writes, and leaves it empty. A file that is the job's input stays as it is.
+/// Opens the file that a job writes, and empties it. A file that is the job's input stays as it is.
 ///
-/// The paths are compared first, with `.`, `..` and symbolic links resolved. Then the file is opened as it is, and
-/// its device and inode are compared with those of the input, so that a hard link is seen too. Only then does it lose
-/// what it holds. Terminals, pipes and devices hold nothing that an input could lose, and stay as they are.
+/// First the two paths are compared, with `.`, `..` and symbolic links resolved. Then the file is opened as it is, and
+/// its device and inode are compared with those of the input, so that a hard link is seen too. Only then is it emptied,
+/// if it is a regular file: a terminal, a pipe or a device has no length.
 ///
 /// # Errors
 /// The file cannot be created, or it is the input.

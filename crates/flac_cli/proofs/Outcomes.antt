@@ -1,7 +1,10 @@
 -- What an answer of a decoding says.
-use Rattle.std.proofs.Common.{◌≡◌, ℕ, nat_lt, true, None, Ok, Err, OnOk, Result, refl}
+use Rattle.std.proofs.Common.{◌≡◌, ◌≢◌, ◌⊎◌, ℕ, nat_lt, true, None, Ok, Err, OnOk, OnErr, IfErr, Result, refl, ap, arith, inl, inr}
 use Rattle.flac_native.specs.Item.{told}
 use Rattle.flac_native.specs.declared.fault.Fault.{Fault}
+use Rattle.flac_native.specs.Numbers.{fault_number}
+use Rattle.flac_native.specs.declared.encode_fault.EncodeFault.{EncodeFault}
+use Rattle.flac_native.specs.declared.encode_fault.EncodeFault.TheVariants.{Memory, RepeatedBlock, BadMapping, Write}
 use Rattle.flac_bits.specs.Handing.{outcome_of}
 
 -- What holds where nothing was refused holds at Ok.
@@ -17,3 +20,12 @@ counts_on n is = rw is refl
 pub then_ok : {A E X Y : Type 0} (r : Result A E) → OnOk r X → (X → Y) → OnOk r Y
 then_ok (Ok a) x f = f x
 then_ok (Err e) x f = tt
+
+-- A call that failed in writing has begun; one that failed otherwise has changed nothing.
+pub same_or_begun : {A T : Type 0} (X known : Type 0) (r : Result A EncodeFault) (old new : T)
+    → IfErr r (λ e. e ≡ Write → known → X) → IfErr r (λ e. e ≢ Write → new ≡ old) → OnErr r (known → (new ≡ old) ⊎ X)
+same_or_begun X known (Ok a) old new begun same = tt
+same_or_begun X known (Err Write) old new begun same = λ k. inr (begun refl k)
+same_or_begun X known (Err Memory) old new begun same = λ k. inl (same (λ e. let n : 2 ≡ 39 = ap fault_number e in absurd (omega (arith, n))))
+same_or_begun X known (Err RepeatedBlock) old new begun same = λ k. inl (same (λ e. let n : 9 ≡ 39 = ap fault_number e in absurd (omega (arith, n))))
+same_or_begun X known (Err BadMapping) old new begun same = λ k. inl (same (λ e. let n : 37 ≡ 39 = ap fault_number e in absurd (omega (arith, n))))

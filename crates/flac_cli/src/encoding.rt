@@ -54,16 +54,10 @@ impl From<EncodeFault> for Refusal {
 impl fmt::Display for Refusal {
     fn fmt<W: fmt::Write>(&self, f: &mut fmt::Formatter<W>) -> fmt::Result {
         match self {
-            Refusal::Input(why) => {
-                let number = why.number();
-                write!(f, "{number} {why:?}")
-            }
+            Refusal::Input(why) => write!(f, "{why}"),
             Refusal::Setup(fault) => write!(f, "{fault}"),
             Refusal::RawLength => f.write_str("48 RawLength"),
-            Refusal::Output(fault) => {
-                let number = fault.number();
-                write!(f, "{number} {fault:?}")
-            }
+            Refusal::Output(fault) => write!(f, "{fault}"),
         }
     }
 }

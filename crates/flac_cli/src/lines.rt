@@ -2,17 +2,14 @@
 
 ghost use Rattle.std.specs.Prelude.{◌≤◌};
 
-use crate::encoding::Refusal;
-use crate::texts::PlaceText;
 use flac_bits::{Target, Why, send_all};
-use flac_native::Fault;
 use std::fmt;
 use std::fmt::Write;
 
 /// How many bytes are sent at once at most.
 const ROOM: usize = 1024;
 
-/// Text on its way to a target. It takes no memory, and sends what it holds where its room is full.
+/// Text on its way to a target. It allocates no memory, and sends what it holds when its room is full.
 #[derive(Drop)]
 pub(crate) struct Lines<W: Target> {
     target: W,
@@ -33,7 +30,7 @@ impl<W: Target> Lines<W> {
     /// Sends what is held.
     ///
     /// # Errors
-    /// [`Why::Write`] where the target failed.
+    /// [`Why::Write`] if the target fails.
     pub(crate) fn send(&mut self) -> Result<(), Why> {
         let held = self.held;
         self.held = 0;
@@ -57,31 +54,10 @@ impl<W: Target> fmt::Write for Lines<W> {
     }
 }
 
-/// Writes the line of a fault at a place: `flac: PATH: PLACE: NUMBER NAME`. A name is that of the reason's variant.
-/// Where it cannot be written there is no one left to tell.
-pub(crate) fn tell_fault<E: Target>(err: &mut E, path: &str, fault: Fault) {
+/// Writes the line of a fault: `flac: PATH: FAULT`. If it cannot be written, there is no one left to report it to.
+pub(crate) fn write_fault<E: Target, F: fmt::Display>(err: &mut E, path: &str, fault: &F) {
     let mut lines = Lines::new(err);
-    let place = PlaceText(fault.at);
-    let number = fault.why.number();
-    let name = fault.why;
-    if writeln!(lines, "flac: {path}: {place}: {number} {name:?}").is_ok() {
-        let _ = lines.send();
-    }
-}
-
-/// Writes the line of a fault that has no place: `flac: PATH: NUMBER NAME`.
-pub(crate) fn tell_reason<E: Target>(err: &mut E, path: &str, why: Why) {
-    let mut lines = Lines::new(err);
-    let number = why.number();
-    if writeln!(lines, "flac: {path}: {number} {why:?}").is_ok() {
-        let _ = lines.send();
-    }
-}
-
-/// Writes the line of a refused encoding: `flac: PATH: NUMBER NAME`.
-pub(crate) fn tell_refusal<E: Target>(err: &mut E, path: &str, refusal: Refusal) {
-    let mut lines = Lines::new(err);
-    if writeln!(lines, "flac: {path}: {refusal}").is_ok() {
+    if writeln!(lines, "flac: {path}: {fault}").is_ok() {
         let _ = lines.send();
     }
 }

@@ -12,15 +12,16 @@ ghost use Rattle.flac_bits.specs.Bits.{bits_of};
 use crate::counts::Counts;
 use crate::decoding::decode_stream;
 use crate::encoding::{Refusal, encode_raw};
-use crate::lines::{Lines, tell_fault, tell_reason, tell_refusal};
+use crate::lines::{Lines, write_fault};
 use crate::listing::Listing;
 use crate::retagging::retag_with;
 use crate::samples::SampleWriter;
+use crate::texts::FaultText;
 use flac_bits::{Source, Target, Why};
 use flac_jobs::Job;
-use flac_native::{EncodeFault, Fault, RetagFault};
+use flac_native::{EncodeFault, Fault, Place};
 use std::alloc::Global;
-use std::fmt::Write;
+use std::fmt::{Display, Write};
 
 /// Decodes a stream into a writer of samples.
 fn decode_into<R: Source, W: Target>(
@@ -79,45 +80,24 @@ fn write_counts<O: Target>(out: &mut O, counts: &Counts) -> Result<(), Why> {
     lines.send()
 }
 
-/// Writes the line of a fault, and answers the status 1. The path is that of the file at fault.
-fn refuse<E: Target>(err: &mut E, job: &Job<'_>, fault: Fault) -> u8
+/// Writes the line of a fault, and returns the status 1. The path is that of the file at fault.
+fn refuse<E: Target, F: Display>(err: &mut E, job: &Job<'_>, of_output: bool, fault: &F) -> u8
     ensures { result ≡ 1 }
 {
-    let written = matches!(fault.why, Why::Sink | Why::Write);
     let path = match job.output() {
-        Some(output) if written => output,
+        Some(output) if of_output => output,
         _ => job.input(),
     };
-    tell_fault(err, path, fault);
+    write_fault(err, path, fault);
     1
 }
 
-/// Writes the line of a refused encoding, and answers the status 1. The path is that of the file at fault.
-fn refuse_encoding<E: Target>(err: &mut E, job: &Job<'_>, refusal: Refusal) -> u8
+/// Writes the line of a refused stream, and returns the status 1.
+fn refuse_stream<E: Target>(err: &mut E, job: &Job<'_>, at: Option<Place>, why: Why) -> u8
     ensures { result ≡ 1 }
 {
-    let path = match job.output() {
-        Some(output) if refusal == Refusal::Output(EncodeFault::Write) => output,
-        _ => job.input(),
-    };
-    tell_refusal(err, path, refusal);
-    1
-}
-
-/// Writes the line of a refused retagging, and answers the status 1. The path is that of the file at fault.
-fn refuse_retagging<E: Target>(err: &mut E, job: &Job<'_>, fault: RetagFault) -> u8
-    ensures { result ≡ 1 }
-{
-    let why = fault.why;
-    if let Some(at) = fault.at {
-        return refuse(err, job, Fault { at, why });
-    }
-    let path = match job.output() {
-        Some(output) if why == Why::Write => output,
-        _ => job.input(),
-    };
-    tell_reason(err, path, why);
-    1
+    let of_output = matches!(why, Why::Sink | Why::Write);
+    refuse(err, job, of_output, &FaultText { at, why })
 }
 
 /// Does a job over its devices, and answers the status: 0 where it is done; 1 where it is refused, and then the fault's line
@@ -143,23 +123,20 @@ pub fn run<R: Source, W: Target, O: Target, E: Target>(
     ensures retagged { result ≡ 0 → R.known source.old ≡ true → W.known target.old ≡ true → HasRetagged job.now (R.coming source.old) (R.behind source.old) (bits_of (W.sent target.old)) (bits_of (W.sent target.new)) }
 {
     match job {
-        Job::Test { input } => match count(alloc, source) {
+        Job::Test { .. } => match count(alloc, source) {
             Ok(counts) => match write_counts(out, &counts) {
                 Ok(()) => 0,
-                Err(why) => {
-                    tell_reason(err, input, why);
-                    1
-                }
+                Err(why) => refuse_stream(err, job, None, why),
             },
-            Err(fault) => refuse(err, job, fault),
+            Err(fault) => refuse_stream(err, job, Some(fault.at), fault.why),
         },
         Job::Decode { .. } => match decode_samples(alloc, source, target) {
             Ok(()) => 0,
-            Err(fault) => refuse(err, job, fault),
+            Err(fault) => refuse_stream(err, job, Some(fault.at), fault.why),
         },
         Job::List { .. } => match list(alloc, source, out) {
             Ok(()) => 0,
-            Err(fault) => refuse(err, job, fault),
+            Err(fault) => refuse_stream(err, job, Some(fault.at), fault.why),
         },
         Job::Encode {
             format,
@@ -175,7 +152,10 @@ pub fn run<R: Source, W: Target, O: Target, E: Target>(
             target,
         ) {
             Ok(()) => 0,
-            Err(refusal) => refuse_encoding(err, job, refusal),
+            Err(refusal) => {
+                let of_output = refusal == Refusal::Output(EncodeFault::Write);
+                refuse(err, job, of_output, &refusal)
+            }
         },
         Job::Retag { comments, .. } => match retag_with(
             alloc,
@@ -184,7 +164,7 @@ pub fn run<R: Source, W: Target, O: Target, E: Target>(
             target,
         ) {
             Ok(()) => 0,
-            Err(fault) => refuse_retagging(err, job, fault),
+            Err(fault) => refuse_stream(err, job, fault.at, fault.why),
         },
     }
 }
