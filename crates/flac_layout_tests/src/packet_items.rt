@@ -1,6 +1,6 @@
 //! Packets of known lengths: one that goes on behind what is read of it, that ends before, that is broken off, or that the last page leaves open.
 
-use crate::packets::STREAM;
+use crate::packets::{PACKETS, STREAM, WHOLE_SEGMENTS, bytes_of};
 use flac_bits::{BitWriter, Collected, Memory, Source, Why};
 use flac_pages::{Head, Pages, read_packet, write_page};
 use std::alloc::Global;
@@ -12,23 +12,22 @@ type Outcome = Result<(), (Option<u64>, Why)>;
 /// How many packets had these lengths, and why the next one had not.
 type Answer = (usize, Outcome);
 
-/// Reads the packet that was begun, which is to have this length.
-fn read_begun<R: Source>(pages: Pages<R>, length: usize) -> (Result<(), Outcome>, Pages<R>) {
-    let mut room = [0u8; 400];
-    let (read, behind) = read_packet(pages, &mut room[..length.min(400)]);
+/// Reads the packet that was begun, which is to have as many bytes as there are places.
+fn read_begun<R: Source>(pages: Pages<R>, room: &mut [u8]) -> (Result<(), Outcome>, Pages<R>) {
+    let (read, after) = read_packet(pages, room);
     match read {
-        Ok(()) => (Ok(()), behind),
-        Err(why) => (Err(Err(why)), behind),
+        Ok(()) => (Ok(()), after),
+        Err(why) => (Err(Err(why)), after),
     }
 }
 
-/// Reads the next packet, which is to have this length.
-fn read_next<R: Source>(mut pages: Pages<R>, length: usize) -> (Result<(), Outcome>, Pages<R>) {
+/// Reads the next packet, which is to have as many bytes as there are places.
+fn read_next<R: Source>(mut pages: Pages<R>, room: &mut [u8]) -> (Result<(), Outcome>, Pages<R>) {
     if !pages.is_between_packets() {
         return (Err(Err((None, Why::Spent))), pages);
     }
     match pages.next_packet() {
-        Ok(true) => read_begun(pages, length),
+        Ok(true) => read_begun(pages, room),
         Ok(false) => (Err(Ok(())), pages),
         Err((page, why)) => (Err(Err((Some(page), why))), pages),
     }
@@ -38,8 +37,9 @@ fn read_next<R: Source>(mut pages: Pages<R>, length: usize) -> (Result<(), Outco
 fn read_all<R: Source + Drop>(alloc: Global, source: R, lengths: &[usize]) -> Result<Answer, Why> {
     let mut pages = Pages::new(alloc, source)?;
     for (index, length) in lengths.iter().enumerate() {
-        let (read, behind) = read_next(pages, *length);
-        pages = behind;
+        let mut room = [0u8; 400];
+        let (read, after) = read_next(pages, &mut room[..(*length).min(400)]);
+        pages = after;
         if let Err(outcome) = read {
             return Ok((index, outcome));
         }
@@ -101,5 +101,27 @@ fn open_ends(rt: HostRuntime) -> Result<(), Fail> {
     assert_eq!(rt; marked_last, (1, Err((None, Why::PacketLength))));
     let not_marked = open_packet(rt.alloc(), 0)?;
     assert_eq!(rt; not_marked, (1, Err((Some(2), Why::NoEndPage))));
+    Ok(())
+}
+
+/// Packets of whole segments after a first packet are read back, each to its last byte, and the end after them.
+#[test]
+fn whole_segments(rt: HostRuntime) -> Result<(), Fail> {
+    let alloc = rt.alloc();
+    let mut stream = Vec::from_slice(alloc, &STREAM[..79])?;
+    stream.extend_from_slice(&bytes_of(alloc, WHOLE_SEGMENTS)?)?;
+    let mut first = [0u8; 51];
+    let (read, mut pages) = read_next(Pages::new(alloc, Memory::new(&stream))?, &mut first);
+    assert_eq!(rt; read, Ok(()));
+    for (byte, length) in PACKETS {
+        let mut room = vec![in alloc; 0u8; length]?;
+        let (read, after) = read_next(pages, &mut room);
+        pages = after;
+        assert_eq!(rt; read, Ok(()));
+        let wanted = vec![in alloc; byte; length]?;
+        assert!(rt; room.as_slice() == wanted.as_slice(), "at {length}");
+    }
+    let (end, _pages) = read_next(pages, &mut []);
+    assert_eq!(rt; end, Err(Ok(())));
     Ok(())
 }

@@ -1,5 +1,3 @@
-ghost use Rattle.std.specs.Prelude.{◌≤◌};
-
 use flac_bits::{BitReader, BitWriter, Collected, Memory, Pieces, Source, Why};
 use flac_pages::{PacketAt, PacketBytes, PacketMarks, Pages, write_packet, write_packets};
 use std::alloc::Global;
@@ -190,59 +188,49 @@ fn writes_the_pages_of_a_stream(rt: HostRuntime) -> Result<(), Fail> {
     Ok(())
 }
 
-/// The byte at a place, 0 behind the end.
-fn byte(bytes: &[u8], at: usize) -> u8 {
-    match bytes.get(at) {
-        Some(byte) => *byte,
-        None => 0,
+/// The bytes of some words: each is hex digits, and `WORD*COUNT` is that often.
+pub(crate) fn bytes_of(alloc: Global, words: &str) -> Result<Vec<u8>, Fail> {
+    let mut bytes = Vec::new(alloc);
+    for word in words.split_whitespace() {
+        let (digits, count) = word.split_once('*').unwrap_or((word, "1"));
+        let part = hex::decode(alloc, digits)?;
+        for _ in 0..count.parse::<usize>()? {
+            bytes.extend_from_slice(&part)?;
+        }
     }
+    Ok(bytes)
 }
 
-/// Of the page that begins at a place: its flags, the lowest bytes of its granule and number, how many lacing values it has, and the first.
-fn front(bytes: &[u8], at: usize) -> [u8; 5]
-    requires { at ≤ 100000 }
-{
-    [
-        byte(bytes, at + 5),
-        byte(bytes, at + 6),
-        byte(bytes, at + 18),
-        byte(bytes, at + 26),
-        byte(bytes, at + 27),
-    ]
-}
+/// Pages of packets of 255, 510 and 65025 bytes, of which the last goes on for no bytes on a page of its own.
+pub(crate) const WHOLE_SEGMENTS: &str =
+    "4f6767530000050000000000000001000000010000008ba2372c02ff00 07*255
+4f6767530000050000000000000001000000020000000abc7f5303ffff00 08*510
+4f6767530000ffffffffffffffff01000000030000006177258aff ff*255 09*65025
+4f67675300050500000000000000010000000400000008ffaf090100";
+
+/// Packets of whole segments, each of one byte that is repeated.
+pub(crate) const PACKETS: [(u8, usize); 3] = [(7, 255), (8, 510), (9, 65025)];
 
 #[test]
 fn writes_packets_of_whole_segments(rt: HostRuntime) -> Result<(), Fail> {
-    let zeros = vec![in rt.alloc(); 0u8; 65025]?;
-    let marks = PacketMarks {
+    let alloc = rt.alloc();
+    let mut marks = PacketMarks {
         serial: 1,
-        sequence: 7,
+        sequence: 1,
         granule: 5,
         first: false,
-        last: true,
+        last: false,
     };
-    let mut writer = BitWriter::new(Collected::new(rt.alloc()));
-    assert_eq!(rt;
-        write_packet(marks, &zeros.as_slice()[..255], &mut writer)?,
-        8
-    );
-    assert_eq!(rt;
-        write_packet(marks, &zeros.as_slice()[..510], &mut writer)?,
-        8
-    );
-    assert_eq!(rt; write_packet(marks, &zeros, &mut writer)?, 9);
+    let mut writer = BitWriter::new(Collected::new(alloc));
+    for (byte, length) in PACKETS {
+        let packet = vec![in alloc; byte; length]?;
+        marks.last = length == 65025;
+        marks.sequence = write_packet(marks, &packet, &mut writer)?;
+    }
     writer.finish()?;
-    let target = writer.into_target();
-    let bytes = target.bytes();
-    assert_eq!(rt;
-        bytes.len(),
-        27 + 2 + 255 + 27 + 3 + 510 + 27 + 255 + 65025 + 27 + 1
-    );
-    assert_eq!(rt; (front(bytes, 0), byte(bytes, 28)), ([4, 5, 7, 2, 255], 0));
-    assert_eq!(rt; front(bytes, 284), [4, 5, 7, 3, 255]);
-    assert_eq!(rt; (byte(bytes, 312), byte(bytes, 313)), (255, 0));
-    assert_eq!(rt; front(bytes, 824), [0, 255, 7, 255, 255]);
-    assert_eq!(rt; front(bytes, 66131), [5, 5, 8, 1, 0]);
+    assert_eq!(rt; marks.sequence, 5);
+    let wanted = bytes_of(alloc, WHOLE_SEGMENTS)?;
+    assert!(rt; writer.into_target().bytes() == wanted.as_slice());
     Ok(())
 }
 
@@ -278,6 +266,11 @@ fn writes_the_packets_of_a_stream(rt: HostRuntime) -> Result<(), Fail> {
     Ok(())
 }
 
+/// Pages of packets of 51, 0 and 300 zeros.
+const NO_BYTES: &str = "4f6767530002000000000000000009000000000000001659733f0133 00*51
+4f6767530000010000000000000009000000010000007adff6680100
+4f676753000407000000000000000900000002000000539d323602ff2d 00*300";
+
 #[test]
 fn writes_a_packet_of_no_bytes(rt: HostRuntime) -> Result<(), Fail> {
     let ends = [
@@ -299,13 +292,8 @@ fn writes_a_packet_of_no_bytes(rt: HostRuntime) -> Result<(), Fail> {
     writer.finish()?;
     let target = writer.into_target();
     let bytes = target.bytes();
-    assert_eq!(rt; bytes.len(), 28 + 51 + 28 + 29 + 300);
-    assert_eq!(rt; front(bytes, 0), [2, 0, 0, 1, 51]);
-    assert_eq!(rt; front(bytes, 79), [0, 1, 1, 1, 0]);
-    assert_eq!(rt;
-        (front(bytes, 107), byte(bytes, 135)),
-        ([4, 7, 2, 2, 255], 45)
-    );
+    let wanted = bytes_of(rt.alloc(), NO_BYTES)?;
+    assert_eq!(rt; bytes, wanted.as_slice());
     let read = packets(rt.alloc(), Memory::new(bytes))?;
     assert_eq!(rt; read, ([51, 0, 300, 0, 0], None));
     Ok(())

@@ -81,7 +81,7 @@ fn words_of(alloc: Global, line: &str) -> Result<Vec<String>, Fail> {
 
 /// Does a job over memory, which gives at most `most` bytes at once.
 pub(crate) fn perform(alloc: Global, job: &Job<'_>, input: &[u8], most: usize) -> Outcome {
-    let mut source = Pieces::new(Memory::new(input), most);
+    let mut source = Pieces::new(Memory::new(input), most.max(1));
     let mut file = Collected::new(alloc);
     let mut out = Collected::new(alloc);
     let mut err = Collected::new(alloc);
