@@ -26,12 +26,18 @@ def variants(text, name):
     return re.findall(r"^    (\w+),$", body[1], re.M)
 
 
+def counted(text, name):
+    """An enum whose variants are numbered in their order: `number` is `self as u8 + FIRST`. None if it is not so."""
+    first = re.search(r"self as u8 \+ (\d+)", text)
+    return first and list(enumerate(variants(text, name), int(first[1])))
+
+
 def reasons():
-    """`Why`: its variants have the numbers from 1 on."""
-    text = source("flac_bits/src/why.rt")
-    if "self as u8 + 1" not in text:
-        raise SystemExit("errors_page: Why::number is not `self as u8 + 1`")
-    return list(enumerate(variants(text, "Why"), 1))
+    """`Why`, in the order of its variants."""
+    found = counted(source("flac_bits/src/why.rt"), "Why")
+    if not found:
+        raise SystemExit("errors_page: Why::number is not `self as u8 + FIRST`")
+    return found
 
 
 def printed(path, name):
@@ -43,7 +49,10 @@ def printed(path, name):
     wrong = [variant for _, shown, variant in found if shown != variant]
     if wrong:
         raise SystemExit(f"errors_page: of {name} these print another name: {', '.join(wrong)}")
-    return [(int(number), shown) for number, shown, _ in found]
+    found = [(int(number), shown) for number, shown, _ in found]
+    if (counted(text, name) or found) != found:
+        raise SystemExit(f"errors_page: {name}::number and its text differ")
+    return found
 
 
 def numbered():
