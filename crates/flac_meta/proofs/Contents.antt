@@ -7,8 +7,9 @@ use Rattle.flac_bits.specs.Layout.{done, bits}
 use Rattle.flac_bits.specs.Lists.{list_of}
 use Rattle.flac_bits.specs.Forms.{Ties, joined, IsBytes, AreBytes}
 use Rattle.flac_bits.proofs.Ties.{tie, each_tied, some_tied, bytes_tie}
+use Rattle.flac_bits.specs.LittleEndian.{little_32, little_bits}
 use Rattle.flac_meta.specs.Info.{info_sizes, info_format, stream_info}
-use Rattle.flac_meta.specs.Fields.{nothing_left, little_endian, sized}
+use Rattle.flac_meta.specs.Fields.{nothing_left, sized}
 use Rattle.flac_meta.specs.SeekTable.{follows, in_order, seek_point, seek_points}
 use Rattle.flac_meta.specs.Comments.{texts, comments}
 use Rattle.flac_meta.specs.Spelling as s
@@ -154,9 +155,9 @@ points_tie n m = retie (ArePoints n)
 
 -- ---- comments
 
-text_tie : (left : ℕ) (m : Mark) → Ties (sized little_endian left) m (IsText left) s.little_sized
+text_tie : (left : ℕ) (m : Mark) → Ties (sized little_32 left) m (IsText left) s.little_sized
 unfolding s.little_sized
-text_tie left m = sized_tie little_endian s.little_bits little_tie left m
+text_tie left m = sized_tie little_32 little_bits little_tie left m
 
 pub record AreTexts (n left : ℕ) (ts : List (List ℕ)) : Type 0 where
   pub many : length ts ≡ n
@@ -187,7 +188,7 @@ are_texts (suc n) left (t ∷ ts) lt h =
 
 texts_tie : (n left : ℕ) (m : Mark) → Ties (texts n left) m (TextsFrom n left) (s.each_spelled s.little_sized)
 unfolding texts
-texts_tie n left m = turn_tie (sized little_endian) (λ left t. left - (4 + length t)) nothing_left IsText (λ left. left ≡ 0) s.little_sized text_tie nothing_tie n left m
+texts_tie n left m = turn_tie (sized little_32) (λ left t. left - (4 + length t)) nothing_left IsText (λ left. left ≡ 0) s.little_sized text_tie nothing_tie n left m
 
 pub record CommentsOf (left : ℕ) (c : Comments) : Type 0 where
   pub is : IsComments c
@@ -200,21 +201,21 @@ few_texts (t ∷ ts) = let h = few_texts ts in omega arith
 pub comments_tie : (left : ℕ) → left < 2 ^ 24 → (m : Mark) → Ties (comments left) m (CommentsOf left) s.comments_spelling
 unfolding comments s.comments_spelling
 comments_tie left lt m = tie (comments left) m (CommentsOf left) s.comments_spelling
-    (each_tied (sized little_endian left) m (IsText left) s.little_sized _ (text_tie left m) (λ vendor v.
-    part_each 4 (left - (4 + length vendor)) little_endian _ _ (λ le.
-    each_tied little_endian _ (λ n. n < 2 ^ 32) s.little_bits _ (little_tie _) (λ count small kept.
+    (each_tied (sized little_32 left) m (IsText left) s.little_sized _ (text_tie left m) (λ vendor v.
+    part_each 4 (left - (4 + length vendor)) little_32 _ _ (λ le.
+    each_tied little_32 _ (λ n. n < 2 ^ 32) little_bits _ (little_tie _) (λ count small kept.
     each_tied (texts count (left - (4 + length vendor) - 4)) _ (TextsFrom count (left - (4 + length vendor) - 4)) (s.each_spelled s.little_sized) _ (texts_tie count (left - (4 + length vendor) - 4) _) (λ list w.
     let k = texts_are count (left - (4 + length vendor) - 4) list w in
     let f = k.size in let g = v.fits in (
       record { is = record { vendor = v.small; list = k.all }; size = omega arith },
-      ap (λ n. s.little_sized vendor ++ (s.little_bits n ++ (s.each_spelled s.little_sized list ++ []))) (sym k.many),
+      ap (λ n. s.little_sized vendor ++ (little_bits n ++ (s.each_spelled s.little_sized list ++ []))) (sym k.many),
     ))))))
     (λ x v.
     let f = v.size in
     let few = few_texts x.list in
-    some_tied (sized little_endian left) m (IsText left) s.little_sized _ x.vendor (text_tie left m) (record { fits = omega arith; few = omega arith; small = v.is.vendor })
-    (part_some 4 (left - (4 + length x.vendor)) little_endian _ _ (omega arith)
-    (some_tied little_endian _ (λ n. n < 2 ^ 32) s.little_bits _ (length x.list) (little_tie _) (omega arith) (
+    some_tied (sized little_32 left) m (IsText left) s.little_sized _ x.vendor (text_tie left m) (record { fits = omega arith; few = omega arith; small = v.is.vendor })
+    (part_some 4 (left - (4 + length x.vendor)) little_32 _ _ (omega arith)
+    (some_tied little_32 _ (λ n. n < 2 ^ 32) little_bits _ (length x.list) (little_tie _) (omega arith) (
       (less_not (left - (4 + length x.vendor) - 4) (4 * length x.list) (omega arith), tt),
       some_tied (texts (length x.list) (left - (4 + length x.vendor) - 4)) _ (TextsFrom (length x.list) (left - (4 + length x.vendor) - 4)) (s.each_spelled s.little_sized) _ x.list (texts_tie (length x.list) (left - (4 + length x.vendor) - 4) _)
           (are_texts (length x.list) (left - (4 + length x.vendor) - 4) x.list (omega arith) (record { many = refl; all = v.is.list; size = omega arith })) (refl, refl),

@@ -13,9 +13,10 @@ use Rattle.flac_bits.specs.Forms.{Ties, joined, IsBytes, AreBytes}
 use Rattle.flac_bits.specs.declared.why.Why.{Why}
 use Rattle.flac_bits.specs.declared.why.Why.TheVariants.{BlockLength}
 use Rattle.flac_bits.proofs.Ties.{ForEach, ForSome, tie, each_part, each_tied, some_tied, bytes_tie, choose_each, choose_false}
+use Rattle.flac_bits.specs.LittleEndian.{little_32, little_bits}
 use Rattle.flac_meta.specs.Padding.{skipped}
-use Rattle.flac_meta.specs.Fields.{part, needs, nothing_left, little_endian, sized, number_32, in_turn, zeros, reserved}
-use Rattle.flac_meta.specs.Spelling.{zero_bits, little_bits, each_spelled}
+use Rattle.flac_meta.specs.Fields.{part, needs, nothing_left, sized, number_32, in_turn, zeros, reserved}
+use Rattle.flac_meta.specs.Spelling.{zero_bits, each_spelled}
 use Rattle.flac_meta.specs.Valid.{AllAre}
 use Rattle.flac_meta.proofs.Steps.{zeros_are}
 
@@ -58,18 +59,18 @@ four : (a b c d a' b' c' d' : ℕ) → a' ≡ a → b' ≡ b → c' ≡ c → d'
     → joined (unsigned 8 a ∷ unsigned 8 b ∷ unsigned 8 c ∷ unsigned 8 d ∷ []) ≡ joined (unsigned 8 a' ∷ unsigned 8 b' ∷ unsigned 8 c' ∷ unsigned 8 d' ∷ [])
 four a b c d a' b' c' d' e f g h = rw (e, f, g, h) refl
 
-pub little_tie : (m : Mark) → Ties little_endian m (λ v. v < 2 ^ 32) little_bits
-unfolding little_endian little_bits
-little_tie m = tie little_endian m (λ v. v < 2 ^ 32) little_bits
+pub little_tie : (m : Mark) → Ties little_32 m (λ v. v < 2 ^ 32) little_bits
+unfolding little_32 little_bits
+little_tie m = tie little_32 m (λ v. v < 2 ^ 32) little_bits
     (λ a la b lb c lc d ld.
     let v : ℕ = a + 256 * b + 65536 * c + 16777216 * d in
     let e : v % 256 ≡ a = omega arith in
     let f : v / 256 % 256 ≡ b = omega arith in
     let g : v / 65536 % 256 ≡ c = omega arith in
-    let h : v / 16777216 ≡ d = omega arith in
-    (omega arith, four a b c d (v % 256) (v / 256 % 256) (v / 65536 % 256) (v / 16777216) e f g h))
+    let h : v / 16777216 % 256 ≡ d = omega arith in
+    (omega arith, four a b c d (v % 256) (v / 256 % 256) (v / 65536 % 256) (v / 16777216 % 256) e f g h))
     (λ v h.
-    (v % 256, omega arith, (v / 256 % 256, omega arith, (v / 65536 % 256, omega arith, (v / 16777216, omega arith, (refl, omega arith))))))
+    (v % 256, omega arith, (v / 256 % 256, omega arith, (v / 65536 % 256, omega arith, (v / 16777216 % 256, omega arith, (refl, omega arith))))))
 
 -- ---- bytes behind their number
 

@@ -5,7 +5,8 @@ use Rattle.std.specs.Prelude.{⊤}
 use Rattle.flac_bits.specs.State.{Cursor}
 use Rattle.flac_bits.specs.Layout.{Layout, done, run, and_then, Reason}
 use Rattle.flac_bits.specs.Lists.{behind}
-use Rattle.flac_meta.specs.Fields.{in_turn, nothing_left, little_endian, sized}
+use Rattle.flac_bits.specs.LittleEndian.{little_32}
+use Rattle.flac_meta.specs.Fields.{in_turn, nothing_left, sized}
 use Rattle.flac_meta.specs.SeekTable.{seek_point, seek_points}
 use Rattle.flac_meta.specs.Comments.{texts}
 use Rattle.flac_meta.specs.CueSheet.{cue_track, cue_tracks}
@@ -65,13 +66,13 @@ unfolding seek_points
 points_end = turn_end seek_point (λ before point. Some point.sample) (λ before. done tt)
 
 pub texts_more : (n i left : ℕ) (c : Cursor) (front : List (List ℕ)) → i < n
-    → and_then (run (texts (n - i) left) c) (behind front) ≡ and_then (run (sized little_endian left) c) (λ x d. and_then (run (texts (n - (i + 1)) (left - (4 + length x))) d) (behind (front ++ x ∷ [])))
+    → and_then (run (texts (n - i) left) c) (behind front) ≡ and_then (run (sized little_32 left) c) (λ x d. and_then (run (texts (n - (i + 1)) (left - (4 + length x))) d) (behind (front ++ x ∷ [])))
 unfolding texts
-texts_more = turn_more (sized little_endian) (λ left text. left - (4 + length text)) nothing_left
+texts_more = turn_more (sized little_32) (λ left text. left - (4 + length text)) nothing_left
 
 pub texts_end : (n i left : ℕ) (c : Cursor) (front : List (List ℕ)) → n ≤ i → and_then (run (texts (n - i) left) c) (behind front) ≡ and_then (run (nothing_left left) c) (λ _ d. Ok (front, d))
 unfolding texts
-texts_end = turn_end (sized little_endian) (λ left text. left - (4 + length text)) nothing_left
+texts_end = turn_end (sized little_32) (λ left text. left - (4 + length text)) nothing_left
 
 pub tracks_more : (n i left : ℕ) (c : Cursor) (front : List CueTrack) → i < n
     → and_then (run (cue_tracks (n - i) left) c) (behind front) ≡ and_then (run (cue_track left) c) (λ x d. and_then (run (cue_tracks (n - (i + 1)) (left - (36 + 12 * length x.indices))) d) (behind (front ++ x ∷ [])))

@@ -17,15 +17,6 @@ needs size left = judge (record { broken = nat_lt left size; why = BlockLength }
 abbrev pub nothing_left : ℕ → Layout ⊤
 nothing_left left = judge (record { broken = not (nat_eq left 0); why = BlockLength } ∷ [])
 
--- a number of 32 bits, its lowest byte first (RFC 9639, section 8.6)
-unfoldable pub little_endian : Layout ℕ
-little_endian = do
-  a ← bits 8
-  b ← bits 8
-  c ← bits 8
-  d ← bits 8
-  done (a + 256 * b + 65536 * c + 16777216 * d)
-
 -- bytes behind their number
 unfoldable pub sized : Layout ℕ → ℕ → Layout (List ℕ)
 sized number left = part 4 left (do

@@ -2,6 +2,7 @@
 use Rattle.std.specs.Prelude.{ℕ, ◌+◌, ◌-◌, ◌*◌, ◌/◌, ◌%◌, Bool, false, replicate, List, [], ◌∷◌, ◌++◌, length, not}
 use Rattle.flac_bits.specs.Bits.{unsigned, bits_of, bit_value}
 use Rattle.flac_bits.specs.Forms.{joined}
+use Rattle.flac_bits.specs.LittleEndian.{little_bits}
 use Rattle.flac_meta.specs.Info.{Info}
 use Rattle.flac_meta.specs.declared.seek_table.SeekPoint.{SeekPoint}
 use Rattle.flac_meta.specs.declared.comments.Comments.{Comments}
@@ -15,10 +16,6 @@ use Rattle.flac_meta.specs.declared.block.Block.TheVariants as block_of
 -- so many zeros
 unfoldable pub zero_bits : ℕ → List Bool
 zero_bits n = replicate n false
-
--- a number of 32 bits, its lowest byte first (section 8.6)
-unfoldable pub little_bits : ℕ → List Bool
-little_bits v = joined (unsigned 8 (v % 256) ∷ unsigned 8 (v / 256 % 256) ∷ unsigned 8 (v / 65536 % 256) ∷ unsigned 8 (v / 16777216) ∷ [])
 
 -- bytes behind their number, whose lowest byte comes first, or whose highest does
 unfoldable pub little_sized : List ℕ → List Bool

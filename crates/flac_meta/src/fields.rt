@@ -3,27 +3,14 @@
 ghost use Rattle.std.specs.Prelude.{◌≡◌, OnOk, IfOk, ◌+◌, ◌-◌, ◌*◌, ◌<◌, ◌≤◌, ◌^◌, length, true};
 ghost use Rattle.flac_bits.specs.Layout.{bits as number};
 ghost use Rattle.flac_bits.specs.Lists.{list_of};
+ghost use Rattle.flac_bits.specs.LittleEndian.{little_32};
 ghost use Rattle.flac_bits.specs.Reading.{Counts, Reads, ReadsInRoom};
-ghost use Rattle.flac_meta.specs.Fields.{little_endian, sized, number_32, zeros};
+ghost use Rattle.flac_meta.specs.Fields.{sized, number_32, zeros};
 
 use crate::exact::skip_bytes;
 use crate::lists::Bytes;
-use flac_bits::{BitReader, Source, Why};
+use flac_bits::{BitReader, Source, Why, read_little_32};
 use std::alloc::Global;
-
-/// A number of 32 bits, its lowest byte first.
-#[tactic(auto, unfolding(crate::specs::Fields::little_endian))]
-pub(crate) fn read_little_endian<R: Source>(bits: &mut BitReader<R>) -> Result<u32, Why>
-    ensures spends { OnOk result (bits.new.most ≤ bits.old.most) }
-    ensures counts { Counts bits.old bits.new result }
-    ensures reads { Reads (λ v. v) little_endian bits.old bits.new result }
-{
-    let a = bits.take(8)? as u32;
-    let b = bits.take(8)? as u32;
-    let c = bits.take(8)? as u32;
-    let d = bits.take(8)? as u32;
-    Ok(a + 256 * b + 65536 * c + 16777216 * d)
-}
 
 /// So many bytes. Memory is asked for as they come.
 #[tactic(auto, using(flac_bits::proofs::Lists::list_more, flac_bits::proofs::Lists::list_end, flac_bits::proofs::Lists::list_start))]
@@ -56,13 +43,13 @@ pub(crate) fn read_sized_little<R: Source>(
     ensures fits { IfOk result (λ b. 4 + length b ≤ left) }
     ensures spends { OnOk result (bits.new.most ≤ bits.old.most) }
     ensures counts { Counts bits.old bits.new result }
-    ensures reads { ReadsInRoom (λ b. b) (sized little_endian left) bits.old bits.new result }
+    ensures reads { ReadsInRoom (λ b. b) (sized little_32 left) bits.old bits.new result }
 {
     if left < 4 {
         skip_bytes(bits, left)?;
         return Err(Why::BlockLength);
     }
-    let size = read_little_endian(bits)?;
+    let size = read_little_32(bits)?;
     if left - 4 < size {
         return Err(Why::BlockLength);
     }

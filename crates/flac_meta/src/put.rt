@@ -3,11 +3,11 @@
 ghost use Rattle.std.specs.Prelude.{◌≡◌, ◌<◌, ◌≤◌, ◌^◌, ◌*◌, length};
 ghost use Rattle.flac_bits.specs.Written.{Writes};
 ghost use Rattle.flac_meta.specs.Fielded.{fields_spelling};
-ghost use Rattle.flac_meta.specs.Spelling.{zero_bits, little_bits, little_sized, sized_bits, header_spelling, info_spelling};
+ghost use Rattle.flac_meta.specs.Spelling.{zero_bits, little_sized, sized_bits, header_spelling, info_spelling};
 
 use crate::fielded::{Field, flag};
 use crate::stream_info::StreamInfo;
-use flac_bits::{BitWriter, Target, Why};
+use flac_bits::{BitWriter, Target, Why, put_little_32};
 
 /// Writes these fields, one after another.
 pub(crate) fn put_fields<W: Target>(writer: &mut BitWriter<W>, fields: &[Field]) -> Result<(), Why>
@@ -77,34 +77,6 @@ pub(crate) fn put_info<W: Target>(writer: &mut BitWriter<W>, info: &StreamInfo) 
     Ok(())
 }
 
-/// Writes a number of 32 bits, its lowest byte first.
-#[tactic(auto, unfolding(crate::specs::Spelling::little_bits, crate::specs::Spelling::each_spelled))]
-pub(crate) fn put_little<W: Target>(writer: &mut BitWriter<W>, value: u32) -> Result<(), Why>
-    ensures { Writes (little_bits value) writer.old writer.new result }
-{
-    put_fields(
-        writer,
-        &[
-            Field {
-                bits: 8,
-                value: (value % 256) as u64,
-            },
-            Field {
-                bits: 8,
-                value: (value / 256 % 256) as u64,
-            },
-            Field {
-                bits: 8,
-                value: (value / 65536 % 256) as u64,
-            },
-            Field {
-                bits: 8,
-                value: (value / 16777216) as u64,
-            },
-        ],
-    )
-}
-
 /// Writes bytes behind their number, whose lowest byte comes first.
 pub(crate) fn put_little_sized<W: Target>(
     writer: &mut BitWriter<W>,
@@ -113,7 +85,7 @@ pub(crate) fn put_little_sized<W: Target>(
     requires { length bytes.now < 2 ^ 24 }
     ensures { Writes (little_sized bytes.now) writer.old writer.new result }
 {
-    put_little(writer, bytes.len() as u32)?;
+    put_little_32(bytes.len() as u32, writer)?;
     writer.put_bytes(bytes)?;
     Ok(())
 }

@@ -8,9 +8,9 @@ use crate::comments::Comments;
 use crate::fielded::Field;
 use crate::lists::Bytes;
 use crate::picture::Picture;
-use crate::put::{put_fields, put_little, put_little_sized, put_sized};
+use crate::put::{put_fields, put_little_sized, put_sized};
 use crate::seek_table::SeekPoint;
-use flac_bits::{BitWriter, Target, Why};
+use flac_bits::{BitWriter, Target, Why, put_little_32};
 
 /// Writes a seek point (RFC 9639, section 8.5.1).
 fn put_point<W: Target>(writer: &mut BitWriter<W>, point: &SeekPoint) -> Result<(), Why>
@@ -58,7 +58,7 @@ pub(crate) fn put_comments<W: Target>(
     let vendor = comments.vendor.as_slice();
     let list = comments.list.as_slice();
     put_little_sized(writer, vendor)?;
-    put_little(writer, list.len() as u32)?;
+    put_little_32(list.len() as u32, writer)?;
     put_texts(writer, list)?;
     Ok(())
 }

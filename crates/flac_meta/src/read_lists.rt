@@ -8,11 +8,11 @@ ghost use Rattle.flac_meta.specs.Picture.{picture, picture_front, sizes};
 
 use crate::comments::Comments;
 use crate::exact::skip_bytes;
-use crate::fields::{read_little_endian, read_number_32, read_sized, read_sized_little};
+use crate::fields::{read_number_32, read_sized, read_sized_little};
 use crate::lists::{Bytes, Texts};
 use crate::picture::Picture;
 use crate::seek_table::{SeekPoint, SeekTable};
-use flac_bits::{BitReader, Source, Why};
+use flac_bits::{BitReader, Source, Why, read_little_32};
 use std::alloc::Global;
 
 /// Whether a point of this sample number may stand behind one of that.
@@ -112,7 +112,7 @@ pub(crate) fn read_comments<R: Source>(
         skip_bytes(bits, rest)?;
         return Err(Why::BlockLength);
     }
-    let count = read_little_endian(bits)?;
+    let count = read_little_32(bits)?;
     if count > (rest - 4) / 4 {
         return Err(Why::BlockLength);
     }

@@ -6,19 +6,19 @@ use Rattle.flac_bits.proofs.Writing.{towards_start, towards_more, towards_end, t
 use Rattle.flac_meta.specs.Spelling as s
 use Rattle.flac_meta.proofs.put.put_little_sized.Goals as goal
 
-pub returns-in_err-put_little : goal.returns-in_err-put_little
+pub returns-in_err-put_little_32 : goal.returns-in_err-put_little_32
 unfolding s.little_sized
-returns-in_err-put_little g c =
+returns-in_err-put_little_32 g c =
     let p = err_from_is_err_and c.from_residual.result c.from_residual.ensures.1 in
-    rw (p.1, p.2) (towards_fail _ (joined (bits_of c.args.bytes.now ∷ [])) refl (towards_start _ c.args.writer.now) c.in_err-put_little.ensures)
+    rw (p.1, p.2) (towards_fail _ (joined (bits_of c.args.bytes.now ∷ [])) refl (towards_start _ c.args.writer.now) c.in_err-put_little_32.ensures)
 
 pub returns-in_err-put_bytes : goal.returns-in_err-put_bytes
 unfolding s.little_sized
 returns-in_err-put_bytes g c =
     let p = err_from_is_err_and c.from_residual-in_err-put_bytes.result c.from_residual-in_err-put_bytes.ensures.1 in
-    rw (p.1, p.2) (towards_fail _ ([]) refl (towards_more (joined (bits_of c.args.bytes.now ∷ [])) refl (towards_start _ c.args.writer.now) c.in_ok-put_little.ensures) c.in_err-put_bytes.ensures)
+    rw (p.1, p.2) (towards_fail _ ([]) refl (towards_more (joined (bits_of c.args.bytes.now ∷ [])) refl (towards_start _ c.args.writer.now) c.in_ok-put_little_32.ensures) c.in_err-put_bytes.ensures)
 
 pub returns : goal.returns
 unfolding s.little_sized
 returns g c =
-    (towards_end refl (towards_more ([]) refl (towards_more (joined (bits_of c.args.bytes.now ∷ [])) refl (towards_start _ c.args.writer.now) c.in_ok-put_little.ensures) c.in_ok-put_bytes.ensures))
+    (towards_end refl (towards_more ([]) refl (towards_more (joined (bits_of c.args.bytes.now ∷ [])) refl (towards_start _ c.args.writer.now) c.in_ok-put_little_32.ensures) c.in_ok-put_bytes.ensures))

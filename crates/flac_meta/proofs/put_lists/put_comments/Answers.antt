@@ -2,6 +2,7 @@ use Rattle.std.proofs.Common.{◌∷◌, [], length, refl}
 use Rattle.std.proofs.lemmas.Result.{err_from_is_err_and}
 use Rattle.flac_bits.specs.Forms.{joined}
 use Rattle.flac_bits.proofs.Writing.{towards_start, towards_more, towards_end, towards_fail}
+use Rattle.flac_bits.specs.LittleEndian.{little_bits}
 use Rattle.flac_meta.specs.Spelling as s
 use Rattle.flac_meta.proofs.put_lists.put_comments.Goals as goal
 
@@ -9,21 +10,21 @@ pub returns-in_err-put_little_sized : goal.returns-in_err-put_little_sized
 unfolding s.comments_spelling
 returns-in_err-put_little_sized g c =
     let p = err_from_is_err_and c.from_residual.result c.from_residual.ensures.1 in
-    rw (p.1, p.2, ← c.as_slice-vendor.ensures, ← c.as_slice-list.ensures) (towards_fail _ (joined (s.little_bits (length c.as_slice-list.result.now) ∷ s.each_spelled s.little_sized c.as_slice-list.result.now ∷ [])) refl (towards_start _ c.args.writer.now) c.in_err-put_little_sized.ensures)
+    rw (p.1, p.2, ← c.as_slice-vendor.ensures, ← c.as_slice-list.ensures) (towards_fail _ (joined (little_bits (length c.as_slice-list.result.now) ∷ s.each_spelled s.little_sized c.as_slice-list.result.now ∷ [])) refl (towards_start _ c.args.writer.now) c.in_err-put_little_sized.ensures)
 
-pub returns-in_err-put_little : goal.returns-in_err-put_little
+pub returns-in_err-put_little_32 : goal.returns-in_err-put_little_32
 unfolding s.comments_spelling
-returns-in_err-put_little g c =
-    let p = err_from_is_err_and c.from_residual-in_err-put_little.result c.from_residual-in_err-put_little.ensures.1 in
-    rw (p.1, p.2, ← c.as_slice-vendor.ensures, ← c.as_slice-list.ensures) (towards_fail _ (joined (s.each_spelled s.little_sized c.as_slice-list.result.now ∷ [])) refl (towards_more (joined (s.little_bits (length c.as_slice-list.result.now) ∷ s.each_spelled s.little_sized c.as_slice-list.result.now ∷ [])) refl (towards_start _ c.args.writer.now) c.in_ok-put_little_sized.ensures) c.in_err-put_little.ensures)
+returns-in_err-put_little_32 g c =
+    let p = err_from_is_err_and c.from_residual-in_err-put_little_32.result c.from_residual-in_err-put_little_32.ensures.1 in
+    rw (p.1, p.2, ← c.as_slice-vendor.ensures, ← c.as_slice-list.ensures) (towards_fail _ (joined (s.each_spelled s.little_sized c.as_slice-list.result.now ∷ [])) refl (towards_more (joined (little_bits (length c.as_slice-list.result.now) ∷ s.each_spelled s.little_sized c.as_slice-list.result.now ∷ [])) refl (towards_start _ c.args.writer.now) c.in_ok-put_little_sized.ensures) c.in_err-put_little_32.ensures)
 
 pub returns-in_err-put_texts : goal.returns-in_err-put_texts
 unfolding s.comments_spelling
 returns-in_err-put_texts g c =
     let p = err_from_is_err_and c.from_residual-in_err-put_texts.result c.from_residual-in_err-put_texts.ensures.1 in
-    rw (p.1, p.2, ← c.as_slice-vendor.ensures, ← c.as_slice-list.ensures) (towards_fail _ ([]) refl (towards_more (joined (s.each_spelled s.little_sized c.as_slice-list.result.now ∷ [])) refl (towards_more (joined (s.little_bits (length c.as_slice-list.result.now) ∷ s.each_spelled s.little_sized c.as_slice-list.result.now ∷ [])) refl (towards_start _ c.args.writer.now) c.in_ok-put_little_sized.ensures) c.in_ok-put_little.ensures) c.in_err-put_texts.ensures)
+    rw (p.1, p.2, ← c.as_slice-vendor.ensures, ← c.as_slice-list.ensures) (towards_fail _ ([]) refl (towards_more (joined (s.each_spelled s.little_sized c.as_slice-list.result.now ∷ [])) refl (towards_more (joined (little_bits (length c.as_slice-list.result.now) ∷ s.each_spelled s.little_sized c.as_slice-list.result.now ∷ [])) refl (towards_start _ c.args.writer.now) c.in_ok-put_little_sized.ensures) c.in_ok-put_little_32.ensures) c.in_err-put_texts.ensures)
 
 pub returns : goal.returns
 unfolding s.comments_spelling
 returns g c =
-    rw (← c.as_slice-vendor.ensures, ← c.as_slice-list.ensures) (towards_end refl (towards_more ([]) refl (towards_more (joined (s.each_spelled s.little_sized c.as_slice-list.result.now ∷ [])) refl (towards_more (joined (s.little_bits (length c.as_slice-list.result.now) ∷ s.each_spelled s.little_sized c.as_slice-list.result.now ∷ [])) refl (towards_start _ c.args.writer.now) c.in_ok-put_little_sized.ensures) c.in_ok-put_little.ensures) c.in_ok-put_texts.ensures))
+    rw (← c.as_slice-vendor.ensures, ← c.as_slice-list.ensures) (towards_end refl (towards_more ([]) refl (towards_more (joined (s.each_spelled s.little_sized c.as_slice-list.result.now ∷ [])) refl (towards_more (joined (little_bits (length c.as_slice-list.result.now) ∷ s.each_spelled s.little_sized c.as_slice-list.result.now ∷ [])) refl (towards_start _ c.args.writer.now) c.in_ok-put_little_sized.ensures) c.in_ok-put_little_32.ensures) c.in_ok-put_texts.ensures))

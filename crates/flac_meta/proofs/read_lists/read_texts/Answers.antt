@@ -4,8 +4,9 @@ use Rattle.flac_bits.specs.State.{Cursor}
 use Rattle.flac_bits.specs.Layout.{run, and_then}
 use Rattle.flac_bits.specs.Lists.{behind}
 use Rattle.flac_bits.proofs.Loops.{goes_on}
+use Rattle.flac_bits.specs.LittleEndian.{little_32}
 use Rattle.flac_meta.specs.Comments.{texts}
-use Rattle.flac_meta.specs.Fields.{little_endian, sized}
+use Rattle.flac_meta.specs.Fields.{sized}
 use Rattle.flac_meta.proofs.Turns.{texts_more}
 use Rattle.flac_bits.proofs.Counting.{gone, failed_then}
 use Rattle.flac_meta.proofs.read_lists.read_texts.Goals as goal
@@ -23,7 +24,7 @@ loop-i-preserved g c =
     let more : List ℕ → Cursor → _ = λ x d. and_then (run (texts (c.args.count - (c.loop-i.i + 1)) (c.loop-i.left - (4 + length x))) d) (behind (c.loop-i.list.items ++ x ∷ [])) in (
       omega arith,
       omega (arith, c.in_ok-text.ensures.spends),
-      goes_on c.args.bits.now c.loop-i.bits c.read_sized_little.new.bits (run (sized little_endian c.loop-i.left) c.loop-i.bits.cursor) c.in_ok-text.text more _ _ _
+      goes_on c.args.bits.now c.loop-i.bits c.read_sized_little.new.bits (run (sized little_32 c.loop-i.left) c.loop-i.bits.cursor) c.in_ok-text.text more _ _ _
           c.loop-i.invariant.2 (texts_more c.args.count c.loop-i.i c.loop-i.left c.loop-i.bits.cursor c.loop-i.list.items c.loop-i-test.true) (grind arith)
           c.in_ok-text.ensures.counts (c.in_ok-text.ensures.reads (λ q. absurd cc)),
     )
