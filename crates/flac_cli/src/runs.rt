@@ -16,10 +16,9 @@ use crate::lines::{Lines, write_fault};
 use crate::listing::Listing;
 use crate::retagging::retag_with;
 use crate::samples::SampleWriter;
-use crate::texts::FaultText;
 use flac_bits::{Source, Target, Why};
 use flac_jobs::Job;
-use flac_native::{EncodeFault, Fault, Place};
+use flac_native::{EncodeFault, Fault};
 use std::alloc::Global;
 use std::fmt::{Display, Write};
 
@@ -92,12 +91,9 @@ fn refuse<E: Target, F: Display>(err: &mut E, job: &Job<'_>, of_output: bool, fa
     1
 }
 
-/// Writes the line of a refused stream, and returns the status 1.
-fn refuse_stream<E: Target>(err: &mut E, job: &Job<'_>, at: Option<Place>, why: Why) -> u8
-    ensures { result ≡ 1 }
-{
-    let of_output = matches!(why, Why::Sink | Why::Write);
-    refuse(err, job, of_output, &FaultText { at, why })
+/// Whether the file at fault is the one that the job writes.
+fn is_of_output(why: Why) -> bool {
+    matches!(why, Why::Sink | Why::Write)
 }
 
 /// Does a job over its devices, and answers the status: 0 where it is done; 1 where it is refused, and then the fault's line
@@ -126,17 +122,17 @@ pub fn run<R: Source, W: Target, O: Target, E: Target>(
         Job::Test { .. } => match count(alloc, source) {
             Ok(counts) => match write_counts(out, &counts) {
                 Ok(()) => 0,
-                Err(why) => refuse_stream(err, job, None, why),
+                Err(why) => refuse(err, job, is_of_output(why), &why),
             },
-            Err(fault) => refuse_stream(err, job, Some(fault.at), fault.why),
+            Err(fault) => refuse(err, job, is_of_output(fault.why), &fault),
         },
         Job::Decode { .. } => match decode_samples(alloc, source, target) {
             Ok(()) => 0,
-            Err(fault) => refuse_stream(err, job, Some(fault.at), fault.why),
+            Err(fault) => refuse(err, job, is_of_output(fault.why), &fault),
         },
         Job::List { .. } => match list(alloc, source, out) {
             Ok(()) => 0,
-            Err(fault) => refuse_stream(err, job, Some(fault.at), fault.why),
+            Err(fault) => refuse(err, job, is_of_output(fault.why), &fault),
         },
         Job::Encode {
             format,
@@ -164,7 +160,7 @@ pub fn run<R: Source, W: Target, O: Target, E: Target>(
             target,
         ) {
             Ok(()) => 0,
-            Err(fault) => refuse_stream(err, job, fault.at, fault.why),
+            Err(fault) => refuse(err, job, is_of_output(fault.why), &fault),
         },
     }
 }

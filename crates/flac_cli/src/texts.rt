@@ -1,31 +1,7 @@
 //! Values as the lines of the program show them.
 
-use flac_bits::Why;
-use flac_native::Place;
 use hex::encode_to_slice;
 use std::fmt;
-
-/// A fault: `PLACE: NUMBER NAME`, or `NUMBER NAME` if it has no place.
-#[derive(Clone, Copy)]
-pub(crate) struct FaultText {
-    pub(crate) at: Option<Place>,
-    pub(crate) why: Why,
-}
-
-impl fmt::Display for FaultText {
-    fn fmt<W: fmt::Write>(&self, f: &mut fmt::Formatter<W>) -> fmt::Result {
-        match self.at {
-            Some(Place::Marker) => f.write_str("marker: ")?,
-            Some(Place::Block(index)) => write!(f, "block {index}: ")?,
-            Some(Place::Frame(index)) => write!(f, "frame {index}: ")?,
-            Some(Place::Page(index)) => write!(f, "page {index}: ")?,
-            Some(Place::End) => f.write_str("end: ")?,
-            None => (),
-        }
-        let why = self.why;
-        write!(f, "{why}")
-    }
-}
 
 /// Bytes as a text: those from 20 to 7E (hexadecimal) but the backslash as themselves, all others as `\x` and two digits.
 #[derive(Clone, Copy)]
