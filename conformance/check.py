@@ -13,6 +13,7 @@ import corpus
 import damage
 import differences
 import encoding
+import granules
 import mend
 import model
 import program
@@ -239,6 +240,8 @@ def all_cases(made, quick, bench):
     for name, call in command_line.cases(bench):
         yield "command line", name, call
     yield from encoding.cases(made, quick, bench)
+    for name, call in granules.cases(bench):
+        yield "long packets in Ogg", name, call
     yield from damage_cases(made, quick, bench)
 
 
