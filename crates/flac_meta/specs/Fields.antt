@@ -1,5 +1,5 @@
 -- Fields inside a block, of whose content so many bytes are left.
-use Rattle.std.specs.Prelude.{ℕ, zero, suc, ◌+◌, ◌-◌, ◌*◌, Bool, not, List, [], ◌∷◌, nat_eq, nat_lt, ⊤}
+use Rattle.std.specs.Prelude.{ℕ, zero, suc, ◌-◌, ◌*◌, Bool, not, List, [], ◌∷◌, nat_eq, nat_lt, ⊤}
 use Rattle.flac_bits.specs.Layout.{Layout, done, judge, refuse, ◌>>=◌, bits, choose}
 use Rattle.flac_bits.specs.Lists.{list_of}
 use Rattle.flac_bits.specs.declared.why.Why.TheVariants.{BlockLength, CueSheet}

@@ -1,5 +1,5 @@
 -- How blocks are spelled (RFC 9639, section 8).
-use Rattle.std.specs.Prelude.{ℕ, ◌+◌, ◌-◌, ◌*◌, ◌/◌, ◌%◌, Bool, false, replicate, List, [], ◌∷◌, ◌++◌, length, not}
+use Rattle.std.specs.Prelude.{ℕ, ◌+◌, ◌-◌, ◌*◌, Bool, false, replicate, List, [], ◌∷◌, ◌++◌, length, not}
 use Rattle.flac_bits.specs.Bits.{unsigned, bits_of, bit_value}
 use Rattle.flac_bits.specs.Forms.{joined}
 use Rattle.flac_bits.specs.LittleEndian.{little_bits}
