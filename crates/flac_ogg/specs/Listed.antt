@@ -1,5 +1,5 @@
 -- Packets that lie one after another in memory.
-use Rattle.std.specs.Prelude.{◌≡◌, ℕ, Bool, List, ◌++◌, length, map}
+use Rattle.std.specs.Prelude.{◌≡◌, Bool, List, ◌++◌, length, map}
 use Rattle.std.specs.List.{All}
 use Rattle.flac_bits.specs.Bits.{bits_of}
 use Rattle.flac_pages.specs.declared.writing.PacketKind.{PacketKind}

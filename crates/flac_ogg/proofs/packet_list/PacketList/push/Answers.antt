@@ -1,4 +1,4 @@
-use Rattle.std.proofs.Common.{◌∷◌, [], ◌++◌, ap, ◌∙◌, arith}
+use Rattle.std.proofs.Common.{◌∷◌, [], ◌++◌, ap, ◌∙◌}
 use Rattle.flac_ogg.proofs.Listing.{puts_one}
 use Rattle.flac_ogg.proofs.packet_list.PacketList.push.Goals as goal
 
