@@ -1,6 +1,6 @@
 use flac_bits::{
-    BitReader, Counted, Memory, Pieces, Source, Why, crc8, crc16, crc32_sum, read_bytes,
-    read_number,
+    BitReader, BitWriter, Collected, Counted, Memory, Pieces, Source, Why, crc8, crc16, page_sum,
+    put_little_32, read_bytes, read_little_32, read_little_64, read_number,
 };
 use std::io;
 use std::io::{ErrorKind, Read};
@@ -8,7 +8,7 @@ use std::test::Fail;
 
 /// The three checks of some bytes.
 fn checks_of(bytes: &[u8]) -> (u8, u16, u32) {
-    (crc8(bytes), crc16(bytes), crc32_sum(0, bytes))
+    (crc8(bytes), crc16(bytes), page_sum(bytes))
 }
 
 /// What a reader has of both checks of nine bytes behind the first, and how many bytes it took.
@@ -237,4 +237,42 @@ fn reasons(rt: HostRuntime) {
     assert_eq!(rt; Why::Read.number(), 1);
     assert_eq!(rt; Why::FrameCheck.number(), 26);
     assert_eq!(rt; Why::Write.number(), 39);
+}
+
+#[test]
+fn reasons_are_printed(rt: HostRuntime) -> Result<(), Fail> {
+    let why = Why::FrameCheck;
+    assert_eq!(rt; format!(in rt.alloc(); "{why}")?.as_str(), "26 FrameCheck");
+    Ok(())
+}
+
+#[test]
+fn sources_are_given_back(rt: HostRuntime) -> Result<(), Fail> {
+    let mut pieces = Pieces::new(Memory::new(b"abc"), 1);
+    let mut room = [0; 3];
+    assert_eq!(rt; pieces.pull(&mut room)?, 1);
+    let mut left = pieces.into_inner();
+    assert_eq!(rt; left.pull(&mut room)?, 2);
+    assert_eq!(rt; room, [b'b', b'c', 0]);
+    let counted = Counted::new(b"xyz".as_slice());
+    assert_eq!(rt; counted.into_inner(), b"xyz".as_slice());
+    Ok(())
+}
+
+/// Numbers of four and of eight bytes, the lowest first.
+#[test]
+fn little_endian_numbers(rt: HostRuntime) -> Result<(), Fail> {
+    let bytes = [0x78, 0x56, 0x34, 0x12, 1, 2, 3, 4, 5, 6, 7, 8];
+    let mut bits = BitReader::new(Memory::new(&bytes));
+    assert_eq!(rt; read_little_32(&mut bits)?, 0x1234_5678);
+    assert_eq!(rt; read_little_64(&mut bits)?, 0x0807_0605_0403_0201);
+    assert_eq!(rt; read_little_32(&mut bits), Err(Why::Truncated));
+    let mut writer = BitWriter::new(Collected::new(rt.alloc()));
+    put_little_32(0x1234_5678, &mut writer)?;
+    writer.finish()?;
+    assert_eq!(rt;
+        writer.into_target().bytes(),
+        [0x78, 0x56, 0x34, 0x12].as_slice()
+    );
+    Ok(())
 }

@@ -2,8 +2,9 @@
 
 use flac_bits::{BitReader, BitWriter, Collected, Memory, Why};
 use flac_meta::{
-    Block, BlockList, Bytes, Comments, CueSheet, CueTracks, SeekPoint, SeekTable, Seen, StreamInfo,
-    Texts, blocks_are_spelled, read_block, write_block, write_comments,
+    Block, BlockList, Bytes, Comments, CueIndex, CueIndices, CueSheet, CueTrack, CueTracks,
+    Picture, SeekPoint, SeekTable, Seen, StreamInfo, Texts, blocks_are_spelled, read_block,
+    write_block, write_comments,
 };
 use std::alloc::Global;
 use std::test::Fail;
@@ -329,5 +330,138 @@ fn longest_content(rt: HostRuntime) -> Result<(), Fail> {
     let written = bytes_of(alloc, &block, true)?;
     assert_eq!(rt; written.len(), 16777219);
     assert!(rt; comes_back(alloc, written.as_slice(), 16777215)?);
+    Ok(())
+}
+
+/// One block of each kind, kinds 0 to 7 in their order.
+fn of_each_kind(alloc: Global) -> Result<Vec<Block>, Why> {
+    let mut points = Vec::new(alloc);
+    points.push(SeekPoint {
+        sample: 4096,
+        offset: 14,
+        length: 4096,
+    })?;
+    let mut blocks = Vec::new(alloc);
+    blocks.push(Block::StreamInfo(told()?))?;
+    blocks.push(Block::Padding(4))?;
+    blocks.push(Block::Application {
+        id: [0x46, 0x6C, 0x61, 0x63],
+        bytes: text(alloc, b"xy")?,
+    })?;
+    blocks.push(Block::SeekTable(SeekTable::from_vec(points)))?;
+    blocks.push(Block::VorbisComment(comments_of(alloc)?))?;
+    blocks.push(Block::CueSheet(sheet_of(alloc)?))?;
+    blocks.push(Block::Picture(picture_of(alloc)?))?;
+    blocks.push(Block::Other {
+        kind: 7,
+        bytes: text(alloc, b"z")?,
+    })?;
+    Ok(blocks)
+}
+
+/// A cue sheet of one track with one place.
+fn sheet_of(alloc: Global) -> Result<CueSheet, Why> {
+    let mut indices = Vec::new(alloc);
+    indices.push(CueIndex {
+        offset: 588,
+        number: 1,
+    })?;
+    let mut tracks = Vec::new(alloc);
+    tracks.push(CueTrack {
+        offset: 0,
+        number: 1,
+        isrc: [0; 12],
+        audio: true,
+        pre_emphasis: false,
+        indices: CueIndices::from_vec(indices),
+    })?;
+    Ok(CueSheet {
+        catalogue: [0; 128],
+        lead_in: 88200,
+        cd: true,
+        tracks: CueTracks::from_vec(tracks),
+    })
+}
+
+/// A front cover of two bytes.
+fn picture_of(alloc: Global) -> Result<Picture, Why> {
+    Ok(Picture {
+        kind: 3,
+        media: text(alloc, b"image/png")?,
+        text: text(alloc, b"front")?,
+        width: 1,
+        height: 1,
+        depth: 24,
+        colours: 0,
+        bytes: text(alloc, b"pq")?,
+    })
+}
+
+#[test]
+fn kinds_are_numbered(rt: HostRuntime) -> Result<(), Fail> {
+    for (number, block) in of_each_kind(rt.alloc())?.iter().enumerate() {
+        assert_eq!(rt; block.kind() as usize, number);
+    }
+    Ok(())
+}
+
+/// A clone equals its block, and no block equals one of another kind.
+#[test]
+fn blocks_are_cloned_and_compared(rt: HostRuntime) -> Result<(), Fail> {
+    let blocks = of_each_kind(rt.alloc())?;
+    let clones = blocks.clone()?;
+    for (i, block) in blocks.iter().enumerate() {
+        for (k, other) in clones.iter().enumerate() {
+            assert_eq!(rt; block == other, i == k);
+        }
+    }
+    Ok(())
+}
+
+/// Blocks that differ in one byte, one number or one place are not equal.
+#[test]
+fn differences_are_seen(rt: HostRuntime) -> Result<(), Fail> {
+    let alloc = rt.alloc();
+    let mut comments = comments_of(alloc)?;
+    comments.vendor = text(alloc, b"v")?;
+    assert!(rt; comments != comments_of(alloc)?);
+    let mut sheet = sheet_of(alloc)?;
+    sheet.tracks = CueTracks::from_vec(Vec::new(alloc));
+    assert!(rt; sheet != sheet_of(alloc)?);
+    let mut picture = picture_of(alloc)?;
+    picture.bytes = text(alloc, b"pr")?;
+    assert!(rt; picture != picture_of(alloc)?);
+    assert!(rt; SeekTable::from_vec(Vec::new(alloc)) == SeekTable::from_vec(Vec::new(alloc)));
+    Ok(())
+}
+
+#[test]
+fn lists_are_given_back(rt: HostRuntime) -> Result<(), Fail> {
+    let alloc = rt.alloc();
+    let mut blocks = Vec::new(alloc);
+    blocks.push(Block::VorbisComment(comments_of(alloc)?))?;
+    blocks.push(Block::Padding(4))?;
+    let list = BlockList::new(blocks.clone()?)?;
+    assert!(rt; list.clone()? == list);
+    assert!(rt; list.into_blocks() == blocks);
+    let point = SeekPoint {
+        sample: 4096,
+        offset: 14,
+        length: 4096,
+    };
+    let mut points = Vec::new(alloc);
+    points.push(point)?;
+    assert_eq!(rt;
+        SeekTable::from_vec(points).into_vec().as_slice(),
+        [point].as_slice()
+    );
+    let tracks = sheet_of(alloc)?.tracks.into_vec();
+    assert_eq!(rt; tracks.len(), 1);
+    for track in tracks {
+        let indices = track.indices.into_vec();
+        assert_eq!(rt; indices.len(), 1);
+    }
+    assert_eq!(rt; comments_of(alloc)?.list.into_vec().len(), 3);
+    assert_eq!(rt; text(alloc, b"xy")?.into_vec().as_slice(), b"xy".as_slice());
     Ok(())
 }

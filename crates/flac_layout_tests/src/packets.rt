@@ -1,5 +1,7 @@
 use flac_bits::{BitReader, BitWriter, Collected, Memory, Pieces, Source, Why};
-use flac_pages::{PacketAt, PacketBytes, PacketMarks, Pages, write_packet, write_packets};
+use flac_pages::{
+    PacketAt, PacketBytes, PacketKind, PacketMarks, Pages, write_packet, write_packets,
+};
 use std::alloc::Global;
 use std::test::Fail;
 
@@ -172,7 +174,7 @@ fn writes_the_pages_of_a_stream(rt: HostRuntime) -> Result<(), Fail> {
     let mut marks = PacketMarks {
         serial: 1,
         sequence: 0,
-        granule: 0,
+        kind: PacketKind::Header,
         first: true,
         last: false,
     };
@@ -180,7 +182,7 @@ fn writes_the_pages_of_a_stream(rt: HostRuntime) -> Result<(), Fail> {
         marks.sequence = write_packet(marks, &STREAM[range], &mut writer)?;
         marks.first = false;
     }
-    marks.granule = 16;
+    marks.kind = PacketKind::Frame { end: 16 };
     marks.last = true;
     assert_eq!(rt; write_packet(marks, &STREAM[229..], &mut writer)?, 4);
     writer.finish()?;
@@ -217,7 +219,7 @@ fn writes_packets_of_whole_segments(rt: HostRuntime) -> Result<(), Fail> {
     let mut marks = PacketMarks {
         serial: 1,
         sequence: 1,
-        granule: 5,
+        kind: PacketKind::Frame { end: 5 },
         first: false,
         last: false,
     };
@@ -234,6 +236,39 @@ fn writes_packets_of_whole_segments(rt: HostRuntime) -> Result<(), Fail> {
     Ok(())
 }
 
+/// Pages of a packet of 70000 zeros: of header packets each tells position 0, of frames the one on which it ends tells its samples.
+const LONG_HEADER: &str = "4f676753000000000000000000000100000001000000dc77ac19ff ff*255 00*65025
+4f676753000100000000000000000100000002000000540b04a814 ff*19 82 00*4975";
+
+const LONG_FRAME: &str = "4f6767530000ffffffffffffffff01000000010000006b5464fbff ff*255 00*65025
+4f676753000100100000000000000100000002000000de4eb8b414 ff*19 82 00*4975";
+
+/// Whether a packet of this kind of 70000 zeros is written as these pages.
+fn writes_long(alloc: Global, kind: PacketKind, pages: &str) -> Result<bool, Fail> {
+    let zeros = vec![in alloc; 0u8; 70000]?;
+    let marks = PacketMarks {
+        serial: 1,
+        sequence: 1,
+        kind,
+        first: false,
+        last: false,
+    };
+    let mut writer = BitWriter::new(Collected::new(alloc));
+    write_packet(marks, &zeros, &mut writer)?;
+    writer.finish()?;
+    let wanted = bytes_of(alloc, pages)?;
+    Ok(writer.into_target().bytes() == wanted.as_slice())
+}
+
+#[test]
+fn positions_of_long_packets(rt: HostRuntime) -> Result<(), Fail> {
+    assert!(rt; writes_long(rt.alloc(), PacketKind::Header, LONG_HEADER)?);
+    assert!(rt; writes_long(rt.alloc(), PacketKind::Frame { end: 4096 }, LONG_FRAME)?);
+    assert_eq!(rt; PacketKind::Header.granule(false), 0);
+    assert_eq!(rt; PacketKind::Frame { end: 4096 }.granule(true), 4096);
+    Ok(())
+}
+
 #[test]
 fn writes_the_packets_of_a_stream(rt: HostRuntime) -> Result<(), Fail> {
     let mut bytes = [0u8; 134];
@@ -244,19 +279,19 @@ fn writes_the_packets_of_a_stream(rt: HostRuntime) -> Result<(), Fail> {
     let packets = [
         PacketAt {
             end: 51,
-            granule: 0,
+            kind: PacketKind::Header,
         },
         PacketAt {
             end: 95,
-            granule: 0,
+            kind: PacketKind::Header,
         },
         PacketAt {
             end: 117,
-            granule: 0,
+            kind: PacketKind::Header,
         },
         PacketAt {
             end: 134,
-            granule: 16,
+            kind: PacketKind::Frame { end: 16 },
         },
     ];
     let mut writer = BitWriter::new(Collected::new(rt.alloc()));
@@ -276,15 +311,15 @@ fn writes_a_packet_of_no_bytes(rt: HostRuntime) -> Result<(), Fail> {
     let ends = [
         PacketAt {
             end: 51,
-            granule: 0,
+            kind: PacketKind::Header,
         },
         PacketAt {
             end: 51,
-            granule: 1,
+            kind: PacketKind::Frame { end: 1 },
         },
         PacketAt {
             end: 351,
-            granule: 7,
+            kind: PacketKind::Frame { end: 7 },
         },
     ];
     let mut writer = BitWriter::new(Collected::new(rt.alloc()));

@@ -1,6 +1,7 @@
 -- Blocks are spelled in whole bytes.
 use Rattle.std.proofs.Common.{◌≡◌, ℕ, ◌+◌, ◌-◌, ◌*◌, ◌/◌, ◌%◌, Bool, false, not, List, [], ◌∷◌, ◌++◌, length, length-append, refl, arith}
 use Rattle.std.proofs.lemmas.List.{length-replicate}
+use Rattle.flac_bits.specs.LittleEndian.{little_bits}
 use Rattle.flac_bits.specs.Bits.{unsigned, bits_of, bit_value, is_nil}
 use Rattle.flac_bits.specs.Forms.{joined}
 use Rattle.flac_bits.proofs.Words.{length-unsigned}
@@ -44,15 +45,15 @@ each_whole spelling h (x ∷ xs) = whole_append (spelling x) (s.each_spelled spe
 pub bits_whole : (bytes : List ℕ) → Whole (bits_of bytes)
 bits_whole bytes = record { bytes = omega (arith, length-bits_of bytes) }
 
-little_long : (v : ℕ) → length (s.little_bits v) ≡ 32
-unfolding s.little_bits
+little_long : (v : ℕ) → length (little_bits v) ≡ 32
+unfolding little_bits
 little_long v =
     let a = unsigned 8 (v % 256) in
     omega (arith, length-joined (unsigned 8 (v % 256) ∷ unsigned 8 (v / 256 % 256) ∷ unsigned 8 (v / 65536 % 256) ∷ unsigned 8 (v / 16777216) ∷ []), length-unsigned 8 (v % 256), length-unsigned 8 (v / 256 % 256), length-unsigned 8 (v / 65536 % 256), length-unsigned 8 (v / 16777216))
 
 little_whole : (text : List ℕ) → Whole (s.little_sized text)
 unfolding s.little_sized
-little_whole text = record { bytes = omega (arith, length-joined (s.little_bits (length text) ∷ bits_of text ∷ []), little_long (length text), length-bits_of text) }
+little_whole text = record { bytes = omega (arith, length-joined (little_bits (length text) ∷ bits_of text ∷ []), little_long (length text), length-bits_of text) }
 
 sized_whole : (text : List ℕ) → Whole (s.sized_bits text)
 unfolding s.sized_bits
@@ -88,7 +89,7 @@ unfolding s.comments_spelling
 comments_whole c =
     let vendor = little_whole c.vendor in
     let list = each_whole s.little_sized little_whole c.list in
-    record { bytes = omega (arith, length-joined (s.little_sized c.vendor ∷ s.little_bits (length c.list) ∷ s.each_spelled s.little_sized c.list ∷ []), vendor.bytes, little_long (length c.list), list.bytes) }
+    record { bytes = omega (arith, length-joined (s.little_sized c.vendor ∷ little_bits (length c.list) ∷ s.each_spelled s.little_sized c.list ∷ []), vendor.bytes, little_long (length c.list), list.bytes) }
 
 zeros_long : (n : ℕ) → length (s.zero_bits n) ≡ n
 unfolding s.zero_bits

@@ -176,8 +176,8 @@ fn audio(rt: HostRuntime) -> Result<(), Fail> {
     Ok(())
 }
 
-/// Writes all samples, 16 at most, as frame 0.
-fn write_all<W: Target>(alloc: Global, audio: &Audio, writer: &mut BitWriter<W>) -> Result<(), Why>
+/// Writes all samples, 16 at most, as frame 0, and returns how many bytes it has.
+fn write_all<W: Target>(alloc: Global, audio: &Audio, writer: &mut BitWriter<W>) -> Result<u64, Why>
     requires { writer.old.mark.unread ≡ 0 }
 {
     let len = audio.len();
@@ -185,8 +185,9 @@ fn write_all<W: Target>(alloc: Global, audio: &Audio, writer: &mut BitWriter<W>)
         return Err(Why::BlockSize);
     }
     let mut buffers = EncodeBuffers::new(alloc, 16)?;
-    encode_frame(audio, 0..len, 0, &mut buffers, writer)?;
-    writer.finish()
+    let bytes = encode_frame(audio, 0..len, 0, &mut buffers, writer)?;
+    writer.finish()?;
+    Ok(bytes)
 }
 
 #[test]
@@ -199,7 +200,7 @@ fn frames_are_written(rt: HostRuntime) -> Result<(), Fail> {
         return Ok(());
     };
     let mut writer = BitWriter::new(Collected::new(alloc));
-    write_all(alloc, &audio, &mut writer)?;
+    assert_eq!(rt; write_all(alloc, &audio, &mut writer), Ok(15));
     let frame = [
         0xFF, 0xF8, 0x69, 0x18, 0x00, 0x00, 0xBF, 0x01, 0x58, 0xFD, 0x01, 0x12, 0x8B, 0x5A, 0xB2,
     ];
@@ -212,7 +213,7 @@ fn frames_are_written(rt: HostRuntime) -> Result<(), Fail> {
         return Ok(());
     };
     let mut writer = BitWriter::new(Collected::new(alloc));
-    write_all(alloc, &audio, &mut writer)?;
+    assert_eq!(rt; write_all(alloc, &audio, &mut writer), Ok(16));
     let frame = [
         0xFF, 0xF8, 0x69, 0x08, 0x00, 0x0F, 0x30, 0x14, 0x00, 0x00, 0x00, 0x01, 0x03, 0xC0, 0xEF,
         0xC9,
@@ -227,7 +228,7 @@ fn written(alloc: Global, bits: u32, left: &[i32], right: &[i32]) -> Result<Vec<
         return Err(Why::Write);
     };
     let mut writer = BitWriter::new(Collected::new(alloc));
-    write_all(alloc, &audio, &mut writer)?;
+    let _bytes = write_all(alloc, &audio, &mut writer)?;
     Ok(writer.into_target().into_bytes())
 }
 

@@ -13,6 +13,8 @@ mod hostile;
 #[cfg(test)]
 mod ogg;
 #[cfg(test)]
+mod parts;
+#[cfg(test)]
 mod program;
 #[cfg(test)]
 mod retagging;

@@ -5,7 +5,8 @@ use crate::tables::{
     RETAGGINGS, SWEPT,
 };
 use flac_bits::{Collected, Counted, Memory, Pieces};
-use flac_cli::{Container, Format, Job, job, run};
+use flac_cli::{Container, Format, Job, run};
+use flac_words::job;
 use std::alloc::Global;
 use std::io;
 use std::io::Write;

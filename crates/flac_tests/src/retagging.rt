@@ -1,8 +1,9 @@
 //! Other comments for a stream: the example of RFC 9639, appendix D.1, its digest unknown.
 
-use flac_bits::{Collected, Memory, Pieces};
-use flac_meta::{Bytes, Comments, Texts};
-use flac_native::{Place, RetagFault, Why, only_one_head, retag};
+use flac_native::{
+    Block, Bytes, Collected, Comments, Decoder, Item, Memory, Pieces, Place, Profile, RetagFault,
+    Source, Texts, Why, only_one_head, retag,
+};
 use std::alloc::Global;
 use std::test::Fail;
 
@@ -133,5 +134,35 @@ fn too_long_comments(rt: HostRuntime) -> Result<(), Fail> {
         why: Why::BlockLength,
     };
     assert_eq!(rt; retagged(alloc, b"", &comments).err(), Some(fault));
+    Ok(())
+}
+
+/// The value of the first comment of a stream, if it has this name.
+fn first_value<R: Source>(
+    alloc: Global,
+    decoder: &mut Decoder<R>,
+    name: &[u8],
+) -> Result<Option<Vec<u8>>, Fail> {
+    for _ in 0..u64::MAX {
+        match decoder.next()? {
+            Item::Block(Block::VorbisComment(comments)) => {
+                if let Some((found, value)) = comments.parts(0) {
+                    if found == name {
+                        return Ok(Some(Vec::from_slice(alloc, value)?));
+                    }
+                }
+            }
+            Item::Block(_) => {}
+            _ => return Ok(None),
+        }
+    }
+    Ok(None)
+}
+
+#[test]
+fn tags_of_a_stream(rt: HostRuntime) -> Result<(), Fail> {
+    let mut decoder = Decoder::new(rt.alloc(), Memory::new(&TAGGED), Profile::Subset);
+    let title = first_value(rt.alloc(), &mut decoder, b"TITLE")?;
+    assert!(rt; title.is_some_and(|title| title.as_slice() == b"x".as_slice()));
     Ok(())
 }

@@ -5,8 +5,9 @@ ghost use Rattle.flac_bits.specs.Signed.{FitsBits};
 
 use flac_bits::{BitReader, BitWriter, Collected, Memory, Target, Why};
 use flac_subframe::{
-    Limits, choose_into, predict_fixed, predict_linear, read_subframe, samples_are_restored,
-    subframes_are_read_again, subframes_are_spelled, write_subframe_into,
+    Limits, choose, choose_into, predict_fixed, predict_linear, read_subframe,
+    samples_are_restored, subframes_are_read_again, subframes_are_spelled, write_subframe,
+    write_subframe_into,
 };
 use std::test::Fail;
 
@@ -190,4 +191,43 @@ fn writes_the_least(rt: HostRuntime) -> Result<(), Fail> {
         .as_slice()
     );
     Ok(())
+}
+
+/// The least subframe of some samples, chosen and written at arrays on the stack, as its bytes.
+fn write_alone<W: Target>(
+    samples: &[i64],
+    depth: u32,
+    writer: &mut BitWriter<W>,
+) -> Result<u64, Why>
+    requires depth { (1 ≤ depth) × (depth ≤ 33) }
+    requires block { (1 ≤ length samples.now) × (length samples.now ≤ 65535) }
+{
+    if !all_fit(samples, depth) {
+        return Err(Why::SampleRange);
+    }
+    let choice = choose(samples, depth);
+    write_subframe(&choice, samples, depth, writer)?;
+    writer.align()?;
+    writer.finish()?;
+    Ok(choice.bits())
+}
+
+#[test]
+fn writes_at_its_own_arrays(rt: HostRuntime) -> Result<(), Fail> {
+    let ramp = [0, 1, 2, 3, 4, 5, 6, 7, 8, 9, 10, 11, 12, 13, 14, 15];
+    let mut writer = BitWriter::new(Collected::new(rt.alloc()));
+    assert_eq!(rt; write_alone(&ramp, 16, &mut writer), Ok(55));
+    assert_eq!(rt; write_alone(&[25588; 4096], 16, &mut writer), Ok(24));
+    assert_eq!(rt;
+        writer.into_target().bytes(),
+        [0x14, 0x00, 0x00, 0x00, 0x01, 0x03, 0xC0, 0x01, 0x58, 0xFD].as_slice()
+    );
+    Ok(())
+}
+
+#[test]
+fn compares_choices(rt: HostRuntime) {
+    let choice = choose(&[0, 1, 2, 3, 4, 5, 6, 7], 16);
+    assert_eq!(rt; choice == choose(&[1, 2, 3, 4, 5, 6, 7, 8], 16), true);
+    assert_eq!(rt; choice == choose(&[0; 8], 16), false);
 }
