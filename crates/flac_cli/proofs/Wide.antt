@@ -1,13 +1,55 @@
--- A number of 1 to 4 bytes, filled up to 4 by its sign.
-use Rattle.std.proofs.Common.{◌≡◌, ◌≤◌, ◌<◌, ◌+◌, ◌*◌, ◌-◌, ◌^◌, ℕ, zero, suc, ℤ, pos, negsuc, List, [], ◌∷◌, ◌++◌, length, take, drop, get_or, to_z, of_z, w32, refl, ap, sym, ◌∙◌, arith}
+-- A number of 1 to 4 bytes in two's complement, the lowest byte first.
+use Rattle.std.proofs.Common.{◌≡◌, ◌≤◌, ◌<◌, ◌*◌, ◌-◌, ◌^◌, ℕ, zero, suc, ℤ, pos, negsuc, List, [], ◌∷◌, length, take, get_or, of_z, to_z, w32, w64, refl, ap, ◌∙◌, arith, inl, inr, FitsSigned}
 use Rattle.std.specs.Int.{to_le_bytes, from_le_bytes}
-use Rattle.std.proofs.lemmas.Int.{ints, of_z-to_z, to_z_pos}
-use Rattle.std.proofs.Math.Nat.{pow-le-pow_right}
-use Rattle.std.proofs.Math.Facts.{to_z-neg}
-use mir.Val.{bits}
+use Rattle.std.proofs.Math.Nat.{pow-le-pow_right, pow-succ'}
+use Rattle.std.proofs.lemmas.Int.{ints}
+use Rattle.std.proofs.lemmas.Bool.{cases_lt, le-ltb, lt-ltb}
 use Rattle.std.proofs.lemmas.Nat.{le_bytes_4}
+use Rattle.byteorder.specs.Endian.{twos_complement, little_number}
 use Rattle.flac_bits.specs.Signed.{FitsBits}
 use Rattle.flac_native.specs.Message.{sample_bytes}
+
+-- its sign is not set
+positive : (n x : ℕ) → x < 2 ^ (8 * n - 1) → twos_complement n x ≡ pos x
+positive n x lt = rw (lt-ltb x (2 ^ (8 * n - 1)) lt) refl
+
+-- its sign is set
+negative : (n x : ℕ) → 2 ^ (8 * n - 1) ≤ x → x < 2 ^ (8 * n) → twos_complement n x ≡ negsuc (2 ^ (8 * n) - 1 - x)
+negative n x le lt = rw (le-ltb x (2 ^ (8 * n - 1)) le) (omega (arith, ints))
+
+-- the bytes say a number below what they reach
+little_small : (bs : List ℕ) → length bs ≤ 4 → ((i : ℕ) → get_or bs i 0 < 256) → little_number (length bs) bs < 2 ^ (8 * length bs)
+little_small [] few small = omega arith
+little_small (a ∷ []) few small = let p : a < 256 = small 0 in omega arith
+little_small (a ∷ b ∷ []) few small = let p : a < 256 = small 0 in let q : b < 256 = small 1 in omega arith
+little_small (a ∷ b ∷ c ∷ []) few small = let p : a < 256 = small 0 in let q : b < 256 = small 1 in let r : c < 256 = small 2 in omega arith
+little_small (a ∷ b ∷ c ∷ d ∷ []) few small = let p : a < 256 = small 0 in let q : b < 256 = small 1 in let r : c < 256 = small 2 in let s : d < 256 = small 3 in omega arith
+little_small (a ∷ b ∷ c ∷ d ∷ e ∷ bs) few small = absurd (omega arith)
+
+-- it fits its bytes
+pub twos_fit : (bs : List ℕ) → 1 ≤ length bs → length bs ≤ 4 → ((i : ℕ) → get_or bs i 0 < 256) → FitsBits (8 * length bs) (twos_complement (length bs) (little_number (length bs) bs))
+twos_fit bs some few small =
+    let n = length bs in
+    let x : ℕ = little_number n bs in
+    let lt : x < 2 ^ (8 * n) = little_small bs few small in
+    let whole : 8 * n ≡ suc (8 * n - 1) = omega arith in
+    let twice : 2 ^ (8 * n) ≡ 2 * 2 ^ (8 * n - 1) = ap (λ (e : ℕ). 2 ^ e) whole ∙ pow-succ' 2 (8 * n - 1) in
+    elim (cases_lt x (2 ^ (8 * n - 1))) [
+      | inl below ↦ rw (positive n x below) (record { low = omega (arith, ints); high = omega (arith, ints) })
+      | inr above ↦ rw (negative n x above lt) (record { low = omega (arith, ints); high = omega (arith, ints) })
+    ]
+
+-- so it fits 32 bits
+pub fits_word : (n : ℕ) (z : ℤ) → n ≤ 4 → FitsBits (8 * n) z → FitsSigned w32 z
+fits_word n z few fits =
+    let top : 2 ^ (8 * n - 1) ≤ 2 ^ 31 = pow-le-pow_right {n = 2} (omega arith) {i = 8 * n - 1} {j = 31} (omega arith) in
+    let low = fits.low in
+    let high = fits.high in
+    omega (arith, ints)
+
+-- and a cast to 32 bits keeps it
+pub narrowed : (z : ℤ) → FitsSigned w32 z → to_z w32 (of_z w32 (to_z w64 (of_z w64 z))) ≡ z
+narrowed z fits = omega (arith, ints)
 
 small_four : (a b c d : ℕ) → a < 256 → b < 256 → c < 256 → d < 256 → (i : ℕ) → get_or (a ∷ b ∷ c ∷ d ∷ []) i 0 < 256
 small_four a b c d p q r s zero = p
@@ -16,61 +58,38 @@ small_four a b c d p q r s (suc (suc zero)) = r
 small_four a b c d p q r s (suc (suc (suc zero))) = s
 small_four a b c d p q r s (suc (suc (suc (suc i)))) = omega arith
 
--- the four bytes of the number that they are
-pub four_back : (a b c d : ℕ) (z : ℤ) → a < 256 → b < 256 → c < 256 → d < 256 → z ≡ to_z w32 (from_le_bytes w32 (a ∷ b ∷ c ∷ d ∷ []))
-    → to_le_bytes w32 (of_z w32 (to_z w32 (of_z w32 z))) ≡ a ∷ b ∷ c ∷ d ∷ []
-four_back a b c d z p q r s is =
-    let n = from_le_bytes w32 (a ∷ b ∷ c ∷ d ∷ []) in
-    let small : n < 2 ^ 32 = omega arith in
-    let once : of_z w32 z ≡ n = ap (of_z w32) is ∙ of_z-to_z w32 n small in
-    let twice : of_z w32 (to_z w32 (of_z w32 z)) ≡ n = ap (λ m. of_z w32 (to_z w32 m)) once ∙ of_z-to_z w32 n small in
-    ap (to_le_bytes w32) twice ∙ le_bytes_4 (a ∷ b ∷ c ∷ d ∷ []) n refl (small_four a b c d p q r s) refl
+four_bytes : (a b c d n : ℕ) → a < 256 → b < 256 → c < 256 → d < 256 → n ≡ from_le_bytes w32 (a ∷ b ∷ c ∷ d ∷ []) → to_le_bytes w32 n ≡ a ∷ b ∷ c ∷ d ∷ []
+four_bytes a b c d n p q r s is = le_bytes_4 (a ∷ b ∷ c ∷ d ∷ []) n refl (small_four a b c d p q r s) is
 
-abbrev filled : List ℕ → ℕ → List ℕ
-filled bs fill = bs ++ drop (length bs) (fill ∷ fill ∷ fill ∷ fill ∷ [])
+by_sign : (n x : ℕ) (bs : List ℕ) → x < 2 ^ (8 * n) → (x < 2 ^ (8 * n - 1) → sample_bytes n (pos x) ≡ bs)
+    → (2 ^ (8 * n - 1) ≤ x → sample_bytes n (negsuc (2 ^ (8 * n) - 1 - x)) ≡ bs) → sample_bytes n (twos_complement n x) ≡ bs
+by_sign n x bs lt below above = elim (cases_lt x (2 ^ (8 * n - 1))) [
+  | inl h ↦ ap (sample_bytes n) (positive n x h) ∙ below h
+  | inr h ↦ ap (sample_bytes n) (negative n x h lt) ∙ above h
+]
 
--- its lowest bytes are those that were filled up
-pub wide_bytes : (bs : List ℕ) (fill : ℕ) (z : ℤ) → length bs ≤ 4 → ((i : ℕ) → get_or bs i 0 < 256) → fill < 256
-    → z ≡ to_z w32 (from_le_bytes w32 (filled bs fill)) → sample_bytes (length bs) (to_z w32 (of_z w32 z)) ≡ bs
-wide_bytes [] fill z few small f is = refl
-wide_bytes (a ∷ []) fill z few small f is = ap (take 1) (four_back a fill fill fill z (small 0) f f f is)
-wide_bytes (a ∷ b ∷ []) fill z few small f is = ap (take 2) (four_back a b fill fill z (small 0) (small 1) f f is)
-wide_bytes (a ∷ b ∷ c ∷ []) fill z few small f is = ap (take 3) (four_back a b c fill z (small 0) (small 1) (small 2) f is)
-wide_bytes (a ∷ b ∷ c ∷ d ∷ []) fill z few small f is = ap (take 4) (four_back a b c d z (small 0) (small 1) (small 2) (small 3) is)
-wide_bytes (a ∷ b ∷ c ∷ d ∷ e ∷ bs) fill z few small f is = absurd (omega arith)
-
--- it is the number itself: zeros where its sign is not set, else ones
-zeros_fit : (k n : ℕ) (z : ℤ) → n < 2 ^ k → k ≤ 31 → z ≡ to_z w32 n → FitsBits (k + 1) (to_z w32 (of_z w32 z))
-zeros_fit k n z lt few is =
-    let top : 2 ^ k ≤ 2 ^ 31 = pow-le-pow_right {n = 2} (omega arith) few in
-    let same : to_z w32 (of_z w32 z) ≡ pos n = ap (λ x. to_z w32 (of_z w32 x)) is ∙ (ap (to_z w32) (of_z-to_z w32 n (omega arith)) ∙ to_z_pos w32 n (omega arith)) in
-    let e : k + 1 - 1 ≡ k = omega arith in
-    rw same (record { low = rw e (omega (arith, ints)); high = rw e (omega (arith, ints)) })
-
-ones_fit : (k n : ℕ) (z : ℤ) → 2 ^ 32 ≤ n + 2 ^ k → n < 2 ^ 32 → k ≤ 31 → z ≡ to_z w32 n → FitsBits (k + 1) (to_z w32 (of_z w32 z))
-ones_fit k n z ge lt few is =
-    let top : 2 ^ k ≤ 2 ^ 31 = pow-le-pow_right {n = 2} (omega arith) few in
-    let below = 4294967295 - n in
-    let whole : 2 ^ bits w32 - suc below ≡ n = omega arith in
-    let same : to_z w32 (of_z w32 z) ≡ negsuc below =
-    ap (λ x. to_z w32 (of_z w32 x)) is ∙ (ap (to_z w32) (of_z-to_z w32 n lt) ∙ (ap (to_z w32) (sym whole) ∙ to_z-neg w32 below (omega arith))) in
-    let e : k + 1 - 1 ≡ k = omega arith in
-    rw same (record { low = rw e (omega (arith, ints)); high = rw e (omega (arith, ints)) })
-
-pub wide_fits_zeros : (bs : List ℕ) (fill : ℕ) (z : ℤ) → 1 ≤ length bs → length bs ≤ 4 → ((i : ℕ) → get_or bs i 0 < 256) → fill ≡ 0 → get_or bs (length bs - 1) 0 < 128
-    → z ≡ to_z w32 (from_le_bytes w32 (filled bs fill)) → FitsBits (8 * length bs) (to_z w32 (of_z w32 z))
-wide_fits_zeros [] fill z some few small f sign is = absurd (omega arith)
-wide_fits_zeros (a ∷ []) fill z some few small f sign is = let h : a < 128 = sign in zeros_fit 7 _ z (omega arith) (omega arith) is
-wide_fits_zeros (a ∷ b ∷ []) fill z some few small f sign is = let p : a < 256 = small 0 in let h : b < 128 = sign in zeros_fit 15 _ z (omega arith) (omega arith) is
-wide_fits_zeros (a ∷ b ∷ c ∷ []) fill z some few small f sign is = let p : a < 256 = small 0 in let q : b < 256 = small 1 in let h : c < 128 = sign in zeros_fit 23 _ z (omega arith) (omega arith) is
-wide_fits_zeros (a ∷ b ∷ c ∷ d ∷ []) fill z some few small f sign is = let p : a < 256 = small 0 in let q : b < 256 = small 1 in let r : c < 256 = small 2 in let h : d < 128 = sign in zeros_fit 31 _ z (omega arith) (omega arith) is
-wide_fits_zeros (a ∷ b ∷ c ∷ d ∷ e ∷ bs) fill z some few small f sign is = absurd (omega arith)
-
-pub wide_fits_ones : (bs : List ℕ) (fill : ℕ) (z : ℤ) → 1 ≤ length bs → length bs ≤ 4 → ((i : ℕ) → get_or bs i 0 < 256) → fill ≡ 255 → 128 ≤ get_or bs (length bs - 1) 0
-    → z ≡ to_z w32 (from_le_bytes w32 (filled bs fill)) → FitsBits (8 * length bs) (to_z w32 (of_z w32 z))
-wide_fits_ones [] fill z some few small f sign is = absurd (omega arith)
-wide_fits_ones (a ∷ []) fill z some few small f sign is = let p : a < 256 = small 0 in let h : 128 ≤ a = sign in ones_fit 7 _ z (omega arith) (omega arith) (omega arith) is
-wide_fits_ones (a ∷ b ∷ []) fill z some few small f sign is = let p : a < 256 = small 0 in let q : b < 256 = small 1 in let h : 128 ≤ b = sign in ones_fit 15 _ z (omega arith) (omega arith) (omega arith) is
-wide_fits_ones (a ∷ b ∷ c ∷ []) fill z some few small f sign is = let p : a < 256 = small 0 in let q : b < 256 = small 1 in let r : c < 256 = small 2 in let h : 128 ≤ c = sign in ones_fit 23 _ z (omega arith) (omega arith) (omega arith) is
-wide_fits_ones (a ∷ b ∷ c ∷ d ∷ []) fill z some few small f sign is = let p : a < 256 = small 0 in let q : b < 256 = small 1 in let r : c < 256 = small 2 in let s : d < 256 = small 3 in let h : 128 ≤ d = sign in ones_fit 31 _ z (omega arith) (omega arith) (omega arith) is
-wide_fits_ones (a ∷ b ∷ c ∷ d ∷ e ∷ bs) fill z some few small f sign is = absurd (omega arith)
+-- its bytes are those that it was read from
+pub twos_bytes : (bs : List ℕ) → length bs ≤ 4 → ((i : ℕ) → get_or bs i 0 < 256) → sample_bytes (length bs) (twos_complement (length bs) (little_number (length bs) bs)) ≡ bs
+twos_bytes [] few small = refl
+twos_bytes (a ∷ []) few small =
+    let p : a < 256 = small 0 in
+    by_sign 1 _ (a ∷ []) (little_small (a ∷ []) few small) (λ h. ap (take 1) (four_bytes a 0 0 0 _ p (omega arith) (omega arith) (omega arith) (omega arith)))
+    (λ h. ap (take 1) (four_bytes a 255 255 255 _ p (omega arith) (omega arith) (omega arith) (omega arith)))
+twos_bytes (a ∷ b ∷ []) few small =
+    let p : a < 256 = small 0 in
+    let q : b < 256 = small 1 in
+    by_sign 2 _ (a ∷ b ∷ []) (little_small (a ∷ b ∷ []) few small) (λ h. ap (take 2) (four_bytes a b 0 0 _ p q (omega arith) (omega arith) (omega arith)))
+    (λ h. ap (take 2) (four_bytes a b 255 255 _ p q (omega arith) (omega arith) (omega arith)))
+twos_bytes (a ∷ b ∷ c ∷ []) few small =
+    let p : a < 256 = small 0 in
+    let q : b < 256 = small 1 in
+    let r : c < 256 = small 2 in
+    by_sign 3 _ (a ∷ b ∷ c ∷ []) (little_small (a ∷ b ∷ c ∷ []) few small) (λ h. ap (take 3) (four_bytes a b c 0 _ p q r (omega arith) (omega arith)))
+    (λ h. ap (take 3) (four_bytes a b c 255 _ p q r (omega arith) (omega arith)))
+twos_bytes (a ∷ b ∷ c ∷ d ∷ []) few small =
+    let p : a < 256 = small 0 in
+    let q : b < 256 = small 1 in
+    let r : c < 256 = small 2 in
+    let s : d < 256 = small 3 in
+    by_sign 4 _ (a ∷ b ∷ c ∷ d ∷ []) (little_small (a ∷ b ∷ c ∷ d ∷ []) few small) (λ h. ap (take 4) (four_bytes a b c d _ p q r s (omega arith))) (λ h. ap (take 4) (four_bytes a b c d _ p q r s (omega arith)))
+twos_bytes (a ∷ b ∷ c ∷ d ∷ e ∷ bs) few small = absurd (omega arith)

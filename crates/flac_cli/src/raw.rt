@@ -5,6 +5,7 @@ ghost use Rattle.flac_bits.specs.Signed.{FitsBits};
 ghost use Rattle.flac_native.specs.Message.{sample_bytes};
 ghost use Rattle.flac_cli.specs.Raw.{IsChannel, AreChannels};
 
+use byteorder::{ByteOrder, LittleEndian};
 use flac_bits::{Source, Why};
 use std::alloc::Global;
 
@@ -38,14 +39,7 @@ fn sample(bytes: &[u8]) -> i32
     ensures bytes { sample_bytes (length bytes.now) result ≡ bytes.now }
     ensures fits { FitsBits (8 * length bytes.now) result }
 {
-    let fill = if bytes[bytes.len() - 1] < 0x80 {
-        0
-    } else {
-        0xFF
-    };
-    let mut whole = [fill; 4];
-    whole[..bytes.len()].copy_from_slice(bytes);
-    i32::from_le_bytes(whole)
+    LittleEndian::read_int(bytes, bytes.len()) as i32
 }
 
 /// What [`channel_of`] does, for a width that its caller fixes: it is made anew for each of them.
