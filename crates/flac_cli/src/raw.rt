@@ -83,7 +83,7 @@ fn channel_of(
         1 => channel_in(alloc, bytes, rows, row, start, 1),
         2 => channel_in(alloc, bytes, rows, row, start, 2),
         3 => channel_in(alloc, bytes, rows, row, start, 3),
-        width => channel_in(alloc, bytes, rows, row, start, width),
+        _ => channel_in(alloc, bytes, rows, row, start, 4),
     }
 }
 
