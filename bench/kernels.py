@@ -24,7 +24,7 @@ PARTS = {
     "restoration": r"restoration::",
     "digest": r"^md5::",
     "joining, range, rows for the digest": r"advance::read_part",
-    "pulls and checks": r"Held::pull|BitReader::",
+    "pulls and checks": r"Held::pull|BitReader::|sums::",
 }
 
 
