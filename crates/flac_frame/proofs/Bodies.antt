@@ -1,8 +1,7 @@
 -- The samples of all channels, which stand in one array.
-use Rattle.std.proofs.Common.{◌≡◌, ℕ, zero, suc, ◌*◌, ℤ, true, false, cond, List, [], ◌∷◌, length, take, drop, Some, None, refl, sym, ap, ◌∙◌, arith}
-use Rattle.std.proofs.lemmas.List.{take-append-drop, length-drop}
-use Rattle.std.proofs.lemmas.Slice.{take-put_mid}
-use borrow.Rule.Slice.PartMut.{put_mid}
+use Rattle.std.proofs.Common.{◌≡◌, ℕ, zero, suc, ◌*◌, ℤ, true, false, cond, List, [], ◌∷◌, ◌++◌, ◌≤◌, min, length, take, drop, Some, None, refl, sym, ap, ◌∙◌, arith}
+use Rattle.std.proofs.lemmas.List.{take-append-drop, length-drop, length-take}
+use Rattle.std.proofs.Math.Seq.{take-append_seam}
 use Rattle.flac_subframe.specs.Numbers.{all_fit}
 use Rattle.flac_frame.specs.Frame.{each_fits, in_range}
 use Rattle.flac_frame.specs.Stereo.{joined}
@@ -24,5 +23,16 @@ pub none_fits : (depth code c n : ℕ) (old xs : List ℤ) → chunks c n xs ≡
 none_fits depth code c n old xs is long h = rw (← is, each_is depth c n xs long, h) refl
 
 -- the first places, after a write to them
-pub first_places : (n : ℕ) (xs ys : List ℤ) → length ys ≡ n → take n (put_mid 0 n xs ys) ≡ ys
-first_places n xs ys long = take-put_mid 0 n xs ys n (omega (arith, long)) (omega arith)
+pub first_places : (m : ℕ) (ys zs : List ℤ) → length ys ≡ m → take m (ys ++ zs) ≡ ys
+first_places m ys zs long = ap (λ k. take k (ys ++ zs)) (sym long) ∙ take-append_seam ys zs
+
+-- the places of a block that is not too long
+pub places_within : (channels size a b n : ℕ) → size ≤ a → size ≤ b → channels * min a b ≤ n → channels * size ≤ n
+places_within channels size a b n p q r =
+    let s : size ≤ min a b = omega arith in
+    let t : channels * size ≤ channels * min a b = grind arith in
+    omega arith
+
+-- how many were written to the first places
+pub taken_long : (m n : ℕ) (ys xs : List ℤ) → length ys ≡ length (take n xs) → m ≡ n → m ≤ length xs → length ys ≡ m
+taken_long m n ys xs e same le = omega (arith, e, length-take n xs)

@@ -59,7 +59,6 @@ fn read_body<R: Source>(
 }
 
 /// Reads the frame that begins here, and puts its channels, one after another, into the first places of `out`.
-#[tactic(auto, unfolding(crate::specs::Frame::frame), using(crate::proofs::Bodies::first_places))]
 pub(crate) fn read_into<R: Source>(
     bits: &mut BitReader<R>,
     info: &StreamInfo,

@@ -2,3 +2,4 @@ pub mod Checked
 pub mod Fields
 pub mod HeaderTie
 pub mod Writes
+pub mod Judged

@@ -3,7 +3,7 @@
 ghost use Rattle.std.specs.Prelude.{◌≡◌, ◌≢◌, ◌<◌, ◌≤◌, ◌+◌, ◌^◌, IfOk, IfErr, OnOk};
 ghost use Rattle.flac_bits.specs.Reading.{Counts, Reads, Means};
 ghost use Rattle.flac_bits.specs.State.{started};
-ghost use Rattle.flac_header.specs.Header.{size_field, rate_field, header, IsSize, IsRate};
+ghost use Rattle.flac_header.specs.Header.{size_field, rate_field, rate_of_code, header, IsSize, IsRate};
 
 use crate::frame_header::FrameHeader;
 use flac_bits::{BitReader, Source, Why, read_number};
@@ -35,17 +35,12 @@ fn read_size<R: Source>(bits: &mut BitReader<R>, code: u8) -> Result<u32, Why>
     Ok(size)
 }
 
-/// The rate by its code and, where this asks for it, by what stands here (RFC 9639, section 9.1.7).
-#[tactic(auto, unfolding(crate::specs::Header::rate_field))]
-fn read_rate<R: Source>(bits: &mut BitReader<R>, code: u8) -> Result<u32, Why>
-    requires { code < 15 }
-    ensures fits { IfOk result (λ v. IsRate code v) }
-    ensures spends { OnOk result (bits.new.most ≤ bits.old.most) }
-    ensures counts { Counts bits.old bits.new result }
-    ensures memory { IfErr result (λ e. e ≢ Why.Memory) }
-    ensures reads { Reads (λ v. v) (rate_field code) bits.old bits.new result }
+/// The rate that a code names by itself, and 0 for every other code (RFC 9639, section 9.1.2).
+fn named_rate(code: u8) -> u32
+    ensures is { result ≡ rate_of_code code }
+    ensures fits { code < 12 → IsRate code result }
 {
-    let rate = match code {
+    match code {
         0 => 0,
         1 => 88200,
         2 => 176400,
@@ -58,9 +53,25 @@ fn read_rate<R: Source>(bits: &mut BitReader<R>, code: u8) -> Result<u32, Why>
         9 => 44100,
         10 => 48000,
         11 => 96000,
+        _ => 0,
+    }
+}
+
+/// The rate by its code and, where this asks for it, by what stands here (RFC 9639, section 9.1.7).
+#[tactic(auto, unfolding(crate::specs::Header::rate_field))]
+fn read_rate<R: Source>(bits: &mut BitReader<R>, code: u8) -> Result<u32, Why>
+    requires { code < 15 }
+    ensures fits { IfOk result (λ v. IsRate code v) }
+    ensures spends { OnOk result (bits.new.most ≤ bits.old.most) }
+    ensures counts { Counts bits.old bits.new result }
+    ensures memory { IfErr result (λ e. e ≢ Why.Memory) }
+    ensures reads { Reads (λ v. v) (rate_field code) bits.old bits.new result }
+{
+    let rate = match code {
         12 => bits.take(8)? as u32 * 1000,
         13 => bits.take(16)? as u32,
-        _ => bits.take(16)? as u32 * 10,
+        14 => bits.take(16)? as u32 * 10,
+        _ => named_rate(code),
     };
     Ok(rate)
 }

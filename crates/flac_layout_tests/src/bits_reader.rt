@@ -1,202 +1,171 @@
+use crate::rows::bytes_of;
 use flac_bits::{
-    BitReader, BitWriter, Collected, Counted, Memory, Pieces, Source, Why, crc8, crc16, page_sum,
-    put_little_32, read_bytes, read_little_32, read_little_64, read_number,
+    BitReader, Counted, Memory, Pieces, Source, Why, crc8, crc16, page_sum, read_bytes,
+    read_little_32, read_little_64, read_number,
 };
+use std::alloc::Global;
+use std::fmt::Debug;
 use std::io;
 use std::io::{ErrorKind, Read};
+use std::process::Abort;
 use std::test::Fail;
+
+/// Bytes, and calls of a reader over them: the name, its number (0 if it takes none), and what it returns.
+const CALLS: &str = "# Coded numbers of at most 36 and 31 bits: RFC 9639, section 9.1.5.
+7f | number 36 127
+c280 | number 36 128
+efbfbf | number 36 65535
+f0908080 | number 36 65536
+fdbfbfbfbfbf | number 36 2147483647
+febfbfbfbfbfbf | number 36 68719476735
+c1bf | number 36 BadNumber
+c1 | number 36 Truncated
+fdbfbfbfbfbffe | number 31 2147483647 | number 31 BadNumber
+# A quotient of four million zeros is a value.
+00*500000 80 | rice 0 2000000 | taken 0 500001
+# Residual values: two under parameters, two of three bits, and two that are too large under the parameter 30.
+4cf0 | rice 0 -1 | rice 2 5 | align 0 true | plain 3 [-1, -4] | align 0 true | at_end 0 true
+1fffffffc0 | rice 30 ResidualRange
+0000 | rice 30 ResidualRange | taken 0 1
+# Fields of many kinds.
+0123456789abcdef00010203 | take 12 18 | signed 4 3 | unary 5 Some(1) | take 46 5942249508335 | four 0 [0, 1, 2, 3] | at_end 0 true
+# Fewer bytes than there are places.
+010203 | take 8 1 | some 0 (2, [2, 3, 0, 0]) | short 0 Truncated
+010203 | four 0 Truncated
+# A fence one byte on, one where the reader is, and one beyond the last byte.
+abcdef | take 4 10 | fence 1 () | take 12 3021 | at_end 0 true | lift 0 () | at_end 0 false | fence 0 () | take 1 FrameTooLong | lift 0 () | take 8 239 | fence 1 () | take 1 Truncated
+# Both checks of 123456789 after another byte.
+78313233343536373839 | take 8 120 | start 0 () | take 36 13205975875 | take 36 22384425017 | check8 0 244 | check16 0 65256 | taken 0 10
+# Numbers of four and of eight bytes, the lowest first.
+785634120102030405060708 | little_32 0 305419896 | little_64 0 578437695752307201 | little_32 0 Truncated";
+
+/// What a call returned, in text.
+fn told<T: Debug + Copy>(alloc: Global, outcome: Result<T, Why>) -> Result<String, Fail> {
+    match outcome {
+        Ok(value) => Ok(format!(in alloc; "{value:?}")?),
+        Err(why) => Ok(format!(in alloc; "{why:?}")?),
+    }
+}
+
+/// A residual value under a parameter.
+fn rice<R: Source>(bits: &mut BitReader<R>, parameter: u32) -> Result<i64, Why> {
+    let mut one = [0i64; 1];
+    bits.rice_partition(parameter.min(30), &mut one)?;
+    Ok(one[0])
+}
+
+/// Two values of n bits.
+fn plain<R: Source>(bits: &mut BitReader<R>, n: u32) -> Result<[i64; 2], Why> {
+    let mut two = [0i64; 2];
+    bits.signed_partition(n.max(1).min(64), &mut two)?;
+    Ok(two)
+}
+
+/// The next four bytes.
+fn four<R: Source>(bits: &mut BitReader<R>) -> Result<[u8; 4], Why> {
+    let mut places = [0; 4];
+    read_bytes(bits, &mut places)?;
+    Ok(places)
+}
+
+/// How many of four bytes come at a whole byte, and these, with zeros in the other places.
+fn some<R: Source>(bits: &mut BitReader<R>) -> Result<(usize, [u8; 4]), Why> {
+    let mut places = [0; 4];
+    let mut count = 0;
+    if bits.unread() == 0 {
+        count = bits.take_bytes(&mut places)?;
+    }
+    Ok((count, places))
+}
+
+/// Calls a reader for one thing that it reads.
+fn read<R: Source>(
+    alloc: Global,
+    bits: &mut BitReader<R>,
+    name: &str,
+    n: u32,
+) -> Result<String, Fail> {
+    match name {
+        "take" => told(alloc, bits.take(n.min(64))),
+        "signed" => told(alloc, bits.take_signed(n.max(1).min(64))),
+        "unary" => told(alloc, bits.unary(u64::from(n))),
+        "rice" => told(alloc, rice(bits, n)),
+        "plain" => told(alloc, plain(bits, n)),
+        "number" => told(alloc, read_number(bits, n)),
+        "four" => told(alloc, four(bits)),
+        "some" => told(alloc, some(bits)),
+        "little_32" => told(alloc, read_little_32(bits)),
+        "little_64" => told(alloc, read_little_64(bits)),
+        "align" => told(alloc, bits.align()),
+        _ => told(alloc, bits.at_end()),
+    }
+}
+
+/// Calls a reader by name and number.
+fn call<R: Source>(
+    alloc: Global,
+    bits: &mut BitReader<R>,
+    name: &str,
+    n: u32,
+) -> Result<String, Fail> {
+    match name {
+        "fence" => told(alloc, Ok(bits.fence(u64::from(n)))),
+        "lift" => told(alloc, Ok(bits.lift())),
+        "start" => told(alloc, Ok(bits.start_checks())),
+        "check8" => told(alloc, Ok(bits.check8())),
+        "check16" => told(alloc, Ok(bits.check16())),
+        "taken" => told(alloc, Ok(bits.bytes_taken())),
+        "short" => told(alloc, Ok(bits.short())),
+        _ => read(alloc, bits, name, n),
+    }
+}
+
+/// Whether a call returns what is wanted.
+fn answers<R: Source>(alloc: Global, bits: &mut BitReader<R>, step: &str) -> Result<bool, Fail> {
+    let (name, rest) = step.split_once(' ').unwrap_or((step, ""));
+    let (number, wanted) = rest.split_once(' ').unwrap_or(("", ""));
+    let found = call(alloc, bits, name, number.parse::<u32>()?)?;
+    Ok(found.as_str() == wanted)
+}
+
+/// Makes the calls of a row, and compares what each returns.
+fn check_calls<R: Source + Drop>(
+    rt: &impl Abort,
+    alloc: Global,
+    source: R,
+    calls: &str,
+) -> Result<(), Fail> {
+    let mut bits = BitReader::new(source);
+    for step in calls.split(" | ") {
+        assert!(rt; answers(alloc, &mut bits, step)?, "{step} in {calls}");
+    }
+    Ok(())
+}
+
+/// The source comes in pieces of 1, 2, 3 and 4096 bytes.
+#[test]
+fn calls(rt: HostRuntime) -> Result<(), Fail> {
+    for row in CALLS.lines() {
+        if let Some((words, calls)) = row.split_once(" | ") {
+            let bytes = bytes_of(rt.alloc(), words)?;
+            for most in [1, 2, 3, 4096] {
+                let source = Pieces::new(Memory::new(&bytes), most);
+                check_calls(&rt, rt.alloc(), source, calls)?;
+            }
+        }
+    }
+    Ok(())
+}
 
 /// The three checks of some bytes.
 fn checks_of(bytes: &[u8]) -> (u8, u16, u32) {
     (crc8(bytes), crc16(bytes), page_sum(bytes))
 }
 
-/// What a reader has of both checks of nine bytes behind the first, and how many bytes it took.
-fn checks_behind_one(source: &[u8]) -> Result<(u8, u16, u64), Why> {
-    let mut bits = BitReader::new(Memory::new(source));
-    bits.take(8)?;
-    bits.start_checks();
-    bits.take(36)?;
-    bits.take(36)?;
-    Ok((bits.check8(), bits.check16(), bits.bytes_taken()))
-}
-
 #[test]
 fn checks(rt: HostRuntime) {
     assert_eq!(rt; checks_of(b"123456789"), (0xF4, 0xFEE8, 0x89A1_897F));
     assert_eq!(rt; checks_of(&[1]), (0x07, 0x8005, 0x04C1_1DB7));
-    assert_eq!(rt; checks_behind_one(b"x123456789"), Ok((0xF4, 0xFEE8, 10)));
-}
-
-fn number(bytes: &[u8]) -> Result<u64, Why> {
-    let mut bits = BitReader::new(Memory::new(bytes));
-    read_number(&mut bits, 36)
-}
-
-/// Two numbers of at most 31 bits, one behind the other.
-fn two_numbers(bytes: &[u8]) -> (Result<u64, Why>, Result<u64, Why>) {
-    let mut bits = BitReader::new(Memory::new(bytes));
-    let first = read_number(&mut bits, 31);
-    (first, read_number(&mut bits, 31))
-}
-
-#[test]
-fn numbers(rt: HostRuntime) {
-    let rows: [(&[u8], Result<u64, Why>); 8] = [
-        (&[0x7F], Ok(127)),
-        (&[0xC2, 0x80], Ok(128)),
-        (&[0xEF, 0xBF, 0xBF], Ok(65535)),
-        (&[0xF0, 0x90, 0x80, 0x80], Ok(65536)),
-        (&[0xFD, 0xBF, 0xBF, 0xBF, 0xBF, 0xBF], Ok(0x7FFF_FFFF)),
-        (
-            &[0xFE, 0xBF, 0xBF, 0xBF, 0xBF, 0xBF, 0xBF],
-            Ok(0xF_FFFF_FFFF),
-        ),
-        (&[0xC1, 0xBF], Err(Why::BadNumber)),
-        (&[0xC1], Err(Why::Truncated)),
-    ];
-    for (bytes, wanted) in rows {
-        assert_eq!(rt; number(bytes), wanted);
-    }
-    assert_eq!(rt;
-        two_numbers(&[0xFD, 0xBF, 0xBF, 0xBF, 0xBF, 0xBF, 0xFE]),
-        (Ok(0x7FFF_FFFF), Err(Why::BadNumber))
-    );
-}
-
-/// A quotient of four million zeros is a value.
-#[test]
-fn millions_of_zeros(rt: HostRuntime) -> Result<(), Fail> {
-    let mut bytes = vec![in rt.alloc(); 0u8; 500000]?;
-    bytes.push(0x80)?;
-    let mut one = [0i64; 1];
-    let mut bits = BitReader::new(Memory::new(bytes.as_slice()));
-    bits.rice_partition(0, &mut one)?;
-    assert_eq!(rt; (one[0], bits.bytes_taken()), (2000000, 500001));
-    Ok(())
-}
-
-/// A value under the parameter 0 and one under 2, and whether the bits left of a byte are zeros.
-fn two_folded<R: Source>(bits: &mut BitReader<R>) -> Result<(i64, i64, bool), Why> {
-    let mut first = [0i64; 1];
-    let mut second = [0i64; 1];
-    bits.rice_partition(0, &mut first)?;
-    bits.rice_partition(2, &mut second)?;
-    Ok((first[0], second[0], bits.align()?))
-}
-
-/// Two values of three bits, whether the bits left of a byte are zeros, and whether the end stands there.
-fn two_plain<R: Source>(bits: &mut BitReader<R>) -> Result<([i64; 2], bool, bool), Why> {
-    let mut two = [0i64; 2];
-    bits.signed_partition(3, &mut two)?;
-    let aligned = bits.align()?;
-    Ok((two, aligned, bits.at_end()?))
-}
-
-/// How a value under the parameter 30 is read, and how many bytes were taken.
-fn widest(source: &[u8]) -> (Result<(), Why>, u64) {
-    let mut one = [0i64; 1];
-    let mut bits = BitReader::new(Memory::new(source));
-    let outcome = bits.rice_partition(30, &mut one);
-    (outcome, bits.bytes_taken())
-}
-
-#[test]
-fn residual_values(rt: HostRuntime) {
-    let mut bits = BitReader::new(Memory::new(&[0x4C, 0xF0]));
-    assert_eq!(rt; two_folded(&mut bits), Ok((-1, 5, true)));
-    assert_eq!(rt; two_plain(&mut bits), Ok(([-1, -4], true, true)));
-    let (least, _) = widest(&[0x1F, 0xFF, 0xFF, 0xFF, 0xC0]);
-    assert_eq!(rt; least, Err(Why::ResidualRange));
-    assert_eq!(rt; widest(&[0, 0]), (Err(Why::ResidualRange), 1));
-}
-
-/// Whether fields of many kinds have the values wanted.
-fn fields_stand<R: Source>(bits: &mut BitReader<R>) -> Result<bool, Why> {
-    if bits.take(12)? != 0x012 || bits.take_signed(4)? != 3 {
-        return Ok(false);
-    }
-    Ok(bits.unary(5)? == Some(1) && bits.take(46)? == 0x0567_89AB_CDEF)
-}
-
-/// Fields of many kinds, and the byte that stands last.
-fn last_of<R: Source + Drop>(source: R) -> Result<u8, Why> {
-    let mut bits = BitReader::new(source);
-    let mut rest = [0u8; 4];
-    if !fields_stand(&mut bits)? {
-        return Err(Why::BadNumber);
-    }
-    read_bytes(&mut bits, &mut rest)?;
-    if bits.at_end()? {
-        return Ok(rest[3]);
-    }
-    Err(Why::BadNumber)
-}
-
-#[test]
-fn pieces(rt: HostRuntime) -> Result<(), Fail> {
-    let bytes = [0x01, 0x23, 0x45, 0x67, 0x89, 0xAB, 0xCD, 0xEF, 0, 1, 2, 3];
-    assert_eq!(rt; last_of(Memory::new(&bytes))?, 3);
-    assert_eq!(rt; last_of(Pieces::new(Memory::new(&bytes), 1))?, 3);
-    assert_eq!(rt; last_of(Pieces::new(Memory::new(&bytes), 2))?, 3);
-    assert_eq!(rt; last_of(Pieces::new(Memory::new(&bytes), 3))?, 3);
-    Ok(())
-}
-
-/// A byte, and how many of four come behind it, and the second of these; and why a source ends.
-fn bytes_behind(source: &[u8]) -> Result<(u64, usize, u8, Why), Why> {
-    let mut bits = BitReader::new(Memory::new(source));
-    let first = bits.take(8)?;
-    let mut places = [0u8; 4];
-    let count = if bits.unread() == 0 {
-        bits.take_bytes(&mut places)?
-    } else {
-        0
-    };
-    Ok((first, count, places[1], bits.short()))
-}
-
-/// Four bytes of a source.
-fn four(source: &[u8]) -> Result<[u8; 4], Why> {
-    let mut places = [0u8; 4];
-    read_bytes(&mut BitReader::new(Memory::new(source)), &mut places)?;
-    Ok(places)
-}
-
-#[test]
-fn bytes(rt: HostRuntime) {
-    assert_eq!(rt; bytes_behind(&[1, 2, 3]), Ok((1, 2, 3, Why::Truncated)));
-    assert_eq!(rt; four(&[1, 2, 3]), Err(Why::Truncated));
-}
-
-/// Twelve bits up to a fence, and whether the end stands there, before and after it is lifted.
-fn up_to_a_fence<R: Source>(bits: &mut BitReader<R>) -> Result<(u64, bool, bool), Why> {
-    bits.fence(1);
-    let field = bits.take(12)?;
-    let fenced = bits.at_end()?;
-    bits.lift();
-    Ok((field, fenced, bits.at_end()?))
-}
-
-/// A bit behind a fence, the byte there once it is lifted, and a bit behind the last byte, where a fence stands further on.
-fn behind_a_fence<R: Source>(
-    bits: &mut BitReader<R>,
-) -> (Result<u64, Why>, Result<u64, Why>, Result<u64, Why>) {
-    bits.fence(0);
-    let fenced = bits.take(1);
-    bits.lift();
-    let byte = bits.take(8);
-    bits.fence(1);
-    (fenced, byte, bits.take(1))
-}
-
-#[test]
-fn fence(rt: HostRuntime) {
-    let mut bits = BitReader::new(Memory::new(&[0xAB, 0xCD, 0xEF]));
-    assert_eq!(rt; bits.take(4), Ok(10));
-    assert_eq!(rt; up_to_a_fence(&mut bits), Ok((0xBCD, true, false)));
-    let wanted = (Err(Why::FrameTooLong), Ok(0xEF), Err(Why::Truncated));
-    assert_eq!(rt; behind_a_fence(&mut bits), wanted);
 }
 
 /// A reader of one byte, which then fails once.
@@ -223,26 +192,23 @@ impl Read for Once {
 
 #[test]
 fn a_failing_source(rt: HostRuntime) -> Result<(), Fail> {
-    let mut bits = BitReader::new(Counted::new(Once { given: false }));
-    assert_eq!(rt; bits.take(4)?, 10);
-    assert_eq!(rt; bits.take(8), Err(Why::Read));
-    let mut other = BitReader::new(Counted::new(Once { given: false }));
-    assert_eq!(rt; other.take(8)?, 0xA5);
-    assert_eq!(rt; other.at_end(), Err(Why::Read));
+    for calls in ["take 4 10 | take 8 Read", "take 8 165 | at_end 0 Read"] {
+        let source = Counted::new(Once { given: false });
+        check_calls(&rt, rt.alloc(), source, calls)?;
+    }
     Ok(())
 }
 
 #[test]
-fn reasons(rt: HostRuntime) {
-    assert_eq!(rt; Why::Read.number(), 1);
-    assert_eq!(rt; Why::FrameCheck.number(), 26);
-    assert_eq!(rt; Why::Write.number(), 39);
-}
-
-#[test]
-fn reasons_are_printed(rt: HostRuntime) -> Result<(), Fail> {
-    let why = Why::FrameCheck;
-    assert_eq!(rt; format!(in rt.alloc(); "{why}")?.as_str(), "26 FrameCheck");
+fn reasons(rt: HostRuntime) -> Result<(), Fail> {
+    let numbers = [
+        Why::Read.number(),
+        Why::FrameCheck.number(),
+        Why::Write.number(),
+    ];
+    assert_eq!(rt; numbers, [1, 26, 39]);
+    let text = format!(in rt.alloc(); "{}", Why::FrameCheck)?;
+    assert_eq!(rt; text.as_str(), "26 FrameCheck");
     Ok(())
 }
 
@@ -256,23 +222,5 @@ fn sources_are_given_back(rt: HostRuntime) -> Result<(), Fail> {
     assert_eq!(rt; room, [b'b', b'c', 0]);
     let counted = Counted::new(b"xyz".as_slice());
     assert_eq!(rt; counted.into_inner(), b"xyz".as_slice());
-    Ok(())
-}
-
-/// Numbers of four and of eight bytes, the lowest first.
-#[test]
-fn little_endian_numbers(rt: HostRuntime) -> Result<(), Fail> {
-    let bytes = [0x78, 0x56, 0x34, 0x12, 1, 2, 3, 4, 5, 6, 7, 8];
-    let mut bits = BitReader::new(Memory::new(&bytes));
-    assert_eq!(rt; read_little_32(&mut bits)?, 0x1234_5678);
-    assert_eq!(rt; read_little_64(&mut bits)?, 0x0807_0605_0403_0201);
-    assert_eq!(rt; read_little_32(&mut bits), Err(Why::Truncated));
-    let mut writer = BitWriter::new(Collected::new(rt.alloc()));
-    put_little_32(0x1234_5678, &mut writer)?;
-    writer.finish()?;
-    assert_eq!(rt;
-        writer.into_target().bytes(),
-        [0x78, 0x56, 0x34, 0x12].as_slice()
-    );
     Ok(())
 }

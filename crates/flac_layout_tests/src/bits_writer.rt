@@ -1,25 +1,49 @@
-use flac_bits::{BitWriter, Collected, Counted, Target, Why, write_number};
+use crate::rows::bytes_of;
+use flac_bits::{BitWriter, Collected, Counted, Target, Why, put_little_32, write_number};
+use std::alloc::Global;
 use std::io;
 use std::io::{ErrorKind, Write};
 use std::test::Fail;
 
-/// A field of each kind, and zeros up to a whole byte.
-fn put_fields<W: Target>(writer: &mut BitWriter<W>) -> Result<(), Why> {
-    writer.put(4, 10)?;
-    writer.put_signed(4, -3)?;
-    writer.put_unary(2)?;
-    writer.put_rice(2, 9)?;
-    writer.align()
+/// Calls of a writer, and the bytes that are written.
+const CALLS: &str = "four 10, signed -3, unary 2, rice 9, align, bytes | ad250102
+number 8364 | e282ac
+number 127, number 128, number 65535, number 65536, number 2147483647, number 68719476735 | 7f c280 efbfbf f0908080 fdbfbfbfbfbf febfbfbfbfbfbf
+little | 78563412";
+
+/// Calls a writer by name.
+fn put<W: Target>(writer: &mut BitWriter<W>, name: &str, number: i64) -> Result<(), Why> {
+    match name {
+        "four" => writer.put(4, number.unsigned_abs().min(15)),
+        "signed" => writer.put_signed(4, number),
+        "unary" => writer.put_unary(number.unsigned_abs()),
+        "rice" => writer.put_rice(2, number.unsigned_abs()),
+        "bytes" => writer.put_bytes(&[1, 2]),
+        "number" => write_number(number.unsigned_abs().min(0xF_FFFF_FFFF), writer),
+        "little" => put_little_32(0x1234_5678, writer),
+        _ => writer.align(),
+    }
+}
+
+/// The bytes that these calls write.
+fn written(alloc: Global, calls: &str) -> Result<Vec<u8>, Fail> {
+    let mut writer = BitWriter::new(Collected::new(alloc));
+    for step in calls.split(", ") {
+        let (name, number) = step.split_once(' ').unwrap_or((step, "0"));
+        put(&mut writer, name, number.parse::<i64>()?)?;
+    }
+    writer.finish()?;
+    Ok(writer.into_target().into_bytes())
 }
 
 #[test]
-fn fields(rt: HostRuntime) -> Result<(), Fail> {
-    let mut writer = BitWriter::new(Collected::new(rt.alloc()));
-    put_fields(&mut writer)?;
-    writer.put_bytes(&[1, 2])?;
-    assert_eq!(rt; writer.bytes_written(), 4);
-    writer.finish()?;
-    assert_eq!(rt; writer.into_target().bytes(), [0xAD, 0x25, 1, 2].as_slice());
+fn calls(rt: HostRuntime) -> Result<(), Fail> {
+    for row in CALLS.lines() {
+        let (calls, words) = row.split_once(" | ").unwrap_or((row, ""));
+        let found = written(rt.alloc(), calls)?;
+        let wanted = bytes_of(rt.alloc(), words)?;
+        assert!(rt; found.as_slice() == wanted.as_slice(), "{row}: {found:?}");
+    }
     Ok(())
 }
 
@@ -29,48 +53,32 @@ fn checks(rt: HostRuntime) -> Result<(), Fail> {
     writer.put(8, 7)?;
     writer.start_checks()?;
     writer.put_bytes(b"123456789")?;
-    assert_eq!(rt; writer.check8(), 0xF4);
-    assert_eq!(rt; writer.check16(), 0xFEE8);
+    assert_eq!(rt;
+        (writer.check8(), writer.check16(), writer.bytes_written()),
+        (0xF4, 0xFEE8, 10)
+    );
     Ok(())
 }
 
-#[test]
-fn number(rt: HostRuntime) -> Result<(), Fail> {
-    let mut writer = BitWriter::new(Collected::new(rt.alloc()));
-    write_number(0x20AC, &mut writer)?;
-    writer.finish()?;
-    assert_eq!(rt; writer.into_target().bytes(), [0xE2, 0x82, 0xAC].as_slice());
-    Ok(())
-}
-
-#[test]
-fn greatest_numbers(rt: HostRuntime) -> Result<(), Fail> {
-    let mut writer = BitWriter::new(Collected::new(rt.alloc()));
-    for number in [127, 128, 65535, 65536, 0x7FFF_FFFF, 0xF_FFFF_FFFF] {
-        write_number(number, &mut writer)?;
-    }
-    writer.finish()?;
-    let bytes = [
-        0x7F, 0xC2, 0x80, 0xEF, 0xBF, 0xBF, 0xF0, 0x90, 0x80, 0x80, 0xFD, 0xBF, 0xBF, 0xBF, 0xBF,
-        0xBF, 0xFE, 0xBF, 0xBF, 0xBF, 0xBF, 0xBF, 0xBF,
-    ];
-    assert_eq!(rt; writer.into_target().bytes(), bytes.as_slice());
-    Ok(())
-}
-
-#[test]
-fn many_words(rt: HostRuntime) -> Result<(), Fail> {
-    let mut writer = BitWriter::new(Collected::new(rt.alloc()));
+/// Four bits, a thousand words, and a unary number of 1004 bits.
+fn put_words<W: Target>(writer: &mut BitWriter<W>) -> Result<(), Why> {
     writer.put(4, 5)?;
     for i in 0..1000u64 {
         writer.put(64, i)?;
     }
     writer.put_unary(1003)?;
-    writer.finish()?;
+    writer.finish()
+}
+
+#[test]
+fn many_words(rt: HostRuntime) -> Result<(), Fail> {
+    let mut writer = BitWriter::new(Collected::new(rt.alloc()));
+    put_words(&mut writer)?;
     let bytes = writer.into_target().into_bytes();
-    assert_eq!(rt; bytes.len(), 8126);
-    assert_eq!(rt; bytes.get(8000).copied(), Some(0x70));
-    assert_eq!(rt; bytes.last().copied(), Some(1));
+    assert_eq!(rt;
+        (bytes.len(), bytes.get(8000).copied(), bytes.last().copied()),
+        (8126, Some(0x70), Some(1))
+    );
     Ok(())
 }
 
@@ -117,16 +125,15 @@ fn trickled(most: usize) -> (Result<(), Why>, Trickle) {
 
 #[test]
 fn one_byte_at_a_time(rt: HostRuntime) {
-    let (outcome, trickle) = trickled(8);
-    assert_eq!(rt; outcome, Ok(()));
-    assert_eq!(rt; trickle.bytes, [1, 2, 3, 4, 5, 6, 0, 0]);
-}
-
-#[test]
-fn a_failing_target(rt: HostRuntime) {
-    let (outcome, trickle) = trickled(3);
-    assert_eq!(rt; outcome, Err(Why::Write));
-    assert_eq!(rt; trickle.bytes, [1, 2, 3, 0, 0, 0, 0, 0]);
+    let rows = [
+        (8, Ok(()), [1, 2, 3, 4, 5, 6, 0, 0]),
+        (3, Err(Why::Write), [1, 2, 3, 0, 0, 0, 0, 0]),
+    ];
+    for (most, wanted, bytes) in rows {
+        let (outcome, trickle) = trickled(most);
+        assert_eq!(rt; outcome, wanted);
+        assert_eq!(rt; trickle.bytes, bytes);
+    }
 }
 
 /// A writer that takes nothing.

@@ -1,27 +1,104 @@
 //! Blocks from outside, worked by hand from RFC 9639, section 8.
 
+use crate::rows::bytes_of;
 use flac_bits::{BitReader, BitWriter, Collected, Memory, Why};
 use flac_meta::{
-    Block, BlockList, Bytes, Comments, CueIndex, CueIndices, CueSheet, CueTrack, CueTracks,
-    Picture, SeekPoint, SeekTable, Seen, StreamInfo, Texts, blocks_are_spelled, read_block,
-    write_block, write_comments,
+    Block, BlockList, Bytes, Comments, CueIndices, CueSheet, CueTrack, CueTracks, SeekPoint,
+    SeekTable, Seen, StreamInfo, Texts, blocks_are_spelled, read_block, write_block,
+    write_comments,
 };
 use std::alloc::Global;
+use std::process::Abort;
 use std::test::Fail;
 use std::{fs, io};
 
-/// The block that comes behind STREAMINFO, and whether it is the last.
-fn read(alloc: Global, bytes: &[u8]) -> Result<(bool, Block), Why> {
-    let mut seen = Seen::new();
-    let mut info = info_bytes();
-    info[0] = 0x00;
-    read_block(alloc, &mut BitReader::new(Memory::new(&info)), &mut seen)?;
+/// STREAMINFO: blocks of 4096, frames of 14 to 15 bytes, 44100 Hz, 2 channels, 16 bits, 1 sample.
+const INFO: &str =
+    "00000022 1000 1000 00000e 00000f 0ac442f000000001 0102030405060708090a0b0c0d0e0f10";
+
+/// The same, marked last.
+const LAST_INFO: &str =
+    "80000022 1000 1000 00000e 00000f 0ac442f000000001 0102030405060708090a0b0c0d0e0f10";
+
+/// Blocks that come after STREAMINFO: the number of bytes of the content of each, which is written again as it was read, or why it is refused.
+const BLOCKS: &str = "# Refused at the header.
+ff000000 | ForbiddenType
+83000011 | BlockLength
+82000003 | BlockLength
+80000021 | RepeatedBlock
+810000 | Truncated
+# A second STREAMINFO.
+80000022 1000 1000 00000e 00000f 0ac442f000000001 0102030405060708090a0b0c0d0e0f10 | RepeatedBlock
+# Refused inside: a count of comments, a point after a placeholder, a cue sheet without tracks, and one that ends in a track.
+84000008 00000000 ffffffff | BlockLength
+03000024 ff*8 00*28 | SeekOrder
+0500018c 00*396 | CueSheet
+0500018c 00*395 01 | BlockLength
+# Padding, an application, a type without a name, a comment, a picture.
+81000002 0000 | 2
+02000005 61626364 07 | 5
+87000001 09 | 1
+0400000e 01000000 66 01000000 01000000 3d | 14
+06000022 00000003 00000001 61 00*23 01 05 | 34
+# Two points, and a track of one place.
+03000024 00*25 01 00*10 | 36
+050001bc 00*395 01 00*8 01 00*26 01 00*8 01 00*3 | 444";
+
+/// The longest content that a block may have.
+const LONGEST: &str = "82ffffff 01020304 07*16777211 | 16777215";
+
+/// Blocks that announce more than comes: a length, a count of comments or a length of a text, whether it fits the block or not.
+const CLAIMS: &str = "84000008 00000000 ffffffff | BlockLength
+82ffffff 01020304 | Truncated
+83fffff6 | Truncated
+84ffffff f0ffff00 | Truncated
+84ffffff 00000000 fdff3f00 | Truncated
+86ffffff 00000003 00ffffd0 | Truncated
+87ffffff | Truncated";
+
+/// The comments `A=b=c`, `=x` and `none`.
+const THREE_COMMENTS: &str =
+    "0400001f 00000000 03000000 05000000 413d623d63 02000000 3d78 04000000 6e6f6e65";
+
+/// One block of each kind after STREAMINFO, kinds 1 to 7 in their order: the cue sheet of a disc has one track with one place, the picture is a front cover.
+const KINDS: &str = "01000004 00000000
+02000006 466c6163 7879
+03000012 0000000000001000 000000000000000e 1000
+0400001f 00000000 03000000 05000000 413d623d63 02000000 3d78 04000000 6e6f6e65
+050001bc 00*128 0000000000015888 80 00*258 01 00*8 01 00*12 00*14 01 000000000000024c 01 00*3
+06000030 00000003 00000009 696d6167652f706e67 00000005 66726f6e74 00000001 00000001 00000018 00000000 00000002 7071
+07000001 7a";
+
+/// Blocks that differ in one text or one byte from those of `KINDS` at these places.
+const OTHERS: &str =
+    "3 04000020 01000000 76 03000000 05000000 413d623d63 02000000 3d78 04000000 6e6f6e65
+5 06000030 00000003 00000009 696d6167652f706e67 00000005 66726f6e74 00000001 00000001 00000018 00000000 00000002 7072";
+
+/// The comments that the program writes if it is given none, in a block that is the last.
+const PROGRAM: &str = "84000016 0e000000 666c61632070726f66696c652031 00000000";
+
+/// The first block of a stream, and whether it is the last.
+fn first_block(alloc: Global, bytes: &[u8]) -> Result<(bool, Block), Why> {
     let mut bits = BitReader::new(Memory::new(bytes));
-    read_block(alloc, &mut bits, &mut seen)
+    read_block(alloc, &mut bits, &mut Seen::new())
+}
+
+/// The block after a STREAMINFO, and whether it is the last.
+fn read(alloc: Global, info: &[u8], bytes: &[u8]) -> Result<(bool, Block), Why> {
+    let mut seen = Seen::new();
+    read_block(alloc, &mut BitReader::new(Memory::new(info)), &mut seen)?;
+    read_block(alloc, &mut BitReader::new(Memory::new(bytes)), &mut seen)
+}
+
+/// The block of these words, which comes after STREAMINFO.
+fn block_of(alloc: Global, words: &str) -> Result<Block, Fail> {
+    let info = bytes_of(alloc, INFO)?;
+    let (_, block) = read(alloc, &info, &bytes_of(alloc, words)?)?;
+    Ok(block)
 }
 
 /// The bytes of a block.
-fn bytes_of(alloc: Global, block: &Block, last: bool) -> Result<Vec<u8>, Why> {
+fn written(alloc: Global, block: &Block, last: bool) -> Result<Vec<u8>, Why> {
     let mut writer = BitWriter::new(Collected::new(alloc));
     write_block(block, last, &mut writer)?;
     writer.finish()?;
@@ -29,250 +106,67 @@ fn bytes_of(alloc: Global, block: &Block, last: bool) -> Result<Vec<u8>, Why> {
 }
 
 /// How many bytes of content the block has, and its bytes as they are written again.
-fn written_again(alloc: Global, bytes: &[u8]) -> Result<(u64, Vec<u8>), Why> {
-    let (last, block) = read(alloc, bytes)?;
-    Ok((block.length(), bytes_of(alloc, &block, last)?))
+fn written_again(alloc: Global, info: &[u8], bytes: &[u8]) -> Result<(u64, Vec<u8>), Why> {
+    let (last, block) = read(alloc, info, bytes)?;
+    Ok((block.length(), written(alloc, &block, last)?))
 }
 
-/// Whether the block is written as it was read, with so many bytes of content.
-fn comes_back(alloc: Global, bytes: &[u8], length: u64) -> Result<bool, Why> {
-    let (found, written) = written_again(alloc, bytes)?;
-    Ok(found == length && written.as_slice() == bytes)
+/// The number of bytes of a block's content, or why the block is refused; and whether it is written as it was read.
+fn answer(alloc: Global, info: &[u8], bytes: &[u8]) -> Result<(String, bool), Fail> {
+    match written_again(alloc, info, bytes) {
+        Ok((length, again)) => {
+            let text = format!(in alloc; "{length}")?;
+            Ok((text, again.as_slice() == bytes))
+        }
+        Err(why) => Ok((format!(in alloc; "{why:?}")?, true)),
+    }
 }
 
-fn refusal(alloc: Global, bytes: &[u8]) -> Option<Why> {
-    read(alloc, bytes).err()
+/// Checks each row of a table of blocks but those that begin with `#`.
+fn check_blocks(rt: &impl Abort, alloc: Global, table: &str) -> Result<(), Fail> {
+    let info = bytes_of(alloc, INFO)?;
+    for row in table.lines() {
+        if let Some((words, wanted)) = row.split_once(" | ") {
+            let (found, same) = answer(alloc, &info, &bytes_of(alloc, words)?)?;
+            assert!(rt; same && found.as_str() == wanted, "{found} at {row}");
+        }
+    }
+    Ok(())
 }
 
-fn text(alloc: Global, bytes: &[u8]) -> Result<Bytes, Why> {
-    Ok(Bytes::from_vec(Vec::from_slice(alloc, bytes)?))
+#[test]
+fn blocks(rt: HostRuntime) -> Result<(), Fail> {
+    check_blocks(&rt, rt.alloc(), BLOCKS)
 }
 
-/// Comments of these three texts.
-fn comments_of(alloc: Global) -> Result<Comments, Why> {
-    let mut list = Vec::new(alloc);
-    list.push(text(alloc, b"A=b=c")?)?;
-    list.push(text(alloc, b"=x")?)?;
-    list.push(text(alloc, b"none")?)?;
-    Ok(Comments {
-        vendor: text(alloc, b"")?,
-        list: Texts::from_vec(list),
-    })
+#[test]
+fn longest_content(rt: HostRuntime) -> Result<(), Fail> {
+    check_blocks(&rt, rt.alloc(), LONGEST)
 }
 
-/// STREAMINFO, marked last: blocks of 4096, frames of 14 to 15 bytes, 44100 Hz, 2 channels, 16 bits, 1 sample.
-fn info_bytes() -> [u8; 38] {
-    [
-        0x80, 0, 0, 34, 0x10, 0, 0x10, 0, 0, 0, 14, 0, 0, 15, 0x0A, 0xC4, 0x42, 0xF0, 0, 0, 0, 1,
-        1, 2, 3, 4, 5, 6, 7, 8, 9, 10, 11, 12, 13, 14, 15, 16,
-    ]
-}
-
-/// What those bytes tell.
-fn told() -> Result<StreamInfo, Why> {
+/// What STREAMINFO says.
+fn info() -> Result<StreamInfo, Why> {
     let digest = [1, 2, 3, 4, 5, 6, 7, 8, 9, 10, 11, 12, 13, 14, 15, 16];
     StreamInfo::new(4096, 4096, 14, 15, 44100, 2, 16, 1, digest)
 }
 
-/// The first block of a stream, and whether it is the last.
-fn first_block(alloc: Global, bytes: &[u8]) -> Result<(bool, Block), Why> {
-    read_block(
-        alloc,
-        &mut BitReader::new(Memory::new(bytes)),
-        &mut Seen::new(),
-    )
+/// Whether the first block of these bytes is the last one and this STREAMINFO.
+fn says(alloc: Global, bytes: &[u8], info: &StreamInfo) -> Result<bool, Why> {
+    let (last, block) = first_block(alloc, bytes)?;
+    match block {
+        Block::StreamInfo(found) => Ok(last && found == *info),
+        _ => Ok(false),
+    }
 }
 
 #[test]
 fn stream_info(rt: HostRuntime) -> Result<(), Fail> {
     blocks_are_spelled();
-    let (last, block) = first_block(rt.alloc(), &info_bytes())?;
-    let info = told()?;
-    assert!(rt; last && matches!(&block, Block::StreamInfo(found) if *found == info));
-    Ok(())
-}
-
-#[test]
-fn stream_info_is_written(rt: HostRuntime) -> Result<(), Fail> {
-    let alloc = rt.alloc();
-    let written = bytes_of(alloc, &Block::StreamInfo(told()?), true)?;
-    assert_eq!(rt; written.as_slice(), info_bytes().as_slice());
-    assert_eq!(rt; refusal(alloc, &info_bytes()), Some(Why::RepeatedBlock));
-    Ok(())
-}
-
-#[test]
-fn refused_at_the_header(rt: HostRuntime) {
-    let alloc = rt.alloc();
-    assert_eq!(rt; refusal(alloc, &[0xFF, 0, 0, 0]), Some(Why::ForbiddenType));
-    assert_eq!(rt; refusal(alloc, &[0x83, 0, 0, 0x11]), Some(Why::BlockLength));
-    assert_eq!(rt; refusal(alloc, &[0x82, 0, 0, 3]), Some(Why::BlockLength));
-    assert_eq!(rt;
-        refusal(alloc, &[0x80, 0, 0, 0x21]),
-        Some(Why::RepeatedBlock)
-    );
-    assert_eq!(rt; refusal(alloc, &[0x81, 0, 0]), Some(Why::Truncated));
-}
-
-#[test]
-fn refused_inside(rt: HostRuntime) {
-    let alloc = rt.alloc();
-    assert_eq!(rt;
-        refusal(alloc, &[0x84, 0, 0, 8, 0, 0, 0, 0, 0xFF, 0xFF, 0xFF, 0xFF]),
-        Some(Why::BlockLength)
-    );
-    let mut points = [0u8; 40];
-    points[0] = 3;
-    points[3] = 36;
-    for i in 4..12 {
-        points[i] = 0xFF;
-    }
-    assert_eq!(rt; refusal(alloc, &points), Some(Why::SeekOrder));
-    let mut sheet = [0u8; 400];
-    sheet[0] = 5;
-    sheet[2] = 1;
-    sheet[3] = 0x8C;
-    assert_eq!(rt; refusal(alloc, &sheet), Some(Why::CueSheet));
-    sheet[399] = 1;
-    assert_eq!(rt; refusal(alloc, &sheet), Some(Why::BlockLength));
-}
-
-#[test]
-fn bytes_come_back(rt: HostRuntime) -> Result<(), Fail> {
-    let alloc = rt.alloc();
-    assert!(rt; comes_back(alloc, &[0x81, 0, 0, 2, 0, 0], 2)?);
-    assert!(rt; comes_back(alloc, &[2, 0, 0, 5, 0x61, 0x62, 0x63, 0x64, 7], 5)?);
-    assert!(rt; comes_back(alloc, &[0x87, 0, 0, 1, 9], 1)?);
-    assert!(rt;
-        comes_back(
-            alloc,
-            &[4, 0, 0, 14, 1, 0, 0, 0, 0x66, 1, 0, 0, 0, 1, 0, 0, 0, 0x3D],
-            14
-        )?
-    );
-    let mut picture = [0u8; 38];
-    picture[0] = 6;
-    picture[3] = 34;
-    picture[7] = 3;
-    picture[11] = 1;
-    picture[12] = 0x61;
-    picture[36] = 1;
-    picture[37] = 5;
-    assert!(rt; comes_back(alloc, &picture, 34)?);
-    Ok(())
-}
-
-#[test]
-fn tables_come_back(rt: HostRuntime) -> Result<(), Fail> {
-    let alloc = rt.alloc();
-    let mut points = [0u8; 40];
-    points[0] = 3;
-    points[3] = 36;
-    points[29] = 1;
-    assert!(rt; comes_back(alloc, &points, 36)?);
-    let mut sheet = [0u8; 448];
-    sheet[0] = 5;
-    sheet[2] = 1;
-    sheet[3] = 0xBC;
-    sheet[399] = 1;
-    sheet[408] = 1;
-    sheet[435] = 1;
-    sheet[444] = 1;
-    assert!(rt; comes_back(alloc, &sheet, 444)?);
-    Ok(())
-}
-
-#[test]
-fn parts(rt: HostRuntime) -> Result<(), Fail> {
-    let found = comments_of(rt.alloc())?;
-    assert_eq!(rt; found.parts(0), Some((b"A".as_slice(), b"b=c".as_slice())));
-    assert_eq!(rt; found.parts(1), Some((b"".as_slice(), b"x".as_slice())));
-    assert!(rt; found.parts(2).is_none() && found.parts(3).is_none());
-    assert_eq!(rt; found.length(), 31);
-    Ok(())
-}
-
-/// The comments that the program writes where it is given none.
-fn program_bytes() -> [u8; 26] {
-    [
-        0x84, 0, 0, 0x16, 0x0E, 0, 0, 0, 0x66, 0x6C, 0x61, 0x63, 0x20, 0x70, 0x72, 0x6F, 0x66,
-        0x69, 0x6C, 0x65, 0x20, 0x31, 0, 0, 0, 0,
-    ]
-}
-
-/// The bytes of a comment block that is the last.
-fn comment_bytes(alloc: Global, comments: &Comments) -> Result<Vec<u8>, Why> {
-    let mut writer = BitWriter::new(Collected::new(alloc));
-    write_comments(comments, true, &mut writer)?;
-    writer.finish()?;
-    Ok(writer.into_target().into_bytes())
-}
-
-#[test]
-fn comments_are_written(rt: HostRuntime) -> Result<(), Fail> {
-    let alloc = rt.alloc();
-    let comments = Comments {
-        vendor: text(alloc, b"flac profile 1")?,
-        list: Texts::from_vec(Vec::new(alloc)),
-    };
-    let written = comment_bytes(alloc, &comments)?;
-    assert_eq!(rt; written.as_slice(), program_bytes().as_slice());
-    Ok(())
-}
-
-/// Why no list is made of this block.
-fn fault(alloc: Global, block: Block) -> Result<Option<Why>, Why> {
-    let mut blocks = Vec::new(alloc);
-    blocks.push(block)?;
-    Ok(BlockList::new(blocks).err())
-}
-
-#[test]
-fn lists(rt: HostRuntime) -> Result<(), Fail> {
-    let alloc = rt.alloc();
-    let mut good = Vec::new(alloc);
-    good.push(Block::VorbisComment(comments_of(alloc)?))?;
-    good.push(Block::Padding(4))?;
-    assert_eq!(rt; BlockList::new(good)?.blocks().len(), 2);
-    let mut twice = Vec::new(alloc);
-    twice.push(Block::VorbisComment(comments_of(alloc)?))?;
-    twice.push(Block::VorbisComment(comments_of(alloc)?))?;
-    assert_eq!(rt; BlockList::new(twice).err(), Some(Why::RepeatedBlock));
-    let bytes = text(alloc, b"")?;
-    assert_eq!(rt;
-        fault(alloc, Block::Other { kind: 6, bytes })?,
-        Some(Why::ForbiddenType)
-    );
-    assert_eq!(rt;
-        fault(alloc, Block::Padding(16777216))?,
-        Some(Why::BlockLength)
-    );
-    Ok(())
-}
-
-#[test]
-fn tables_refused(rt: HostRuntime) -> Result<(), Fail> {
-    let alloc = rt.alloc();
-    let point = SeekPoint {
-        sample: 1,
-        offset: 0,
-        length: 1,
-    };
-    let mut points = Vec::new(alloc);
-    points.push(point)?;
-    points.push(point)?;
-    let table = SeekTable::from_vec(points);
-    assert_eq!(rt;
-        fault(alloc, Block::SeekTable(table))?,
-        Some(Why::SeekOrder)
-    );
-    let sheet = CueSheet {
-        catalogue: [0; 128],
-        lead_in: 0,
-        cd: false,
-        tracks: CueTracks::from_vec(Vec::new(alloc)),
-    };
-    assert_eq!(rt; fault(alloc, Block::CueSheet(sheet))?, Some(Why::CueSheet));
+    let bytes = bytes_of(rt.alloc(), LAST_INFO)?;
+    let info = info()?;
+    assert!(rt; says(rt.alloc(), &bytes, &info)?);
+    let again = written(rt.alloc(), &Block::StreamInfo(info), true)?;
+    assert!(rt; again.as_slice() == bytes.as_slice());
     Ok(())
 }
 
@@ -287,28 +181,11 @@ fn peak(rt: &HostRuntime) -> io::Result<u64> {
     Ok(number.unwrap_or(0))
 }
 
-/// A length, a count of comments or a count of points asks for no memory before what it announces came, whether it fits the
-/// block or not.
+/// What is announced asks for no memory before it came.
 #[test]
 fn claims_take_no_memory(rt: HostRuntime) -> Result<(), Fail> {
-    let alloc = rt.alloc();
     let before = peak(&rt)?;
-    let four_thousand_million = [0x84, 0, 0, 8, 0, 0, 0, 0, 0xFF, 0xFF, 0xFF, 0xFF];
-    assert_eq!(rt;
-        refusal(alloc, &four_thousand_million),
-        Some(Why::BlockLength)
-    );
-    let heads: [&[u8]; 6] = [
-        &[0x82, 0xFF, 0xFF, 0xFF, 1, 2, 3, 4],
-        &[0x83, 0xFF, 0xFF, 0xF6],
-        &[0x84, 0xFF, 0xFF, 0xFF, 0xF0, 0xFF, 0xFF, 0],
-        &[0x84, 0xFF, 0xFF, 0xFF, 0, 0, 0, 0, 0xFD, 0xFF, 0x3F, 0],
-        &[0x86, 0xFF, 0xFF, 0xFF, 0, 0, 0, 3, 0, 0xFF, 0xFF, 0xD0],
-        &[0x87, 0xFF, 0xFF, 0xFF],
-    ];
-    for head in heads {
-        assert_eq!(rt; refusal(alloc, head), Some(Why::Truncated));
-    }
+    check_blocks(&rt, rt.alloc(), CLAIMS)?;
     let after = peak(&rt)?;
     assert!(rt;
         before > 0 && after.saturating_sub(before) < 1024,
@@ -317,84 +194,14 @@ fn claims_take_no_memory(rt: HostRuntime) -> Result<(), Fail> {
     Ok(())
 }
 
-/// The longest content that a block may have, 16777215 bytes.
-#[test]
-fn longest_content(rt: HostRuntime) -> Result<(), Fail> {
-    let alloc = rt.alloc();
-    let bytes = vec![in alloc; 7u8; 16777211]?;
-    let block = Block::Application {
-        id: [1, 2, 3, 4],
-        bytes: Bytes::from_vec(bytes),
-    };
-    assert_eq!(rt; block.length(), 16777215);
-    let written = bytes_of(alloc, &block, true)?;
-    assert_eq!(rt; written.len(), 16777219);
-    assert!(rt; comes_back(alloc, written.as_slice(), 16777215)?);
-    Ok(())
-}
-
 /// One block of each kind, kinds 0 to 7 in their order.
-fn of_each_kind(alloc: Global) -> Result<Vec<Block>, Why> {
-    let mut points = Vec::new(alloc);
-    points.push(SeekPoint {
-        sample: 4096,
-        offset: 14,
-        length: 4096,
-    })?;
+fn of_each_kind(alloc: Global) -> Result<Vec<Block>, Fail> {
     let mut blocks = Vec::new(alloc);
-    blocks.push(Block::StreamInfo(told()?))?;
-    blocks.push(Block::Padding(4))?;
-    blocks.push(Block::Application {
-        id: [0x46, 0x6C, 0x61, 0x63],
-        bytes: text(alloc, b"xy")?,
-    })?;
-    blocks.push(Block::SeekTable(SeekTable::from_vec(points)))?;
-    blocks.push(Block::VorbisComment(comments_of(alloc)?))?;
-    blocks.push(Block::CueSheet(sheet_of(alloc)?))?;
-    blocks.push(Block::Picture(picture_of(alloc)?))?;
-    blocks.push(Block::Other {
-        kind: 7,
-        bytes: text(alloc, b"z")?,
-    })?;
+    blocks.push(Block::StreamInfo(info()?))?;
+    for row in KINDS.lines() {
+        blocks.push(block_of(alloc, row)?)?;
+    }
     Ok(blocks)
-}
-
-/// A cue sheet of one track with one place.
-fn sheet_of(alloc: Global) -> Result<CueSheet, Why> {
-    let mut indices = Vec::new(alloc);
-    indices.push(CueIndex {
-        offset: 588,
-        number: 1,
-    })?;
-    let mut tracks = Vec::new(alloc);
-    tracks.push(CueTrack {
-        offset: 0,
-        number: 1,
-        isrc: [0; 12],
-        audio: true,
-        pre_emphasis: false,
-        indices: CueIndices::from_vec(indices),
-    })?;
-    Ok(CueSheet {
-        catalogue: [0; 128],
-        lead_in: 88200,
-        cd: true,
-        tracks: CueTracks::from_vec(tracks),
-    })
-}
-
-/// A front cover of two bytes.
-fn picture_of(alloc: Global) -> Result<Picture, Why> {
-    Ok(Picture {
-        kind: 3,
-        media: text(alloc, b"image/png")?,
-        text: text(alloc, b"front")?,
-        width: 1,
-        height: 1,
-        depth: 24,
-        colours: 0,
-        bytes: text(alloc, b"pq")?,
-    })
 }
 
 #[test]
@@ -418,50 +225,176 @@ fn blocks_are_cloned_and_compared(rt: HostRuntime) -> Result<(), Fail> {
     Ok(())
 }
 
-/// Blocks that differ in one byte, one number or one place are not equal.
+/// The comments of a block of `THREE_COMMENTS`.
+fn comments_of(alloc: Global) -> Result<Comments, Fail> {
+    match block_of(alloc, THREE_COMMENTS)? {
+        Block::VorbisComment(comments) => Ok(comments),
+        _ => Err(Fail::from(Why::BlockLength)),
+    }
+}
+
+/// The cue sheet of a disc of one track.
+fn sheet_of(alloc: Global) -> Result<CueSheet, Fail> {
+    match block_of(alloc, KINDS.lines().nth(4).unwrap_or(""))? {
+        Block::CueSheet(sheet) => Ok(sheet),
+        _ => Err(Fail::from(Why::CueSheet)),
+    }
+}
+
+/// That cue sheet without its track.
+fn sheet_without_tracks(alloc: Global) -> Result<CueSheet, Fail> {
+    let mut sheet = sheet_of(alloc)?;
+    sheet.tracks = CueTracks::from_vec(Vec::new(alloc));
+    Ok(sheet)
+}
+
+/// Whether the block of these words equals that of `KINDS` at a place.
+fn equals(alloc: Global, words: &str, place: usize) -> Result<bool, Fail> {
+    let block = block_of(alloc, words)?;
+    let kind = block_of(alloc, KINDS.lines().nth(place).unwrap_or(""))?;
+    Ok(block == kind)
+}
+
+/// Whether the cue sheet equals itself without its track.
+fn sheets_are_equal(alloc: Global) -> Result<bool, Fail> {
+    let sheet = sheet_of(alloc)?;
+    let other = sheet_without_tracks(alloc)?;
+    Ok(sheet == other)
+}
+
+/// Blocks that differ in one text or one byte are not equal.
 #[test]
 fn differences_are_seen(rt: HostRuntime) -> Result<(), Fail> {
     let alloc = rt.alloc();
-    let mut comments = comments_of(alloc)?;
-    comments.vendor = text(alloc, b"v")?;
-    assert!(rt; comments != comments_of(alloc)?);
-    let mut sheet = sheet_of(alloc)?;
-    sheet.tracks = CueTracks::from_vec(Vec::new(alloc));
-    assert!(rt; sheet != sheet_of(alloc)?);
-    let mut picture = picture_of(alloc)?;
-    picture.bytes = text(alloc, b"pr")?;
-    assert!(rt; picture != picture_of(alloc)?);
+    for row in OTHERS.lines() {
+        let (place, words) = row.split_once(' ').unwrap_or(("", row));
+        assert!(rt; !equals(alloc, words, place.parse::<usize>()?)?, "{row}");
+    }
+    assert!(rt; !sheets_are_equal(alloc)?);
     assert!(rt; SeekTable::from_vec(Vec::new(alloc)) == SeekTable::from_vec(Vec::new(alloc)));
     Ok(())
 }
 
 #[test]
-fn lists_are_given_back(rt: HostRuntime) -> Result<(), Fail> {
-    let alloc = rt.alloc();
+fn parts(rt: HostRuntime) -> Result<(), Fail> {
+    let found = comments_of(rt.alloc())?;
+    assert_eq!(rt; found.parts(0), Some((b"A".as_slice(), b"b=c".as_slice())));
+    assert_eq!(rt; found.parts(1), Some((b"".as_slice(), b"x".as_slice())));
+    assert!(rt; found.parts(2).is_none() && found.parts(3).is_none());
+    assert_eq!(rt; found.length(), 31);
+    Ok(())
+}
+
+/// The bytes of a comment block that is the last, of this vendor and no comments.
+fn vendor_bytes(alloc: Global, vendor: &[u8]) -> Result<Vec<u8>, Why> {
+    let comments = Comments {
+        vendor: Bytes::from_vec(Vec::from_slice(alloc, vendor)?),
+        list: Texts::from_vec(Vec::new(alloc)),
+    };
+    let mut writer = BitWriter::new(Collected::new(alloc));
+    write_comments(&comments, true, &mut writer)?;
+    writer.finish()?;
+    Ok(writer.into_target().into_bytes())
+}
+
+#[test]
+fn comments_are_written(rt: HostRuntime) -> Result<(), Fail> {
+    let written = vendor_bytes(rt.alloc(), b"flac profile 1")?;
+    let wanted = bytes_of(rt.alloc(), PROGRAM)?;
+    assert_eq!(rt; written.as_slice(), wanted.as_slice());
+    Ok(())
+}
+
+/// Why no list is made of this block.
+fn fault(alloc: Global, block: Block) -> Result<Option<Why>, Why> {
     let mut blocks = Vec::new(alloc);
-    blocks.push(Block::VorbisComment(comments_of(alloc)?))?;
-    blocks.push(Block::Padding(4))?;
+    blocks.push(block)?;
+    Ok(BlockList::new(blocks).err())
+}
+
+/// Comments, and padding or the same comments again.
+fn comments_and(alloc: Global, words: &str) -> Result<Vec<Block>, Fail> {
+    let mut blocks = Vec::new(alloc);
+    blocks.push(block_of(alloc, THREE_COMMENTS)?)?;
+    blocks.push(block_of(alloc, words)?)?;
+    Ok(blocks)
+}
+
+#[test]
+fn lists(rt: HostRuntime) -> Result<(), Fail> {
+    let alloc = rt.alloc();
+    let blocks = comments_and(alloc, "01000004 00000000")?;
     let list = BlockList::new(blocks.clone()?)?;
+    assert_eq!(rt; list.blocks().len(), 2);
     assert!(rt; list.clone()? == list);
     assert!(rt; list.into_blocks() == blocks);
-    let point = SeekPoint {
-        sample: 4096,
-        offset: 14,
-        length: 4096,
-    };
-    let mut points = Vec::new(alloc);
-    points.push(point)?;
-    assert_eq!(rt;
-        SeekTable::from_vec(points).into_vec().as_slice(),
-        [point].as_slice()
-    );
-    let tracks = sheet_of(alloc)?.tracks.into_vec();
-    assert_eq!(rt; tracks.len(), 1);
-    for track in tracks {
-        let indices = track.indices.into_vec();
-        assert_eq!(rt; indices.len(), 1);
+    let twice = comments_and(alloc, THREE_COMMENTS)?;
+    assert_eq!(rt; BlockList::new(twice).err(), Some(Why::RepeatedBlock));
+    Ok(())
+}
+
+#[test]
+fn blocks_without_a_list(rt: HostRuntime) -> Result<(), Fail> {
+    let alloc = rt.alloc();
+    let bytes = Bytes::from_vec(Vec::new(alloc));
+    let other = fault(alloc, Block::Other { kind: 6, bytes })?;
+    assert_eq!(rt; other, Some(Why::ForbiddenType));
+    let padding = fault(alloc, Block::Padding(16777216))?;
+    assert_eq!(rt; padding, Some(Why::BlockLength));
+    let sheet = sheet_without_tracks(alloc)?;
+    assert_eq!(rt; fault(alloc, Block::CueSheet(sheet))?, Some(Why::CueSheet));
+    Ok(())
+}
+
+const POINT: SeekPoint = SeekPoint {
+    sample: 4096,
+    offset: 14,
+    length: 4096,
+};
+
+#[test]
+fn points_rise(rt: HostRuntime) -> Result<(), Fail> {
+    let alloc = rt.alloc();
+    let table = SeekTable::from_vec(vec![in alloc; POINT; 2]?);
+    let refused = fault(alloc, Block::SeekTable(table))?;
+    assert_eq!(rt; refused, Some(Why::SeekOrder));
+    Ok(())
+}
+
+/// How many places a track has, taken out of their list and put back.
+fn places(track: CueTrack) -> usize {
+    let indices = CueIndices::from_vec(track.indices.into_vec());
+    indices.as_slice().len()
+}
+
+/// The bytes of some texts, one after another.
+fn joined(alloc: Global, texts: Vec<Bytes>) -> Result<Vec<u8>, Fail> {
+    let mut bytes = Vec::new(alloc);
+    for text in texts {
+        bytes.extend_from_slice(&text.into_vec())?;
     }
-    assert_eq!(rt; comments_of(alloc)?.list.into_vec().len(), 3);
-    assert_eq!(rt; text(alloc, b"xy")?.into_vec().as_slice(), b"xy".as_slice());
+    Ok(bytes)
+}
+
+/// How many tracks the cue sheet has, and how many places these have.
+fn tracks_and_places(alloc: Global) -> Result<(usize, usize), Fail> {
+    let tracks = sheet_of(alloc)?.tracks.into_vec();
+    let count = tracks.len();
+    let mut all = 0usize;
+    for track in tracks {
+        all = all.wrapping_add(places(track));
+    }
+    Ok((count, all))
+}
+
+#[test]
+fn lists_are_given_back(rt: HostRuntime) -> Result<(), Fail> {
+    let alloc = rt.alloc();
+    let table = SeekTable::from_vec(vec![in alloc; POINT]?);
+    assert_eq!(rt; table.into_vec().as_slice(), [POINT].as_slice());
+    assert_eq!(rt; tracks_and_places(alloc)?, (1, 1));
+    let texts = comments_of(alloc)?.list.into_vec();
+    assert_eq!(rt; texts.len(), 3);
+    assert_eq!(rt; joined(alloc, texts)?.as_slice(), b"A=b=c=xnone".as_slice());
     Ok(())
 }

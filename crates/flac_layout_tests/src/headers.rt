@@ -1,17 +1,34 @@
 //! Headers from outside, worked by hand from RFC 9639, section 9.1.
 
+use crate::rows::bytes_of;
 use flac_bits::{BitReader, BitWriter, Collected, Memory, Why};
 use flac_header::{FrameHeader, headers_are_spelled, read_header, subset_allows, write_header};
 use std::alloc::Global;
 use std::test::Fail;
 
+/// Why bytes are refused as a header.
+const REFUSED: &str = "fff86908fe | BadNumber
+fff8790800ffff | ReservedCode
+fff86908000f31 | HeaderCheck
+fffa | BadSync";
+
+/// Block sizes, rates and channel codes, and the headers that are chosen for them in frame 0 of 16 bits.
+const CHOSEN: &str = "16 44100 0 | fff86908000f30
+16 65537 0 |
+16 44100 11 |
+16 7000 0 | fff86c08000f0768
+16 11025 0 | fff86d08000f2b1113
+16 384000 0 | fff86e08000f9600b9
+4096 44100 0 | fff8c9080095
+4608 44100 0 | fff85908003c
+1000 44100 0 | fff879080003e7e5";
+
 fn read(bytes: &[u8]) -> Result<FrameHeader, Why> {
-    let mut bits = BitReader::new(Memory::new(bytes));
-    read_header(&mut bits)
+    read_header(&mut BitReader::new(Memory::new(bytes)))
 }
 
 /// The bytes of a header.
-fn bytes_of(alloc: Global, header: &FrameHeader) -> Result<Vec<u8>, Why> {
+fn written(alloc: Global, header: &FrameHeader) -> Result<Vec<u8>, Why> {
     let mut writer = BitWriter::new(Collected::new(alloc));
     write_header(header, &mut writer)?;
     writer.finish()?;
@@ -23,7 +40,7 @@ fn variable_blocks(rt: HostRuntime) -> Result<(), Fail> {
     headers_are_spelled();
     let bytes = [0xFF, 0xF9, 0xC9, 0x08, 0xE1, 0x88, 0x80, 0xBB];
     let header = read(&bytes)?;
-    assert!(rt; header.variable());
+    assert!(rt; header.variable() && subset_allows(&header));
     assert_eq!(rt;
         (header.size(), header.rate(), header.channels()),
         (4096, 44100, 1)
@@ -32,69 +49,54 @@ fn variable_blocks(rt: HostRuntime) -> Result<(), Fail> {
         (header.channel_code(), header.depth(), header.number()),
         (0, 16, 4608)
     );
-    assert!(rt; subset_allows(&header));
-    let written = bytes_of(rt.alloc(), &header)?;
-    assert_eq!(rt; written.as_slice(), bytes.as_slice());
+    let again = written(rt.alloc(), &header)?;
+    assert_eq!(rt; again.as_slice(), bytes.as_slice());
     Ok(())
 }
 
-#[test]
-fn refused(rt: HostRuntime) {
-    assert_eq!(rt; read(&[0xFF, 0xF8, 0x69, 0x08, 0xFE]), Err(Why::BadNumber));
-    assert_eq!(rt;
-        read(&[0xFF, 0xF8, 0x79, 0x08, 0x00, 0xFF, 0xFF]),
-        Err(Why::ReservedCode)
-    );
-    assert_eq!(rt;
-        read(&[0xFF, 0xF8, 0x69, 0x08, 0x00, 0x0F, 0x31]),
-        Err(Why::HeaderCheck)
-    );
-    assert_eq!(rt; read(&[0xFF, 0xFA]), Err(Why::BadSync));
+/// Why bytes are refused, in text.
+fn refusal(alloc: Global, words: &str) -> Result<String, Fail> {
+    match read(&bytes_of(alloc, words)?) {
+        Ok(_) => Ok(String::new(alloc)),
+        Err(why) => Ok(format!(in alloc; "{why:?}")?),
+    }
 }
 
 #[test]
-fn chosen(rt: HostRuntime) -> Result<(), Fail> {
-    let header = FrameHeader::chosen(16, 44100, 0, 16, 0).ok_or(Why::BadSync)?;
-    let written = bytes_of(rt.alloc(), &header)?;
-    let bytes = [0xFF, 0xF8, 0x69, 0x08, 0x00, 0x0F, 0x30];
-    assert_eq!(rt; written.as_slice(), bytes.as_slice());
-    assert_eq!(rt; FrameHeader::chosen(16, 65537, 0, 16, 0), None);
-    assert_eq!(rt; FrameHeader::chosen(16, 44100, 11, 16, 0), None);
+fn refused(rt: HostRuntime) -> Result<(), Fail> {
+    for row in REFUSED.lines() {
+        let (words, wanted) = row.split_once(" | ").unwrap_or((row, ""));
+        let found = refusal(rt.alloc(), words)?;
+        assert!(rt; found.as_str() == wanted, "{found} at {row}");
+    }
     Ok(())
 }
 
-/// The bytes of the header that is chosen for one channel of 16 bits.
-fn chosen_bytes(alloc: Global, size: u32, rate: u32) -> Result<Vec<u8>, Why> {
-    let header = FrameHeader::chosen(size, rate, 0, 16, 0).ok_or(Why::BadSync)?;
-    bytes_of(alloc, &header)
+/// The header that is chosen for a block size, a rate and a channel code.
+fn chosen(words: &str) -> Result<Option<FrameHeader>, Fail> {
+    let mut numbers = words.split_whitespace();
+    let size = numbers.next().unwrap_or("").parse::<u32>()?;
+    let rate = numbers.next().unwrap_or("").parse::<u32>()?;
+    let code = numbers.next().unwrap_or("").parse::<u8>()?;
+    Ok(FrameHeader::chosen(size, rate, code, 16, 0))
+}
+
+/// The bytes of that header; none if there is no such header.
+fn chosen_bytes(alloc: Global, words: &str) -> Result<Vec<u8>, Fail> {
+    match chosen(words)? {
+        Some(header) => Ok(written(alloc, &header)?),
+        None => Ok(Vec::new(alloc)),
+    }
 }
 
 #[test]
 fn codes_chosen(rt: HostRuntime) -> Result<(), Fail> {
-    let rows: [(u32, u32, &[u8]); 6] = [
-        (16, 7000, &[0xFF, 0xF8, 0x6C, 0x08, 0x00, 0x0F, 0x07, 0x68]),
-        (
-            16,
-            11025,
-            &[0xFF, 0xF8, 0x6D, 0x08, 0x00, 0x0F, 0x2B, 0x11, 0x13],
-        ),
-        (
-            16,
-            384000,
-            &[0xFF, 0xF8, 0x6E, 0x08, 0x00, 0x0F, 0x96, 0x00, 0xB9],
-        ),
-        (4096, 44100, &[0xFF, 0xF8, 0xC9, 0x08, 0x00, 0x95]),
-        (4608, 44100, &[0xFF, 0xF8, 0x59, 0x08, 0x00, 0x3C]),
-        (
-            1000,
-            44100,
-            &[0xFF, 0xF8, 0x79, 0x08, 0x00, 0x03, 0xE7, 0xE5],
-        ),
-    ];
-    for (size, rate, bytes) in rows {
+    for row in CHOSEN.lines() {
+        let (words, wanted) = row.split_once(" |").unwrap_or((row, ""));
+        let found = chosen_bytes(rt.alloc(), words)?;
         assert!(rt;
-            chosen_bytes(rt.alloc(), size, rate)?.as_slice() == bytes,
-            "at {size} {rate}"
+            found.as_slice() == bytes_of(rt.alloc(), wanted)?.as_slice(),
+            "{row}"
         );
     }
     Ok(())

@@ -14,3 +14,5 @@ mod headers;
 mod packet_items;
 #[cfg(test)]
 mod packets;
+#[cfg(test)]
+mod rows;

@@ -1,6 +1,7 @@
 //! Packets of known lengths: one that goes on behind what is read of it, that ends before, that is broken off, or that the last page leaves open.
 
-use crate::packets::{PACKETS, STREAM, WHOLE_SEGMENTS, bytes_of};
+use crate::packets::{PACKETS, STREAM, WHOLE_SEGMENTS};
+use crate::rows::bytes_of;
 use flac_bits::{BitWriter, Collected, Memory, Source, Why};
 use flac_pages::{Head, Pages, read_packet, write_page};
 use std::alloc::Global;
@@ -12,24 +13,15 @@ type Outcome = Result<(), (Option<u64>, Why)>;
 /// How many packets had these lengths, and why the next one had not.
 type Answer = (usize, Outcome);
 
-/// Reads the packet that was begun, which is to have as many bytes as there are places.
-fn read_begun<R: Source>(pages: Pages<R>, room: &mut [u8]) -> (Result<(), Outcome>, Pages<R>) {
-    let (read, after) = read_packet(pages, room);
-    match read {
-        Ok(()) => (Ok(()), after),
-        Err(why) => (Err(Err(why)), after),
-    }
-}
-
 /// Reads the next packet, which is to have as many bytes as there are places.
-fn read_next<R: Source>(mut pages: Pages<R>, room: &mut [u8]) -> (Result<(), Outcome>, Pages<R>) {
+fn read_next<R: Source>(pages: &mut Pages<R>, room: &mut [u8]) -> Result<(), Outcome> {
     if !pages.is_between_packets() {
-        return (Err(Err((None, Why::Spent))), pages);
+        return Err(Err((None, Why::Spent)));
     }
     match pages.next_packet() {
-        Ok(true) => read_begun(pages, room),
-        Ok(false) => (Err(Ok(())), pages),
-        Err((page, why)) => (Err(Err((Some(page), why))), pages),
+        Ok(true) => read_packet(pages, room).map_err(Err),
+        Ok(false) => Err(Ok(())),
+        Err((page, why)) => Err(Err((Some(page), why))),
     }
 }
 
@@ -38,9 +30,7 @@ fn read_all<R: Source + Drop>(alloc: Global, source: R, lengths: &[usize]) -> Re
     let mut pages = Pages::new(alloc, source)?;
     for (index, length) in lengths.iter().enumerate() {
         let mut room = [0u8; 400];
-        let (read, after) = read_next(pages, &mut room[..(*length).min(400)]);
-        pages = after;
-        if let Err(outcome) = read {
+        if let Err(outcome) = read_next(&mut pages, &mut room[..(*length).min(400)]) {
             return Ok((index, outcome));
         }
     }
@@ -111,17 +101,14 @@ fn whole_segments(rt: HostRuntime) -> Result<(), Fail> {
     let mut stream = Vec::from_slice(alloc, &STREAM[..79])?;
     stream.extend_from_slice(&bytes_of(alloc, WHOLE_SEGMENTS)?)?;
     let mut first = [0u8; 51];
-    let (read, mut pages) = read_next(Pages::new(alloc, Memory::new(&stream))?, &mut first);
-    assert_eq!(rt; read, Ok(()));
+    let mut pages = Pages::new(alloc, Memory::new(&stream))?;
+    assert_eq!(rt; read_next(&mut pages, &mut first), Ok(()));
     for (byte, length) in PACKETS {
         let mut room = vec![in alloc; 0u8; length]?;
-        let (read, after) = read_next(pages, &mut room);
-        pages = after;
-        assert_eq!(rt; read, Ok(()));
+        assert_eq!(rt; read_next(&mut pages, &mut room), Ok(()));
         let wanted = vec![in alloc; byte; length]?;
         assert!(rt; room.as_slice() == wanted.as_slice(), "at {length}");
     }
-    let (end, _pages) = read_next(pages, &mut []);
-    assert_eq!(rt; end, Err(Ok(())));
+    assert_eq!(rt; read_next(&mut pages, &mut []), Err(Ok(())));
     Ok(())
 }

@@ -1,3 +1,7 @@
+ghost use Rattle.std.specs.Prelude.{◌≡◌, length};
+ghost use Rattle.flac_pages.specs.Placed.{AreInOrder};
+
+use crate::rows::bytes_of;
 use flac_bits::{BitReader, BitWriter, Collected, Memory, Pieces, Source, Why};
 use flac_pages::{
     PacketAt, PacketBytes, PacketKind, PacketMarks, Pages, write_packet, write_packets,
@@ -36,25 +40,26 @@ fn begin<R: Source>(pages: &mut Pages<R>) -> Result<bool, (u64, Why)> {
     pages.next_packet()
 }
 
-/// How long the packet is that was begun, at most 400 bytes of it; and the pages behind it.
-fn length_of<R: Source>(pages: Pages<R>) -> (Result<usize, End>, Pages<R>) {
+/// How long the packet is that was begun, at most 400 bytes of it.
+fn length_of<R: Source>(pages: &mut Pages<R>) -> Result<usize, End> {
     let mut room = [0u8; 400];
     let mut reader = BitReader::new(PacketBytes::over(pages));
     let taken = reader.take_bytes(&mut room);
     let packet = reader.into_source();
     let fault = packet.why();
+    let _pages = packet.into_pages();
     match taken {
-        Ok(n) => (Ok(n), packet.into_pages()),
-        Err(_) => (Err(fault), packet.into_pages()),
+        Ok(n) => Ok(n),
+        Err(_) => Err(fault),
     }
 }
 
-/// How long the next packet is, or how the packets end; and the pages behind it.
-fn next_length<R: Source>(mut pages: Pages<R>) -> (Result<usize, End>, Pages<R>) {
-    match begin(&mut pages) {
+/// How long the next packet is, or how the packets end.
+fn next_length<R: Source>(pages: &mut Pages<R>) -> Result<usize, End> {
+    match begin(pages) {
         Ok(true) => length_of(pages),
-        Ok(false) => (Err(None), pages),
-        Err(fault) => (Err(Some(fault)), pages),
+        Ok(false) => Err(None),
+        Err(fault) => Err(Some(fault)),
     }
 }
 
@@ -63,9 +68,7 @@ fn packets<R: Source + Drop>(alloc: Global, source: R) -> Result<([usize; 5], En
     let mut pages = Pages::new(alloc, source)?;
     let mut lengths = [0usize; 5];
     for i in 0..5 {
-        let (length, behind) = next_length(pages);
-        pages = behind;
-        match length {
+        match next_length(&mut pages) {
             Ok(n) => lengths[i] = n,
             Err(end) => return Ok((lengths, end)),
         }
@@ -73,134 +76,125 @@ fn packets<R: Source + Drop>(alloc: Global, source: R) -> Result<([usize; 5], En
     Ok((lengths, None))
 }
 
+/// Pages in hex, by name.
+const PIECES: &str = "# The four pages of `STREAM`.
+PAGE_0 4f676753000200000000000000000100000000000000761888e801337f464c414301000002664c614300000022001000100000110000110ac440f0000000102dfeaebfceadfe130ba1b45ae5aec202
+PAGE_1 4f676753000000000000000000000100000001000000358c5b89012c04000028200000007265666572656e6365206c6962464c414320312e342e3220323032323130323200000000
+PAGE_2 4f676753000000000000000000000100000002000000e3bf9254011683000012000000000000000000000000000000000010
+PAGE_3 4f676753000410000000000000000100000003000000f7958d370111fff86908000f301400000001003fffcb50
+# The third one with another byte, and the fourth one without its last byte.
+OTHER_BYTE 4f676753000000000000000000000100000002000000e3bf9254011683000012000000000000000100000000000000000010
+CUT 4f676753000410000000000000000100000003000000f7958d370111fff86908000f301400000001003fffcb
+# The head of a page marked last, of a packet of 255 zeros and one of one zero.
+FULL 4f6767530004000000000000000001000000010000003ef62db003ff0001
+# The head of a page of 255 zeros whose packet goes on, the page on which it ends, and the same with another position.
+BEGUN 4f6767530000ffffffffffffffff01000000010000002f11204e01ff
+ENDED 4f676753000500000000000000000100000002000000605644370100
+OTHER_END 4f676753000501000000000000000100000002000000605644370100";
+
+/// Pages, how long their packets are, at most five of them, and the page and the fault at which they end.
+const READ: &str = "PAGE_0 PAGE_1 PAGE_2 PAGE_3 | ([51, 44, 22, 17, 0], None)
+PAGE_0 PAGE_1 PAGE_2 CUT | ([51, 44, 22, 0, 0], Some((3, Truncated)))
+PAGE_0 PAGE_1 PAGE_2 | ([51, 44, 22, 0, 0], Some((3, NoEndPage)))
+PAGE_0 PAGE_1 OTHER_BYTE PAGE_3 | ([51, 44, 0, 0, 0], Some((2, PageCheck)))
+PAGE_0 PAGE_1 PAGE_3 | ([51, 44, 0, 0, 0], Some((2, PageOrder)))
+PAGE_0 PAGE_1 PAGE_2 PAGE_3 4f | ([51, 44, 22, 17, 0], Some((4, PageOrder)))
+# Packets of whole segments.
+PAGE_0 FULL 00*256 | ([51, 255, 1, 0, 0], None)
+PAGE_0 BEGUN 00*255 ENDED | ([51, 255, 0, 0, 0], None)
+PAGE_0 BEGUN 00*255 OTHER_END | ([51, 0, 0, 0, 0], Some((2, PageCheck)))
+# A packet of no bytes.
+4f6767530002000000000000000009000000000000001659733f0133 00*51 4f6767530000010000000000000009000000010000007adff6680100 4f676753000407000000000000000900000002000000539d323602ff2d 00*300 | ([51, 0, 300, 0, 0], None)";
+
+/// The bytes of the page of this name, or of the word itself.
+fn page_of(alloc: Global, word: &str) -> Result<Vec<u8>, Fail> {
+    for line in PIECES.lines() {
+        if let Some((name, digits)) = line.split_once(' ') {
+            if name == word {
+                return bytes_of(alloc, digits);
+            }
+        }
+    }
+    bytes_of(alloc, word)
+}
+
+/// The bytes of some words, of which each is the name of a page or hex digits.
+fn pages_of(alloc: Global, words: &str) -> Result<Vec<u8>, Fail> {
+    let mut bytes = Vec::new(alloc);
+    for word in words.split_whitespace() {
+        bytes.extend_from_slice(&page_of(alloc, word)?)?;
+    }
+    Ok(bytes)
+}
+
+/// The lengths of packets and how they end, as text.
+fn told(alloc: Global, bytes: &[u8], most: usize) -> Result<String, Fail> {
+    let source = Pieces::new(Memory::new(bytes), most.max(1));
+    let found = packets(alloc, source)?;
+    Ok(format!(in alloc; "{found:?}")?)
+}
+
+/// The pages come in pieces of one byte, and of many.
 #[test]
-fn packets_of_a_stream(rt: HostRuntime) -> Result<(), Fail> {
-    let all = [51, 44, 22, 17, 0];
-    assert_eq!(rt; packets(rt.alloc(), Memory::new(&STREAM))?, (all, None));
-    assert_eq!(rt;
-        packets(rt.alloc(), Pieces::new(Memory::new(&STREAM), 1))?,
-        (all, None)
-    );
+fn reads_packets(rt: HostRuntime) -> Result<(), Fail> {
+    for row in READ.lines() {
+        if let Some((words, wanted)) = row.split_once(" | ") {
+            let bytes = pages_of(rt.alloc(), words)?;
+            for most in [1, 4096] {
+                let found = told(rt.alloc(), &bytes, most)?;
+                assert!(rt; found.as_str() == wanted, "{found} at {row}");
+            }
+        }
+    }
     Ok(())
 }
 
-/// The stream with another byte in its third page.
-fn other_byte() -> [u8; 246] {
-    let mut changed = STREAM;
-    changed[190] = 1;
-    changed
+/// The pages of a packet, and the number of the page after them.
+fn written(alloc: Global, marks: PacketMarks, packet: &[u8]) -> Result<(u32, Vec<u8>), Why> {
+    let mut writer = BitWriter::new(Collected::new(alloc));
+    let next = write_packet(marks, packet, &mut writer)?;
+    writer.finish()?;
+    Ok((next, writer.into_target().into_bytes()))
 }
 
-/// The stream without its third page.
-fn page_left_out() -> [u8; 196] {
-    let mut without = [0u8; 196];
-    without[..151].copy_from_slice(&STREAM[..151]);
-    without[151..].copy_from_slice(&STREAM[201..]);
-    without
+/// A packet of the stream with serial number 1 that is neither its first nor its last one.
+fn marks_of(sequence: u32, kind: PacketKind) -> PacketMarks {
+    PacketMarks {
+        serial: 1,
+        sequence,
+        kind,
+        first: false,
+        last: false,
+    }
 }
 
-/// The stream and one byte more.
-fn byte_more() -> [u8; 247] {
-    let mut longer = [0x4Fu8; 247];
-    longer[..246].copy_from_slice(&STREAM);
-    longer
-}
-
-#[test]
-fn damaged_streams(rt: HostRuntime) -> Result<(), Fail> {
-    let cut = packets(rt.alloc(), Memory::new(&STREAM[..245]))?;
-    assert_eq!(rt; cut, ([51, 44, 22, 0, 0], Some((3, Why::Truncated))));
-    let short = packets(rt.alloc(), Memory::new(&STREAM[..201]))?;
-    assert_eq!(rt; short, ([51, 44, 22, 0, 0], Some((3, Why::NoEndPage))));
-    let changed = packets(rt.alloc(), Memory::new(&other_byte()))?;
-    assert_eq!(rt; changed, ([51, 44, 0, 0, 0], Some((2, Why::PageCheck))));
-    let without = packets(rt.alloc(), Memory::new(&page_left_out()))?;
-    assert_eq!(rt; without, ([51, 44, 0, 0, 0], Some((2, Why::PageOrder))));
-    let longer = packets(rt.alloc(), Memory::new(&byte_more()))?;
-    assert_eq!(rt; longer, ([51, 44, 22, 17, 0], Some((4, Why::PageOrder))));
-    Ok(())
-}
-
-/// The head of a page marked last, of a packet of 255 zeros and one of one zero.
-const FULL: [u8; 30] = [
-    0x4F, 0x67, 0x67, 0x53, 0x00, 0x04, 0x00, 0x00, 0x00, 0x00, 0x00, 0x00, 0x00, 0x00, 0x01, 0x00,
-    0x00, 0x00, 0x01, 0x00, 0x00, 0x00, 0x3E, 0xF6, 0x2D, 0xB0, 0x03, 0xFF, 0x00, 0x01,
-];
-
-/// The head of a page of 255 zeros whose packet goes on, and the page on which it ends.
-const BEGUN: [u8; 28] = [
-    0x4F, 0x67, 0x67, 0x53, 0x00, 0x00, 0xFF, 0xFF, 0xFF, 0xFF, 0xFF, 0xFF, 0xFF, 0xFF, 0x01, 0x00,
-    0x00, 0x00, 0x01, 0x00, 0x00, 0x00, 0x2F, 0x11, 0x20, 0x4E, 0x01, 0xFF,
-];
-
-const ENDED: [u8; 28] = [
-    0x4F, 0x67, 0x67, 0x53, 0x00, 0x05, 0x00, 0x00, 0x00, 0x00, 0x00, 0x00, 0x00, 0x00, 0x01, 0x00,
-    0x00, 0x00, 0x02, 0x00, 0x00, 0x00, 0x60, 0x56, 0x44, 0x37, 0x01, 0x00,
-];
-
-/// A page of one packet, and one of a packet of 255 zeros and one of one zero.
-fn full_page() -> [u8; 365] {
-    let mut one = [0u8; 365];
-    one[..79].copy_from_slice(&STREAM[..79]);
-    one[79..109].copy_from_slice(&FULL);
-    one
-}
-
-/// A page of one packet, and two pages of a packet of 255 zeros.
-fn open_page() -> [u8; 390] {
-    let mut two = [0u8; 390];
-    two[..79].copy_from_slice(&STREAM[..79]);
-    two[79..107].copy_from_slice(&BEGUN);
-    two[362..].copy_from_slice(&ENDED);
-    two
-}
-
-#[test]
-fn packets_of_full_segments(rt: HostRuntime) -> Result<(), Fail> {
-    let one = packets(rt.alloc(), Memory::new(&full_page()))?;
-    assert_eq!(rt; one, ([51, 255, 1, 0, 0], None));
-    let mut two = open_page();
-    let whole = packets(rt.alloc(), Memory::new(&two))?;
-    assert_eq!(rt; whole, ([51, 255, 0, 0, 0], None));
-    two[368] = 1;
-    let broken = packets(rt.alloc(), Memory::new(&two))?;
-    assert_eq!(rt; broken, ([51, 0, 0, 0, 0], Some((2, Why::PageCheck))));
-    Ok(())
+/// The packets of `STREAM`.
+fn stream_packets() -> [&'static [u8]; 4] {
+    [
+        &STREAM[28..79],
+        &STREAM[107..151],
+        &STREAM[179..201],
+        &STREAM[229..],
+    ]
 }
 
 #[test]
 fn writes_the_pages_of_a_stream(rt: HostRuntime) -> Result<(), Fail> {
-    let mut writer = BitWriter::new(Collected::new(rt.alloc()));
-    let mut marks = PacketMarks {
-        serial: 1,
-        sequence: 0,
-        kind: PacketKind::Header,
-        first: true,
-        last: false,
-    };
-    for range in [28..79, 107..151, 179..201] {
-        marks.sequence = write_packet(marks, &STREAM[range], &mut writer)?;
-        marks.first = false;
-    }
-    marks.kind = PacketKind::Frame { end: 16 };
-    marks.last = true;
-    assert_eq!(rt; write_packet(marks, &STREAM[229..], &mut writer)?, 4);
-    writer.finish()?;
-    assert_eq!(rt; writer.into_target().bytes(), STREAM.as_slice());
-    Ok(())
-}
-
-/// The bytes of some words: each is hex digits, and `WORD*COUNT` is that often.
-pub(crate) fn bytes_of(alloc: Global, words: &str) -> Result<Vec<u8>, Fail> {
-    let mut bytes = Vec::new(alloc);
-    for word in words.split_whitespace() {
-        let (digits, count) = word.split_once('*').unwrap_or((word, "1"));
-        let part = hex::decode(alloc, digits)?;
-        for _ in 0..count.parse::<usize>()? {
-            bytes.extend_from_slice(&part)?;
+    let mut all = Vec::new(rt.alloc());
+    let mut marks = marks_of(0, PacketKind::Header);
+    for packet in stream_packets() {
+        marks.first = marks.sequence == 0;
+        marks.last = marks.sequence == 3;
+        if marks.last {
+            marks.kind = PacketKind::Frame { end: 16 };
         }
+        let (next, pages) = written(rt.alloc(), marks, packet)?;
+        marks.sequence = next;
+        all.extend_from_slice(&pages)?;
     }
-    Ok(bytes)
+    assert_eq!(rt; marks.sequence, 4);
+    assert_eq!(rt; all.as_slice(), STREAM.as_slice());
+    Ok(())
 }
 
 /// Pages of packets of 255, 510 and 65025 bytes, of which the last goes on for no bytes on a page of its own.
@@ -216,23 +210,17 @@ pub(crate) const PACKETS: [(u8, usize); 3] = [(7, 255), (8, 510), (9, 65025)];
 #[test]
 fn writes_packets_of_whole_segments(rt: HostRuntime) -> Result<(), Fail> {
     let alloc = rt.alloc();
-    let mut marks = PacketMarks {
-        serial: 1,
-        sequence: 1,
-        kind: PacketKind::Frame { end: 5 },
-        first: false,
-        last: false,
-    };
-    let mut writer = BitWriter::new(Collected::new(alloc));
+    let mut all = Vec::new(alloc);
+    let mut marks = marks_of(1, PacketKind::Frame { end: 5 });
     for (byte, length) in PACKETS {
-        let packet = vec![in alloc; byte; length]?;
         marks.last = length == 65025;
-        marks.sequence = write_packet(marks, &packet, &mut writer)?;
+        let packet = vec![in alloc; byte; length]?;
+        let (next, pages) = written(alloc, marks, &packet)?;
+        marks.sequence = next;
+        all.extend_from_slice(&pages)?;
     }
-    writer.finish()?;
     assert_eq!(rt; marks.sequence, 5);
-    let wanted = bytes_of(alloc, WHOLE_SEGMENTS)?;
-    assert!(rt; writer.into_target().bytes() == wanted.as_slice());
+    assert!(rt; all.as_slice() == bytes_of(alloc, WHOLE_SEGMENTS)?.as_slice());
     Ok(())
 }
 
@@ -246,58 +234,77 @@ const LONG_FRAME: &str = "4f6767530000ffffffffffffffff01000000010000006b5464fbff
 /// Whether a packet of this kind of 70000 zeros is written as these pages.
 fn writes_long(alloc: Global, kind: PacketKind, pages: &str) -> Result<bool, Fail> {
     let zeros = vec![in alloc; 0u8; 70000]?;
-    let marks = PacketMarks {
-        serial: 1,
-        sequence: 1,
-        kind,
-        first: false,
-        last: false,
-    };
-    let mut writer = BitWriter::new(Collected::new(alloc));
-    write_packet(marks, &zeros, &mut writer)?;
-    writer.finish()?;
-    let wanted = bytes_of(alloc, pages)?;
-    Ok(writer.into_target().bytes() == wanted.as_slice())
+    let (_, found) = written(alloc, marks_of(1, kind), &zeros)?;
+    Ok(found.as_slice() == bytes_of(alloc, pages)?.as_slice())
 }
 
 #[test]
 fn positions_of_long_packets(rt: HostRuntime) -> Result<(), Fail> {
     assert!(rt; writes_long(rt.alloc(), PacketKind::Header, LONG_HEADER)?);
-    assert!(rt; writes_long(rt.alloc(), PacketKind::Frame { end: 4096 }, LONG_FRAME)?);
-    assert_eq!(rt; PacketKind::Header.granule(false), 0);
-    assert_eq!(rt; PacketKind::Frame { end: 4096 }.granule(true), 4096);
+    let frame = PacketKind::Frame { end: 4096 };
+    assert!(rt; writes_long(rt.alloc(), frame, LONG_FRAME)?);
+    assert_eq!(rt;
+        (PacketKind::Header.granule(false), frame.granule(true)),
+        (0, 4096)
+    );
     Ok(())
 }
 
-#[test]
-fn writes_the_packets_of_a_stream(rt: HostRuntime) -> Result<(), Fail> {
+/// The pages of all packets of a stream.
+fn all_written(
+    alloc: Global,
+    serial: u32,
+    bytes: &[u8],
+    packets: &[PacketAt],
+) -> Result<Vec<u8>, Why>
+    requires { AreInOrder 0 (length bytes.now) packets.now }
+{
+    let mut writer = BitWriter::new(Collected::new(alloc));
+    write_packets(serial, bytes, packets, &mut writer)?;
+    writer.finish()?;
+    Ok(writer.into_target().into_bytes())
+}
+
+/// The packets of `STREAM`, one after another.
+fn packet_bytes() -> [u8; 134] {
     let mut bytes = [0u8; 134];
     bytes[..51].copy_from_slice(&STREAM[28..79]);
     bytes[51..95].copy_from_slice(&STREAM[107..151]);
     bytes[95..117].copy_from_slice(&STREAM[179..201]);
     bytes[117..].copy_from_slice(&STREAM[229..]);
-    let packets = [
-        PacketAt {
-            end: 51,
-            kind: PacketKind::Header,
-        },
-        PacketAt {
-            end: 95,
-            kind: PacketKind::Header,
-        },
-        PacketAt {
-            end: 117,
-            kind: PacketKind::Header,
-        },
-        PacketAt {
-            end: 134,
-            kind: PacketKind::Frame { end: 16 },
-        },
+    bytes
+}
+
+/// A header packet that ends at this place.
+fn header_at(end: usize) -> PacketAt
+    ensures { result.end ≡ end }
+{
+    PacketAt {
+        end,
+        kind: PacketKind::Header,
+    }
+}
+
+/// A frame that ends at this place, with this position.
+fn frame_at(end: usize, position: u64) -> PacketAt
+    ensures { result.end ≡ end }
+{
+    PacketAt {
+        end,
+        kind: PacketKind::Frame { end: position },
+    }
+}
+
+#[test]
+fn writes_the_packets_of_a_stream(rt: HostRuntime) -> Result<(), Fail> {
+    let ends = [
+        header_at(51),
+        header_at(95),
+        header_at(117),
+        frame_at(134, 16),
     ];
-    let mut writer = BitWriter::new(Collected::new(rt.alloc()));
-    write_packets(1, &bytes, &packets, &mut writer)?;
-    writer.finish()?;
-    assert_eq!(rt; writer.into_target().bytes(), STREAM.as_slice());
+    let found = all_written(rt.alloc(), 1, &packet_bytes(), &ends)?;
+    assert_eq!(rt; found.as_slice(), STREAM.as_slice());
     Ok(())
 }
 
@@ -308,28 +315,9 @@ const NO_BYTES: &str = "4f6767530002000000000000000009000000000000001659733f0133
 
 #[test]
 fn writes_a_packet_of_no_bytes(rt: HostRuntime) -> Result<(), Fail> {
-    let ends = [
-        PacketAt {
-            end: 51,
-            kind: PacketKind::Header,
-        },
-        PacketAt {
-            end: 51,
-            kind: PacketKind::Frame { end: 1 },
-        },
-        PacketAt {
-            end: 351,
-            kind: PacketKind::Frame { end: 7 },
-        },
-    ];
-    let mut writer = BitWriter::new(Collected::new(rt.alloc()));
-    write_packets(9, &[0; 351], &ends, &mut writer)?;
-    writer.finish()?;
-    let target = writer.into_target();
-    let bytes = target.bytes();
+    let ends = [header_at(51), frame_at(51, 1), frame_at(351, 7)];
+    let found = all_written(rt.alloc(), 9, &[0; 351], &ends)?;
     let wanted = bytes_of(rt.alloc(), NO_BYTES)?;
-    assert_eq!(rt; bytes, wanted.as_slice());
-    let read = packets(rt.alloc(), Memory::new(bytes))?;
-    assert_eq!(rt; read, ([51, 0, 300, 0, 0], None));
+    assert_eq!(rt; found.as_slice(), wanted.as_slice());
     Ok(())
 }

@@ -1,8 +1,12 @@
 -- Writing piece by piece.
-use Rattle.std.proofs.Common.{◌≡◌, ℕ, zero, suc, ◌+◌, ◌-◌, ◌*◌, ◌/◌, ◌%◌, ◌<◌, ◌≤◌, Bool, false, nat_eq, List, [], ◌∷◌, ◌++◌, length, drop, get_or, refl, sym, ap, ◌∙◌, arith, append_assoc}
+use Rattle.std.proofs.Common.{◌≡◌, ℕ, zero, suc, ◌+◌, ◌-◌, ◌*◌, ◌/◌, ◌%◌, ◌<◌, ◌≤◌, Bool, false, nat_eq, List, [], ◌∷◌, ◌++◌, length, drop, get_or, Result, refl, sym, ap, subst, ◌∙◌, arith, append_assoc}
 use Rattle.std.specs.Int.{bit_at}
-use Rattle.std.proofs.lemmas.List.{at_drop_more, at_drop_all}
+use Rattle.std.proofs.lemmas.List.{at_drop_more, at_drop_all, append-nil}
 use Rattle.flac_bits.specs.Bits.{unsigned}
+use Rattle.flac_bits.specs.Forms.{joined}
+use Rattle.flac_bits.specs.Written.{Written, Writes}
+use Rattle.flac_bits.specs.declared.why.Why.{Why}
+use Rattle.flac_bits.proofs.Writing.{Towards, towards_last}
 use Rattle.flac_meta.specs.Spelling.{each_spelled, zero_bits}
 use Rattle.flac_meta.specs.Fielded.{field_spelling, fields_spelling}
 use Rattle.flac_meta.specs.declared.fielded.Field.{Field}
@@ -64,3 +68,14 @@ pub each_step_at : {A : Type 0} (spelling : A → List Bool) (xs : List A) (i : 
     → each_spelled spelling (drop i xs) ≡ spelling (get_or xs i d) ++ each_spelled spelling (drop (i + 1) xs)
 unfolding each_spelled
 each_step_at spelling xs i d lt = at_drop_more (each_spelled spelling) xs i d lt
+
+-- ---- pieces
+
+-- the pieces of two lists
+pub joined_two : (front back : List (List Bool)) → joined (front ++ back) ≡ joined front ++ joined back
+joined_two [] back = refl
+joined_two (piece ∷ front) back = ap (λ t. piece ++ t) (joined_two front back) ∙ sym (append_assoc piece (joined front) (joined back))
+
+-- what came of the last piece
+pub towards_done : {X : Type 0} {whole : List Bool} {old now : Written} (part : List Bool) (new : Written) (result : Result X Why) → Towards (part ++ []) whole old now → Writes part now new result → Writes whole old new result
+towards_done {whole = whole} {old = old} {now = now} part new result t w = towards_last new result (subst (λ (rest : List Bool). Towards rest whole old now) (append-nil part) t) w

@@ -8,7 +8,7 @@ use crate::seen::Seen;
 use flac_bits::{BitReader, Source, Why};
 
 /// What stands before a block's content (RFC 9639, section 8.1).
-#[derive(Clone, Copy, Debug, PartialEq, Eq)]
+#[derive(Clone, Copy)]
 pub struct BlockHeader {
     pub last: bool,
     pub kind: u8,

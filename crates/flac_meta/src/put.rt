@@ -73,8 +73,7 @@ pub(crate) fn put_info<W: Target>(writer: &mut BitWriter<W>, info: &StreamInfo) 
             },
         ],
     )?;
-    writer.put_bytes(&info.digest)?;
-    Ok(())
+    writer.put_bytes(&info.digest)
 }
 
 /// Writes bytes behind their number, whose lowest byte comes first.
@@ -86,8 +85,7 @@ pub(crate) fn put_little_sized<W: Target>(
     ensures { Writes (little_sized bytes.now) writer.old writer.new result }
 {
     put_little_32(bytes.len() as u32, writer)?;
-    writer.put_bytes(bytes)?;
-    Ok(())
+    writer.put_bytes(bytes)
 }
 
 /// Writes bytes behind their number.
@@ -96,8 +94,7 @@ pub(crate) fn put_sized<W: Target>(writer: &mut BitWriter<W>, bytes: &[u8]) -> R
     ensures { Writes (sized_bits bytes.now) writer.old writer.new result }
 {
     writer.put(32, bytes.len() as u64)?;
-    writer.put_bytes(bytes)?;
-    Ok(())
+    writer.put_bytes(bytes)
 }
 
 /// Writes the header of a block (RFC 9639, section 8.1).

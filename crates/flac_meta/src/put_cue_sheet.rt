@@ -1,8 +1,10 @@
 //! Writes cue sheets.
 
-ghost use Rattle.std.specs.Prelude.{◌≡◌, ◌≤◌, false, length};
+ghost use Rattle.std.specs.Prelude.{◌≡◌, ◌≤◌, ◌+◌, ◌*◌, ◌∷◌, [], false, not, length};
+ghost use Rattle.flac_bits.specs.Bits.{unsigned, bits_of, bit_value};
+ghost use Rattle.flac_bits.specs.Forms.{joined};
 ghost use Rattle.flac_bits.specs.Written.{Writes};
-ghost use Rattle.flac_meta.specs.Spelling.{each_spelled, index_spelling, track_spelling, sheet_spelling};
+ghost use Rattle.flac_meta.specs.Spelling.{zero_bits, each_spelled, index_spelling, track_spelling, sheet_spelling};
 ghost use Rattle.flac_meta.specs.Listed.{overflows, is_bad_sheet};
 
 use crate::cue_sheet::{CueIndex, CueSheet, CueTrack};
@@ -16,8 +18,7 @@ fn put_index<W: Target>(writer: &mut BitWriter<W>, index: &CueIndex) -> Result<(
 {
     writer.put(64, index.offset)?;
     writer.put(8, index.number as u64)?;
-    put_zeros(writer, 8 * 3)?;
-    Ok(())
+    put_zeros(writer, 8 * 3)
 }
 
 /// Writes the places of a track.
@@ -30,17 +31,21 @@ fn put_indices<W: Target>(writer: &mut BitWriter<W>, indices: &[CueIndex]) -> Re
     Ok(())
 }
 
-/// Writes a track (RFC 9639, section 8.7.1).
-fn put_track<W: Target>(writer: &mut BitWriter<W>, track: &CueTrack) -> Result<(), Why>
-    requires { length track.now.indices ≤ 255 }
-    ensures { Writes (track_spelling track.now) writer.old writer.new result }
+/// Writes the offset, the number and the recording code of a track.
+fn put_track_front<W: Target>(writer: &mut BitWriter<W>, track: &CueTrack) -> Result<(), Why>
+    ensures { Writes (joined (unsigned 64 track.now.offset ∷ unsigned 8 track.now.number ∷ bits_of track.now.isrc ∷ [])) writer.old writer.new result }
 {
-    let indices = track.indices.as_slice();
-    let data = flag(!track.audio);
-    let emphasis = flag(track.pre_emphasis);
     writer.put(64, track.offset)?;
     writer.put(8, track.number as u64)?;
-    writer.put_bytes(&track.isrc)?;
+    writer.put_bytes(&track.isrc)
+}
+
+/// Writes the flags of a track and the reserved bits after them.
+fn put_track_flags<W: Target>(writer: &mut BitWriter<W>, track: &CueTrack) -> Result<(), Why>
+    ensures { Writes (joined (unsigned 1 (bit_value (not track.now.audio)) ∷ unsigned 1 (bit_value track.now.pre_emphasis) ∷ zero_bits (6 + 8 * 13) ∷ [])) writer.old writer.new result }
+{
+    let data = flag(!track.audio);
+    let emphasis = flag(track.pre_emphasis);
     put_fields(
         writer,
         &[
@@ -54,10 +59,19 @@ fn put_track<W: Target>(writer: &mut BitWriter<W>, track: &CueTrack) -> Result<(
             },
         ],
     )?;
-    put_zeros(writer, 6 + 8 * 13)?;
+    put_zeros(writer, 6 + 8 * 13)
+}
+
+/// Writes a track (RFC 9639, section 8.7.1).
+fn put_track<W: Target>(writer: &mut BitWriter<W>, track: &CueTrack) -> Result<(), Why>
+    requires { length track.now.indices ≤ 255 }
+    ensures { Writes (track_spelling track.now) writer.old writer.new result }
+{
+    let indices = track.indices.as_slice();
+    put_track_front(writer, track)?;
+    put_track_flags(writer, track)?;
     writer.put(8, indices.len() as u64)?;
-    put_indices(writer, indices)?;
-    Ok(())
+    put_indices(writer, indices)
 }
 
 /// Writes the tracks of a cue sheet.
@@ -71,26 +85,23 @@ fn put_tracks<W: Target>(writer: &mut BitWriter<W>, tracks: &[CueTrack]) -> Resu
     Ok(())
 }
 
+/// Writes the fields of a cue sheet before its tracks.
+fn put_sheet_front<W: Target>(writer: &mut BitWriter<W>, sheet: &CueSheet) -> Result<(), Why>
+    ensures { Writes (joined (bits_of sheet.now.catalogue ∷ unsigned 64 sheet.now.lead_in ∷ unsigned 1 (bit_value sheet.now.cd) ∷ zero_bits (7 + 8 * 258) ∷ [])) writer.old writer.new result }
+{
+    writer.put_bytes(&sheet.catalogue)?;
+    writer.put(64, sheet.lead_in)?;
+    writer.put(1, flag(sheet.cd))?;
+    put_zeros(writer, 7 + 8 * 258)
+}
+
 /// Writes a cue sheet (RFC 9639, section 8.7).
 pub(crate) fn put_sheet<W: Target>(writer: &mut BitWriter<W>, sheet: &CueSheet) -> Result<(), Why>
     requires { is_bad_sheet sheet.now ≡ false }
     ensures { Writes (sheet_spelling sheet.now) writer.old writer.new result }
 {
     let tracks = sheet.tracks.as_slice();
-    let cd = flag(sheet.cd);
-    writer.put_bytes(&sheet.catalogue)?;
-    put_fields(
-        writer,
-        &[
-            Field {
-                bits: 64,
-                value: sheet.lead_in,
-            },
-            Field { bits: 1, value: cd },
-        ],
-    )?;
-    put_zeros(writer, 7 + 8 * 258)?;
+    put_sheet_front(writer, sheet)?;
     writer.put(8, tracks.len() as u64)?;
-    put_tracks(writer, tracks)?;
-    Ok(())
+    put_tracks(writer, tracks)
 }

@@ -18,8 +18,7 @@ fn put_point<W: Target>(writer: &mut BitWriter<W>, point: &SeekPoint) -> Result<
 {
     writer.put(64, point.sample)?;
     writer.put(64, point.offset)?;
-    writer.put(16, point.length as u64)?;
-    Ok(())
+    writer.put(16, point.length as u64)
 }
 
 /// Writes seek points (RFC 9639, section 8.5).
@@ -59,8 +58,7 @@ pub(crate) fn put_comments<W: Target>(
     let list = comments.list.as_slice();
     put_little_sized(writer, vendor)?;
     put_little_32(list.len() as u32, writer)?;
-    put_texts(writer, list)?;
-    Ok(())
+    put_texts(writer, list)
 }
 
 /// Writes a picture (RFC 9639, section 8.8).
@@ -98,6 +96,5 @@ pub(crate) fn put_picture<W: Target>(
             },
         ],
     )?;
-    put_sized(writer, bytes)?;
-    Ok(())
+    put_sized(writer, bytes)
 }

@@ -5,6 +5,7 @@ pub mod Nearest
 pub mod Weighing
 pub mod Scaling
 pub mod Steps
+pub mod Judged
 pub mod Parts
 pub mod Samples
 pub mod Unique

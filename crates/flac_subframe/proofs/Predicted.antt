@@ -23,6 +23,11 @@ pub residual_run : (limit order block : ℕ) (h : ℕ × ℕ) (c d : Cursor) →
 unfolding residual
 residual_run limit order block h c d is = rw is (and_then_and_then (run (partitions (4 + h.0) (block / 2 ^ h.1 - order) (block / 2 ^ h.1) (2 ^ h.1)) d) _ _)
 
+-- its header was refused
+pub residual_fails : (limit order block : ℕ) (c : Cursor) (w : Reason) → run (residual_header limit order block) c ≡ Err w → run (bind (residual limit order block) (λ r. done (residual_values r))) c ≡ Err w
+unfolding residual
+residual_fails limit order block c w is = rw is refl
+
 module _ (depth block limit order : ℕ) where
   -- what was read of the residual gives the samples
   values_then : (f : Residual → Option (List ℤ)) (rest : List ℤ) (o : Option (List ℤ)) (d e : Cursor) → ((r : Residual) → residual_values r ≡ rest → f r ≡ o)

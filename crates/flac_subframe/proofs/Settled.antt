@@ -59,3 +59,32 @@ module _ (order h : ℕ) (rs : List ℤ) (each : (p j : ℕ) → p ≤ h → j <
     };
     is = so.is;
   }
+
+-- the least of the two methods
+pub first_least : (order h : ℕ) (rs : List ℤ) (a b : ℕ) → IsLeastCost (ByMethod 4 h order rs) (residual_cost order rs) a → IsLeastCost (ByMethod 5 h order rs) (residual_cost order rs) b → a ≤ b
+    → IsLeastCost (MayWrite h order rs) (residual_cost order rs) a
+first_least order h rs a b p q le = record {
+  one = p.one;
+  least = record {
+    member = p.least.member.1;
+    least = λ f m. elim m.method [
+      | inl e ↦ p.least.least f (e, m)
+      | inr e ↦ omega (arith, p.is, q.is, q.least.least f (e, m), le)
+    ];
+  };
+  is = p.is;
+}
+
+pub second_least : (order h : ℕ) (rs : List ℤ) (a b : ℕ) → IsLeastCost (ByMethod 4 h order rs) (residual_cost order rs) a → IsLeastCost (ByMethod 5 h order rs) (residual_cost order rs) b → b ≤ a
+    → IsLeastCost (MayWrite h order rs) (residual_cost order rs) b
+second_least order h rs a b p q le = record {
+  one = q.one;
+  least = record {
+    member = q.least.member.1;
+    least = λ f m. elim m.method [
+      | inl e ↦ omega (arith, p.is, q.is, p.least.least f (e, m), le)
+      | inr e ↦ q.least.least f (e, m)
+    ];
+  };
+  is = q.is;
+}

@@ -136,13 +136,7 @@ fn better_fixed(
     requires five { 2 * 2 ^ most ≤ length five.old }
     requires widths { 2 * 2 ^ most ≤ length widths.old }
     requires small { best.old.bits ≤ 2 ^ 60 }
-    ensures best { (tried : List Chooses) → IsBest most bits samples.now tried (priced_as best.old) → IsBest most bits samples.now (tried ++ fixed order ∷ []) (priced_as best.new) }
-    ensures values_long { length values.new ≡ length values.old }
-    ensures folds_long { length folds.new ≡ length folds.old }
-    ensures sums_long { length sums.new ≡ length sums.old }
-    ensures four_long { length four.new ≡ length four.old }
-    ensures five_long { length five.new ≡ length five.old }
-    ensures widths_long { length widths.new ≡ length widths.old }
+    ensures { (tried : List Chooses) → IsBest most bits samples.now tried (priced_as best.old) → IsBest most bits samples.now (tried ++ fixed order ∷ []) (priced_as best.new) }
 {
     if order >= samples.len() {
         return;

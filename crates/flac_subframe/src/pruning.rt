@@ -134,7 +134,7 @@ fn bound_parts(
 }
 
 /// What a residual takes at least in any form.
-pub(crate) fn lower_bound(
+fn lower_bound(
     values: &[i64],
     folds: &[u32],
     order: usize,
@@ -154,7 +154,6 @@ pub(crate) fn lower_bound(
     requires places { 2 * 2 ^ halvings ≤ length widths.now }
     ensures bound { (f : Codings) → MayWrite halvings order values.now f → result ≤ residual_cost order values.now f }
     ensures costs { (j : ℕ) → j < 2 ^ halvings → slice_index sums.new j ≡ sum_by (value_cost 0) (part order values.now halvings j) }
-    ensures sums_long { length sums.new ≡ length sums.old }
 {
     let row = &mut sums[..power(halvings)];
     price(values, folds, widths[1], order, halvings, 0, row);
@@ -162,7 +161,7 @@ pub(crate) fn lower_bound(
 }
 
 /// Whether the close bound shows that the residual takes `below` bits or more. It is worked out only if the rough bound is near that.
-pub(crate) fn reaches(
+fn reaches(
     values: &[i64],
     folds: &[u32],
     order: usize,
@@ -189,4 +188,33 @@ pub(crate) fn reaches(
         return false;
     }
     bound_parts(values, folds, order, halvings, sums, widths, true) >= below
+}
+
+/// Whether lower bounds show that the residual takes `below` bits or more in any form.
+pub(crate) fn is_too_dear(
+    values: &[i64],
+    folds: &[u32],
+    order: usize,
+    halvings: u8,
+    sums: &mut [u64],
+    widths: &[u8],
+    below: u64,
+) -> bool
+    requires few { length values.now + order ≤ 65535 }
+    requires range { All IsResidual values.now }
+    requires folded { folds.now ≡ map folded values.now }
+    requires small { All (λ n. n < 2 ^ 32) folds.now }
+    requires long { length folds.now ≡ length values.now }
+    requires most { halvings ≤ 8 }
+    requires halves { Halves order values.now halvings }
+    requires sums { 2 ^ halvings ≤ length sums.old }
+    requires widths { HasWidths order values.now 0 halvings widths.now }
+    requires places { 2 * 2 ^ halvings ≤ length widths.now }
+    ensures { IsTrue result → (f : Codings) → MayWrite halvings order values.now f → below ≤ residual_cost order values.now f }
+{
+    let bound = lower_bound(values, folds, order, halvings, sums, widths);
+    if bound >= below {
+        return true;
+    }
+    reaches(values, folds, order, halvings, sums, widths, bound, below)
 }

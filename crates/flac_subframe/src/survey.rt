@@ -12,7 +12,7 @@ use crate::cost::Priced;
 use crate::folding::fold_each;
 use crate::halves::{clear, compare, compare_down, copy};
 use crate::halving::{ResidualChoice, power};
-use crate::pruning::{lower_bound, reaches};
+use crate::pruning::is_too_dear;
 use crate::widths::measure;
 use arrayvec::ArrayVec;
 
@@ -224,9 +224,6 @@ fn tabulate(
     ensures entries { (p j : ℕ) → p ≤ halvings → j < 2 ^ p → LeastBelow 15 (part order values.now p j) (entry four.new p j) }
     ensures same { IsTrue result → (p j : ℕ) → p ≤ halvings → j < 2 ^ p → LeastBelow 31 (part order values.now p j) (entry four.new p j) }
     ensures more { (IsTrue result → ⊥) → (p j : ℕ) → p ≤ halvings → j < 2 ^ p → LeastBelow 31 (part order values.now p j) (entry five.new p j) }
-    ensures sums_long { length sums.new ≡ length sums.old }
-    ensures four_long { length four.new ≡ length four.old }
-    ensures five_long { length five.new ≡ length five.old }
 {
     let count = power(halvings);
     let row = &mut sums[..count];
@@ -271,9 +268,6 @@ fn survey(
     ensures small { result.bits ≤ 2 ^ 33 * 2 ^ 16 }
     ensures entries { (p j : ℕ) → p ≤ halvings → j < 2 ^ p → LeastBelow 15 (part order values.now p j) (entry four.new p j) }
     ensures more { result.parameter_bits ≢ 4 → (p j : ℕ) → p ≤ halvings → j < 2 ^ p → LeastBelow 31 (part order values.now p j) (entry five.new p j) }
-    ensures sums_long { length sums.new ≡ length sums.old }
-    ensures four_long { length four.new ≡ length four.old }
-    ensures five_long { length five.new ≡ length five.old }
 {
     let same = tabulate(values, folds, widths[1], order, halvings, sums, four, five);
     let first = best_order(values, order, halvings, 4, four, widths);
@@ -326,8 +320,85 @@ fn take_up(
     into.bits = 6 + bits;
 }
 
-/// Puts the residual form of the fewest bits for a predictor of an order into its place, if it takes fewer bits than `below`, and says
+/// The same at the method that was found, from the table of that method.
+fn take_found(
+    values: &[i64],
+    order: usize,
+    found: Found,
+    most: u8,
+    four: &[u64],
+    five: &[u64],
+    widths: &[u8],
+    into: &mut ResidualChoice,
+)
+    requires few { length values.now + order ≤ 65535 }
+    requires range { All IsResidual values.now }
+    requires method { (found.parameter_bits ≡ 4) ⊎ (found.parameter_bits ≡ 5) }
+    requires most { most ≤ 8 }
+    requires within { found.halvings ≤ most }
+    requires halves { Halves order values.now found.halvings }
+    requires four { 2 * 2 ^ found.halvings ≤ length four.now }
+    requires five { 2 * 2 ^ found.halvings ≤ length five.now }
+    requires entries { (j : ℕ) → j < 2 ^ found.halvings → LeastBelow 15 (part order values.now found.halvings j) (entry four.now found.halvings j) }
+    requires more { found.parameter_bits ≢ 4 → (j : ℕ) → j < 2 ^ found.halvings → LeastBelow 31 (part order values.now found.halvings j) (entry five.now found.halvings j) }
+    requires widths { HasWidths order values.now found.halvings found.halvings widths.now }
+    requires places { 2 * 2 ^ found.halvings ≤ length widths.now }
+    ensures least { IsLeast (HalvedTo found.parameter_bits found.halvings most order values.now) (residual_cost order values.now) (codings_of into.new) }
+    ensures bits { into.new.bits ≡ residual_cost order values.now (codings_of into.new) }
+{
+    if found.parameter_bits == 4 {
+        take_up(values, order, found, most, four, widths, into);
+    } else {
+        take_up(values, order, found, most, five, widths, into);
+    }
+}
+
+/// Puts the residual form of the fewest bits into its place, at most so often halved, if it takes fewer bits than `below`, and says
 /// whether it does. Cheap lower bounds come first, so that most predictors are refused before their parameters are tried.
+fn least_halved_into(
+    values: &[i64],
+    folds: &[u32],
+    order: usize,
+    halvings: u8,
+    sums: &mut [u64],
+    four: &mut [u64],
+    five: &mut [u64],
+    widths: &mut [u8],
+    below: u64,
+    into: &mut ResidualChoice,
+) -> bool
+    requires few { length values.now + order ≤ 65535 }
+    requires range { All IsResidual values.now }
+    requires folded { folds.now ≡ map folded values.now }
+    requires small { All (λ n. n < 2 ^ 32) folds.now }
+    requires long { length folds.now ≡ length values.now }
+    requires most { halvings ≤ 8 }
+    requires halves { Halves order values.now halvings }
+    requires sums { 2 ^ halvings ≤ length sums.old }
+    requires four { 2 * 2 ^ halvings ≤ length four.old }
+    requires five { 2 * 2 ^ halvings ≤ length five.old }
+    requires places { 2 * 2 ^ halvings ≤ length widths.old }
+    ensures least { IsTrue result → IsLeast (MayWrite halvings order values.now) (residual_cost order values.now) (codings_of into.new) }
+    ensures bits { IsTrue result → into.new.bits ≡ residual_cost order values.now (codings_of into.new) }
+    ensures less { IsTrue result → into.new.bits < below }
+    ensures small { IsTrue result → into.new.bits ≤ 2 ^ 49 }
+    ensures kept { (IsTrue result → ⊥) → into.new ≡ into.old }
+    ensures none { (IsTrue result → ⊥) → (f : Codings) → MayWrite halvings order values.now f → below ≤ residual_cost order values.now f }
+{
+    measure(values, folds, order, halvings, widths);
+    if is_too_dear(values, folds, order, halvings, sums, widths, below) {
+        return false;
+    }
+    let found = survey(values, folds, order, halvings, sums, four, five, widths);
+    if found.bits >= below {
+        return false;
+    }
+    take_found(values, order, found, halvings, four, five, widths, into);
+    true
+}
+
+/// Puts the residual form of the fewest bits for a predictor of an order into its place, if it takes fewer bits than `below`, and says
+/// whether it does.
 pub(crate) fn least_residual_into(
     values: &[i64],
     folds: &mut [u32],
@@ -355,31 +426,11 @@ pub(crate) fn least_residual_into(
     ensures small { IsTrue result → into.new.bits ≤ 2 ^ 49 }
     ensures kept { (IsTrue result → ⊥) → into.new ≡ into.old }
     ensures none { (IsTrue result → ⊥) → (f : Codings) → MayWrite most order values.now f → below ≤ residual_cost order values.now f }
-    ensures folds_long { length folds.new ≡ length folds.old }
-    ensures sums_long { length sums.new ≡ length sums.old }
-    ensures four_long { length four.new ≡ length four.old }
-    ensures five_long { length five.new ≡ length five.old }
-    ensures widths_long { length widths.new ≡ length widths.old }
 {
     let halvings = greatest_halvings(values, order, most);
     let folds = &mut folds[..values.len()];
     fold_each(values, folds);
-    measure(values, folds, order, halvings, widths);
-    let bound = lower_bound(values, folds, order, halvings, sums, widths);
-    if bound >= below {
-        return false;
-    }
-    if reaches(values, folds, order, halvings, sums, widths, bound, below) {
-        return false;
-    }
-    let found = survey(values, folds, order, halvings, sums, four, five, widths);
-    if found.bits >= below {
-        return false;
-    }
-    if found.parameter_bits == 4 {
-        take_up(values, order, found, halvings, four, widths, into);
-    } else {
-        take_up(values, order, found, halvings, five, widths, into);
-    }
-    true
+    least_halved_into(
+        values, folds, order, halvings, sums, four, five, widths, below, into,
+    )
 }

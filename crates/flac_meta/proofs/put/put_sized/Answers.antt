@@ -2,8 +2,9 @@ use Rattle.std.proofs.Common.{◌∷◌, [], refl}
 use Rattle.std.proofs.lemmas.Result.{err_from_is_err_and}
 use Rattle.flac_bits.specs.Bits.{bits_of}
 use Rattle.flac_bits.specs.Forms.{joined}
-use Rattle.flac_bits.proofs.Writing.{towards_start, towards_more, towards_end, towards_fail}
+use Rattle.flac_bits.proofs.Writing.{towards_start, towards_more, towards_fail}
 use Rattle.flac_meta.specs.Spelling as s
+use Rattle.flac_meta.proofs.Steps.{towards_done}
 use Rattle.flac_meta.proofs.put.put_sized.Goals as goal
 
 pub returns-in_err-put : goal.returns-in_err-put
@@ -12,13 +13,6 @@ returns-in_err-put g c =
     let p = err_from_is_err_and c.from_residual.result c.from_residual.ensures.1 in
     rw (p.1, p.2) (towards_fail _ (joined (bits_of c.args.bytes.now ∷ [])) refl (towards_start _ c.args.writer.now) c.in_err-put.ensures)
 
-pub returns-in_err-put_bytes : goal.returns-in_err-put_bytes
-unfolding s.sized_bits
-returns-in_err-put_bytes g c =
-    let p = err_from_is_err_and c.from_residual-in_err-put_bytes.result c.from_residual-in_err-put_bytes.ensures.1 in
-    rw (p.1, p.2) (towards_fail _ ([]) refl (towards_more (joined (bits_of c.args.bytes.now ∷ [])) refl (towards_start _ c.args.writer.now) c.in_ok-put.ensures) c.in_err-put_bytes.ensures)
-
 pub returns : goal.returns
 unfolding s.sized_bits
-returns g c =
-    (towards_end refl (towards_more ([]) refl (towards_more (joined (bits_of c.args.bytes.now ∷ [])) refl (towards_start _ c.args.writer.now) c.in_ok-put.ensures) c.in_ok-put_bytes.ensures))
+returns g c = towards_done (bits_of c.args.bytes.now) c.put_bytes.new.self c.put_bytes.result (towards_more (joined (bits_of c.args.bytes.now ∷ [])) refl (towards_start _ c.args.writer.now) c.in_ok-put.ensures) c.put_bytes.ensures

@@ -2,9 +2,9 @@ use Rattle.std.proofs.Common.{◌∷◌, [], refl}
 use Rattle.std.proofs.lemmas.Result.{err_from_is_err_and}
 use Rattle.flac_bits.specs.Bits.{unsigned}
 use Rattle.flac_bits.specs.Forms.{joined}
-use Rattle.flac_bits.proofs.Writing.{towards_start, towards_more, towards_end, towards_fail}
+use Rattle.flac_bits.proofs.Writing.{towards_start, towards_more, towards_fail}
 use Rattle.flac_meta.specs.Spelling as s
-use Rattle.flac_meta.proofs.Steps.{fields_are}
+use Rattle.flac_meta.proofs.Steps.{fields_are, towards_done}
 use Rattle.flac_meta.proofs.put_lists.put_picture.Goals as goal
 
 pub returns-in_err-put : goal.returns-in_err-put
@@ -31,13 +31,6 @@ returns-in_err-put_fields g c =
     let p = err_from_is_err_and c.from_residual-in_err-put_fields.result c.from_residual-in_err-put_fields.ensures.1 in
     rw (p.1, p.2, ← c.as_slice-media.ensures, ← c.as_slice-text.ensures, ← c.as_slice-bytes.ensures) (towards_fail _ (joined (s.sized_bits c.as_slice-bytes.result.now ∷ [])) (fields_are _ (joined (s.sized_bits c.as_slice-bytes.result.now ∷ [])) _ refl) (towards_more (joined (unsigned 32 c.args.picture.now.width ∷ unsigned 32 c.args.picture.now.height ∷ unsigned 32 c.args.picture.now.depth ∷ unsigned 32 c.args.picture.now.colours ∷ s.sized_bits c.as_slice-bytes.result.now ∷ [])) refl (towards_more (joined (s.sized_bits c.as_slice-text.result.now ∷ unsigned 32 c.args.picture.now.width ∷ unsigned 32 c.args.picture.now.height ∷ unsigned 32 c.args.picture.now.depth ∷ unsigned 32 c.args.picture.now.colours ∷ s.sized_bits c.as_slice-bytes.result.now ∷ [])) refl (towards_more (joined (s.sized_bits c.as_slice-media.result.now ∷ s.sized_bits c.as_slice-text.result.now ∷ unsigned 32 c.args.picture.now.width ∷ unsigned 32 c.args.picture.now.height ∷ unsigned 32 c.args.picture.now.depth ∷ unsigned 32 c.args.picture.now.colours ∷ s.sized_bits c.as_slice-bytes.result.now ∷ [])) refl (towards_start _ c.args.writer.now) c.in_ok-put.ensures) c.in_ok-put_sized.ensures) c.in_ok-put_sized-2.ensures) c.in_err-put_fields.ensures)
 
-pub returns-in_err-put_sized-3 : goal.returns-in_err-put_sized-3
-unfolding s.picture_spelling
-returns-in_err-put_sized-3 g c =
-    let p = err_from_is_err_and c.from_residual-in_err-put_sized-3.result c.from_residual-in_err-put_sized-3.ensures.1 in
-    rw (p.1, p.2, ← c.as_slice-media.ensures, ← c.as_slice-text.ensures, ← c.as_slice-bytes.ensures) (towards_fail _ ([]) refl (towards_more (joined (s.sized_bits c.as_slice-bytes.result.now ∷ [])) (fields_are _ (joined (s.sized_bits c.as_slice-bytes.result.now ∷ [])) _ refl) (towards_more (joined (unsigned 32 c.args.picture.now.width ∷ unsigned 32 c.args.picture.now.height ∷ unsigned 32 c.args.picture.now.depth ∷ unsigned 32 c.args.picture.now.colours ∷ s.sized_bits c.as_slice-bytes.result.now ∷ [])) refl (towards_more (joined (s.sized_bits c.as_slice-text.result.now ∷ unsigned 32 c.args.picture.now.width ∷ unsigned 32 c.args.picture.now.height ∷ unsigned 32 c.args.picture.now.depth ∷ unsigned 32 c.args.picture.now.colours ∷ s.sized_bits c.as_slice-bytes.result.now ∷ [])) refl (towards_more (joined (s.sized_bits c.as_slice-media.result.now ∷ s.sized_bits c.as_slice-text.result.now ∷ unsigned 32 c.args.picture.now.width ∷ unsigned 32 c.args.picture.now.height ∷ unsigned 32 c.args.picture.now.depth ∷ unsigned 32 c.args.picture.now.colours ∷ s.sized_bits c.as_slice-bytes.result.now ∷ [])) refl (towards_start _ c.args.writer.now) c.in_ok-put.ensures) c.in_ok-put_sized.ensures) c.in_ok-put_sized-2.ensures) c.in_ok-put_fields.ensures) c.in_err-put_sized-3.ensures)
-
 pub returns : goal.returns
 unfolding s.picture_spelling
-returns g c =
-    rw (← c.as_slice-media.ensures, ← c.as_slice-text.ensures, ← c.as_slice-bytes.ensures) (towards_end refl (towards_more ([]) refl (towards_more (joined (s.sized_bits c.as_slice-bytes.result.now ∷ [])) (fields_are _ (joined (s.sized_bits c.as_slice-bytes.result.now ∷ [])) _ refl) (towards_more (joined (unsigned 32 c.args.picture.now.width ∷ unsigned 32 c.args.picture.now.height ∷ unsigned 32 c.args.picture.now.depth ∷ unsigned 32 c.args.picture.now.colours ∷ s.sized_bits c.as_slice-bytes.result.now ∷ [])) refl (towards_more (joined (s.sized_bits c.as_slice-text.result.now ∷ unsigned 32 c.args.picture.now.width ∷ unsigned 32 c.args.picture.now.height ∷ unsigned 32 c.args.picture.now.depth ∷ unsigned 32 c.args.picture.now.colours ∷ s.sized_bits c.as_slice-bytes.result.now ∷ [])) refl (towards_more (joined (s.sized_bits c.as_slice-media.result.now ∷ s.sized_bits c.as_slice-text.result.now ∷ unsigned 32 c.args.picture.now.width ∷ unsigned 32 c.args.picture.now.height ∷ unsigned 32 c.args.picture.now.depth ∷ unsigned 32 c.args.picture.now.colours ∷ s.sized_bits c.as_slice-bytes.result.now ∷ [])) refl (towards_start _ c.args.writer.now) c.in_ok-put.ensures) c.in_ok-put_sized.ensures) c.in_ok-put_sized-2.ensures) c.in_ok-put_fields.ensures) c.in_ok-put_sized-3.ensures))
+returns g c = rw (← c.as_slice-media.ensures, ← c.as_slice-text.ensures, ← c.as_slice-bytes.ensures) (towards_done (s.sized_bits c.as_slice-bytes.result.now) c.put_sized-3.new.writer c.put_sized-3.result (towards_more (joined (s.sized_bits c.as_slice-bytes.result.now ∷ [])) (fields_are _ (joined (s.sized_bits c.as_slice-bytes.result.now ∷ [])) _ refl) (towards_more (joined (unsigned 32 c.args.picture.now.width ∷ unsigned 32 c.args.picture.now.height ∷ unsigned 32 c.args.picture.now.depth ∷ unsigned 32 c.args.picture.now.colours ∷ s.sized_bits c.as_slice-bytes.result.now ∷ [])) refl (towards_more (joined (s.sized_bits c.as_slice-text.result.now ∷ unsigned 32 c.args.picture.now.width ∷ unsigned 32 c.args.picture.now.height ∷ unsigned 32 c.args.picture.now.depth ∷ unsigned 32 c.args.picture.now.colours ∷ s.sized_bits c.as_slice-bytes.result.now ∷ [])) refl (towards_more (joined (s.sized_bits c.as_slice-media.result.now ∷ s.sized_bits c.as_slice-text.result.now ∷ unsigned 32 c.args.picture.now.width ∷ unsigned 32 c.args.picture.now.height ∷ unsigned 32 c.args.picture.now.depth ∷ unsigned 32 c.args.picture.now.colours ∷ s.sized_bits c.as_slice-bytes.result.now ∷ [])) refl (towards_start _ c.args.writer.now) c.in_ok-put.ensures) c.in_ok-put_sized.ensures) c.in_ok-put_sized-2.ensures) c.in_ok-put_fields.ensures) c.put_sized-3.ensures)

@@ -12,26 +12,26 @@ order_is order h = sym (length-fixed order h)
 before_is : (bits order from : ℕ) → order ≤ 4 → from ≡ bits → from * order ≡ bits * length (fixed_coefficients order) + 0
 before_is bits order from h e = rw (e, length-fixed order h) (omega arith)
 
-pub returns-then-order-samples-clause-best : goal.returns-then-order-samples-clause-best
-returns-then-order-samples-clause-best c = λ tried so.
+pub returns-then-order-samples : goal.returns-then-order-samples
+returns-then-order-samples c = λ tried so.
     let o = c.args.order in
     too_long c.args.most c.args.bits c.args.samples.now tried (tried ++ fixed o ∷ []) (fixed o) refl (fixed_coefficients o) 0 o (c.args.bits * o) refl refl (order_is o c.requires.order) (before_is c.args.bits o c.args.bits c.requires.order refl)
     (priced_as c.args.best.now) so c.if-order-samples.true
 
-pub returns-then-not-take_differences-clause-best : goal.returns-then-not-take_differences-clause-best
-returns-then-not-take_differences-clause-best c = λ tried so.
+pub returns-then-not-take_differences : goal.returns-then-not-take_differences
+returns-then-not-take_differences c = λ tried so.
     let o = c.args.order in
     out_of_range c.args.most c.args.bits c.args.samples.now tried (tried ++ fixed o ∷ []) (fixed o) refl (fixed_coefficients o) 0 o (c.args.bits * o) refl refl (order_is o c.requires.order) (before_is c.args.bits o c.args.bits c.requires.order refl)
     (priced_as c.args.best.now) so (λ all. cc (c.take_differences.ensures.range.1 all, c.if-not-take_differences.true))
 
-pub returns-then-limit-before-clause-best : goal.returns-then-limit-before-clause-best
-returns-then-limit-before-clause-best c = λ tried so.
+pub returns-then-limit-before : goal.returns-then-limit-before
+returns-then-limit-before c = λ tried so.
     let o = c.args.order in
     too_dear c.args.most c.args.bits c.args.samples.now tried (tried ++ fixed o ∷ []) (fixed o) refl (fixed_coefficients o) 0 o (c.from.result * o) refl refl (order_is o c.requires.order) (before_is c.args.bits o c.from.result c.requires.order c.from.ensures)
     (priced_as c.args.best.now) so (omega (arith, c.if-limit-before.true, c.limit-limit.ensures.0))
 
-pub returns-then-least_residual_into-clause-best : goal.returns-then-least_residual_into-clause-best
-returns-then-least_residual_into-clause-best c = λ tried so.
+pub returns-then-least_residual_into : goal.returns-then-least_residual_into
+returns-then-least_residual_into c = λ tried so.
     let o = c.args.order in
     let is = c.take_differences.ensures.all in
     let range = c.take_differences.ensures.range.0 c.if-not-take_differences.false in
@@ -43,8 +43,8 @@ returns-then-least_residual_into-clause-best c = λ tried so.
     better c.args.most c.args.bits c.args.samples.now tried (tried ++ fixed o ∷ []) (fixed o) refl (fixed_coefficients o) 0 o (c.from.result * o) refl refl (order_is o c.requires.order) (before_is c.args.bits o c.from.result c.requires.order c.from.ensures)
     (priced_as c.args.best.now) so r _ (omega arith) range least bits small refl (omega (arith, less, c.limit-limit.ensures.1)) refl
 
-pub returns-else-least_residual_into-clause-best : goal.returns-else-least_residual_into-clause-best
-returns-else-least_residual_into-clause-best c = λ tried so.
+pub returns-else-least_residual_into : goal.returns-else-least_residual_into
+returns-else-least_residual_into c = λ tried so.
     let o = c.args.order in
     let is = c.take_differences.ensures.all in
     let kept = c.if-least_residual_into.ensures.kept (λ t. cc) in

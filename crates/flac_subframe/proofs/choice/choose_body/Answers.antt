@@ -10,13 +10,13 @@ better_fixed-requires-clause-small c = (c.begin-best.ensures c.args.most).small
 
 pub loop-order-init : goal.loop-order-init
 loop-order-init c = record {
-  best = c.better_fixed.ensures.best (fixed_below 0) (c.begin-best.ensures c.args.most);
-  values = c.better_fixed.ensures.values_long;
-  folds = c.better_fixed.ensures.folds_long;
-  sums = c.better_fixed.ensures.sums_long;
-  four = c.better_fixed.ensures.four_long;
-  five = c.better_fixed.ensures.five_long;
-  widths = c.better_fixed.ensures.widths_long;
+  best = c.better_fixed.ensures (fixed_below 0) (c.begin-best.ensures c.args.most);
+  values = c.better_fixed.auto.values;
+  folds = c.better_fixed.auto.folds;
+  sums = c.better_fixed.auto.sums;
+  four = c.better_fixed.auto.four;
+  five = c.better_fixed.auto.five;
+  widths = c.better_fixed.auto.widths;
 }
 
 pub loop-order-preserved : goal.loop-order-preserved
@@ -26,15 +26,15 @@ loop-order-preserved c =
     let so = c.loop-order.invariant in
     elim c.if-order-first.branch [
       | then-order-first w ↦
-          let new = w.better_fixed-then-order-first.ensures in
+          let new = w.better_fixed-then-order-first in
           record {
-            best = rw w.best-is (next_tried most bits s _ first order (new.best (fixed first ∷ fixed_below order) so.best));
-            values = rw w.values-is (new.values_long ∙ so.values);
-            folds = rw w.folds-is (new.folds_long ∙ so.folds);
-            sums = rw w.sums-is (new.sums_long ∙ so.sums);
-            four = rw w.four-is (new.four_long ∙ so.four);
-            five = rw w.five-is (new.five_long ∙ so.five);
-            widths = rw w.widths-is (new.widths_long ∙ so.widths);
+            best = rw w.best-is (next_tried most bits s _ first order (new.ensures (fixed first ∷ fixed_below order) so.best));
+            values = rw w.values-is (new.auto.values ∙ so.values);
+            folds = rw w.folds-is (new.auto.folds ∙ so.folds);
+            sums = rw w.sums-is (new.auto.sums ∙ so.sums);
+            four = rw w.four-is (new.auto.four ∙ so.four);
+            five = rw w.five-is (new.auto.five ∙ so.five);
+            widths = rw w.widths-is (new.auto.widths ∙ so.widths);
           }
       | else-order-first w ↦
           let e : order ≡ first = omega arith in

@@ -1,5 +1,7 @@
 use Rattle.std.proofs.Common.{length, arith, ◌-◌, sym, ◌∙◌}
 use borrow.Rule.Slice.PartMut.{mid_of, same_len_mid}
+use Rattle.std.proofs.lemmas.Result.{err_from_is_err_and}
+use Rattle.flac_bits.proofs.Counting.{failed_then, gone}
 use Rattle.flac_subframe.proofs.Parts.{parts_start, parts_next, parts_fail, parts_fit, parts_read, cuts_within, length_mid}
 use Rattle.flac_subframe.proofs.residual.read_partitions.Goals as goal
 
@@ -15,14 +17,21 @@ loop-i-preserved g c =
     c.read_partition.auto.out (same_len_mid c.loop-i.start (c.loop-i.end - c.loop-i.start) c.loop-i.out c.read_partition.new.out c.read_partition.auto.out)
     c.in_ok-read_partition.ensures.fits c.in_ok-read_partition.ensures.spends c.in_ok-read_partition.ensures.counts c.in_ok-read_partition.ensures.reads
 
-pub returns-in_err-read_partition-clause-reads : goal.returns-in_err-read_partition-clause-reads
-returns-in_err-read_partition-clause-reads g c = λ known same.
+pub returns-in_err-read_partition : goal.returns-in_err-read_partition
+returns-in_err-read_partition g c =
     let so = c.loop-i.invariant in
     let within = cuts_within c.args.order c.args.size c.args.count (length c.loop-i.out) c.loop-i.start c.loop-i.end c.loop-i.i c.loop-i-test.true so.cuts in
-    let fails = c.in_err-read_partition.ensures.reads (so.goes.known known) (same ∙ sym so.goes.errors) in
-    let whole = parts_fail c.args.parameter_bits c.args.order c.args.size c.args.count c.args.bits.now c.loop-i.bits c.read_partition.new.bits c.loop-i.out c.read_partition.new.out c.loop-i.start c.loop-i.end c.loop-i.i
-    (length (mid_of c.loop-i.start (c.loop-i.end - c.loop-i.start) c.loop-i.out)) c.loop-i-test.true so (length_mid c.loop-i.start c.loop-i.end c.loop-i.out so.cuts.ordered within) _ fails known in
-    grind (arith, whole)
+    let p = err_from_is_err_and c.from_residual.result c.from_residual.ensures.1 in
+    rw (p.1, p.2) (record {
+      fits = tt;
+      spends = tt;
+      counts = failed_then c.args.bits.now c.loop-i.bits c.read_partition.new.bits (gone so.goes) c.in_err-read_partition.ensures.counts;
+      memory = c.in_err-read_partition.ensures.memory;
+      reads = λ known same.
+          let fails = c.in_err-read_partition.ensures.reads (so.goes.known known) (same ∙ sym so.goes.errors) in
+          parts_fail c.args.parameter_bits c.args.order c.args.size c.args.count c.args.bits.now c.loop-i.bits c.read_partition.new.bits c.loop-i.out c.read_partition.new.out c.loop-i.start c.loop-i.end c.loop-i.i
+          (length (mid_of c.loop-i.start (c.loop-i.end - c.loop-i.start) c.loop-i.out)) c.loop-i-test.true so (length_mid c.loop-i.start c.loop-i.end c.loop-i.out so.cuts.ordered within) _ fails known;
+    })
 
 pub returns-clause-fits : goal.returns-clause-fits
 returns-clause-fits g c = parts_fit c.args.parameter_bits c.args.order c.args.size c.args.count c.args.bits.now c.loop-i.bits c.loop-i.out c.loop-i.start c.loop-i.end c.loop-i.i (omega (arith, c.requires.some, c.loop-i-test.false)) c.loop-i-test.false c.loop-i.invariant

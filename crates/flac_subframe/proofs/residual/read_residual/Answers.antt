@@ -1,15 +1,37 @@
 use Rattle.std.proofs.Common.{arith, sym, ◌∙◌, ◌+◌, length, ℕ}
-use Rattle.flac_subframe.proofs.Predicted.{residual_run}
+use Rattle.std.proofs.lemmas.Result.{err_from_is_err_and}
+use Rattle.flac_bits.proofs.Counting.{answered_then, failed_then}
+use Rattle.flac_subframe.proofs.Predicted.{residual_run, residual_fails}
 use Rattle.flac_subframe.proofs.residual.read_residual.Goals as goal
 
-pub returns-in_err-read_partitions-clause-reads : goal.returns-in_err-read_partitions-clause-reads
-returns-in_err-read_partitions-clause-reads g c = λ known same.
+pub returns-in_err-method : goal.returns-in_err-method
+returns-in_err-method g c =
+    let p = err_from_is_err_and c.from_residual.result c.from_residual.ensures.1 in
+    rw (p.1, p.2) (record {
+      fits = tt;
+      spends = tt;
+      counts = c.in_err-method.ensures.counts;
+      memory = c.in_err-method.ensures.memory;
+      reads = λ known same. residual_fails c.args.limit c.args.order (length c.args.out.now + c.args.order) c.args.bits.now.cursor _ (c.in_err-method.ensures.reads known same);
+    })
+
+pub returns-in_err-read_partitions : goal.returns-in_err-read_partitions
+returns-in_err-read_partitions g c =
     let counts = c.in_ok-method.ensures.counts in
     let h : ℕ × ℕ = (c.in_ok-method.method, c.in_ok-method.times) in
-    let fails = c.in_err-read_partitions.ensures.reads (counts.0 known) (same ∙ sym counts.1) in
-    let whole = residual_run c.args.limit c.args.order (length c.args.out.now + c.args.order) h c.args.bits.now.cursor c.read_residual_header.new.bits.cursor (c.in_ok-method.ensures.reads known counts.1)
-    ∙ (rw c.partition_count-count.ensures at fails) in
-    grind (arith, whole)
+    let p = err_from_is_err_and c.from_residual-in_err-read_partitions.result c.from_residual-in_err-read_partitions.ensures.1 in
+    rw (p.1, p.2) (record {
+      fits = tt;
+      spends = tt;
+      counts = failed_then c.args.bits.now c.read_residual_header.new.bits c.read_partitions.new.bits counts c.in_err-read_partitions.ensures.counts;
+      memory = c.in_err-read_partitions.ensures.memory;
+      reads = λ known same.
+          residual_run c.args.limit c.args.order (length c.args.out.now + c.args.order) h c.args.bits.now.cursor c.read_residual_header.new.bits.cursor (c.in_ok-method.ensures.reads known counts.1)
+          ∙ (rw c.partition_count-count.ensures at (c.in_err-read_partitions.ensures.reads (counts.0 known) (same ∙ sym counts.1)));
+    })
+
+pub returns-clause-counts : goal.returns-clause-counts
+returns-clause-counts g c = answered_then c.args.bits.now c.read_residual_header.new.bits c.read_partitions.new.bits c.in_ok-method.ensures.counts c.in_ok-read_partitions.ensures.counts
 
 pub returns-clause-reads : goal.returns-clause-reads
 returns-clause-reads g c = λ known same.

@@ -1,60 +1,116 @@
-use Rattle.std.proofs.Common.{rules}
+use Rattle.std.proofs.Common.{rules, refl, ℕ, nat_eq, nat_lt, not, ◌||◌, ◌&&◌, ◌∷◌, [], Result, Ok}
 use Rattle.std.proofs.lemmas.Result.{err_from_is_err_and}
 use Rattle.flac_bits.proofs.Counting.{answered_then, failed_then, refused_then}
-use Rattle.flac_subframe.specs.Subframe.{header}
+use Rattle.flac_bits.proofs.Telling.{told_then, told_fault}
+use Rattle.flac_subframe.proofs.Judged.{told_past, told_broken}
+use Rattle.flac_bits.specs.State.{Cursor}
+use Rattle.flac_bits.specs.Layout.{Reason, unless_broken}
+use Rattle.flac_bits.specs.declared.why.Why.TheVariants.{NotSubset, BadSubframe, BadPartition}
+use Rattle.flac_subframe.specs.Subframe.{header, is_reserved, linear_order, predictor_order}
 use Rattle.flac_subframe.proofs.subframe.read_header.Goals as goal
 
-pub returns-in_err-kind-clause-counts : goal.returns-in_err-kind-clause-counts
-returns-in_err-kind-clause-counts g c =
+-- the rules at the end of the flag
+abbrev judged : ℕ → ℕ → ℕ → ℕ → ℕ → ℕ → Cursor → Result (Unit {0} × Cursor) Reason
+judged first kind flag depth block most d = unless_broken (
+    record { broken = nat_eq first 1 || (is_reserved kind || (nat_eq flag 1 && nat_lt depth 2)); why = BadSubframe } ∷
+    record { broken = nat_lt most (linear_order kind); why = NotSubset } ∷
+    record { broken = not (nat_lt (predictor_order kind) block); why = BadPartition } ∷ []) (Ok (tt, d))
+
+pub returns-in_err-zero : goal.returns-in_err-zero
+unfolding header
+returns-in_err-zero g c =
+    let p = err_from_is_err_and c.from_residual.result c.from_residual.ensures.1 in
+    rw (p.1, p.2) (record {
+      kind = tt;
+      order = tt;
+      left = tt;
+      spends = tt;
+      counts = c.in_err-zero.ensures.counts;
+      memory = c.in_err-zero.ensures.memory;
+      reads = told_fault c.args.bits.now c.take.new.self _ c.in_err-zero.ensures.reads;
+    })
+
+pub returns-in_err-kind : goal.returns-in_err-kind
+unfolding header
+returns-in_err-kind g c =
     let p = err_from_is_err_and c.from_residual-in_err-kind.result c.from_residual-in_err-kind.ensures.1 in
-    rw (p.1, p.2) (failed_then c.args.bits.now c.take.new.self c.take-2.new.self c.in_ok-zero.ensures.counts c.in_err-kind.ensures.counts)
+    rw (p.1, p.2) (record {
+      kind = tt;
+      order = tt;
+      left = tt;
+      spends = tt;
+      counts = failed_then c.args.bits.now c.take.new.self c.take-2.new.self c.in_ok-zero.ensures.counts c.in_err-kind.ensures.counts;
+      memory = c.in_err-kind.ensures.memory;
+      reads = told_then c.args.bits.now c.take.new.self c.take-2.new.self _ c.in_ok-zero.ensures.counts c.in_ok-zero.ensures.reads (told_fault c.take.new.self c.take-2.new.self _ c.in_err-kind.ensures.reads);
+    })
 
-pub returns-in_err-flag-clause-counts : goal.returns-in_err-flag-clause-counts
-returns-in_err-flag-clause-counts g c =
+pub returns-in_err-flag : goal.returns-in_err-flag
+unfolding header
+returns-in_err-flag g c =
     let p = err_from_is_err_and c.from_residual-in_err-flag.result c.from_residual-in_err-flag.ensures.1 in
-    rw (p.1, p.2) (failed_then c.args.bits.now c.take.new.self c.take-3.new.self c.in_ok-zero.ensures.counts (failed_then c.take.new.self c.take-2.new.self c.take-3.new.self c.in_ok-kind.ensures.counts c.in_err-flag.ensures.counts))
+    rw (p.1, p.2) (record {
+      kind = tt;
+      order = tt;
+      left = tt;
+      spends = tt;
+      counts = failed_then c.args.bits.now c.take.new.self c.take-3.new.self c.in_ok-zero.ensures.counts (failed_then c.take.new.self c.take-2.new.self c.take-3.new.self c.in_ok-kind.ensures.counts c.in_err-flag.ensures.counts);
+      memory = c.in_err-flag.ensures.memory;
+      reads = told_then c.args.bits.now c.take.new.self c.take-3.new.self _ c.in_ok-zero.ensures.counts c.in_ok-zero.ensures.reads (told_then c.take.new.self c.take-2.new.self c.take-3.new.self _ c.in_ok-kind.ensures.counts c.in_ok-kind.ensures.reads (told_fault c.take-2.new.self c.take-3.new.self _ c.in_err-flag.ensures.reads));
+    })
 
-pub returns-in_err-wasted-clause-counts : goal.returns-in_err-wasted-clause-counts
-returns-in_err-wasted-clause-counts g c =
+pub returns-in_err-wasted : goal.returns-in_err-wasted
+unfolding header
+returns-in_err-wasted g c =
     let p = err_from_is_err_and c.from_residual-in_err-wasted.result c.from_residual-in_err-wasted.ensures.1 in
-    rw (p.1, p.2) (failed_then c.args.bits.now c.take.new.self c.read_wasted.new.bits c.in_ok-zero.ensures.counts (failed_then c.take.new.self c.take-2.new.self c.read_wasted.new.bits c.in_ok-kind.ensures.counts (failed_then c.take-2.new.self c.take-3.new.self c.read_wasted.new.bits c.in_ok-flag.ensures.counts c.in_err-wasted.ensures.counts)))
+    rw (p.1, p.2) (record {
+      kind = tt;
+      order = tt;
+      left = tt;
+      spends = tt;
+      counts = failed_then c.args.bits.now c.take.new.self c.read_wasted.new.bits c.in_ok-zero.ensures.counts (failed_then c.take.new.self c.take-2.new.self c.read_wasted.new.bits c.in_ok-kind.ensures.counts (failed_then c.take-2.new.self c.take-3.new.self c.read_wasted.new.bits c.in_ok-flag.ensures.counts c.in_err-wasted.ensures.counts));
+      memory = c.in_err-wasted.ensures.memory;
+      reads = told_then c.args.bits.now c.take.new.self c.read_wasted.new.bits _ c.in_ok-zero.ensures.counts c.in_ok-zero.ensures.reads (told_then c.take.new.self c.take-2.new.self c.read_wasted.new.bits _ c.in_ok-kind.ensures.counts c.in_ok-kind.ensures.reads (told_then c.take-2.new.self c.take-3.new.self c.read_wasted.new.bits _ c.in_ok-flag.ensures.counts c.in_ok-flag.ensures.reads (told_past {read = judged c.in_ok-zero.zero c.in_ok-kind.kind c.in_ok-flag.flag c.args.depth c.args.block c.args.limits.now.linear c.take-3.new.self.cursor} c.take-3.new.self c.read_wasted.new.bits c.take-3.new.self.cursor _ (search rules) (told_fault c.take-3.new.self c.read_wasted.new.bits _ c.in_err-wasted.ensures.reads))));
+    })
 
-pub returns-then-zero-eq1-clause-counts : goal.returns-then-zero-eq1-clause-counts
-returns-then-zero-eq1-clause-counts g c = refused_then c.args.bits.now c.take-3.new.self (answered_then c.args.bits.now c.take.new.self c.take-3.new.self c.in_ok-zero.ensures.counts (answered_then c.take.new.self c.take-2.new.self c.take-3.new.self c.in_ok-kind.ensures.counts c.in_ok-flag.ensures.counts)) (λ q. cc)
+pub returns-then-zero-eq1 : goal.returns-then-zero-eq1
+unfolding header
+returns-then-zero-eq1 g c = record {
+  kind = tt;
+  order = tt;
+  left = tt;
+  spends = tt;
+  counts = refused_then c.args.bits.now c.take-3.new.self (answered_then c.args.bits.now c.take.new.self c.take-3.new.self c.in_ok-zero.ensures.counts (answered_then c.take.new.self c.take-2.new.self c.take-3.new.self c.in_ok-kind.ensures.counts c.in_ok-flag.ensures.counts)) (λ q. cc);
+  memory = λ q. cc;
+  reads = told_then c.args.bits.now c.take.new.self c.take-3.new.self _ c.in_ok-zero.ensures.counts c.in_ok-zero.ensures.reads (told_then c.take.new.self c.take-2.new.self c.take-3.new.self _ c.in_ok-kind.ensures.counts c.in_ok-kind.ensures.reads (told_then c.take-2.new.self c.take-3.new.self c.take-3.new.self _ c.in_ok-flag.ensures.counts c.in_ok-flag.ensures.reads (told_broken {read = judged c.in_ok-zero.zero c.in_ok-kind.kind c.in_ok-flag.flag c.args.depth c.args.block c.args.limits.now.linear c.take-3.new.self.cursor} c.take-3.new.self c.take-3.new.self _ (search rules))));
+}
 
-pub returns-then-saturating_sub-from-clause-counts : goal.returns-then-saturating_sub-from-clause-counts
-returns-then-saturating_sub-from-clause-counts g c = refused_then c.args.bits.now c.take-3.new.self (answered_then c.args.bits.now c.take.new.self c.take-3.new.self c.in_ok-zero.ensures.counts (answered_then c.take.new.self c.take-2.new.self c.take-3.new.self c.in_ok-kind.ensures.counts c.in_ok-flag.ensures.counts)) (λ q. cc)
+pub returns-then-saturating_sub-from : goal.returns-then-saturating_sub-from
+unfolding header
+returns-then-saturating_sub-from g c = record {
+  kind = tt;
+  order = tt;
+  left = tt;
+  spends = tt;
+  counts = refused_then c.args.bits.now c.take-3.new.self (answered_then c.args.bits.now c.take.new.self c.take-3.new.self c.in_ok-zero.ensures.counts (answered_then c.take.new.self c.take-2.new.self c.take-3.new.self c.in_ok-kind.ensures.counts c.in_ok-flag.ensures.counts)) (λ q. cc);
+  memory = λ q. cc;
+  reads = told_then c.args.bits.now c.take.new.self c.take-3.new.self _ c.in_ok-zero.ensures.counts c.in_ok-zero.ensures.reads (told_then c.take.new.self c.take-2.new.self c.take-3.new.self _ c.in_ok-kind.ensures.counts c.in_ok-kind.ensures.reads (told_then c.take-2.new.self c.take-3.new.self c.take-3.new.self _ c.in_ok-flag.ensures.counts c.in_ok-flag.ensures.reads (told_broken {read = judged c.in_ok-zero.zero c.in_ok-kind.kind c.in_ok-flag.flag c.args.depth c.args.block c.args.limits.now.linear c.take-3.new.self.cursor} c.take-3.new.self c.take-3.new.self _ (search rules))));
+}
 
-pub returns-then-predictor_order-block-clause-counts : goal.returns-then-predictor_order-block-clause-counts
-returns-then-predictor_order-block-clause-counts g c = refused_then c.args.bits.now c.take-3.new.self (answered_then c.args.bits.now c.take.new.self c.take-3.new.self c.in_ok-zero.ensures.counts (answered_then c.take.new.self c.take-2.new.self c.take-3.new.self c.in_ok-kind.ensures.counts c.in_ok-flag.ensures.counts)) (λ q. cc)
+pub returns-then-predictor_order-block : goal.returns-then-predictor_order-block
+unfolding header
+returns-then-predictor_order-block g c = record {
+  kind = tt;
+  order = tt;
+  left = tt;
+  spends = tt;
+  counts = refused_then c.args.bits.now c.take-3.new.self (answered_then c.args.bits.now c.take.new.self c.take-3.new.self c.in_ok-zero.ensures.counts (answered_then c.take.new.self c.take-2.new.self c.take-3.new.self c.in_ok-kind.ensures.counts c.in_ok-flag.ensures.counts)) (λ q. cc);
+  memory = λ q. cc;
+  reads = told_then c.args.bits.now c.take.new.self c.take-3.new.self _ c.in_ok-zero.ensures.counts c.in_ok-zero.ensures.reads (told_then c.take.new.self c.take-2.new.self c.take-3.new.self _ c.in_ok-kind.ensures.counts c.in_ok-kind.ensures.reads (told_then c.take-2.new.self c.take-3.new.self c.take-3.new.self _ c.in_ok-flag.ensures.counts c.in_ok-flag.ensures.reads (told_broken {read = judged c.in_ok-zero.zero c.in_ok-kind.kind c.in_ok-flag.flag c.args.depth c.args.block c.args.limits.now.linear c.take-3.new.self.cursor} c.take-3.new.self c.take-3.new.self _ (search rules))));
+}
 
 pub returns-clause-counts : goal.returns-clause-counts
 returns-clause-counts g c = answered_then c.args.bits.now c.take.new.self c.read_wasted.new.bits c.in_ok-zero.ensures.counts (answered_then c.take.new.self c.take-2.new.self c.read_wasted.new.bits c.in_ok-kind.ensures.counts (answered_then c.take-2.new.self c.take-3.new.self c.read_wasted.new.bits c.in_ok-flag.ensures.counts c.in_ok-wasted.ensures.counts))
 
-pub returns-in_err-zero-clause-reads : goal.returns-in_err-zero-clause-reads
-unfolding header
-returns-in_err-zero-clause-reads g c = search rules
-
-pub returns-in_err-kind-clause-reads : goal.returns-in_err-kind-clause-reads
-unfolding header
-returns-in_err-kind-clause-reads g c = search rules
-
-pub returns-in_err-flag-clause-reads : goal.returns-in_err-flag-clause-reads
-unfolding header
-returns-in_err-flag-clause-reads g c = search rules
-
-pub returns-then-zero-eq1-clause-reads : goal.returns-then-zero-eq1-clause-reads
-unfolding header
-returns-then-zero-eq1-clause-reads g c = search rules
-
-pub returns-then-saturating_sub-from-clause-reads : goal.returns-then-saturating_sub-from-clause-reads
-unfolding header
-returns-then-saturating_sub-from-clause-reads g c = search rules
-
-pub returns-then-predictor_order-block-clause-reads : goal.returns-then-predictor_order-block-clause-reads
-unfolding header
-returns-then-predictor_order-block-clause-reads g c = search rules
-
 pub returns-clause-reads : goal.returns-clause-reads
 unfolding header
-returns-clause-reads g c = search rules
+returns-clause-reads g c = told_then c.args.bits.now c.take.new.self c.read_wasted.new.bits _ c.in_ok-zero.ensures.counts c.in_ok-zero.ensures.reads (told_then c.take.new.self c.take-2.new.self c.read_wasted.new.bits _ c.in_ok-kind.ensures.counts c.in_ok-kind.ensures.reads (told_then c.take-2.new.self c.take-3.new.self c.read_wasted.new.bits _ c.in_ok-flag.ensures.counts c.in_ok-flag.ensures.reads (told_past {read = judged c.in_ok-zero.zero c.in_ok-kind.kind c.in_ok-flag.flag c.args.depth c.args.block c.args.limits.now.linear c.take-3.new.self.cursor} c.take-3.new.self c.read_wasted.new.bits c.take-3.new.self.cursor _ (search rules) (told_then c.take-3.new.self c.read_wasted.new.bits c.read_wasted.new.bits _ c.in_ok-wasted.ensures.counts c.in_ok-wasted.ensures.reads (λ known same. refl)))))

@@ -1,6 +1,6 @@
-use Rattle.std.proofs.Common.{arith}
+use Rattle.std.proofs.Common.{arith, inl, inr, ◌+◌, ◌*◌, ◌^◌, ◌≤◌}
 use Rattle.flac_subframe.proofs.Bounded.{whole_bounded}
-use Rattle.flac_subframe.proofs.Settled.{first_alone}
+use Rattle.flac_subframe.proofs.Settled.{first_alone, first_least, second_least}
 use Rattle.flac_subframe.proofs.Splits.{halves_at}
 use Rattle.flac_subframe.proofs.survey.survey.Goals as goal
 
@@ -9,7 +9,50 @@ tabulate-same-requires-clause-bounded c =
     let order = c.args.order in let rs = c.args.values.now in
     whole_bounded order rs c.args.folds.now _ (halves_at order rs c.args.halvings 0 (omega arith) c.requires.halves) c.requires.folded (c.requires.widths 0 0 (omega arith) (omega arith) (omega arith)).0
 
-pub returns-then-same-clause-least : goal.returns-then-same-clause-least
-returns-then-same-clause-least c =
+pub best_order-first-requires-clause-entries : goal.best_order-first-requires-clause-entries
+best_order-first-requires-clause-entries c = c.tabulate-same.ensures.entries
+
+pub best_order-second-requires-clause-entries : goal.best_order-second-requires-clause-entries
+best_order-second-requires-clause-entries c = c.tabulate-same.ensures.more (λ t. cc (t, c.if-same.false))
+
+pub returns-then-same : goal.returns-then-same
+returns-then-same c =
     let so = c.tabulate-same.ensures in
-    first_alone c.args.order c.args.halvings c.args.values.now (λ p j le b. (_, so.entries p j le b, so.same c.if-same.true p j le b)) c.best_order-first.result.bits c.best_order-first.ensures.least
+    let best = c.best_order-first.ensures in
+    record {
+      method = inl best.method;
+      within = best.within;
+      least = first_alone c.args.order c.args.halvings c.args.values.now (λ p j le b. (_, so.entries p j le b, so.same c.if-same.true p j le b)) c.best_order-first.result.bits best.least;
+      here = rw best.method best.here;
+      small = best.small;
+      entries = so.entries;
+      more = λ other. absurd (other best.method);
+    }
+
+pub returns-then-second-first : goal.returns-then-second-first
+returns-then-second-first c =
+    let so = c.tabulate-same.ensures in
+    let best = c.best_order-second.ensures in
+    record {
+      method = inr best.method;
+      within = best.within;
+      least = second_least c.args.order c.args.halvings c.args.values.now _ _ c.best_order-first.ensures.least best.least (omega arith);
+      here = rw best.method best.here;
+      small = best.small;
+      entries = so.entries;
+      more = λ _. so.more (λ t. cc (t, c.if-same.false));
+    }
+
+pub returns-else-second-first : goal.returns-else-second-first
+returns-else-second-first c =
+    let so = c.tabulate-same.ensures in
+    let best = c.best_order-first.ensures in
+    record {
+      method = inl best.method;
+      within = best.within;
+      least = first_least c.args.order c.args.halvings c.args.values.now _ _ best.least c.best_order-second.ensures.least (omega arith);
+      here = rw best.method best.here;
+      small = best.small;
+      entries = so.entries;
+      more = λ other. absurd (other best.method);
+    }

@@ -1,0 +1,17 @@
+use Rattle.std.proofs.lemmas.Result.{err_from_is_err_and}
+use Rattle.flac_bits.proofs.Counting.{answered_then, failed_then, refused_then}
+use Rattle.flac_frame.proofs.fill.read_body.Goals as goal
+
+pub returns-in_err-read_end-clause-counts : goal.returns-in_err-read_end-clause-counts
+returns-in_err-read_end-clause-counts g c =
+    let p = err_from_is_err_and c.from_residual-in_err-read_end.result c.from_residual-in_err-read_end.ensures.1 in
+    rw (p.1, p.2) (failed_then c.args.bits.now c.read_subframes.new.bits c.read_end.new.bits c.in_ok-fits.ensures.counts c.in_err-read_end.ensures.counts)
+
+pub returns-then-not-fits-clause-counts : goal.returns-then-not-fits-clause-counts
+returns-then-not-fits-clause-counts g c = refused_then c.args.bits.now c.read_end.new.bits (answered_then c.args.bits.now c.read_subframes.new.bits c.read_end.new.bits c.in_ok-fits.ensures.counts c.in_ok-read_end.ensures.counts) (λ q. cc)
+
+pub returns-then-not-narrow-clause-counts : goal.returns-then-not-narrow-clause-counts
+returns-then-not-narrow-clause-counts g c = refused_then c.args.bits.now c.read_end.new.bits (answered_then c.args.bits.now c.read_subframes.new.bits c.read_end.new.bits c.in_ok-fits.ensures.counts c.in_ok-read_end.ensures.counts) (λ q. cc)
+
+pub returns-clause-counts : goal.returns-clause-counts
+returns-clause-counts g c = answered_then c.args.bits.now c.read_subframes.new.bits c.read_end.new.bits c.in_ok-fits.ensures.counts c.in_ok-read_end.ensures.counts

@@ -1,0 +1,17 @@
+//! Rows of the tables.
+
+use std::alloc::Global;
+use std::test::Fail;
+
+/// The bytes of some words: each is hex digits, and `WORD*COUNT` is that often.
+pub(crate) fn bytes_of(alloc: Global, words: &str) -> Result<Vec<u8>, Fail> {
+    let mut bytes = Vec::new(alloc);
+    for word in words.split_whitespace() {
+        let (digits, count) = word.split_once('*').unwrap_or((word, "1"));
+        let part = hex::decode(alloc, digits)?;
+        for _ in 0..count.parse::<usize>()? {
+            bytes.extend_from_slice(&part)?;
+        }
+    }
+    Ok(bytes)
+}
