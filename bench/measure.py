@@ -47,10 +47,12 @@ def raw_words(rate, bits):
     return [*RAW, "--channels=2", f"--bps={bits}", f"--sample-rate={rate}"]
 
 
-def encoded(raw, rate, bits, level):
-    path = raw.replace(".raw", f".{level}.flac")
+def encoded(raw, rate, bits, level, ogg=False):
+    """A stream by the reference, native or with the same frames in Ogg."""
+    path = raw.replace(".raw", f".{level}.oga" if ogg else f".{level}.flac")
     if not os.path.exists(path):
-        subprocess.run([REFERENCE, "-s", "-f", *LEVELS[level], *raw_words(rate, bits), "-o", path + ".part", raw], check=True)
+        words = ["--ogg", "--serial-number=1"] if ogg else []
+        subprocess.run([REFERENCE, "-s", "-f", *words, *LEVELS[level], *raw_words(rate, bits), "-o", path + ".part", raw], check=True)
         os.rename(path + ".part", path)
     return path
 
@@ -124,6 +126,18 @@ def decoding(seconds, runs):
                 "" if isinstance(ours, str) else f"{seconds / ours:.0f}")
 
 
+def containers(seconds, runs):
+    """The same frames in pages and as a native stream."""
+    head("test", "native s", "Ogg s", "Ogg : native", "flac -t, native s", "flac -t, Ogg s", "Ogg, program : flac")
+    for form, (rate, bits) in FORMS.items():
+        raw = audio(rate, bits, seconds)
+        native, ogg = encoded(raw, rate, bits, "5"), encoded(raw, rate, bits, "5", ogg=True)
+        found = medians({"native": [PROGRAM, "test", native], "ogg": [PROGRAM, "test", ogg],
+                         "flac": [REFERENCE, "-t", "-s", native], "flac ogg": [REFERENCE, "-t", "-s", ogg]}, runs)
+        row(f"{form}, level 5", shown(found["native"]), shown(found["ogg"]), ratio(found["ogg"], found["native"]),
+            shown(found["flac"]), shown(found["flac ogg"]), ratio(found["ogg"], found["flac ogg"]))
+
+
 def encode_commands(raw, rate, bits, folder):
     ours, theirs = os.path.join(folder, "ours.flac"), os.path.join(folder, "theirs.flac")
     return ours, theirs, {
@@ -176,6 +190,7 @@ def main():
     version = subprocess.run([REFERENCE, "--version"], stdout=subprocess.PIPE, check=True).stdout.decode().strip()
     print(f"{datetime.date.today()}, {machine()}; {version}; {seconds} seconds of audio a row, medians of {runs} runs, load {os.getloadavg()[0]:.1f}")
     decoding(seconds, runs)
+    containers(seconds, runs)
     encoding(seconds, runs)
     growth(2, (1, 10) if words.quick else (1, 10, 100), runs)
     return 0

@@ -2,8 +2,31 @@
 
 use std::fs::{File, OpenOptions};
 use std::io;
-use std::io::ErrorKind;
+use std::io::{ErrorKind, Write};
 use std::os::unix::fs::MetadataExt;
+
+/// The file that a job writes, if it writes one.
+#[derive(Drop)]
+pub(crate) enum Output {
+    File(File),
+    None,
+}
+
+impl Write for Output {
+    fn write(&mut self, bytes: &[u8]) -> io::Result<usize> {
+        match self {
+            Output::File(file) => file.write(bytes),
+            Output::None => Ok(bytes.len()),
+        }
+    }
+
+    fn flush(&mut self) -> io::Result<()> {
+        match self {
+            Output::File(file) => file.flush(),
+            Output::None => Ok(()),
+        }
+    }
+}
 
 /// Opens the file that a job writes, and empties it. A file that is the job's input stays as it is.
 ///

@@ -3,7 +3,7 @@
 
 mod files;
 
-use crate::files::create;
+use crate::files::{Output, create};
 use flac_bits::Counted;
 use flac_cli::run;
 use flac_jobs::{Job, LineFault};
@@ -49,24 +49,37 @@ fn tell(rt: &HostRuntime, fault: &LineFault) -> io::Result<ExitCode> {
 
 /// Opens the job's files, and does it. Returns the status.
 fn perform(rt: &HostRuntime, job: &Job<'_>) -> u8 {
-    let alloc = rt.alloc();
-    let input = job.input();
-    let Ok(file) = File::open(rt, input) else {
-        let _ = eprintln!(rt; "flac: {input}: cannot be opened");
-        return 1;
+    let Ok(input) = File::open(rt, job.input()) else {
+        return refuse(rt, job.input(), "opened");
     };
+    let output = match job.output() {
+        None => Output::None,
+        Some(path) => match create(rt, path, &input, job.input()) {
+            Ok(file) => Output::File(file),
+            Err(_) => return refuse(rt, path, "created"),
+        },
+    };
+    do_over(rt, job, input, output)
+}
+
+/// Says on standard error that a file cannot be opened or created, and returns the status.
+fn refuse(rt: &HostRuntime, path: &str, what: &str) -> u8 {
+    let _ = eprintln!(rt; "flac: {path}: cannot be {what}");
+    1
+}
+
+/// Does the job over its files. Returns the status.
+fn do_over(rt: &HostRuntime, job: &Job<'_>, input: File, output: Output) -> u8 {
+    let mut source = Counted::new(input);
+    let mut target = Counted::new(output);
     let mut out = Counted::new(rt.stdout());
     let mut err = Counted::new(rt.stderr());
-    let Some(path) = job.output() else {
-        let mut source = Counted::new(file);
-        let mut nothing = Counted::new(io::sink());
-        return run(alloc, job, &mut source, &mut nothing, &mut out, &mut err);
-    };
-    let Ok(output) = create(rt, path, &file, input) else {
-        let _ = eprintln!(rt; "flac: {path}: cannot be created");
-        return 1;
-    };
-    let mut source = Counted::new(file);
-    let mut target = Counted::new(output);
-    run(alloc, job, &mut source, &mut target, &mut out, &mut err)
+    run(
+        rt.alloc(),
+        job,
+        &mut source,
+        &mut target,
+        &mut out,
+        &mut err,
+    )
 }

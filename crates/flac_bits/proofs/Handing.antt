@@ -1,15 +1,15 @@
 -- One item after another is read and handed to a receiver.
-use Rattle.std.proofs.Common.{◌≡◌, ◌≢◌, ◌<◌, ◌≤◌, ℕ, zero, suc, Bool, true, List, [], ◌∷◌, ◌++◌, length, ◌⊎◌, inl, inr, Option, Some, None, refl, sym, ap, subst, ◌∙◌, append_assoc, arith}
+use Rattle.std.proofs.Common.{◌≡◌, ◌≢◌, ◌<◌, ℕ, zero, suc, Bool, true, List, [], ◌∷◌, ◌++◌, length, inl, inr, Option, Some, None, refl, sym, ap, subst, ◌∙◌, append_assoc, arith}
 use Rattle.std.proofs.lemmas.List.{append-nil, length-append}
 use Rattle.flac_bits.specs.State.{Mark, Cursor, State, past, fresh}
-use Rattle.flac_bits.specs.Meaning.{Spells, IsCut}
+use Rattle.flac_bits.specs.Meaning.{Spells}
 use Rattle.flac_bits.specs.Fence.{InRoom}
-use Rattle.flac_bits.specs.Items.{Grammar, after, Joined, mark_behind, Stream, StopsAt, Refused, Step, item, over, refused, step_at, NeedsBits}
-use Rattle.flac_bits.specs.Handing.{IsCalm, TakesAll, Hands, Decides, OneReading, SomeReading}
+use Rattle.flac_bits.specs.Items.{Grammar, after, Joined, mark_behind, StopsAt, Step, item, over, refused, step_at, NeedsBits}
+use Rattle.flac_bits.specs.Handing.{IsCalm, TakesAll, Reading, Hands, by_grammar, IsRead, OneReading, SomeReading}
 use Rattle.flac_bits.specs.declared.why.Why.{Why}
-use Rattle.flac_bits.specs.declared.why.Why.TheVariants.{Memory, Read, Sink}
+use Rattle.flac_bits.specs.declared.why.Why.TheVariants.{Memory}
 use Rattle.flac_bits.proofs.Laws.{at_}
-use Rattle.flac_bits.proofs.Items.{spelled_some, step_spelled, step_over, step_stops, one_way, stream_steps, refused_steps}
+use Rattle.flac_bits.proofs.Items.{step_spelled, step_over, step_stops, one_way, stream_steps, refused_steps}
 
 -- ---- one item more
 
@@ -83,10 +83,6 @@ far_more g takes first state old now d sink mid new x far step took =
 abbrev pub Went : State → State → Type 0
 Went old new = (old.known ≡ true → new.known ≡ true) × (new.errors ≡ old.errors) × (new.raised ≡ old.raised) × (old.known ≡ true → new.behind ≡ old.behind) × (new.names ≡ old.names)
 
--- and one that answered a reason: the clause Counts at Err
-abbrev pub Broke : State → State → Why → Type 0
-Broke old new why = (old.errors ≤ new.errors) × (old.known ≡ true → new.errors ≡ old.errors → new.behind ≡ old.behind) × (old.known ≡ true → why ≡ Read → old.raised < new.raised) × (new.names ≡ old.names)
-
 -- an item was read and taken
 pub one_more : {S I P K : Type 0} (g : Grammar S I P) (takes : K → I → K → Type 0) (errors : K → ℕ) (first state next : S) (old now d : State) (sink mid new : K) (x : I)
     → SoFar g takes errors first state old now sink mid → Went now d → (now.known ≡ true → step_at g state now.cursor ≡ item x d.cursor) → errors new ≡ errors mid → takes mid x new → next ≡ g.next state x
@@ -118,31 +114,10 @@ some_is r q e = cc
 same_end : {P : Type 0} (at to : P) (v w : Why) → ends (Some (at, v)) ≡ Some (to, w) → (at ≡ to) × (v ≡ w)
 same_end {P} at to v w e = let pair = some_is (at, v) (to, w) e in (ap (λ (r : P × Why). r.0) pair, ap (λ (r : P × Why). r.1) pair)
 
--- the input is over
-pub all_done : {S I P K : Type 0} (g : Grammar S I P) (takes : K → I → K → Type 0) (errors : K → ℕ) (first state : S) (old now : State) (calm : Type 0) (sink taken : K)
-    → SoFar g takes errors first state old now sink taken → (now.known ≡ true → step_at g state now.cursor ≡ over) → old.known ≡ true → Hands g takes errors first old.cursor.mark old.cursor.left calm sink taken None
-all_done g takes errors first state old now calm sink taken so_far step known =
-    let far = so_far.far known in
-    let e = step_over g state now.cursor.mark now.cursor.left (step (so_far.known known)) in
-    record {
-      done = λ quiet is. (
-        far.items,
-        record {
-          spelled = subst (λ (t : List Bool). Joined g first old.cursor.mark far.items t) (sym (far.stands ∙ ap (λ k. far.text ++ k) e.1 ∙ append-nil far.text)) far.spelled;
-          ends = rw far.state_is at e.0;
-          kept = rw far.state_is at e.2;
-        },
-        far.took,
-      );
-      refused = λ quiet at why is. absurd (none_some (at, why) is);
-      begun = (far.items, far.text, now.cursor.left, taken, far.stands, far.spelled, far.took, λ same. refl);
-      failed = λ rose. absurd (omega (arith, rose, so_far.received));
-    }
-
 -- the step refused: a want of memory and an error of the source, which leave calm false, say no more than what was taken before
 pub all_refused : {S I P K : Type 0} (g : Grammar S I P) (takes : K → I → K → Type 0) (errors : K → ℕ) (first state : S) (old now : State) (calm : Type 0) (sink taken : K) (at : P) (why : Why)
     → SoFar g takes errors first state old now sink taken → (now.known ≡ true → calm → why ≢ Memory → step_at g state now.cursor ≡ refused at why) → old.known ≡ true
-    → Hands g takes errors first old.cursor.mark old.cursor.left calm sink taken (Some (at, why))
+    → Hands (by_grammar g first old.cursor.mark old.cursor.left) takes errors calm sink taken (Some (at, why))
 all_refused g takes errors first state old now calm sink taken at why so_far step known =
     let far = so_far.far known in
     record {
@@ -162,63 +137,21 @@ all_refused g takes errors first state old now calm sink taken at why so_far ste
             },
             far.took,
           );
-      begun = (far.items, far.text, now.cursor.left, taken, far.stands, far.spelled, far.took, λ same. refl);
+      begun = (far.items, taken, (far.text, now.cursor.left, far.stands, far.spelled), far.took, λ same. refl);
       failed = λ rose. absurd (omega (arith, rose, so_far.received));
     }
 
 -- the same from the clause of the call that read
 pub step_refused : {S I P K : Type 0} (g : Grammar S I P) (takes : K → I → K → Type 0) (errors : K → ℕ) (first state : S) (old now end : State) (sink taken : K) (at : P) (why : Why)
     → SoFar g takes errors first state old now sink taken → (now.known ≡ true → end.errors ≡ now.errors → end.raised ≡ now.raised → why ≢ Memory → step_at g state now.cursor ≡ refused at why) → old.known ≡ true
-    → Hands g takes errors first old.cursor.mark old.cursor.left (IsCalm old end) sink taken (Some (at, why))
+    → Hands (by_grammar g first old.cursor.mark old.cursor.left) takes errors (IsCalm old end) sink taken (Some (at, why))
 step_refused g takes errors first state old now end sink taken at why so_far step known =
     all_refused g takes errors first state old now (IsCalm old end) sink taken at why so_far (λ k calm. step k (calm.0 ∙ sym so_far.errors_are) (calm.1 ∙ sym so_far.raised)) known
 
--- it was stopped by want of memory, or by an error of the source
-pub stopped : {S I P K : Type 0} (g : Grammar S I P) (takes : K → I → K → Type 0) (errors : K → ℕ) (first state : S) (old now : State) (calm : Type 0) (sink taken : K) (at : P) (why : Why)
-    → SoFar g takes errors first state old now sink taken → (calm → why ≢ Memory → ⊥) → old.known ≡ true → Hands g takes errors first old.cursor.mark old.cursor.left calm sink taken (Some (at, why))
-stopped g takes errors first state old now calm sink taken at why so_far none known =
-    all_refused g takes errors first state old now calm sink taken at why so_far (λ k quiet room. absurd (none quiet room)) known
-
--- the receiver did not take the item that was read
-pub sink_failed : {S I P K : Type 0} (g : Grammar S I P) (takes : K → I → K → Type 0) (errors : K → ℕ) (first state : S) (old now : State) (calm : Type 0) (sink mid new : K) (at : P) (why : Why)
-    → SoFar g takes errors first state old now sink mid → errors mid < errors new → why ≡ Sink → at ≡ g.place state → old.known ≡ true → Hands g takes errors first old.cursor.mark old.cursor.left calm sink new (Some (at, why))
-sink_failed g takes errors first state old now calm sink mid new at why so_far rose is place known =
-    let far = so_far.far known in
-    record {
-      done = λ quiet e. absurd (some_none (at, why) e);
-      refused = λ quiet to w e room same. absurd (omega (arith, rose, same, so_far.received));
-      begun = (far.items, far.text, now.cursor.left, mid, far.stands, far.spelled, far.took, λ same. absurd (omega (arith, rose, same, so_far.received)));
-      failed = λ more. (
-        at,
-        ap (λ w. ends (Some (at, w))) is,
-        (far.items, far.text, now.cursor.left, mid, far.stands, far.spelled, place ∙ ap (λ s. g.place s) far.state_is, far.took),
-      );
-    }
-
--- ---- what the whole did to the source
-
-pub went : {S I P K : Type 0} (g : Grammar S I P) (takes : K → I → K → Type 0) (errors : K → ℕ) (first state : S) (old now d : State) (sink taken : K) → SoFar g takes errors first state old now sink taken → Went now d → Went old d
-went g takes errors first state old now d sink taken so_far more =
-    (λ k. more.0 (so_far.known k), more.1 ∙ so_far.errors_are, more.2 ∙ so_far.raised, λ k. more.3 (so_far.known k) ∙ so_far.behind k, more.4 ∙ so_far.names)
-
-pub broke : {S I P K : Type 0} (g : Grammar S I P) (takes : K → I → K → Type 0) (errors : K → ℕ) (first state : S) (old now d : State) (sink taken : K) (why : Why)
-    → SoFar g takes errors first state old now sink taken → Broke now d why → Broke old d why
-broke g takes errors first state old now d sink taken why so_far more = (
-  omega (arith, more.0, so_far.errors_are),
-  λ k same. more.1 (so_far.known k) (same ∙ sym so_far.errors_are) ∙ so_far.behind k,
-  λ k is. omega (arith, more.2 (so_far.known k) is, so_far.raised),
-  more.3 ∙ so_far.names,
-)
-
--- the receiver failed behind a call that answered a value
-pub broke_at_sink : {S I P K : Type 0} (g : Grammar S I P) (takes : K → I → K → Type 0) (errors : K → ℕ) (first state : S) (old now d : State) (sink taken : K) (why : Why)
-    → SoFar g takes errors first state old now sink taken → Went now d → why ≡ Sink → Broke old d why
-broke_at_sink g takes errors first state old now d sink taken why so_far more is =
-    let all = went g takes errors first state old now d sink taken so_far more in
-    (omega (arith, all.1), λ k same. all.3 k, λ k e. absurd (no_sink (sym is ∙ e)), all.4)
-  where
-    no_sink : Sink ≡ Read → ⊥
-    no_sink e = absurd cc
+-- what holds where the source answered no error holds where a stronger condition says so
+pub calmer : {I P K : Type 0} {r : Reading I P} {takes : K → I → K → Type 0} {errors : K → ℕ} (calm quiet : Type 0) {old new : K} {outcome : Option (P × Why)}
+    → (quiet → calm) → Hands r takes errors calm old new outcome → Hands r takes errors quiet old new outcome
+calmer calm quiet f h = record { done = λ q. h.done (f q); refused = λ q. h.refused (f q); begun = h.begun; failed = h.failed }
 
 -- ---- an input has one answer
 
@@ -232,27 +165,11 @@ one_reading g needs s m text = record {
       (same.0, pair.0, pair.1);
 }
 
-pub decides : {S I P K : Type 0} (g : Grammar S I P) → NeedsBits g → (takes : K → I → K → Type 0) (errors : K → ℕ) (s : S) (m : Mark) (text : List Bool) (calm : Type 0) (old new : K) (outcome : Option (P × Why))
-    → Hands g takes errors s m text calm old new outcome → calm → errors new ≡ errors old → Decides g s m text outcome
-decides g needs takes errors s m text calm old new outcome h quiet same = record {
-  accepted = λ items stream at why e room.
-      let r = h.refused quiet at why e room same in
-      (one_reading g needs s m text).either items r.0 at why stream r.1;
-  is_refused = λ items at why refused e.
-      let d = h.done quiet e in
-      (one_reading g needs s m text).either d.0 items at why d.1 refused;
-  shown = λ items at why refused to w e room.
-      let r = h.refused quiet to w e room same in
-      let one = (one_reading g needs s m text).refusals r.0 items to at w why r.1 refused in
-      (one.1, one.2);
-}
-
 -- ---- and each input has an answer
 
 -- behind an item a reading of what is left is a reading of the whole
 read_on : {S I P : Type 0} (g : Grammar S I P) (s : S) (m : Mark) (x : I) (left front rest : List Bool) → left ≡ front ++ rest → Spells (g.layout s) (fresh m) front x → InRoom (g.room s) (fresh m) front
-    → ((items : List I) × Stream g (g.next s x) (past front (fresh m)) items rest) ⊎ ((items : List I) × (at : P) × (why : Why) × Refused g (g.next s x) (past front (fresh m)) items rest at why)
-    → ((items : List I) × Stream g s m items left) ⊎ ((items : List I) × (at : P) × (why : Why) × Refused g s m items left at why)
+    → IsRead (by_grammar g (g.next s x) (past front (fresh m)) rest) → IsRead (by_grammar g s m left)
 read_on g s m x left front rest split spelled fits (inl (items, w)) = inl (x ∷ items, record { spelled = (front, rest, split, spelled, fits, w.spelled); ends = w.ends; kept = w.kept })
 read_on g s m x left front rest split spelled fits (inr (items, at, why, r)) = inr (
   x ∷ items,
@@ -267,21 +184,23 @@ read_on g s m x left front rest split spelled fits (inr (items, at, why, r)) = i
   },
 )
 
-read_all : {S I P : Type 0} (g : Grammar S I P) → ((s : S) (m : Mark) → IsCut (g.layout s) m []) → (n : ℕ) (s : S) (m : Mark) (left : List Bool) → length left < n
-    → ((items : List I) × Stream g s m items left) ⊎ ((items : List I) × (at : P) × (why : Why) × Refused g s m items left at why)
-read_all g needs zero s m left lt = absurd (omega arith)
-read_all {S = S} {I = I} {P = P} g needs (suc n) s m left lt = go (λ t k rest h. read_all g needs n t k rest h) (step_at g s (at_ left m)) refl
+-- no item is spelled by no bit
+abbrev pub HasBits : {S I P : Type 0} → Grammar S I P → Type 0
+HasBits {S = S} {I = I} g = (s : S) (m : Mark) (text : List Bool) (x : I) → Spells (g.layout s) m text x → 0 < length text
+
+read_all : {S I P : Type 0} (g : Grammar S I P) → HasBits g → (n : ℕ) (s : S) (m : Mark) (left : List Bool) → length left < n → IsRead (by_grammar g s m left)
+read_all g has zero s m left lt = absurd (omega arith)
+read_all {S = S} {I = I} {P = P} g has (suc n) s m left lt = go (λ t k rest h. read_all g has n t k rest h) (step_at g s (at_ left m)) refl
   where
-    go : ((t : S) (k : Mark) (rest : List Bool) → length rest < n → ((items : List I) × Stream g t k items rest) ⊎ ((items : List I) × (at : P) × (why : Why) × Refused g t k items rest at why))
-        → (step : Step I P) → step_at g s (at_ left m) ≡ step → ((items : List I) × Stream g s m items left) ⊎ ((items : List I) × (at : P) × (why : Why) × Refused g s m items left at why)
+    go : ((t : S) (k : Mark) (rest : List Bool) → length rest < n → IsRead (by_grammar g t k rest)) → (step : Step I P) → step_at g s (at_ left m) ≡ step → IsRead (by_grammar g s m left)
     go more (item x d) e =
         let t = step_spelled g s m left x d e in
-        let some = spelled_some (g.layout s) (fresh m) t.0 x t.2 (needs s (fresh m)) in
+        let some = has s (fresh m) t.0 x t.2 in
         let shorter : length d.left < n = omega (arith, lt, some, ap (λ (k : List Bool). length k) t.1, length-append t.0 d.left) in
         read_on g s m x left t.0 d.left t.1 t.2 t.3 (more (g.next s x) (past t.0 (fresh m)) d.left shorter)
     go more over e = let t = step_over g s m left e in inl ([], record { spelled = t.1; ends = t.0; kept = t.2 })
     go more (refused at why) e = inr ([], at, why, record { front = []; left = left; stands = refl; spelled = refl; stops = step_stops g s m left at why e })
 
--- where each item needs a bit, each input is a stream or refused
-pub some_reading : {S I P : Type 0} (g : Grammar S I P) → ((s : S) (m : Mark) → IsCut (g.layout s) m []) → SomeReading g
-some_reading g needs s m text = read_all g needs (suc (length text)) s m text (omega arith)
+-- so each input is a stream, or is refused
+pub some_reading : {S I P : Type 0} (g : Grammar S I P) → HasBits g → SomeReading g
+some_reading g has s m text = read_all g has (suc (length text)) s m text (omega arith)

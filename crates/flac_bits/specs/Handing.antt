@@ -38,37 +38,55 @@ abbrev pub TakesAll : {K I : Type 0} → (K → I → K → Type 0) → K → Li
 TakesAll takes old [] new = old ≡ new
 TakesAll {K} takes old (x ∷ xs) new = (mid : K) × takes old x mid × TakesAll takes mid xs new
 
+-- How an input is read: which lists are all its items, behind which items it is refused, where and why, with which items it begins, and where the item
+-- behind these stands.
+pub record Reading (I P : Type 0) : Type 1 where
+  pub whole : List I → Type 0
+  pub refused : List I → P → Why → Type 0
+  pub begins : List I → Type 0
+  pub place : List I → P
+
+-- by a grammar, from this state on
+abbrev pub by_grammar : {S I P : Type 0} → Grammar S I P → S → Mark → List Bool → Reading I P
+by_grammar g s mark text = record {
+  whole = λ items. Stream g s mark items text;
+  refused = λ items at why. Refused g s mark items text at why;
+  begins = λ items. (front : List Bool) × (left : List Bool) × (text ≡ front ++ left) × Joined g s mark items front;
+  place = λ items. g.place (after g s items);
+}
+
 -- what was answered, and what the receiver took; errors counts those that it answered, and calm says that the source answered none
-pub record Hands {S I P K : Type 0} (g : Grammar S I P) (takes : K → I → K → Type 0) (errors : K → ℕ) (s : S) (mark : Mark) (text : List Bool) (calm : Type 0) (old new : K) (outcome : Option (P × Why)) : Type 0 where
+pub record Hands {I P K : Type 0} (r : Reading I P) (takes : K → I → K → Type 0) (errors : K → ℕ) (calm : Type 0) (old new : K) (outcome : Option (P × Why)) : Type 0 where
   -- over only where the input is a stream, of which the receiver took just the items
-  pub done : calm → outcome ≡ None → (items : List I) × Stream g s mark items text × TakesAll takes old items new
+  pub done : calm → outcome ≡ None → (items : List I) × r.whole items × TakesAll takes old items new
   -- refused only as the input is, behind just the items that the receiver took
-  pub refused : calm → (at : P) (why : Why) → outcome ≡ Some (at, why) → why ≢ Memory → errors new ≡ errors old → (items : List I) × Refused g s mark items text at why × TakesAll takes old items new
+  pub refused : calm → (at : P) (why : Why) → outcome ≡ Some (at, why) → why ≢ Memory → errors new ≡ errors old → (items : List I) × r.refused items at why × TakesAll takes old items new
   -- whatever ended it: the receiver took items that are spelled whole, one after another, from the start, and where it did not fail it stands behind them
-  pub begun : (items : List I) × (front : List Bool) × (left : List Bool) × (mid : K) × (text ≡ front ++ left) × Joined g s mark items front × TakesAll takes old items mid × (errors new ≡ errors old → mid ≡ new)
+  pub begun : (items : List I) × (mid : K) × r.begins items × TakesAll takes old items mid × (errors new ≡ errors old → mid ≡ new)
   -- where the receiver failed, that is told at the place of the item that it did not take, and it had taken just the items before
-  pub failed : errors old < errors new → (at : P) × (outcome ≡ Some (at, Sink)) × ((items : List I) × (front : List Bool) × (left : List Bool) × (mid : K) × (text ≡ front ++ left) × Joined g s mark items front
-      × (at ≡ g.place (after g s items)) × TakesAll takes old items mid)
+  pub failed : errors old < errors new → (at : P) × (outcome ≡ Some (at, Sink)) × ((items : List I) × (mid : K) × r.begins items × (at ≡ r.place items) × TakesAll takes old items mid)
 
 -- and which answer an input has
-pub record Decides {S I P : Type 0} (g : Grammar S I P) (s : S) (mark : Mark) (text : List Bool) (outcome : Option (P × Why)) : Type 0 where
+pub record Decides {I P : Type 0} (r : Reading I P) (outcome : Option (P × Why)) : Type 0 where
   -- a stream is not refused, but for want of memory
-  pub accepted : (items : List I) → Stream g s mark items text → (at : P) (why : Why) → outcome ≡ Some (at, why) → why ≢ Memory → ⊥
+  pub accepted : (items : List I) → r.whole items → (at : P) (why : Why) → outcome ≡ Some (at, why) → why ≢ Memory → ⊥
   -- an input that is to be refused is refused
-  pub is_refused : (items : List I) (at : P) (why : Why) → Refused g s mark items text at why → outcome ≢ None
+  pub is_refused : (items : List I) (at : P) (why : Why) → r.refused items at why → outcome ≢ None
   -- at just its place and for just its reason
-  pub shown : (items : List I) (at : P) (why : Why) → Refused g s mark items text at why → (to : P) (w : Why) → outcome ≡ Some (to, w) → w ≢ Memory → (to ≡ at) × (w ≡ why)
+  pub shown : (items : List I) (at : P) (why : Why) → r.refused items at why → (to : P) (w : Why) → outcome ≡ Some (to, w) → w ≢ Memory → (to ≡ at) × (w ≡ why)
 
 -- no input has two readings: it is one stream, or is refused in one way
-pub record ReadsOnce {S I P : Type 0} (g : Grammar S I P) (s : S) (mark : Mark) (text : List Bool) : Type 0 where
-  pub streams : (xs ys : List I) → Stream g s mark xs text → Stream g s mark ys text → xs ≡ ys
-  pub either : (xs ys : List I) (at : P) (why : Why) → Stream g s mark xs text → Refused g s mark ys text at why → ⊥
-  pub refusals : (xs ys : List I) (at to : P) (v w : Why) → Refused g s mark xs text at v → Refused g s mark ys text to w → (xs ≡ ys) × (at ≡ to) × (v ≡ w)
+pub record ReadsOnce {I P : Type 0} (r : Reading I P) : Type 0 where
+  pub streams : (xs ys : List I) → r.whole xs → r.whole ys → xs ≡ ys
+  pub either : (xs ys : List I) (at : P) (why : Why) → r.whole xs → r.refused ys at why → ⊥
+  pub refusals : (xs ys : List I) (at to : P) (v w : Why) → r.refused xs at v → r.refused ys to w → (xs ≡ ys) × (at ≡ to) × (v ≡ w)
+
+-- and it has one: it is a stream, or is refused
+abbrev pub IsRead : {I P : Type 0} → Reading I P → Type 0
+IsRead {I = I} {P = P} r = ((items : List I) × r.whole items) ⊎ ((items : List I) × (at : P) × (why : Why) × r.refused items at why)
 
 abbrev pub OneReading : {S I P : Type 0} → Grammar S I P → Type 0
-OneReading {S = S} g = (s : S) (mark : Mark) (text : List Bool) → ReadsOnce g s mark text
+OneReading {S = S} g = (s : S) (mark : Mark) (text : List Bool) → ReadsOnce (by_grammar g s mark text)
 
--- and each input has one
 abbrev pub SomeReading : {S I P : Type 0} → Grammar S I P → Type 0
-SomeReading {S = S} {I = I} {P = P} g =
-    (s : S) (mark : Mark) (text : List Bool) → ((items : List I) × Stream g s mark items text) ⊎ ((items : List I) × (at : P) × (why : Why) × Refused g s mark items text at why)
+SomeReading {S = S} g = (s : S) (mark : Mark) (text : List Bool) → IsRead (by_grammar g s mark text)

@@ -517,6 +517,7 @@ impl<R: Source> BitReader<R> {
         ensures errors { R.errors result ≡ self.errors }
         ensures raised { R.raised result ≡ self.raised }
         ensures behind { without_fence (R.behind result) ≡ without_fence self.behind }
+        ensures most { 8 * R.most result ≤ self.most }
         ensures names { R.names result ≡ self.names }
     {
         let BitReader { source, held: _ } = self;

@@ -1,5 +1,4 @@
 pub mod Back
-pub mod Fronts
 pub mod Outcomes
 pub mod Rows
 pub mod Sent

@@ -1,11 +1,17 @@
 -- What an answer of a decoding says.
-use Rattle.std.proofs.Common.{◌≡◌, ◌≢◌, ◌⊎◌, ℕ, nat_lt, true, None, Ok, Err, OnOk, OnErr, IfErr, Result, refl, ap, arith, inl, inr}
+use Rattle.std.proofs.Common.{Bool, false, List, ◌≡◌, ◌≢◌, ◌⊎◌, ℕ, nat_lt, true, None, Ok, Err, OnOk, OnErr, IfErr, Result, refl, ap, arith, inl, inr}
 use Rattle.flac_native.specs.Item.{told}
 use Rattle.flac_native.specs.declared.fault.Fault.{Fault}
 use Rattle.flac_native.specs.Numbers.{fault_number}
 use Rattle.flac_native.specs.declared.encode_fault.EncodeFault.{EncodeFault}
 use Rattle.flac_native.specs.declared.encode_fault.EncodeFault.TheVariants.{Memory, RepeatedBlock, BadMapping, Write}
 use Rattle.flac_bits.specs.Handing.{outcome_of}
+use Rattle.flac_bits.specs.Bits.{bits_of}
+use Rattle.flac_bits.specs.State.{Behind, short_of}
+use Rattle.flac_native.specs.Stream.{Piece}
+use Rattle.flac_native.specs.Decoding.{beginning}
+use Rattle.flac_ogg.specs.Either.{read_either}
+use Rattle.flac_cli.specs.Streams.{IsStream}
 
 -- What holds where nothing was refused holds at Ok.
 pub at_ok : {A X : Type 0} (r : Result A Fault) → (outcome_of told r ≡ None → X) → OnOk r X
@@ -29,3 +35,8 @@ same_or_begun X known (Err Write) old new begun same = λ k. inr (begun refl k)
 same_or_begun X known (Err Memory) old new begun same = λ k. inl (same (λ e. let n : 2 ≡ 39 = ap fault_number e in absurd (omega (arith, n))))
 same_or_begun X known (Err RepeatedBlock) old new begun same = λ k. inl (same (λ e. let n : 9 ≡ 39 = ap fault_number e in absurd (omega (arith, n))))
 same_or_begun X known (Err BadMapping) old new begun same = λ k. inl (same (λ e. let n : 37 ≡ 39 = ap fault_number e in absurd (omega (arith, n))))
+
+-- What is read in either container is a stream.
+pub is_stream : (is_ogg : Bool) (parts : List Piece) (bytes : List ℕ) (behind : Behind) → (read_either is_ogg (beginning (short_of behind.fails)) (bits_of bytes)).whole parts → IsStream parts bytes behind
+is_stream true parts bytes behind stream = inr stream
+is_stream false parts bytes behind stream = inl stream

@@ -1,5 +1,4 @@
 pub mod Encoded
-pub mod Fronts
 pub mod Raw
 pub mod Retagged
 pub mod Samples

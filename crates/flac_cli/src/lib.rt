@@ -6,7 +6,6 @@ mod decoding;
 mod encoding;
 mod failures;
 mod frames;
-mod fronted;
 mod lines;
 mod list;
 mod listing;

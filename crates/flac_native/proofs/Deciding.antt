@@ -1,15 +1,17 @@
 -- An input has one answer.
-use Rattle.std.proofs.Common.{◌≡◌, ℕ, Bool, List, true, false, [], Option, Some, None, inl, arith}
-use Rattle.flac_bits.specs.State.{Mark}
-use Rattle.flac_bits.specs.Meaning.{IsCut}
-use Rattle.flac_bits.specs.Items.{NeedsBits, Grammar}
-use Rattle.flac_bits.specs.Handing.{OneReading, Hands}
+use Rattle.std.proofs.Common.{◌≡◌, ◌<◌, ℕ, true, false, [], length, Option, Some, None, inl, arith}
+use Rattle.flac_bits.specs.Meaning.{Spells, IsCut}
+use Rattle.flac_bits.specs.Items.{NeedsBits}
+use Rattle.flac_bits.specs.Handing.{OneReading, SomeReading, Reading, Hands}
 use Rattle.flac_bits.specs.declared.why.Why.{Why}
-use Rattle.flac_bits.proofs.Handing.{one_reading}
+use Rattle.flac_bits.proofs.Handing.{HasBits, one_reading, some_reading}
+use Rattle.flac_bits.proofs.Items.{spelled_some}
 use Rattle.flac_frame.specs.Frame.{frame, stream_header}
 use Rattle.flac_header.specs.Header.{header}
 use Rattle.flac_meta.specs.Info.{Info}
-use Rattle.flac_native.specs.Stream.{grammar, layout, layout_in, frame_behind, may_end_in}
+use Rattle.flac_meta.specs.Header.{block_header}
+use Rattle.flac_meta.specs.Block.{block as block_layout}
+use Rattle.flac_native.specs.Stream.{grammar, marker, layout, layout_in, frame_behind, may_end_in}
 use Rattle.flac_native.specs.declared.phase.Phase.{Phase}
 use Rattle.flac_native.specs.declared.phase.Phase.TheVariants.{Opening, Blocks, Frames}
 
@@ -29,7 +31,16 @@ needs_bits p m e = go p.stand.phase p.stand.info e
 pub one_answer : OneReading grammar
 one_answer = one_reading grammar needs_bits
 
--- what holds where the source answered no error holds where a stronger condition says so
-pub calmer : {S I P K : Type 0} {g : Grammar S I P} {takes : K → I → K → Type 0} {errors : K → ℕ} {s : S} {mark : Mark} {text : List Bool} (calm quiet : Type 0) {old new : K} {outcome : Option (P × Why)}
-    → (quiet → calm) → Hands g takes errors s mark text calm old new outcome → Hands g takes errors s mark text quiet old new outcome
-calmer calm quiet f h = record { done = λ q. h.done (f q); refused = λ q. h.refused (f q); begun = h.begun; failed = h.failed }
+-- no part is spelled by no bit
+pub has_bits : HasBits grammar
+unfolding layout frame_behind frame stream_header header marker block_layout block_header
+has_bits p m text x s = go p.stand.phase p.stand.info s
+  where
+    go : (phase : Phase) (info : Option Info) → Spells (layout_in phase (record p.stand { info = info })) m text x → 0 < length text
+    go Opening info s = spelled_some (layout_in Opening (record p.stand { info = info })) m text x s (inl (inl (omega arith)))
+    go Blocks info s = spelled_some (layout_in Blocks (record p.stand { info = info })) m text x s (inl (inl (inl (omega arith))))
+    go Frames None s = absurd s.4
+    go Frames (Some i) s = spelled_some (layout_in Frames (record p.stand { info = Some i })) m text x s (inl (inl (inl (inl (omega arith)))))
+
+pub some_answer : SomeReading grammar
+some_answer = some_reading grammar has_bits

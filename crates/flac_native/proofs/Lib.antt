@@ -1,4 +1,7 @@
 pub mod Giving
+pub mod Arriving
+pub mod Handed
+pub mod Received
 pub mod Bounds
 pub mod Messages
 pub mod Advancing

@@ -5,6 +5,7 @@ pub mod Track
 pub mod Item
 pub mod Decoding
 pub mod Ends
+pub mod Coming
 pub mod Giving
 pub mod Given
 pub mod Seeking

@@ -41,6 +41,10 @@ abbrev pub block_in : Bool → Option Block → Piece
 block_in last None = marked
 block_in last (Some b) = block last b
 
+-- the block that was read last
+abbrev pub kept : Track → Piece
+kept t = block_in t.last t.block
+
 -- the part that was read last
 abbrev pub piece_of : Track → Part → Piece
 piece_of t part.Marker = marked
@@ -67,3 +71,10 @@ is_made (course.Read part.Frame) t = is_some t.format
 is_made course.Begun t = true
 is_made course.Over t = true
 is_made (course.Spent at) t = true
+
+-- a further part may be asked for
+abbrev pub is_going : Course → Bool
+is_going (course.Read part) = true
+is_going course.Begun = true
+is_going course.Over = false
+is_going (course.Spent at) = false

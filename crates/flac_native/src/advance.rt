@@ -51,9 +51,7 @@ fn read_part<R: Source>(reader: &mut BitReader<R>, track: &mut Track) -> Result<
         Phase::Blocks => {
             reader.lift();
             reader.start_checks();
-            let (last, block) = track.block(reader)?;
-            track.last = last;
-            track.block = Some(block);
+            track.next_block(reader)?;
             Ok(Part::Block)
         }
         Phase::Frames => {

@@ -4,6 +4,7 @@
 #![tactic(auto)]
 
 mod advance;
+mod container;
 mod copying;
 mod course;
 mod decoder;
@@ -15,12 +16,14 @@ mod encoding;
 mod end;
 mod fault;
 mod format;
+mod handing;
 mod in_order;
 mod item;
 mod kept;
 mod laws;
 mod memory;
 mod message;
+mod native;
 mod part;
 mod phase;
 mod plan;
@@ -35,6 +38,7 @@ mod steps;
 mod subset;
 mod track;
 
+pub use container::Container;
 pub use decoder::Decoder;
 pub use decoding::decode;
 pub use encode_fault::EncodeFault;
@@ -50,9 +54,11 @@ pub use flac_meta::{
     Block, BlockList, Bytes, Comments, CueIndex, CueIndices, CueSheet, CueTrack, CueTracks,
     Picture, SeekPoint, SeekTable, StreamInfo, Texts,
 };
+pub use handing::hand_out;
 pub use item::Item;
-pub use laws::{only_one_head, only_one_way, retagged_are_read};
+pub use laws::{only_one_head, only_one_way, retagged_are_read, some_way};
 pub use message::put_rows;
+pub use part::Part;
 pub use plan::Plan;
 pub use promises::{
     encoded_are_resumed, encoded_are_streams, frames_are_resumed, points_name_frames,

@@ -1,12 +1,12 @@
 //! The kinds of parts of a stream.
 
-/// The kinds of parts of a stream.
+/// The kinds of parts of a stream (RFC 9639, section 6).
 #[derive(Clone, Copy, Debug, PartialEq, Eq)]
-pub(crate) enum Part {
+pub enum Part {
     /// The four bytes `fLaC`.
     Marker,
-    /// A metadata block.
+    /// A metadata block (section 8).
     Block,
-    /// A frame.
+    /// A frame (section 9).
     Frame,
 }

@@ -38,7 +38,7 @@ fn untold(info: &StreamInfo) -> StreamInfo
     }
 }
 
-impl<R: Source + Drop> Decoder<R> {
+impl<R: Source + Drop> Decoder<BitReader<R>> {
     /// A decoder at the first byte of a frame, of a stream of which STREAMINFO says this: a seek point tells where one begins (RFC 9639, section 8.5). It
     /// takes the memory for one frame, and no more. Frames are counted from 0 in its faults, and neither the number of samples nor their digest is judged where
     /// the stream ends.
@@ -50,20 +50,16 @@ impl<R: Source + Drop> Decoder<R> {
         source: R,
         info: &StreamInfo,
         profile: Profile,
-    ) -> Result<Decoder<R>, Fault>
+    ) -> Result<Decoder<BitReader<R>>, Fault>
         ensures track { IfOk result (λ d. IsAt d.track (resumed info.now)) }
         ensures course { IfOk result (λ d. d.course ≡ Course.Begun) }
-        ensures known { IfOk result (λ d. d.reader.known ≡ R.known source) }
-        ensures errors { IfOk result (λ d. (d.reader.errors ≡ R.errors source) × (d.reader.raised ≡ R.raised source)) }
-        ensures cursor { IfOk result (λ d. (lifted d.reader).cursor ≡ record { left = bits_of (R.coming source); mark = beginning (short_of ((R.behind source).fails)) }) }
+        ensures known { IfOk result (λ d. d.container.known ≡ R.known source) }
+        ensures errors { IfOk result (λ d. (d.container.errors ≡ R.errors source) × (d.container.raised ≡ R.raised source)) }
+        ensures cursor { IfOk result (λ d. (lifted d.container).cursor ≡ record { left = bits_of (R.coming source); mark = beginning (short_of ((R.behind source).fails)) }) }
         ensures memory { IfErr result (λ f. f ≡ record { at = Place.Marker; why = Why.Memory }) }
     {
         match Track::resumed(alloc, profile, untold(info)) {
-            Ok(track) => Ok(Decoder {
-                reader: BitReader::new(source),
-                track,
-                course: Course::Begun,
-            }),
+            Ok(track) => Ok(Decoder::over(BitReader::new(source), track)),
             Err(why) => Err(Fault {
                 at: Place::Marker,
                 why,

@@ -1,21 +1,18 @@
 //! One item of a stream after another.
 
-ghost use Rattle.std.specs.Prelude.{◌≡◌, ◌≢◌, ◌≤◌, ◌+◌, ⊤, MatchOption, IfOk, IfErr, IfSome, is_some, true, false, Some, Ok};
+ghost use Rattle.std.specs.Prelude.{◌≡◌, ◌≢◌, ⊤, IfOk, IfErr, IfSome, true, false, Some, Ok};
 ghost use Rattle.std.specs.Borrow.{sem, follows_so};
 ghost use mathlib.Core.Option.{none};
 ghost use Rattle.flac_bits.specs.Bits.{bits_of};
 ghost use Rattle.flac_bits.specs.State.{short_of};
 ghost use Rattle.flac_bits.specs.Fencing.{lifted};
-ghost use Rattle.flac_bits.specs.Reading.{Counts};
-ghost use Rattle.flac_bits.specs.Handing.{reason_of};
 ghost use Rattle.flac_native.specs.contracts.decoder.Decoder.{the_row};
 ghost use Rattle.flac_native.specs.Stream.{Progress, opening};
-ghost use Rattle.flac_native.specs.Track.{IsAt, is_made};
-ghost use Rattle.flac_native.specs.Item.{told};
+ghost use Rattle.flac_native.specs.Track.{IsAt, is_made, is_going, stand_of};
 ghost use Rattle.flac_native.specs.Decoding.{beginning};
-ghost use Rattle.flac_native.specs.Giving.{GivesFirst, found, held, shown_of, Goes, Moves, stage_of};
+ghost use Rattle.flac_native.specs.Giving.{GivesFirst, CountsIn, found, held, shown_of, Goes, Moves, stage_of};
 
-use crate::advance::advance;
+use crate::container::Container;
 use crate::course::Course;
 use crate::decoder::Decoder;
 use crate::fault::Fault;
@@ -35,39 +32,45 @@ fn is_marker(outcome: &Result<Option<Part>, Fault>) -> bool
     matches!(outcome, Ok(Some(Part::Marker)))
 }
 
-/// Reads the next block or frame; nothing where the stream is over. The marker is read with the block behind it.
-fn next_item<R: Source>(reader: &mut BitReader<R>, track: &mut Track) -> Result<Option<Part>, Fault>
-    ensures counts { Counts (lifted reader.old) reader.new (reason_of told result) }
+/// Reads the next block or frame; `None` at the end of the stream. The marker is read with the block after it.
+fn next_item<C: Container>(container: &mut C, track: &mut Track) -> Result<Option<Part>, Fault>
+    requires { C.stands container.old (stand_of track.old) ≡ true }
+    ensures stands { IfOk result (λ o. IfSome o (λ _. C.stands container.new (stand_of track.new) ≡ true)) }
+    ensures counts { CountsIn C.Container track.old container.old container.new result }
     ensures memory { track.old.phase ≡ Phase.Frames → IfErr result (λ f. f.why ≢ Why.Memory) }
     ensures made { IfOk result (λ o. IfSome o (λ part. is_made (Course.Read part) track.new ≡ true)) }
-    ensures gives { (p : Progress) → IsAt track.old p → GivesFirst p (lifted reader.old) reader.new track.new (λ o. found track.new o) result }
+    ensures gives { (p : Progress) → IsAt track.old p → GivesFirst C.Container p container.old container.new track.new (λ o. found track.new o) result }
 {
-    let outcome = advance(reader, track);
+    let outcome = container.next(track);
     if is_marker(&outcome) {
-        return advance(reader, track);
+        return container.next(track);
     }
     outcome
 }
 
-impl<R: Source> Decoder<R> {
-    /// A decoder at the start of a stream. It takes memory where it reads metadata: for one block, and, at STREAMINFO, for one frame.
-    pub fn new(alloc: Global, source: R, profile: Profile) -> Decoder<R>
-        ensures track { IsAt result.track opening }
+impl<C: Container> Decoder<C> {
+    /// A decoder that reads from a container, in the state of a track: that of [`Track::new`] if the first metadata block comes next. Nothing is read or
+    /// allocated yet.
+    pub fn over(container: C, track: Track) -> Decoder<C>
+        requires { C.stands container (stand_of track) ≡ true }
+        ensures track { result.track ≡ track }
         ensures course { result.course ≡ Course.Begun }
-        ensures known { result.reader.known ≡ R.known source }
-        ensures errors { (result.reader.errors ≡ R.errors source) × (result.reader.raised ≡ R.raised source) }
-        ensures cursor { (lifted result.reader).cursor ≡ record { left = bits_of (R.coming source); mark = beginning (short_of ((R.behind source).fails)) } }
+        ensures container { result.container ≡ container }
     {
         Decoder {
-            reader: BitReader::new(source),
-            track: Track::opening(alloc, profile),
+            container,
+            track,
             course: Course::Begun,
         }
     }
 
-    /// Reads the next item, which [`Decoder::view`] shows then.
+    /// Reads the next item, which [`Decoder::view`] shows then: a metadata block (RFC 9639, section 8), a frame (section 9), or the end of the stream.
+    ///
+    /// # Errors
+    ///
+    /// Those of [`Decoder::next`].
     pub fn step(&mut self) -> Result<(), Fault>
-        ensures { Moves (stage_of self.old) (stage_of self.new) (λ _. held self.new.course self.new.track) result }
+        ensures { Moves C.Container (stage_of self.old) (stage_of self.new) (λ _. held self.new.course self.new.track) result }
     {
         match self.course {
             Course::Begun => self.advance(),
@@ -81,9 +84,10 @@ impl<R: Source> Decoder<R> {
     }
 
     fn advance(&mut self) -> Result<(), Fault>
-        ensures { Goes (stage_of self.old) (stage_of self.new) (λ _. held self.new.course self.new.track) result }
+        requires { is_going self.old.course ≡ true }
+        ensures { Goes C.Container (stage_of self.old) (stage_of self.new) (λ _. held self.new.course self.new.track) result }
     {
-        match next_item(&mut self.reader, &mut self.track) {
+        match next_item(&mut self.container, &mut self.track) {
             Ok(Some(part)) => {
                 self.course = Course::Read(part);
                 Ok(())
@@ -99,7 +103,7 @@ impl<R: Source> Decoder<R> {
         }
     }
 
-    /// The item that was read last; [`Item::End`] where nothing was read.
+    /// The item that was read last. [`Item::End`] before the first call, at the end of the stream, and after an error.
     pub fn view(&self) -> Item<'_>
         ensures { shown_of result ≡ held self.now.course self.now.track }
     {
@@ -116,31 +120,54 @@ impl<R: Source> Decoder<R> {
         }
     }
 
-    /// Reads the next item, and lends it.
+    /// Reads the next item, and lends it: a metadata block (RFC 9639, section 8), a frame (section 9), or the end of the stream. After [`Item::End`] each call
+    /// returns [`Item::End`].
     ///
     /// # Errors
     ///
-    /// A [`Fault`] tells where and why the stream is refused. After any fault each call answers [`Why::Spent`] at the
-    /// place of that fault; after [`Item::End`] each call answers [`Item::End`].
+    /// A [`Fault`] has the place, with blocks and frames counted from 0, and the reason. [`Why::Read`]: the device returned an error. [`Why::Memory`]: an
+    /// allocation failed, which happens at metadata blocks alone. Each other reason: the stream is refused there. After any error each call returns
+    /// [`Why::Spent`] at the place of that error.
     pub fn next(&mut self) -> Result<Item<'_>, Fault>
-        ensures* after { sem 𝓛 (follows_so (the_row R.row R.Source) (the_row R.row R.Source) self.entry.ghost_name none (λ _ _. ⊤)
-            (λ last. Moves (stage_of self.old) (stage_of last) shown_of result)) }
+        ensures* after { sem 𝓛 (follows_so (the_row C.row C.Container) (the_row C.row C.Container) self.entry.ghost_name none (λ _ _. ⊤)
+            (λ last. Moves C.Container (stage_of self.old) (stage_of last) shown_of result)) }
     {
         self.step()?;
         Ok(self.view())
     }
 
-    /// The source, without the bytes that were pulled and not read.
-    pub fn into_source(self) -> R
-        ensures known { self.reader.known ≡ true → R.known result ≡ true }
-        ensures errors { (R.errors result ≡ self.reader.errors) × (R.raised result ≡ self.reader.raised) }
-        ensures names { R.names result ≡ self.reader.names }
+    /// Gives the container back: what it still gives comes after the item that was read last. After an error it is of no use any more.
+    pub fn into_container(self) -> C
+        ensures { result ≡ self.container }
     {
         let Decoder {
-            reader,
+            container,
             track: _,
             course: _,
         } = self;
-        reader.into_source()
+        container
+    }
+}
+
+impl<R: Source> Decoder<BitReader<R>> {
+    /// A decoder at the start of a native stream, before the marker `fLaC` (RFC 9639, section 6). It allocates when it reads metadata: for one block, and, at
+    /// STREAMINFO, for one frame.
+    pub fn new(alloc: Global, source: R, profile: Profile) -> Decoder<BitReader<R>>
+        ensures track { IsAt result.track opening }
+        ensures course { result.course ≡ Course.Begun }
+        ensures known { result.container.known ≡ R.known source }
+        ensures errors { (result.container.errors ≡ R.errors source) × (result.container.raised ≡ R.raised source) }
+        ensures cursor { (lifted result.container).cursor ≡ record { left = bits_of (R.coming source); mark = beginning (short_of ((R.behind source).fails)) } }
+    {
+        Decoder::over(BitReader::new(source), Track::opening(alloc, profile))
+    }
+
+    /// Gives the source back, without the bytes that were pulled from it and not read.
+    pub fn into_source(self) -> R
+        ensures known { self.container.known ≡ true → R.known result ≡ true }
+        ensures errors { (R.errors result ≡ self.container.errors) × (R.raised result ≡ self.container.raised) }
+        ensures names { R.names result ≡ self.container.names }
+    {
+        self.into_container().into_source()
     }
 }

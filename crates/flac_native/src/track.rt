@@ -9,8 +9,9 @@ ghost use Rattle.flac_native.specs.Within.{ReadsWithin};
 ghost use Rattle.flac_meta.specs.Block.{block as block_layout};
 ghost use Rattle.flac_native.specs.Resuming.{at_frames};
 ghost use Rattle.flac_frame.specs.Lent.{frame_of};
-ghost use Rattle.flac_native.specs.Stream.{Progress, marked, block as block_piece, framed, phase_behind, raised, info_after, before_behind, frame_behind, place_in, next, opening};
-ghost use Rattle.flac_native.specs.Track.{IsAt, stand_of, info_in, before_in, shown};
+ghost use Rattle.flac_native.specs.Stream.{Progress, marked, block as block_piece, framed, phase_behind, raised, info_after, before_behind, frame_behind, place_in, next, opening, layout_in};
+ghost use Rattle.flac_native.specs.Track.{IsAt, stand_of, info_in, before_in, shown, kept};
+ghost use Rattle.flac_native.specs.declared.phase.Phase.TheVariants.{Blocks};
 ghost use Rattle.flac_native.specs.contracts.track.Track.{the_row};
 
 use crate::fault::Place;
@@ -119,6 +120,23 @@ impl Track {
         let (last, block) = read_block(self.alloc, bits, &mut self.seen)?;
         self.note(last, &block)?;
         Ok((last, block))
+    }
+
+    /// Reads the next metadata block as [`Track::block`] does (RFC 9639, section 8), and keeps it: a [`crate::Container`] calls it.
+    ///
+    /// # Errors
+    /// Those of [`Track::block`].
+    pub fn next_block<R: Source>(&mut self, bits: &mut BitReader<R>) -> Result<(), Why>
+        ensures spends { OnOk result (bits.new.most + 32 ≤ bits.old.most) }
+        ensures counts { Counts bits.old bits.new result }
+        ensures reads { ReadsInRoom (λ _. kept self.new) (layout_in Blocks (stand_of self.old)) bits.old bits.new result }
+        ensures next { OnOk result ((p : Progress) → IsAt self.old p → IsAt self.new (next p (kept self.new))) }
+        ensures made { OnOk result (is_some self.new.block ≡ true) }
+    {
+        let (last, block) = self.block(bits)?;
+        self.last = last;
+        self.block = Some(block);
+        Ok(())
     }
 
     /// Reads the next frame, which [`Track::view`] shows then. It has at most 16777215 bytes, and is judged by STREAMINFO and the frames that this track read

@@ -3,15 +3,15 @@ pub mod MeaningContents
 pub mod MeaningSteps
 pub mod MeaningStreams
 pub mod MeaningReadings
-pub mod MeaningHanding
 pub mod MeaningErrors
 pub mod Packeted
 pub mod UnderWay
+pub mod Arriving
 pub mod Stepped
-pub mod Handed
 pub mod NativeItems
 pub mod NativeBlocks
 pub mod NativeFrames
 pub mod Listing
 pub mod Packing
 pub mod Whole
+pub mod FirstByte

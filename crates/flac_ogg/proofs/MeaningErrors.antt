@@ -2,6 +2,7 @@
 use Rattle.std.proofs.Common.{◌≡◌, ◌≢◌, ℕ, zero, suc, Bool, true, false, cond, List, [], ◌∷◌, Option, Some, None, Result, Ok, Err, refl, sym, ap, subst, ◌∙◌, inl, inr, ◌⊎◌}
 use Rattle.std.specs.Prelude.{⊤}
 use Rattle.std.specs.List.{sum}
+use Rattle.flac_bits.specs.Bits.{is_nil}
 use Rattle.flac_bits.specs.State.{Mark, Cursor, past}
 use Rattle.flac_bits.specs.Layout.{Layout, done, bind, bits, unary, judge, refuse, mark, Rule, Reason, number_at}
 use Rattle.flac_bits.specs.Lists.{list_of}
@@ -15,10 +16,11 @@ use Rattle.flac_native.specs.Stream.{Piece, Progress, grammar, end_rules as stre
 use Rattle.flac_native.specs.declared.fault.Place.{Place}
 use Rattle.flac_pages.specs.declared.page.Before.{Before}
 use Rattle.flac_pages.specs.Page.{Page, page, page_behind, head_behind, end_rules}
-use Rattle.flac_pages.specs.Pages.{Stop, closed, broken, between, unless_over, fault_behind, end_fault}
+use Rattle.flac_pages.specs.Pages.{Stop, closed, broken, between, unless_over, end_fault}
 use Rattle.flac_pages.specs.Packets.{page_index, at_page, fault_of, stop_of}
 use Rattle.flac_pages.specs.Runs.{left_by, IsNoPage, EndsSo}
 use Rattle.flac_pages.specs.Items.{PacketEnd, whole, unended, cut_at, Packet, cut_off, in_packet, IsNoItem}
+use Rattle.flac_ogg.specs.Coming.{TellsRead}
 use Rattle.flac_ogg.specs.Stream.{closed_packet, open_packet, StopsAtPacket, OggRefused, fault_in, stop_in}
 
 -- ---- reasons that are not `Read`
@@ -117,10 +119,6 @@ same_told f g e = cc
 abbrev reason : Why → Option Why
 reason w = Some w
 
--- this fault is one of reading
-abbrev pub TellsRead : Option (ℕ × Why) → Type 0
-TellsRead o = (n : ℕ) × (o ≡ Some (n, Read))
-
 broken_read : (before : Option Before) (m : Mark) (text rest : List Bool) (n k : ℕ) (why : Why) → IsNoPage before (past text m) rest why → told (k, why) ≡ told (n, Read) → m.short ≡ Read
 broken_read before m text rest n k why is e =
     let same : why ≡ Read = ap (λ (f : ℕ × Why). f.1) (same_told (k, why) (n, Read) e) in
@@ -128,7 +126,7 @@ broken_read before m text rest n k why is e =
 
 byte_behind : (d : Cursor) → end_fault d ≡ Some Read → d.mark.short ≡ Read
 unfolding end_fault
-byte_behind d e = go (number_at 8 d) refl e
+byte_behind d e = go d.left e
   where
     same_reason : (v w : Why) → reason v ≡ reason w → v ≡ w
     same_reason v w e = cc
@@ -137,18 +135,15 @@ byte_behind d e = go (number_at 8 d) refl e
     over_read Truncated e = absurd cc
     over_read w e = same_reason w Read e
 
-    go : (r : Result (ℕ × Cursor) Reason) → number_at 8 d ≡ r → fault_behind r ≡ Some Read → d.mark.short ≡ Read
-    go (Ok x) ran e = absurd (not_read PageOrder refl (same_reason PageOrder Read e))
-    go (Err w) ran e = elim (refuses (bits 8) d.left d.mark w.why ran) [
-      | inl (front, rest, split, shows) ↦ absurd shows
-      | inr (is, cut) ↦ sym is ∙ over_read w.why e
-    ]
+    go : (left : List Bool) → cond (is_nil left) (unless_over d.mark.short) (Some PageOrder) ≡ Some Read → d.mark.short ≡ Read
+    go [] e = over_read d.mark.short e
+    go (b ∷ bs) e = absurd (not_read PageOrder refl (same_reason PageOrder Read e))
 
-fault_read : (before : Option Before) (m : Mark) (pages : List Page) (text rest : List Bool) (stop : Stop) (n : ℕ) → EndsSo before m pages text rest stop → TellsRead (fault_of n stop) → m.short ≡ Read
+pub fault_read : (before : Option Before) (m : Mark) (pages : List Page) (text rest : List Bool) (stop : Stop) (n : ℕ) → EndsSo before m pages text rest stop → TellsRead (fault_of n stop) → m.short ≡ Read
 fault_read before m pages text rest (closed d) n ends (k, e) = absurd (none_told (k, Read) e)
 fault_read before m pages text rest (broken why) n ends (k, e) = broken_read (left_by before pages) m text rest k (page_index n) why ends.1 e
 
-stop_read : (before : Option Before) (m : Mark) (pages : List Page) (text rest : List Bool) (stop : Stop) (n : ℕ) → EndsSo before m pages text rest stop → TellsRead (stop_of n stop) → m.short ≡ Read
+pub stop_read : (before : Option Before) (m : Mark) (pages : List Page) (text rest : List Bool) (stop : Stop) (n : ℕ) → EndsSo before m pages text rest stop → TellsRead (stop_of n stop) → m.short ≡ Read
 stop_read before m pages text rest (closed d) n ends (k, e) = sym (past-short text m) ∙ ap (λ (c : Cursor). c.mark.short) (sym ends.1) ∙ byte_behind d (go (end_fault d) e)
   where
     go : (o : Option Why) → at_page n o ≡ told (k, Read) → o ≡ Some Read
@@ -198,7 +193,7 @@ either_read : (b : Bool) (fault stop : Option (ℕ × Why)) → TellsRead (cond 
 either_read true fault stop tells = inr tells
 either_read false fault stop tells = inl tells
 
-stops_read : (p : Progress) (left : List (List ℕ)) (begun : List ℕ) (fault stop : Option (ℕ × Why)) (at : Place) → StopsAtPacket p left begun fault stop at Read → TellsRead fault ⊎ TellsRead stop
+pub stops_read : (p : Progress) (left : List (List ℕ)) (begun : List ℕ) (fault stop : Option (ℕ × Why)) (at : Place) → StopsAtPacket p left begun fault stop at Read → TellsRead fault ⊎ TellsRead stop
 stops_read p (packet ∷ left) begun fault stop at (own, none, is) = absurd (closed_read packet (no_item_read _ _ _ (closed_packet packet) own none))
 stops_read p [] begun fault stop at (inl (some, (own, none, is))) = inl (open_read begun fault (no_item_read _ _ _ (open_packet begun fault) own none))
 stops_read p [] begun fault stop at (inr (inl (nothing, (n, stops, is)))) = either_read (grammar.may_end p) fault stop (n, stops)

@@ -10,7 +10,8 @@ use Rattle.flac_pages.specs.Packets.{Ahead}
 use Rattle.flac_pages.specs.Given.{PacketsAhead}
 use Rattle.flac_ogg.specs.Stream.{start, OggStream, OggRefused}
 use Rattle.flac_ogg.specs.Steps.{PacketStep, item, over, refused, packet_step, Goes}
-use Rattle.flac_ogg.specs.Decoding.{DecidesOgg, OneOggReading}
+use Rattle.flac_bits.specs.Handing.{ReadsOnce, IsRead}
+use Rattle.flac_ogg.specs.Decoding.{ogg_reading}
 use Rattle.flac_ogg.proofs.MeaningContents.{ahead_of, some_contents, contents_ahead}
 use Rattle.flac_ogg.proofs.MeaningSteps.{over_is_no_refusal, same_item, same_refusal, step_item}
 use Rattle.flac_ogg.proofs.MeaningStreams.{goes_over, goes_refused, stream_goes, refused_goes}
@@ -45,7 +46,7 @@ one_way p a (x ∷ xs) (y ∷ ys) q r b c f g is_f is_g (d, first, more) step_f 
     let rest = one_way (next p x) d xs ys q r b c f g is_f is_g more step_f moved step_g in
     (ap (λ z. z ∷ xs) same.0 ∙ ap (λ zs. y ∷ zs) rest.0, rest.1)
 
-pub one_ogg_reading : (mark : Mark) (text : List Bool) → OneOggReading mark text
+pub one_ogg_reading : (mark : Mark) (text : List Bool) → ReadsOnce (ogg_reading mark text)
 one_ogg_reading mark text = record {
   streams = λ xs ys s t.
       let a = stream_goes mark text xs s in
@@ -63,61 +64,27 @@ one_ogg_reading mark text = record {
       (same.0, refusal.0, refusal.1);
 }
 
--- ---- which answer an input has
-
--- the last step is what was answered, but where memory is wanting
-abbrev pub EndsAs : Option (Place × Why) → PacketStep → Type 0
-EndsAs None step = step ≡ over
-EndsAs (Some f) step = f.1 ≢ Memory → step ≡ refused f.0 f.1
-
-abbrev outcome : Option (Place × Why) → Option (Place × Why)
-outcome o = o
-
-none_some : (f : Place × Why) → outcome None ≡ Some f → ⊥
-none_some f e = absurd cc
-
-some_is : (f g : Place × Why) → outcome (Some f) ≡ Some g → f ≡ g
-some_is f g e = cc
-
-pub same_outcome : (at to : Place) (v w : Why) → outcome (Some (at, v)) ≡ Some (to, w) → (at ≡ to) × (v ≡ w)
-same_outcome at to v w e = let pair = some_is (at, v) (to, w) e in (ap (λ (r : Place × Why). r.0) pair, ap (λ (r : Place × Why). r.1) pair)
-
-ends_refused : (o : Option (Place × Why)) (at : Place) (why : Why) (step : PacketStep) → EndsAs o step → o ≡ Some (at, why) → why ≢ Memory → step ≡ refused at why
-ends_refused o at why step ends e room = (subst (λ (k : Option (Place × Why)). EndsAs k step) e ends) room
-
-ends_over : (o : Option (Place × Why)) (step : PacketStep) → EndsAs o step → o ≡ None → step ≡ over
-ends_over o step ends e = subst (λ (k : Option (Place × Why)). EndsAs k step) e ends
-
-pub decided : (mark : Mark) (text : List Bool) (items : List Piece) (p : Progress) (a : Ahead) (answer : Option (Place × Why)) → Goes start (ahead_of mark text) items p a → EndsAs answer (packet_step p a) → DecidesOgg mark text answer
-decided mark text items p a answer goes ends = record {
-  accepted = λ xs stream at why e room. (one_ogg_reading mark text).either xs items at why stream (goes_refused mark text items p a at why goes (ends_refused answer at why (packet_step p a) ends e room));
-  is_refused = λ xs at why refusal e. (one_ogg_reading mark text).either items xs at why (goes_over mark text items p a goes (ends_over answer (packet_step p a) ends e)) refusal;
-  shown = λ xs at why refusal to w e room.
-      let same = (one_ogg_reading mark text).refusals items xs to at w why (goes_refused mark text items p a to w goes (ends_refused answer to w (packet_step p a) ends e room)) refusal in
-      (same.1, same.2);
-}
-
 -- ---- and each input has an answer
 
-record IsRead (p : Progress) (a : Ahead) : Type 0 where
+record AllRead (p : Progress) (a : Ahead) : Type 0 where
   items : List Piece
   state : Progress
   ahead : Ahead
   goes : Goes p a items state ahead
   final : IsFinal (packet_step state ahead)
 
-nothing_more : (p : Progress) (a : Ahead) (f : PacketStep) → packet_step p a ≡ f → IsFinal f → IsRead p a
+nothing_more : (p : Progress) (a : Ahead) (f : PacketStep) → packet_step p a ≡ f → IsFinal f → AllRead p a
 nothing_more p a f e final = record { items = []; state = p; ahead = a; goes = (refl, refl); final = subst (λ (k : PacketStep). IsFinal k) (sym e) final }
 
 rest_of : List (List ℕ) → List (List ℕ)
 rest_of [] = []
 rest_of (x ∷ xs) = xs
 
-read_all : (p : Progress) (a : Ahead) (packets : List (List ℕ)) (begun : List ℕ) → PacketsAhead a packets begun → IsRead p a
+read_all : (p : Progress) (a : Ahead) (packets : List (List ℕ)) (begun : List ℕ) → PacketsAhead a packets begun → AllRead p a
 unfolding rest_of
 read_all p a [] begun h = go (packet_step p a) refl
   where
-    go : (f : PacketStep) → packet_step p a ≡ f → IsRead p a
+    go : (f : PacketStep) → packet_step p a ≡ f → AllRead p a
     go (item x c) e = absurd (none (step_item p a [] begun x c h e).split)
       where
         none : {x : List ℕ} {xs : List (List ℕ)} → [] ≡ x ∷ xs → ⊥
@@ -126,7 +93,7 @@ read_all p a [] begun h = go (packet_step p a) refl
     go (refused at why) e = nothing_more p a (refused at why) e tt
 read_all p a (y ∷ ys) begun h = go (packet_step p a) refl (λ q b k. read_all q b ys begun k)
   where
-    go : (f : PacketStep) → packet_step p a ≡ f → ((q : Progress) (b : Ahead) → PacketsAhead b ys begun → IsRead q b) → IsRead p a
+    go : (f : PacketStep) → packet_step p a ≡ f → ((q : Progress) (b : Ahead) → PacketsAhead b ys begun → AllRead q b) → AllRead p a
     go (item x c) e others =
         let one = step_item p a (y ∷ ys) begun x c h e in
         let same : one.others ≡ ys = sym (ap rest_of one.split) in
@@ -135,13 +102,13 @@ read_all p a (y ∷ ys) begun h = go (packet_step p a) refl (λ q b k. read_all 
     go over e others = nothing_more p a over e tt
     go (refused at why) e others = nothing_more p a (refused at why) e tt
 
-pub some_ogg_reading : (mark : Mark) (text : List Bool) → ((items : List Piece) × OggStream mark items text) ⊎ ((items : List Piece) × (at : Place) × (why : Why) × OggRefused mark items text at why)
+pub some_ogg_reading : (mark : Mark) (text : List Bool) → IsRead (ogg_reading mark text)
 some_ogg_reading mark text =
     let c = some_contents mark text in
     let r = read_all start (ahead_of mark text) c.packets c.begun (contents_ahead c) in
     go r (packet_step r.state r.ahead) refl r.final
   where
-    go : (r : IsRead start (ahead_of mark text)) (f : PacketStep) → packet_step r.state r.ahead ≡ f → IsFinal f → ((items : List Piece) × OggStream mark items text) ⊎ ((items : List Piece) × (at : Place) × (why : Why) × OggRefused mark items text at why)
+    go : (r : AllRead start (ahead_of mark text)) (f : PacketStep) → packet_step r.state r.ahead ≡ f → IsFinal f → IsRead (ogg_reading mark text)
     go r (item x c) e final = absurd final
     go r over e final = inl (r.items, goes_over mark text r.items r.state r.ahead r.goes e)
     go r (refused at why) e final = inr (r.items, at, why, goes_refused mark text r.items r.state r.ahead at why r.goes e)

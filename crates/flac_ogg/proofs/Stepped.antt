@@ -161,9 +161,9 @@ unbroken p e = go (to_come p).stop e
     go (broken why) e = absurd (differ (page_index n, why) e)
 
 -- all packets were read
-pub end_step : (p : Progress) (old new : Stands) → Begins old new (Ok false) → old.known ≡ true → new.errors ≡ old.errors → packet_step p (ahead old) ≡ without_packet p None
-end_step p old new b known same =
-    let over = b.over known same in
+pub end_step : (p : Progress) (old new : Stands) → Begins old new (Ok false) → old.known ≡ true → packet_step p (ahead old) ≡ without_packet p None
+end_step p old new b known =
+    let over = b.over known in
     none_step p (ahead old) None None over.0 (unbroken old over.1) over.1 ∙ ap (without_packet p) (no_fault (grammar.may_end p))
 
 -- or a fault stands there

@@ -24,7 +24,7 @@ use Rattle.flac_native.specs.Given.{Cut, fits_plan, plan_fault, blocks_in, info_
 use Rattle.flac_native.proofs.BlocksWritten.{nil_is}
 use Rattle.flac_native.proofs.Digests.{digest_is_bytes}
 use Rattle.flac_native.proofs.WholeBytes.{length-joined, header_long}
-use Rattle.flac_pages.specs.Pages.{closed, end_fault, fault_behind, unless_over}
+use Rattle.flac_pages.specs.Pages.{closed, end_fault, unless_over}
 use Rattle.flac_pages.specs.Packets.{at_page}
 use Rattle.flac_pages.specs.Placed.{Placed, IsPlaced, stream_pages, stream_spelling}
 use Rattle.flac_pages.proofs.PlacedPages.{written_pages_are_good}
@@ -138,13 +138,9 @@ packets_made p list a l0 l1 l2 l3 blank first least greatest many none put block
 
 -- ---- the stream
 
-nothing_left : (m : Mark) → number_at 8 (record { left = []; mark = m }) ≡ Err (because m.short)
-unfolding number_at number_from next_bit
-nothing_left m = refl
-
 ends_well : (m : Mark) → m.short ≡ Truncated → end_fault (record { left = []; mark = m }) ≡ None
 unfolding end_fault
-ends_well m is = ap fault_behind (nothing_left m) ∙ ap unless_over is
+ends_well m is = ap unless_over is
 
 ogg_stream : (serial : ℕ) (q : Placed) (qs : List Placed) (items : List Piece) → serial < 2 ^ 32 → length q.packet ≡ 51 → All IsPlaced (q ∷ qs) → AreStream (map (λ x. x.packet) (q ∷ qs)) items
     → OggStream (beginning Truncated) items (stream_spelling serial (q ∷ qs))

@@ -2,7 +2,10 @@ pub mod Mapping
 pub mod Stream
 pub mod Steps
 pub mod Decoding
+pub mod Fronts
+pub mod Either
 pub mod Telling
+pub mod Coming
 pub mod Native
 pub mod Laws
 pub mod Listed

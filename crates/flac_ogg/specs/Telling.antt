@@ -3,17 +3,13 @@ use Rattle.std.specs.Prelude.{◌≡◌, ◌≢◌, Bool, true, false, List, [],
 use Rattle.flac_bits.specs.State.{Mark}
 use Rattle.flac_bits.specs.Layout.{Layout, ◌>>=◌}
 use Rattle.flac_bits.specs.declared.why.Why.TheVariants.{Memory}
-use Rattle.flac_native.specs.Stream.{Piece, block, framed, Stand, layout_in}
-use Rattle.flac_native.specs.Track.{stand_of, shown}
+use Rattle.flac_native.specs.Stream.{Piece, Stand, layout_in}
 use Rattle.flac_native.specs.declared.fault.Fault.{Fault}
 use Rattle.flac_native.specs.declared.phase.Phase.{Phase}
 use Rattle.flac_native.specs.declared.phase.Phase.TheVariants.{Opening, Blocks, Frames}
-use Rattle.flac_native.specs.declared.track.Track.{Track}
 use Rattle.flac_pages.specs.Packets.{Ahead, Place as Stands}
 use Rattle.flac_ogg.specs.Mapping.{mapping}
 use Rattle.flac_ogg.specs.Steps.{PacketStep, item, over, refused}
-use Rattle.flac_ogg.specs.declared.part.Part.{Part}
-use Rattle.flac_ogg.specs.declared.part.Part.TheVariants as part
 
 -- ---- what comes next
 
@@ -48,16 +44,6 @@ pub record IsFront (mark : Mark) (text : List Bool) (p : Stands) : Type 0 where
   pub cursor : p.cursor ≡ record { left = text; mark = mark }
 
 -- ---- what is read
-
--- the part that was read last
-abbrev pub piece_of : Track → Part → Piece
-piece_of t (part.Block last b) = block last b
-piece_of t part.Frame = framed (shown t)
-
--- a frame is there to be lent
-abbrev pub IsMade : Part → Track → Type 0
-IsMade (part.Block last b) t = ⊤
-IsMade part.Frame t = is_some (stand_of t).info ≡ true
 
 -- what a call answers that reads the next packet is what the step gives, but where memory is wanting
 abbrev pub StepIs : {X : Type 0} → (X → Piece) → PacketStep → Ahead → Result (Option X) Fault → Type 0

@@ -2,17 +2,22 @@
 #![tactic(auto)]
 
 mod advance;
+mod decoder;
 mod decoding;
+mod either;
 mod encoding;
+mod fronted;
 mod items;
 mod laws;
 mod mapping;
 mod packet_list;
-mod part;
+mod packets;
 mod parts;
 mod places;
 
+pub use decoder::ogg_decoder;
 pub use decoding::decode_ogg;
+pub use either::decode_any;
 pub use encoding::encode_ogg;
 pub use flac_bits::{Collected, Counted, Memory, Pieces, Source, Target, Why};
 pub use flac_frame::{Audio, FrameView, SetupFault};
@@ -20,6 +25,9 @@ pub use flac_meta::{
     Block, BlockList, Bytes, Comments, CueIndex, CueIndices, CueSheet, CueTrack, CueTracks,
     Picture, SeekPoint, SeekTable, StreamInfo, Texts,
 };
-pub use flac_native::{EncodeFault, Fault, Place, Plan, Profile, Sink, SinkFault};
+pub use flac_native::{
+    Decoder, EncodeFault, Fault, Item, Place, Plan, Profile, Sink, SinkFault, decode,
+};
 pub use flac_pages::{PacketBytes, Pages};
 pub use laws::{encoded_items, only_one_way, same_items, some_way};
+pub use packets::OggPackets;

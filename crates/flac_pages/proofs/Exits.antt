@@ -78,6 +78,7 @@ waits_turned old now new w t = record {
   names = t.names ∙ w.names;
   rest = t.rest;
   more = t.more ∙ w.more;
+  room = omega (arith, w.room, t.room);
   ahead = λ known. t.ahead (w.known known) ∙ w.ahead known;
 }
 
@@ -101,6 +102,7 @@ waits_begun old now w some = record {
   names = w.names;
   stands = (w.rest, refl);
   some = some;
+  room = omega (arith, w.room);
   ahead = w.ahead;
 }
 
@@ -111,13 +113,15 @@ waits_begins old now new (Ok true) w b = record {
   names = b.names ∙ w.names;
   stands = b.stands;
   some = b.some;
+  room = omega (arith, w.room, b.room);
   ahead = λ known. b.ahead (w.known known) ∙ w.ahead known;
 }
 waits_begins old now new (Ok false) w b = record {
-  errors = omega (arith, w.errors, b.errors);
+  known = λ known. b.known (w.known known);
+  errors = b.errors ∙ w.errors;
   names = b.names ∙ w.names;
-  over = λ known same.
-      let over = b.over (w.known known) (same ∙ sym w.errors) in
+  over = λ known.
+      let over = b.over (w.known known) in
       (ap (λ (a : Ahead). a.lacing) (sym (w.ahead known)) ∙ over.0, ap (λ (a : Ahead). a.stop) (sym (w.ahead known)) ∙ over.1);
 }
 waits_begins old now new (Err f) w b = record {
@@ -131,12 +135,14 @@ waits_begins old now new (Err f) w b = record {
 
 -- behind the last page
 pub closes : (old new : Place) (o : Option Why) (result : Result Bool (ℕ × Why)) → result ≡ ended old.count o → old.count < 2 ^ 64 → old.lacing ≡ [] → old.last ≡ true → new.last ≡ true → old.errors ≤ new.errors → new.names ≡ old.names
-    → (old.known ≡ true → new.errors ≡ old.errors → o ≡ end_fault old.cursor) → Begins old new result
-closes old new o result e small l la nla errors names fault = subst (λ (r : Result Bool (ℕ × Why)). Begins old new r) (sym e) (go o fault)
+    → (o ≡ None → (old.known ≡ true → new.known ≡ true) × (new.errors ≡ old.errors)) → (old.known ≡ true → new.errors ≡ old.errors → o ≡ end_fault old.cursor) → Begins old new result
+closes old new o result e small l la nla errors names over fault = subst (λ (r : Result Bool (ℕ × Why)). Begins old new r) (sym e) (go o over fault)
   where
-    go : (o : Option Why) → (old.known ≡ true → new.errors ≡ old.errors → o ≡ end_fault old.cursor) → Begins old new (ended old.count o)
-    go None fault = record { errors = errors; names = names; over = λ known same. closed_ahead old None small l la (sym (fault known same)) }
-    go (Some why) fault = record {
+    go : (o : Option Why) → (o ≡ None → (old.known ≡ true → new.known ≡ true) × (new.errors ≡ old.errors)) → (old.known ≡ true → new.errors ≡ old.errors → o ≡ end_fault old.cursor) → Begins old new (ended old.count o)
+    go None over fault =
+        let calm = over refl in
+        record { known = calm.0; errors = calm.1; names = names; over = λ known. closed_ahead old None small l la (sym (fault known calm.1)) }
+    go (Some why) over fault = record {
       errors = errors;
       names = names;
       fault = λ known same. closed_ahead old (Some why) small l la (sym (fault known same));

@@ -1,6 +1,7 @@
 -- A reader's call over a packet's bits and the judgement of the packet's end, together: they tell what the packet is.
 use Rattle.std.proofs.Common.{◌≡◌, ℕ, ◌≤◌, Bool, true, false, [], Option, Some, None, Result, Ok, Err, OnOk, refl, sym, ap, subst, ◌∙◌, arith}
 use Rattle.std.proofs.lemmas.List.{append-nil}
+use Rattle.std.specs.Borrow.{GName}
 use Rattle.flac_bits.specs.Bits.{is_nil}
 use Rattle.flac_bits.specs.State.{Mark, Cursor, State, Behind, short_of, started, without_fence}
 use Rattle.flac_bits.specs.Fence.{read_in}
@@ -60,25 +61,28 @@ memory_told {X = X} mid new read result judges calm is = calm (subst (λ (r : Re
 
 -- ---- from a packet's first bit on
 
+pub at_there : {name : GName} (p q : Place) (s : State) → p ≡ q → IsAtPacket name p s → IsAtPacket name q s
+at_there {name} p q s e at = subst (λ (k : Place). IsAtPacket name k s) e at
+
 abbrev cursor_at : Place → Cursor
 cursor_at p = record { left = (packet_of p).bits; mark = packet_mark p }
 
 same_end : (a b : Behind) → a ≡ without_fence b → end_of a ≡ end_of b
 same_end a b e = ap (λ (x : Behind). end_of x) e
 
-short_there : (p : Place) (s : State) → IsAtPacket p s → s.cursor.mark.short ≡ short_of s.behind.fails
+short_there : {name : GName} (p : Place) (s : State) → IsAtPacket name p s → s.cursor.mark.short ≡ short_of s.behind.fails
 short_there p s at = ap (λ (c : Cursor). c.mark.short) at.cursor ∙ ap (λ (b : Behind). short_of b.fails) (sym at.behind)
 
 -- the fence that stands nowhere is lifted, and the checks have begun
-pub lifted_there : (p : Place) (s : State) → IsAtPacket p s → (started (lifted s)).cursor ≡ s.cursor
+pub lifted_there : {name : GName} (p : Place) (s : State) → IsAtPacket name p s → (started (lifted s)).cursor ≡ s.cursor
 lifted_there p s at =
     let none : s.behind.fenced ≡ [] = ap (λ (b : Behind). b.fenced) at.behind in
     let short : short_of s.behind.fails ≡ (packet_mark p).short = ap (λ (b : Behind). short_of b.fails) at.behind in
     rw (at.cursor, none, short, append-nil (packet_of p).bits) refl
 
 -- what a reader answered over the packet, and the judgement of its end, tell what the packet is
-pub packet_told : {X A : Type 0} (view : X → A) (room : Option ℕ) (l : Layout A) (p : Place) (old mid : State) (new : Place) (read : Result X Why) (result : Result X (Option ℕ × Why))
-    → IsAtPacket p old → Counts old mid read → Gives view (read_in room l old.cursor) old mid read → mid.errors ≤ new.errors → JudgesPacket mid new read result
+pub packet_told : {X A : Type 0} {name : GName} (view : X → A) (room : Option ℕ) (l : Layout A) (p : Place) (old mid : State) (new : Place) (read : Result X Why) (result : Result X (Option ℕ × Why))
+    → IsAtPacket name p old → Counts old mid read → Gives view (read_in room l old.cursor) old mid read → mid.errors ≤ new.errors → JudgesPacket mid new read result
     → p.known ≡ true → new.errors ≡ p.errors → TellsItem view room l (packet_mark p) (packet_of p) result
 packet_told view room l p old mid new read result at counts gives kept judges known same =
     let told = item_told view room l old.cursor old mid new read result at.raised (short_there p old at) counts gives kept judges (at.known ∙ known) (same ∙ sym at.errors) in
@@ -86,8 +90,8 @@ packet_told view room l p old mid new read result at counts gives kept judges kn
     (subst (λ (c : Cursor). TellsItem view room l c.mark (record { bits = c.left; ends = end_of old.behind }) result) at.cursor told)
 
 -- the same of a reader that lifts the fence and begins the checks first
-pub packet_told_within : {X A : Type 0} (view : X → A) (room : Option ℕ) (l : Layout A) (p : Place) (old mid : State) (new : Place) (read : Result X Why) (result : Result X (Option ℕ × Why))
-    → IsAtPacket p old → Counts (lifted old) mid read → Gives view (read_in room l (started (lifted old)).cursor) (lifted old) mid read → mid.errors ≤ new.errors → JudgesPacket mid new read result
+pub packet_told_within : {X A : Type 0} {name : GName} (view : X → A) (room : Option ℕ) (l : Layout A) (p : Place) (old mid : State) (new : Place) (read : Result X Why) (result : Result X (Option ℕ × Why))
+    → IsAtPacket name p old → Counts (lifted old) mid read → Gives view (read_in room l (started (lifted old)).cursor) (lifted old) mid read → mid.errors ≤ new.errors → JudgesPacket mid new read result
     → p.known ≡ true → new.errors ≡ p.errors → TellsItem view room l (packet_mark p) (packet_of p) result
 packet_told_within view room l p old mid new read result at counts gives kept judges known same =
     let there = lifted_there p old at in
@@ -137,14 +141,14 @@ has_behind p new b known errors (Ok x) knows same is gave = λ k.
     record { known = g.0; errors = g.1 ∙ same; lacing = g.2 ∙ ap (λ (b : Behind). b.pieces) is; bytes = g.3 ∙ ap (λ (b : Behind). b.bytes) is; fault = g.4 ∙ ap (λ (b : Behind). b.fault) is; stop = g.5 ∙ ap (λ (b : Behind). b.stop) is }
 has_behind p new b known errors (Err why) knows same is gave = tt
 
-pub behind_told : {X A : Type 0} (view : X → A) (room : Option ℕ) (l : Layout A) (p : Place) (old mid : State) (new : Place) (read : Result X Why) (result : Result X (Option ℕ × Why))
-    → IsAtPacket p old → Counts old mid read → ((read ≡ Err Memory → ⊥) → Gives view (read_in room l old.cursor) old mid read) → JudgesPacket mid new read result → OnOk result (GoesBehind mid new) → OnOk result (p.known ≡ true → HasBehind p new)
+pub behind_told : {X A : Type 0} {name : GName} (view : X → A) (room : Option ℕ) (l : Layout A) (p : Place) (old mid : State) (new : Place) (read : Result X Why) (result : Result X (Option ℕ × Why))
+    → IsAtPacket name p old → Counts old mid read → ((read ≡ Err Memory → ⊥) → Gives view (read_in room l old.cursor) old mid read) → JudgesPacket mid new read result → OnOk result (GoesBehind mid new) → OnOk result (p.known ≡ true → HasBehind p new)
 behind_told view room l p old mid new read result at counts gives judges goes =
     has_behind p new old.behind (old.known ≡ true) old.errors result (λ k. at.known ∙ k) at.errors at.behind
     (item_behind view room l old.cursor old mid new read result at.raised (short_there p old at) counts gives judges goes)
 
-pub behind_told_within : {X A : Type 0} (view : X → A) (room : Option ℕ) (l : Layout A) (p : Place) (old mid : State) (new : Place) (read : Result X Why) (result : Result X (Option ℕ × Why))
-    → IsAtPacket p old → Counts (lifted old) mid read → ((read ≡ Err Memory → ⊥) → Gives view (read_in room l (started (lifted old)).cursor) (lifted old) mid read) → JudgesPacket mid new read result → OnOk result (GoesBehind mid new)
+pub behind_told_within : {X A : Type 0} {name : GName} (view : X → A) (room : Option ℕ) (l : Layout A) (p : Place) (old mid : State) (new : Place) (read : Result X Why) (result : Result X (Option ℕ × Why))
+    → IsAtPacket name p old → Counts (lifted old) mid read → ((read ≡ Err Memory → ⊥) → Gives view (read_in room l (started (lifted old)).cursor) (lifted old) mid read) → JudgesPacket mid new read result → OnOk result (GoesBehind mid new)
     → OnOk result (p.known ≡ true → HasBehind p new)
 behind_told_within view room l p old mid new read result at counts gives judges goes =
     let there = lifted_there p old at in

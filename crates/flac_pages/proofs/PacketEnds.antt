@@ -1,5 +1,5 @@
 -- How a packet ends, told by where a reader of packets stands behind its last byte.
-use Rattle.std.proofs.Common.{◌≡◌, ℕ, Bool, true, false, List, [], Option, Some, None, Result, Ok, Err, refl, sym, ap, ◌∙◌, arith}
+use Rattle.std.proofs.Common.{◌≡◌, ◌≤◌, ◌+◌, ℕ, length, Bool, true, false, List, [], Option, Some, None, Result, Ok, Err, refl, sym, ap, ◌∙◌, arith}
 use Rattle.std.specs.Prelude.{⊤}
 use Rattle.flac_bits.specs.State.{Behind}
 use Rattle.flac_bits.specs.declared.why.Why.{Why}
@@ -12,6 +12,7 @@ pub record Passes (old now : Place) : Type 0 where
   pub known : old.known ≡ true → now.known ≡ true
   pub errors : now.errors ≡ old.errors
   pub names : now.names ≡ old.names
+  pub room : now.most + length now.body ≤ old.most + length old.body
   pub behind : old.known ≡ true → behind_of now ≡ behind_of old
 
 abbrev ends_ok : Result ⊤ (Option ℕ × Why)
@@ -31,6 +32,7 @@ passed_more old now mid new out n p f c = record {
   known = λ known. c.known ∙ f.known (p.known known);
   errors = c.errors ∙ f.errors ∙ p.errors;
   names = c.names ∙ f.names ∙ p.names;
+  room = omega (arith, p.room, f.room, c.room);
   behind = λ known. c.behind ∙ f.behind (p.known known) ∙ p.behind known;
 }
 
@@ -43,6 +45,7 @@ ends_between old now new p f stands =
       errors = f.errors ∙ p.errors;
       names = f.names ∙ p.names;
       stands = stands;
+      room = omega (arith, p.room, f.room);
       ended = λ known. ap (λ (b : Behind). end_of b) (sym (behind known)) ∙ ap (λ b. end_of (behind_in new.rest b (ahead new))) stands.1;
       behind = behind;
     }

@@ -98,7 +98,7 @@ next_is p q x xs s (Ok true) known same h b =
     let bs : List ℕ = bytes_of xs ++ s in
     let is = begun_packet q x ls bs b.stands.0 b.stands.1 (ap (λ (a : Ahead). a.lacing) ahead_is ∙ lacing_front (ahead p) x xs s h) (ap (λ (a : Ahead). a.bytes) ahead_is ∙ bytes_front (ahead p) x xs s h) in
     (refl, is.0, ap (λ (b : Behind). end_of b) is.1)
-next_is p q x xs s (Ok false) known same h b = absurd (none_left (ahead p) x xs s h (b.over known same).0)
+next_is p q x xs s (Ok false) known same h b = absurd (none_left (ahead p) x xs s h (b.over known).0)
 next_is p q x xs s (Err f) known same h b = absurd (none_left (ahead p) x xs s h (b.fault known same).0)
 
 -- a packet that was begun where none is whole
@@ -119,7 +119,7 @@ part_left a s h e = let none : 255 * h.full ≡ 0 = sym (full_size h.full) ∙ a
 last_begun : (p q : Place) (begun : List ℕ) (result : Result Bool (ℕ × Why)) → p.known ≡ true → q.errors ≡ p.errors → PacketsAhead (ahead p) [] begun → 0 < length begun → Begins p q result
     → (result ≡ answered true) × (rest_of q ≡ begun) × (end_of (behind_of q) ≡ end_in (ahead p).fault true)
 last_begun p q s (Ok true) known same h some b = let is = open_is p q s known h b in (refl, is.0, is.1)
-last_begun p q s (Ok false) known same h some b = absurd (omega (arith, some, part_left (ahead p) s h (b.over known same).0))
+last_begun p q s (Ok false) known same h some b = absurd (omega (arith, some, part_left (ahead p) s h (b.over known).0))
 last_begun p q s (Err f) known same h some b = absurd (omega (arith, some, part_left (ahead p) s h (b.fault known same).0))
 
 some_ahead : (q : Place) → 0 < length q.lacing → 0 < length (ahead q).lacing
@@ -131,7 +131,7 @@ none_ahead a h = let none : h.full ≡ 0 = omega (arith, h.part) in ap length h.
 
 over_is : (p q : Place) (result : Result Bool (ℕ × Why)) → p.known ≡ true → q.errors ≡ p.errors → PacketsAhead (ahead p) [] [] → Begins p q result → result ≡ stops (ahead p).stop
 over_is p q (Ok true) known same h b = absurd (omega (arith, some_ahead q b.some, ap (λ (a : Ahead). length a.lacing) (b.ahead known), none_ahead (ahead p) h))
-over_is p q (Ok false) known same h b = ap stops (sym (b.over known same).1)
+over_is p q (Ok false) known same h b = ap stops (sym (b.over known).1)
 over_is p q (Err f) known same h b = ap stops (sym (b.fault known same).1)
 
 -- ---- and the list

@@ -177,6 +177,7 @@ pub record Waits (old new : Place) : Type 0 where
   pub names : new.names ≡ old.names
   pub rest : new.rest ≡ 0
   pub more : new.more ≡ false
+  pub room : new.most + length new.body ≤ old.most + length old.body
   pub ahead : old.known ≡ true → ahead new ≡ ahead old
 
 -- ---- copies

@@ -1,5 +1,6 @@
 -- One item in one packet: the bytes of a packet are one item, a metadata block or a frame, and nothing else (RFC 9639, section 10.1).
-use Rattle.std.specs.Prelude.{◌≡◌, ◌≢◌, ◌↔◌, ◌<◌, ◌≤◌, ◌+◌, ◌*◌, ℕ, length, Bool, true, false, List, [], ◌++◌, Option, Some, None, Result, Ok, Err, ◌⊎◌}
+use Rattle.std.specs.Prelude.{◌≡◌, ◌≢◌, ◌↔◌, ◌<◌, ◌≤◌, ◌+◌, ◌*◌, ℕ, length, Bool, true, false, List, [], ◌∷◌, ◌++◌, Option, Some, None, Result, Ok, Err, ◌⊎◌}
+use Rattle.std.specs.Borrow.{GName}
 use Rattle.flac_bits.specs.Bits.{bits_of, is_nil}
 use Rattle.flac_bits.specs.State.{Mark, Cursor, State, Behind, short_of, without_fence}
 use Rattle.flac_bits.specs.Layout.{Layout, bits, Reason}
@@ -124,6 +125,7 @@ EndsPacket old new (Ok x) = record {
   errors : new.errors ≡ old.errors;
   names : new.names ≡ old.names;
   stands : (new.rest ≡ 0) × (new.more ≡ false);
+  room : new.most + length new.body ≤ old.most + length old.body;
   ended : old.known ≡ true → end_of (behind_of old) ≡ whole;
   behind : old.known ≡ true → behind_of new ≡ behind_of old;
 }
@@ -133,14 +135,14 @@ EndsPacket old new (Err why) = record {
   fault : old.known ≡ true → new.errors ≡ old.errors → (end_of (behind_of old) ≢ whole) × (why ≡ cut_off (end_of (behind_of old)));
 }
 
--- a reader of bits stands at the first bit of the packet that was begun
-pub record IsAtPacket (p : Place) (s : State) : Type 0 where
+-- a reader of bits stands at the first bit of the packet that was begun, by pages that are lent under this name
+pub record IsAtPacket (name : GName) (p : Place) (s : State) : Type 0 where
   pub known : s.known ≡ p.known
   pub errors : s.errors ≡ p.errors
   pub raised : s.raised ≡ 0
   pub behind : s.behind ≡ without_fence (behind_of p)
   pub most : s.most ≡ 8 * (p.most + length p.body)
-  pub names : s.names ≡ p.names
+  pub names : s.names ≡ name ∷ p.names
   pub cursor : s.cursor ≡ record { left = (packet_of p).bits; mark = packet_mark p }
 
 -- What an item's reader answered over a packet's bits, behind which it stands at `s`, and what stands behind those bits are told together.

@@ -230,12 +230,14 @@ Begins old new (Ok true) = record {
   names : new.names ≡ old.names;
   stands : (new.rest ≡ 0) × (new.more ≡ true);
   some : 0 < length new.lacing;
+  room : new.most + length new.body ≤ old.most + length old.body;
   ahead : old.known ≡ true → ahead new ≡ ahead old;
 }
 Begins old new (Ok false) = record {
-  errors : old.errors ≤ new.errors;
+  known : old.known ≡ true → new.known ≡ true;
+  errors : new.errors ≡ old.errors;
   names : new.names ≡ old.names;
-  over : old.known ≡ true → new.errors ≡ old.errors → ((ahead old).lacing ≡ []) × ((ahead old).stop ≡ None);
+  over : old.known ≡ true → ((ahead old).lacing ≡ []) × ((ahead old).stop ≡ None);
 }
 Begins old new (Err f) = record {
   errors : old.errors ≤ new.errors;

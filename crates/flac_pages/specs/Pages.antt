@@ -1,5 +1,6 @@
 -- Pages one after another, to the last one or to a fault (RFC 3533, section 6).
 use Rattle.std.specs.Prelude.{◌≡◌, ℕ, zero, suc, ◌+◌, Bool, true, false, cond, List, [], ◌∷◌, ◌++◌, length, Option, Some, None, Result, Ok, Err}
+use Rattle.flac_bits.specs.Bits.{is_nil}
 use Rattle.flac_bits.specs.State.{Mark, Cursor, past}
 use Rattle.flac_bits.specs.Layout.{run, number_at, Reason, because}
 use Rattle.flac_bits.specs.Meaning.{Spells}
@@ -69,9 +70,5 @@ unless_over Truncated = None
 unless_over other = Some other
 
 -- behind the page marked last nothing may follow
-abbrev pub fault_behind : Result (ℕ × Cursor) Reason → Option Why
-fault_behind (Ok x) = Some PageOrder
-fault_behind (Err e) = unless_over e.why
-
 unfoldable pub end_fault : Cursor → Option Why
-end_fault c = fault_behind (number_at 8 c)
+end_fault c = cond (is_nil c.left) (unless_over c.mark.short) (Some PageOrder)

@@ -1,9 +1,10 @@
 //! One item in one packet.
 
-ghost use Rattle.std.specs.Prelude.{◌≡◌, ◌≢◌, ◌≤◌, true, false, length, OnOk, IfOk, IfErr, IfSome, Ok, Err};
+ghost use Rattle.std.specs.Prelude.{◌≡◌, ◌≢◌, ◌≤◌, ◌+◌, ◌*◌, ◌∷◌, true, false, length, OnOk, IfOk, IfErr, IfSome, None, Ok, Err};
 ghost use Rattle.flac_bits.specs.Bits.{is_nil};
 ghost use Rattle.flac_bits.specs.Layout.{bits as number};
 ghost use Rattle.flac_bits.specs.Lists.{list_of};
+ghost use Rattle.flac_bits.specs.Reading.{Counts, Reads};
 ghost use Rattle.flac_bits.specs.State.{short_of};
 ghost use Rattle.flac_pages.specs.Items.{end_of, behind_item, why_in, packet_of, packet_mark, TellsItem, IsAtPacket, JudgesPacket, GoesBehind, HasBehind};
 
@@ -11,11 +12,12 @@ use crate::packet_bytes::PacketBytes;
 use crate::pages::Pages;
 use flac_bits::{BitReader, Source, Why, read_bytes};
 
-/// The bits of the packet that was begun, which an item is read from. [`end_item`] gives the pages back.
-pub fn packet_bits<R: Source>(pages: Pages<R>) -> BitReader<PacketBytes<R>>
-    ensures { IsAtPacket pages result }
+/// The bits of a packet, which an item is read from. [`end_item`] gives the pages back.
+pub fn packet_bits<R: Source>(packet: PacketBytes<'_, R>) -> BitReader<PacketBytes<'_, R>>
+    ensures at { packet.entry.fault ≡ None → packet.entry.errors ≡ 0 → IsAtPacket packet.entry.pages.ghost_name packet.entry.pages.now result }
+    ensures names { result.names ≡ packet.entry.pages.ghost_name ∷ packet.entry.pages.now.names }
 {
-    BitReader::new(PacketBytes::over(pages))
+    BitReader::new(packet)
 }
 
 /// Why an item's reader refused, told of the item's packet: a page's fault with the page, and an item that its packet cuts off.
@@ -34,20 +36,21 @@ fn why_in(fault: Option<(u64, Why)>, why: Why) -> (Option<u64>, Why)
 }
 
 /// Judges the packet's end behind a whole item.
-fn end_behind<R: Source>(
-    bits: BitReader<PacketBytes<R>>,
-) -> (Result<(), (Option<u64>, Why)>, Pages<R>)
-    ensures kept { bits.errors ≤ result.1.errors }
-    ensures names { result.1.names ≡ bits.names }
+fn end_behind<'a, R: Source>(
+    bits: BitReader<PacketBytes<'a, R>>,
+) -> (Result<(), (Option<u64>, Why)>, &'a mut Pages<R>)
+    ensures kept { bits.entry.errors ≤ result.1.now.errors }
+    ensures names { result.1.ghost_name ∷ result.1.now.names ≡ bits.entry.names }
+    ensures spends { OnOk result.0 (8 * (result.1.now.most + length result.1.now.body) ≤ bits.entry.most) }
     ensures memory { IfErr result.0 (λ e. e.1 ≢ Why.Memory) }
-    ensures judges { bits.known ≡ true → result.1.errors ≡ bits.errors → bits.cursor.mark.short ≡ short_of bits.behind.fails → result.0 ≡ behind_item (end_of bits.behind) (is_nil bits.cursor.left) tt }
-    ensures behind { OnOk result.0 (GoesBehind bits result.1) }
+    ensures judges { bits.entry.known ≡ true → result.1.now.errors ≡ bits.entry.errors → bits.entry.cursor.mark.short ≡ short_of bits.entry.behind.fails → result.0 ≡ behind_item (end_of bits.entry.behind) (is_nil bits.entry.cursor.left) tt }
+    ensures behind { OnOk result.0 (GoesBehind bits.entry result.1.now) }
 {
     let mut bits = bits;
     let over = bits.at_end();
     let packet = bits.into_source();
     let fault = packet.why();
-    let mut pages = packet.into_pages();
+    let pages = packet.into_pages();
     match over {
         Ok(true) => {
             let ended = pages.end_packet();
@@ -64,16 +67,18 @@ fn end_behind<R: Source>(
 ///
 /// The item's own reason. `PacketLength` where the packet ends inside the item, goes on behind it, or is still open at the end of the last page. Where a
 /// refused page breaks the packet off, how many pages came before that page, and its fault.
-pub fn end_item<R: Source, X: Drop>(
-    bits: BitReader<PacketBytes<R>>,
+pub fn end_item<'a, R: Source, X: Drop>(
+    bits: BitReader<PacketBytes<'a, R>>,
     read: Result<X, Why>,
-) -> (Result<X, (Option<u64>, Why)>, Pages<R>)
-    ensures kept { bits.errors ≤ result.1.errors }
-    ensures names { result.1.names ≡ bits.names }
+) -> (Result<X, (Option<u64>, Why)>, &'a mut Pages<R>)
+    ensures kept { bits.entry.errors ≤ result.1.now.errors }
+    ensures names { result.1.ghost_name ∷ result.1.now.names ≡ bits.entry.names }
+    // The bits that were read are spent.
+    ensures spends { OnOk result.0 (8 * (result.1.now.most + length result.1.now.body) ≤ bits.entry.most) }
     ensures memory { IfErr result.0 (λ e. e.1 ≡ Why.Memory → read ≡ Err Why.Memory) }
     ensures same { IfOk result.0 (λ item. read ≡ Ok item) }
-    ensures judges { JudgesPacket bits result.1 read result.0 }
-    ensures behind { OnOk result.0 (GoesBehind bits result.1) }
+    ensures judges { JudgesPacket bits.entry result.1.now read result.0 }
+    ensures behind { OnOk result.0 (GoesBehind bits.entry result.1.now) }
 {
     match read {
         Ok(item) => match end_behind(bits) {
@@ -88,24 +93,35 @@ pub fn end_item<R: Source, X: Drop>(
     }
 }
 
-/// Reads the packet that was begun, which is to have just so many bytes, and gives the pages back, as [`end_item`] does.
+/// Fills the places with the bytes that come next.
+fn fill<R: Source>(bits: &mut BitReader<R>, out: &mut [u8]) -> Result<(), Why>
+    ensures names { bits.new.names ≡ bits.old.names }
+    ensures counts { Counts bits.old bits.new result }
+    ensures memory { IfErr result (λ e. e ≢ Why.Memory) }
+    ensures reads { Reads (λ _. out.new) (list_of (length out.old) (number 8)) bits.old bits.new result }
+{
+    read_bytes(bits, out)
+}
+
+/// Reads the packet that was begun, which is to have just so many bytes.
 ///
 /// # Errors
 ///
 /// `PacketLength` where the packet has another number of bytes, or is still open at the end of the last page. Where a refused page breaks the packet off, how
 /// many pages came before that page, and its fault.
 pub fn read_packet<R: Source>(
-    pages: Pages<R>,
+    pages: &mut Pages<R>,
     out: &mut [u8],
-) -> (Result<(), (Option<u64>, Why)>, Pages<R>)
-    ensures kept { pages.errors ≤ result.1.errors }
-    ensures names { result.1.names ≡ pages.names }
-    ensures memory { IfErr result.0 (λ e. e.1 ≢ Why.Memory) }
-    ensures tells { pages.known ≡ true → result.1.errors ≡ pages.errors → TellsItem (λ _. out.new) None (list_of (length out.old) (number 8)) (packet_mark pages) (packet_of pages) result.0 }
-    ensures stands { OnOk result.0 ((result.1.rest ≡ 0) × (result.1.more ≡ false)) }
-    ensures ahead { OnOk result.0 (pages.known ≡ true → HasBehind pages result.1) }
+) -> Result<(), (Option<u64>, Why)>
+    ensures kept { pages.old.errors ≤ pages.new.errors }
+    ensures names { pages.new.names ≡ pages.old.names }
+    ensures memory { IfErr result (λ e. e.1 ≢ Why.Memory) }
+    ensures tells { pages.old.known ≡ true → pages.new.errors ≡ pages.old.errors → TellsItem (λ _. out.new) None (list_of (length out.old) (number 8)) (packet_mark pages.old) (packet_of pages.old) result }
+    ensures stands { OnOk result ((pages.new.rest ≡ 0) × (pages.new.more ≡ false)) }
+    ensures ahead { OnOk result (pages.old.known ≡ true → HasBehind pages.old pages.new) }
 {
-    let mut bits = packet_bits(pages);
-    let read = read_bytes(&mut bits, out);
-    end_item(bits, read)
+    let mut bits = packet_bits(PacketBytes::over(pages));
+    let read = fill(&mut bits, out);
+    let (told, _pages) = end_item(bits, read);
+    told
 }

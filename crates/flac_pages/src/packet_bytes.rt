@@ -1,6 +1,6 @@
 //! The bytes of one packet.
 
-ghost use Rattle.std.specs.Prelude.{◌≡◌, ◌≢◌, ◌≤◌, ◌<◌, ◌+◌, ◌^◌, ◌-◌, ◌&&◌, true, nat_lt, length, IfSome, None, Some};
+ghost use Rattle.std.specs.Prelude.{◌≡◌, ◌≢◌, ◌≤◌, ◌<◌, ◌+◌, ◌^◌, ◌-◌, ◌&&◌, ◌∷◌, true, nat_lt, length, IfSome, None, Some};
 ghost use Rattle.std.specs.Option.{ForSome};
 ghost use Rattle.flac_bits.specs.declared.why.Why.TheVariants.{Memory};
 ghost use Rattle.flac_pages.specs.Packets.{left_of, behind_left};
@@ -9,20 +9,22 @@ use crate::pages::Pages;
 use flac_bits::{Source, Why};
 use std::io;
 
-/// The bytes of the packet that these pages have begun. A page's fault is an error of its read, which [`PacketBytes::why`] names.
+/// The bytes of the packet that these pages have begun, which are lent for the time. A page's fault is an error of its read, which [`PacketBytes::why`] names.
 #[derive(Drop)]
-pub struct PacketBytes<R: Source> {
-    pages: Pages<R>,
+pub struct PacketBytes<'a, R: Source> {
+    pages: &'a mut Pages<R>,
     fault: Option<(u64, Why)>,
     errors: u64,
     ghost quiet: { fault ≡ None → errors ≡ 0 },
     ghost memory: { ForSome fault (λ f. f.1 ≢ Memory) },
 }
 
-impl<R: Source> PacketBytes<R> {
+impl<'a, R: Source> PacketBytes<'a, R> {
     /// The bytes still to come of the packet that was begun.
-    pub fn over(pages: Pages<R>) -> PacketBytes<R>
-        ensures { (result.pages ≡ pages) × (result.fault ≡ None) × (result.errors ≡ 0) }
+    pub fn over(pages: &'a mut Pages<R>) -> PacketBytes<'a, R>
+        ensures same { result.pages.ghost_name ≡ pages.entry.ghost_name }
+        ensures pages { result.pages.now ≡ pages.old }
+        ensures unread { (result.fault ≡ None) × (result.errors ≡ 0) }
     {
         PacketBytes {
             pages,
@@ -40,27 +42,33 @@ impl<R: Source> PacketBytes<R> {
     }
 
     /// The pages, behind the bytes that were pulled.
-    pub fn into_pages(self) -> Pages<R>
-        ensures { result ≡ self.pages }
+    pub fn into_pages(self) -> &'a mut Pages<R>
+        ensures same { result.ghost_name ≡ self.entry.pages.ghost_name }
+        ensures pages { result.now ≡ self.entry.pages.now }
     {
-        self.pages
+        let PacketBytes {
+            pages,
+            fault: _,
+            errors: _,
+        } = self;
+        pages
     }
 }
 
-impl<R: Source> Source for PacketBytes<R> {
-    ghost known = { λ p. p.pages.known && nat_lt p.errors (2 ^ 64 - 1) };
+impl<R: Source> Source for PacketBytes<'_, R> {
+    ghost known = { λ p. p.pages.now.known && nat_lt p.errors (2 ^ 64 - 1) };
 
-    ghost coming = { λ p. left_of p.fault p.pages };
+    ghost coming = { λ p. left_of p.fault p.pages.now };
 
-    ghost behind = { λ p. behind_left p.fault p.pages };
+    ghost behind = { λ p. behind_left p.fault p.pages.now };
 
-    ghost errors = { λ p. p.pages.errors };
+    ghost errors = { λ p. p.pages.now.errors };
 
     ghost raised = { λ p. p.errors };
 
-    ghost most = { λ p. p.pages.most + length p.pages.body };
+    ghost most = { λ p. p.pages.now.most + length p.pages.now.body };
 
-    ghost names = { λ p. p.pages.names };
+    ghost names = { λ p. p.pages.ghost_name ∷ p.pages.now.names };
 
     fn pull(&mut self, buf: &mut [u8]) -> io::Result<usize> {
         if self.fault.is_some() {

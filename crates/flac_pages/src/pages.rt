@@ -322,17 +322,19 @@ fn unless_over(why: Why) -> Option<Why>
     }
 }
 
-/// The fault behind the last page: any byte there.
+/// The fault behind the last page: any byte there, and an error in place of the input's end.
 #[tactic(auto, unfolding(crate::specs::Pages::end_fault))]
 fn end_fault<R: Source>(reader: &mut BitReader<R>) -> Option<Why>
     ensures kept { reader.old.errors ≤ reader.new.errors }
     ensures names { reader.new.names ≡ reader.old.names }
     ensures memory { IfSome result (λ e. e ≢ Why.Memory) }
+    ensures calm { result ≡ None → (reader.old.known ≡ true → reader.new.known ≡ true) × (reader.new.errors ≡ reader.old.errors) }
     ensures fault { reader.old.known ≡ true → reader.new.errors ≡ reader.old.errors → result ≡ end_fault reader.old.cursor }
 {
-    match reader.take(8) {
-        Ok(_) => Some(Why::PageOrder),
-        Err(why) => unless_over(why),
+    match reader.at_end() {
+        Ok(true) => unless_over(reader.short()),
+        Ok(false) => Some(Why::PageOrder),
+        Err(why) => Some(why),
     }
 }
 

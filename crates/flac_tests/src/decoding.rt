@@ -2,13 +2,13 @@
 
 use flac_bits::{Counted, Memory, Pieces};
 use flac_frame::FrameView;
-use flac_native::{Decoder, Fault, Item, Place, Profile, Source, Why};
+use flac_native::{Container, Decoder, Fault, Item, Place, Profile, Why};
 use std::fs;
 use std::fs::File;
 use std::test::Fail;
 
 /// One frame of one sample of two channels.
-const ROW: [u8; 57] = [
+pub(crate) const ROW: [u8; 57] = [
     0x66, 0x4C, 0x61, 0x43, 0x80, 0x00, 0x00, 0x22, 0x10, 0x00, 0x10, 0x00, 0x00, 0x00, 0x0F, 0x00,
     0x00, 0x0F, 0x0A, 0xC4, 0x42, 0xF0, 0x00, 0x00, 0x00, 0x01, 0x00, 0x00, 0x00, 0x00, 0x00, 0x00,
     0x00, 0x00, 0x00, 0x00, 0x00, 0x00, 0x00, 0x00, 0x00, 0x00, 0xFF, 0xF8, 0x69, 0x18, 0x00, 0x00,
@@ -27,7 +27,7 @@ fn note(frame: &FrameView<'_>, peaks: &mut [u32; 8]) {
 }
 
 /// The peak of each channel of a stream.
-fn peaks<R: Source>(decoder: &mut Decoder<R>) -> Result<[u32; 8], Fault> {
+pub(crate) fn peaks<C: Container>(decoder: &mut Decoder<C>) -> Result<[u32; 8], Fault> {
     let mut peaks = [0; 8];
     for _ in 0..u64::MAX {
         match decoder.next()? {

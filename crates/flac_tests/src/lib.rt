@@ -9,18 +9,14 @@ mod encoding;
 #[cfg(test)]
 mod frames;
 #[cfg(test)]
-mod hostile;
-#[cfg(test)]
 mod ogg;
 #[cfg(test)]
-mod parts;
+mod ogg_decoding;
 #[cfg(test)]
-mod program;
+mod parts;
 #[cfg(test)]
 mod retagging;
 #[cfg(test)]
 mod seeking;
 #[cfg(test)]
 mod subframes;
-#[cfg(test)]
-mod tables;

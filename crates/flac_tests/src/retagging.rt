@@ -1,8 +1,8 @@
 //! Other comments for a stream: the example of RFC 9639, appendix D.1, its digest unknown.
 
 use flac_native::{
-    Block, Bytes, Collected, Comments, Decoder, Item, Memory, Pieces, Place, Profile, RetagFault,
-    Source, Texts, Why, only_one_head, retag,
+    Block, Bytes, Collected, Comments, Container, Decoder, Item, Memory, Pieces, Place, Profile, RetagFault,
+    Texts, Why, only_one_head, retag,
 };
 use std::alloc::Global;
 use std::test::Fail;
@@ -138,9 +138,9 @@ fn too_long_comments(rt: HostRuntime) -> Result<(), Fail> {
 }
 
 /// The value of the first comment of a stream, if it has this name.
-fn first_value<R: Source>(
+fn first_value<C: Container>(
     alloc: Global,
-    decoder: &mut Decoder<R>,
+    decoder: &mut Decoder<C>,
     name: &[u8],
 ) -> Result<Option<Vec<u8>>, Fail> {
     for _ in 0..u64::MAX {

@@ -1,9 +1,9 @@
 //! Seek tables that are written, and a stream that is read from a point on.
 
-use flac_bits::{Collected, Memory, Source};
+use flac_bits::{Collected, Memory};
 use flac_frame::{Audio, FrameView};
 use flac_meta::{Block, BlockList, SeekPoint, SeekTable, StreamInfo};
-use flac_native::{Decoder, EncodeFault, Fault, Item, Plan, Profile, encode};
+use flac_native::{Container, Decoder, EncodeFault, Fault, Item, Plan, Profile, encode};
 use std::alloc::Global;
 use std::test::Fail;
 
@@ -67,7 +67,7 @@ fn ten_thousand(alloc: Global) -> Result<Vec<u8>, Fail> {
 }
 
 /// The next frame: its number, its channels, how many samples a channel has, and the first and the last of them.
-fn next_frame<R: Source>(decoder: &mut Decoder<R>) -> Result<Option<Told>, Fault> {
+fn next_frame<C: Container>(decoder: &mut Decoder<C>) -> Result<Option<Told>, Fault> {
     match decoder.next()? {
         Item::Frame(frame) => Ok(Some(told(&frame))),
         _ => Ok(None),

@@ -1,25 +1,31 @@
-use Rattle.std.proofs.Common.{rules, ap}
+use Rattle.std.proofs.Common.{rules}
 use Rattle.std.proofs.lemmas.List.{append-nil}
 use Rattle.flac_bits.specs.Bits.{bits_of}
-use Rattle.flac_bits.specs.State.{State, short_of}
-use Rattle.flac_bits.specs.Handing.{outcome_of}
+use Rattle.flac_bits.specs.State.{short_of}
+use Rattle.flac_bits.specs.Handing.{by_grammar, outcome_of}
 use Rattle.flac_native.specs.Stream.{grammar, opening}
 use Rattle.flac_native.specs.Item.{told}
 use Rattle.flac_native.specs.Decoding.{taken, beginning}
-use Rattle.flac_bits.proofs.Handing.{decides}
-use Rattle.flac_native.proofs.Deciding.{calmer, needs_bits}
+use Rattle.flac_bits.proofs.Handing.{calmer}
+use Rattle.flac_native.proofs.Received.{some_come, fronts, hands_of, decides_of}
 use Rattle.flac_native.proofs.decoding.decode.Goals as goal
 
 pub returns-clause-hands : goal.returns-clause-hands
 returns-clause-hands g c = λ known receives.
-    let known_is = ap (λ (s : State). s.known) c.new-reader.ensures in
+    let R = g.R.Source in
+    let source = c.args.source.now in
     let hands = rw c.new-reader.ensures at (c.hand_out-outcome.ensures.hands opening c.opening-track.ensures) in
-    let whole = rw (append-nil (bits_of (g.R.Source.coming c.args.source.now))) at hands in
-    calmer _ _ (λ q. (search (rules, q.0), search (rules, q.1))) (whole known receives)
+    let whole = rw (append-nil (bits_of (R.coming source))) at hands in
+    let there = some_come opening (beginning (short_of ((R.behind source).fails))) (bits_of (R.coming source)) in
+    calmer _ _ (λ q. (search (rules, q.0), search (rules, q.1)))
+    (hands_of (by_grammar grammar opening (beginning (short_of ((R.behind source).fails))) (bits_of (R.coming source))) (taken g.S.Sink.takes) g.S.Sink.errors opening there.parts there.end _ c.args.sink.now c.hand_out-outcome.new.sink (outcome_of told c.hand_out-outcome.result)
+    there.come (fronts opening (beginning (short_of ((R.behind source).fails))) (bits_of (R.coming source)) there.parts there.end there.come) (whole known receives there.parts there.end there.come))
 
 pub returns-clause-decides : goal.returns-clause-decides
 returns-clause-decides g c = λ known receives errors raised same.
     let R = g.R.Source in
-    let hands = returns-clause-hands g c known receives in
-    decides grammar needs_bits (taken g.S.Sink.takes) g.S.Sink.errors opening (beginning (short_of ((R.behind c.args.source.now).fails))) (bits_of (R.coming c.args.source.now)) _
-    c.args.sink.now c.hand_out-outcome.new.sink (outcome_of told c.hand_out-outcome.result) hands (errors, raised) same
+    let source = c.args.source.now in
+    let hands = rw c.new-reader.ensures at (c.hand_out-outcome.ensures.hands opening c.opening-track.ensures) in
+    let whole = rw (append-nil (bits_of (R.coming source))) at hands in
+    decides_of (by_grammar grammar opening (beginning (short_of ((R.behind source).fails))) (bits_of (R.coming source))) (taken g.S.Sink.takes) g.S.Sink.errors opening _ c.args.sink.now c.hand_out-outcome.new.sink (outcome_of told c.hand_out-outcome.result)
+    (λ parts end come. whole known receives parts end come) (search (rules, errors), search (rules, raised)) same

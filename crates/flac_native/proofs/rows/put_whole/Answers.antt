@@ -1,4 +1,4 @@
-use Rattle.std.proofs.Common.{rules, ◌≡◌, ◌≤◌, ◌+◌, ◌-◌, ◌++◌, length, take, drop, List, ℕ, refl, sym, ap, ◌∙◌, arith, SFits, w32, to_z, of_z}
+use Rattle.std.proofs.Common.{rules, ◌≡◌, ◌≤◌, ◌+◌, ◌++◌, length, take, drop, List, ℕ, refl, sym, ap, ◌∙◌, arith, SFits, w32, to_z, of_z}
 use Rattle.std.proofs.lemmas.Int.{to_z-of_z}
 use Rattle.flac_native.specs.Message.{sample_bytes}
 use borrow.Rule.Slice.PartMut.{put_mid}

@@ -1,37 +1,37 @@
 use Rattle.std.proofs.Common.{ℕ, true, false, cond, None, Some, sym, ap, ◌∙◌}
 use Rattle.flac_bits.specs.declared.why.Why.{Why}
 use Rattle.flac_native.specs.Stream.{Stand, place_in}
-use Rattle.flac_native.specs.Track.{stand_of}
+use Rattle.flac_native.specs.Track.{stand_of, piece_of}
 use Rattle.flac_ogg.specs.Steps.{without_packet}
 use Rattle.flac_ogg.specs.Stream.{last_fault}
-use Rattle.flac_ogg.specs.Telling.{piece_of}
+use Rattle.flac_ogg.proofs.Arriving.{begun_there, on_ok_at}
 use Rattle.flac_ogg.proofs.Stepped.{begins_so, ok_step, err_step, end_step, fault_step}
 use Rattle.flac_ogg.proofs.advance.advance.Goals as goal
 
 pub returns-in-Ok-clause-steps : goal.returns-in-Ok-clause-steps
 returns-in-Ok-clause-steps g c = λ p at way known same.
-    let begun = begins_so c.args.pages c.next_packet.new.self c.in-Ok-true.field-0 true c.in-Ok-true.field-0-test c.in-Ok-true.ensures.begins in
-    let read = c.read_packet-read in
-    ok_step (λ part. piece_of read.new.track part) (stand_of c.args.track.now) p c.args.pages c.next_packet.new.self read.result.1 read.result.0 c.in-Ok.part c.in-Ok.is at.stand begun known same read.ensures.tells read.ensures.ahead
+    let begun = begins_so c.args.pages.now c.next_packet.new.self c.in-Ok-true.field-0 true c.in-Ok-true.field-0-test c.in-Ok-true.ensures.begins in
+    let read = c.read_packet in
+    ok_step (λ part. piece_of read.new.track part) (stand_of c.args.track.now) p c.args.pages.now c.next_packet.new.self read.new.pages read.result c.in-Ok.part c.in-Ok.is at.stand begun known same (read.ensures.tells (begun_there at way)) (on_ok_at read.result _ _ (begun_there at way) read.ensures.ahead)
 
-pub returns-in-Err-read-clause-steps : goal.returns-in-Err-read-clause-steps
-returns-in-Err-read-clause-steps g c = λ p at way known same room.
-    let begun = begins_so c.args.pages c.next_packet.new.self c.in-Ok-true.field-0 true c.in-Ok-true.field-0-test c.in-Ok-true.ensures.begins in
-    let read = c.read_packet-read in
-    err_step (λ part. piece_of read.new.track part) (stand_of c.args.track.now) p c.args.pages c.next_packet.new.self read.result.1 read.result.0 c.in-Err-read.told c.packet_fault.result c.in-Err-read.is at.stand begun known same read.ensures.tells
+pub returns-in-Err-read_packet-clause-steps : goal.returns-in-Err-read_packet-clause-steps
+returns-in-Err-read_packet-clause-steps g c = λ p at way known same room.
+    let begun = begins_so c.args.pages.now c.next_packet.new.self c.in-Ok-true.field-0 true c.in-Ok-true.field-0-test c.in-Ok-true.ensures.begins in
+    let read = c.read_packet in
+    err_step (λ part. piece_of read.new.track part) (stand_of c.args.track.now) p c.args.pages.now c.next_packet.new.self read.new.pages read.result c.in-Err-read_packet.told c.packet_fault.result c.in-Err-read_packet.is at.stand begun known same (read.ensures.tells (begun_there at way))
     (c.packet_fault.ensures.place p.stand (c.place-at.ensures ∙ ap (λ (s : Stand). place_in s.phase s.index) at.stand)) c.packet_fault.ensures.why room
 
 pub returns-in-Ok-end_here-clause-steps : goal.returns-in-Ok-end_here-clause-steps
 returns-in-Ok-end_here-clause-steps g c = λ p at way known same.
-    let over = begins_so c.args.pages c.next_packet.new.self c.in-Ok-false.field-0 false c.in-Ok-false.field-0-test c.in-Ok-false.ensures.begins in
-    end_step p c.args.pages c.next_packet.new.self over known same ∙ c.in-Ok-end_here.ensures p at way
+    let over = begins_so c.args.pages.now c.next_packet.new.self c.in-Ok-false.field-0 false c.in-Ok-false.field-0-test c.in-Ok-false.ensures.begins in
+    end_step p c.args.pages.now c.next_packet.new.self over known ∙ c.in-Ok-end_here.ensures.ends p at way
 
 pub returns-in-Err-end_here-clause-steps : goal.returns-in-Err-end_here-clause-steps
 returns-in-Err-end_here-clause-steps g c = λ p at way known same room.
-    let over = begins_so c.args.pages c.next_packet.new.self c.in-Ok-false.field-0 false c.in-Ok-false.field-0-test c.in-Ok-false.ensures.begins in
-    end_step p c.args.pages c.next_packet.new.self over known same ∙ c.in-Err-end_here.ensures p at way
+    let over = begins_so c.args.pages.now c.next_packet.new.self c.in-Ok-false.field-0 false c.in-Ok-false.field-0-test c.in-Ok-false.ensures.begins in
+    end_step p c.args.pages.now c.next_packet.new.self over known ∙ c.in-Err-end_here.ensures.ends p at way
 
 pub returns-in-Err-clause-steps : goal.returns-in-Err-clause-steps
 returns-in-Err-clause-steps g c = λ p at way known same room.
     let f : ℕ × Why = (c.in-Err.page, c.in-Err.why) in
-    fault_step p c.args.pages c.next_packet.new.self f c.in-Err.ensures.begins known same ∙ ap (λ b. without_packet p (last_fault p (cond b None (Some f)) (Some f))) (sym c.is_last.ensures) ∙ c.page_fault-fault.ensures p at way
+    fault_step p c.args.pages.now c.next_packet.new.self f c.in-Err.ensures.begins known same ∙ ap (λ b. without_packet p (last_fault p (cond b None (Some f)) (Some f))) (sym c.is_last.ensures) ∙ c.page_fault.ensures.fault p at way

@@ -3,9 +3,9 @@ use Rattle.flac_ogg.specs.Steps.{refused}
 use Rattle.flac_ogg.proofs.Stepped.{byte_behind, due_behind}
 use Rattle.flac_ogg.proofs.advance.behind_last.Goals as goal
 
-pub returns-then-not-is_behind_blocks : goal.returns-then-not-is_behind_blocks
-returns-then-not-is_behind_blocks c = λ p at way. due_behind c.args.track.now p c.block_due.result (c.args.page, c.args.why) at (sym c.is_behind_blocks.ensures ∙ c.if-not-is_behind_blocks.true) c.block_due.ensures.at c.block_due.ensures.why
+pub returns-then-not-is_behind_blocks-clause-fault : goal.returns-then-not-is_behind_blocks-clause-fault
+returns-then-not-is_behind_blocks-clause-fault c = λ p at way. due_behind c.args.track.now p c.block_due.result (c.args.page, c.args.why) at (sym c.is_behind_blocks.ensures ∙ c.if-not-is_behind_blocks.true) c.block_due.ensures.at c.block_due.ensures.why
 
-pub returns : goal.returns
-returns c = λ p at way.
+pub returns-clause-fault : goal.returns-clause-fault
+returns-clause-fault c = λ p at way.
     byte_behind c.args.track.now p (c.args.page, c.args.why) at way (sym c.is_behind_blocks.ensures ∙ c.if-not-is_behind_blocks.false) ∙ ap (λ k. refused k c.args.why) (sym c.page_place.ensures)

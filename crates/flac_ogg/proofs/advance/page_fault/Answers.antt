@@ -3,8 +3,8 @@ use Rattle.flac_ogg.specs.Steps.{refused}
 use Rattle.flac_ogg.proofs.Stepped.{page_refused}
 use Rattle.flac_ogg.proofs.advance.page_fault.Goals as goal
 
-pub returns-then-is_last : goal.returns-then-is_last
-returns-then-is_last c = λ p at way. rw c.if-is_last.true (c.behind_last.ensures p at way)
+pub returns-then-is_last-clause-fault : goal.returns-then-is_last-clause-fault
+returns-then-is_last-clause-fault c = λ p at way. rw c.if-is_last.true (c.behind_last.ensures.fault p at way)
 
-pub returns : goal.returns
-returns c = λ p at way. rw c.if-is_last.false (page_refused p (c.args.page, c.args.why) ∙ ap (λ k. refused k c.args.why) (sym c.page_place.ensures))
+pub returns-clause-fault : goal.returns-clause-fault
+returns-clause-fault c = λ p at way. rw c.if-is_last.false (page_refused p (c.args.page, c.args.why) ∙ ap (λ k. refused k c.args.why) (sym c.page_place.ensures))

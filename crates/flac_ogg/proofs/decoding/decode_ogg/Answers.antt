@@ -1,12 +1,15 @@
-use Rattle.std.proofs.Common.{◌*◌, rules}
+use Rattle.std.proofs.Common.{rules, ◌*◌, ◌∙◌, sym, ap, subst}
 use Rattle.std.proofs.lemmas.Result.{IfErr-weaker}
 use Rattle.flac_bits.specs.Bits.{bits_of}
 use Rattle.flac_bits.specs.State.{short_of}
 use Rattle.flac_bits.specs.Handing.{outcome_of}
 use Rattle.flac_native.specs.Item.{told}
 use Rattle.flac_native.specs.Decoding.{taken, beginning}
-use Rattle.flac_ogg.proofs.MeaningHanding.{ogg_decides}
-use Rattle.flac_ogg.proofs.Handed.{begins_so, nothing_read, calmer, count_rose}
+use Rattle.flac_ogg.specs.Stream.{start}
+use Rattle.flac_pages.specs.Packets.{Place, ahead}
+use Rattle.flac_ogg.specs.Coming.{ItemsCome, IsClear}
+use Rattle.flac_bits.proofs.Handing.{calmer}
+use Rattle.flac_ogg.proofs.Arriving.{front_ahead, some_come, hands_ogg, decides_ogg, nothing_read, clear_start}
 use Rattle.flac_ogg.proofs.decoding.decode_ogg.Goals as goal
 
 pub returns-in-Err-clause-hands : goal.returns-in-Err-clause-hands
@@ -18,21 +21,42 @@ pub returns-clause-hands : goal.returns-clause-hands
 returns-clause-hands g c = λ known receives.
     let R = g.R.Source in
     let source = c.args.source.now in
-    let begins = begins_so c.over.result (R.known source) (R.errors source) (R.raised source) (8 * R.most source) _ (bits_of (R.coming source)) (short_of ((R.behind source).fails)) c.over.ensures in
-    let hands = c.hand_out-outcome.ensures.hands (beginning (short_of ((R.behind source).fails))) (bits_of (R.coming source)) begins.0 (begins.1 known) receives in
-    calmer _ _ (λ q. search (rules, q)) hands
+    let mark = beginning (short_of ((R.behind source).fails)) in
+    let text = bits_of (R.coming source) in
+    let front = ap ahead c.over-packets.ensures ∙ front_ahead c.over.result (R.known source) (R.errors source) (R.raised source) (8 * R.most source) _ text (short_of ((R.behind source).fails)) c.over.ensures in
+    let there = some_come mark text in
+    let come = subst (λ a. ItemsCome start a there.items there.end) (sym front) there.come in
+    let last = ap (λ (p : Place). p.errors) (sym c.into_pages-pages.ensures) in
+    let first = ap (λ (p : Place). p.errors) c.over-packets.ensures in
+    calmer _ _ (λ q. let e = last ∙ search (rules, q) ∙ sym first in (e, e))
+    (hands_ogg (taken g.S.Sink.takes) g.S.Sink.errors mark text there.items there.end _ c.args.sink.now c.hand_out-outcome.new.sink (outcome_of told c.hand_out-outcome.result) there.come
+    (c.hand_out-outcome.ensures.hands start c.new-track.ensures (search (rules, known)) receives there.items there.end come))
 
 pub returns-clause-decides : goal.returns-clause-decides
 returns-clause-decides g c = λ known receives errors same.
     let R = g.R.Source in
-    ogg_decides (taken g.S.Sink.takes) g.S.Sink.errors (beginning (short_of ((R.behind c.args.source.now).fails))) (bits_of (R.coming c.args.source.now)) _
-    c.args.sink.now c.hand_out-outcome.new.sink (outcome_of told c.hand_out-outcome.result.0) (returns-clause-hands g c known receives) errors same
+    let source = c.args.source.now in
+    let mark = beginning (short_of ((R.behind source).fails)) in
+    let text = bits_of (R.coming source) in
+    let front = ap ahead c.over-packets.ensures ∙ front_ahead c.over.result (R.known source) (R.errors source) (R.raised source) (8 * R.most source) _ text (short_of ((R.behind source).fails)) c.over.ensures in
+    let last = ap (λ (p : Place). p.errors) (sym c.into_pages-pages.ensures) in
+    let first = ap (λ (p : Place). p.errors) c.over-packets.ensures in
+    let e = last ∙ search (rules, errors) ∙ sym first in
+    decides_ogg (taken g.S.Sink.takes) g.S.Sink.errors mark text _ c.args.sink.now c.hand_out-outcome.new.sink (outcome_of told c.hand_out-outcome.result)
+    (λ items end come. c.hand_out-outcome.ensures.hands start c.new-track.ensures (search (rules, known)) receives items end (subst (λ a. ItemsCome start a items end) (sym front) come))
+    (e, e) same
 
 pub returns-clause-read : goal.returns-clause-read
 returns-clause-read g c =
     let R = g.R.Source in
     let source = c.args.source.now in
-    let begins = begins_so c.over.result (R.known source) (R.errors source) (R.raised source) (8 * R.most source) _ (bits_of (R.coming source)) (short_of ((R.behind source).fails)) c.over.ensures in
-    IfErr-weaker c.hand_out-outcome.result.0 _ _
-    (λ f told known none is. count_rose (R.behind source).fails _ _ none (search rules) (λ q. told is (beginning (short_of ((R.behind source).fails))) (bits_of (R.coming source)) begins.0 (begins.1 known) (search (rules, q))))
+    let fails = (R.behind source).fails in
+    let text = bits_of (R.coming source) in
+    let front = ap ahead c.over-packets.ensures ∙ front_ahead c.over.result (R.known source) (R.errors source) (R.raised source) (8 * R.most source) _ text (short_of fails) c.over.ensures in
+    let last = ap (λ (p : Place). p.errors) (sym c.into_pages-pages.ensures) in
+    let first = ap (λ (p : Place). p.errors) c.over-packets.ensures in
+    IfErr-weaker c.hand_out-outcome.result _ _
+    (λ f read known none is.
+    let rose = read (search (rules, known)) is (clear_start c.over-packets.result.pages c.new-track.result fails text front c.new-track.ensures none) in
+    search (rules, rose, last, first))
     c.hand_out-outcome.ensures.read

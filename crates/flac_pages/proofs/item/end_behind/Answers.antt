@@ -8,7 +8,7 @@ returns-in-Ok-true-clause-behind g c =
     let packet = c.into_source-packet.result in
     let tells = c.into_source-packet.ensures in
     let counts = c.in-Ok-true.ensures.counts in
-    goes_behind c.args.bits packet.fault packet.pages c.into_pages-pages.result c.end_packet-ended.new.self c.end_packet-ended.result c.into_pages-pages.ensures
+    goes_behind c.args.bits packet.fault packet.pages.now c.into_pages-pages.result.now c.end_packet-ended.new.self c.end_packet-ended.result c.into_pages-pages.ensures.pages
     (λ known. and_left _ _ (tells.told (counts.0 known)))
     (tells.errors ∙ counts.1)
     (c.at_end-over.ensures.ended (is_over c.at_end-over.result c.in-Ok-true.field-0 c.in-Ok-true.is c.in-Ok-true.field-0-test))

@@ -1,16 +1,25 @@
-use Rattle.std.proofs.Common.{None}
-use Rattle.std.proofs.Common.{length}
+use Rattle.std.proofs.Common.{◌≡◌, rules, true, None, length, sym, subst, OnOk}
+use Rattle.std.specs.Prelude.{⊤}
 use Rattle.flac_bits.specs.Layout.{bits as number}
 use Rattle.flac_bits.specs.Lists.{list_of}
-use Rattle.flac_pages.proofs.ItemReading.{packet_told, behind_told}
+use Rattle.flac_pages.specs.Packets.{Place}
+use Rattle.flac_pages.specs.Items.{packet_of, packet_mark, TellsItem, HasBehind}
+use Rattle.flac_pages.proofs.ItemReading.{at_there, packet_told, behind_told}
 use Rattle.flac_pages.proofs.item.read_packet.Goals as goal
 
 pub returns-clause-tells : goal.returns-clause-tells
-returns-clause-tells g c =
-    packet_told _ None (list_of (length c.args.out.now) (number 8)) c.args.pages c.packet_bits-bits.result c.read_bytes-read.new.bits c.end_item.result.1 c.read_bytes-read.result c.end_item.result.0
-    c.packet_bits-bits.ensures c.read_bytes-read.ensures.counts c.read_bytes-read.ensures.reads c.end_item.ensures.kept c.end_item.ensures.judges
+returns-clause-tells g c = λ known same.
+    let p = c.args.pages.now in
+    let view = λ (x : ⊤). c.fill-read.new.out in
+    let layout = list_of (length c.args.out.now) (number 8) in
+    packet_told view None layout p c.packet_bits-bits.result c.fill-read.new.bits c.end_item-told.result.1.now c.fill-read.result c.end_item-told.result.0
+    (at_there c.over.result.pages.now p c.packet_bits-bits.result c.over.ensures.pages (c.packet_bits-bits.ensures.at c.over.ensures.unread.0 c.over.ensures.unread.1)) c.fill-read.ensures.counts c.fill-read.ensures.reads c.end_item-told.ensures.kept c.end_item-told.ensures.judges known (search (rules, same))
 
 pub returns-clause-ahead : goal.returns-clause-ahead
 returns-clause-ahead g c =
-    behind_told (λ _. c.read_bytes-read.new.out) None (list_of (length c.args.out.now) (number 8)) c.args.pages c.packet_bits-bits.result c.read_bytes-read.new.bits c.end_item.result.1 c.read_bytes-read.result c.end_item.result.0
-    c.packet_bits-bits.ensures c.read_bytes-read.ensures.counts (λ _. c.read_bytes-read.ensures.reads) c.end_item.ensures.judges c.end_item.ensures.behind
+    let p = c.args.pages.now in
+    let view = λ (x : ⊤). c.fill-read.new.out in
+    let layout = list_of (length c.args.out.now) (number 8) in
+    subst (λ (q : Place). OnOk c.end_item-told.result.0 (p.known ≡ true → HasBehind p q)) (search rules)
+    (behind_told view None layout p c.packet_bits-bits.result c.fill-read.new.bits c.end_item-told.result.1.now c.fill-read.result c.end_item-told.result.0
+    (at_there c.over.result.pages.now p c.packet_bits-bits.result c.over.ensures.pages (c.packet_bits-bits.ensures.at c.over.ensures.unread.0 c.over.ensures.unread.1)) c.fill-read.ensures.counts (λ _. c.fill-read.ensures.reads) c.end_item-told.ensures.judges c.end_item-told.ensures.behind)

@@ -6,7 +6,7 @@ returns-in-Ok-None g c =
     let found = rw c.in-Ok-None.field-0-is at c.in-Ok-None.ensures in
     record {
       gives = λ p at known same quiet room items end still. found.gives p at known same quiet (λ e. absurd cc) items end still;
-      counts = found.counts;
+      counts = record { met = found.counts.met; kept = found.counts.kept; read = tt; behind = found.counts.behind; names = found.counts.names };
       memory = λ phase. tt;
       going = tt;
       ends = λ e. refl;

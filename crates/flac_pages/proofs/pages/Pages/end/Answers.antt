@@ -10,4 +10,5 @@ returns-clause-begins g c =
     let fault = c.end_fault-fault.ensures in
     closes c.args.self.now _ c.end_fault-fault.result c.ended.result (c.ended.ensures.value ∙ ap (λ (p : Place). ended p.count c.end_fault-fault.result) is) (omega (arith, ap (λ (p : Place). p.count) is)) c.requires.read c.requires.last (ap (λ (p : Place). p.last) is ∙ c.requires.last)
     (omega (arith, ap (λ (p : Place). p.errors) is, fault.kept)) (fault.names ∙ ap (λ (p : Place). p.names) is)
+    (λ none. let calm = fault.calm none in (λ known. calm.0 (ap (λ (p : Place). p.known) is ∙ known), calm.1 ∙ ap (λ (p : Place). p.errors) is))
     (λ known same. fault.fault (ap (λ (p : Place). p.known) is ∙ known) (same ∙ ap (λ (p : Place). p.errors) (sym is)) ∙ ap (λ (p : Place). end_fault p.cursor) is)

@@ -1,0 +1,13 @@
+use Rattle.std.proofs.Common.{Bool, true, false, inl, inr}
+use Rattle.flac_bits.specs.Bits.{bits_of}
+use Rattle.flac_bits.specs.State.{Behind, short_of}
+use Rattle.flac_native.specs.Stream.{Piece}
+use Rattle.flac_native.specs.Decoding.{beginning}
+use Rattle.flac_ogg.specs.Either.{begins_page, read_either}
+use Rattle.flac_cli.specs.Streams.{IsStream}
+use Rattle.flac_cli.proofs.Outcomes.{at_ok, is_stream}
+use Rattle.flac_cli.proofs.decoding.decode_stream.Goals as goal
+
+pub returns-clause-takes : goal.returns-clause-takes
+returns-clause-takes g c = λ tells receives.
+    at_ok c.decode_any.result (λ none. let d = (c.decode_any.ensures.hands tells.0 receives).done (tells.1, tells.2) none in (d.0, is_stream (begins_page (g.R.Source.coming c.args.source.now)) d.0 (g.R.Source.coming c.args.source.now) (g.R.Source.behind c.args.source.now) d.1, d.2))

@@ -1,0 +1,36 @@
+-- A byte in front of those that a source gives.
+use Rattle.std.proofs.Common.{◌≡◌, ℕ, ◌<◌, Bool, true, false, List, [], ◌∷◌, ◌++◌, length, take, slice_set, Option, Some, None, refl, ap, arith}
+use Rattle.flac_bits.specs.State.{Mark}
+use Rattle.flac_bits.specs.Handing.{Hands}
+use Rattle.flac_bits.specs.declared.why.Why.{Why}
+use Rattle.flac_native.specs.Stream.{Piece}
+use Rattle.flac_native.specs.declared.fault.Place.{Place}
+use Rattle.flac_ogg.specs.Stream.{start}
+use Rattle.flac_ogg.specs.Fronts.{front_bytes}
+use Rattle.flac_ogg.specs.Either.{begins_page, read_either}
+use Rattle.flac_ogg.proofs.MeaningContents.{ahead_of}
+use Rattle.flac_ogg.proofs.MeaningStreams.{goes_begins}
+
+pub front_put : (buf : List ℕ) (b : ℕ) → 0 < length buf → take 1 (slice_set buf 0 b) ≡ b ∷ []
+front_put [] b some = absurd (omega (arith, some))
+front_put (x ∷ xs) b some = refl
+
+-- the first byte of all is the one in front of the others
+pub first_of : (front : Option ℕ) (rest all : List ℕ) → all ≡ front_bytes front ++ rest → (front ≡ None → all ≡ []) → begins_page all ≡ begins_page (front_bytes front)
+first_of None rest all split none = ap begins_page (none refl)
+first_of (Some b) rest all split none = ap begins_page split
+
+-- each input begins with no item
+begins_nothing : (is_ogg : Bool) (mark : Mark) (text : List Bool) → (read_either is_ogg mark text).begins []
+begins_nothing true mark text = (goes_begins mark text [] start (ahead_of mark text) (refl, refl)).begins
+begins_nothing false mark text = ([], text, refl, refl)
+
+-- the source failed before the first item
+pub nothing_came : {K : Type 0} (is_ogg : Bool) (mark : Mark) (text : List Bool) (takes : K → Piece → K → Type 0) (errors : K → ℕ) (calm : Type 0) (sink : K) (outcome : Option (Place × Why))
+    → (calm → ⊥) → Hands (read_either is_ogg mark text) takes errors calm sink sink outcome
+nothing_came is_ogg mark text takes errors calm sink outcome none = record {
+  done = λ quiet e. absurd (none quiet);
+  refused = λ quiet at why e room same. absurd (none quiet);
+  begun = ([], sink, begins_nothing is_ogg mark text, refl, λ same. refl);
+  failed = λ rose. absurd (omega (arith, rose));
+}

@@ -1,0 +1,18 @@
+use Rattle.flac_native.specs.Track.{piece_of}
+use Rattle.flac_ogg.proofs.Arriving.{counts_both, clear_behind, read_rises, gives_there}
+use Rattle.flac_ogg.proofs.packets.OggPacketsContainer.next.Goals as goal
+
+pub returns-clause-counts : goal.returns-clause-counts
+returns-clause-counts g c = counts_both c.args.self.now.pages c.advance.new.pages c.advance.result c.advance.ensures.goes
+
+pub returns-clause-clear : goal.returns-clause-clear
+returns-clause-clear g c =
+    clear_behind c.args.self.now.pages c.advance.new.pages (λ part. piece_of c.advance.new.track part) c.args.track.now c.advance.new.track c.advance.result c.advance.ensures.steps c.advance.ensures.goes c.advance.ensures.next
+
+pub returns-clause-read : goal.returns-clause-read
+returns-clause-read g c =
+    read_rises c.args.self.now.pages c.advance.new.pages (λ part. piece_of c.advance.new.track part) c.args.track.now c.advance.result c.advance.ensures.steps c.advance.ensures.kept
+
+pub returns-clause-gives : goal.returns-clause-gives
+returns-clause-gives g c = λ p at known same quiet room items end come.
+    gives_there c.args.self.now.pages c.advance.new.pages (λ part. piece_of c.advance.new.track part) c.args.track.now c.advance.result c.advance.ensures.steps p at known same room items end come

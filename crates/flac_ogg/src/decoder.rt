@@ -1,0 +1,52 @@
+//! An Ogg stream, item by item.
+
+ghost use Rattle.std.specs.Prelude.{◌≡◌, true, List, IfOk, IfErr, None, Some};
+ghost use Rattle.flac_bits.specs.Bits.{bits_of};
+ghost use Rattle.flac_bits.specs.State.{short_of};
+ghost use Rattle.flac_native.specs.Stream.{Piece};
+ghost use Rattle.flac_native.specs.Track.{IsAt};
+ghost use Rattle.flac_native.specs.Decoding.{beginning};
+ghost use Rattle.flac_native.specs.Giving.{stage_of};
+ghost use Rattle.flac_native.specs.declared.course.Course.TheVariants.{Begun};
+ghost use Rattle.flac_native.specs.declared.fault.Place.{Place as Where};
+ghost use Rattle.flac_bits.specs.declared.why.Why.{Why as Reason};
+ghost use Rattle.flac_ogg.specs.Stream.{start, OggStream, OggRefused};
+ghost use Rattle.flac_pages.specs.Packets.{ahead};
+ghost use Rattle.flac_ogg.specs.Coming.{ItemsCome, IsClear};
+
+use crate::packets::OggPackets;
+use flac_native::{Decoder, Fault, Place, Profile, Source, Track, Why};
+use flac_pages::Pages;
+use std::alloc::Global;
+
+/// A decoder at the start of an Ogg stream (RFC 9639, section 10.1), which reads it block by block and frame by frame with [`Decoder::next`], or `step` and
+/// `view`. It allocates 65025 bytes for a page here, and when it reads metadata: for one block, and, at STREAMINFO, for one frame. A block or a frame is lent
+/// once its packet has ended.
+///
+/// # Errors
+///
+/// `Memory` at the marker if the allocation for a page fails.
+pub fn ogg_decoder<R: Source + Drop>(
+    alloc: Global,
+    source: R,
+    profile: Profile,
+) -> Result<Decoder<OggPackets<R>>, Fault>
+    ensures track { IfOk result (λ d. IsAt (stage_of d).track start) }
+    ensures course { IfOk result (λ d. (stage_of d).course ≡ Begun) }
+    ensures known { IfOk result (λ d. (stage_of d).container.pages.known ≡ R.known source) }
+    ensures errors { IfOk result (λ d. (stage_of d).container.pages.errors ≡ R.errors source) }
+    // What is still to come is what the input is.
+    ensures stream { IfOk result (λ d. (items : List Piece) → OggStream (beginning (short_of ((R.behind source).fails))) items (bits_of (R.coming source)) → ItemsCome start (ahead (stage_of d).container.pages) items None) }
+    ensures refused { IfOk result (λ d. (items : List Piece) (at : Where) (why : Reason) → OggRefused (beginning (short_of ((R.behind source).fails))) items (bits_of (R.coming source)) at why → ItemsCome start (ahead (stage_of d).container.pages) items (Some (at, why))) }
+    // Read is returned only if the source returned an error in the call, where it foretells none.
+    ensures clear { IfOk result (λ d. (R.behind source).fails ≡ None → IsClear (stage_of d).container.pages (stage_of d).track) }
+    ensures memory { IfErr result (λ f. f.why ≡ Why.Memory) }
+{
+    match Pages::new(alloc, source) {
+        Ok(pages) => Ok(Decoder::over(OggPackets::over(pages), Track::new(alloc, profile))),
+        Err(why) => Err(Fault {
+            at: Place::Marker,
+            why,
+        }),
+    }
+}

@@ -1,0 +1,106 @@
+//! Decodes a stream in either container.
+
+ghost use Rattle.std.specs.Prelude.{◌≡◌, ◌<◌, ◌≤◌, ◌++◌, ◌⊎◌, true, [], OnOk, IfOk, IfErr, None, Ok};
+ghost use Rattle.flac_bits.specs.Bits.{bits_of};
+ghost use Rattle.flac_bits.specs.State.{short_of};
+ghost use Rattle.flac_bits.specs.Handing.{Hands, Decides, outcome_of};
+ghost use Rattle.flac_native.specs.Item.{told};
+ghost use Rattle.flac_native.specs.Decoding.{taken, beginning};
+ghost use Rattle.flac_ogg.specs.Fronts.{front_bytes};
+ghost use Rattle.flac_ogg.specs.Either.{begins_page, read_either};
+
+use crate::decoding::decode_ogg;
+use crate::fronted::Fronted;
+use flac_bits::{Source, Why};
+use flac_native::{Fault, Place, Profile, Sink, decode};
+use std::alloc::Global;
+
+/// Whether this is the first byte of a page (RFC 3533, section 6).
+fn is_page(front: Option<u8>) -> bool
+    ensures { result ≡ begins_page (front_bytes front) }
+{
+    match front {
+        Some(byte) => byte == 0x4F,
+        None => false,
+    }
+}
+
+/// Pulls the first byte, if there is one.
+fn pull_front<R: Source>(source: &mut R) -> Result<Option<u8>, Fault>
+    ensures known { OnOk result (R.known source.old ≡ true → R.known source.new ≡ true) }
+    ensures bytes { IfOk result (λ front. R.known source.old ≡ true → R.coming source.old ≡ front_bytes front ++ R.coming source.new) }
+    ensures end { result ≡ Ok None → R.known source.old ≡ true → R.coming source.old ≡ [] }
+    ensures counted { OnOk result ((R.errors source.new ≡ R.errors source.old) × (R.raised source.new ≡ R.raised source.old)) }
+    ensures kept { R.errors source.old ≤ R.errors source.new }
+    ensures behind { R.known source.old ≡ true → R.errors source.new ≡ R.errors source.old → R.behind source.new ≡ R.behind source.old }
+    ensures rises { IfErr result (λ f. R.known source.old ≡ true → R.raised source.old < R.raised source.new) }
+    ensures names { R.names source.new ≡ R.names source.old }
+{
+    let mut first = [0];
+    match source.pull(&mut first) {
+        Ok(0) => Ok(None),
+        Ok(_) => Ok(Some(first[0])),
+        Err(_) => Err(Fault {
+            at: Place::Marker,
+            why: Why::Read,
+        }),
+    }
+}
+
+/// Decodes an Ogg stream or a native one.
+fn decode_as<R: Source, S: Sink>(
+    alloc: Global,
+    is_ogg: bool,
+    source: &mut R,
+    profile: Profile,
+    sink: &mut S,
+) -> Result<(), Fault>
+    ensures hands { R.known source.old ≡ true → S.known sink.old ≡ true →
+        Hands (read_either is_ogg (beginning (short_of ((R.behind source.old).fails))) (bits_of (R.coming source.old))) (taken S.takes) S.errors
+        ((R.errors source.new ≡ R.errors source.old) × (R.raised source.new ≡ R.raised source.old)) sink.old sink.new (outcome_of told result) }
+    ensures decides { R.known source.old ≡ true → S.known sink.old ≡ true → R.errors source.new ≡ R.errors source.old → R.raised source.new ≡ R.raised source.old → S.errors sink.new ≡ S.errors sink.old →
+        Decides (read_either is_ogg (beginning (short_of ((R.behind source.old).fails))) (bits_of (R.coming source.old))) (outcome_of told result) }
+    ensures kept { R.errors source.old ≤ R.errors source.new }
+    ensures read { IfErr result (λ f. R.known source.old ≡ true → (R.behind source.old).fails ≡ None → f.why ≡ Why.Read → (R.errors source.old < R.errors source.new) ⊎ (R.raised source.old < R.raised source.new)) }
+    ensures names { S.names sink.new ≡ S.names sink.old }
+    ensures source_names { R.names source.new ≡ R.names source.old }
+{
+    if is_ogg {
+        decode_ogg(alloc, source, profile, sink)
+    } else {
+        decode(alloc, source, profile, sink)
+    }
+}
+
+/// Decodes a stream, and passes its blocks and frames to a sink: an Ogg stream (RFC 9639, section 10.1) if the first byte is that of a page, otherwise a native
+/// one (section 6).
+///
+/// # Errors
+///
+/// `Read` at the marker if the source returns an error for the first byte. Otherwise those of [`decode_ogg`] or of [`decode`].
+pub fn decode_any<R: Source, S: Sink>(
+    alloc: Global,
+    source: &mut R,
+    profile: Profile,
+    sink: &mut S,
+) -> Result<(), Fault>
+    // Ok only where the bytes are such a stream, of which the sink took just the items; refused only as the bytes are, behind just the items before;
+    // and whatever ended it, the sink took whole items, from the start.
+    ensures hands { R.known source.old ≡ true → S.known sink.old ≡ true →
+        Hands (read_either (begins_page (R.coming source.old)) (beginning (short_of ((R.behind source.old).fails))) (bits_of (R.coming source.old))) (taken S.takes) S.errors
+        ((R.errors source.new ≡ R.errors source.old) × (R.raised source.new ≡ R.raised source.old)) sink.old sink.new (outcome_of told result) }
+    // Such a stream is not refused but for want of memory, and what the bytes show is the place and the reason answered.
+    ensures decides { R.known source.old ≡ true → S.known sink.old ≡ true → R.errors source.new ≡ R.errors source.old → R.raised source.new ≡ R.raised source.old → S.errors sink.new ≡ S.errors sink.old →
+        Decides (read_either (begins_page (R.coming source.old)) (beginning (short_of ((R.behind source.old).fails))) (bits_of (R.coming source.old))) (outcome_of told result) }
+    ensures kept { R.errors source.old ≤ R.errors source.new }
+    // Read is told only where the source answered an error in the call, where it foretells none.
+    ensures read { IfErr result (λ f. R.known source.old ≡ true → (R.behind source.old).fails ≡ None → f.why ≡ Why.Read → (R.errors source.old < R.errors source.new) ⊎ (R.raised source.old < R.raised source.new)) }
+    ensures names { S.names sink.new ≡ S.names sink.old }
+    ensures source_names { R.names source.new ≡ R.names source.old }
+{
+    let front = pull_front(source)?;
+    let mut fronted = Fronted { front, source };
+    let outcome = decode_as(alloc, is_page(front), &mut fronted, profile, sink);
+    let _source = fronted.into_source();
+    outcome
+}

@@ -1,0 +1,58 @@
+//! The packets of an Ogg stream as a container.
+
+ghost use Rattle.std.specs.Prelude.{◌≡◌, ◌+◌, ◌&&◌, not, nat_eq, length};
+ghost use Rattle.flac_bits.specs.State.{the_end};
+ghost use Rattle.flac_pages.specs.Packets.{ahead};
+ghost use Rattle.flac_ogg.specs.Coming.{ItemsCome, IsClear};
+
+use crate::advance::advance;
+use flac_bits::Source;
+use flac_native::{Container, Fault, Part, Track};
+use flac_pages::Pages;
+
+/// The packets of an Ogg stream, each a metadata block or a frame (RFC 9639, section 10.1).
+#[derive(Drop)]
+pub struct OggPackets<R: Source> {
+    pages: Pages<R>,
+}
+
+impl<R: Source> OggPackets<R> {
+    /// The packets of pages from here on.
+    pub(crate) fn over(pages: Pages<R>) -> OggPackets<R>
+        ensures { result.pages ≡ pages }
+    {
+        OggPackets { pages }
+    }
+
+    /// The pages.
+    pub(crate) fn into_pages(self) -> Pages<R>
+        ensures { result ≡ self.pages }
+    {
+        let OggPackets { pages } = self;
+        pages
+    }
+}
+
+impl<R: Source> Container for OggPackets<R> {
+    ghost known = { λ c. c.pages.known };
+
+    ghost errors = { λ c. c.pages.errors };
+
+    ghost raised = { λ c. c.pages.errors };
+
+    ghost behind = { λ _. the_end };
+
+    ghost clear = { λ c t. IsClear c.pages t };
+
+    ghost most = { λ c. c.pages.most + length c.pages.body };
+
+    ghost names = { λ c. c.pages.names };
+
+    ghost stands = { λ c _. nat_eq c.pages.rest 0 && not c.pages.more };
+
+    ghost gives = { λ c p items end. ItemsCome p (ahead c.pages) items end };
+
+    fn next(&mut self, track: &mut Track) -> Result<Option<Part>, Fault> {
+        advance(&mut self.pages, track)
+    }
+}
