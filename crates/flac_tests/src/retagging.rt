@@ -1,8 +1,8 @@
 //! Other comments for a stream: the example of RFC 9639, appendix D.1, its digest unknown.
 
 use flac_native::{
-    Block, Bytes, Collected, Comments, Container, Decoder, Item, Memory, Pieces, Place, Profile, RetagFault,
-    Texts, Why, only_one_head, retag,
+    Block, Bytes, Collected, Comments, Container, Decoder, Item, Memory, Pieces, Place, Profile,
+    RetagFault, Texts, Why, only_one_head, retag,
 };
 use std::alloc::Global;
 use std::test::Fail;
