@@ -38,3 +38,4 @@ pub mod Stretches
 pub mod Counting
 pub mod Telling
 pub mod LittleNumbers
+pub mod Unchecked

@@ -23,3 +23,4 @@ pub mod Reasons
 pub mod Meant
 pub mod Stretches
 pub mod LittleEndian
+pub mod Unchecked

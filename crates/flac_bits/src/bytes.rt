@@ -1,9 +1,10 @@
 //! Bytes, one after another.
 
 ghost use Rattle.std.specs.Prelude.{◌≢◌, ◌≤◌, ◌+◌, ◌*◌, length, OnOk, IfErr};
-ghost use Rattle.flac_bits.specs.Layout.{bits as number};
+ghost use Rattle.flac_bits.specs.Layout.{bits as number, run};
 ghost use Rattle.flac_bits.specs.Lists.{list_of};
-ghost use Rattle.flac_bits.specs.Reading.{Counts, Reads};
+ghost use Rattle.flac_bits.specs.Reading.{Counts, Gives, Reads};
+ghost use Rattle.flac_bits.specs.Unchecked.{begun_anew};
 
 use crate::reader::BitReader;
 use crate::source::Source;
@@ -47,4 +48,28 @@ fn read_each<R: Source>(bits: &mut BitReader<R>, out: &mut [u8]) -> Result<(), W
         out[i] = bits.take(8)? as u8;
     }
     Ok(())
+}
+
+/// Fills the places with the bytes that come next, as [`read_bytes`] does, and begins the checks anew after them. No check of these bytes is computed.
+///
+/// # Errors
+///
+/// Those of [`read_bytes`].
+pub fn read_unchecked<R: Source>(bits: &mut BitReader<R>, out: &mut [u8]) -> Result<(), Why>
+    ensures spends { OnOk result (bits.new.most + 8 * length out.old ≤ bits.old.most) }
+    ensures counts { Counts bits.old bits.new result }
+    ensures memory { IfErr result (λ e. e ≢ Why.Memory) }
+    ensures reads { Gives (λ _. out.new) (begun_anew (run (list_of (length out.old) (number 8)) bits.old.cursor)) bits.old bits.new result }
+{
+    if bits.unread() > 0 {
+        read_each(bits, out)?;
+        bits.start_checks();
+        return Ok(());
+    }
+    let count = bits.take_unchecked(out)?;
+    if count < out.len() {
+        Err(bits.short())
+    } else {
+        Ok(())
+    }
 }

@@ -24,7 +24,7 @@ mod why;
 mod word;
 mod writer;
 
-pub use bytes::read_bytes;
+pub use bytes::{read_bytes, read_unchecked};
 pub use coded::write_number;
 pub use counted::Counted;
 pub use little::{put_little_32, read_little_32, read_little_64};

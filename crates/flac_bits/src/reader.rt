@@ -13,6 +13,7 @@ ghost use Rattle.flac_bits.specs.Lists.{list_of, behind};
 ghost use Rattle.flac_bits.specs.Rice.{rice, rice_value, IsResidual};
 ghost use Rattle.flac_bits.specs.Signed.{signed_field, FitsBits};
 ghost use Rattle.flac_bits.specs.Reading.{Counts, Gives, Reads};
+ghost use Rattle.flac_bits.specs.Unchecked.{Passes};
 
 use crate::held::Held;
 use crate::signed::{MOST_FOLDED, to_signed, unfolded};
@@ -463,6 +464,30 @@ impl<R: Source> BitReader<R> {
             }
         }
         Ok(done)
+    }
+
+    /// The same as [`BitReader::take_bytes`], but the checks begin anew after each piece, so that none is computed of these bytes.
+    pub(crate) fn take_unchecked(&mut self, out: &mut [u8]) -> Result<usize, Why>
+        requires { self.old.cursor.mark.unread ≡ 0 }
+        ensures bound { IfOk result (λ n. n ≤ length out.new) }
+        ensures spends { IfOk result (λ n. self.new.most + 8 * n ≤ self.old.most) }
+        ensures whole { OnOk result (self.new.cursor.mark.unread ≡ 0) }
+        ensures counts { Counts self.old self.new result }
+        ensures taken { IfOk result (λ n. self.old.known ≡ true → Passes (bits_of (take n out.new)) self.old.cursor self.new.cursor) }
+        ensures over { IfOk result (λ n. n < length out.new → self.old.known ≡ true → (self.new.cursor.left ≡ []) × (self.new.cursor.mark.short ≡ Why.Read → ⊥)) }
+        ensures cut { IfErr result (λ e. (e ≡ Why.Read) × (self.old.known ≡ true → self.new.errors ≡ self.old.errors → (length self.old.cursor.left < 8 * length out.new) × (self.old.cursor.mark.short ≡ Why.Read))) }
+    {
+        self.start_checks();
+        let mut filled = 0;
+        while filled < out.len() {
+            match self.some_bytes(&mut out[filled..]) {
+                Ok(0) => return Ok(filled),
+                Ok(n) => filled += n,
+                Err(why) => return Err(why),
+            }
+            self.start_checks();
+        }
+        Ok(filled)
     }
 
     /// The reason where a field needs more bits than are left, and no error of the source is the reason.

@@ -1,7 +1,7 @@
 use crate::rows::bytes_of;
 use flac_bits::{
     BitReader, Counted, Memory, Pieces, Source, Why, crc8, crc16, page_sum, read_bytes,
-    read_little_32, read_little_64, read_number,
+    read_little_32, read_little_64, read_number, read_unchecked,
 };
 use std::alloc::Global;
 use std::fmt::Debug;
@@ -36,6 +36,9 @@ fdbfbfbfbfbffe | number 31 2147483647 | number 31 BadNumber
 abcdef | take 4 10 | fence 1 () | take 12 3021 | at_end 0 true | lift 0 () | at_end 0 false | fence 0 () | take 1 FrameTooLong | lift 0 () | take 8 239 | fence 1 () | take 1 Truncated
 # Both checks of 123456789 after another byte.
 78313233343536373839 | take 8 120 | start 0 () | take 36 13205975875 | take 36 22384425017 | check8 0 244 | check16 0 65256 | taken 0 10
+# The same checks, after four bytes that are read without them; and such bytes that begin within a byte.
+78010203313233343536373839 | unchecked 0 [120, 1, 2, 3] | take 36 13205975875 | take 36 22384425017 | check8 0 244 | check16 0 65256 | taken 0 13
+abcdef0123 | take 4 10 | unchecked 0 [188, 222, 240, 18] | take 4 3 | at_end 0 true
 # Numbers of four and of eight bytes, the lowest first.
 785634120102030405060708 | little_32 0 305419896 | little_64 0 578437695752307201 | little_32 0 Truncated";
 
@@ -68,6 +71,13 @@ fn four<R: Source>(bits: &mut BitReader<R>) -> Result<[u8; 4], Why> {
     Ok(places)
 }
 
+/// The same, and the checks begin anew after them.
+fn unchecked<R: Source>(bits: &mut BitReader<R>) -> Result<[u8; 4], Why> {
+    let mut places = [0; 4];
+    read_unchecked(bits, &mut places)?;
+    Ok(places)
+}
+
 /// How many of four bytes come at a whole byte, and these, with zeros in the other places.
 fn some<R: Source>(bits: &mut BitReader<R>) -> Result<(usize, [u8; 4]), Why> {
     let mut places = [0; 4];
@@ -93,6 +103,7 @@ fn read<R: Source>(
         "plain" => told(alloc, plain(bits, n)),
         "number" => told(alloc, read_number(bits, n)),
         "four" => told(alloc, four(bits)),
+        "unchecked" => told(alloc, unchecked(bits)),
         "some" => told(alloc, some(bits)),
         "little_32" => told(alloc, read_little_32(bits)),
         "little_64" => told(alloc, read_little_64(bits)),
