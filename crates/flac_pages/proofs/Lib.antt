@@ -1,7 +1,9 @@
 pub mod PageSum
+pub mod Anew
 pub mod PageReads
 pub mod Turns
 pub mod Stepping
+pub mod Unchecked
 pub mod Exits
 pub mod PacketMeaning
 pub mod Cut

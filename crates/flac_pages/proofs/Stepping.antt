@@ -1,5 +1,5 @@
 -- What a step of a reader of packets keeps.
-use Rattle.std.proofs.Common.{◌≡◌, ℕ, zero, suc, ◌+◌, ◌<◌, ◌≤◌, Bool, true, false, cond, nat_eq, List, [], ◌∷◌, ◌++◌, length, take, drop, get_or, Option, Some, None, Ok, Err, refl, sym, ap, ◌∙◌, arith, ◌^◌, ◌-◌, add-one, append_assoc, length-drop}
+use Rattle.std.proofs.Common.{◌≡◌, ℕ, zero, suc, ◌+◌, ◌<◌, ◌≤◌, Bool, true, false, cond, nat_eq, List, [], ◌∷◌, ◌++◌, length, take, drop, get_or, Option, Some, None, Ok, Err, refl, sym, ap, subst, ◌∙◌, arith, ◌^◌, ◌-◌, add-one, append_assoc, length-drop}
 use Rattle.std.specs.Prelude.{◌&&◌, not}
 use Rattle.std.specs.List.{sum, fold, flat_map}
 use Rattle.std.proofs.Math.Seq.{take-suc, drop-cons, take-append-add, drop-append_seam}
@@ -92,7 +92,7 @@ stop_again : (c n : ℕ) (s : Stop) → stop_of (page_index (c + 1) + n) s ≡ s
 stop_again c n (closed d) = at_again c n (end_fault d)
 stop_again c n (broken why) = at_again c n (Some why)
 
-ahead_is : (l l' b b' : List ℕ) (f f' s s' : Option (ℕ × Why)) → l ≡ l' → b ≡ b' → f ≡ f' → s ≡ s' → the_ahead l b f s ≡ the_ahead l' b' f' s'
+pub ahead_is : (l l' b b' : List ℕ) (f f' s s' : Option (ℕ × Why)) → l ≡ l' → b ≡ b' → f ≡ f' → s ≡ s' → the_ahead l b f s ≡ the_ahead l' b' f' s'
 ahead_is l l' b b' f f' s s' e1 e2 e3 e4 = rw (e1, e2, e3, e4) refl
 
 -- the next page: what good pages give stays
@@ -219,6 +219,39 @@ copied old new out n a b o nk ne nn nmo nr nm nl nb nla nf nc nd =
       behind = behind_is _ _ _ _ _ _ _ _ _ _ _ _ (rw (nm, nl, nla, nf, nc, nd) refl) (rw (nm, nl, nla, nf, nd) refl) (rw (nm, nl, nla, nf, nd) refl)
           (rw (nr, nm, nl, nb, nla, nf, nd) (sym (ap (λ k. drop k (old.body ++ behind)) count' ∙ drop_more (old.body ++ behind) n (old.rest - n + more) ∙ ap (drop (old.rest - n + more)) seam))) (rw (nla, nf, nc, nd) refl) (rw (nla, nf, nc, nd) refl);
     }
+
+-- nothing is copied
+pub copies_none : (p : Place) (out : List ℕ) → Copies p p out 0
+copies_none p out = record { known = refl; errors = refl; names = refl; room = omega arith; bytes = refl; behind = refl }
+
+-- the packet's next segment is entered, and nothing copied
+pub copies_entered : (old new : Place) (l : List ℕ) → old.rest ≡ 0 → old.more ≡ true → 0 < length old.lacing → old.lacing ≡ l → new ≡ next_segment old l → Copies old new [] 0
+copies_entered old new [] r m some eq e = absurd (omega (arith, ap length eq, some))
+copies_entered old new (v ∷ vs) r m some eq e =
+    let same = segment_same old v vs r m eq in
+    subst (λ (p : Place). Copies old p [] 0) (sym e) (record { known = refl; errors = refl; names = refl; room = omega arith; bytes = sym same.bytes; behind = same.behind })
+
+-- none more
+pub copies_still : (old mid new : Place) (xs : List ℕ) (n : ℕ) → Copies old mid xs n → Copies mid new [] 0 → Copies old new xs n
+copies_still old mid new xs n a b = record {
+  known = b.known ∙ a.known;
+  errors = b.errors ∙ a.errors;
+  names = b.names ∙ a.names;
+  room = omega (arith, a.room, b.room);
+  bytes = a.bytes ∙ ap (λ r. take n xs ++ r) b.bytes;
+  behind = b.behind ∙ a.behind;
+}
+
+-- more bytes behind those that were copied
+pub copies_more : (old mid new : Place) (xs ys zs : List ℕ) (n m : ℕ) → take (n + m) zs ≡ take n xs ++ take m ys → Copies old mid xs n → Copies mid new ys m → Copies old new zs (n + m)
+copies_more old mid new xs ys zs n m e a b = record {
+  known = b.known ∙ a.known;
+  errors = b.errors ∙ a.errors;
+  names = b.names ∙ a.names;
+  room = omega (arith, a.room, b.room);
+  bytes = a.bytes ∙ ap (λ r. take n xs ++ r) b.bytes ∙ sym (append_assoc (take n xs) (take m ys) (rest_of new)) ∙ ap (λ k. k ++ rest_of new) (sym e);
+  behind = b.behind ∙ a.behind;
+}
 
 -- ---- whether a packet goes on
 

@@ -76,7 +76,7 @@ impl<R: Source> Source for PacketBytes<'_, R> {
             return Err(io::Error::from(io::ErrorKind::InvalidData));
         }
         match self.pages.find() {
-            Ok(true) => Ok(self.pages.copy(buf)),
+            Ok(true) => Ok(self.pages.copy_in_page(buf)),
             Ok(false) => Ok(0),
             Err(why) => {
                 self.fault = Some((self.pages.count(), why));

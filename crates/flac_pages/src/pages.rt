@@ -226,6 +226,36 @@ impl<R: Source> Pages<R> {
         Ok(true)
     }
 
+    /// Goes to the packet's next byte, if the page has it.
+    #[tactic(auto, using(crate::proofs::Stepping::copies_none))]
+    fn has_byte(&mut self) -> bool
+        ensures same { Copies self.old self.new [] 0 }
+        ensures byte { result ≡ true → 0 < self.new.rest }
+        ensures none { 0 < self.old.rest → result ≡ true }
+    {
+        if self.rest() > 0 {
+            return true;
+        }
+        if !self.goes_on() || self.is_read() {
+            return false;
+        }
+        self.take_segment();
+        self.rest() > 0
+    }
+
+    /// Copies bytes of the packet to the front of the room, as many as the page has and there is room for.
+    pub(crate) fn copy_in_page(&mut self, out: &mut [u8]) -> usize
+        ensures few { result ≤ length out.old }
+        ensures some { 0 < length out.old → 0 < self.old.rest → 0 < result }
+        ensures copies { Copies self.old self.new out.new result }
+    {
+        let mut done = 0;
+        while done < out.len() && self.has_byte() {
+            done += self.copy(&mut out[done..]);
+        }
+        done
+    }
+
     /// Copies some of the segment's bytes to the front of the room.
     pub(crate) fn copy(&mut self, out: &mut [u8]) -> usize
         ensures few { result ≤ length out.old }

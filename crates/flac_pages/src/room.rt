@@ -2,16 +2,17 @@
 
 ghost use Rattle.std.specs.Prelude.{◌≡◌, ◌≢◌, ◌≤◌, ◌<◌, ◌+◌, ◌*◌, ◌^◌, [], length, take, get_or, vec_len, OnOk, IfOk, IfErr, IfSome, OnErr};
 ghost use Rattle.std.specs.List.{sum};
-ghost use Rattle.flac_bits.specs.Layout.{bits as number};
+ghost use Rattle.flac_bits.specs.Layout.{bits as number, run};
 ghost use Rattle.flac_bits.specs.Lists.{list_of};
 ghost use Rattle.flac_bits.specs.Reading.{Counts, Reads, Gives};
+ghost use Rattle.flac_bits.specs.Unchecked.{begun_anew};
 ghost use Rattle.flac_pages.specs.Pages.{between, next_page};
 ghost use Rattle.flac_pages.specs.Page.{page_sum, page_behind, end_rules, first_broken};
 
 use crate::fields::read_head;
 use crate::page::{Before, Head};
 use crate::writing::{MOST_BYTES, sum_of_page};
-use flac_bits::{BitReader, Source, Why, read_bytes};
+use flac_bits::{BitReader, Source, Why, read_bytes, read_unchecked};
 use std::alloc::Global;
 use std::marker::Model;
 
@@ -156,7 +157,7 @@ impl PageRoom {
         ensures whole { OnOk result ((length self.new.body ≡ sum self.new.lacing) × (length self.new.body ≤ 65025) × (length self.new.lacing ≤ 255)) }
         ensures counts { Counts reader.old reader.new result }
         ensures memory { IfErr result (λ e. e ≢ Why.Memory) }
-        ensures reads { Reads (λ _. self.new) (page_behind before first) reader.old reader.new result }
+        ensures reads { Gives (λ _. self.new) (begun_anew (run (page_behind before first) reader.old.cursor)) reader.old reader.new result }
     {
         self.head = read_head(reader, first)?;
         self.count = reader.take(8)? as u8;
@@ -201,16 +202,31 @@ fn read_some<R: Source>(reader: &mut BitReader<R>, out: &mut [u8], n: usize) -> 
     read_bytes(reader, &mut out[..n])
 }
 
-/// The same into a vector.
+/// The same, and the checks begin anew after them.
+fn read_unchecked_some<R: Source>(
+    reader: &mut BitReader<R>,
+    out: &mut [u8],
+    n: usize,
+) -> Result<(), Why>
+    requires { n ≤ length out.now }
+    ensures spends { OnOk result (reader.new.most + n ≤ reader.old.most) }
+    ensures counts { Counts reader.old reader.new result }
+    ensures memory { IfErr result (λ e. e ≢ Why.Memory) }
+    ensures reads { Gives (λ _. take n out.new) (begun_anew (run (list_of n (number 8)) reader.old.cursor)) reader.old reader.new result }
+{
+    read_unchecked(reader, &mut out[..n])
+}
+
+/// Fills the first n places of a vector with the bytes that come next, and the checks begin anew after them.
 fn read_body<R: Source>(reader: &mut BitReader<R>, out: &mut Vec<u8>, n: usize) -> Result<(), Why>
     requires { n ≤ vec_len out.now }
     ensures room { vec_len out.new ≡ vec_len out.old }
     ensures spends { OnOk result (reader.new.most + n ≤ reader.old.most) }
     ensures counts { Counts reader.old reader.new result }
     ensures memory { IfErr result (λ e. e ≢ Why.Memory) }
-    ensures reads { Reads (λ _. take n out.new.items) (list_of n (number 8)) reader.old reader.new result }
+    ensures reads { Gives (λ _. take n out.new.items) (begun_anew (run (list_of n (number 8)) reader.old.cursor)) reader.old reader.new result }
 {
-    read_some(reader, out, n)
+    read_unchecked_some(reader, out, n)
 }
 
 /// What the end of the input is where no page has begun.
@@ -223,7 +239,8 @@ fn between(why: Why) -> Why
     }
 }
 
-/// Reads the next page into the room. After a refusal the room holds an empty page.
+/// Reads the next page into the room, after which the reader's checks begin anew: of a page's bytes none is computed but its own sum.
+/// After a refusal the room holds an empty page.
 ///
 /// # Errors
 ///
@@ -240,7 +257,7 @@ pub fn next_page<R: Source>(
     ensures cleared { OnErr result ((room.new.lacing ≡ []) × (room.new.body ≡ [])) }
     ensures counts { Counts reader.old reader.new result }
     ensures memory { IfErr result (λ e. e ≢ Why.Memory) }
-    ensures reads { Gives (λ _. room.new) (next_page before reader.old.cursor) reader.old reader.new result }
+    ensures reads { Gives (λ _. room.new) (begun_anew (next_page before reader.old.cursor)) reader.old reader.new result }
 {
     match reader.take(8) {
         Ok(first) => match room.read_behind(reader, before, first as u8) {

@@ -1,9 +1,9 @@
-use Rattle.std.proofs.Common.{◌≡◌, rules, true, None, length, sym, subst, OnOk}
+use Rattle.std.proofs.Common.{◌≡◌, rules, true, None, length, subst, OnOk}
 use Rattle.std.specs.Prelude.{⊤}
 use Rattle.flac_bits.specs.Layout.{bits as number}
 use Rattle.flac_bits.specs.Lists.{list_of}
 use Rattle.flac_pages.specs.Packets.{Place}
-use Rattle.flac_pages.specs.Items.{packet_of, packet_mark, TellsItem, HasBehind}
+use Rattle.flac_pages.specs.Items.{HasBehind}
 use Rattle.flac_pages.proofs.ItemReading.{at_there, packet_told, behind_told}
 use Rattle.flac_pages.proofs.item.read_packet.Goals as goal
 

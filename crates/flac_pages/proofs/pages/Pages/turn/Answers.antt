@@ -4,9 +4,10 @@ use Rattle.std.specs.List.{sum}
 use Rattle.std.proofs.lemmas.List.{drop_all}
 use Rattle.flac_pages.specs.declared.page.Head.{Head}
 use Rattle.flac_pages.specs.Page.{after, went_on, goes_on_behind, is_last}
+use Rattle.flac_bits.specs.Unchecked.{begun_anew}
 use Rattle.flac_pages.specs.Pages.{next_page}
 use Rattle.flac_pages.specs.Packets.{Place}
-use Rattle.flac_pages.proofs.Stepping.{turned, refused}
+use Rattle.flac_pages.proofs.Unchecked.{turned_anew, refused_anew}
 use Rattle.flac_pages.proofs.pages.Pages.turn.Goals as goal
 
 pub returns-in-Ok-clause-turns : goal.returns-in-Ok-clause-turns
@@ -29,8 +30,8 @@ returns-in-Ok-clause-turns g c =
       more = ap (λ (p : Place). p.more) is;
       room = omega (arith, ap (λ (p : Place). p.most) is, c.in-Ok.ensures.spends);
       spends = omega (arith, ap (λ (p : Place). p.most) is, c.in-Ok.ensures.spends, c.in-Ok.ensures.whole.2);
-      ahead = λ known. turned c.args.self.now _ page c.requires.read (sym (ap (λ (p : Place). p.body) is) ∙ no_body) c.requires.last
-          (ap (λ (p : Place). next_page p.before p.cursor) (sym is) ∙ c.in-Ok.ensures.reads (ap (λ (p : Place). p.known) is ∙ known) counts.1)
+      ahead = λ known. turned_anew c.args.self.now _ page c.requires.read (sym (ap (λ (p : Place). p.body) is) ∙ no_body) c.requires.last
+          (ap (λ (p : Place). begun_anew (next_page p.before p.cursor)) (sym is) ∙ c.in-Ok.ensures.reads (ap (λ (p : Place). p.known) is ∙ known) counts.1)
           refl refl (ap (λ (h : Head). is_last h.flags) c.head-head.ensures) before_is (c.saturating_add-self-inside.ensures ∙ ap (λ (p : Place). min (p.count + 1) 18446744073709551615) is);
     }
 
@@ -47,6 +48,6 @@ returns-in-Err-clause-turns g c =
       names = c.in-Err.ensures.counts.3 ∙ ap (λ (p : Place). p.names) is;
       count = ap (λ (p : Place). p.count) is;
       last = ap (λ (p : Place). p.last) is ∙ c.requires.last;
-      ahead = λ known same. refused c.args.self.now c.in-Err.why (omega (arith, ap (λ (p : Place). p.count) is)) c.requires.read (sym (ap (λ (p : Place). p.body) is) ∙ no_body) c.requires.last
-          (ap (λ (p : Place). next_page p.before p.cursor) (sym is) ∙ c.in-Err.ensures.reads (ap (λ (p : Place). p.known) is ∙ known) (same ∙ sym errors));
+      ahead = λ known same. refused_anew c.args.self.now c.in-Err.why (omega (arith, ap (λ (p : Place). p.count) is)) c.requires.read (sym (ap (λ (p : Place). p.body) is) ∙ no_body) c.requires.last
+          (ap (λ (p : Place). begun_anew (next_page p.before p.cursor)) (sym is) ∙ c.in-Err.ensures.reads (ap (λ (p : Place). p.known) is ∙ known) (same ∙ sym errors));
     }
