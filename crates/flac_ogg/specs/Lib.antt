@@ -4,6 +4,7 @@ pub mod Steps
 pub mod Decoding
 pub mod Fronts
 pub mod Either
+pub mod Verifying
 pub mod Telling
 pub mod Coming
 pub mod Native

@@ -14,6 +14,7 @@ mod packet_list;
 mod packets;
 mod parts;
 mod places;
+mod verifying;
 
 pub use decoder::ogg_decoder;
 pub use decoding::decode_ogg;
@@ -31,3 +32,4 @@ pub use flac_native::{
 pub use flac_pages::{PacketBytes, Pages};
 pub use laws::{encoded_items, only_one_way, same_items, some_way};
 pub use packets::OggPackets;
+pub use verifying::verify;

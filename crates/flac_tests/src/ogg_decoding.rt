@@ -6,7 +6,7 @@ ghost use Rattle.std.specs.Prelude.{⊤, [], true};
 use crate::decoding::{ROW, peaks};
 use flac_ogg::{
     Block, Fault, FrameView, Item, Memory, Place, Profile, Sink, SinkFault, Why, decode_any,
-    ogg_decoder,
+    ogg_decoder, verify,
 };
 use std::alloc::Global;
 use std::test::Fail;
@@ -106,6 +106,20 @@ fn either_container(rt: HostRuntime) -> Result<(), Fail> {
             at,
             why: Why::Truncated
         })
+    );
+    Ok(())
+}
+
+#[test]
+fn verified_in_memory(rt: HostRuntime) -> Result<(), Fail> {
+    let stream = hex::decode(rt.alloc(), PAGES)?;
+    assert_eq!(rt; verify(rt.alloc(), &ROW, Profile::Subset), Ok(()));
+    assert_eq!(rt; verify(rt.alloc(), &stream, Profile::Subset), Ok(()));
+    let at = Place::Frame(0);
+    let why = Why::Truncated;
+    assert_eq!(rt;
+        verify(rt.alloc(), &ROW[..56], Profile::Subset),
+        Err(Fault { at, why })
     );
     Ok(())
 }
