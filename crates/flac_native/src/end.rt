@@ -1,6 +1,6 @@
 //! What STREAMINFO states of all samples, judged where the stream ends.
 
-ghost use Rattle.std.specs.Prelude.{◌≡◌, ◌≢◌, ℕ, List, IfErr, min};
+ghost use Rattle.std.specs.Prelude.{◌≡◌, ◌≢◌, ℕ, List, [], IfErr, is_some, min, true, false};
 ghost use Rattle.flac_native.specs.Stream.{is_unknown, end_rules};
 ghost use Rattle.std.specs.Str.{bytes_eq};
 ghost use Rattle.flac_native.specs.Ends.{EndsBy};
@@ -58,6 +58,10 @@ impl Track {
         ensures judged { (p : Progress) → IsAt self.old p → EndsBy (end_rules p.stand.info p.samples p.message) result }
         ensures quiet { IfErr result (λ e. e ≢ Why.Read) }
         ensures memory { IfErr result (λ e. e ≢ Why.Memory) }
+        // All else stays.
+        ensures stays { self.new ≡ record self.old { hasher = self.new.hasher } }
+        ensures anew { is_some self.old.format ≡ true → Holds self.new.hasher [] }
+        ensures unasked { is_some self.old.format ≡ false → self.new.hasher ≡ self.old.hasher }
     {
         let Some(format) = &self.format else {
             return Ok(());

@@ -91,6 +91,8 @@ impl Track {
         ensures before { OnOk result (before_in self.new.format ≡ before_behind (before_in self.old.format) block.now) }
         ensures samples { self.new.samples ≡ self.old.samples }
         ensures hasher { self.new.hasher ≡ self.old.hasher }
+        ensures last { self.new.last ≡ self.old.last }
+        ensures kept { self.new.block ≡ self.old.block }
         ensures err { IfErr result (λ e. e ≡ Why.Memory) }
     {
         if let Block::StreamInfo(info) = block {
@@ -116,6 +118,9 @@ impl Track {
         ensures counts { Counts bits.old bits.new result }
         ensures reads { ReadsInRoom (λ x. x) (block_layout (stand_of self.old).seen) bits.old bits.new result }
         ensures next { IfOk result (λ x. (p : Progress) → IsAt self.old p → IsAt self.new (next p (block_piece x.0 x.1))) }
+        // The block that Track::next_block keeps stays.
+        ensures last { self.new.last ≡ self.old.last }
+        ensures kept { self.new.block ≡ self.old.block }
     {
         let (last, block) = read_block(self.alloc, bits, &mut self.seen)?;
         self.note(last, &block)?;
@@ -153,6 +158,9 @@ impl Track {
         ensures reads { ReadsWithin (Some 16777215) (λ _. shown self.new) (frame_behind (stand_of self.old).info (stand_of self.old).before) bits.old bits.new result }
         ensures next { OnOk result ((p : Progress) → IsAt self.old p → IsAt self.new (next p (framed (shown self.new)))) }
         ensures made { OnOk result (is_some (stand_of self.new).info ≡ true) }
+        // The block that Track::next_block keeps stays.
+        ensures last { self.new.last ≡ self.old.last }
+        ensures kept { self.new.block ≡ self.old.block }
     {
         let Some(format) = &mut self.format else {
             bits.lift();
