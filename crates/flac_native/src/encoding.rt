@@ -13,7 +13,7 @@ ghost use Rattle.flac_native.specs.Writing.{blocks_spelling, head_spelling, IsEn
 use crate::encode_fault::EncodeFault;
 use crate::encoded_info::info_of;
 use crate::in_order::write_each;
-use crate::memory::collect;
+use crate::memory::{collect, in_memory};
 use crate::plan::Plan;
 use flac_bits::{BitWriter, Collected, Target, Why, send_all};
 use flac_frame::{Audio, EncodeBuffers, encode_frame};
@@ -72,7 +72,7 @@ fn write_head<W: Target>(
     write_blocks(info, list, points, writer)
 }
 
-/// The bytes before the frames, in memory. Refuses where a growth is.
+/// The bytes before the frames, in memory. Its only error is `Memory`: an allocation failed.
 fn head_of(
     alloc: Global,
     info: StreamInfo,
@@ -80,11 +80,14 @@ fn head_of(
     points: Vec<SeekPoint>,
 ) -> Result<Vec<u8>, Why>
     requires { block_fault (block_of.SeekTable points.items) ≡ None }
-    ensures { IfOk result (λ head. bits_of head.items ≡ head_spelling info (list.now ++ table_of points.items)) }
+    ensures head { IfOk result (λ head. bits_of head.items ≡ head_spelling info (list.now ++ table_of points.items)) }
+    ensures memory { IfErr result (λ e. e ≡ Why.Memory) }
 {
     let mut writer = BitWriter::new(Collected::new(alloc));
-    write_head(info, list, points, &mut writer)?;
-    collect(writer)
+    match write_head(info, list, points, &mut writer) {
+        Ok(()) => collect(writer),
+        Err(why) => Err(in_memory(why)),
+    }
 }
 
 /// Frames in memory, the least and the greatest number of bytes of one, 0 where there is none, and their seek points.
@@ -110,12 +113,13 @@ fn greatest_with(greatest: u64, bytes: u64) -> u64
     if greatest < bytes { bytes } else { greatest }
 }
 
-/// Encodes all samples into memory. Refuses where a growth is.
+/// Encodes all samples into memory. Its only error is `Memory`: an allocation failed.
 fn encode_frames(alloc: Global, plan: &Plan, audio: &Audio) -> Result<Frames, Why>
     requires { fits_plan plan.now audio.now ≡ true }
     ensures encoded { IfOk result (λ f. IsEncoded plan.now audio.now (bits_of f.bytes.items) f.least f.greatest f.points.items) }
     ensures table { IfOk result (λ f. block_fault (block_of.SeekTable f.points.items) ≡ None) }
     ensures sizes { IfOk result (λ f. (f.least ≤ f.greatest) × (f.greatest < 2 ^ 24)) }
+    ensures memory { IfErr result (λ e. e ≡ Why.Memory) }
 {
     let size = plan.block_size() as usize;
     let total = audio.len();
@@ -129,7 +133,10 @@ fn encode_frames(alloc: Global, plan: &Plan, audio: &Audio) -> Result<Frames, Wh
     while start < total {
         let end = start + size.min(total - start);
         plan.note_point(number, writer.bytes_written(), &mut points)?;
-        let frame_bytes = encode_frame(audio, start..end, number, &mut buffers, &mut writer)?;
+        let frame_bytes = match encode_frame(audio, start..end, number, &mut buffers, &mut writer) {
+            Ok(frame_bytes) => frame_bytes,
+            Err(why) => return Err(in_memory(why)),
+        };
         least = least_with(number, least, frame_bytes);
         greatest = greatest_with(greatest, frame_bytes);
         number += 1;

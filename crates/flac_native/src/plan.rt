@@ -1,6 +1,6 @@
 //! How samples are cut into frames.
 
-ghost use Rattle.std.specs.Prelude.{◌≡◌, ◌<◌, ◌≤◌, ◌*◌, ◌^◌, ◌++◌, MatchResult, IfOk, OnOk, true, Some, None};
+ghost use Rattle.std.specs.Prelude.{◌≡◌, ◌<◌, ◌≤◌, ◌*◌, ◌^◌, ◌++◌, MatchResult, IfOk, OnOk, IfErr, true, Some, None};
 ghost use Rattle.flac_native.specs.Given.{blocks_in, has_point, points_before, cut_of, fits_plan, plan_fault};
 ghost use Rattle.flac_native.specs.Seeking.{point_at};
 
@@ -167,7 +167,8 @@ impl Plan {
         points: &mut Vec<SeekPoint>,
     ) -> Result<(), Why>
         requires { self.now.block_size * number < self.now.total }
-        ensures { OnOk result (points.new.items ≡ points.old.items ++ point_at self.now number offset) }
+        ensures noted { OnOk result (points.new.items ≡ points.old.items ++ point_at self.now number offset) }
+        ensures memory { IfErr result (λ e. e ≡ Why.Memory) }
     {
         let size = self.block_size as u64;
         if has_point(size, self.total, self.seek_every as u64, number) {

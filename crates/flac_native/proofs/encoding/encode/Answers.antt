@@ -15,7 +15,7 @@ returns-in-Ok-send_stream-clause-written g c = λ known.
     let points = c.in-Ok.frames.points.items in
     let once = sym c.repeats_table.ensures ∙ c.if-repeats_table.false in
     let old = g.W.Target.sent c.args.target.now in
-    let head = ap bits_of c.as_slice.ensures.value ∙ c.in-Ok-head_of.ensures ∙ ap (λ i. head_spelling i (list ++ table_of points)) c.info_of-info.ensures in
+    let head = ap bits_of c.as_slice.ensures.value ∙ c.in-Ok-head_of.ensures.head ∙ ap (λ i. head_spelling i (list ++ table_of points)) c.info_of-info.ensures in
     let frames = subst (λ k. IsEncoded p a (bits_of k) least greatest points) (sym c.as_slice-2.ensures.value) c.in-Ok.ensures.encoded in
     let whole = given_encodes p list a least greatest points c.as_slice.result.now c.as_slice-2.result.now (bits_of old) c.block_size-size.ensures.good c.requires c.blocks-blocks.ensures.good c.blocks-blocks.ensures.fits once head frames in
     all_sent p list a _ old _ whole (c.in-Ok-send_stream.ensures.sent known)
@@ -30,7 +30,7 @@ returns-clause-begun g c = λ is known.
     let points = c.in-Ok.frames.points.items in
     let once = sym c.repeats_table.ensures ∙ c.if-repeats_table.false in
     let old = g.W.Target.sent c.args.target.now in
-    let head = ap bits_of c.as_slice.ensures.value ∙ c.in-Ok-head_of.ensures ∙ ap (λ i. head_spelling i (list ++ table_of points)) c.info_of-info.ensures in
+    let head = ap bits_of c.as_slice.ensures.value ∙ c.in-Ok-head_of.ensures.head ∙ ap (λ i. head_spelling i (list ++ table_of points)) c.info_of-info.ensures in
     let frames = subst (λ k. IsEncoded p a (bits_of k) least greatest points) (sym c.as_slice-2.ensures.value) c.in-Ok.ensures.encoded in
     let whole = given_encodes p list a least greatest points c.as_slice.result.now c.as_slice-2.result.now (bits_of old) c.block_size-size.ensures.good c.requires c.blocks-blocks.ensures.good c.blocks-blocks.ensures.fits once head frames in
     let begun = c.in-Err.ensures.begun known in
