@@ -2,6 +2,7 @@
 
 ghost use Rattle.std.specs.Prelude.{◌≡◌, IfOk};
 
+use crate::rows::{channels_of, pair_of};
 use flac_bits::{BitReader, BitWriter, Collected, Memory, Target, Why};
 use flac_frame::{
     Audio, EncodeBuffers, FrameBuffers, FrameView, SetupFault, channels_are_joined, encode_frame,
@@ -9,7 +10,8 @@ use flac_frame::{
 };
 use flac_header::Profile;
 use flac_meta::StreamInfo;
-use std::alloc::{AllocError, Global};
+use std::alloc::Global;
+use std::process::Abort;
 use std::test::Fail;
 
 fn stereo_info(block: u16) -> Result<StreamInfo, Why>
@@ -129,17 +131,17 @@ fn pairs_of_samples(rt: HostRuntime) {
     );
 }
 
-/// Two channels of these samples at a rate and of so many bits each.
-fn two_channels(
-    alloc: Global,
-    rate: u32,
-    bits: u32,
-    left: &[i32],
-    right: &[i32],
-) -> Result<Result<Audio, SetupFault>, AllocError> {
-    let mut channels = Vec::new(alloc);
-    channels.push(left.iter().copied().collect(alloc)?)?;
-    channels.push(right.iter().copied().collect(alloc)?)?;
+/// The rate and the bits of samples, the channels, each after a `;`, and the fault that they are refused for.
+const REFUSED: &str = "65537 10 | ;1; | 40 BadRate
+44100 10 | ;1; | 41 BadDepth
+44100 16 | ;32768; | 43 LengthsDiffer
+44100 16 | ;32768;0 | 44 SampleTooLarge
+384000 32 |  | 42 BadChannels";
+
+/// Samples of a rate and of bits, their channels each after a `;`.
+fn audio_of(alloc: Global, format: &str, words: &str) -> Result<Result<Audio, SetupFault>, Fail> {
+    let (rate, bits) = pair_of(format)?;
+    let channels = channels_of(alloc, words)?;
     Ok(Audio::new(rate, bits, channels))
 }
 
@@ -151,25 +153,31 @@ fn fault_in(outcome: Result<Audio, SetupFault>) -> Option<SetupFault> {
     }
 }
 
+/// Why samples are refused, in text.
+fn refusal(alloc: Global, format: &str, words: &str) -> Result<String, Fail> {
+    match fault_in(audio_of(alloc, format, words)?) {
+        Some(fault) => Ok(format!(in alloc; "{fault}")?),
+        None => Ok(String::new(alloc)),
+    }
+}
+
+#[test]
+fn refused_audio(rt: HostRuntime) -> Result<(), Fail> {
+    for row in REFUSED.lines() {
+        let mut fields = row.split(" | ");
+        let (format, words) = (fields.next().unwrap_or(""), fields.next().unwrap_or(""));
+        let text = refusal(rt.alloc(), format, words)?;
+        assert!(rt; fields.next() == Some(text.as_str()), "{text}: {row}");
+    }
+    Ok(())
+}
+
 #[test]
 fn audio(rt: HostRuntime) -> Result<(), Fail> {
     let alloc = rt.alloc();
-    let refused = fault_in(two_channels(alloc, 65537, 10, &[1], &[])?);
-    assert_eq!(rt; refused, Some(SetupFault::BadRate));
-    let refused = fault_in(two_channels(alloc, 44100, 10, &[1], &[])?);
-    assert_eq!(rt; refused, Some(SetupFault::BadDepth));
-    let refused = fault_in(two_channels(alloc, 44100, 16, &[32768], &[])?);
-    assert_eq!(rt; refused, Some(SetupFault::LengthsDiffer));
-    let refused = fault_in(two_channels(alloc, 44100, 16, &[32768], &[0])?);
-    assert_eq!(rt; refused, Some(SetupFault::SampleTooLarge));
     let refused = fault_in(Audio::new(384000, 32, Vec::new(alloc)));
     assert_eq!(rt; refused, Some(SetupFault::BadChannels));
-    let text = format!(in alloc; "{}", SetupFault::SampleTooLarge)?;
-    assert_eq!(rt; text.as_str(), "44 SampleTooLarge");
-    let Ok(audio) = two_channels(alloc, 7000, 12, &[2047, 0], &[-2048, 1])? else {
-        assert!(rt; false);
-        return Ok(());
-    };
+    let audio = audio_of(alloc, "7000 12", ";2047 0;-2048 1")??;
     assert_eq!(rt; (audio.rate(), audio.bits(), audio.len()), (7000, 12, 2));
     assert_eq!(rt; audio.channels().len(), 2);
     assert!(rt; !audio.is_empty());
@@ -190,80 +198,58 @@ fn write_all<W: Target>(alloc: Global, audio: &Audio, writer: &mut BitWriter<W>)
     Ok(bytes)
 }
 
+/// The rate and the bits of samples, the channels, each after a `;`, and the frame that they are written as.
+const WRITTEN: &str = "44100 16 | ;25588;10416 | fff869180000bf0158fd01128b5ab2
+44100 16 | ;0 1 2 3 4 5 6 7 8 9 10 11 12 13 14 15 | fff86908000f30140000000103c0efc9
+44100 16 | ;0 1 2 3 4 5 6 7 8 9 10 11 12 13 14 15;0 1 2 3 4 5 6 7 8 9 10 11 12 13 14 15 | fff86988000f3b140000000103c02007803d83";
+
+/// The bytes of the frame of some channels, and how many the writer says that it has.
+fn written(alloc: Global, format: &str, words: &str) -> Result<(u64, Vec<u8>), Fail> {
+    let audio = audio_of(alloc, format, words)??;
+    let mut writer = BitWriter::new(Collected::new(alloc));
+    let count = write_all(alloc, &audio, &mut writer)?;
+    Ok((count, writer.into_target().into_bytes()))
+}
+
 #[test]
 fn frames_are_written(rt: HostRuntime) -> Result<(), Fail> {
-    let alloc = rt.alloc();
     forms_stand_for_samples();
     encodings_are_frames();
-    let Ok(audio) = two_channels(alloc, 44100, 16, &[25588], &[10416])? else {
-        assert!(rt; false);
-        return Ok(());
-    };
-    let mut writer = BitWriter::new(Collected::new(alloc));
-    assert_eq!(rt; write_all(alloc, &audio, &mut writer), Ok(15));
-    let frame = [
-        0xFF, 0xF8, 0x69, 0x18, 0x00, 0x00, 0xBF, 0x01, 0x58, 0xFD, 0x01, 0x12, 0x8B, 0x5A, 0xB2,
-    ];
-    assert_eq!(rt; writer.into_target().bytes(), frame.as_slice());
-    let ramp = [0, 1, 2, 3, 4, 5, 6, 7, 8, 9, 10, 11, 12, 13, 14, 15];
-    let mut channels = Vec::new(alloc);
-    channels.push(ramp.iter().copied().collect(alloc)?)?;
-    let Ok(audio) = Audio::new(44100, 16, channels) else {
-        assert!(rt; false);
-        return Ok(());
-    };
-    let mut writer = BitWriter::new(Collected::new(alloc));
-    assert_eq!(rt; write_all(alloc, &audio, &mut writer), Ok(16));
-    let frame = [
-        0xFF, 0xF8, 0x69, 0x08, 0x00, 0x0F, 0x30, 0x14, 0x00, 0x00, 0x00, 0x01, 0x03, 0xC0, 0xEF,
-        0xC9,
-    ];
-    assert_eq!(rt; writer.into_target().bytes(), frame.as_slice());
+    for row in WRITTEN.lines() {
+        let mut fields = row.split(" | ");
+        let (format, words) = (fields.next().unwrap_or(""), fields.next().unwrap_or(""));
+        let (count, bytes) = written(rt.alloc(), format, words)?;
+        let wanted = hex::decode(rt.alloc(), fields.next().unwrap_or(""))?;
+        assert!(rt; bytes.as_slice() == wanted.as_slice(), "{row}");
+        assert!(rt; count == wanted.len() as u64, "{row}");
+    }
     Ok(())
 }
 
-/// The bytes of the frame of two channels.
-fn written(alloc: Global, bits: u32, left: &[i32], right: &[i32]) -> Result<Vec<u8>, Why> {
-    let Ok(audio) = two_channels(alloc, 44100, bits, left, right)? else {
-        return Err(Why::Write);
-    };
-    let mut writer = BitWriter::new(Collected::new(alloc));
-    let _bytes = write_all(alloc, &audio, &mut writer)?;
-    Ok(writer.into_target().into_bytes())
-}
+/// The greatest and the least number of 32 bits in turn, and the other way round.
+const WIDEST: &str =
+    ";2147483647 -2147483648 2147483647 -2147483648 2147483647 -2147483648 2147483647 -2147483648 \
+    2147483647 -2147483648 2147483647 -2147483648 2147483647 -2147483648 2147483647 -2147483648\
+    ;-2147483648 2147483647 -2147483648 2147483647 -2147483648 2147483647 -2147483648 2147483647 \
+    -2147483648 2147483647 -2147483648 2147483647 -2147483648 2147483647 -2147483648 2147483647";
 
-#[test]
-fn equal_channels_are_left_and_side(rt: HostRuntime) -> Result<(), Fail> {
-    let ramp = [0, 1, 2, 3, 4, 5, 6, 7, 8, 9, 10, 11, 12, 13, 14, 15];
-    let frame = [
-        0xFF, 0xF8, 0x69, 0x88, 0x00, 0x0F, 0x3B, 0x14, 0x00, 0x00, 0x00, 0x01, 0x03, 0xC0, 0x20,
-        0x07, 0x80, 0x3D, 0x83,
-    ];
-    let bytes = written(rt.alloc(), 16, &ramp, &ramp)?;
-    assert_eq!(rt; bytes.as_slice(), frame.as_slice());
+/// The frame of some bytes has two channels of the greatest and the least number in turn.
+fn check_widest(rt: &impl Abort, alloc: Global, bytes: &[u8]) -> Result<(), Fail> {
+    let mut bits = BitReader::new(Memory::new(bytes));
+    let mut buffers = FrameBuffers::new(alloc, 2, 16)?;
+    let info = wide_info()?;
+    let view = buffers.read_frame(&mut bits, &info, Profile::Subset)?;
+    assert_eq!(rt; (view.channels(), view.len()), (2, 16));
+    for i in 0..16 {
+        let (high, low) = (Some(2147483647), Some(-2147483648));
+        let wanted = if i % 2 == 0 { (high, low) } else { (low, high) };
+        assert_eq!(rt; (sample(&view, 0, i), sample(&view, 1, i)), wanted);
+    }
     Ok(())
 }
 
 #[test]
 fn widest_side(rt: HostRuntime) -> Result<(), Fail> {
-    let alloc = rt.alloc();
-    let high = 2147483647;
-    let low = -2147483648;
-    let left = [
-        high, low, high, low, high, low, high, low, high, low, high, low, high, low, high, low,
-    ];
-    let right = [
-        low, high, low, high, low, high, low, high, low, high, low, high, low, high, low, high,
-    ];
-    let bytes = written(alloc, 32, &left, &right)?;
-    let mut bits = BitReader::new(Memory::new(bytes.as_slice()));
-    let mut buffers = FrameBuffers::new(alloc, 2, 16)?;
-    let info = StreamInfo::new(16, 16, 0, 0, 44100, 2, 32, 0, [0; 16])?;
-    let view = buffers.read_frame(&mut bits, &info, Profile::Subset)?;
-    assert_eq!(rt; (view.channels(), view.len()), (2, 16));
-    for i in 0..16 {
-        assert_eq!(rt; sample(&view, 0, i), left.get(i).copied());
-        assert_eq!(rt; sample(&view, 1, i), right.get(i).copied());
-    }
-    Ok(())
+    let (_, bytes) = written(rt.alloc(), "44100 32", WIDEST)?;
+    check_widest(&rt, rt.alloc(), &bytes)
 }

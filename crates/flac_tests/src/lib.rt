@@ -17,6 +17,8 @@ mod parts;
 #[cfg(test)]
 mod retagging;
 #[cfg(test)]
+mod rows;
+#[cfg(test)]
 mod seeking;
 #[cfg(test)]
 mod subframes;

@@ -96,8 +96,9 @@ fn decoded(alloc: Global, stream: &[u8]) -> Result<(u32, [i32; 2]), Fault> {
 
 #[test]
 fn either_container(rt: HostRuntime) -> Result<(), Fail> {
+    let stream = hex::decode(rt.alloc(), ROW)?;
+    assert_eq!(rt; decoded(rt.alloc(), &stream)?, (1, [25588, 10416]));
     let stream = hex::decode(rt.alloc(), PAGES)?;
-    assert_eq!(rt; decoded(rt.alloc(), &ROW)?, (1, [25588, 10416]));
     assert_eq!(rt; decoded(rt.alloc(), &stream)?, (2, [25588, 10416]));
     let at = Place::Marker;
     assert_eq!(rt;

@@ -9,12 +9,8 @@ use std::process::Abort;
 use std::test::Fail;
 
 /// The example of RFC 9639, appendix D.1, behind its marker, its digest unknown: one frame of one sample of two channels.
-const PARTS: [u8; 53] = [
-    0x80, 0x00, 0x00, 0x22, 0x10, 0x00, 0x10, 0x00, 0x00, 0x00, 0x0F, 0x00, 0x00, 0x0F, 0x0A, 0xC4,
-    0x42, 0xF0, 0x00, 0x00, 0x00, 0x01, 0x00, 0x00, 0x00, 0x00, 0x00, 0x00, 0x00, 0x00, 0x00, 0x00,
-    0x00, 0x00, 0x00, 0x00, 0x00, 0x00, 0xFF, 0xF8, 0x69, 0x18, 0x00, 0x00, 0xBF, 0x03, 0x58, 0xFD,
-    0x03, 0x12, 0x8B, 0xAA, 0x9A,
-];
+const PARTS: &str = "800000221000100000000f00000f0ac442f00000000100000000000000000000000000000000\
+    fff869180000bf0358fd03128baa9a";
 
 /// The digest that the example states.
 const DIGEST: [u8; 16] = [
@@ -29,25 +25,46 @@ fn rows(frame: &FrameView<'_>, out: &mut [u8; 64]) -> usize {
     put_rows(frame, 2, 0, frame.len(), out)
 }
 
-/// A stream read part by part: a block, a frame, and what STREAMINFO states of all samples.
-#[test]
-fn reads_parts(rt: HostRuntime) -> Result<(), Fail> {
-    let mut bits = BitReader::new(Memory::new(&PARTS));
-    let mut track = Track::new(rt.alloc(), Profile::Subset);
+/// The one block of a stream is read: STREAMINFO, the last, and a sample is then missing at the end.
+fn reads_block(
+    rt: &impl Abort,
+    bits: &mut BitReader<Memory<'_>>,
+    track: &mut Track,
+) -> Result<(), Fail> {
     assert_eq!(rt; track.place(), Place::Block(0));
-    let (last, block) = track.block(&mut bits)?;
+    let (last, block) = track.block(bits)?;
     assert!(rt; last);
     assert!(rt; matches!(block, Block::StreamInfo(_)));
     assert_eq!(rt; track.place(), Place::Frame(0));
     assert_eq!(rt; track.end(), Err(Why::TotalMismatch));
+    Ok(())
+}
+
+/// The one frame of a stream is read.
+fn reads_frame(
+    rt: &impl Abort,
+    bits: &mut BitReader<Memory<'_>>,
+    track: &mut Track,
+) -> Result<(), Fail> {
     let mut out = [0; 64];
-    let frame = track.frame(&mut bits)?;
+    let frame = track.frame(bits)?;
     assert_eq!(rt; (frame.channels(), frame.len(), frame.number()), (2, 1, 0));
     let count = rows(&frame, &mut out);
     assert_eq!(rt;
         (count, out[0], out[1], out[2], out[3], out[4]),
         (4, 0xF4, 0x63, 0xB0, 0x28, 0)
     );
+    Ok(())
+}
+
+/// A stream read part by part: a block, a frame, and what STREAMINFO states of all samples.
+#[test]
+fn reads_parts(rt: HostRuntime) -> Result<(), Fail> {
+    let stream = hex::decode(rt.alloc(), PARTS)?;
+    let mut bits = BitReader::new(Memory::new(&stream));
+    let mut track = Track::new(rt.alloc(), Profile::Subset);
+    reads_block(&rt, &mut bits, &mut track)?;
+    reads_frame(&rt, &mut bits, &mut track)?;
     assert_eq!(rt; track.place(), Place::Frame(1));
     assert_eq!(rt; bits.at_end(), Ok(true));
     assert_eq!(rt; track.end(), Ok(()));
@@ -81,7 +98,8 @@ fn gives_its_source_back(rt: HostRuntime) -> Result<(), Fail> {
     let audio = one_sample(rt.alloc())?;
     let plan = Plan::new(4096, &audio, 0)?;
     let info = info_of(&plan, &audio, 15, 15);
-    let source = Memory::new(&PARTS[38..]);
+    let stream = hex::decode(rt.alloc(), PARTS)?;
+    let source = Memory::new(stream.get(38..).unwrap_or(&[]));
     let mut decoder = Decoder::resume(rt.alloc(), source, &info, Profile::Subset)?;
     assert!(rt; matches!(decoder.next()?, Item::Frame(_)));
     let mut bits = BitReader::new(decoder.into_source());

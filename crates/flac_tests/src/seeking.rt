@@ -5,6 +5,7 @@ use flac_frame::{Audio, FrameView};
 use flac_meta::{Block, BlockList, SeekPoint, SeekTable, StreamInfo};
 use flac_native::{Container, Decoder, EncodeFault, Fault, Item, Plan, Profile, encode};
 use std::alloc::Global;
+use std::process::Abort;
 use std::test::Fail;
 
 /// The samples 0, 1, .., 16 of one channel of 16 bits.
@@ -86,20 +87,31 @@ fn told(frame: &FrameView<'_>) -> Told {
     (frame.number(), frame.channels(), frame.len(), first, last)
 }
 
-/// The stream is written with its points, and read from the second one on: two frames, and the end.
+#[test]
+fn written_with_points(rt: HostRuntime) -> Result<(), Fail> {
+    let stream = ten_thousand(rt.alloc())?;
+    let wanted = hex::decode(rt.alloc(), TEN_THOUSAND)?;
+    assert_eq!(rt; stream.as_slice(), wanted.as_slice());
+    Ok(())
+}
+
+/// What is left of the stream are its last two frames.
+fn last_two<C: Container>(rt: &impl Abort, decoder: &mut Decoder<C>) -> Result<(), Fail> {
+    let second = Some((1, 1, 4096, Some(4096), Some(8191)));
+    assert_eq!(rt; next_frame(decoder)?, second);
+    let third = Some((2, 1, 1808, Some(8192), Some(9999)));
+    assert_eq!(rt; next_frame(decoder)?, third);
+    assert!(rt; matches!(decoder.next()?, Item::End));
+    Ok(())
+}
+
+/// The stream is read from its second point on: two frames, and the end.
 #[test]
 fn resumed_at_a_point(rt: HostRuntime) -> Result<(), Fail> {
     let alloc = rt.alloc();
     let stream = ten_thousand(alloc)?;
-    let wanted = hex::decode(alloc, TEN_THOUSAND)?;
-    assert_eq!(rt; stream.as_slice(), wanted.as_slice());
     let info = StreamInfo::new(4096, 4096, 15, 17, 44100, 1, 16, 10000, DIGEST)?;
     let source = Memory::new(stream.get(100 + 15..).unwrap_or(&[]));
     let mut decoder = Decoder::resume(alloc, source, &info, Profile::Subset)?;
-    let second = Some((1, 1, 4096, Some(4096), Some(8191)));
-    assert_eq!(rt; next_frame(&mut decoder)?, second);
-    let third = Some((2, 1, 1808, Some(8192), Some(9999)));
-    assert_eq!(rt; next_frame(&mut decoder)?, third);
-    assert!(rt; matches!(decoder.next()?, Item::End));
-    Ok(())
+    last_two(&rt, &mut decoder)
 }

@@ -3,23 +3,48 @@
 ghost use Rattle.std.specs.Prelude.{◌≤◌, length, All, IsTrue};
 ghost use Rattle.flac_bits.specs.Signed.{FitsBits};
 
+use crate::rows::pair_of;
 use flac_bits::{BitReader, BitWriter, Collected, Memory, Target, Why};
 use flac_subframe::{
     Limits, choose, choose_into, predict_fixed, predict_linear, read_subframe,
     samples_are_restored, subframes_are_read_again, subframes_are_spelled, write_subframe,
     write_subframe_into,
 };
+use std::alloc::Global;
+use std::process::Abort;
 use std::test::Fail;
 
-fn read(bytes: &[u8], depth: u32, samples: &mut [i64]) -> Result<bool, Why>
-    requires depth { (1 ≤ depth) × (depth ≤ 33) }
-    requires block { (1 ≤ length samples.old) × (length samples.old ≤ 65535) }
-{
-    read_within(bytes, depth, 12, samples)
-}
+/// Subframes: their bytes; the bits of a sample, the greatest order of a linear predictor and the number of samples; and what reading them returns, with some
+/// of the samples by their places.
+const SUBFRAMES: &str = "# Plain samples.
+0358fd | 16 12 1 | true 0:25588
+010003 | 16 12 1 | true 0:-32768
+010001 | 16 12 1 | BadSubframe
+04 | 16 12 1 | BadSubframe
+80 | 16 12 1 | BadSubframe
+58 | 16 12 1 | NotSubset
+# Residuals.
+100010 | 16 12 1 | true 0:-1
+10008c | 16 12 1 | true 0:5
+1043c3fffffff8 | 16 12 1 | ResidualRange
+18 | 16 12 4 | BadPartition
+# Predicted samples.
+140000000103c0 | 16 12 16 | true 2:2 15:15
+4003e90040f000 | 16 12 16 | true 14:1001 15:-1001
+14000000000c | 16 12 16 | BadPartition
+140000000024 | 16 12 16 | NotSubset
+400000f0 | 16 12 16 | BadPredictor
+4000000800 | 16 12 16 | BadPredictor
+127f0008 | 8 12 2 | false
+# Equal samples, squares, cubes, twice the last less the one before, and the thirteenth before.
+12000703c0 | 16 12 16 | true 1:7 15:7
+1600000001000403c0 | 16 12 16 | true 3:9 15:225
+18000000010008001b03c0 | 16 12 16 | true 4:64 15:3375
+4200000001202e0780 | 16 12 16 | true 2:2 15:15
+58000100020003000400050006000700080009000a000b000c000d10000000207800 | 16 13 16 | true 12:13 13:1 15:3";
 
-/// The same with a greatest order of a linear predictor.
-fn read_within(bytes: &[u8], depth: u32, linear: u32, samples: &mut [i64]) -> Result<bool, Why>
+/// Reads a subframe of samples of `depth` bits, with linear predictors of at most the order `linear`.
+fn read(bytes: &[u8], depth: u32, linear: u32, samples: &mut [i64]) -> Result<bool, Why>
     requires depth { (1 ≤ depth) × (depth ≤ 33) }
     requires linear { linear ≤ 32 }
     requires block { (1 ≤ length samples.old) × (length samples.old ≤ 65535) }
@@ -32,6 +57,40 @@ fn read_within(bytes: &[u8], depth: u32, linear: u32, samples: &mut [i64]) -> Re
     read_subframe(&mut bits, depth, samples.len() as u32, &limits, samples)
 }
 
+/// What reading a subframe of at most 16 samples returns, in text, and the samples.
+fn outcome(alloc: Global, bytes: &[u8], shape: &str) -> Result<(String, [i64; 16]), Fail> {
+    let (depth, rest) = shape.split_once(' ').unwrap_or(("", ""));
+    let (linear, count) = pair_of(rest)?;
+    let depth = depth.parse::<u32>()?.max(1).min(33);
+    let mut block = [0i64; 16];
+    let samples = &mut block[..count.max(1).min(16) as usize];
+    let text = match read(bytes, depth, linear.min(32), samples) {
+        Ok(ends) => format!(in alloc; "{ends}")?,
+        Err(why) => format!(in alloc; "{why:?}")?,
+    };
+    Ok((text, block))
+}
+
+/// Whether a block has a sample that is written as `PLACE:SAMPLE`.
+fn has(block: &[i64; 16], word: &str) -> Result<bool, Fail> {
+    let (place, sample) = word.split_once(':').unwrap_or(("", ""));
+    let wanted = sample.parse::<i64>()?;
+    Ok(block.get(place.parse::<usize>()?).copied() == Some(wanted))
+}
+
+/// Reads the subframe of a row, and compares what is read.
+fn check_row(rt: &impl Abort, alloc: Global, row: &str) -> Result<(), Fail> {
+    let mut fields = row.split(" | ");
+    let bytes = hex::decode(alloc, fields.next().unwrap_or(""))?;
+    let (text, block) = outcome(alloc, &bytes, fields.next().unwrap_or(""))?;
+    let mut words = fields.next().unwrap_or("").split_whitespace();
+    assert!(rt; words.next() == Some(text.as_str()), "{text}: {row}");
+    for word in words {
+        assert!(rt; has(&block, word)?, "{word}: {row}");
+    }
+    Ok(())
+}
+
 #[test]
 fn predicts(rt: HostRuntime) {
     samples_are_restored();
@@ -40,98 +99,13 @@ fn predicts(rt: HostRuntime) {
 }
 
 #[test]
-fn reads_plain_samples(rt: HostRuntime) {
-    let mut one = [0i64; 1];
-    assert_eq!(rt; read(&[0x03, 0x58, 0xFD], 16, &mut one), Ok(true));
-    assert_eq!(rt; one[0], 25588);
-    assert_eq!(rt; read(&[0x01, 0x00, 0x03], 16, &mut one), Ok(true));
-    assert_eq!(rt; one[0], -32768);
-    assert_eq!(rt;
-        read(&[0x01, 0x00, 0x01], 16, &mut one),
-        Err(Why::BadSubframe)
-    );
-    assert_eq!(rt; read(&[0x04], 16, &mut one), Err(Why::BadSubframe));
-    assert_eq!(rt; read(&[0x80], 16, &mut one), Err(Why::BadSubframe));
-    assert_eq!(rt; read(&[0x58], 16, &mut one), Err(Why::NotSubset));
-}
-
-#[test]
-fn reads_residuals(rt: HostRuntime) {
-    let mut one = [0i64; 1];
-    assert_eq!(rt; read(&[0x10, 0x00, 0x10], 16, &mut one), Ok(true));
-    assert_eq!(rt; one[0], -1);
-    assert_eq!(rt; read(&[0x10, 0x00, 0x8C], 16, &mut one), Ok(true));
-    assert_eq!(rt; one[0], 5);
-    assert_eq!(rt;
-        read(&[0x10, 0x43, 0xC3, 0xFF, 0xFF, 0xFF, 0xF8], 16, &mut one),
-        Err(Why::ResidualRange)
-    );
-    let mut four = [0i64; 4];
-    assert_eq!(rt; read(&[0x18], 16, &mut four), Err(Why::BadPartition));
-}
-
-#[test]
-fn reads_predicted_samples(rt: HostRuntime) {
-    let mut block = [0i64; 16];
-    assert_eq!(rt;
-        read(&[0x14, 0x00, 0x00, 0x00, 0x01, 0x03, 0xC0], 16, &mut block),
-        Ok(true)
-    );
-    assert_eq!(rt; (block[2], block[15]), (2, 15));
-    assert_eq!(rt;
-        read(&[0x40, 0x03, 0xE9, 0x00, 0x40, 0xF0, 0x00], 16, &mut block),
-        Ok(true)
-    );
-    assert_eq!(rt; (block[14], block[15]), (1001, -1001));
-    assert_eq!(rt;
-        read(&[0x14, 0x00, 0x00, 0x00, 0x00, 0x0C], 16, &mut block),
-        Err(Why::BadPartition)
-    );
-    assert_eq!(rt;
-        read(&[0x14, 0x00, 0x00, 0x00, 0x00, 0x24], 16, &mut block),
-        Err(Why::NotSubset)
-    );
-    assert_eq!(rt;
-        read(&[0x40, 0x00, 0x00, 0xF0], 16, &mut block),
-        Err(Why::BadPredictor)
-    );
-    assert_eq!(rt;
-        read(&[0x40, 0x00, 0x00, 0x08, 0x00], 16, &mut block),
-        Err(Why::BadPredictor)
-    );
-    let mut two = [0i64; 2];
-    assert_eq!(rt; read(&[0x12, 0x7F, 0x00, 0x08], 8, &mut two), Ok(false));
-}
-
-#[test]
-fn restores_by_each_order(rt: HostRuntime) {
-    let mut block = [0i64; 16];
-    assert_eq!(rt;
-        read(&[0x12, 0x00, 0x07, 0x03, 0xC0], 16, &mut block),
-        Ok(true)
-    );
-    assert_eq!(rt; (block[1], block[15]), (7, 7));
-    let squares = [0x16, 0x00, 0x00, 0x00, 0x01, 0x00, 0x04, 0x03, 0xC0];
-    assert_eq!(rt; read(&squares, 16, &mut block), Ok(true));
-    assert_eq!(rt; (block[3], block[15]), (9, 225));
-    let cubes = [
-        0x18, 0x00, 0x00, 0x00, 0x01, 0x00, 0x08, 0x00, 0x1B, 0x03, 0xC0,
-    ];
-    assert_eq!(rt; read(&cubes, 16, &mut block), Ok(true));
-    assert_eq!(rt; (block[4], block[15]), (64, 3375));
-    let twice_less_one = [0x42, 0x00, 0x00, 0x00, 0x01, 0x20, 0x2E, 0x07, 0x80];
-    assert_eq!(rt; read(&twice_less_one, 16, &mut block), Ok(true));
-    assert_eq!(rt; (block[2], block[15]), (2, 15));
-    let thirteenth_before = [
-        0x58, 0x00, 0x01, 0x00, 0x02, 0x00, 0x03, 0x00, 0x04, 0x00, 0x05, 0x00, 0x06, 0x00, 0x07,
-        0x00, 0x08, 0x00, 0x09, 0x00, 0x0A, 0x00, 0x0B, 0x00, 0x0C, 0x00, 0x0D, 0x10, 0x00, 0x00,
-        0x00, 0x20, 0x78, 0x00,
-    ];
-    assert_eq!(rt;
-        read_within(&thirteenth_before, 16, 13, &mut block),
-        Ok(true)
-    );
-    assert_eq!(rt; (block[12], block[13], block[15]), (13, 1, 3));
+fn reads_subframes(rt: HostRuntime) -> Result<(), Fail> {
+    for row in SUBFRAMES.lines() {
+        if !row.starts_with('#') {
+            check_row(&rt, rt.alloc(), row)?;
+        }
+    }
+    Ok(())
 }
 
 /// Whether a number fits so many bits.

@@ -1,0 +1,28 @@
+//! Rows of the tables.
+
+use std::alloc::Global;
+use std::test::Fail;
+
+/// The samples of some words.
+pub(crate) fn samples_of(alloc: Global, words: &str) -> Result<Vec<i32>, Fail> {
+    let mut samples = Vec::new(alloc);
+    for word in words.split_whitespace() {
+        samples.push(word.parse::<i32>()?)?;
+    }
+    Ok(samples)
+}
+
+/// Channels, each after a `;`.
+pub(crate) fn channels_of(alloc: Global, words: &str) -> Result<Vec<Vec<i32>>, Fail> {
+    let mut channels = Vec::new(alloc);
+    for channel in words.split(';').skip(1) {
+        channels.push(samples_of(alloc, channel)?)?;
+    }
+    Ok(channels)
+}
+
+/// The two numbers of some words.
+pub(crate) fn pair_of(words: &str) -> Result<(u32, u32), Fail> {
+    let (first, second) = words.split_once(' ').unwrap_or(("", ""));
+    Ok((first.parse::<u32>()?, second.parse::<u32>()?))
+}
