@@ -131,14 +131,14 @@ fn pairs_of_samples(rt: HostRuntime) {
     );
 }
 
-/// The rate and the bits of samples, the channels, each after a `;`, and the fault that they are refused for.
+/// Sample rate and bit depth; the channels, each after a `;`; and why they are refused.
 const REFUSED: &str = "65537 10 | ;1; | 40 BadRate
 44100 10 | ;1; | 41 BadDepth
 44100 16 | ;32768; | 43 LengthsDiffer
 44100 16 | ;32768;0 | 44 SampleTooLarge
 384000 32 |  | 42 BadChannels";
 
-/// Samples of a rate and of bits, their channels each after a `;`.
+/// Samples by their rate and bit depth, and by their channels, each after a `;`.
 fn audio_of(alloc: Global, format: &str, words: &str) -> Result<Result<Audio, SetupFault>, Fail> {
     let (rate, bits) = pair_of(format)?;
     let channels = channels_of(alloc, words)?;
@@ -198,12 +198,12 @@ fn write_all<W: Target>(alloc: Global, audio: &Audio, writer: &mut BitWriter<W>)
     Ok(bytes)
 }
 
-/// The rate and the bits of samples, the channels, each after a `;`, and the frame that they are written as.
+/// Sample rate and bit depth; the channels, each after a `;`; and the frame that is written of them.
 const WRITTEN: &str = "44100 16 | ;25588;10416 | fff869180000bf0158fd01128b5ab2
 44100 16 | ;0 1 2 3 4 5 6 7 8 9 10 11 12 13 14 15 | fff86908000f30140000000103c0efc9
 44100 16 | ;0 1 2 3 4 5 6 7 8 9 10 11 12 13 14 15;0 1 2 3 4 5 6 7 8 9 10 11 12 13 14 15 | fff86988000f3b140000000103c02007803d83";
 
-/// The bytes of the frame of some channels, and how many the writer says that it has.
+/// The frame of some channels: its length as `encode_frame` returns it, and its bytes.
 fn written(alloc: Global, format: &str, words: &str) -> Result<(u64, Vec<u8>), Fail> {
     let audio = audio_of(alloc, format, words)??;
     let mut writer = BitWriter::new(Collected::new(alloc));
@@ -226,14 +226,14 @@ fn frames_are_written(rt: HostRuntime) -> Result<(), Fail> {
     Ok(())
 }
 
-/// The greatest and the least number of 32 bits in turn, and the other way round.
+/// The largest and the smallest sample of 32 bits in turn, and the other way round.
 const WIDEST: &str =
     ";2147483647 -2147483648 2147483647 -2147483648 2147483647 -2147483648 2147483647 -2147483648 \
     2147483647 -2147483648 2147483647 -2147483648 2147483647 -2147483648 2147483647 -2147483648\
     ;-2147483648 2147483647 -2147483648 2147483647 -2147483648 2147483647 -2147483648 2147483647 \
     -2147483648 2147483647 -2147483648 2147483647 -2147483648 2147483647 -2147483648 2147483647";
 
-/// The frame of some bytes has two channels of the greatest and the least number in turn.
+/// A frame has two channels of the largest and the smallest sample in turn.
 fn check_widest(rt: &impl Abort, alloc: Global, bytes: &[u8]) -> Result<(), Fail> {
     let mut bits = BitReader::new(Memory::new(bytes));
     let mut buffers = FrameBuffers::new(alloc, 2, 16)?;

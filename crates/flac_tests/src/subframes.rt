@@ -14,8 +14,8 @@ use std::alloc::Global;
 use std::process::Abort;
 use std::test::Fail;
 
-/// Subframes: their bytes; the bits of a sample, the greatest order of a linear predictor and the number of samples; and what reading them returns, with some
-/// of the samples by their places.
+/// Subframes: their bytes; the bit depth, the largest order of a linear predictor and the number of samples; and what reading returns, with some samples by
+/// their places.
 const SUBFRAMES: &str = "# Plain samples.
 0358fd | 16 12 1 | true 0:25588
 010003 | 16 12 1 | true 0:-32768
@@ -43,7 +43,7 @@ const SUBFRAMES: &str = "# Plain samples.
 4200000001202e0780 | 16 12 16 | true 2:2 15:15
 58000100020003000400050006000700080009000a000b000c000d10000000207800 | 16 13 16 | true 12:13 13:1 15:3";
 
-/// Reads a subframe of samples of `depth` bits, with linear predictors of at most the order `linear`.
+/// Reads a subframe with linear predictors of at most the order `linear`.
 fn read(bytes: &[u8], depth: u32, linear: u32, samples: &mut [i64]) -> Result<bool, Why>
     requires depth { (1 ≤ depth) × (depth ≤ 33) }
     requires linear { linear ≤ 32 }

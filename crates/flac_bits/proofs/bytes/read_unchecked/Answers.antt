@@ -28,5 +28,5 @@ returns-in_err-count-clause-reads g c =
     let p = err_from_is_err_and c.from_residual-in_err-count.result c.from_residual-in_err-count.ensures.1 in
     let cut = c.in_err-count.ensures.cut in
     rw (p.1, p.2) (λ known same.
-        let few = cut.1 known same in
-        cut_anew (length c.args.out.now) _ c.args.bits.now.cursor (omega (arith, few.0, c.take_unchecked.auto.out)) (cut.0 ∙ sym few.1))
+    let few = cut.1 known same in
+    cut_anew (length c.args.out.now) _ c.args.bits.now.cursor (omega (arith, few.0, c.take_unchecked.auto.out)) (cut.0 ∙ sym few.1))
