@@ -1,4 +1,6 @@
 pub mod Back
+pub mod Counting
+pub mod Lined
 pub mod Outcomes
 pub mod Rows
 pub mod Sent

@@ -1,12 +1,13 @@
 -- What an answer of a decoding says.
 use Rattle.std.proofs.Common.{Bool, false, List, ◌≡◌, ◌≢◌, ◌⊎◌, ℕ, nat_lt, true, None, Ok, Err, OnOk, OnErr, IfErr, Result, refl, ap, arith, inl, inr}
+use Rattle.std.specs.Result.{is_err}
 use Rattle.flac_native.specs.Item.{told}
 use Rattle.flac_native.specs.declared.fault.Fault.{Fault}
 use Rattle.flac_native.specs.Numbers.{fault_number}
 use Rattle.flac_native.specs.declared.encode_fault.EncodeFault.{EncodeFault}
 use Rattle.flac_native.specs.declared.encode_fault.EncodeFault.TheVariants.{Memory, RepeatedBlock, BadMapping, Write}
 use Rattle.flac_bits.specs.Handing.{outcome_of}
-use Rattle.flac_bits.specs.Bits.{bits_of}
+use Rattle.flac_bits.specs.Bits.{bits_of, bit_value}
 use Rattle.flac_bits.specs.State.{Behind, short_of}
 use Rattle.flac_native.specs.Stream.{Piece}
 use Rattle.flac_native.specs.Decoding.{beginning}
@@ -26,6 +27,16 @@ counts_on n is = rw is refl
 pub then_ok : {A E X Y : Type 0} (r : Result A E) → OnOk r X → (X → Y) → OnOk r Y
 then_ok (Ok a) x f = f x
 then_ok (Err e) x f = tt
+
+-- What holds holds at Ok.
+pub any_ok : {A E X : Type 0} (r : Result A E) → X → OnOk r X
+any_ok (Ok a) x = x
+any_ok (Err e) x = tt
+
+-- What holds at Ok holds where there is no error.
+pub at_no_err : {A E X : Type 0} (r : Result A E) → is_err r ≡ false → OnOk r X → X
+at_no_err (Ok a) e x = x
+at_no_err (Err f) e x = let n : 1 ≡ 0 = ap bit_value e in absurd (omega (arith, n))
 
 -- A call that failed in writing has begun; one that failed otherwise has changed nothing.
 pub same_or_begun : {A T : Type 0} (X known : Type 0) (r : Result A EncodeFault) (old new : T)

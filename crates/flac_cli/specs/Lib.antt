@@ -1,3 +1,4 @@
+pub mod Counted
 pub mod Encoded
 pub mod Raw
 pub mod Retagged

@@ -1,6 +1,6 @@
 //! Lines of text, sent to a target.
 
-ghost use Rattle.std.specs.Prelude.{◌≤◌};
+ghost use Rattle.std.specs.Prelude.{◌≡◌, ◌≤◌, ◌+◌, ◌++◌, true, length, take, OnOk};
 
 use flac_bits::{Target, Why, send_all};
 use std::fmt;
@@ -19,7 +19,10 @@ pub(crate) struct Lines<W: Target> {
 }
 
 impl<W: Target> Lines<W> {
-    pub(crate) fn new(target: W) -> Lines<W> {
+    pub(crate) fn new(target: W) -> Lines<W>
+        ensures target { result.target ≡ target }
+        ensures held { result.held ≡ 0 }
+    {
         Lines {
             target,
             bytes: [0; ROOM],
@@ -31,25 +34,53 @@ impl<W: Target> Lines<W> {
     ///
     /// # Errors
     /// [`Why::Write`] if the target fails.
-    pub(crate) fn send(&mut self) -> Result<(), Why> {
+    pub(crate) fn send(&mut self) -> Result<(), Why>
+        ensures names { W.names self.new.target ≡ W.names self.old.target }
+        ensures known { OnOk result (W.known self.old.target ≡ true → W.known self.new.target ≡ true) }
+        ensures sent { OnOk result (W.known self.old.target ≡ true → W.sent self.new.target ≡ W.sent self.old.target ++ take self.old.held self.old.bytes) }
+        ensures held { self.new.held ≡ 0 }
+    {
         let held = self.held;
         self.held = 0;
         send_all(&mut self.target, &self.bytes[..held])
     }
-}
 
-impl<W: Target> fmt::Write for Lines<W> {
-    fn write_str(&mut self, text: &str) -> fmt::Result {
-        let text = text.as_bytes();
-        if text.len() > ROOM - self.held && self.send().is_err() {
-            return Err(fmt::Error);
-        }
-        if text.len() > ROOM - self.held {
-            return send_all(&mut self.target, text).map_err(|_| fmt::Error);
-        }
+    /// Holds a text that there is room for.
+    fn hold(&mut self, text: &[u8])
+        requires { self.old.held + length text.now ≤ 1024 }
+        ensures target { self.new.target ≡ self.old.target }
+        ensures held { self.new.held ≡ self.old.held + length text.now }
+        ensures bytes { take self.new.held self.new.bytes ≡ take self.old.held self.old.bytes ++ text.now }
+    {
         let end = self.held + text.len();
         self.bytes[self.held..end].copy_from_slice(text);
         self.held = end;
+    }
+}
+
+impl<W: Target> fmt::Write for Lines<W> {
+    ghost write_str_gives = { λ old text new. record {
+      names : W.names new.target ≡ W.names old.target;
+      known : W.known old.target ≡ true → W.known new.target ≡ true;
+      text : W.known old.target ≡ true → W.sent new.target ++ take new.held new.bytes ≡ (W.sent old.target ++ take old.held old.bytes) ++ text;
+    } };
+
+    fn write_str(&mut self, text: &str) -> fmt::Result {
+        let text = text.as_bytes();
+        if text.len() <= ROOM - self.held {
+            self.hold(text);
+            return Ok(());
+        }
+        if self.send().is_err() {
+            return Err(fmt::Error);
+        }
+        if text.len() <= ROOM {
+            self.hold(text);
+            return Ok(());
+        }
+        if send_all(&mut self.target, text).is_err() {
+            return Err(fmt::Error);
+        }
         Ok(())
     }
 }

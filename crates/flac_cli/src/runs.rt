@@ -1,10 +1,11 @@
 //! What the program does for a job.
 
-ghost use Rattle.std.specs.Prelude.{◌≡◌, ◌++◌, true, List, OnOk};
+ghost use Rattle.std.specs.Prelude.{◌≡◌, ◌++◌, true, List, IfOk, OnOk};
 ghost use Rattle.flac_native.specs.Stream.{Piece};
 ghost use Rattle.flac_cli.specs.Streams.{IsStream, Tells};
 ghost use Rattle.flac_jobs.specs.Asks.{AsksDecode, AsksStream};
 ghost use Rattle.flac_cli.specs.Samples.{all_samples};
+ghost use Rattle.flac_cli.specs.Counted.{AsksTest, line_of, counts_line, frames_in, samples_in_all, printed};
 ghost use Rattle.flac_cli.specs.Encoded.{HasEncoded, HasBegun};
 ghost use Rattle.flac_cli.specs.Retagged.{HasRetagged};
 ghost use Rattle.flac_bits.specs.Bits.{bits_of};
@@ -51,7 +52,7 @@ fn decode_samples<R: Source, W: Target>(
 
 /// Decodes a stream, and counts its frames and samples.
 fn count<R: Source>(alloc: Global, source: &mut R) -> Result<Counts, Fault>
-    ensures { Tells R.Source source.old source.new → OnOk result ((parts : List Piece) × IsStream parts (R.coming source.old) (R.behind source.old)) }
+    ensures { Tells R.Source source.old source.new → IfOk result (λ c. (parts : List Piece) × IsStream parts (R.coming source.old) (R.behind source.old) × (c.frames ≡ printed (frames_in parts)) × (c.samples ≡ printed (samples_in_all parts))) }
 {
     let mut counts = Counts {
         frames: 0,
@@ -69,14 +70,25 @@ fn list<R: Source, O: Target>(alloc: Global, source: &mut R, out: &mut O) -> Res
     decode_stream(alloc, source, &mut listing)
 }
 
-/// Writes the line of counts.
-fn write_counts<O: Target>(out: &mut O, counts: &Counts) -> Result<(), Why> {
-    let mut lines = Lines::new(out);
+/// Writes the line of counts through a buffer.
+fn put_counts<O: Target>(lines: &mut Lines<O>, counts: &Counts) -> Result<(), Why>
+    requires { lines.old.held ≡ 0 }
+    ensures names { OnOk result (O.names lines.new.target ≡ O.names lines.old.target) }
+    ensures sent { OnOk result (O.known lines.old.target ≡ true → O.sent lines.new.target ≡ O.sent lines.old.target ++ line_of counts.now.frames counts.now.samples) }
+{
     let (frames, samples) = (counts.frames, counts.samples);
     if writeln!(lines, "frames {frames} samples {samples}").is_err() {
         return Err(Why::Write);
     }
     lines.send()
+}
+
+/// Writes the line of counts.
+fn write_counts<O: Target>(out: &mut O, counts: &Counts) -> Result<(), Why>
+    ensures { OnOk result (O.known out.old ≡ true → O.sent out.new ≡ O.sent out.old ++ line_of counts.now.frames counts.now.samples) }
+{
+    let mut lines = Lines::new(out);
+    put_counts(&mut lines, counts)
 }
 
 /// Writes the line of a fault, and returns the status 1. The path is that of the file at fault.
@@ -108,6 +120,9 @@ pub fn run<R: Source, W: Target, O: Target, E: Target>(
 ) -> u8
     // It is done only where the input is a stream, or is to be encoded.
     ensures stream { AsksStream job.now → result ≡ 0 → Tells R.Source source.old source.new → (parts : List Piece) × IsStream parts (R.coming source.old) (R.behind source.old) }
+    // A test has then added to standard output just the line of the stream's counts.
+    ensures tested { AsksTest job.now → result ≡ 0 → Tells R.Source source.old source.new → O.known out.old ≡ true →
+        (parts : List Piece) × IsStream parts (R.coming source.old) (R.behind source.old) × (O.sent out.new ≡ O.sent out.old ++ counts_line parts) }
     // A decoding has then added to the file just the samples of its frames.
     ensures decoded { AsksDecode job.now → result ≡ 0 → Tells R.Source source.old source.new → W.known target.old ≡ true →
         (parts : List Piece) × IsStream parts (R.coming source.old) (R.behind source.old) × (W.sent target.new ≡ W.sent target.old ++ all_samples 0 parts) }
