@@ -113,13 +113,15 @@ fn either_container(rt: HostRuntime) -> Result<(), Fail> {
 
 #[test]
 fn verified_in_memory(rt: HostRuntime) -> Result<(), Fail> {
+    let mut native = hex::decode(rt.alloc(), ROW)?;
     let stream = hex::decode(rt.alloc(), PAGES)?;
-    assert_eq!(rt; verify(rt.alloc(), &ROW, Profile::Subset), Ok(()));
+    assert_eq!(rt; verify(rt.alloc(), &native, Profile::Subset), Ok(()));
     assert_eq!(rt; verify(rt.alloc(), &stream, Profile::Subset), Ok(()));
+    let _last = native.pop();
     let at = Place::Frame(0);
     let why = Why::Truncated;
     assert_eq!(rt;
-        verify(rt.alloc(), &ROW[..56], Profile::Subset),
+        verify(rt.alloc(), &native, Profile::Subset),
         Err(Fault { at, why })
     );
     Ok(())
