@@ -200,105 +200,104 @@ fn command<'a>(alloc: Global) -> Result<Command<'a>, AllocError> {
 }
 
 fn test_command<'a>(alloc: Global) -> Result<Command<'a>, AllocError> {
-    let input = Arg::new(alloc, "IN").required(true).help("The stream");
     Command::new(alloc, "test")
         .about("Decodes a stream, and prints how many frames and samples it has")
         .after_help(TEST_EXAMPLE)
-        .arg(input)
+        .arg(file(alloc, "IN", "The stream"))
 }
 
 fn decode_command<'a>(alloc: Global) -> Result<Command<'a>, AllocError> {
-    let input = Arg::new(alloc, "IN").required(true).help("The stream");
-    let output = Arg::new(alloc, "OUT")
-        .required(true)
-        .help("The file that the samples are written to");
     Command::new(alloc, "decode")
         .about(
             "Decodes a stream to raw samples: interleaved, signed little-endian, whole bytes a sample",
         )
         .after_help(DECODE_EXAMPLE)
-        .arg(input)?
-        .arg(output)
+        .arg(file(alloc, "IN", "The stream"))?
+        .arg(file(alloc, "OUT", "The file that the samples are written to"))
 }
 
 fn list_command<'a>(alloc: Global) -> Result<Command<'a>, AllocError> {
-    let input = Arg::new(alloc, "IN").required(true).help("The stream");
     Command::new(alloc, "list")
         .about("Decodes a stream, and lists its metadata blocks")
         .after_help(LIST_EXAMPLE)
-        .arg(input)
+        .arg(file(alloc, "IN", "The stream"))
 }
 
 fn encode_command<'a>(alloc: Global) -> Result<Command<'a>, AllocError> {
-    let input = Arg::new(alloc, "IN").required(true).help("The raw samples");
-    let output = Arg::new(alloc, "OUT")
-        .required(true)
-        .help("The file that the stream is written to");
-    let comments = Arg::new(alloc, "COMMENT")
-        .num_args(0..)
-        .help("Comments, each NAME=VALUE");
-    Command::new(alloc, "encode")
+    let command = Command::new(alloc, "encode")
         .about("Encodes raw samples: interleaved, signed little-endian, whole bytes a sample")
         .after_help(ENCODE_EXAMPLE)
-        .arg(input)?
-        .arg(output)?
-        .arg(comments)?
-        .arg(
-            number(alloc, "rate")
-                .required(true)
-                .help("Samples a second"),
-        )?
-        .arg(
-            number(alloc, "channels")
-                .required(true)
-                .help("Channels, 1 to 8"),
-        )?
-        .arg(
-            number(alloc, "bits")
-                .required(true)
-                .help("Bits of a sample: 8, 12, 16, 20, 24 or 32"),
-        )?
-        .arg(
-            number(alloc, "block").default_value("4096").help(
-                "Samples of a block, 16 to 16384; to 4608 at rates up to 48000",
-            ),
-        )?
-        .arg(
-            number(alloc, "seek-every").default_value("0").help(
-                "Samples from one point of a seek table to the next; 0: no table",
-            ),
-        )?
-        .arg(
-            Arg::new(alloc, "ogg")
-                .long("ogg")
-                .action(ArgAction::SetTrue)
-                .help("Writes an Ogg stream, which has no seek table"),
-        )?
-        .arg(
-            number(alloc, "serial")
-                .default_value("1")
-                .help("The number of the Ogg stream"),
-        )
+        .arg(file(alloc, "IN", "The raw samples"))?
+        .arg(file(alloc, "OUT", "The file that the stream is written to"))?
+        .arg(comments(alloc))?;
+    with_container(with_blocks(with_samples(command, alloc)?, alloc)?, alloc)
+}
+
+/// The options for what the raw samples are.
+fn with_samples<'a>(command: Command<'a>, alloc: Global) -> Result<Command<'a>, AllocError> {
+    command
+        .arg(needed(alloc, "rate", "Samples a second"))?
+        .arg(needed(alloc, "channels", "Channels, 1 to 8"))?
+        .arg(needed(alloc, "bits", "Bits of a sample: 8, 12, 16, 20, 24 or 32"))
+}
+
+/// The options for how they are cut.
+fn with_blocks<'a>(command: Command<'a>, alloc: Global) -> Result<Command<'a>, AllocError> {
+    command
+        .arg(number(
+            alloc,
+            "block",
+            "4096",
+            "Samples of a block, 16 to 16384; to 4608 at rates up to 48000",
+        ))?
+        .arg(number(
+            alloc,
+            "seek-every",
+            "0",
+            "Samples from one point of a seek table to the next; 0: no table",
+        ))
+}
+
+/// The options for the container.
+fn with_container<'a>(command: Command<'a>, alloc: Global) -> Result<Command<'a>, AllocError> {
+    let ogg = Arg::new(alloc, "ogg")
+        .long("ogg")
+        .action(ArgAction::SetTrue)
+        .help("Writes an Ogg stream, which has no seek table");
+    command.arg(ogg)?.arg(number(alloc, "serial", "1", "The number of the Ogg stream"))
 }
 
 fn retag_command<'a>(alloc: Global) -> Result<Command<'a>, AllocError> {
-    let input = Arg::new(alloc, "IN").required(true).help("The stream");
-    let output = Arg::new(alloc, "OUT")
-        .required(true)
-        .help("The file that the stream is written to");
-    let comments = Arg::new(alloc, "COMMENT")
-        .num_args(0..)
-        .help("Comments, each NAME=VALUE");
     Command::new(alloc, "retag")
         .about("Writes a stream with other comments")
         .after_help(RETAG_EXAMPLE)
-        .arg(input)?
-        .arg(output)?
-        .arg(comments)
+        .arg(file(alloc, "IN", "The stream"))?
+        .arg(file(alloc, "OUT", "The file that the stream is written to"))?
+        .arg(comments(alloc))
+}
+
+/// The path of a file.
+fn file<'a>(alloc: Global, name: &'a str, help: &'a str) -> Arg<'a> {
+    Arg::new(alloc, name).required(true).help(help)
+}
+
+fn comments<'a>(alloc: Global) -> Arg<'a> {
+    Arg::new(alloc, "COMMENT")
+        .num_args(0..)
+        .help("Comments, each NAME=VALUE")
+}
+
+/// An option that has to be given, whose value is a whole number.
+fn needed<'a>(alloc: Global, name: &'a str, help: &'a str) -> Arg<'a> {
+    option(alloc, name).required(true).help(help)
 }
 
 /// An option whose value is a whole number.
-fn number<'a>(alloc: Global, name: &'a str) -> Arg<'a> {
+fn number<'a>(alloc: Global, name: &'a str, default: &'a str, help: &'a str) -> Arg<'a> {
+    option(alloc, name).default_value(default).help(help)
+}
+
+fn option<'a>(alloc: Global, name: &'a str) -> Arg<'a> {
     Arg::new(alloc, name)
         .long(name)
         .value_name("N")
