@@ -207,13 +207,16 @@ fn test_command<'a>(alloc: Global) -> Result<Command<'a>, AllocError> {
 }
 
 fn decode_command<'a>(alloc: Global) -> Result<Command<'a>, AllocError> {
+    let words = vec![in alloc;
+        file(alloc, "IN", "The stream"),
+        file(alloc, "OUT", "The file that the samples are written to"),
+    ]?;
     Command::new(alloc, "decode")
         .about(
             "Decodes a stream to raw samples: interleaved, signed little-endian, whole bytes a sample",
         )
         .after_help(DECODE_EXAMPLE)
-        .arg(file(alloc, "IN", "The stream"))?
-        .arg(file(alloc, "OUT", "The file that the samples are written to"))
+        .args(words)
 }
 
 fn list_command<'a>(alloc: Global) -> Result<Command<'a>, AllocError> {
@@ -224,56 +227,55 @@ fn list_command<'a>(alloc: Global) -> Result<Command<'a>, AllocError> {
 }
 
 fn encode_command<'a>(alloc: Global) -> Result<Command<'a>, AllocError> {
-    let command = Command::new(alloc, "encode")
+    let words = words_of_encode(alloc)?;
+    Command::new(alloc, "encode")
         .about("Encodes raw samples: interleaved, signed little-endian, whole bytes a sample")
         .after_help(ENCODE_EXAMPLE)
-        .arg(file(alloc, "IN", "The raw samples"))?
-        .arg(file(alloc, "OUT", "The file that the stream is written to"))?
-        .arg(comments(alloc))?;
-    with_container(with_blocks(with_samples(command, alloc)?, alloc)?, alloc)
+        .args(words)
 }
 
-/// The options for what the raw samples are.
-fn with_samples<'a>(command: Command<'a>, alloc: Global) -> Result<Command<'a>, AllocError> {
-    command
-        .arg(needed(alloc, "rate", "Samples a second"))?
-        .arg(needed(alloc, "channels", "Channels, 1 to 8"))?
-        .arg(needed(alloc, "bits", "Bits of a sample: 8, 12, 16, 20, 24 or 32"))
-}
-
-/// The options for how they are cut.
-fn with_blocks<'a>(command: Command<'a>, alloc: Global) -> Result<Command<'a>, AllocError> {
-    command
-        .arg(number(
+fn words_of_encode<'a>(alloc: Global) -> Result<Vec<Arg<'a>>, AllocError> {
+    Ok(vec![in alloc;
+        file(alloc, "IN", "The raw samples"),
+        file(alloc, "OUT", "The file that the stream is written to"),
+        comments(alloc),
+        needed(alloc, "rate", "Samples a second"),
+        needed(alloc, "channels", "Channels, 1 to 8"),
+        needed(alloc, "bits", "Bits of a sample: 8, 12, 16, 20, 24 or 32"),
+        number(
             alloc,
             "block",
             "4096",
-            "Samples of a block, 16 to 16384; to 4608 at rates up to 48000",
-        ))?
-        .arg(number(
+            "Samples of a block, 16 to 16384; to 4608 at rates up to 48000"
+        ),
+        number(
             alloc,
             "seek-every",
             "0",
-            "Samples from one point of a seek table to the next; 0: no table",
-        ))
-}
-
-/// The options for the container.
-fn with_container<'a>(command: Command<'a>, alloc: Global) -> Result<Command<'a>, AllocError> {
-    let ogg = Arg::new(alloc, "ogg")
-        .long("ogg")
-        .action(ArgAction::SetTrue)
-        .help("Writes an Ogg stream, which has no seek table");
-    command.arg(ogg)?.arg(number(alloc, "serial", "1", "The number of the Ogg stream"))
+            "Samples from one point of a seek table to the next; 0: no table"
+        ),
+        ogg(alloc),
+        number(alloc, "serial", "1", "The number of the Ogg stream"),
+    ]?)
 }
 
 fn retag_command<'a>(alloc: Global) -> Result<Command<'a>, AllocError> {
+    let words = vec![in alloc;
+        file(alloc, "IN", "The stream"),
+        file(alloc, "OUT", "The file that the stream is written to"),
+        comments(alloc),
+    ]?;
     Command::new(alloc, "retag")
         .about("Writes a stream with other comments")
         .after_help(RETAG_EXAMPLE)
-        .arg(file(alloc, "IN", "The stream"))?
-        .arg(file(alloc, "OUT", "The file that the stream is written to"))?
-        .arg(comments(alloc))
+        .args(words)
+}
+
+fn ogg<'a>(alloc: Global) -> Arg<'a> {
+    Arg::new(alloc, "ogg")
+        .long("ogg")
+        .action(ArgAction::SetTrue)
+        .help("Writes an Ogg stream, which has no seek table")
 }
 
 /// The path of a file.
