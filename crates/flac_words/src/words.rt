@@ -186,17 +186,24 @@ fn container_of(given: &ArgMatches<'_>) -> Option<Container> {
     Some(Container::Ogg { serial })
 }
 
-/// The commands of the program.
+/// The program's command line.
 fn command<'a>(alloc: Global) -> Result<Command<'a>, AllocError> {
-    Command::new(alloc, "flac")
+    let command = Command::new(alloc, "flac")
         .about("Tests, decodes, lists, encodes and retags FLAC streams (RFC 9639)")
         .after_help(EXAMPLES)
-        .subcommand_required(true)
-        .subcommand(test_command(alloc)?)?
-        .subcommand(decode_command(alloc)?)?
-        .subcommand(list_command(alloc)?)?
-        .subcommand(encode_command(alloc)?)?
-        .subcommand(retag_command(alloc)?)
+        .subcommand_required(true);
+    let command = with(command, test_command(alloc))?;
+    let command = with(command, decode_command(alloc))?;
+    let command = with(command, list_command(alloc))?;
+    let command = with(command, encode_command(alloc))?;
+    with(command, retag_command(alloc))
+}
+
+fn with<'a>(
+    command: Command<'a>,
+    subcommand: Result<Command<'a>, AllocError>,
+) -> Result<Command<'a>, AllocError> {
+    command.subcommand(subcommand?)
 }
 
 fn test_command<'a>(alloc: Global) -> Result<Command<'a>, AllocError> {
