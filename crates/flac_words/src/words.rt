@@ -125,9 +125,18 @@ fn refused(alloc: Global, error: &clap::Error) -> LineFault
 /// The job of the words, or `None` if a word is missing.
 fn parsed<'a>(alloc: Global, words: &'a [String]) -> Result<Option<Job<'a>>, clap::Error> {
     let matches = command(alloc)?.try_get_matches_from(words)?;
-    let Some((name, given)) = matches.subcommand() else {
-        return Ok(None);
-    };
+    match matches.subcommand() {
+        Some((name, given)) => job_of(alloc, name, given),
+        None => Ok(None),
+    }
+}
+
+/// The job of a command and what was given with it, or `None` if a word is missing.
+fn job_of<'a>(
+    alloc: Global,
+    name: &str,
+    given: &ArgMatches<'a>,
+) -> Result<Option<Job<'a>>, clap::Error> {
     let Some(input) = given.get_str("IN") else {
         return Ok(None);
     };
