@@ -15,3 +15,4 @@ pub mod Numbers
 pub mod Retag
 pub mod Resuming
 pub mod InOrder
+pub mod ReadBack

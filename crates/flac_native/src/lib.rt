@@ -61,7 +61,8 @@ pub use message::put_rows;
 pub use part::Part;
 pub use plan::Plan;
 pub use promises::{
-    encoded_are_resumed, encoded_are_streams, frames_are_resumed, points_name_frames,
+    encoded_are_read_back, encoded_are_resumed, encoded_are_streams, frames_are_resumed,
+    points_name_frames,
 };
 pub use retag_fault::RetagFault;
 pub use retagging::retag;
