@@ -30,3 +30,4 @@ pub mod Onwards
 pub mod Heads
 pub mod AnyMark
 pub mod ReadBack
+pub mod Whole

@@ -16,3 +16,4 @@ pub mod Retag
 pub mod Resuming
 pub mod InOrder
 pub mod ReadBack
+pub mod Whole
