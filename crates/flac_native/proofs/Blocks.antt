@@ -147,7 +147,7 @@ are_blocks p m (block false b ∷ xs) text old new phase (front, rest, split, sp
 forbidden : (kind : ℕ) (bytes : List ℕ) → kind ≡ 0 → block_fault (block_of.Other kind bytes) ≡ None → ⊥
 forbidden kind bytes e none = let f : block_fault (block_of.Other 0 bytes) ≡ None = subst (λ k. block_fault (block_of.Other k bytes) ≡ None) e none in absurd cc
 
-first_is : (b : Block) → s.kind_of b ≡ 0 → block_fault b ≡ None → (i : Info) × (b ≡ block_of.StreamInfo i)
+pub first_is : (b : Block) → s.kind_of b ≡ 0 → block_fault b ≡ None → (i : Info) × (b ≡ block_of.StreamInfo i)
 first_is (block_of.StreamInfo i) e none = (i, refl)
 first_is (block_of.Padding n) e none = absurd (omega (arith, e))
 first_is (block_of.Application id bytes) e none = absurd (omega (arith, e))

@@ -28,3 +28,6 @@ pub mod Decided
 pub mod NewHead
 pub mod Onwards
 pub mod Heads
+pub mod AnyMark
+pub mod ReadBack
+pub mod Whole

@@ -27,7 +27,7 @@ use Rattle.flac_native.proofs.Streams.{block_here, marker_here}
 use Rattle.flac_native.proofs.WholeBytes.{block_whole}
 
 -- each block may stand where the blocks before it came
-abbrev AllBlocks : Seen → List Block → Type 0
+abbrev pub AllBlocks : Seen → List Block → Type 0
 AllBlocks seen [] = Unit {0}
 AllBlocks seen (b ∷ bs) = IsBlock seen b × AllBlocks (seen_after seen b) bs
 
@@ -95,7 +95,7 @@ may_be_written c h = rw (not_too_long (comments_length c) h) refl
 comments_here : (c : Comments) → comments_length c ≤ 16777215 → IsComments c → IsBlock info_seen (block_of.VorbisComment c)
 comments_here c h fits = record { first = λ e. absurd cc; once = refl; written = may_be_written c h; fits = fits }
 
-valid_after : (m : Mark) (info : Info) (list : List Block) (head : List Bool) → Joined grammar opening m (marked ∷ closing (block_of.StreamInfo info ∷ list)) head → AllBlocks nothing_seen (block_of.StreamInfo info ∷ list)
+pub valid_after : (m : Mark) (info : Info) (list : List Block) (head : List Bool) → Joined grammar opening m (marked ∷ closing (block_of.StreamInfo info ∷ list)) head → AllBlocks nothing_seen (block_of.StreamInfo info ∷ list)
 valid_after m info list head (front, behind, split, spelled, fits, more) = valid_blocks (next opening marked) (past front (fresh m)) (block_of.StreamInfo info) list behind refl more
 
 pub retagged_are_read : RetaggedAreRead

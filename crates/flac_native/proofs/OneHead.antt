@@ -64,7 +64,7 @@ clash p m (x ∷ xs) front left (y ∷ ys) at why (part, rest, split, spelled, f
     subst (λ k. Steps grammar (next p x) k ys (Some (at, why))) (sym same.1) (subst (λ z. Steps grammar (next p z) d ys (Some (at, why))) (sym same.0) more) in
     clash (next p x) (past part (fresh m)) xs rest left ys at why others end here early
 
-closing_ends : (p : Progress) (b : Block) (bs : List Block) → (after grammar p (closing (b ∷ bs))).stand.phase ≡ Frames
+pub closing_ends : (p : Progress) (b : Block) (bs : List Block) → (after grammar p (closing (b ∷ bs))).stand.phase ≡ Frames
 closing_ends p b [] = refl
 closing_ends p b (c ∷ cs) = closing_ends (next p (block false b)) c cs
 

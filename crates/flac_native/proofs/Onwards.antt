@@ -128,12 +128,12 @@ frame_again i new old m k text f rules u z a h =
 -- ---- a part
 
 -- where a frame comes
-record FrameThere (s : Stand) (m : Mark) (text : List Bool) (x : Piece) : Type 0 where
-  info : Info
-  told : s.info ≡ Some info
-  is : Frame
-  part : x ≡ framed is
-  spelled : Spells (frame info s.before) m text is
+pub record FrameThere (s : Stand) (m : Mark) (text : List Bool) (x : Piece) : Type 0 where
+  pub info : Info
+  pub told : s.info ≡ Some info
+  pub is : Frame
+  pub part : x ≡ framed is
+  pub spelled : Spells (frame info s.before) m text is
 
 told_there : (info : Option Info) (before : Option Before) (m : Mark) (text : List Bool) (f : Frame) → Spells (frame_behind info before) m text f → (i : Info) × (info ≡ Some i) × Spells (frame i before) m text f
 unfolding frame_behind
@@ -146,11 +146,11 @@ in_frames s m text x (f, front, rest, split, spelled, (none, same)) =
     let h = told_there s.info s.before m front f spelled in
     record { info = h.0; told = h.1; is = f; part = sym same; spelled = subst (λ k. Spells (frame h.0 s.before) m k f) (sym t) h.2 }
 
-frame_there : (s : Stand) (m : Mark) (text : List Bool) (x : Piece) → s.phase ≡ Frames → Spells (layout s) m text x → FrameThere s m text x
+pub frame_there : (s : Stand) (m : Mark) (text : List Bool) (x : Piece) → s.phase ≡ Frames → Spells (layout s) m text x → FrameThere s m text x
 unfolding layout
 frame_there s m text x phase h = in_frames s m text x (subst (λ k. Spells (layout_in k s) m text x) phase h)
 
-as_part : (s : Stand) (i : Info) (m : Mark) (text : List Bool) (f : Frame) → s.phase ≡ Frames → s.info ≡ Some i → Spells (frame i s.before) m text f → Spells (layout s) m text (framed f)
+pub as_part : (s : Stand) (i : Info) (m : Mark) (text : List Bool) (f : Frame) → s.phase ≡ Frames → s.info ≡ Some i → Spells (frame i s.before) m text f → Spells (layout s) m text (framed f)
 unfolding layout frame_behind
 as_part s i m text f phase told h = subst (λ k. Spells (layout_in k s) m text (framed f)) (sym phase) (f, text, [], sym (append-nil text), subst (λ o. Spells (frame_behind o s.before) m text f) (sym told) h, (refl, refl))
 
@@ -179,7 +179,7 @@ room_again new old m k text e f u z h =
     let in_new : InRoom (Some 16777215) k text = omega (arith, u, z, in_old) in
     subst (λ p. InRoom (room_in p) k text) (sym f) in_new
 
-same_info : (i j : Info) (o : Option Info) → o ≡ Some i → o ≡ Some j → j ≡ i
+pub same_info : (i j : Info) (o : Option Info) → o ≡ Some i → o ≡ Some j → j ≡ i
 same_info i j None e f = absurd cc
 same_info i j (Some k) e f = cc
 
@@ -211,12 +211,12 @@ ends_well info i samples message e = rw e (refl, (refl, tt))
 -- ---- the parts before
 
 -- what was told keeps the rules
-abbrev Told : Option Info → Type 0
+abbrev pub Told : Option Info → Type 0
 Told info = (i : Info) → info ≡ Some i → KeepsRules i
 
-record Step (s : Stand) (x : Piece) (text : List Bool) : Type 0 where
-  whole : length text % 8 ≡ 0
-  rules : Told (next (record { stand = s; samples = 0; message = [] }) x).stand.info
+pub record Step (s : Stand) (x : Piece) (text : List Bool) : Type 0 where
+  pub whole : length text % 8 ≡ 0
+  pub rules : Told (next (record { stand = s; samples = 0; message = [] }) x).stand.info
 
 info_rules : (o : Option Info) (b : Block) → Told o → FitsFields b → Told (info_after o b)
 info_rules o (block_of.StreamInfo j) told fits i e = let same : j ≡ i = cc in subst KeepsRules same fits.rules
@@ -231,7 +231,7 @@ info_rules o (block_of.Other kind bytes) told fits i e = told i e
 abbrev IsStep : Stand → List Bool → Piece → Type 0
 IsStep s text x = Step s x text
 
-step_of : (s : Stand) (m : Mark) (text : List Bool) (x : Piece) → Told s.info → m.unread ≡ 0 → Spells (layout s) (fresh m) text x → Step s x text
+pub step_of : (s : Stand) (m : Mark) (text : List Bool) (x : Piece) → Told s.info → m.unread ≡ 0 → Spells (layout s) (fresh m) text x → Step s x text
 step_of s m text x told u h = go s.phase refl
   where
     go : (k : Phase) → s.phase ≡ k → Step s x text
@@ -297,7 +297,7 @@ resumed_at p m k (x ∷ xs) more f text told u z (part, rest, split, spelled, fi
       stream = r.stream;
     }
 
-nothing_told : Told None
+pub nothing_told : Told None
 nothing_told i e = absurd cc
 
 pub frames_are_resumed : FramesAreResumed

@@ -85,13 +85,13 @@ listed seen b first e fits =
 
 module _ (i : Info) where
   -- among the blocks, behind STREAMINFO
-  abbrev at_block : ℕ → Seen → Progress
+  abbrev pub at_block : ℕ → Seen → Progress
   at_block index seen = record { stand = record { phase = Blocks; index = index; seen = seen; info = Some i; before = None }; samples = 0; message = [] }
 
-  abbrev behind : Bool → ℕ → Seen → Progress
+  abbrev pub behind : Bool → ℕ → Seen → Progress
   behind last index seen = record { stand = record { phase = phase_behind last; index = cond last 0 (raised index); seen = seen; info = Some i; before = None }; samples = 0; message = [] }
 
-  goes_on : (last : Bool) (b : Block) (index : ℕ) (seen : Seen) → seen.stream_info ≡ true → came seen b ≡ false → (next (at_block index seen) (block last b) ≡ behind last index (seen_after seen b)) × ((seen_after seen b).stream_info ≡ true)
+  pub goes_on : (last : Bool) (b : Block) (index : ℕ) (seen : Seen) → seen.stream_info ≡ true → came seen b ≡ false → (next (at_block index seen) (block last b) ≡ behind last index (seen_after seen b)) × ((seen_after seen b).stream_info ≡ true)
   goes_on last (blocks.StreamInfo info) index seen first e = absurd (two seen.stream_info first e)
   goes_on last (blocks.Padding n) index seen first e = (refl, first)
   goes_on last (blocks.Application id bytes) index seen first e = (refl, first)

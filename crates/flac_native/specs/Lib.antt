@@ -15,3 +15,5 @@ pub mod Numbers
 pub mod Retag
 pub mod Resuming
 pub mod InOrder
+pub mod ReadBack
+pub mod Whole

@@ -3,6 +3,7 @@
 ghost use Rattle.flac_bits.specs.Handing.{OneReading, SomeReading};
 ghost use Rattle.flac_native.specs.Stream.{grammar};
 ghost use Rattle.flac_native.specs.Retag.{HeadsAreOne, RetaggedAreRead};
+ghost use Rattle.flac_native.specs.Whole.{StreamsAreWhole};
 
 /// No input has two readings: it is one stream, or is refused at one place and for one reason.
 pub fn only_one_way()
@@ -12,6 +13,12 @@ pub fn only_one_way()
 /// Each input has a reading: it is a stream, or is refused at a place and for a reason.
 pub fn some_way()
     ensures { SomeReading grammar }
+{}
+
+/// A stream is just this: the marker, STREAMINFO, other blocks, and frames to the end of the input, whose headers keep the rules on the list of all headers;
+/// STREAMINFO's number of samples and digest, where it states them, are those of all frames (RFC 9639, sections 6, 8.2 and 9.1).
+pub fn streams_are_whole()
+    ensures { StreamsAreWhole }
 {}
 
 /// No input has two heads, the marker and the blocks before the frames: it begins with one, or is refused there at one place and for one reason.

@@ -56,12 +56,13 @@ pub use flac_meta::{
 };
 pub use handing::hand_out;
 pub use item::Item;
-pub use laws::{only_one_head, only_one_way, retagged_are_read, some_way};
+pub use laws::{only_one_head, only_one_way, retagged_are_read, some_way, streams_are_whole};
 pub use message::put_rows;
 pub use part::Part;
 pub use plan::Plan;
 pub use promises::{
-    encoded_are_resumed, encoded_are_streams, frames_are_resumed, points_name_frames,
+    encoded_are_read_back, encoded_are_resumed, encoded_are_streams, frames_are_resumed,
+    points_name_frames,
 };
 pub use retag_fault::RetagFault;
 pub use retagging::retag;

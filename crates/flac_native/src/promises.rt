@@ -1,12 +1,20 @@
 //! What holds of the definitions of encoding and of resuming.
 
 ghost use Rattle.flac_native.specs.Points.{PointsNameFrames};
+ghost use Rattle.flac_native.specs.ReadBack.{EncodedAreReadBack};
 ghost use Rattle.flac_native.specs.Resuming.{FramesAreResumed, EncodedAreResumed};
 ghost use Rattle.flac_native.specs.Writing.{EncodedAreStreams};
 
 /// What encoding writes is a stream: the marker, the spellings of STREAMINFO and of the blocks, and a frame for each block of the samples.
 pub fn encoded_are_streams()
     ensures { EncodedAreStreams }
+{}
+
+/// What [`crate::encode`] writes has one reading, whatever was written before it: the marker, STREAMINFO, the given blocks, the seek table if there is one,
+/// and the frames. It has no other part, nothing in it is refused, and the samples of the frames, one frame after another, are just the given ones (RFC 9639,
+/// section 6).
+pub fn encoded_are_read_back()
+    ensures { EncodedAreReadBack }
 {}
 
 /// Each point of the seek table of frames names a frame: its first sample, the bytes of the frames before it and its samples, of which one is a multiple of
