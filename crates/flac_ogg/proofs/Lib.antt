@@ -15,3 +15,4 @@ pub mod Listing
 pub mod Packing
 pub mod Whole
 pub mod FirstByte
+pub mod RoundTrips

@@ -11,3 +11,4 @@ pub mod Native
 pub mod Laws
 pub mod Listed
 pub mod Writing
+pub mod RoundTrip

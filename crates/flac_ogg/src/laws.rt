@@ -2,6 +2,7 @@
 
 ghost use Rattle.flac_ogg.specs.Laws.{OggIsReadOnce, OggIsRead};
 ghost use Rattle.flac_ogg.specs.Native.{OggStreamsAreStreams, EncodedAreOggItems};
+ghost use Rattle.flac_ogg.specs.RoundTrip.{EncodedOggIsRead};
 
 /// No input has two readings: it is one Ogg stream of FLAC, or is refused at one place and for one reason.
 pub fn only_one_way()
@@ -21,4 +22,9 @@ pub fn same_items()
 /// What is encoded, in packets of the mapping with STREAMINFO, of one block each and of one frame each, is the items of an Ogg stream of what was given (RFC 9639, section 10.1).
 pub fn encoded_items()
     ensures { EncodedAreOggItems }
+{}
+
+/// What is encoded as an Ogg stream is one of just what was given: its items are STREAMINFO, the blocks and the frames, and no others (RFC 9639, section 10.1).
+pub fn encoded_are_read()
+    ensures { EncodedOggIsRead }
 {}

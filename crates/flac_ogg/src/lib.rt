@@ -14,6 +14,7 @@ mod packet_list;
 mod packets;
 mod parts;
 mod places;
+mod round_trip;
 mod verifying;
 
 pub use decoder::ogg_decoder;
@@ -30,6 +31,7 @@ pub use flac_native::{
     Decoder, EncodeFault, Fault, Item, Place, Plan, Profile, Sink, SinkFault, decode,
 };
 pub use flac_pages::{PacketBytes, Pages};
-pub use laws::{encoded_items, only_one_way, same_items, some_way};
+pub use laws::{encoded_are_read, encoded_items, only_one_way, same_items, some_way};
 pub use packets::OggPackets;
+pub use round_trip::encode_and_decode;
 pub use verifying::verify;

@@ -19,7 +19,7 @@ pub(crate) struct PacketList {
 }
 
 /// Each byte is below 256.
-fn bytes_fit(bytes: &[u8])
+pub(crate) fn bytes_fit(bytes: &[u8])
     ensures { AreBytes bytes.now }
 {}
 

@@ -1,0 +1,125 @@
+//! Encodes into memory, and decodes the bytes again.
+
+ghost use Rattle.std.specs.Prelude.{◌≡◌, ◌≢◌, ◌↔◌, List, true, false, IfOk, IfErr, Err, Some, None};
+ghost use Rattle.flac_native.specs.Given.{fits_plan};
+ghost use Rattle.flac_native.specs.Seeking.{repeats_table};
+ghost use Rattle.flac_native.specs.Stream.{Piece};
+ghost use Rattle.flac_ogg.specs.RoundTrip.{EncodedBytes, IsJust, NativeBytes, OggBytes, is_no_ogg, is_repeated};
+ghost use Rattle.flac_ogg.specs.Verifying.{bytes_reading};
+ghost use Rattle.flac_ogg.specs.Writing.{may_be_ogg};
+
+use crate::encoding::encode_ogg;
+use crate::packet_list::bytes_fit;
+use crate::verifying::verify;
+use flac_bits::{Collected, Why};
+use flac_frame::Audio;
+use flac_meta::BlockList;
+use flac_native::{EncodeFault, Plan, Profile, encode};
+use std::alloc::Global;
+
+/// Why encoding into memory was refused: an error of this target is a failed allocation.
+fn in_memory(fault: EncodeFault) -> EncodeFault
+    ensures write { fault ≡ EncodeFault.Write → result ≡ EncodeFault.Memory }
+    ensures others { fault ≢ EncodeFault.Write → result ≡ fault }
+{
+    match fault {
+        EncodeFault::Write => EncodeFault::Memory,
+        other => other,
+    }
+}
+
+/// Encodes into memory as a native stream.
+fn native_bytes(
+    alloc: Global,
+    plan: &Plan,
+    list: &BlockList,
+    audio: &Audio,
+) -> Result<Vec<u8>, EncodeFault>
+    requires { fits_plan plan.now audio.now ≡ true }
+    ensures encoded { IfOk result (λ bytes. NativeBytes plan.now list.now audio.now bytes.items) }
+    ensures repeated { (result ≡ Err EncodeFault.RepeatedBlock) ↔ (repeats_table plan.now list.now ≡ true) }
+    ensures mapping { result ≢ Err EncodeFault.BadMapping }
+    ensures write { result ≢ Err EncodeFault.Write }
+{
+    let mut target = Collected::new(alloc);
+    match encode(alloc, plan, list, audio, &mut target) {
+        Ok(()) => {
+            let bytes = target.into_bytes();
+            bytes_fit(bytes.as_slice());
+            Ok(bytes)
+        }
+        Err(fault) => Err(in_memory(fault)),
+    }
+}
+
+/// Encodes into memory as the Ogg stream of a number.
+fn ogg_bytes(
+    alloc: Global,
+    serial: u32,
+    plan: &Plan,
+    list: &BlockList,
+    audio: &Audio,
+) -> Result<Vec<u8>, EncodeFault>
+    requires { fits_plan plan.now audio.now ≡ true }
+    ensures encoded { IfOk result (λ bytes. OggBytes serial plan.now list.now audio.now bytes.items) }
+    ensures repeated { result ≢ Err EncodeFault.RepeatedBlock }
+    ensures mapping { (result ≡ Err EncodeFault.BadMapping) ↔ (may_be_ogg plan.now list.now ≡ false) }
+    ensures write { result ≢ Err EncodeFault.Write }
+{
+    let mut target = Collected::new(alloc);
+    match encode_ogg(alloc, serial, plan, list, audio, &mut target) {
+        Ok(()) => {
+            let bytes = target.into_bytes();
+            bytes_fit(bytes.as_slice());
+            Ok(bytes)
+        }
+        Err(fault) => Err(in_memory(fault)),
+    }
+}
+
+/// Decodes a stream again. Its only error is `Memory`: an allocation failed.
+fn decode_again(alloc: Global, bytes: &[u8]) -> Result<(), Why>
+    requires { (items : List Piece) × IsJust (bytes_reading bytes.now) items }
+    ensures memory { IfErr result (λ e. e ≡ Why.Memory) }
+{
+    match verify(alloc, bytes, Profile::Subset) {
+        Ok(()) => Ok(()),
+        Err(fault) => Err(fault.why),
+    }
+}
+
+/// Encodes samples into memory, decodes the stream again, and returns its bytes: an Ogg stream of this number (RFC 9639, section 10.1), or without a number a
+/// native stream (section 6). They are a stream of just what was given: STREAMINFO, the blocks of the list, the seek table if the plan asks for one, and all
+/// samples as frames. No device is written or read, so the contract has no condition but memory.
+///
+/// The plan fits the samples: see [`Plan::fits`].
+///
+/// # Errors
+///
+/// Those of [`encode`] or of [`encode_ogg`] but [`EncodeFault::Write`]. [`EncodeFault::Memory`] if an allocation fails, in encoding or in decoding.
+///
+/// ```
+/// let bytes = encode_and_decode(rt.alloc(), None, &plan, &blocks, &audio)?;
+/// ```
+pub fn encode_and_decode(
+    alloc: Global,
+    serial: Option<u32>,
+    plan: &Plan,
+    list: &BlockList,
+    audio: &Audio,
+) -> Result<Vec<u8>, EncodeFault>
+    requires { fits_plan plan.now audio.now ≡ true }
+    ensures encoded { IfOk result (λ bytes. EncodedBytes serial plan.now list.now audio.now bytes.items) }
+    ensures mapping { (result ≡ Err EncodeFault.BadMapping) ↔ (is_no_ogg serial plan.now list.now ≡ true) }
+    ensures repeated { (result ≡ Err EncodeFault.RepeatedBlock) ↔ (is_repeated serial plan.now list.now ≡ true) }
+    ensures write { result ≢ Err EncodeFault.Write }
+{
+    let bytes = match serial {
+        Some(serial) => ogg_bytes(alloc, serial, plan, list, audio)?,
+        None => native_bytes(alloc, plan, list, audio)?,
+    };
+    match decode_again(alloc, bytes.as_slice()) {
+        Ok(()) => Ok(bytes),
+        Err(_) => Err(EncodeFault::Memory),
+    }
+}
