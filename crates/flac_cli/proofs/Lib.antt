@@ -2,6 +2,7 @@ pub mod Back
 pub mod Counting
 pub mod Lined
 pub mod Outcomes
+pub mod Refused
 pub mod Rows
 pub mod Sent
 pub mod Wide

@@ -1,10 +1,13 @@
 //! Raw samples, encoded.
 
-ghost use Rattle.std.specs.Prelude.{◌≡◌, ◌≤◌, ◌⊎◌, true, map, IfOk, OnOk, OnErr, None};
+ghost use Rattle.std.specs.Prelude.{◌≡◌, ◌≤◌, ◌⊎◌, true, map, IfOk, IfErr, OnOk, OnErr, Some, None};
 ghost use Rattle.flac_bits.specs.Bits.{bits_of};
+ghost use Rattle.flac_meta.specs.Listed.{list_fault, info_seen};
 ghost use Rattle.flac_native.specs.Given.{fits_plan};
 ghost use Rattle.flac_cli.specs.Encoded.{comments_of, comment_list, EncodesIn, EncodesRaw, BeginsIn, BeginsRaw};
-ghost use Rattle.flac_cli.specs.Raw.{IsRaw};
+ghost use Rattle.flac_cli.specs.Raw.{IsRaw, raw_sound};
+ghost use Rattle.flac_cli.specs.Refusals.{format_fault, raw_fault, stream_fault, refusal, IsOutside};
+ghost use Rattle.flac_cli.specs.declared.encoding.Refusal.TheVariants.{Input, Setup, Output};
 
 use crate::raw::{channels_of, read_all};
 use flac_bits::{Source, Target, Why};
@@ -34,18 +37,24 @@ pub(crate) enum Refusal {
 }
 
 impl From<Why> for Refusal {
+    ghost from_gives = { λ why e. e ≡ Input why };
+
     fn from(why: Why) -> Refusal {
         Refusal::Input(why)
     }
 }
 
 impl From<SetupFault> for Refusal {
+    ghost from_gives = { λ fault e. e ≡ Setup fault };
+
     fn from(fault: SetupFault) -> Refusal {
         Refusal::Setup(fault)
     }
 }
 
 impl From<EncodeFault> for Refusal {
+    ghost from_gives = { λ fault e. e ≡ Output fault };
+
     fn from(fault: EncodeFault) -> Refusal {
         Refusal::Output(fault)
     }
@@ -63,8 +72,9 @@ impl fmt::Display for Refusal {
 }
 
 /// The first reason, if there is one, for which samples of a format cannot be encoded, whatever they are.
-#[tactic(auto, using(crate::proofs::Rows::depth_range))]
+#[tactic(auto, unfolding(crate::specs::Refusals::format_fault), using(crate::proofs::Rows::depth_range))]
 fn format_fault(format: Format) -> Option<SetupFault>
+    ensures value { result ≡ format_fault format }
     ensures bits { result ≡ None → (1 ≤ format.bits) × (format.bits ≤ 32) }
     ensures channels { result ≡ None → (1 ≤ format.channels) × (format.channels ≤ 8) }
 {
@@ -81,8 +91,15 @@ fn format_fault(format: Format) -> Option<SetupFault>
 }
 
 /// The samples of a source: just its bytes.
+///
+/// # Errors
+/// The first reason for which they are no samples of the format: rate, depth, channels, the number of bytes, a sample that is too large, too many
+/// samples. An error of the source, or out of memory.
 fn audio_of<R: Source>(alloc: Global, source: &mut R, format: Format) -> Result<Audio, Refusal>
-    ensures { IfOk result (λ a. R.known source.old ≡ true → IsRaw format (R.coming source.old) a) }
+    ensures raw { IfOk result (λ a. R.known source.old ≡ true → IsRaw format (R.coming source.old) a) }
+    ensures sound { IfOk result (λ a. R.known source.old ≡ true → a ≡ raw_sound format (R.coming source.old)) }
+    ensures accepted { OnOk result (R.known source.old ≡ true → raw_fault format (R.coming source.old) ≡ None) }
+    ensures refused { IfErr result (λ e. R.known source.old ≡ true → R.raised source.new ≡ R.raised source.old → IsOutside e ⊎ (raw_fault format (R.coming source.old) ≡ Some e)) }
 {
     if let Some(fault) = format_fault(format) {
         return Err(Refusal::Setup(fault));
@@ -101,7 +118,8 @@ fn audio_of<R: Source>(alloc: Global, source: &mut R, format: Format) -> Result<
 
 /// Comments of these words.
 pub(crate) fn comments_of(alloc: Global, words: &[&str]) -> Result<Comments, Why>
-    ensures { IfOk result (λ comments. comments ≡ comments_of (map (λ word. word.now) words.now)) }
+    ensures comments { IfOk result (λ comments. comments ≡ comments_of (map (λ word. word.now) words.now)) }
+    ensures memory { IfErr result (λ e. e ≡ Why.Memory) }
 {
     let mut texts = Vec::with_capacity(alloc, words.len())?;
     for word in words {
@@ -117,7 +135,9 @@ pub(crate) fn comments_of(alloc: Global, words: &[&str]) -> Result<Comments, Why
 
 /// The one block behind STREAMINFO: comments of these words.
 fn comment_list(alloc: Global, words: &[&str]) -> Result<BlockList, Why>
-    ensures { IfOk result (λ list. list ≡ comment_list (map (λ word. word.now) words.now)) }
+    ensures list { IfOk result (λ list. list ≡ comment_list (map (λ word. word.now) words.now)) }
+    ensures accepted { OnOk result (list_fault info_seen (comment_list (map (λ word. word.now) words.now)) ≡ None) }
+    ensures refused { IfErr result (λ e. (e ≡ Why.Memory) ⊎ (list_fault info_seen (comment_list (map (λ word. word.now) words.now)) ≡ Some e)) }
 {
     let comments = comments_of(alloc, words)?;
     let mut blocks = Vec::with_capacity(alloc, 1)?;
@@ -137,6 +157,8 @@ fn write_stream<W: Target>(
     requires { fits_plan plan.now audio.now ≡ true }
     ensures written { OnOk result (W.known target.old ≡ true → EncodesIn container plan.now list.now audio.now (bits_of (W.sent target.old)) (bits_of (W.sent target.new))) }
     ensures begun { OnErr result (W.known target.old ≡ true → (target.new ≡ target.old) ⊎ BeginsIn container plan.now list.now audio.now (bits_of (W.sent target.old)) (bits_of (W.sent target.new))) }
+    ensures accepted { OnOk result (stream_fault container plan.now list.now ≡ None) }
+    ensures refused { IfErr result (λ e. IsOutside (Refusal.Output e) ⊎ (stream_fault container plan.now list.now ≡ Some e)) }
 {
     match container {
         Container::Native => encode(alloc, plan, list, audio, target),
@@ -145,6 +167,10 @@ fn write_stream<W: Target>(
 }
 
 /// Encodes the raw samples of a source, and writes the stream. Where it is refused, nothing was written, or a beginning of the stream.
+///
+/// # Errors
+/// The first reason for which the samples cannot be encoded as asked for: the samples, the block size and the seek points, the comments, the
+/// container. An error of the source or of the target, or out of memory.
 pub(crate) fn encode_raw<R: Source, W: Target>(
     alloc: Global,
     source: &mut R,
@@ -157,6 +183,8 @@ pub(crate) fn encode_raw<R: Source, W: Target>(
         EncodesRaw format container (map (λ word. word.now) comments.now) (R.coming source.old) (bits_of (W.sent target.old)) (bits_of (W.sent target.new))) }
     ensures begun { OnErr result (R.known source.old ≡ true → W.known target.old ≡ true → (bits_of (W.sent target.new) ≡ bits_of (W.sent target.old))
         ⊎ BeginsRaw format container (map (λ word. word.now) comments.now) (R.coming source.old) (bits_of (W.sent target.old)) (bits_of (W.sent target.new))) }
+    ensures accepted { OnOk result (R.known source.old ≡ true → refusal format container (map (λ word. word.now) comments.now) (R.coming source.old) ≡ None) }
+    ensures refused { IfErr result (λ e. R.known source.old ≡ true → R.raised source.new ≡ R.raised source.old → IsOutside e ⊎ (refusal format container (map (λ word. word.now) comments.now) (R.coming source.old) ≡ Some e)) }
 {
     let audio = audio_of(alloc, source, format)?;
     let plan = Plan::new(format.block, &audio, format.seek_every)?;

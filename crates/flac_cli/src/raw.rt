@@ -1,9 +1,9 @@
 //! Raw samples, read from a source.
 
-ghost use Rattle.std.specs.Prelude.{◌≡◌, ◌≤◌, ◌+◌, ◌*◌, ◌%◌, true, length, map, IfOk};
+ghost use Rattle.std.specs.Prelude.{◌≡◌, ◌≤◌, ◌+◌, ◌*◌, ◌%◌, true, length, map, IfOk, IfErr};
 ghost use Rattle.flac_bits.specs.Signed.{FitsBits};
 ghost use Rattle.flac_native.specs.Message.{sample_bytes};
-ghost use Rattle.flac_cli.specs.Raw.{IsChannel, AreChannels};
+ghost use Rattle.flac_cli.specs.Raw.{number_of, IsChannel, AreChannels};
 
 use byteorder::{ByteOrder, LittleEndian};
 use flac_bits::{Source, Why};
@@ -17,7 +17,8 @@ const PIECE: usize = 16384;
 /// # Errors
 /// [`Why::Read`] where the source answers an error, [`Why::Memory`] where a growth is refused.
 pub(crate) fn read_all<R: Source>(alloc: Global, source: &mut R) -> Result<Vec<u8>, Why>
-    ensures { IfOk result (λ bytes. R.known source.old ≡ true → bytes.items ≡ R.coming source.old) }
+    ensures bytes { IfOk result (λ bytes. R.known source.old ≡ true → bytes.items ≡ R.coming source.old) }
+    ensures memory { IfErr result (λ e. R.known source.old ≡ true → R.raised source.new ≡ R.raised source.old → e ≡ Why.Memory) }
 {
     let mut bytes = Vec::new(alloc);
     let mut piece = [0u8; PIECE];
@@ -36,6 +37,7 @@ pub(crate) fn read_all<R: Source>(alloc: Global, source: &mut R) -> Result<Vec<u
 #[inline(always)]
 fn sample(bytes: &[u8]) -> i32
     requires { (1 ≤ length bytes.now) × (length bytes.now ≤ 4) }
+    ensures number { result ≡ number_of bytes.now }
     ensures bytes { sample_bytes (length bytes.now) result ≡ bytes.now }
     ensures fits { FitsBits (8 * length bytes.now) result }
 {
@@ -55,7 +57,8 @@ fn channel_in(
     requires whole { length bytes.now ≡ rows * row }
     requires width { (1 ≤ width) × (width ≤ 4) }
     requires within { start + width ≤ row }
-    ensures { IfOk result (λ c. IsChannel bytes.now rows row start width c.items) }
+    ensures channel { IfOk result (λ c. IsChannel bytes.now rows row start width c.items) }
+    ensures memory { IfErr result (λ e. e ≡ Why.Memory) }
 {
     let mut samples = Vec::with_capacity(alloc, rows)?;
     for i in 0..rows {
@@ -77,7 +80,8 @@ fn channel_of(
     requires whole { length bytes.now ≡ rows * row }
     requires width { (1 ≤ width) × (width ≤ 4) }
     requires within { start + width ≤ row }
-    ensures { IfOk result (λ c. IsChannel bytes.now rows row start width c.items) }
+    ensures channel { IfOk result (λ c. IsChannel bytes.now rows row start width c.items) }
+    ensures memory { IfErr result (λ e. e ≡ Why.Memory) }
 {
     match width {
         1 => channel_in(alloc, bytes, rows, row, start, 1),
@@ -100,7 +104,8 @@ pub(crate) fn channels_of(
     requires channels { (1 ≤ channels) × (channels ≤ 8) }
     requires width { (1 ≤ width) × (width ≤ 4) }
     requires whole { length bytes.now % (channels * width) ≡ 0 }
-    ensures { IfOk result (λ lists. AreChannels bytes.now channels width (map (λ c. c.items) lists.items)) }
+    ensures channels { IfOk result (λ lists. AreChannels bytes.now channels width (map (λ c. c.items) lists.items)) }
+    ensures memory { IfErr result (λ e. e ≡ Why.Memory) }
 {
     let row = channels * width;
     let rows = bytes.len() / row;

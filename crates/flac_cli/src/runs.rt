@@ -7,6 +7,7 @@ ghost use Rattle.flac_jobs.specs.Asks.{AsksDecode, AsksStream};
 ghost use Rattle.flac_cli.specs.Samples.{all_samples};
 ghost use Rattle.flac_cli.specs.Counted.{AsksTest, line_of, counts_line, frames_in, samples_in_all, printed};
 ghost use Rattle.flac_cli.specs.Encoded.{HasEncoded, HasBegun};
+ghost use Rattle.flac_cli.specs.Refusals.{CanBeEncoded};
 ghost use Rattle.flac_cli.specs.Retagged.{HasRetagged};
 ghost use Rattle.flac_bits.specs.Bits.{bits_of};
 
@@ -128,6 +129,8 @@ pub fn run<R: Source, W: Target, O: Target, E: Target>(
         (parts : List Piece) × IsStream parts (R.coming source.old) (R.behind source.old) × (W.sent target.new ≡ W.sent target.old ++ all_samples 0 parts) }
     // An encoding has then added to the file a stream of just the samples that the input is.
     ensures encoded { result ≡ 0 → R.known source.old ≡ true → W.known target.old ≡ true → HasEncoded job.now (R.coming source.old) (bits_of (W.sent target.old)) (bits_of (W.sent target.new)) }
+    // There was then no reason to refuse it.
+    ensures accepted { result ≡ 0 → R.known source.old ≡ true → CanBeEncoded job.now (R.coming source.old) }
     // Where it is refused, it has added nothing, or a beginning of such a stream.
     ensures begun { result ≡ 1 → R.known source.old ≡ true → W.known target.old ≡ true → HasBegun job.now (R.coming source.old) (bits_of (W.sent target.old)) (bits_of (W.sent target.new)) }
     // A retagging has then added to the file the same STREAMINFO, the comments, the other blocks and the rest of the input.

@@ -1,8 +1,10 @@
-use Rattle.std.proofs.Common.{rules, ◌≡◌, ◌∙◌, None, subst, map}
+use Rattle.std.proofs.Common.{rules, ◌≡◌, ◌∙◌, None, subst, map, inr}
 use Rattle.flac_bits.specs.Bits.{bits_of}
 use Rattle.flac_native.specs.Given.{cut_of, plan_fault}
 use Rattle.flac_cli.specs.Encoded.{comment_list, EncodesIn}
 use Rattle.flac_cli.proofs.Back.{parts_back}
+use Rattle.std.proofs.lemmas.Result.{err_from_is_err_and}
+use Rattle.flac_cli.proofs.Refused.{refused_raw, refused_plan, refused_words, refused_stream, accepted}
 use Rattle.flac_cli.proofs.encoding.encode_raw.Goals as goal
 
 pub returns-clause-written : goal.returns-clause-written
@@ -12,14 +14,51 @@ returns-clause-written g c = λ known told.
     let before = bits_of (g.W.Target.sent c.args.target.now) in
     let after = bits_of (g.W.Target.sent c.write_stream.new.target) in
     let plan : c.in_ok-plan.plan ≡ cut_of c.args.format.block audio c.args.format.seek_every = search rules in
-    let raw = c.in_ok-audio.ensures known in
+    let raw = c.in_ok-audio.ensures.raw known in
     let good : plan_fault (cut_of c.args.format.block audio c.args.format.seek_every) ≡ None = subst (λ p. plan_fault p ≡ None) plan c.block_size-size.ensures.good in
     let all : EncodesIn c.args.container (cut_of c.args.format.block audio c.args.format.seek_every) (comment_list words) audio before after =
     subst (λ p. EncodesIn c.args.container p (comment_list words) audio before after) plan
-    (subst (λ l. EncodesIn c.args.container c.in_ok-plan.plan l audio before after) c.in_ok-list.ensures (c.in_ok-write_stream.ensures.written told)) in
+    (subst (λ l. EncodesIn c.args.container c.in_ok-plan.plan l audio before after) c.in_ok-list.ensures.list (c.in_ok-write_stream.ensures.written told)) in
     record {
       audio = audio;
       raw = raw;
       encodes = all;
       back = parts_back c.args.container c.args.format.block c.args.format.seek_every audio words before after all good ∙ raw.samples;
     }
+
+pub returns-in_err-audio-clause-refused : goal.returns-in_err-audio-clause-refused
+returns-in_err-audio-clause-refused g c =
+    let p = err_from_is_err_and c.from_residual.result c.from_residual.ensures.1 in
+    rw (p.1, p.2) (λ known same.
+    refused_raw c.args.format c.args.container (map (λ word. word.now) c.args.comments.now) (g.R.Source.coming c.args.source.now) _ (c.in_err-audio.ensures.refused known same))
+
+pub returns-in_err-plan-clause-refused : goal.returns-in_err-plan-clause-refused
+returns-in_err-plan-clause-refused g c =
+    let p = err_from_is_err_and c.from_residual-in_err-plan.result c.from_residual-in_err-plan.ensures.1 in
+    rw (p.1, p.2) (λ known same.
+    inr (refused_plan c.args.format c.args.container (map (λ word. word.now) c.args.comments.now) (g.R.Source.coming c.args.source.now) c.in_ok-audio.audio
+    (c.in_ok-audio.ensures.accepted known) (c.in_ok-audio.ensures.sound known) _ c.in_err-plan.ensures.made))
+
+pub returns-in_err-list-clause-refused : goal.returns-in_err-list-clause-refused
+returns-in_err-list-clause-refused g c =
+    let p = err_from_is_err_and c.from_residual-in_err-list.result c.from_residual-in_err-list.ensures.1 in
+    let plan : c.in_ok-plan.plan ≡ cut_of c.args.format.block c.in_ok-audio.audio c.args.format.seek_every = search rules in
+    rw (p.1, p.2) (λ known same.
+    refused_words c.args.format c.args.container (map (λ word. word.now) c.args.comments.now) (g.R.Source.coming c.args.source.now) c.in_ok-audio.audio
+    (c.in_ok-audio.ensures.accepted known) (c.in_ok-audio.ensures.sound known) c.in_ok-plan.plan plan c.block_size-size.ensures.good _ c.in_err-list.ensures.refused)
+
+pub returns-in_err-write_stream-clause-refused : goal.returns-in_err-write_stream-clause-refused
+returns-in_err-write_stream-clause-refused g c =
+    let p = err_from_is_err_and c.from_residual-in_err-write_stream.result c.from_residual-in_err-write_stream.ensures.1 in
+    let plan : c.in_ok-plan.plan ≡ cut_of c.args.format.block c.in_ok-audio.audio c.args.format.seek_every = search rules in
+    rw (p.1, p.2) (λ known same.
+    refused_stream c.args.format c.args.container (map (λ word. word.now) c.args.comments.now) (g.R.Source.coming c.args.source.now) c.in_ok-audio.audio
+    (c.in_ok-audio.ensures.accepted known) (c.in_ok-audio.ensures.sound known) c.in_ok-plan.plan plan c.block_size-size.ensures.good
+    _ c.in_ok-list.ensures.list c.in_ok-list.ensures.accepted _ c.in_err-write_stream.ensures.refused)
+
+pub returns-clause-accepted : goal.returns-clause-accepted
+returns-clause-accepted g c = λ known.
+    let plan : c.in_ok-plan.plan ≡ cut_of c.args.format.block c.in_ok-audio.audio c.args.format.seek_every = search rules in
+    accepted c.args.format c.args.container (map (λ word. word.now) c.args.comments.now) (g.R.Source.coming c.args.source.now) c.in_ok-audio.audio
+    (c.in_ok-audio.ensures.accepted known) (c.in_ok-audio.ensures.sound known) c.in_ok-plan.plan plan c.block_size-size.ensures.good
+    _ c.in_ok-list.ensures.list c.in_ok-list.ensures.accepted c.in_ok-write_stream.ensures.accepted

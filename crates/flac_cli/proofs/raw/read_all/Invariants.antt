@@ -5,6 +5,7 @@ abbrev pub invariant-pulls : goal.invariant-pulls
 invariant-pulls g l = record {
   known : g.R.Source.known l.fn.source ≡ true → g.R.Source.known l.source ≡ true;
   bytes : g.R.Source.known l.fn.source ≡ true → g.R.Source.coming l.fn.source ≡ l.bytes.items ++ g.R.Source.coming l.source;
+  raised : g.R.Source.raised l.source ≡ g.R.Source.raised l.fn.source;
 }
 
 abbrev pub decreases-pulls : goal.decreases-pulls

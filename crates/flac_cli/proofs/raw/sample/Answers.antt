@@ -13,6 +13,13 @@ overflow_cast-result c =
     let word : FitsSigned w32 c.read_int.result = fits_word (length bs) _ c.requires.1 fits in
     omega (arith, ints)
 
+pub returns-clause-number : goal.returns-clause-number
+returns-clause-number c =
+    let bs = c.args.bytes.now in
+    let small : (i : ℕ) → get_or bs i 0 < 256 = λ i. let f = c.type_inv.bytes i in omega (arith, f) in
+    let fits : FitsBits (8 * length bs) c.read_int.result = rw c.read_int.ensures (twos_fit bs c.requires.0 c.requires.1 small) in
+    narrowed c.read_int.result (fits_word (length bs) _ c.requires.1 fits) ∙ c.read_int.ensures
+
 pub returns-clause-bytes : goal.returns-clause-bytes
 returns-clause-bytes c =
     let bs = c.args.bytes.now in

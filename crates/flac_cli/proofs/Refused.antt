@@ -1,0 +1,183 @@
+-- Why raw samples are refused.
+use Rattle.std.proofs.Common.{◌≡◌, ◌≢◌, ◌↔◌, ◌⊎◌, ◌≤◌, ◌<◌, ◌*◌, ◌%◌, ◌-◌, ◌^◌, ◌&&◌, ◌||◌, ℕ, Bool, true, false, cond, nat_eq, nat_lt, nat_le, ℤ, pos, negsuc, List, [], ◌∷◌, length, All, Option, Some, None, is_some, is_none, Result, Ok, Err, OnOk, IfErr, refl, sym, ap, ◌∙◌, subst, arith, inl, inr}
+use Rattle.std.specs.List.{list_all}
+use Rattle.std.proofs.lemmas.Bool.{lt-ltb, ne_eqb}
+use Rattle.std.proofs.lemmas.Bool.Decides.{nat_tests}
+use Rattle.std.proofs.lemmas.Int.{ints}
+use Rattle.std.proofs.lemmas.List.Elements.{All-head, All-tail}
+use Rattle.flac_bits.specs.Signed.{FitsBits}
+use Rattle.flac_bits.specs.declared.why.Why.{Why}
+use Rattle.flac_bits.specs.declared.why.Why.TheVariants as why
+use Rattle.flac_header.specs.Choice.{rate_choice, depth_choice}
+use Rattle.flac_meta.specs.Listed.{list_fault, info_seen}
+use Rattle.flac_meta.specs.declared.block.Block.{Block}
+use Rattle.flac_frame.specs.Audio.{Sound, IsSound, samples_each, as_long, each_small, channels_fault, audio_fault}
+use Rattle.flac_frame.specs.declared.setup.SetupFault.{SetupFault}
+use Rattle.flac_native.specs.Given.{Cut, cut_of, plan_fault}
+use Rattle.flac_native.specs.Message.{sample_width}
+use Rattle.flac_native.specs.declared.encode_fault.EncodeFault.{EncodeFault}
+use Rattle.flac_native.specs.declared.encode_fault.EncodeFault.TheVariants.{Memory, RepeatedBlock, BadMapping, Write}
+use Rattle.flac_cli.specs.Encoded.{comment_list}
+use Rattle.flac_cli.specs.Raw.{AreChannels, raw_channels, raw_sound}
+use Rattle.flac_cli.specs.Refusals.{format_fault, raw_fault, stream_fault, refusal, IsOutside}
+use Rattle.flac_cli.specs.declared.encoding.Refusal.{Refusal}
+use Rattle.flac_cli.specs.declared.encoding.Refusal.TheVariants.{Input, Setup, RawLength, Output}
+use Rattle.flac_jobs.specs.declared.formats.Format.{Format}
+use Rattle.flac_jobs.specs.declared.formats.Container.{Container}
+
+-- ---- samples that can be encoded
+
+same_length : (n : ℕ) (c : List ℤ) → length c ≡ n → nat_eq (length c) n ≡ true
+same_length n c e = grind (arith, nat_tests)
+
+as_long_back : (n : ℕ) (cs : List (List ℤ)) → All (λ c. length c ≡ n) cs → list_all (λ c. nat_eq (length c) n) cs ≡ true
+as_long_back n [] all = refl
+as_long_back n (c ∷ cs) all =
+    let e : nat_eq (length c) n ≡ true = same_length n c (All-head (λ c. length c ≡ n) c cs all) in
+    rw e (as_long_back n cs (All-tail (λ c. length c ≡ n) c cs all))
+
+both_true : (a b : Bool) → (a && true) ≡ true → b ≡ true → (a && b) ≡ true
+both_true true b e f = f
+both_true false b e f = absurd cc
+
+one_small : (bits : ℕ) (zs : List ℤ) → All (FitsBits bits) zs → each_small bits (zs ∷ []) ≡ true
+one_small bits [] all = refl
+one_small bits (pos a ∷ zs) all =
+    let high = (All-head (FitsBits bits) (pos a) zs all).high in
+    rw (lt-ltb a (2 ^ (bits - 1)) (omega (arith, ints, high))) (one_small bits zs (All-tail (FitsBits bits) (pos a) zs all))
+one_small bits (negsuc a ∷ zs) all =
+    let low = (All-head (FitsBits bits) (negsuc a) zs all).low in
+    rw (lt-ltb a (2 ^ (bits - 1)) (omega (arith, ints, low))) (one_small bits zs (All-tail (FitsBits bits) (negsuc a) zs all))
+
+all_small : (bits : ℕ) (cs : List (List ℤ)) → All (λ c. All (FitsBits bits) c) cs → each_small bits cs ≡ true
+all_small bits [] all = refl
+all_small bits (c ∷ cs) all =
+    both_true _ _ (one_small bits c (All-head (λ c. All (FitsBits bits) c) c cs all)) (all_small bits cs (All-tail (λ c. All (FitsBits bits) c) c cs all))
+
+not_none : {X : Type 0} (o : Option X) → is_some o ≡ true → is_none o ≡ false
+not_none None e = absurd cc
+not_none (Some x) e = refl
+
+counts_fit : (n : ℕ) → 1 ≤ n → n ≤ 8 → (nat_eq n 0 || nat_lt 8 n) ≡ false
+counts_fit n some few = grind (arith, nat_tests)
+
+below : (n : ℕ) → n < 2 ^ 36 → nat_le (2 ^ 36) n ≡ false
+below n h = grind (arith, nat_tests)
+
+-- There is no fault in samples that can be encoded.
+pub sound_good : (a : Sound) → IsSound a → audio_fault a.rate a.bits a.channels ≡ None
+unfolding audio_fault channels_fault
+sound_good a s =
+    let long : as_long a.channels ≡ true = as_long_back (samples_each a.channels) a.channels s.long in
+    let small : each_small a.bits a.channels ≡ true = all_small a.bits a.channels s.small in
+    rw (not_none (rate_choice a.rate) s.rate, not_none (depth_choice a.bits) s.bits, counts_fit (length a.channels) s.some s.few, long, small, below (samples_each a.channels) s.short) refl
+
+-- ---- raw samples
+
+-- the channels of these bytes are the samples that they are
+pub sound_of : (format : Format) (raw bytes : List ℕ) (a : Sound) (channels : List (List ℤ)) → a ≡ record { rate = format.rate; bits = format.bits; channels = channels }
+    → AreChannels bytes format.channels (sample_width format.bits) channels → bytes ≡ raw → a ≡ raw_sound format raw
+sound_of format raw bytes a channels is are same =
+    is ∙ ap (λ (l : List (List ℤ)). record { rate = format.rate; bits = format.bits; channels = l }) (are.numbers ∙ ap (λ (bs : List ℕ). raw_channels format.channels (sample_width format.bits) bs) same)
+
+module _ (format : Format) (raw : List ℕ) where
+  pub bad_format : (e : SetupFault) → Some e ≡ format_fault format → raw_fault format raw ≡ Some (Setup e)
+  unfolding raw_fault
+  bad_format e h = rw (sym h) refl
+
+  pub bad_length : (n : ℕ) → None ≡ format_fault format → n ≡ length raw → n % (format.channels * sample_width format.bits) ≢ 0 → raw_fault format raw ≡ Some RawLength
+  unfolding raw_fault
+  bad_length n h is part =
+      let e : nat_eq (length raw % (format.channels * sample_width format.bits)) 0 ≡ false = subst (λ k. nat_eq (k % (format.channels * sample_width format.bits)) 0 ≡ false) is (ne_eqb _ 0 part) in
+      rw (sym h, e) refl
+
+  whole_length : (n : ℕ) → n ≡ length raw → n % (format.channels * sample_width format.bits) ≡ 0 → nat_eq (length raw % (format.channels * sample_width format.bits)) 0 ≡ true
+  whole_length n is whole = subst (λ k. nat_eq (k % (format.channels * sample_width format.bits)) 0 ≡ true) is (rw whole refl)
+
+  pub bad_samples : (n : ℕ) (e : SetupFault) (bytes : List ℕ) (channels : List (List ℤ)) → None ≡ format_fault format → n ≡ length raw → n % (format.channels * sample_width format.bits) ≡ 0
+      → AreChannels bytes format.channels (sample_width format.bits) channels → bytes ≡ raw → audio_fault format.rate format.bits channels ≡ Some e → raw_fault format raw ≡ Some (Setup e)
+  unfolding raw_fault
+  bad_samples n e bytes channels h is whole are same fault =
+      let all = whole_length n is whole in
+      let listed : channels ≡ raw_channels format.channels (sample_width format.bits) raw = are.numbers ∙ ap (λ (bs : List ℕ). raw_channels format.channels (sample_width format.bits) bs) same in
+      let bad : audio_fault format.rate format.bits (raw_channels format.channels (sample_width format.bits) raw) ≡ Some e = subst (λ l. audio_fault format.rate format.bits l ≡ Some e) listed fault in
+      rw (sym h, all, bad) refl
+
+  pub good_samples : (n : ℕ) (a : Sound) → None ≡ format_fault format → n ≡ length raw → n % (format.channels * sample_width format.bits) ≡ 0
+      → a ≡ raw_sound format raw → IsSound a → raw_fault format raw ≡ None
+  unfolding raw_fault
+  good_samples n a h same whole is sound =
+      let all = whole_length n same whole in
+      let good : audio_fault format.rate format.bits (raw_channels format.channels (sample_width format.bits) raw) ≡ None = subst (λ (s : Sound). audio_fault s.rate s.bits s.channels ≡ None) is (sound_good a sound) in
+      rw (sym h, all, good) refl
+
+-- ---- the calls that write a stream
+
+pub native_accepts : {A : Type 0} (r : Result A EncodeFault) (b : Bool) → ((r ≡ Err RepeatedBlock) ↔ (b ≡ true)) → OnOk r (cond b (Some RepeatedBlock) None ≡ None)
+native_accepts (Ok a) true h = let e = h.1 refl in absurd cc
+native_accepts (Ok a) false h = refl
+native_accepts (Err e) b h = tt
+
+pub native_refuses : {A : Type 0} (r : Result A EncodeFault) (b : Bool) → ((r ≡ Err RepeatedBlock) ↔ (b ≡ true)) → r ≢ Err BadMapping
+    → IfErr r (λ e. IsOutside (Output e) ⊎ (cond b (Some RepeatedBlock) None ≡ Some e))
+native_refuses (Ok a) b h other = tt
+native_refuses (Err Memory) b h other = inl (inr (inl refl))
+native_refuses (Err RepeatedBlock) b h other = inr (rw (h.0 refl) refl)
+native_refuses (Err BadMapping) b h other = absurd (other refl)
+native_refuses (Err Write) b h other = inl (inr (inr refl))
+
+pub ogg_accepts : {A : Type 0} (r : Result A EncodeFault) (b : Bool) → ((r ≡ Err BadMapping) ↔ (b ≡ false)) → OnOk r (cond b None (Some BadMapping) ≡ None)
+ogg_accepts (Ok a) true h = refl
+ogg_accepts (Ok a) false h = let e = h.1 refl in absurd cc
+ogg_accepts (Err e) b h = tt
+
+pub ogg_refuses : {A : Type 0} (r : Result A EncodeFault) (b : Bool) → ((r ≡ Err BadMapping) ↔ (b ≡ false)) → r ≢ Err RepeatedBlock
+    → IfErr r (λ e. IsOutside (Output e) ⊎ (cond b None (Some BadMapping) ≡ Some e))
+ogg_refuses (Ok a) b h other = tt
+ogg_refuses (Err Memory) b h other = inl (inr (inl refl))
+ogg_refuses (Err RepeatedBlock) b h other = absurd (other refl)
+ogg_refuses (Err BadMapping) b h other = inr (rw (h.0 refl) refl)
+ogg_refuses (Err Write) b h other = inl (inr (inr refl))
+
+-- ---- the first reason
+
+module _ (format : Format) (c : Container) (words : List (List ℕ)) (bytes : List ℕ) where
+  pub refused_raw : (e : Refusal) → IsOutside e ⊎ (raw_fault format bytes ≡ Some e) → IsOutside e ⊎ (refusal format c words bytes ≡ Some e)
+  unfolding refusal
+  refused_raw e (inl out) = inl out
+  refused_raw e (inr h) = inr (rw h refl)
+
+  module _ (a : Sound) (raw : raw_fault format bytes ≡ None) (is : a ≡ raw_sound format bytes) where
+    pub refused_plan : (e : SetupFault) → plan_fault (cut_of format.block a format.seek_every) ≡ Some e → refusal format c words bytes ≡ Some (Setup e)
+    unfolding refusal
+    refused_plan e h =
+        let plan : plan_fault (cut_of format.block (raw_sound format bytes) format.seek_every) ≡ Some e = subst (λ s. plan_fault (cut_of format.block s format.seek_every) ≡ Some e) is h in
+        rw (raw, plan) refl
+
+    module _ (p : Cut) (cut : p ≡ cut_of format.block a format.seek_every) (good : plan_fault p ≡ None) where
+      raw_cut : p ≡ cut_of format.block (raw_sound format bytes) format.seek_every
+      raw_cut = cut ∙ ap (λ s. cut_of format.block s format.seek_every) is
+
+      planned_raw : plan_fault (cut_of format.block (raw_sound format bytes) format.seek_every) ≡ None
+      planned_raw = subst (λ k. plan_fault k ≡ None) raw_cut good
+
+      pub refused_words : (e : Why) → (e ≡ why.Memory) ⊎ (list_fault info_seen (comment_list words) ≡ Some e) → IsOutside (Input e) ⊎ (refusal format c words bytes ≡ Some (Input e))
+      unfolding refusal
+      refused_words e (inl h) = inl (inl (ap Input h))
+      refused_words e (inr h) = inr (rw (raw, planned_raw, h) refl)
+
+      module _ (l : List Block) (listed : l ≡ comment_list words) (fit : list_fault info_seen (comment_list words) ≡ None) where
+        pub refused_stream : (e : EncodeFault) → IsOutside (Output e) ⊎ (stream_fault c p l ≡ Some e) → IsOutside (Output e) ⊎ (refusal format c words bytes ≡ Some (Output e))
+        unfolding refusal
+        refused_stream e (inl out) = inl out
+        refused_stream e (inr h) =
+            let stream : stream_fault c (cut_of format.block (raw_sound format bytes) format.seek_every) (comment_list words) ≡ Some e =
+            subst (λ k. stream_fault c k (comment_list words) ≡ Some e) raw_cut (subst (λ bs. stream_fault c p bs ≡ Some e) listed h) in
+            inr (rw (raw, planned_raw, fit, stream) refl)
+
+        pub accepted : stream_fault c p l ≡ None → refusal format c words bytes ≡ None
+        unfolding refusal
+        accepted h =
+            let stream : stream_fault c (cut_of format.block (raw_sound format bytes) format.seek_every) (comment_list words) ≡ None =
+            subst (λ k. stream_fault c k (comment_list words) ≡ None) raw_cut (subst (λ bs. stream_fault c p bs ≡ None) listed h) in
+            rw (raw, planned_raw, fit, stream) refl
