@@ -10,3 +10,4 @@ pub mod Pictures
 pub mod Sheets
 pub mod Blocks
 pub mod Small
+pub mod Short

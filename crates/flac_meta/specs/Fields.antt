@@ -5,9 +5,13 @@ use Rattle.flac_bits.specs.Lists.{list_of}
 use Rattle.flac_bits.specs.declared.why.Why.TheVariants.{BlockLength, CueSheet}
 use Rattle.flac_meta.specs.Padding.{skipped}
 
+-- the last bytes of a content that has too few of them
+abbrev pub ends_short : {A : Type 0} → ℕ → Layout A
+ends_short left = skipped (8 * left) >>= λ _. refuse BlockLength
+
 -- Fields that begin with so many bytes of fixed size. Where the content has fewer left, it is refused at its last byte.
 abbrev pub part : {A : Type 0} → ℕ → ℕ → Layout A → Layout A
-part size left fields = choose (nat_lt left size) (skipped (8 * left) >>= λ _. refuse BlockLength) fields
+part size left fields = choose (nat_lt left size) (ends_short left) fields
 
 -- at the end of a length or a count: what it announces needs so many bytes
 abbrev pub needs : ℕ → ℕ → Layout ⊤

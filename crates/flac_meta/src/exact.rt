@@ -1,9 +1,10 @@
 //! Bytes of a known number.
 
-ghost use Rattle.std.specs.Prelude.{OnOk, ◌<◌, ◌≤◌, ◌*◌, ◌^◌, length};
+ghost use Rattle.std.specs.Prelude.{OnOk, ◌<◌, ◌≤◌, ◌*◌, ◌^◌, length, ⊤, Err};
 ghost use Rattle.flac_bits.specs.Layout.{bits as number};
 ghost use Rattle.flac_bits.specs.Lists.{list_of};
 ghost use Rattle.flac_bits.specs.Reading.{Counts, Reads};
+ghost use Rattle.flac_meta.specs.Fields.{ends_short};
 ghost use Rattle.flac_meta.specs.Padding.{skipped};
 
 use flac_bits::{BitReader, Source, Why};
@@ -35,4 +36,17 @@ pub(crate) fn skip_bytes<R: Source>(bits: &mut BitReader<R>, length: u32) -> Res
     }
     let _rest = bits.take(8 * (length % 8))?;
     Ok(())
+}
+
+/// Passes over the last bytes of a content that has too few of them, and returns the reason: [`Why::BlockLength`], if
+/// they can be read.
+pub(crate) fn too_short<R: Source>(bits: &mut BitReader<R>, left: u32) -> Why
+    requires { left < 2 ^ 24 }
+    ensures counts { Counts {X = ⊤} bits.old bits.new (Err result) }
+    ensures reads { Reads {X = ⊤} (λ u. u) (ends_short left) bits.old bits.new (Err result) }
+{
+    match skip_bytes(bits, left) {
+        Ok(()) => Why::BlockLength,
+        Err(why) => why,
+    }
 }

@@ -7,7 +7,7 @@ ghost use Rattle.flac_bits.specs.LittleEndian.{little_32};
 ghost use Rattle.flac_bits.specs.Reading.{Counts, Reads, ReadsInRoom};
 ghost use Rattle.flac_meta.specs.Fields.{sized, number_32, zeros};
 
-use crate::exact::skip_bytes;
+use crate::exact::too_short;
 use crate::lists::Bytes;
 use flac_bits::{BitReader, Source, Why, read_little_32};
 use std::alloc::Global;
@@ -46,8 +46,7 @@ pub(crate) fn read_sized_little<R: Source>(
     ensures reads { ReadsInRoom (λ b. b) (sized little_32 left) bits.old bits.new result }
 {
     if left < 4 {
-        skip_bytes(bits, left)?;
-        return Err(Why::BlockLength);
+        return Err(too_short(bits, left));
     }
     let size = read_little_32(bits)?;
     if left - 4 < size {
@@ -70,8 +69,7 @@ pub(crate) fn read_sized<R: Source>(
     ensures reads { ReadsInRoom (λ b. b) (sized (number 32) left) bits.old bits.new result }
 {
     if left < 4 {
-        skip_bytes(bits, left)?;
-        return Err(Why::BlockLength);
+        return Err(too_short(bits, left));
     }
     let size = bits.take(32)? as u32;
     if left - 4 < size {
@@ -90,8 +88,7 @@ pub(crate) fn read_number_32<R: Source>(bits: &mut BitReader<R>, left: u32) -> R
     ensures reads { Reads (λ v. v) (number_32 left) bits.old bits.new result }
 {
     if left < 4 {
-        skip_bytes(bits, left)?;
-        return Err(Why::BlockLength);
+        return Err(too_short(bits, left));
     }
     Ok(bits.take(32)? as u32)
 }

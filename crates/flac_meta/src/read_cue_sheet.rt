@@ -6,7 +6,7 @@ ghost use Rattle.flac_bits.specs.Reading.{Counts, Reads, ReadsInRoom};
 ghost use Rattle.flac_meta.specs.CueSheet.{cue_count, cue_index, track_front, cue_track, cue_tracks, sheet_front, cue_sheet};
 
 use crate::cue_sheet::{CueIndex, CueIndices, CueSheet, CueTrack, CueTracks};
-use crate::exact::{read_exact, skip_bytes};
+use crate::exact::{read_exact, too_short};
 use crate::fields::read_zeros;
 use flac_bits::{BitReader, Source, Why};
 use std::alloc::Global;
@@ -78,8 +78,7 @@ fn read_track<R: Source>(alloc: Global, bits: &mut BitReader<R>, left: u32) -> R
     ensures reads { ReadsInRoom (λ t. t) (cue_track left) bits.old bits.new result }
 {
     if left < 35 {
-        skip_bytes(bits, left)?;
-        return Err(Why::BlockLength);
+        return Err(too_short(bits, left));
     }
     let (offset, number, isrc, audio, pre_emphasis) = read_track_front(bits)?;
     let count = read_count(bits, left - 35)?;
@@ -107,8 +106,7 @@ fn read_count<R: Source>(bits: &mut BitReader<R>, left: u32) -> Result<u8, Why>
     ensures reads { Reads (λ n. n) (cue_count left) bits.old bits.new result }
 {
     if left < 1 {
-        skip_bytes(bits, left)?;
-        return Err(Why::BlockLength);
+        return Err(too_short(bits, left));
     }
     Ok(bits.take(8)? as u8)
 }
@@ -170,8 +168,7 @@ pub(crate) fn read_cue_sheet<R: Source>(
     ensures reads { ReadsInRoom (λ s. s) (cue_sheet left) bits.old bits.new result }
 {
     if left < 395 {
-        skip_bytes(bits, left)?;
-        return Err(Why::BlockLength);
+        return Err(too_short(bits, left));
     }
     let (catalogue, lead_in, cd) = read_sheet_front(bits)?;
     let count = read_count(bits, left - 395)?;

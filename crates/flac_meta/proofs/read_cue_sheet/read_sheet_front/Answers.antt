@@ -2,6 +2,7 @@ use Rattle.std.proofs.lemmas.Result.{err_from_is_err_and}
 use Rattle.flac_bits.proofs.Counting.{answered_then, failed_then}
 use Rattle.flac_bits.proofs.Telling.{told_then, told_fault}
 use Rattle.flac_meta.specs.CueSheet.{sheet_front}
+use Rattle.flac_meta.proofs.Short.{told_reserved}
 use Rattle.flac_meta.proofs.read_cue_sheet.read_sheet_front.Goals as goal
 
 pub returns-in_err-lead_in-clause-counts : goal.returns-in_err-lead_in-clause-counts
@@ -39,3 +40,9 @@ unfolding sheet_front
 returns-in_err-cd-clause-reads g c =
     let p = err_from_is_err_and c.from_residual-in_err-cd.result c.from_residual-in_err-cd.ensures.1 in
     rw (p.1, p.2) (told_then c.args.bits.now c.read_exact.new.bits c.take-2.new.self _ c.in_ok-read_exact.ensures.counts c.in_ok-read_exact.ensures.reads (told_then c.read_exact.new.bits c.take.new.self c.take-2.new.self _ c.in_ok-lead_in.ensures.counts c.in_ok-lead_in.ensures.reads (told_fault c.take.new.self c.take-2.new.self _ c.in_err-cd.ensures.reads)))
+
+pub returns-in_err-read_zeros-clause-reads : goal.returns-in_err-read_zeros-clause-reads
+unfolding sheet_front
+returns-in_err-read_zeros-clause-reads g c =
+    let p = err_from_is_err_and c.from_residual-in_err-read_zeros.result c.from_residual-in_err-read_zeros.ensures.1 in
+    rw (p.1, p.2) (told_then c.args.bits.now c.read_exact.new.bits c.read_zeros.new.bits _ c.in_ok-read_exact.ensures.counts c.in_ok-read_exact.ensures.reads (told_then c.read_exact.new.bits c.take.new.self c.read_zeros.new.bits _ c.in_ok-lead_in.ensures.counts c.in_ok-lead_in.ensures.reads (told_then c.take.new.self c.take-2.new.self c.read_zeros.new.bits _ c.in_ok-cd.ensures.counts c.in_ok-cd.ensures.reads (told_fault c.take-2.new.self c.read_zeros.new.bits _ (told_reserved 2071 c.take-2.new.self c.read_zeros.new.bits c.in_err-read_zeros.ensures.reads)))))
