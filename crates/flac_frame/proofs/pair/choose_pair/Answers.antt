@@ -1,4 +1,4 @@
-use Rattle.std.proofs.Common.{◌≡◌, ◌∙◌, ◌+◌, ◌≤◌, ℕ, ap, refl, subst, sym, length, All, arith}
+use Rattle.std.proofs.Common.{◌≡◌, ◌∙◌, ◌+◌, ℕ, ap, refl, subst, sym, length, All, arith}
 use Rattle.flac_bits.specs.Signed.{FitsBits}
 use Rattle.flac_frame.specs.Stereo.{side_of, middle_of}
 use Rattle.flac_frame.proofs.PairLeast.{ArePlanes, plane_of, only_1, by_1, by_8, by_9, by_10}

@@ -1,8 +1,7 @@
-use Rattle.std.proofs.Common.{◌≡◌, ◌≤◌, ◌∙◌, ap, subst, sym, refl, ℕ, length, is_some, All, arith}
-use Rattle.flac_bits.specs.Signed.{FitsBits}
+use Rattle.std.proofs.Common.{◌∙◌, ap, sym, length, is_some}
 use Rattle.flac_header.specs.Choice.{rate_choice, depth_choice}
 use Rattle.flac_frame.proofs.PairLeast.{few_codes, header_at, kept_encoded}
-use Rattle.flac_frame.proofs.Rooms.{room_for, few_of}
+use Rattle.flac_frame.proofs.Rooms.{room_for}
 use Rattle.flac_frame.proofs.Sounds.{depth_small}
 use Rattle.flac_frame.proofs.Wholes.{chosen_there}
 use Rattle.flac_frame.proofs.pair.write_least_pair.Goals as goal
