@@ -36,3 +36,7 @@ places_within channels size a b n p q r =
 -- how many were written to the first places
 pub taken_long : (m n : ℕ) (ys xs : List ℤ) → length ys ≡ length (take n xs) → m ≡ n → m ≤ length xs → length ys ≡ m
 taken_long m n ys xs e same le = omega (arith, e, length-take n xs)
+
+-- how many the first places are
+pub first_long : (m n : ℕ) (xs : List ℤ) → m ≡ n → m ≤ length xs → length (take n xs) ≡ m
+first_long m n xs same le = omega (arith, same, length-take n xs)

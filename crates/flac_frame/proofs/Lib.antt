@@ -18,3 +18,4 @@ pub mod PairLeast
 pub mod Encodings
 pub mod WholeFamily
 pub mod Sizes
+pub mod Rooms

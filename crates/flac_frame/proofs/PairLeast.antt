@@ -17,7 +17,7 @@ use Rattle.flac_subframe.proofs.Samples.{all_fit_is}
 use Rattle.flac_frame.specs.Audio.{Sound}
 use Rattle.flac_frame.specs.Encoding.{EachStands, IsEncoding, IsLeastFrame, IsShort, WritesFrame, behind_header, subframes_cost}
 use Rattle.flac_frame.specs.Frame.{side_bit, limits_at}
-use Rattle.flac_frame.specs.Pair.{IsPairCode, pair_cost, IsFirstLeast, IsChosen}
+use Rattle.flac_frame.specs.Pair.{IsPairCode, pair_cost, IsFirstLeast, IsChosen, IsKept}
 use Rattle.flac_frame.specs.Spelling.{FrameForm, frame_spelling, subframes_spelling, HaveSamples}
 use Rattle.flac_frame.specs.Stereo.{joined, kept_as, side_of, middle_of, ChannelsAreKept}
 use Rattle.flac_frame.proofs.Family.{coded_as, least_frame, kept_same}
@@ -250,90 +250,93 @@ module _ (sound : Sound) (size number : ℕ) (left right : List ℤ) (lf rf sf m
 pub record OfPlane (depth : ℕ) (s : List ℤ) (d : ℕ) (t : List ℤ) (c : Choice) (n : ℕ) : Type 0 where
   pub deep : d ≡ depth
   pub samples : t ≡ s
-  pub chosen : IsChosen depth s (form_of c s) n
+  pub chosen : IsChosen d t (form_of c t) n
 
-abbrev pub text_of : ℕ → List ℤ → Choice → List Bool
-text_of d t c = subframe_spelling d (form_of c t)
+plane_chosen : {depth : ℕ} {s : List ℤ} {d : ℕ} {t : List ℤ} {c : Choice} {n : ℕ} → OfPlane depth s d t c n → IsChosen depth s (form_of c t) n
+plane_chosen {depth = depth} {s = s} {d = d} {t = t} {c = c} {n = n} p = subst (λ k. IsChosen k s (form_of c t) n) p.deep (subst (λ k. IsChosen d k (form_of c t) n) p.samples p.chosen)
 
-same_text : (depth : ℕ) (s : List ℤ) (d : ℕ) (t : List ℤ) (c : Choice) (n : ℕ) → OfPlane depth s d t c n → text_of d t c ≡ text_of depth s c
-same_text depth s d t c n p = ap (λ k. text_of k t c) p.deep ∙ ap (λ k. text_of depth k c) p.samples
+-- the four channels of a pair
+pub record ArePlanes (depth : ℕ) (left right : List ℤ) (dl dr ds dm : ℕ) (tl tr ts tm : List ℤ) (kl kr ks km : Choice) (nl nr ns nm : ℕ) : Type 0 where
+  pub lefts : OfPlane depth left dl tl kl nl
+  pub rights : OfPlane depth right dr tr kr nr
+  pub sides : OfPlane (depth + 1) (side_of left right) ds ts ks ns
+  pub middles : OfPlane depth (middle_of left right) dm tm km nm
+  pub long : length right ≡ length left
 
-module _ (sound : Sound) (size number : ℕ) (left right : List ℤ) (dl dr ds dm : ℕ) (tl tr ts tm : List ℤ) (kl kr ks km : Choice) (nl nr ns nm : ℕ)
-    (l : OfPlane sound.bits left dl tl kl nl) (r : OfPlane sound.bits right dr tr kr nr) (s : OfPlane (sound.bits + 1) (side_of left right) ds ts ks ns) (m : OfPlane sound.bits (middle_of left right) dm tm km nm)
-    (depth : (1 ≤ sound.bits) × (sound.bits ≤ 32)) (some : 1 ≤ size) (few : size ≤ 65535) (left_long : length left ≡ size) (right_long : length right ≡ size)
-    (left_fits : All (FitsBits sound.bits) left) (right_fits : All (FitsBits sound.bits) right) (code : ℕ) (best : IsFirstLeast (pair_cost nl nr ns nm) code) (h : Header)
-    (chosen : chosen_header size sound.rate code sound.bits number ≡ Some h) (valid : IsHeader h) where
-  abbrev lf : Form
-  lf = form_of kl left
+module _ {depth : ℕ} {left right : List ℤ} {dl dr ds dm : ℕ} {tl tr ts tm : List ℤ} {kl kr ks km : Choice} {nl nr ns nm : ℕ} (planes : ArePlanes depth left right dl dr ds dm tl tr ts tm kl kr ks km nl nr ns nm)
+    (code : ℕ) (best : IsFirstLeast (pair_cost nl nr ns nm) code) where
+  kept_by : (d e : ℕ) (t u : List ℤ) (f g : Form) (n k : ℕ) → d ≡ depth + side_bit code 0 → e ≡ depth + side_bit code 1 → kept_as code (left ∷ right ∷ []) ≡ t ∷ u ∷ [] → length t ≡ length left → length u ≡ length left
+      → IsChosen d t f n → IsChosen e u g k → n + k ≡ pair_cost nl nr ns nm code → IsKept depth left right code d e t u f g
+  kept_by d e t u f g n k first_depth second_depth kept first_long second_long first second sum = record {
+    left_form = form_of kl tl;
+    right_form = form_of kr tr;
+    side_form = form_of ks ts;
+    middle_form = form_of km tm;
+    left_bits = nl;
+    right_bits = nr;
+    side_bits = ns;
+    middle_bits = nm;
+    left_chosen = plane_chosen planes.lefts;
+    right_chosen = plane_chosen planes.rights;
+    side_chosen = plane_chosen planes.sides;
+    middle_chosen = plane_chosen planes.middles;
+    best = best;
+    kept = kept;
+    first_depth = first_depth;
+    second_depth = second_depth;
+    first_long = first_long;
+    second_long = second_long;
+    first_bits = n;
+    second_bits = k;
+    first_chosen = first;
+    second_chosen = second;
+    sum = sum;
+  }
 
-  abbrev rf : Form
-  rf = form_of kr right
+  left_size : length tl ≡ length left
+  left_size = ap length planes.lefts.samples
 
-  abbrev sf : Form
-  sf = form_of ks (side_of left right)
+  right_size : length tr ≡ length left
+  right_size = ap length planes.rights.samples ∙ planes.long
 
-  abbrev mf : Form
-  mf = form_of km (middle_of left right)
+  side_size : length ts ≡ length left
+  side_size = ap length planes.sides.samples ∙ side_long left right planes.long
 
-  long : length right ≡ length left
-  long = right_long ∙ sym left_long
+  middle_size : length tm ≡ length left
+  middle_size = ap length planes.middles.samples ∙ middle_long left right planes.long
 
-  side_size : length (side_of left right) ≡ size
-  side_size = side_long left right long ∙ left_long
+  kept_at : (c : ℕ) → code ≡ c → (t u x y : List ℤ) → x ≡ t → y ≡ u → kept_as c (left ∷ right ∷ []) ≡ t ∷ u ∷ [] → kept_as code (left ∷ right ∷ []) ≡ x ∷ y ∷ []
+  kept_at c e t u x y p q kept = rw (e, p, q) kept
 
-  middle_size : length (middle_of left right) ≡ size
-  middle_size = middle_long left right long ∙ left_long
+  depth_at : (c i b d : ℕ) → code ≡ c → d ≡ depth + b → side_bit c i ≡ b → d ≡ depth + side_bit code i
+  depth_at c i b d e is bit = rw (e, bit) is
 
-  module _ {X : Type 0} (old new : Written) (result : Result X Why) (whole : old.mark.unread ≡ 0) where
-    abbrev WritesTwo : List Bool → List Bool → Type 0
-    WritesTwo a b = Writes (behind_header h (a ++ b) old.mark) (restarted old) new result
+  plain : (d : ℕ) → d ≡ depth → d ≡ depth + 0
+  plain d e = omega (arith, e)
 
-    abbrev Wrote : Type 0
-    Wrote = WritesFrame sound size number (left ∷ right ∷ []) old new result
+  pub by_1 : code ≡ 1 → IsKept depth left right code dl dr tl tr (form_of kl tl) (form_of kr tr)
+  by_1 e = kept_by dl dr tl tr _ _ nl nr (depth_at 1 0 0 dl e (plain dl planes.lefts.deep) bits_1.0) (depth_at 1 1 0 dr e (plain dr planes.rights.deep) bits_1.1)
+      (kept_at 1 e left right tl tr planes.lefts.samples planes.rights.samples (kept_1 left right)) left_size right_size planes.lefts.chosen planes.rights.chosen (rw e refl)
 
-    abbrev best_at : (c : ℕ) → code ≡ c → IsFirstLeast (pair_cost nl nr ns nm) c
-    best_at c e = subst (IsFirstLeast (pair_cost nl nr ns nm)) e best
+  pub by_8 : code ≡ 8 → IsKept depth left right code dl ds tl ts (form_of kl tl) (form_of ks ts)
+  by_8 e = kept_by dl ds tl ts _ _ nl ns (depth_at 8 0 0 dl e (plain dl planes.lefts.deep) bits_8.0) (depth_at 8 1 1 ds e planes.sides.deep bits_8.1)
+      (kept_at 8 e left (side_of left right) tl ts planes.lefts.samples planes.sides.samples (kept_8 left right)) left_size side_size planes.lefts.chosen planes.sides.chosen (rw e refl)
 
-    chosen_at : (c : ℕ) → code ≡ c → chosen_header size sound.rate c sound.bits number ≡ Some h
-    chosen_at c e = ap (λ k. chosen_header size sound.rate k sound.bits number) (sym e) ∙ chosen
+  pub by_9 : code ≡ 9 → IsKept depth left right code ds dr ts tr (form_of ks ts) (form_of kr tr)
+  by_9 e = kept_by ds dr ts tr _ _ ns nr (depth_at 9 0 1 ds e planes.sides.deep bits_9.0) (depth_at 9 1 0 dr e (plain dr planes.rights.deep) bits_9.1)
+      (kept_at 9 e (side_of left right) right ts tr planes.sides.samples planes.rights.samples (kept_9 left right)) side_size right_size planes.sides.chosen planes.rights.chosen (rw e refl)
 
-    texts : (a b x y : List Bool) → a ≡ x → b ≡ y → WritesTwo a b → WritesTwo x y
-    texts a b x y e f w = subst (λ k. WritesTwo x k) f (subst (λ k. WritesTwo k b) e w)
-
-    deeper : (d e : ℕ) (c : Choice) (z : List ℤ) → d ≡ e → text_of d z c ≡ text_of e z c
-    deeper d e c z is = ap (λ k. text_of k z c) is
-
-    pub by_1 : code ≡ 1 → WritesTwo (text_of dl tl kl) (text_of dr tr kr) → Wrote
-    by_1 e w = pair_encoded sound size number left right lf rf sf mf nl nr ns nm l.chosen r.chosen s.chosen m.chosen 1 (best_at 1 e) left right lf rf nl nr
-        (l1 sound size number left right lf rf sf mf nl nr ns nm l.chosen r.chosen s.chosen m.chosen) (r1 sound size number left right lf rf sf mf nl nr ns nm l.chosen r.chosen s.chosen m.chosen)
-        refl (kept_1 left right) (joined_1 left right) depth some few left_long right_long left_long right_long left_fits right_fits h (chosen_at 1 e) valid old new result whole
-        (texts _ _ _ _ (same_text _ _ _ _ _ _ l ∙ deeper _ _ kl left (same sound.bits _ bits_1.0)) (same_text _ _ _ _ _ _ r ∙ deeper _ _ kr right (same sound.bits _ bits_1.1)) w)
-
-    pub by_8 : code ≡ 8 → WritesTwo (text_of dl tl kl) (text_of ds ts ks) → Wrote
-    by_8 e w = pair_encoded sound size number left right lf rf sf mf nl nr ns nm l.chosen r.chosen s.chosen m.chosen 8 (best_at 8 e) left (side_of left right) lf sf nl ns
-        (l8 sound size number left right lf rf sf mf nl nr ns nm l.chosen r.chosen s.chosen m.chosen) (s8 sound size number left right lf rf sf mf nl nr ns nm l.chosen r.chosen s.chosen m.chosen)
-        refl (kept_8 left right) (left_side left right long) depth some few left_long right_long left_long side_size left_fits right_fits h (chosen_at 8 e) valid old new result whole
-        (texts _ _ _ _ (same_text _ _ _ _ _ _ l ∙ deeper _ _ kl left (same sound.bits _ bits_8.0)) (same_text _ _ _ _ _ _ s ∙ deeper _ _ ks (side_of left right) (more sound.bits _ 1 bits_8.1)) w)
-
-    pub by_9 : code ≡ 9 → WritesTwo (text_of ds ts ks) (text_of dr tr kr) → Wrote
-    by_9 e w = pair_encoded sound size number left right lf rf sf mf nl nr ns nm l.chosen r.chosen s.chosen m.chosen 9 (best_at 9 e) (side_of left right) right sf rf ns nr
-        (s9 sound size number left right lf rf sf mf nl nr ns nm l.chosen r.chosen s.chosen m.chosen) (r9 sound size number left right lf rf sf mf nl nr ns nm l.chosen r.chosen s.chosen m.chosen)
-        refl (kept_9 left right) (side_right left right long) depth some few left_long right_long side_size right_long left_fits right_fits h (chosen_at 9 e) valid old new result whole
-        (texts _ _ _ _ (same_text _ _ _ _ _ _ s ∙ deeper _ _ ks (side_of left right) (more sound.bits _ 1 bits_9.0)) (same_text _ _ _ _ _ _ r ∙ deeper _ _ kr right (same sound.bits _ bits_9.1)) w)
-
-    pub by_10 : code ≡ 10 → WritesTwo (text_of dm tm km) (text_of ds ts ks) → Wrote
-    by_10 e w = pair_encoded sound size number left right lf rf sf mf nl nr ns nm l.chosen r.chosen s.chosen m.chosen 10 (best_at 10 e) (middle_of left right) (side_of left right) mf sf nm ns
-        (m10 sound size number left right lf rf sf mf nl nr ns nm l.chosen r.chosen s.chosen m.chosen) (s10 sound size number left right lf rf sf mf nl nr ns nm l.chosen r.chosen s.chosen m.chosen)
-        refl (kept_10 left right) (middle_side left right long) depth some few left_long right_long middle_size side_size left_fits right_fits h (chosen_at 10 e) valid old new result whole
-        (texts _ _ _ _ (same_text _ _ _ _ _ _ m ∙ deeper _ _ km (middle_of left right) (same sound.bits _ bits_10.0)) (same_text _ _ _ _ _ _ s ∙ deeper _ _ ks (side_of left right) (more sound.bits _ 1 bits_10.1)) w)
+  pub by_10 : code ≡ 10 → IsKept depth left right code dm ds tm ts (form_of km tm) (form_of ks ts)
+  by_10 e = kept_by dm ds tm ts _ _ nm ns (depth_at 10 0 0 dm e (plain dm planes.middles.deep) bits_10.0) (depth_at 10 1 1 ds e planes.sides.deep bits_10.1)
+      (kept_at 10 e (middle_of left right) (side_of left right) tm ts planes.middles.samples planes.sides.samples (kept_10 left right)) middle_size side_size planes.middles.chosen planes.sides.chosen (rw e refl)
 
 -- ---- what the code knows
 
-pub plane_of : (depth e : ℕ) (s z : List ℤ) (d : ℕ) (t : List ℤ) (c : Choice) (n : ℕ) → e ≡ depth → z ≡ s → d ≡ e → t ≡ z → IsChosen e z (form_of c z) c.bits → n ≡ c.bits → OfPlane depth s d t c n
+pub plane_of : (depth e : ℕ) (s z : List ℤ) (d : ℕ) (t : List ℤ) (c : Choice) (n : ℕ) → e ≡ depth → z ≡ s → d ≡ e → t ≡ z → IsChosen d t (form_of c t) c.bits → n ≡ c.bits → OfPlane depth s d t c n
 plane_of depth e s z d t c n ed zs de tz chosen nb = record {
   deep = de ∙ ed;
   samples = tz ∙ zs;
-  chosen = subst (λ k. IsChosen depth s (form_of c s) k) (sym nb) (subst (λ k. IsChosen k s (form_of c s) c.bits) ed (subst (λ k. IsChosen e k (form_of c k) c.bits) zs chosen));
+  chosen = subst (λ k. IsChosen d t (form_of c t) k) (sym nb) chosen;
 }
 
 pub header_at : (sound : Sound) (size rate code bits number : ℕ) (o : Option Header) (h : Header) → rate ≡ sound.rate → bits ≡ sound.bits → o ≡ chosen_header size rate code bits number → o ≡ Some h → chosen_header size sound.rate code sound.bits number ≡ Some h
@@ -344,3 +347,17 @@ only_1 code (inl e) a b d = e
 only_1 code (inr (inl e)) a b d = absurd (a e)
 only_1 code (inr (inr (inl e))) a b d = absurd (b e)
 only_1 code (inr (inr (inr e))) a b d = absurd (d e)
+
+-- what was kept is written as a frame
+module _ (sound : Sound) (number : ℕ) (left right : List ℤ) {code d e : ℕ} {first second : List ℤ} {f g : Form} (k : IsKept sound.bits left right code d e first second f g)
+    (depth : (1 ≤ sound.bits) × (sound.bits ≤ 32)) (some : 1 ≤ length left) (few : length left ≤ 65535) (long : length right ≡ length left)
+    (left_fits : All (FitsBits sound.bits) left) (right_fits : All (FitsBits sound.bits) right) (h : Header) (chosen : chosen_header (length left) sound.rate code sound.bits number ≡ Some h) (valid : IsHeader h) where
+  pub kept_encoded : {X : Type 0} (old new : Written) (result : Result X Why) → old.mark.unread ≡ 0
+      → Writes (behind_header h (subframe_spelling d f ++ subframe_spelling e g) old.mark) (restarted old) new result → WritesFrame sound (length left) number (left ∷ right ∷ []) old new result
+  kept_encoded old new result whole writes =
+      let back : joined code (first ∷ second ∷ []) ≡ left ∷ right ∷ [] = sym (ap (joined code) k.kept) ∙ channels_kept code left right (omega (arith, few_codes code k.best.one)) long in
+      pair_encoded sound (length left) number left right k.left_form k.right_form k.side_form k.middle_form k.left_bits k.right_bits k.side_bits k.middle_bits k.left_chosen k.right_chosen k.side_chosen k.middle_chosen
+      code k.best first second f g k.first_bits k.second_bits (subst (λ n. IsChosen n first f k.first_bits) k.first_depth k.first_chosen) (subst (λ n. IsChosen n second g k.second_bits) k.second_depth k.second_chosen)
+      k.sum k.kept back depth some few refl long k.first_long k.second_long left_fits right_fits h chosen valid old new result whole
+      (subst (λ n. Writes (behind_header h (subframe_spelling (sound.bits + side_bit code 0) f ++ subframe_spelling n g) old.mark) (restarted old) new result) k.second_depth
+      (subst (λ n. Writes (behind_header h (subframe_spelling n f ++ subframe_spelling e g) old.mark) (restarted old) new result) k.first_depth writes))

@@ -1,5 +1,5 @@
 -- How many bytes a frame has, by the count of the writer.
-use Rattle.std.proofs.Common.{◌≡◌, ℕ, ◌+◌, ◌-◌, ◌*◌, ◌/◌, ◌%◌, ◌^◌, ◌<◌, ◌≤◌, min, Bool, true, List, ◌++◌, length, length-append, refl, ap, ◌∙◌, arith}
+use Rattle.std.proofs.Common.{◌≡◌, ℕ, ◌+◌, ◌-◌, ◌*◌, ◌/◌, ◌%◌, ◌^◌, ◌<◌, ◌≤◌, min, Bool, true, List, length, length-append, refl, ap, ◌∙◌, arith}
 use Rattle.flac_bits.specs.State.{Mark, fresh}
 use Rattle.flac_bits.specs.Written.{Written, Adds}
 use Rattle.flac_bits.proofs.ItemSpellings.{fresh_unread}

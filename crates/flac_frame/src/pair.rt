@@ -9,7 +9,7 @@ ghost use Rattle.flac_subframe.specs.Family.{IsMadeOf, form_of};
 ghost use Rattle.flac_subframe.specs.Spelling.{subframe_spelling};
 ghost use Rattle.flac_frame.specs.Audio.{IsSound, samples_each};
 ghost use Rattle.flac_frame.specs.Encoding.{block_of, behind_header, WritesFrame};
-ghost use Rattle.flac_frame.specs.Pair.{IsFirstLeast, pair_cost};
+ghost use Rattle.flac_frame.specs.Pair.{IsFirstLeast, IsKept, pair_cost};
 ghost use Rattle.flac_frame.specs.Stereo.{side_of, middle_of};
 
 use crate::audio::Audio;
@@ -95,6 +95,78 @@ fn write_two<W: Target>(
     write_end(writer)
 }
 
+/// Two channels as a frame keeps them: the channel code, and each subframe's samples with how they are written.
+#[derive(Drop)]
+struct KeptPair<'a> {
+    code: u8,
+    first: Plane<'a>,
+    second: Plane<'a>,
+}
+
+/// Chooses what two channels, whose side and middle are given, are kept as.
+fn choose_pair<'a>(
+    left: &'a [i64],
+    right: &'a [i64],
+    side: &'a [i64],
+    middle: &'a [i64],
+    depth: u32,
+    shortened: &mut [i64],
+    values: &mut [i64],
+    folds: &mut [u32],
+) -> KeptPair<'a>
+    requires some { 0 < length left.now }
+    requires few { length left.now ≤ 65535 }
+    requires right { length right.now ≡ length left.now }
+    requires side { side.now ≡ side_of left.now right.now }
+    requires middle { middle.now ≡ middle_of left.now right.now }
+    requires depth { (1 ≤ depth) × (depth ≤ 32) }
+    requires left_fits { All (FitsBits depth) left.now }
+    requires right_fits { All (FitsBits depth) right.now }
+    requires places { length left.now ≤ length shortened.old }
+    requires values { length left.now ≤ length values.old }
+    requires folds { length left.now ≤ length folds.old }
+    ensures kept { IsKept depth left.now right.now result.code result.first.depth result.second.depth result.first.samples.now result.second.samples.now (form_of result.first.choice result.first.samples.now) (form_of result.second.choice result.second.samples.now) }
+    ensures first_made { IsMadeOf result.first.choice result.first.samples.now }
+    ensures second_made { IsMadeOf result.second.choice result.second.samples.now }
+{
+    let lefts = choose_plane(left, depth, shortened, values, folds);
+    let rights = choose_plane(right, depth, shortened, values, folds);
+    let sides = choose_plane(side, depth + 1, shortened, values, folds);
+    let middles = choose_plane(middle, depth, shortened, values, folds);
+    let code = least_code(
+        lefts.choice.bits(),
+        rights.choice.bits(),
+        sides.choice.bits(),
+        middles.choice.bits(),
+    );
+    if code == 8 {
+        return KeptPair {
+            code,
+            first: lefts,
+            second: sides,
+        };
+    }
+    if code == 9 {
+        return KeptPair {
+            code,
+            first: sides,
+            second: rights,
+        };
+    }
+    if code == 10 {
+        return KeptPair {
+            code,
+            first: middles,
+            second: sides,
+        };
+    }
+    KeptPair {
+        code,
+        first: lefts,
+        second: rights,
+    }
+}
+
 /// Writes two channels, whose side and middle are given, as the frame of a number.
 fn write_least_pair<W: Target>(
     audio: &Audio,
@@ -114,8 +186,6 @@ fn write_least_pair<W: Target>(
     requires right { length right.now ≡ length left.now }
     requires side { side.now ≡ side_of left.now right.now }
     requires middle { middle.now ≡ middle_of left.now right.now }
-    requires side_long { length side.now ≡ length left.now }
-    requires middle_long { length middle.now ≡ length left.now }
     requires left_fits { All (FitsBits audio.now.bits) left.now }
     requires right_fits { All (FitsBits audio.now.bits) right.now }
     requires places { length left.now ≤ length shortened.old }
@@ -127,30 +197,19 @@ fn write_least_pair<W: Target>(
 {
     let size = left.len() as u32;
     let depth = audio.bits();
-    let lefts = choose_plane(left, depth, shortened, values, folds);
-    let rights = choose_plane(right, depth, shortened, values, folds);
-    let sides = choose_plane(side, depth + 1, shortened, values, folds);
-    let middles = choose_plane(middle, depth, shortened, values, folds);
-    let code = least_code(
-        lefts.choice.bits(),
-        rights.choice.bits(),
-        sides.choice.bits(),
-        middles.choice.bits(),
-    );
-    let header = FrameHeader::chosen(size, audio.rate(), code, depth, number);
+    let pair = choose_pair(left, right, side, middle, depth, shortened, values, folds);
+    let header = FrameHeader::chosen(size, audio.rate(), pair.code, depth, number);
     let Some(header) = header else {
         return Err(Why::Write);
     };
-    if code == 8 {
-        return write_two(&header, &lefts, &sides, shortened, values, writer);
-    }
-    if code == 9 {
-        return write_two(&header, &sides, &rights, shortened, values, writer);
-    }
-    if code == 10 {
-        return write_two(&header, &middles, &sides, shortened, values, writer);
-    }
-    write_two(&header, &lefts, &rights, shortened, values, writer)
+    write_two(
+        &header,
+        &pair.first,
+        &pair.second,
+        shortened,
+        values,
+        writer,
+    )
 }
 
 /// Puts samples of a channel from one on into places of 64 bits.

@@ -39,7 +39,7 @@ pub(crate) fn choose_plane<'a>(
     requires folds { length samples.now ≤ length folds.old }
     ensures samples { result.samples.now ≡ samples.now }
     ensures depth { result.depth ≡ depth }
-    ensures chosen { IsChosen depth samples.now (form_of result.choice samples.now) result.choice.bits }
+    ensures chosen { IsChosen result.depth result.samples.now (form_of result.choice result.samples.now) result.choice.bits }
     ensures made { IsMadeOf result.choice result.samples.now }
     ensures small { result.choice.bits ≤ 2 ^ 61 }
 {

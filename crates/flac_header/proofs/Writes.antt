@@ -1,14 +1,13 @@
 -- The fields of a header with their check behind them, as a writer writes them.
-use Rattle.std.proofs.Common.{◌≡◌, ℕ, ◌≤◌, ◌<◌, cond, nat_eq, true, List, [], ◌∷◌, ◌++◌, Result, Ok, Err, refl, sym, ap, ◌∙◌, append_assoc, arith}
+use Rattle.std.proofs.Common.{◌≡◌, ℕ, Bool, List, [], ◌∷◌, ◌++◌, Result, Ok, Err, refl, sym, ap, ◌∙◌, append_assoc}
 use Rattle.std.proofs.lemmas.List.{append-nil}
 use Rattle.flac_bits.specs.Bits.{unsigned}
 use Rattle.flac_bits.specs.State.{Mark, past, fresh}
 use Rattle.flac_bits.specs.Check.{remainder}
-use Rattle.flac_bits.specs.Written.{Written, Fails, Adds, Restarts, Writes, Wrote, behind_parts, past_parts}
-use Rattle.flac_bits.specs.Forms.{joined}
+use Rattle.flac_bits.specs.Written.{Written, Fails, Adds, Restarts, Writes, WritesParts, Wrote, behind_parts}
 use Rattle.flac_bits.specs.declared.why.Why.{Why}
 use Rattle.flac_bits.proofs.Check.{check8_is}
-use Rattle.flac_bits.proofs.Writing.{fails_later, fails_more, writes_then, parts_written}
+use Rattle.flac_bits.proofs.Writing.{fails_later, fails_more, writes_then, parts_written, wrote_more, wrote_fails}
 use Rattle.flac_header.specs.Header.{Header}
 use Rattle.flac_header.specs.Spelling.{header_parts, header_front, header_spelling, restarted}
 
@@ -41,3 +40,8 @@ written h check old mid end new result whole r w is last =
     let fields = writes_then (unsigned 8 check) new result front last in
     let all = writes_then (header_front h ++ unsigned 8 check) new result (begun r) fields in
     rw (← sum) all
+
+-- the last part
+pub wrote_last : {X : Type 0} {parts : List (List Bool)} {old mid : Written} (last : List Bool) (new : Written) (result : Result X Why) → Wrote parts old mid → Writes last mid new result → WritesParts (parts ++ last ∷ []) old new result
+wrote_last last new (Ok x) w a = wrote_more w a
+wrote_last last new (Err e) w f = wrote_fails last [] w f

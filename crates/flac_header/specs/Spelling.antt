@@ -19,6 +19,10 @@ unfoldable pub rate_spelling : ℕ → ℕ → List Bool
 rate_spelling code rate =
     cond (nat_eq code 12) (unsigned 8 (rate / 1000)) (cond (nat_eq code 13) (unsigned 16 rate) (cond (nat_eq code 14) (unsigned 16 (rate / 10)) []))
 
+-- the sync code, the blocking strategy, the codes and a zero bit
+unfoldable pub code_parts : Header → List (List Bool)
+code_parts h = unsigned 15 0x7FFC ∷ unsigned 1 (bit_value h.variable) ∷ unsigned 4 h.size_code ∷ unsigned 4 h.rate_code ∷ unsigned 4 h.channel_code ∷ unsigned 3 h.depth_code ∷ unsigned 1 0 ∷ []
+
 -- the sync code, the blocking strategy, the codes, a zero bit, the coded number, and what the codes ask for
 unfoldable pub header_parts : Header → List (List Bool)
 header_parts h =

@@ -3,7 +3,7 @@
 ghost use Rattle.std.specs.Prelude.{◌≡◌};
 ghost use Rattle.flac_bits.specs.Written.{Writes, WritesParts};
 ghost use Rattle.flac_header.specs.Header.{IsSize, IsRate};
-ghost use Rattle.flac_header.specs.Spelling.{size_spelling, rate_spelling, header_parts, header_spelling, restarted};
+ghost use Rattle.flac_header.specs.Spelling.{size_spelling, rate_spelling, code_parts, header_parts, header_spelling, restarted};
 
 use crate::frame_header::FrameHeader;
 use flac_bits::{BitWriter, Target, Why, write_number};
@@ -35,10 +35,10 @@ fn put_rate<W: Target>(writer: &mut BitWriter<W>, code: u8, rate: u32) -> Result
     }
 }
 
-/// All but the check.
-#[tactic(auto, unfolding(crate::specs::Spelling::header_parts))]
-fn put_fields<W: Target>(writer: &mut BitWriter<W>, header: &FrameHeader) -> Result<(), Why>
-    ensures { WritesParts (header_parts header.now) writer.old writer.new result }
+/// The sync code, the blocking strategy, the codes and the reserved bit.
+#[tactic(auto, unfolding(crate::specs::Spelling::code_parts))]
+fn put_codes<W: Target>(writer: &mut BitWriter<W>, header: &FrameHeader) -> Result<(), Why>
+    ensures { WritesParts (code_parts header.now) writer.old writer.new result }
 {
     let strategy = u64::from(header.variable);
     writer.put(15, 0x7FFC)?;
@@ -47,11 +47,18 @@ fn put_fields<W: Target>(writer: &mut BitWriter<W>, header: &FrameHeader) -> Res
     writer.put(4, header.rate_code as u64)?;
     writer.put(4, header.channel_code as u64)?;
     writer.put(3, header.depth_code as u64)?;
-    writer.put(1, 0)?;
+    writer.put(1, 0)
+}
+
+/// All but the check.
+#[tactic(auto, unfolding(crate::specs::Spelling::header_parts))]
+fn put_fields<W: Target>(writer: &mut BitWriter<W>, header: &FrameHeader) -> Result<(), Why>
+    ensures { WritesParts (header_parts header.now) writer.old writer.new result }
+{
+    put_codes(writer, header)?;
     write_number(header.number, writer)?;
     put_size(writer, header.size_code, header.size)?;
-    put_rate(writer, header.rate_code, header.rate)?;
-    Ok(())
+    put_rate(writer, header.rate_code, header.rate)
 }
 
 /// Writes a header at a whole byte, and begins the checks there (RFC 9639, section 9.1).

@@ -1,11 +1,14 @@
 use Rattle.std.proofs.Common.{◌≡◌, ◌*◌, ℤ, List, Option, [], Result, Ok, length, arith, sym, ◌∙◌, cond, Some, None, ap, subst, true, false, Bool, All, ◌≤◌}
 use Rattle.flac_bits.specs.State.{Cursor}
 use Rattle.flac_bits.specs.Layout.{run, Reason}
+use Rattle.flac_bits.proofs.Counting.{gone, failed_then}
+use Rattle.flac_bits.proofs.Telling.{gone_fault}
 use Rattle.std.proofs.lemmas.List.{take_all}
+use Rattle.std.proofs.lemmas.Result.{err_from_is_err_and}
 use Rattle.flac_bits.specs.Signed.{FitsBits}
 use Rattle.flac_frame.specs.Frame.{subframes}
 use Rattle.flac_frame.specs.View.{chunks}
-use Rattle.flac_frame.proofs.Subframes.{turn, subframes_over, part_ends, both_true, both_false, all_more}
+use Rattle.flac_frame.proofs.Subframes.{turn, subframes_more, subframes_over, part_ends, both_true, both_false, all_more}
 use Rattle.flac_frame.proofs.channels.read_subframes.Goals as goal
 use Rattle.flac_frame.proofs.channels.read_subframes.Goals.{then-not-branch, else-not-branch}
 
@@ -52,3 +55,19 @@ returns-clause-small g c = λ yes.
     let long : length l.samples ≡ c.args.channels * c.args.block = omega (arith, l.auto.samples, c.requires.places) in
     let all : length l.samples ≡ l.channel * c.args.block = long ∙ ap (λ k. k * c.args.block) (sym e) in
     subst (All (FitsBits 34)) (take_all (l.channel * c.args.block) l.samples (omega (arith, all))) (l.invariant.1 yes)
+
+pub returns-in_err-read_subframe-clause-counts : goal.returns-in_err-read_subframe-clause-counts
+returns-in_err-read_subframe-clause-counts g c =
+    let p = err_from_is_err_and c.from_residual.result c.from_residual.ensures.1 in
+    rw (p.1, p.2) (failed_then c.args.bits.now c.loop-channel.bits c.read_subframe.new.bits (gone c.loop-channel.invariant.2) c.in_err-read_subframe.ensures.counts)
+
+pub returns-in_err-read_subframe-clause-reads : goal.returns-in_err-read_subframe-clause-reads
+returns-in_err-read_subframe-clause-reads g c =
+    let p = err_from_is_err_and c.from_residual.result c.from_residual.ensures.1 in
+    let l = c.loop-channel in
+    let reads = rw c.side_bit.ensures.bit at c.in_err-read_subframe.ensures.reads in
+    rw (p.1, p.2) (gone_fault c.args.bits.now l.bits c.read_subframe.new.bits _ l.invariant.2
+    (subframes_more c.args.depth c.args.code c.args.block c.args.limits.now (cond l.fits (Some (chunks l.channel c.args.block l.samples)) None) l.channel c.args.channels l.bits.cursor c.loop-channel-test.true) reads)
+
+pub returns-clause-counts : goal.returns-clause-counts
+returns-clause-counts g c = gone c.loop-channel.invariant.2

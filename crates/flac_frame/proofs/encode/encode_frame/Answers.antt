@@ -1,4 +1,4 @@
-use Rattle.std.proofs.Common.{◌≡◌, ◌<◌, ◌≤◌, ◌-◌, ◌+◌, ◌^◌, ◌∙◌, arith}
+use Rattle.std.proofs.Common.{◌≡◌, ◌<◌, ◌-◌, ◌+◌, ◌^◌, arith}
 use Rattle.flac_frame.specs.Spelling.{frame_spelling}
 use Rattle.flac_frame.proofs.FrameTie.{frames_bytes}
 use Rattle.flac_frame.proofs.Sizes.{bytes_grow, bits_more}

@@ -1,10 +1,11 @@
-use Rattle.std.proofs.Common.{rules, refl, ◌≡◌, Bool, nat_eq, nat_lt, not, ◌∷◌, [], Result, Ok}
+use Rattle.std.proofs.Common.{rules, arith, refl, ◌≡◌, ◌≤◌, ℕ, false, Bool, nat_eq, nat_lt, not, ◌∷◌, [], Result, Ok}
 use Rattle.std.proofs.lemmas.Bool.{ne_eqb}
+use Rattle.std.proofs.lemmas.Bool.Decides.{nat_tests}
 use Rattle.std.proofs.lemmas.Result.{err_from_is_err_and}
 use Rattle.flac_bits.specs.State.{Cursor}
 use Rattle.flac_bits.specs.Layout.{Reason, unless_broken}
 use Rattle.flac_bits.specs.declared.why.Why.{Why}
-use Rattle.flac_bits.specs.declared.why.Why.TheVariants.{BadSync, ReservedCode, HeaderCheck}
+use Rattle.flac_bits.specs.declared.why.Why.TheVariants.{BadSync, ReservedCode, HeaderCheck, Memory, Read}
 use Rattle.flac_bits.proofs.Counting.{answered_then, failed_then, refused_then}
 use Rattle.flac_bits.proofs.Telling.{told_then, told_fault}
 use Rattle.flac_header.specs.Header.{header, number_bits}
@@ -15,6 +16,27 @@ use Rattle.flac_header.proofs.read.read_fields.Goals.{then-variable, else-variab
 -- one rule at the end of a field
 abbrev judged : Bool → Why → Cursor → Result (Unit {0} × Cursor) Reason
 judged broken why d = unless_broken (record { broken = broken; why = why } ∷ []) (Ok (tt, d))
+
+at_most_10 : (n : ℕ) → n ≤ 10 → nat_lt 10 n ≡ false
+at_most_10 n h = grind (arith, nat_tests)
+
+sync_no_read : BadSync ≡ Read → ⊥
+sync_no_read q = cc
+
+sync_no_memory : BadSync ≡ Memory → ⊥
+sync_no_memory q = cc
+
+code_no_read : ReservedCode ≡ Read → ⊥
+code_no_read q = cc
+
+code_no_memory : ReservedCode ≡ Memory → ⊥
+code_no_memory q = cc
+
+check_no_read : HeaderCheck ≡ Read → ⊥
+check_no_read q = cc
+
+check_no_memory : HeaderCheck ≡ Memory → ⊥
+check_no_memory q = cc
 
 pub returns-in_err-take : goal.returns-in_err-take
 unfolding header
@@ -32,8 +54,8 @@ unfolding header
 returns-then-branch-ne32764 g c =
     record {
       spends = tt;
-      counts = refused_then c.args.bits.now c.take.new.self c.in_ok-take.ensures.counts (λ q. cc);
-      memory = λ q. cc;
+      counts = refused_then c.args.bits.now c.take.new.self c.in_ok-take.ensures.counts sync_no_read;
+      memory = sync_no_memory;
       reads = told_then c.args.bits.now c.take.new.self c.take.new.self _ c.in_ok-take.ensures.counts c.in_ok-take.ensures.reads (told_broken {read = judged (not (nat_eq c.in_ok-take.field-0 0x7FFC)) BadSync c.take.new.self.cursor} c.take.new.self c.take.new.self _ (rw (ne_eqb c.in_ok-take.field-0 0x7FFC c.if-branch-ne32764.true) refl));
     }
 
@@ -64,8 +86,8 @@ unfolding header
 returns-then-size_code-eq0 g c =
     record {
       spends = tt;
-      counts = refused_then c.args.bits.now c.take-3.new.self (answered_then c.args.bits.now c.take.new.self c.take-3.new.self c.in_ok-take.ensures.counts (answered_then c.take.new.self c.take-2.new.self c.take-3.new.self c.in_ok-variable.ensures.counts c.in_ok-size_code.ensures.counts)) (λ q. cc);
-      memory = λ q. cc;
+      counts = refused_then c.args.bits.now c.take-3.new.self (answered_then c.args.bits.now c.take.new.self c.take-3.new.self c.in_ok-take.ensures.counts (answered_then c.take.new.self c.take-2.new.self c.take-3.new.self c.in_ok-variable.ensures.counts c.in_ok-size_code.ensures.counts)) code_no_read;
+      memory = code_no_memory;
       reads = told_then c.args.bits.now c.take.new.self c.take-3.new.self _ c.in_ok-take.ensures.counts c.in_ok-take.ensures.reads (told_past {read = judged (not (nat_eq c.in_ok-take.field-0 0x7FFC)) BadSync c.take.new.self.cursor} c.take.new.self c.take-3.new.self c.take.new.self.cursor _ (rw c.if-branch-ne32764.false refl) (told_then c.take.new.self c.take-2.new.self c.take-3.new.self _ c.in_ok-variable.ensures.counts c.in_ok-variable.ensures.reads (told_then c.take-2.new.self c.take-3.new.self c.take-3.new.self _ c.in_ok-size_code.ensures.counts c.in_ok-size_code.ensures.reads (told_broken {read = judged (nat_eq c.in_ok-size_code.field-0 0) ReservedCode c.take-3.new.self.cursor} c.take-3.new.self c.take-3.new.self _ (rw c.if-size_code-eq0.true refl)))));
     }
 
@@ -85,8 +107,8 @@ unfolding header
 returns-then-rate_code-eq15 g c =
     record {
       spends = tt;
-      counts = refused_then c.args.bits.now c.take-4.new.self (answered_then c.args.bits.now c.take.new.self c.take-4.new.self c.in_ok-take.ensures.counts (answered_then c.take.new.self c.take-2.new.self c.take-4.new.self c.in_ok-variable.ensures.counts (answered_then c.take-2.new.self c.take-3.new.self c.take-4.new.self c.in_ok-size_code.ensures.counts c.in_ok-rate_code.ensures.counts))) (λ q. cc);
-      memory = λ q. cc;
+      counts = refused_then c.args.bits.now c.take-4.new.self (answered_then c.args.bits.now c.take.new.self c.take-4.new.self c.in_ok-take.ensures.counts (answered_then c.take.new.self c.take-2.new.self c.take-4.new.self c.in_ok-variable.ensures.counts (answered_then c.take-2.new.self c.take-3.new.self c.take-4.new.self c.in_ok-size_code.ensures.counts c.in_ok-rate_code.ensures.counts))) code_no_read;
+      memory = code_no_memory;
       reads = told_then c.args.bits.now c.take.new.self c.take-4.new.self _ c.in_ok-take.ensures.counts c.in_ok-take.ensures.reads (told_past {read = judged (not (nat_eq c.in_ok-take.field-0 0x7FFC)) BadSync c.take.new.self.cursor} c.take.new.self c.take-4.new.self c.take.new.self.cursor _ (rw c.if-branch-ne32764.false refl) (told_then c.take.new.self c.take-2.new.self c.take-4.new.self _ c.in_ok-variable.ensures.counts c.in_ok-variable.ensures.reads (told_then c.take-2.new.self c.take-3.new.self c.take-4.new.self _ c.in_ok-size_code.ensures.counts c.in_ok-size_code.ensures.reads (told_past {read = judged (nat_eq c.in_ok-size_code.field-0 0) ReservedCode c.take-3.new.self.cursor} c.take-3.new.self c.take-4.new.self c.take-3.new.self.cursor _ (rw (ne_eqb c.in_ok-size_code.field-0 0 c.if-size_code-eq0.false) refl) (told_then c.take-3.new.self c.take-4.new.self c.take-4.new.self _ c.in_ok-rate_code.ensures.counts c.in_ok-rate_code.ensures.reads (told_broken {read = judged (nat_eq c.in_ok-rate_code.field-0 15) ReservedCode c.take-4.new.self.cursor} c.take-4.new.self c.take-4.new.self _ (rw c.if-rate_code-eq15.true refl)))))));
     }
 
@@ -106,8 +128,8 @@ unfolding header
 returns-then-channel_code-gt10 g c =
     record {
       spends = tt;
-      counts = refused_then c.args.bits.now c.take-5.new.self (answered_then c.args.bits.now c.take.new.self c.take-5.new.self c.in_ok-take.ensures.counts (answered_then c.take.new.self c.take-2.new.self c.take-5.new.self c.in_ok-variable.ensures.counts (answered_then c.take-2.new.self c.take-3.new.self c.take-5.new.self c.in_ok-size_code.ensures.counts (answered_then c.take-3.new.self c.take-4.new.self c.take-5.new.self c.in_ok-rate_code.ensures.counts c.in_ok-channel_code.ensures.counts)))) (λ q. cc);
-      memory = λ q. cc;
+      counts = refused_then c.args.bits.now c.take-5.new.self (answered_then c.args.bits.now c.take.new.self c.take-5.new.self c.in_ok-take.ensures.counts (answered_then c.take.new.self c.take-2.new.self c.take-5.new.self c.in_ok-variable.ensures.counts (answered_then c.take-2.new.self c.take-3.new.self c.take-5.new.self c.in_ok-size_code.ensures.counts (answered_then c.take-3.new.self c.take-4.new.self c.take-5.new.self c.in_ok-rate_code.ensures.counts c.in_ok-channel_code.ensures.counts)))) code_no_read;
+      memory = code_no_memory;
       reads = told_then c.args.bits.now c.take.new.self c.take-5.new.self _ c.in_ok-take.ensures.counts c.in_ok-take.ensures.reads (told_past {read = judged (not (nat_eq c.in_ok-take.field-0 0x7FFC)) BadSync c.take.new.self.cursor} c.take.new.self c.take-5.new.self c.take.new.self.cursor _ (rw c.if-branch-ne32764.false refl) (told_then c.take.new.self c.take-2.new.self c.take-5.new.self _ c.in_ok-variable.ensures.counts c.in_ok-variable.ensures.reads (told_then c.take-2.new.self c.take-3.new.self c.take-5.new.self _ c.in_ok-size_code.ensures.counts c.in_ok-size_code.ensures.reads (told_past {read = judged (nat_eq c.in_ok-size_code.field-0 0) ReservedCode c.take-3.new.self.cursor} c.take-3.new.self c.take-5.new.self c.take-3.new.self.cursor _ (rw (ne_eqb c.in_ok-size_code.field-0 0 c.if-size_code-eq0.false) refl) (told_then c.take-3.new.self c.take-4.new.self c.take-5.new.self _ c.in_ok-rate_code.ensures.counts c.in_ok-rate_code.ensures.reads (told_past {read = judged (nat_eq c.in_ok-rate_code.field-0 15) ReservedCode c.take-4.new.self.cursor} c.take-4.new.self c.take-5.new.self c.take-4.new.self.cursor _ (rw (ne_eqb c.in_ok-rate_code.field-0 15 c.if-rate_code-eq15.false) refl) (told_then c.take-4.new.self c.take-5.new.self c.take-5.new.self _ c.in_ok-channel_code.ensures.counts c.in_ok-channel_code.ensures.reads (told_broken {read = judged (nat_lt 10 c.in_ok-channel_code.field-0) ReservedCode c.take-5.new.self.cursor} c.take-5.new.self c.take-5.new.self _ (search rules)))))))));
     }
 
@@ -119,7 +141,7 @@ returns-in_err-depth_code g c =
       spends = tt;
       counts = failed_then c.args.bits.now c.take.new.self c.take-6.new.self c.in_ok-take.ensures.counts (failed_then c.take.new.self c.take-2.new.self c.take-6.new.self c.in_ok-variable.ensures.counts (failed_then c.take-2.new.self c.take-3.new.self c.take-6.new.self c.in_ok-size_code.ensures.counts (failed_then c.take-3.new.self c.take-4.new.self c.take-6.new.self c.in_ok-rate_code.ensures.counts (failed_then c.take-4.new.self c.take-5.new.self c.take-6.new.self c.in_ok-channel_code.ensures.counts c.in_err-depth_code.ensures.counts))));
       memory = c.in_err-depth_code.ensures.memory;
-      reads = told_then c.args.bits.now c.take.new.self c.take-6.new.self _ c.in_ok-take.ensures.counts c.in_ok-take.ensures.reads (told_past {read = judged (not (nat_eq c.in_ok-take.field-0 0x7FFC)) BadSync c.take.new.self.cursor} c.take.new.self c.take-6.new.self c.take.new.self.cursor _ (rw c.if-branch-ne32764.false refl) (told_then c.take.new.self c.take-2.new.self c.take-6.new.self _ c.in_ok-variable.ensures.counts c.in_ok-variable.ensures.reads (told_then c.take-2.new.self c.take-3.new.self c.take-6.new.self _ c.in_ok-size_code.ensures.counts c.in_ok-size_code.ensures.reads (told_past {read = judged (nat_eq c.in_ok-size_code.field-0 0) ReservedCode c.take-3.new.self.cursor} c.take-3.new.self c.take-6.new.self c.take-3.new.self.cursor _ (rw (ne_eqb c.in_ok-size_code.field-0 0 c.if-size_code-eq0.false) refl) (told_then c.take-3.new.self c.take-4.new.self c.take-6.new.self _ c.in_ok-rate_code.ensures.counts c.in_ok-rate_code.ensures.reads (told_past {read = judged (nat_eq c.in_ok-rate_code.field-0 15) ReservedCode c.take-4.new.self.cursor} c.take-4.new.self c.take-6.new.self c.take-4.new.self.cursor _ (rw (ne_eqb c.in_ok-rate_code.field-0 15 c.if-rate_code-eq15.false) refl) (told_then c.take-4.new.self c.take-5.new.self c.take-6.new.self _ c.in_ok-channel_code.ensures.counts c.in_ok-channel_code.ensures.reads (told_past {read = judged (nat_lt 10 c.in_ok-channel_code.field-0) ReservedCode c.take-5.new.self.cursor} c.take-5.new.self c.take-6.new.self c.take-5.new.self.cursor _ (search rules) (told_fault c.take-5.new.self c.take-6.new.self _ c.in_err-depth_code.ensures.reads)))))))));
+      reads = told_then c.args.bits.now c.take.new.self c.take-6.new.self _ c.in_ok-take.ensures.counts c.in_ok-take.ensures.reads (told_past {read = judged (not (nat_eq c.in_ok-take.field-0 0x7FFC)) BadSync c.take.new.self.cursor} c.take.new.self c.take-6.new.self c.take.new.self.cursor _ (rw c.if-branch-ne32764.false refl) (told_then c.take.new.self c.take-2.new.self c.take-6.new.self _ c.in_ok-variable.ensures.counts c.in_ok-variable.ensures.reads (told_then c.take-2.new.self c.take-3.new.self c.take-6.new.self _ c.in_ok-size_code.ensures.counts c.in_ok-size_code.ensures.reads (told_past {read = judged (nat_eq c.in_ok-size_code.field-0 0) ReservedCode c.take-3.new.self.cursor} c.take-3.new.self c.take-6.new.self c.take-3.new.self.cursor _ (rw (ne_eqb c.in_ok-size_code.field-0 0 c.if-size_code-eq0.false) refl) (told_then c.take-3.new.self c.take-4.new.self c.take-6.new.self _ c.in_ok-rate_code.ensures.counts c.in_ok-rate_code.ensures.reads (told_past {read = judged (nat_eq c.in_ok-rate_code.field-0 15) ReservedCode c.take-4.new.self.cursor} c.take-4.new.self c.take-6.new.self c.take-4.new.self.cursor _ (rw (ne_eqb c.in_ok-rate_code.field-0 15 c.if-rate_code-eq15.false) refl) (told_then c.take-4.new.self c.take-5.new.self c.take-6.new.self _ c.in_ok-channel_code.ensures.counts c.in_ok-channel_code.ensures.reads (told_past {read = judged (nat_lt 10 c.in_ok-channel_code.field-0) ReservedCode c.take-5.new.self.cursor} c.take-5.new.self c.take-6.new.self c.take-5.new.self.cursor _ (rw (at_most_10 c.in_ok-channel_code.field-0 c.if-channel_code-gt10.false) refl) (told_fault c.take-5.new.self c.take-6.new.self _ c.in_err-depth_code.ensures.reads)))))))));
     })
 
 pub returns-then-depth_code-eq3 : goal.returns-then-depth_code-eq3
@@ -127,9 +149,9 @@ unfolding header
 returns-then-depth_code-eq3 g c =
     record {
       spends = tt;
-      counts = refused_then c.args.bits.now c.take-6.new.self (answered_then c.args.bits.now c.take.new.self c.take-6.new.self c.in_ok-take.ensures.counts (answered_then c.take.new.self c.take-2.new.self c.take-6.new.self c.in_ok-variable.ensures.counts (answered_then c.take-2.new.self c.take-3.new.self c.take-6.new.self c.in_ok-size_code.ensures.counts (answered_then c.take-3.new.self c.take-4.new.self c.take-6.new.self c.in_ok-rate_code.ensures.counts (answered_then c.take-4.new.self c.take-5.new.self c.take-6.new.self c.in_ok-channel_code.ensures.counts c.in_ok-depth_code.ensures.counts))))) (λ q. cc);
-      memory = λ q. cc;
-      reads = told_then c.args.bits.now c.take.new.self c.take-6.new.self _ c.in_ok-take.ensures.counts c.in_ok-take.ensures.reads (told_past {read = judged (not (nat_eq c.in_ok-take.field-0 0x7FFC)) BadSync c.take.new.self.cursor} c.take.new.self c.take-6.new.self c.take.new.self.cursor _ (rw c.if-branch-ne32764.false refl) (told_then c.take.new.self c.take-2.new.self c.take-6.new.self _ c.in_ok-variable.ensures.counts c.in_ok-variable.ensures.reads (told_then c.take-2.new.self c.take-3.new.self c.take-6.new.self _ c.in_ok-size_code.ensures.counts c.in_ok-size_code.ensures.reads (told_past {read = judged (nat_eq c.in_ok-size_code.field-0 0) ReservedCode c.take-3.new.self.cursor} c.take-3.new.self c.take-6.new.self c.take-3.new.self.cursor _ (rw (ne_eqb c.in_ok-size_code.field-0 0 c.if-size_code-eq0.false) refl) (told_then c.take-3.new.self c.take-4.new.self c.take-6.new.self _ c.in_ok-rate_code.ensures.counts c.in_ok-rate_code.ensures.reads (told_past {read = judged (nat_eq c.in_ok-rate_code.field-0 15) ReservedCode c.take-4.new.self.cursor} c.take-4.new.self c.take-6.new.self c.take-4.new.self.cursor _ (rw (ne_eqb c.in_ok-rate_code.field-0 15 c.if-rate_code-eq15.false) refl) (told_then c.take-4.new.self c.take-5.new.self c.take-6.new.self _ c.in_ok-channel_code.ensures.counts c.in_ok-channel_code.ensures.reads (told_past {read = judged (nat_lt 10 c.in_ok-channel_code.field-0) ReservedCode c.take-5.new.self.cursor} c.take-5.new.self c.take-6.new.self c.take-5.new.self.cursor _ (search rules) (told_then c.take-5.new.self c.take-6.new.self c.take-6.new.self _ c.in_ok-depth_code.ensures.counts c.in_ok-depth_code.ensures.reads (told_broken {read = judged (nat_eq c.in_ok-depth_code.field-0 3) ReservedCode c.take-6.new.self.cursor} c.take-6.new.self c.take-6.new.self _ (rw c.if-depth_code-eq3.true refl)))))))))));
+      counts = refused_then c.args.bits.now c.take-6.new.self (answered_then c.args.bits.now c.take.new.self c.take-6.new.self c.in_ok-take.ensures.counts (answered_then c.take.new.self c.take-2.new.self c.take-6.new.self c.in_ok-variable.ensures.counts (answered_then c.take-2.new.self c.take-3.new.self c.take-6.new.self c.in_ok-size_code.ensures.counts (answered_then c.take-3.new.self c.take-4.new.self c.take-6.new.self c.in_ok-rate_code.ensures.counts (answered_then c.take-4.new.self c.take-5.new.self c.take-6.new.self c.in_ok-channel_code.ensures.counts c.in_ok-depth_code.ensures.counts))))) code_no_read;
+      memory = code_no_memory;
+      reads = told_then c.args.bits.now c.take.new.self c.take-6.new.self _ c.in_ok-take.ensures.counts c.in_ok-take.ensures.reads (told_past {read = judged (not (nat_eq c.in_ok-take.field-0 0x7FFC)) BadSync c.take.new.self.cursor} c.take.new.self c.take-6.new.self c.take.new.self.cursor _ (rw c.if-branch-ne32764.false refl) (told_then c.take.new.self c.take-2.new.self c.take-6.new.self _ c.in_ok-variable.ensures.counts c.in_ok-variable.ensures.reads (told_then c.take-2.new.self c.take-3.new.self c.take-6.new.self _ c.in_ok-size_code.ensures.counts c.in_ok-size_code.ensures.reads (told_past {read = judged (nat_eq c.in_ok-size_code.field-0 0) ReservedCode c.take-3.new.self.cursor} c.take-3.new.self c.take-6.new.self c.take-3.new.self.cursor _ (rw (ne_eqb c.in_ok-size_code.field-0 0 c.if-size_code-eq0.false) refl) (told_then c.take-3.new.self c.take-4.new.self c.take-6.new.self _ c.in_ok-rate_code.ensures.counts c.in_ok-rate_code.ensures.reads (told_past {read = judged (nat_eq c.in_ok-rate_code.field-0 15) ReservedCode c.take-4.new.self.cursor} c.take-4.new.self c.take-6.new.self c.take-4.new.self.cursor _ (rw (ne_eqb c.in_ok-rate_code.field-0 15 c.if-rate_code-eq15.false) refl) (told_then c.take-4.new.self c.take-5.new.self c.take-6.new.self _ c.in_ok-channel_code.ensures.counts c.in_ok-channel_code.ensures.reads (told_past {read = judged (nat_lt 10 c.in_ok-channel_code.field-0) ReservedCode c.take-5.new.self.cursor} c.take-5.new.self c.take-6.new.self c.take-5.new.self.cursor _ (rw (at_most_10 c.in_ok-channel_code.field-0 c.if-channel_code-gt10.false) refl) (told_then c.take-5.new.self c.take-6.new.self c.take-6.new.self _ c.in_ok-depth_code.ensures.counts c.in_ok-depth_code.ensures.reads (told_broken {read = judged (nat_eq c.in_ok-depth_code.field-0 3) ReservedCode c.take-6.new.self.cursor} c.take-6.new.self c.take-6.new.self _ (rw c.if-depth_code-eq3.true refl)))))))))));
     }
 
 pub returns-in_err-take-2 : goal.returns-in_err-take-2
@@ -140,7 +162,7 @@ returns-in_err-take-2 g c =
       spends = tt;
       counts = failed_then c.args.bits.now c.take.new.self c.take-7.new.self c.in_ok-take.ensures.counts (failed_then c.take.new.self c.take-2.new.self c.take-7.new.self c.in_ok-variable.ensures.counts (failed_then c.take-2.new.self c.take-3.new.self c.take-7.new.self c.in_ok-size_code.ensures.counts (failed_then c.take-3.new.self c.take-4.new.self c.take-7.new.self c.in_ok-rate_code.ensures.counts (failed_then c.take-4.new.self c.take-5.new.self c.take-7.new.self c.in_ok-channel_code.ensures.counts (failed_then c.take-5.new.self c.take-6.new.self c.take-7.new.self c.in_ok-depth_code.ensures.counts c.in_err-take-2.ensures.counts)))));
       memory = c.in_err-take-2.ensures.memory;
-      reads = told_then c.args.bits.now c.take.new.self c.take-7.new.self _ c.in_ok-take.ensures.counts c.in_ok-take.ensures.reads (told_past {read = judged (not (nat_eq c.in_ok-take.field-0 0x7FFC)) BadSync c.take.new.self.cursor} c.take.new.self c.take-7.new.self c.take.new.self.cursor _ (rw c.if-branch-ne32764.false refl) (told_then c.take.new.self c.take-2.new.self c.take-7.new.self _ c.in_ok-variable.ensures.counts c.in_ok-variable.ensures.reads (told_then c.take-2.new.self c.take-3.new.self c.take-7.new.self _ c.in_ok-size_code.ensures.counts c.in_ok-size_code.ensures.reads (told_past {read = judged (nat_eq c.in_ok-size_code.field-0 0) ReservedCode c.take-3.new.self.cursor} c.take-3.new.self c.take-7.new.self c.take-3.new.self.cursor _ (rw (ne_eqb c.in_ok-size_code.field-0 0 c.if-size_code-eq0.false) refl) (told_then c.take-3.new.self c.take-4.new.self c.take-7.new.self _ c.in_ok-rate_code.ensures.counts c.in_ok-rate_code.ensures.reads (told_past {read = judged (nat_eq c.in_ok-rate_code.field-0 15) ReservedCode c.take-4.new.self.cursor} c.take-4.new.self c.take-7.new.self c.take-4.new.self.cursor _ (rw (ne_eqb c.in_ok-rate_code.field-0 15 c.if-rate_code-eq15.false) refl) (told_then c.take-4.new.self c.take-5.new.self c.take-7.new.self _ c.in_ok-channel_code.ensures.counts c.in_ok-channel_code.ensures.reads (told_past {read = judged (nat_lt 10 c.in_ok-channel_code.field-0) ReservedCode c.take-5.new.self.cursor} c.take-5.new.self c.take-7.new.self c.take-5.new.self.cursor _ (search rules) (told_then c.take-5.new.self c.take-6.new.self c.take-7.new.self _ c.in_ok-depth_code.ensures.counts c.in_ok-depth_code.ensures.reads (told_past {read = judged (nat_eq c.in_ok-depth_code.field-0 3) ReservedCode c.take-6.new.self.cursor} c.take-6.new.self c.take-7.new.self c.take-6.new.self.cursor _ (rw (ne_eqb c.in_ok-depth_code.field-0 3 c.if-depth_code-eq3.false) refl) (told_fault c.take-6.new.self c.take-7.new.self _ c.in_err-take-2.ensures.reads)))))))))));
+      reads = told_then c.args.bits.now c.take.new.self c.take-7.new.self _ c.in_ok-take.ensures.counts c.in_ok-take.ensures.reads (told_past {read = judged (not (nat_eq c.in_ok-take.field-0 0x7FFC)) BadSync c.take.new.self.cursor} c.take.new.self c.take-7.new.self c.take.new.self.cursor _ (rw c.if-branch-ne32764.false refl) (told_then c.take.new.self c.take-2.new.self c.take-7.new.self _ c.in_ok-variable.ensures.counts c.in_ok-variable.ensures.reads (told_then c.take-2.new.self c.take-3.new.self c.take-7.new.self _ c.in_ok-size_code.ensures.counts c.in_ok-size_code.ensures.reads (told_past {read = judged (nat_eq c.in_ok-size_code.field-0 0) ReservedCode c.take-3.new.self.cursor} c.take-3.new.self c.take-7.new.self c.take-3.new.self.cursor _ (rw (ne_eqb c.in_ok-size_code.field-0 0 c.if-size_code-eq0.false) refl) (told_then c.take-3.new.self c.take-4.new.self c.take-7.new.self _ c.in_ok-rate_code.ensures.counts c.in_ok-rate_code.ensures.reads (told_past {read = judged (nat_eq c.in_ok-rate_code.field-0 15) ReservedCode c.take-4.new.self.cursor} c.take-4.new.self c.take-7.new.self c.take-4.new.self.cursor _ (rw (ne_eqb c.in_ok-rate_code.field-0 15 c.if-rate_code-eq15.false) refl) (told_then c.take-4.new.self c.take-5.new.self c.take-7.new.self _ c.in_ok-channel_code.ensures.counts c.in_ok-channel_code.ensures.reads (told_past {read = judged (nat_lt 10 c.in_ok-channel_code.field-0) ReservedCode c.take-5.new.self.cursor} c.take-5.new.self c.take-7.new.self c.take-5.new.self.cursor _ (rw (at_most_10 c.in_ok-channel_code.field-0 c.if-channel_code-gt10.false) refl) (told_then c.take-5.new.self c.take-6.new.self c.take-7.new.self _ c.in_ok-depth_code.ensures.counts c.in_ok-depth_code.ensures.reads (told_past {read = judged (nat_eq c.in_ok-depth_code.field-0 3) ReservedCode c.take-6.new.self.cursor} c.take-6.new.self c.take-7.new.self c.take-6.new.self.cursor _ (rw (ne_eqb c.in_ok-depth_code.field-0 3 c.if-depth_code-eq3.false) refl) (told_fault c.take-6.new.self c.take-7.new.self _ c.in_err-take-2.ensures.reads)))))))))));
     })
 
 pub returns-then-branch-ne0 : goal.returns-then-branch-ne0
@@ -148,9 +170,9 @@ unfolding header
 returns-then-branch-ne0 g c =
     record {
       spends = tt;
-      counts = refused_then c.args.bits.now c.take-7.new.self (answered_then c.args.bits.now c.take.new.self c.take-7.new.self c.in_ok-take.ensures.counts (answered_then c.take.new.self c.take-2.new.self c.take-7.new.self c.in_ok-variable.ensures.counts (answered_then c.take-2.new.self c.take-3.new.self c.take-7.new.self c.in_ok-size_code.ensures.counts (answered_then c.take-3.new.self c.take-4.new.self c.take-7.new.self c.in_ok-rate_code.ensures.counts (answered_then c.take-4.new.self c.take-5.new.self c.take-7.new.self c.in_ok-channel_code.ensures.counts (answered_then c.take-5.new.self c.take-6.new.self c.take-7.new.self c.in_ok-depth_code.ensures.counts c.in_ok-take-2.ensures.counts)))))) (λ q. cc);
-      memory = λ q. cc;
-      reads = told_then c.args.bits.now c.take.new.self c.take-7.new.self _ c.in_ok-take.ensures.counts c.in_ok-take.ensures.reads (told_past {read = judged (not (nat_eq c.in_ok-take.field-0 0x7FFC)) BadSync c.take.new.self.cursor} c.take.new.self c.take-7.new.self c.take.new.self.cursor _ (rw c.if-branch-ne32764.false refl) (told_then c.take.new.self c.take-2.new.self c.take-7.new.self _ c.in_ok-variable.ensures.counts c.in_ok-variable.ensures.reads (told_then c.take-2.new.self c.take-3.new.self c.take-7.new.self _ c.in_ok-size_code.ensures.counts c.in_ok-size_code.ensures.reads (told_past {read = judged (nat_eq c.in_ok-size_code.field-0 0) ReservedCode c.take-3.new.self.cursor} c.take-3.new.self c.take-7.new.self c.take-3.new.self.cursor _ (rw (ne_eqb c.in_ok-size_code.field-0 0 c.if-size_code-eq0.false) refl) (told_then c.take-3.new.self c.take-4.new.self c.take-7.new.self _ c.in_ok-rate_code.ensures.counts c.in_ok-rate_code.ensures.reads (told_past {read = judged (nat_eq c.in_ok-rate_code.field-0 15) ReservedCode c.take-4.new.self.cursor} c.take-4.new.self c.take-7.new.self c.take-4.new.self.cursor _ (rw (ne_eqb c.in_ok-rate_code.field-0 15 c.if-rate_code-eq15.false) refl) (told_then c.take-4.new.self c.take-5.new.self c.take-7.new.self _ c.in_ok-channel_code.ensures.counts c.in_ok-channel_code.ensures.reads (told_past {read = judged (nat_lt 10 c.in_ok-channel_code.field-0) ReservedCode c.take-5.new.self.cursor} c.take-5.new.self c.take-7.new.self c.take-5.new.self.cursor _ (search rules) (told_then c.take-5.new.self c.take-6.new.self c.take-7.new.self _ c.in_ok-depth_code.ensures.counts c.in_ok-depth_code.ensures.reads (told_past {read = judged (nat_eq c.in_ok-depth_code.field-0 3) ReservedCode c.take-6.new.self.cursor} c.take-6.new.self c.take-7.new.self c.take-6.new.self.cursor _ (rw (ne_eqb c.in_ok-depth_code.field-0 3 c.if-depth_code-eq3.false) refl) (told_then c.take-6.new.self c.take-7.new.self c.take-7.new.self _ c.in_ok-take-2.ensures.counts c.in_ok-take-2.ensures.reads (told_broken {read = judged (not (nat_eq c.in_ok-take-2.field-0 0)) ReservedCode c.take-7.new.self.cursor} c.take-7.new.self c.take-7.new.self _ (rw (ne_eqb c.in_ok-take-2.field-0 0 c.if-branch-ne0.true) refl)))))))))))));
+      counts = refused_then c.args.bits.now c.take-7.new.self (answered_then c.args.bits.now c.take.new.self c.take-7.new.self c.in_ok-take.ensures.counts (answered_then c.take.new.self c.take-2.new.self c.take-7.new.self c.in_ok-variable.ensures.counts (answered_then c.take-2.new.self c.take-3.new.self c.take-7.new.self c.in_ok-size_code.ensures.counts (answered_then c.take-3.new.self c.take-4.new.self c.take-7.new.self c.in_ok-rate_code.ensures.counts (answered_then c.take-4.new.self c.take-5.new.self c.take-7.new.self c.in_ok-channel_code.ensures.counts (answered_then c.take-5.new.self c.take-6.new.self c.take-7.new.self c.in_ok-depth_code.ensures.counts c.in_ok-take-2.ensures.counts)))))) code_no_read;
+      memory = code_no_memory;
+      reads = told_then c.args.bits.now c.take.new.self c.take-7.new.self _ c.in_ok-take.ensures.counts c.in_ok-take.ensures.reads (told_past {read = judged (not (nat_eq c.in_ok-take.field-0 0x7FFC)) BadSync c.take.new.self.cursor} c.take.new.self c.take-7.new.self c.take.new.self.cursor _ (rw c.if-branch-ne32764.false refl) (told_then c.take.new.self c.take-2.new.self c.take-7.new.self _ c.in_ok-variable.ensures.counts c.in_ok-variable.ensures.reads (told_then c.take-2.new.self c.take-3.new.self c.take-7.new.self _ c.in_ok-size_code.ensures.counts c.in_ok-size_code.ensures.reads (told_past {read = judged (nat_eq c.in_ok-size_code.field-0 0) ReservedCode c.take-3.new.self.cursor} c.take-3.new.self c.take-7.new.self c.take-3.new.self.cursor _ (rw (ne_eqb c.in_ok-size_code.field-0 0 c.if-size_code-eq0.false) refl) (told_then c.take-3.new.self c.take-4.new.self c.take-7.new.self _ c.in_ok-rate_code.ensures.counts c.in_ok-rate_code.ensures.reads (told_past {read = judged (nat_eq c.in_ok-rate_code.field-0 15) ReservedCode c.take-4.new.self.cursor} c.take-4.new.self c.take-7.new.self c.take-4.new.self.cursor _ (rw (ne_eqb c.in_ok-rate_code.field-0 15 c.if-rate_code-eq15.false) refl) (told_then c.take-4.new.self c.take-5.new.self c.take-7.new.self _ c.in_ok-channel_code.ensures.counts c.in_ok-channel_code.ensures.reads (told_past {read = judged (nat_lt 10 c.in_ok-channel_code.field-0) ReservedCode c.take-5.new.self.cursor} c.take-5.new.self c.take-7.new.self c.take-5.new.self.cursor _ (rw (at_most_10 c.in_ok-channel_code.field-0 c.if-channel_code-gt10.false) refl) (told_then c.take-5.new.self c.take-6.new.self c.take-7.new.self _ c.in_ok-depth_code.ensures.counts c.in_ok-depth_code.ensures.reads (told_past {read = judged (nat_eq c.in_ok-depth_code.field-0 3) ReservedCode c.take-6.new.self.cursor} c.take-6.new.self c.take-7.new.self c.take-6.new.self.cursor _ (rw (ne_eqb c.in_ok-depth_code.field-0 3 c.if-depth_code-eq3.false) refl) (told_then c.take-6.new.self c.take-7.new.self c.take-7.new.self _ c.in_ok-take-2.ensures.counts c.in_ok-take-2.ensures.reads (told_broken {read = judged (not (nat_eq c.in_ok-take-2.field-0 0)) ReservedCode c.take-7.new.self.cursor} c.take-7.new.self c.take-7.new.self _ (rw (ne_eqb c.in_ok-take-2.field-0 0 c.if-branch-ne0.true) refl)))))))))))));
     }
 
 pub returns-in_err-number : goal.returns-in_err-number
@@ -162,7 +184,7 @@ returns-in_err-number g c =
       spends = tt;
       counts = failed_then c.args.bits.now c.take.new.self c.read_number.new.bits c.in_ok-take.ensures.counts (failed_then c.take.new.self c.take-2.new.self c.read_number.new.bits c.in_ok-variable.ensures.counts (failed_then c.take-2.new.self c.take-3.new.self c.read_number.new.bits c.in_ok-size_code.ensures.counts (failed_then c.take-3.new.self c.take-4.new.self c.read_number.new.bits c.in_ok-rate_code.ensures.counts (failed_then c.take-4.new.self c.take-5.new.self c.read_number.new.bits c.in_ok-channel_code.ensures.counts (failed_then c.take-5.new.self c.take-6.new.self c.read_number.new.bits c.in_ok-depth_code.ensures.counts (failed_then c.take-6.new.self c.take-7.new.self c.read_number.new.bits c.in_ok-take-2.ensures.counts c.in_err-number.ensures.counts))))));
       memory = c.in_err-number.ensures.memory;
-      reads = told_then c.args.bits.now c.take.new.self c.read_number.new.bits _ c.in_ok-take.ensures.counts c.in_ok-take.ensures.reads (told_past {read = judged (not (nat_eq c.in_ok-take.field-0 0x7FFC)) BadSync c.take.new.self.cursor} c.take.new.self c.read_number.new.bits c.take.new.self.cursor _ (rw c.if-branch-ne32764.false refl) (told_then c.take.new.self c.take-2.new.self c.read_number.new.bits _ c.in_ok-variable.ensures.counts c.in_ok-variable.ensures.reads (told_then c.take-2.new.self c.take-3.new.self c.read_number.new.bits _ c.in_ok-size_code.ensures.counts c.in_ok-size_code.ensures.reads (told_past {read = judged (nat_eq c.in_ok-size_code.field-0 0) ReservedCode c.take-3.new.self.cursor} c.take-3.new.self c.read_number.new.bits c.take-3.new.self.cursor _ (rw (ne_eqb c.in_ok-size_code.field-0 0 c.if-size_code-eq0.false) refl) (told_then c.take-3.new.self c.take-4.new.self c.read_number.new.bits _ c.in_ok-rate_code.ensures.counts c.in_ok-rate_code.ensures.reads (told_past {read = judged (nat_eq c.in_ok-rate_code.field-0 15) ReservedCode c.take-4.new.self.cursor} c.take-4.new.self c.read_number.new.bits c.take-4.new.self.cursor _ (rw (ne_eqb c.in_ok-rate_code.field-0 15 c.if-rate_code-eq15.false) refl) (told_then c.take-4.new.self c.take-5.new.self c.read_number.new.bits _ c.in_ok-channel_code.ensures.counts c.in_ok-channel_code.ensures.reads (told_past {read = judged (nat_lt 10 c.in_ok-channel_code.field-0) ReservedCode c.take-5.new.self.cursor} c.take-5.new.self c.read_number.new.bits c.take-5.new.self.cursor _ (search rules) (told_then c.take-5.new.self c.take-6.new.self c.read_number.new.bits _ c.in_ok-depth_code.ensures.counts c.in_ok-depth_code.ensures.reads (told_past {read = judged (nat_eq c.in_ok-depth_code.field-0 3) ReservedCode c.take-6.new.self.cursor} c.take-6.new.self c.read_number.new.bits c.take-6.new.self.cursor _ (rw (ne_eqb c.in_ok-depth_code.field-0 3 c.if-depth_code-eq3.false) refl) (told_then c.take-6.new.self c.take-7.new.self c.read_number.new.bits _ c.in_ok-take-2.ensures.counts c.in_ok-take-2.ensures.reads (told_past {read = judged (not (nat_eq c.in_ok-take-2.field-0 0)) ReservedCode c.take-7.new.self.cursor} c.take-7.new.self c.read_number.new.bits c.take-7.new.self.cursor _ (rw c.if-branch-ne0.false refl) (told_fault c.take-7.new.self c.read_number.new.bits _ (rw most at c.in_err-number.ensures.reads))))))))))))));
+      reads = told_then c.args.bits.now c.take.new.self c.read_number.new.bits _ c.in_ok-take.ensures.counts c.in_ok-take.ensures.reads (told_past {read = judged (not (nat_eq c.in_ok-take.field-0 0x7FFC)) BadSync c.take.new.self.cursor} c.take.new.self c.read_number.new.bits c.take.new.self.cursor _ (rw c.if-branch-ne32764.false refl) (told_then c.take.new.self c.take-2.new.self c.read_number.new.bits _ c.in_ok-variable.ensures.counts c.in_ok-variable.ensures.reads (told_then c.take-2.new.self c.take-3.new.self c.read_number.new.bits _ c.in_ok-size_code.ensures.counts c.in_ok-size_code.ensures.reads (told_past {read = judged (nat_eq c.in_ok-size_code.field-0 0) ReservedCode c.take-3.new.self.cursor} c.take-3.new.self c.read_number.new.bits c.take-3.new.self.cursor _ (rw (ne_eqb c.in_ok-size_code.field-0 0 c.if-size_code-eq0.false) refl) (told_then c.take-3.new.self c.take-4.new.self c.read_number.new.bits _ c.in_ok-rate_code.ensures.counts c.in_ok-rate_code.ensures.reads (told_past {read = judged (nat_eq c.in_ok-rate_code.field-0 15) ReservedCode c.take-4.new.self.cursor} c.take-4.new.self c.read_number.new.bits c.take-4.new.self.cursor _ (rw (ne_eqb c.in_ok-rate_code.field-0 15 c.if-rate_code-eq15.false) refl) (told_then c.take-4.new.self c.take-5.new.self c.read_number.new.bits _ c.in_ok-channel_code.ensures.counts c.in_ok-channel_code.ensures.reads (told_past {read = judged (nat_lt 10 c.in_ok-channel_code.field-0) ReservedCode c.take-5.new.self.cursor} c.take-5.new.self c.read_number.new.bits c.take-5.new.self.cursor _ (rw (at_most_10 c.in_ok-channel_code.field-0 c.if-channel_code-gt10.false) refl) (told_then c.take-5.new.self c.take-6.new.self c.read_number.new.bits _ c.in_ok-depth_code.ensures.counts c.in_ok-depth_code.ensures.reads (told_past {read = judged (nat_eq c.in_ok-depth_code.field-0 3) ReservedCode c.take-6.new.self.cursor} c.take-6.new.self c.read_number.new.bits c.take-6.new.self.cursor _ (rw (ne_eqb c.in_ok-depth_code.field-0 3 c.if-depth_code-eq3.false) refl) (told_then c.take-6.new.self c.take-7.new.self c.read_number.new.bits _ c.in_ok-take-2.ensures.counts c.in_ok-take-2.ensures.reads (told_past {read = judged (not (nat_eq c.in_ok-take-2.field-0 0)) ReservedCode c.take-7.new.self.cursor} c.take-7.new.self c.read_number.new.bits c.take-7.new.self.cursor _ (rw c.if-branch-ne0.false refl) (told_fault c.take-7.new.self c.read_number.new.bits _ (rw most at c.in_err-number.ensures.reads))))))))))))));
     })
 
 pub returns-in_err-size : goal.returns-in_err-size
@@ -174,7 +196,7 @@ returns-in_err-size g c =
       spends = tt;
       counts = failed_then c.args.bits.now c.take.new.self c.read_size.new.bits c.in_ok-take.ensures.counts (failed_then c.take.new.self c.take-2.new.self c.read_size.new.bits c.in_ok-variable.ensures.counts (failed_then c.take-2.new.self c.take-3.new.self c.read_size.new.bits c.in_ok-size_code.ensures.counts (failed_then c.take-3.new.self c.take-4.new.self c.read_size.new.bits c.in_ok-rate_code.ensures.counts (failed_then c.take-4.new.self c.take-5.new.self c.read_size.new.bits c.in_ok-channel_code.ensures.counts (failed_then c.take-5.new.self c.take-6.new.self c.read_size.new.bits c.in_ok-depth_code.ensures.counts (failed_then c.take-6.new.self c.take-7.new.self c.read_size.new.bits c.in_ok-take-2.ensures.counts (failed_then c.take-7.new.self c.read_number.new.bits c.read_size.new.bits c.in_ok-number.ensures.counts c.in_err-size.ensures.counts)))))));
       memory = c.in_err-size.ensures.memory;
-      reads = told_then c.args.bits.now c.take.new.self c.read_size.new.bits _ c.in_ok-take.ensures.counts c.in_ok-take.ensures.reads (told_past {read = judged (not (nat_eq c.in_ok-take.field-0 0x7FFC)) BadSync c.take.new.self.cursor} c.take.new.self c.read_size.new.bits c.take.new.self.cursor _ (rw c.if-branch-ne32764.false refl) (told_then c.take.new.self c.take-2.new.self c.read_size.new.bits _ c.in_ok-variable.ensures.counts c.in_ok-variable.ensures.reads (told_then c.take-2.new.self c.take-3.new.self c.read_size.new.bits _ c.in_ok-size_code.ensures.counts c.in_ok-size_code.ensures.reads (told_past {read = judged (nat_eq c.in_ok-size_code.field-0 0) ReservedCode c.take-3.new.self.cursor} c.take-3.new.self c.read_size.new.bits c.take-3.new.self.cursor _ (rw (ne_eqb c.in_ok-size_code.field-0 0 c.if-size_code-eq0.false) refl) (told_then c.take-3.new.self c.take-4.new.self c.read_size.new.bits _ c.in_ok-rate_code.ensures.counts c.in_ok-rate_code.ensures.reads (told_past {read = judged (nat_eq c.in_ok-rate_code.field-0 15) ReservedCode c.take-4.new.self.cursor} c.take-4.new.self c.read_size.new.bits c.take-4.new.self.cursor _ (rw (ne_eqb c.in_ok-rate_code.field-0 15 c.if-rate_code-eq15.false) refl) (told_then c.take-4.new.self c.take-5.new.self c.read_size.new.bits _ c.in_ok-channel_code.ensures.counts c.in_ok-channel_code.ensures.reads (told_past {read = judged (nat_lt 10 c.in_ok-channel_code.field-0) ReservedCode c.take-5.new.self.cursor} c.take-5.new.self c.read_size.new.bits c.take-5.new.self.cursor _ (search rules) (told_then c.take-5.new.self c.take-6.new.self c.read_size.new.bits _ c.in_ok-depth_code.ensures.counts c.in_ok-depth_code.ensures.reads (told_past {read = judged (nat_eq c.in_ok-depth_code.field-0 3) ReservedCode c.take-6.new.self.cursor} c.take-6.new.self c.read_size.new.bits c.take-6.new.self.cursor _ (rw (ne_eqb c.in_ok-depth_code.field-0 3 c.if-depth_code-eq3.false) refl) (told_then c.take-6.new.self c.take-7.new.self c.read_size.new.bits _ c.in_ok-take-2.ensures.counts c.in_ok-take-2.ensures.reads (told_past {read = judged (not (nat_eq c.in_ok-take-2.field-0 0)) ReservedCode c.take-7.new.self.cursor} c.take-7.new.self c.read_size.new.bits c.take-7.new.self.cursor _ (rw c.if-branch-ne0.false refl) (told_then c.take-7.new.self c.read_number.new.bits c.read_size.new.bits _ c.in_ok-number.ensures.counts (rw most at c.in_ok-number.ensures.reads) (told_fault c.read_number.new.bits c.read_size.new.bits _ c.in_err-size.ensures.reads))))))))))))));
+      reads = told_then c.args.bits.now c.take.new.self c.read_size.new.bits _ c.in_ok-take.ensures.counts c.in_ok-take.ensures.reads (told_past {read = judged (not (nat_eq c.in_ok-take.field-0 0x7FFC)) BadSync c.take.new.self.cursor} c.take.new.self c.read_size.new.bits c.take.new.self.cursor _ (rw c.if-branch-ne32764.false refl) (told_then c.take.new.self c.take-2.new.self c.read_size.new.bits _ c.in_ok-variable.ensures.counts c.in_ok-variable.ensures.reads (told_then c.take-2.new.self c.take-3.new.self c.read_size.new.bits _ c.in_ok-size_code.ensures.counts c.in_ok-size_code.ensures.reads (told_past {read = judged (nat_eq c.in_ok-size_code.field-0 0) ReservedCode c.take-3.new.self.cursor} c.take-3.new.self c.read_size.new.bits c.take-3.new.self.cursor _ (rw (ne_eqb c.in_ok-size_code.field-0 0 c.if-size_code-eq0.false) refl) (told_then c.take-3.new.self c.take-4.new.self c.read_size.new.bits _ c.in_ok-rate_code.ensures.counts c.in_ok-rate_code.ensures.reads (told_past {read = judged (nat_eq c.in_ok-rate_code.field-0 15) ReservedCode c.take-4.new.self.cursor} c.take-4.new.self c.read_size.new.bits c.take-4.new.self.cursor _ (rw (ne_eqb c.in_ok-rate_code.field-0 15 c.if-rate_code-eq15.false) refl) (told_then c.take-4.new.self c.take-5.new.self c.read_size.new.bits _ c.in_ok-channel_code.ensures.counts c.in_ok-channel_code.ensures.reads (told_past {read = judged (nat_lt 10 c.in_ok-channel_code.field-0) ReservedCode c.take-5.new.self.cursor} c.take-5.new.self c.read_size.new.bits c.take-5.new.self.cursor _ (rw (at_most_10 c.in_ok-channel_code.field-0 c.if-channel_code-gt10.false) refl) (told_then c.take-5.new.self c.take-6.new.self c.read_size.new.bits _ c.in_ok-depth_code.ensures.counts c.in_ok-depth_code.ensures.reads (told_past {read = judged (nat_eq c.in_ok-depth_code.field-0 3) ReservedCode c.take-6.new.self.cursor} c.take-6.new.self c.read_size.new.bits c.take-6.new.self.cursor _ (rw (ne_eqb c.in_ok-depth_code.field-0 3 c.if-depth_code-eq3.false) refl) (told_then c.take-6.new.self c.take-7.new.self c.read_size.new.bits _ c.in_ok-take-2.ensures.counts c.in_ok-take-2.ensures.reads (told_past {read = judged (not (nat_eq c.in_ok-take-2.field-0 0)) ReservedCode c.take-7.new.self.cursor} c.take-7.new.self c.read_size.new.bits c.take-7.new.self.cursor _ (rw c.if-branch-ne0.false refl) (told_then c.take-7.new.self c.read_number.new.bits c.read_size.new.bits _ c.in_ok-number.ensures.counts (rw most at c.in_ok-number.ensures.reads) (told_fault c.read_number.new.bits c.read_size.new.bits _ c.in_err-size.ensures.reads))))))))))))));
     })
 
 pub returns-in_err-rate : goal.returns-in_err-rate
@@ -186,7 +208,7 @@ returns-in_err-rate g c =
       spends = tt;
       counts = failed_then c.args.bits.now c.take.new.self c.read_rate.new.bits c.in_ok-take.ensures.counts (failed_then c.take.new.self c.take-2.new.self c.read_rate.new.bits c.in_ok-variable.ensures.counts (failed_then c.take-2.new.self c.take-3.new.self c.read_rate.new.bits c.in_ok-size_code.ensures.counts (failed_then c.take-3.new.self c.take-4.new.self c.read_rate.new.bits c.in_ok-rate_code.ensures.counts (failed_then c.take-4.new.self c.take-5.new.self c.read_rate.new.bits c.in_ok-channel_code.ensures.counts (failed_then c.take-5.new.self c.take-6.new.self c.read_rate.new.bits c.in_ok-depth_code.ensures.counts (failed_then c.take-6.new.self c.take-7.new.self c.read_rate.new.bits c.in_ok-take-2.ensures.counts (failed_then c.take-7.new.self c.read_number.new.bits c.read_rate.new.bits c.in_ok-number.ensures.counts (failed_then c.read_number.new.bits c.read_size.new.bits c.read_rate.new.bits c.in_ok-size.ensures.counts c.in_err-rate.ensures.counts))))))));
       memory = c.in_err-rate.ensures.memory;
-      reads = told_then c.args.bits.now c.take.new.self c.read_rate.new.bits _ c.in_ok-take.ensures.counts c.in_ok-take.ensures.reads (told_past {read = judged (not (nat_eq c.in_ok-take.field-0 0x7FFC)) BadSync c.take.new.self.cursor} c.take.new.self c.read_rate.new.bits c.take.new.self.cursor _ (rw c.if-branch-ne32764.false refl) (told_then c.take.new.self c.take-2.new.self c.read_rate.new.bits _ c.in_ok-variable.ensures.counts c.in_ok-variable.ensures.reads (told_then c.take-2.new.self c.take-3.new.self c.read_rate.new.bits _ c.in_ok-size_code.ensures.counts c.in_ok-size_code.ensures.reads (told_past {read = judged (nat_eq c.in_ok-size_code.field-0 0) ReservedCode c.take-3.new.self.cursor} c.take-3.new.self c.read_rate.new.bits c.take-3.new.self.cursor _ (rw (ne_eqb c.in_ok-size_code.field-0 0 c.if-size_code-eq0.false) refl) (told_then c.take-3.new.self c.take-4.new.self c.read_rate.new.bits _ c.in_ok-rate_code.ensures.counts c.in_ok-rate_code.ensures.reads (told_past {read = judged (nat_eq c.in_ok-rate_code.field-0 15) ReservedCode c.take-4.new.self.cursor} c.take-4.new.self c.read_rate.new.bits c.take-4.new.self.cursor _ (rw (ne_eqb c.in_ok-rate_code.field-0 15 c.if-rate_code-eq15.false) refl) (told_then c.take-4.new.self c.take-5.new.self c.read_rate.new.bits _ c.in_ok-channel_code.ensures.counts c.in_ok-channel_code.ensures.reads (told_past {read = judged (nat_lt 10 c.in_ok-channel_code.field-0) ReservedCode c.take-5.new.self.cursor} c.take-5.new.self c.read_rate.new.bits c.take-5.new.self.cursor _ (search rules) (told_then c.take-5.new.self c.take-6.new.self c.read_rate.new.bits _ c.in_ok-depth_code.ensures.counts c.in_ok-depth_code.ensures.reads (told_past {read = judged (nat_eq c.in_ok-depth_code.field-0 3) ReservedCode c.take-6.new.self.cursor} c.take-6.new.self c.read_rate.new.bits c.take-6.new.self.cursor _ (rw (ne_eqb c.in_ok-depth_code.field-0 3 c.if-depth_code-eq3.false) refl) (told_then c.take-6.new.self c.take-7.new.self c.read_rate.new.bits _ c.in_ok-take-2.ensures.counts c.in_ok-take-2.ensures.reads (told_past {read = judged (not (nat_eq c.in_ok-take-2.field-0 0)) ReservedCode c.take-7.new.self.cursor} c.take-7.new.self c.read_rate.new.bits c.take-7.new.self.cursor _ (rw c.if-branch-ne0.false refl) (told_then c.take-7.new.self c.read_number.new.bits c.read_rate.new.bits _ c.in_ok-number.ensures.counts (rw most at c.in_ok-number.ensures.reads) (told_then c.read_number.new.bits c.read_size.new.bits c.read_rate.new.bits _ c.in_ok-size.ensures.counts c.in_ok-size.ensures.reads (told_fault c.read_size.new.bits c.read_rate.new.bits _ c.in_err-rate.ensures.reads)))))))))))))));
+      reads = told_then c.args.bits.now c.take.new.self c.read_rate.new.bits _ c.in_ok-take.ensures.counts c.in_ok-take.ensures.reads (told_past {read = judged (not (nat_eq c.in_ok-take.field-0 0x7FFC)) BadSync c.take.new.self.cursor} c.take.new.self c.read_rate.new.bits c.take.new.self.cursor _ (rw c.if-branch-ne32764.false refl) (told_then c.take.new.self c.take-2.new.self c.read_rate.new.bits _ c.in_ok-variable.ensures.counts c.in_ok-variable.ensures.reads (told_then c.take-2.new.self c.take-3.new.self c.read_rate.new.bits _ c.in_ok-size_code.ensures.counts c.in_ok-size_code.ensures.reads (told_past {read = judged (nat_eq c.in_ok-size_code.field-0 0) ReservedCode c.take-3.new.self.cursor} c.take-3.new.self c.read_rate.new.bits c.take-3.new.self.cursor _ (rw (ne_eqb c.in_ok-size_code.field-0 0 c.if-size_code-eq0.false) refl) (told_then c.take-3.new.self c.take-4.new.self c.read_rate.new.bits _ c.in_ok-rate_code.ensures.counts c.in_ok-rate_code.ensures.reads (told_past {read = judged (nat_eq c.in_ok-rate_code.field-0 15) ReservedCode c.take-4.new.self.cursor} c.take-4.new.self c.read_rate.new.bits c.take-4.new.self.cursor _ (rw (ne_eqb c.in_ok-rate_code.field-0 15 c.if-rate_code-eq15.false) refl) (told_then c.take-4.new.self c.take-5.new.self c.read_rate.new.bits _ c.in_ok-channel_code.ensures.counts c.in_ok-channel_code.ensures.reads (told_past {read = judged (nat_lt 10 c.in_ok-channel_code.field-0) ReservedCode c.take-5.new.self.cursor} c.take-5.new.self c.read_rate.new.bits c.take-5.new.self.cursor _ (rw (at_most_10 c.in_ok-channel_code.field-0 c.if-channel_code-gt10.false) refl) (told_then c.take-5.new.self c.take-6.new.self c.read_rate.new.bits _ c.in_ok-depth_code.ensures.counts c.in_ok-depth_code.ensures.reads (told_past {read = judged (nat_eq c.in_ok-depth_code.field-0 3) ReservedCode c.take-6.new.self.cursor} c.take-6.new.self c.read_rate.new.bits c.take-6.new.self.cursor _ (rw (ne_eqb c.in_ok-depth_code.field-0 3 c.if-depth_code-eq3.false) refl) (told_then c.take-6.new.self c.take-7.new.self c.read_rate.new.bits _ c.in_ok-take-2.ensures.counts c.in_ok-take-2.ensures.reads (told_past {read = judged (not (nat_eq c.in_ok-take-2.field-0 0)) ReservedCode c.take-7.new.self.cursor} c.take-7.new.self c.read_rate.new.bits c.take-7.new.self.cursor _ (rw c.if-branch-ne0.false refl) (told_then c.take-7.new.self c.read_number.new.bits c.read_rate.new.bits _ c.in_ok-number.ensures.counts (rw most at c.in_ok-number.ensures.reads) (told_then c.read_number.new.bits c.read_size.new.bits c.read_rate.new.bits _ c.in_ok-size.ensures.counts c.in_ok-size.ensures.reads (told_fault c.read_size.new.bits c.read_rate.new.bits _ c.in_err-rate.ensures.reads)))))))))))))));
     })
 
 pub returns-in_err-take-3 : goal.returns-in_err-take-3
@@ -198,7 +220,7 @@ returns-in_err-take-3 g c =
       spends = tt;
       counts = failed_then c.args.bits.now c.take.new.self c.take-8.new.self c.in_ok-take.ensures.counts (failed_then c.take.new.self c.take-2.new.self c.take-8.new.self c.in_ok-variable.ensures.counts (failed_then c.take-2.new.self c.take-3.new.self c.take-8.new.self c.in_ok-size_code.ensures.counts (failed_then c.take-3.new.self c.take-4.new.self c.take-8.new.self c.in_ok-rate_code.ensures.counts (failed_then c.take-4.new.self c.take-5.new.self c.take-8.new.self c.in_ok-channel_code.ensures.counts (failed_then c.take-5.new.self c.take-6.new.self c.take-8.new.self c.in_ok-depth_code.ensures.counts (failed_then c.take-6.new.self c.take-7.new.self c.take-8.new.self c.in_ok-take-2.ensures.counts (failed_then c.take-7.new.self c.read_number.new.bits c.take-8.new.self c.in_ok-number.ensures.counts (failed_then c.read_number.new.bits c.read_size.new.bits c.take-8.new.self c.in_ok-size.ensures.counts (failed_then c.read_size.new.bits c.read_rate.new.bits c.take-8.new.self c.in_ok-rate.ensures.counts c.in_err-take-3.ensures.counts)))))))));
       memory = c.in_err-take-3.ensures.memory;
-      reads = told_then c.args.bits.now c.take.new.self c.take-8.new.self _ c.in_ok-take.ensures.counts c.in_ok-take.ensures.reads (told_past {read = judged (not (nat_eq c.in_ok-take.field-0 0x7FFC)) BadSync c.take.new.self.cursor} c.take.new.self c.take-8.new.self c.take.new.self.cursor _ (rw c.if-branch-ne32764.false refl) (told_then c.take.new.self c.take-2.new.self c.take-8.new.self _ c.in_ok-variable.ensures.counts c.in_ok-variable.ensures.reads (told_then c.take-2.new.self c.take-3.new.self c.take-8.new.self _ c.in_ok-size_code.ensures.counts c.in_ok-size_code.ensures.reads (told_past {read = judged (nat_eq c.in_ok-size_code.field-0 0) ReservedCode c.take-3.new.self.cursor} c.take-3.new.self c.take-8.new.self c.take-3.new.self.cursor _ (rw (ne_eqb c.in_ok-size_code.field-0 0 c.if-size_code-eq0.false) refl) (told_then c.take-3.new.self c.take-4.new.self c.take-8.new.self _ c.in_ok-rate_code.ensures.counts c.in_ok-rate_code.ensures.reads (told_past {read = judged (nat_eq c.in_ok-rate_code.field-0 15) ReservedCode c.take-4.new.self.cursor} c.take-4.new.self c.take-8.new.self c.take-4.new.self.cursor _ (rw (ne_eqb c.in_ok-rate_code.field-0 15 c.if-rate_code-eq15.false) refl) (told_then c.take-4.new.self c.take-5.new.self c.take-8.new.self _ c.in_ok-channel_code.ensures.counts c.in_ok-channel_code.ensures.reads (told_past {read = judged (nat_lt 10 c.in_ok-channel_code.field-0) ReservedCode c.take-5.new.self.cursor} c.take-5.new.self c.take-8.new.self c.take-5.new.self.cursor _ (search rules) (told_then c.take-5.new.self c.take-6.new.self c.take-8.new.self _ c.in_ok-depth_code.ensures.counts c.in_ok-depth_code.ensures.reads (told_past {read = judged (nat_eq c.in_ok-depth_code.field-0 3) ReservedCode c.take-6.new.self.cursor} c.take-6.new.self c.take-8.new.self c.take-6.new.self.cursor _ (rw (ne_eqb c.in_ok-depth_code.field-0 3 c.if-depth_code-eq3.false) refl) (told_then c.take-6.new.self c.take-7.new.self c.take-8.new.self _ c.in_ok-take-2.ensures.counts c.in_ok-take-2.ensures.reads (told_past {read = judged (not (nat_eq c.in_ok-take-2.field-0 0)) ReservedCode c.take-7.new.self.cursor} c.take-7.new.self c.take-8.new.self c.take-7.new.self.cursor _ (rw c.if-branch-ne0.false refl) (told_then c.take-7.new.self c.read_number.new.bits c.take-8.new.self _ c.in_ok-number.ensures.counts (rw most at c.in_ok-number.ensures.reads) (told_then c.read_number.new.bits c.read_size.new.bits c.take-8.new.self _ c.in_ok-size.ensures.counts c.in_ok-size.ensures.reads (told_then c.read_size.new.bits c.read_rate.new.bits c.take-8.new.self _ c.in_ok-rate.ensures.counts c.in_ok-rate.ensures.reads (told_fault c.read_rate.new.bits c.take-8.new.self _ c.in_err-take-3.ensures.reads))))))))))))))));
+      reads = told_then c.args.bits.now c.take.new.self c.take-8.new.self _ c.in_ok-take.ensures.counts c.in_ok-take.ensures.reads (told_past {read = judged (not (nat_eq c.in_ok-take.field-0 0x7FFC)) BadSync c.take.new.self.cursor} c.take.new.self c.take-8.new.self c.take.new.self.cursor _ (rw c.if-branch-ne32764.false refl) (told_then c.take.new.self c.take-2.new.self c.take-8.new.self _ c.in_ok-variable.ensures.counts c.in_ok-variable.ensures.reads (told_then c.take-2.new.self c.take-3.new.self c.take-8.new.self _ c.in_ok-size_code.ensures.counts c.in_ok-size_code.ensures.reads (told_past {read = judged (nat_eq c.in_ok-size_code.field-0 0) ReservedCode c.take-3.new.self.cursor} c.take-3.new.self c.take-8.new.self c.take-3.new.self.cursor _ (rw (ne_eqb c.in_ok-size_code.field-0 0 c.if-size_code-eq0.false) refl) (told_then c.take-3.new.self c.take-4.new.self c.take-8.new.self _ c.in_ok-rate_code.ensures.counts c.in_ok-rate_code.ensures.reads (told_past {read = judged (nat_eq c.in_ok-rate_code.field-0 15) ReservedCode c.take-4.new.self.cursor} c.take-4.new.self c.take-8.new.self c.take-4.new.self.cursor _ (rw (ne_eqb c.in_ok-rate_code.field-0 15 c.if-rate_code-eq15.false) refl) (told_then c.take-4.new.self c.take-5.new.self c.take-8.new.self _ c.in_ok-channel_code.ensures.counts c.in_ok-channel_code.ensures.reads (told_past {read = judged (nat_lt 10 c.in_ok-channel_code.field-0) ReservedCode c.take-5.new.self.cursor} c.take-5.new.self c.take-8.new.self c.take-5.new.self.cursor _ (rw (at_most_10 c.in_ok-channel_code.field-0 c.if-channel_code-gt10.false) refl) (told_then c.take-5.new.self c.take-6.new.self c.take-8.new.self _ c.in_ok-depth_code.ensures.counts c.in_ok-depth_code.ensures.reads (told_past {read = judged (nat_eq c.in_ok-depth_code.field-0 3) ReservedCode c.take-6.new.self.cursor} c.take-6.new.self c.take-8.new.self c.take-6.new.self.cursor _ (rw (ne_eqb c.in_ok-depth_code.field-0 3 c.if-depth_code-eq3.false) refl) (told_then c.take-6.new.self c.take-7.new.self c.take-8.new.self _ c.in_ok-take-2.ensures.counts c.in_ok-take-2.ensures.reads (told_past {read = judged (not (nat_eq c.in_ok-take-2.field-0 0)) ReservedCode c.take-7.new.self.cursor} c.take-7.new.self c.take-8.new.self c.take-7.new.self.cursor _ (rw c.if-branch-ne0.false refl) (told_then c.take-7.new.self c.read_number.new.bits c.take-8.new.self _ c.in_ok-number.ensures.counts (rw most at c.in_ok-number.ensures.reads) (told_then c.read_number.new.bits c.read_size.new.bits c.take-8.new.self _ c.in_ok-size.ensures.counts c.in_ok-size.ensures.reads (told_then c.read_size.new.bits c.read_rate.new.bits c.take-8.new.self _ c.in_ok-rate.ensures.counts c.in_ok-rate.ensures.reads (told_fault c.read_rate.new.bits c.take-8.new.self _ c.in_err-take-3.ensures.reads))))))))))))))));
     })
 
 pub returns-then-branch-from : goal.returns-then-branch-from
@@ -207,9 +229,9 @@ returns-then-branch-from g c =
     let most : c.if-variable.read_number ≡ number_bits (nat_eq c.in_ok-variable.field-0 1) = elim c.if-variable.branch [ then-variable w ↦ rw (w.read_number-is, w.if-variable.true) refl | else-variable w ↦ rw (w.read_number-is, ne_eqb c.in_ok-variable.field-0 1 w.if-variable.false) refl ] in
     record {
       spends = tt;
-      counts = refused_then c.args.bits.now c.take-8.new.self (answered_then c.args.bits.now c.take.new.self c.take-8.new.self c.in_ok-take.ensures.counts (answered_then c.take.new.self c.take-2.new.self c.take-8.new.self c.in_ok-variable.ensures.counts (answered_then c.take-2.new.self c.take-3.new.self c.take-8.new.self c.in_ok-size_code.ensures.counts (answered_then c.take-3.new.self c.take-4.new.self c.take-8.new.self c.in_ok-rate_code.ensures.counts (answered_then c.take-4.new.self c.take-5.new.self c.take-8.new.self c.in_ok-channel_code.ensures.counts (answered_then c.take-5.new.self c.take-6.new.self c.take-8.new.self c.in_ok-depth_code.ensures.counts (answered_then c.take-6.new.self c.take-7.new.self c.take-8.new.self c.in_ok-take-2.ensures.counts (answered_then c.take-7.new.self c.read_number.new.bits c.take-8.new.self c.in_ok-number.ensures.counts (answered_then c.read_number.new.bits c.read_size.new.bits c.take-8.new.self c.in_ok-size.ensures.counts (answered_then c.read_size.new.bits c.read_rate.new.bits c.take-8.new.self c.in_ok-rate.ensures.counts c.in_ok-take-3.ensures.counts)))))))))) (λ q. cc);
-      memory = λ q. cc;
-      reads = told_then c.args.bits.now c.take.new.self c.take-8.new.self _ c.in_ok-take.ensures.counts c.in_ok-take.ensures.reads (told_past {read = judged (not (nat_eq c.in_ok-take.field-0 0x7FFC)) BadSync c.take.new.self.cursor} c.take.new.self c.take-8.new.self c.take.new.self.cursor _ (rw c.if-branch-ne32764.false refl) (told_then c.take.new.self c.take-2.new.self c.take-8.new.self _ c.in_ok-variable.ensures.counts c.in_ok-variable.ensures.reads (told_then c.take-2.new.self c.take-3.new.self c.take-8.new.self _ c.in_ok-size_code.ensures.counts c.in_ok-size_code.ensures.reads (told_past {read = judged (nat_eq c.in_ok-size_code.field-0 0) ReservedCode c.take-3.new.self.cursor} c.take-3.new.self c.take-8.new.self c.take-3.new.self.cursor _ (rw (ne_eqb c.in_ok-size_code.field-0 0 c.if-size_code-eq0.false) refl) (told_then c.take-3.new.self c.take-4.new.self c.take-8.new.self _ c.in_ok-rate_code.ensures.counts c.in_ok-rate_code.ensures.reads (told_past {read = judged (nat_eq c.in_ok-rate_code.field-0 15) ReservedCode c.take-4.new.self.cursor} c.take-4.new.self c.take-8.new.self c.take-4.new.self.cursor _ (rw (ne_eqb c.in_ok-rate_code.field-0 15 c.if-rate_code-eq15.false) refl) (told_then c.take-4.new.self c.take-5.new.self c.take-8.new.self _ c.in_ok-channel_code.ensures.counts c.in_ok-channel_code.ensures.reads (told_past {read = judged (nat_lt 10 c.in_ok-channel_code.field-0) ReservedCode c.take-5.new.self.cursor} c.take-5.new.self c.take-8.new.self c.take-5.new.self.cursor _ (search rules) (told_then c.take-5.new.self c.take-6.new.self c.take-8.new.self _ c.in_ok-depth_code.ensures.counts c.in_ok-depth_code.ensures.reads (told_past {read = judged (nat_eq c.in_ok-depth_code.field-0 3) ReservedCode c.take-6.new.self.cursor} c.take-6.new.self c.take-8.new.self c.take-6.new.self.cursor _ (rw (ne_eqb c.in_ok-depth_code.field-0 3 c.if-depth_code-eq3.false) refl) (told_then c.take-6.new.self c.take-7.new.self c.take-8.new.self _ c.in_ok-take-2.ensures.counts c.in_ok-take-2.ensures.reads (told_past {read = judged (not (nat_eq c.in_ok-take-2.field-0 0)) ReservedCode c.take-7.new.self.cursor} c.take-7.new.self c.take-8.new.self c.take-7.new.self.cursor _ (rw c.if-branch-ne0.false refl) (told_then c.take-7.new.self c.read_number.new.bits c.take-8.new.self _ c.in_ok-number.ensures.counts (rw most at c.in_ok-number.ensures.reads) (told_then c.read_number.new.bits c.read_size.new.bits c.take-8.new.self _ c.in_ok-size.ensures.counts c.in_ok-size.ensures.reads (told_then c.read_size.new.bits c.read_rate.new.bits c.take-8.new.self _ c.in_ok-rate.ensures.counts c.in_ok-rate.ensures.reads (told_then c.read_rate.new.bits c.take-8.new.self c.take-8.new.self _ c.in_ok-take-3.ensures.counts c.in_ok-take-3.ensures.reads (told_broken {read = judged (not (nat_eq c.in_ok-take-3.field-0 c.read_rate.new.bits.cursor.mark.check8)) HeaderCheck c.take-8.new.self.cursor} c.take-8.new.self c.take-8.new.self _ (search rules))))))))))))))))));
+      counts = refused_then c.args.bits.now c.take-8.new.self (answered_then c.args.bits.now c.take.new.self c.take-8.new.self c.in_ok-take.ensures.counts (answered_then c.take.new.self c.take-2.new.self c.take-8.new.self c.in_ok-variable.ensures.counts (answered_then c.take-2.new.self c.take-3.new.self c.take-8.new.self c.in_ok-size_code.ensures.counts (answered_then c.take-3.new.self c.take-4.new.self c.take-8.new.self c.in_ok-rate_code.ensures.counts (answered_then c.take-4.new.self c.take-5.new.self c.take-8.new.self c.in_ok-channel_code.ensures.counts (answered_then c.take-5.new.self c.take-6.new.self c.take-8.new.self c.in_ok-depth_code.ensures.counts (answered_then c.take-6.new.self c.take-7.new.self c.take-8.new.self c.in_ok-take-2.ensures.counts (answered_then c.take-7.new.self c.read_number.new.bits c.take-8.new.self c.in_ok-number.ensures.counts (answered_then c.read_number.new.bits c.read_size.new.bits c.take-8.new.self c.in_ok-size.ensures.counts (answered_then c.read_size.new.bits c.read_rate.new.bits c.take-8.new.self c.in_ok-rate.ensures.counts c.in_ok-take-3.ensures.counts)))))))))) check_no_read;
+      memory = check_no_memory;
+      reads = told_then c.args.bits.now c.take.new.self c.take-8.new.self _ c.in_ok-take.ensures.counts c.in_ok-take.ensures.reads (told_past {read = judged (not (nat_eq c.in_ok-take.field-0 0x7FFC)) BadSync c.take.new.self.cursor} c.take.new.self c.take-8.new.self c.take.new.self.cursor _ (rw c.if-branch-ne32764.false refl) (told_then c.take.new.self c.take-2.new.self c.take-8.new.self _ c.in_ok-variable.ensures.counts c.in_ok-variable.ensures.reads (told_then c.take-2.new.self c.take-3.new.self c.take-8.new.self _ c.in_ok-size_code.ensures.counts c.in_ok-size_code.ensures.reads (told_past {read = judged (nat_eq c.in_ok-size_code.field-0 0) ReservedCode c.take-3.new.self.cursor} c.take-3.new.self c.take-8.new.self c.take-3.new.self.cursor _ (rw (ne_eqb c.in_ok-size_code.field-0 0 c.if-size_code-eq0.false) refl) (told_then c.take-3.new.self c.take-4.new.self c.take-8.new.self _ c.in_ok-rate_code.ensures.counts c.in_ok-rate_code.ensures.reads (told_past {read = judged (nat_eq c.in_ok-rate_code.field-0 15) ReservedCode c.take-4.new.self.cursor} c.take-4.new.self c.take-8.new.self c.take-4.new.self.cursor _ (rw (ne_eqb c.in_ok-rate_code.field-0 15 c.if-rate_code-eq15.false) refl) (told_then c.take-4.new.self c.take-5.new.self c.take-8.new.self _ c.in_ok-channel_code.ensures.counts c.in_ok-channel_code.ensures.reads (told_past {read = judged (nat_lt 10 c.in_ok-channel_code.field-0) ReservedCode c.take-5.new.self.cursor} c.take-5.new.self c.take-8.new.self c.take-5.new.self.cursor _ (rw (at_most_10 c.in_ok-channel_code.field-0 c.if-channel_code-gt10.false) refl) (told_then c.take-5.new.self c.take-6.new.self c.take-8.new.self _ c.in_ok-depth_code.ensures.counts c.in_ok-depth_code.ensures.reads (told_past {read = judged (nat_eq c.in_ok-depth_code.field-0 3) ReservedCode c.take-6.new.self.cursor} c.take-6.new.self c.take-8.new.self c.take-6.new.self.cursor _ (rw (ne_eqb c.in_ok-depth_code.field-0 3 c.if-depth_code-eq3.false) refl) (told_then c.take-6.new.self c.take-7.new.self c.take-8.new.self _ c.in_ok-take-2.ensures.counts c.in_ok-take-2.ensures.reads (told_past {read = judged (not (nat_eq c.in_ok-take-2.field-0 0)) ReservedCode c.take-7.new.self.cursor} c.take-7.new.self c.take-8.new.self c.take-7.new.self.cursor _ (rw c.if-branch-ne0.false refl) (told_then c.take-7.new.self c.read_number.new.bits c.take-8.new.self _ c.in_ok-number.ensures.counts (rw most at c.in_ok-number.ensures.reads) (told_then c.read_number.new.bits c.read_size.new.bits c.take-8.new.self _ c.in_ok-size.ensures.counts c.in_ok-size.ensures.reads (told_then c.read_size.new.bits c.read_rate.new.bits c.take-8.new.self _ c.in_ok-rate.ensures.counts c.in_ok-rate.ensures.reads (told_then c.read_rate.new.bits c.take-8.new.self c.take-8.new.self _ c.in_ok-take-3.ensures.counts c.in_ok-take-3.ensures.reads (told_broken {read = judged (not (nat_eq c.in_ok-take-3.field-0 c.read_rate.new.bits.cursor.mark.check8)) HeaderCheck c.take-8.new.self.cursor} c.take-8.new.self c.take-8.new.self _ (search rules))))))))))))))))));
     }
 
 pub returns-clause-counts : goal.returns-clause-counts
@@ -219,4 +241,4 @@ pub returns-clause-reads : goal.returns-clause-reads
 unfolding header
 returns-clause-reads g c =
     let most : c.if-variable.read_number ≡ number_bits (nat_eq c.in_ok-variable.field-0 1) = elim c.if-variable.branch [ then-variable w ↦ rw (w.read_number-is, w.if-variable.true) refl | else-variable w ↦ rw (w.read_number-is, ne_eqb c.in_ok-variable.field-0 1 w.if-variable.false) refl ] in
-    told_then c.args.bits.now c.take.new.self c.take-8.new.self _ c.in_ok-take.ensures.counts c.in_ok-take.ensures.reads (told_past {read = judged (not (nat_eq c.in_ok-take.field-0 0x7FFC)) BadSync c.take.new.self.cursor} c.take.new.self c.take-8.new.self c.take.new.self.cursor _ (rw c.if-branch-ne32764.false refl) (told_then c.take.new.self c.take-2.new.self c.take-8.new.self _ c.in_ok-variable.ensures.counts c.in_ok-variable.ensures.reads (told_then c.take-2.new.self c.take-3.new.self c.take-8.new.self _ c.in_ok-size_code.ensures.counts c.in_ok-size_code.ensures.reads (told_past {read = judged (nat_eq c.in_ok-size_code.field-0 0) ReservedCode c.take-3.new.self.cursor} c.take-3.new.self c.take-8.new.self c.take-3.new.self.cursor _ (rw (ne_eqb c.in_ok-size_code.field-0 0 c.if-size_code-eq0.false) refl) (told_then c.take-3.new.self c.take-4.new.self c.take-8.new.self _ c.in_ok-rate_code.ensures.counts c.in_ok-rate_code.ensures.reads (told_past {read = judged (nat_eq c.in_ok-rate_code.field-0 15) ReservedCode c.take-4.new.self.cursor} c.take-4.new.self c.take-8.new.self c.take-4.new.self.cursor _ (rw (ne_eqb c.in_ok-rate_code.field-0 15 c.if-rate_code-eq15.false) refl) (told_then c.take-4.new.self c.take-5.new.self c.take-8.new.self _ c.in_ok-channel_code.ensures.counts c.in_ok-channel_code.ensures.reads (told_past {read = judged (nat_lt 10 c.in_ok-channel_code.field-0) ReservedCode c.take-5.new.self.cursor} c.take-5.new.self c.take-8.new.self c.take-5.new.self.cursor _ (search rules) (told_then c.take-5.new.self c.take-6.new.self c.take-8.new.self _ c.in_ok-depth_code.ensures.counts c.in_ok-depth_code.ensures.reads (told_past {read = judged (nat_eq c.in_ok-depth_code.field-0 3) ReservedCode c.take-6.new.self.cursor} c.take-6.new.self c.take-8.new.self c.take-6.new.self.cursor _ (rw (ne_eqb c.in_ok-depth_code.field-0 3 c.if-depth_code-eq3.false) refl) (told_then c.take-6.new.self c.take-7.new.self c.take-8.new.self _ c.in_ok-take-2.ensures.counts c.in_ok-take-2.ensures.reads (told_past {read = judged (not (nat_eq c.in_ok-take-2.field-0 0)) ReservedCode c.take-7.new.self.cursor} c.take-7.new.self c.take-8.new.self c.take-7.new.self.cursor _ (rw c.if-branch-ne0.false refl) (told_then c.take-7.new.self c.read_number.new.bits c.take-8.new.self _ c.in_ok-number.ensures.counts (rw most at c.in_ok-number.ensures.reads) (told_then c.read_number.new.bits c.read_size.new.bits c.take-8.new.self _ c.in_ok-size.ensures.counts c.in_ok-size.ensures.reads (told_then c.read_size.new.bits c.read_rate.new.bits c.take-8.new.self _ c.in_ok-rate.ensures.counts c.in_ok-rate.ensures.reads (told_then c.read_rate.new.bits c.take-8.new.self c.take-8.new.self _ c.in_ok-take-3.ensures.counts c.in_ok-take-3.ensures.reads (told_past {read = judged (not (nat_eq c.in_ok-take-3.field-0 c.read_rate.new.bits.cursor.mark.check8)) HeaderCheck c.take-8.new.self.cursor} c.take-8.new.self c.take-8.new.self c.take-8.new.self.cursor _ (search rules) (λ known same. refl))))))))))))))))))
+    told_then c.args.bits.now c.take.new.self c.take-8.new.self _ c.in_ok-take.ensures.counts c.in_ok-take.ensures.reads (told_past {read = judged (not (nat_eq c.in_ok-take.field-0 0x7FFC)) BadSync c.take.new.self.cursor} c.take.new.self c.take-8.new.self c.take.new.self.cursor _ (rw c.if-branch-ne32764.false refl) (told_then c.take.new.self c.take-2.new.self c.take-8.new.self _ c.in_ok-variable.ensures.counts c.in_ok-variable.ensures.reads (told_then c.take-2.new.self c.take-3.new.self c.take-8.new.self _ c.in_ok-size_code.ensures.counts c.in_ok-size_code.ensures.reads (told_past {read = judged (nat_eq c.in_ok-size_code.field-0 0) ReservedCode c.take-3.new.self.cursor} c.take-3.new.self c.take-8.new.self c.take-3.new.self.cursor _ (rw (ne_eqb c.in_ok-size_code.field-0 0 c.if-size_code-eq0.false) refl) (told_then c.take-3.new.self c.take-4.new.self c.take-8.new.self _ c.in_ok-rate_code.ensures.counts c.in_ok-rate_code.ensures.reads (told_past {read = judged (nat_eq c.in_ok-rate_code.field-0 15) ReservedCode c.take-4.new.self.cursor} c.take-4.new.self c.take-8.new.self c.take-4.new.self.cursor _ (rw (ne_eqb c.in_ok-rate_code.field-0 15 c.if-rate_code-eq15.false) refl) (told_then c.take-4.new.self c.take-5.new.self c.take-8.new.self _ c.in_ok-channel_code.ensures.counts c.in_ok-channel_code.ensures.reads (told_past {read = judged (nat_lt 10 c.in_ok-channel_code.field-0) ReservedCode c.take-5.new.self.cursor} c.take-5.new.self c.take-8.new.self c.take-5.new.self.cursor _ (rw (at_most_10 c.in_ok-channel_code.field-0 c.if-channel_code-gt10.false) refl) (told_then c.take-5.new.self c.take-6.new.self c.take-8.new.self _ c.in_ok-depth_code.ensures.counts c.in_ok-depth_code.ensures.reads (told_past {read = judged (nat_eq c.in_ok-depth_code.field-0 3) ReservedCode c.take-6.new.self.cursor} c.take-6.new.self c.take-8.new.self c.take-6.new.self.cursor _ (rw (ne_eqb c.in_ok-depth_code.field-0 3 c.if-depth_code-eq3.false) refl) (told_then c.take-6.new.self c.take-7.new.self c.take-8.new.self _ c.in_ok-take-2.ensures.counts c.in_ok-take-2.ensures.reads (told_past {read = judged (not (nat_eq c.in_ok-take-2.field-0 0)) ReservedCode c.take-7.new.self.cursor} c.take-7.new.self c.take-8.new.self c.take-7.new.self.cursor _ (rw c.if-branch-ne0.false refl) (told_then c.take-7.new.self c.read_number.new.bits c.take-8.new.self _ c.in_ok-number.ensures.counts (rw most at c.in_ok-number.ensures.reads) (told_then c.read_number.new.bits c.read_size.new.bits c.take-8.new.self _ c.in_ok-size.ensures.counts c.in_ok-size.ensures.reads (told_then c.read_size.new.bits c.read_rate.new.bits c.take-8.new.self _ c.in_ok-rate.ensures.counts c.in_ok-rate.ensures.reads (told_then c.read_rate.new.bits c.take-8.new.self c.take-8.new.self _ c.in_ok-take-3.ensures.counts c.in_ok-take-3.ensures.reads (told_past {read = judged (not (nat_eq c.in_ok-take-3.field-0 c.read_rate.new.bits.cursor.mark.check8)) HeaderCheck c.take-8.new.self.cursor} c.take-8.new.self c.take-8.new.self c.take-8.new.self.cursor _ (search rules) (λ known same. refl))))))))))))))))))
