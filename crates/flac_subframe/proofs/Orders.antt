@@ -106,3 +106,17 @@ module _ (most order : ℕ) (rs : List ℤ) (h : ℕ) (within : h ≤ most) (gre
 
   pub none_less : (n below : ℕ) → IsLeastCost (MayWrite h order rs) (residual_cost order rs) n → below ≤ n → (f : Codings) → MayWrite most order rs f → below ≤ residual_cost order rs f
   none_less n below all le f m = omega (arith, all.least.least f (narrower f m), all.is)
+
+-- The block can be halved h times and not more, so a form of any partition order up to the greatest is one of those up to h.
+module _ (order h most : ℕ) (rs : List ℤ) (within : h ≤ most) (greatest : (p : ℕ) → p ≤ most → Halves order rs p → p ≤ h) where
+  coarser_form : (f : Codings) → MayWrite most order rs f → MayWrite h order rs f
+  coarser_form f m = record { method = m.method; few = greatest f.halvings m.few (record { even = m.even; room = m.room }); even = m.even; room = m.room; each = m.each; codings = m.codings }
+
+  pub least_of_all : (f : Codings) → IsLeast (MayWrite h order rs) (residual_cost order rs) f → IsLeast (MayWrite most order rs) (residual_cost order rs) f
+  least_of_all f so = let m = so.member in record {
+    member = record { method = m.method; few = omega (arith, m.few, within); even = m.even; room = m.room; each = m.each; codings = m.codings };
+    least = λ g may. so.least g (coarser_form g may);
+  }
+
+  pub none_of_all : (below : ℕ) → ((f : Codings) → MayWrite h order rs f → below ≤ residual_cost order rs f) → (f : Codings) → MayWrite most order rs f → below ≤ residual_cost order rs f
+  none_of_all below none f may = none f (coarser_form f may)

@@ -1,5 +1,6 @@
 -- The codings of least cost, one partition after another.
-use Rattle.std.proofs.Common.{◌≡◌, ◌⊎◌, ◌∙◌, inl, inr, refl, sym, ap, ℕ, suc, ◌+◌, ◌-◌, ◌*◌, ◌^◌, ◌≤◌, ◌<◌, arith, List, [], ◌∷◌, ◌++◌, length, take, drop, ℤ, All, append_assoc, length-append, min}
+use Rattle.std.proofs.Common.{◌≡◌, ◌⊎◌, ◌∙◌, inl, inr, refl, sym, ap, ℕ, suc, ◌+◌, ◌-◌, ◌*◌, ◌/◌, ◌^◌, ◌≤◌, ◌<◌, arith, List, [], ◌∷◌, ◌++◌, length, take, drop, ℤ, All, append_assoc, length-append, min}
+use Rattle.std.proofs.lemmas.Nat.{pow_pos}
 use Rattle.std.proofs.Math.Nat.{suc-mul}
 use Rattle.std.proofs.lemmas.List.{length-drop, length-take, append-nil}
 use Rattle.std.proofs.lemmas.List.Elements.{All-drop}
@@ -7,6 +8,7 @@ use Rattle.flac_subframe.specs.declared.coding.Coding.{Coding}
 use Rattle.flac_subframe.specs.Least.{IsLeast}
 use Rattle.flac_bits.specs.Rice.{IsResidual}
 use Rattle.flac_subframe.specs.Cost.{MayCode}
+use Rattle.flac_subframe.specs.Halves.{Halves}
 use Rattle.flac_subframe.specs.Cost.{coding_cost, partitions_cost, Partitioned}
 
 -- a least coding for the first partition and least codings for the rest
@@ -58,6 +60,20 @@ priced_more w first size count rs done bits long m rest c b method so p is small
 pub priced_none : (w long size : ℕ) (rest : List ℤ) → IsLeast (Partitioned w long size 0 rest) (partitions_cost w long size rest) []
 unfolding partitions_cost
 priced_none w long size rest = record { member = (refl, tt); least = λ cs h. omega arith }
+
+-- before the first partition
+pub priced_start : (w order p count left : ℕ) (rs : List ℤ) → Halves order rs p → All IsResidual rs → count ≡ 2 ^ p → left ≡ count →
+    (let size : ℕ = (length rs + order) / 2 ^ p in PricedTo w (size - order) size count rs [] 0 (size - order) left rs)
+priced_start w order p count left rs halves range is same =
+    let whole : length rs + order ≡ 2 ^ p * ((length rs + order) / 2 ^ p) = omega (arith, halves.even, pow_pos p) in
+    record {
+      counted = omega arith;
+      cut = λ some. rw (same, is) (omega (arith, whole, halves.room));
+      range = range;
+      small = omega arith;
+      least = λ tail q. rw same at q;
+      cost = λ tail. omega arith;
+    }
 
 module _ (w first size count : ℕ) (rs : List ℤ) (done : List Coding) (bits long left : ℕ) (rest : List ℤ) (none : left ≡ 0) (so : PricedTo w first size count rs done bits long left rest) where
   pub priced_least : IsLeast (Partitioned w first size count rs) (partitions_cost w first size rs) done

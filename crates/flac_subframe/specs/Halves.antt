@@ -34,6 +34,10 @@ pub record LeastBelow (k : ℕ) (rs : List ℤ) (e : ℕ) : Type 0 where
   pub some : 0 < k → (n : ℕ) × (n < k) × (e ≡ priced n (sum_by (value_cost n) rs))
   pub least : (n : ℕ) → n < k → e ≤ priced n (sum_by (value_cost n) rs)
 
+-- the numbers for the partitions at each partition order up to the greatest
+abbrev pub HasEntries : ℕ → ℕ → List ℤ → ℕ → List ℕ → Type 0
+HasEntries k order rs high table = (p j : ℕ) → p ≤ high → j < 2 ^ p → LeastBelow k (part order rs p j) (entry table p j)
+
 -- just the numbers of bits from w on hold each value
 abbrev pub IsWidth : List ℤ → ℕ → Type 0
 IsWidth rs w = (n : ℕ) → (All (FitsWidth n) rs ↔ (w ≤ n))

@@ -7,9 +7,11 @@ ghost use Rattle.flac_bits.specs.Rice.{IsResidual};
 ghost use Rattle.flac_subframe.specs.Bodies.{Chooses, fixed, differences, StandsFor, spelled};
 ghost use Rattle.flac_subframe.specs.Chosen.{body_of, IsBest, fixed_below, priced_as};
 
+use crate::folding::fold_each;
 use crate::halving::ResidualChoice;
 use crate::leaving::{are_narrow, take_differences};
-use crate::survey::least_residual_into;
+use crate::survey::{Tables, greatest_halvings, least_residual_into};
+use crate::view::{ResidualView, SampleView};
 use arrayvec::ArrayVec;
 
 /// How the samples of a subframe are written.
@@ -110,59 +112,42 @@ fn likely_order(samples: &[i64]) -> usize
 
 /// Replaces the best so far by the fixed predictor of an order, if that takes fewer bits.
 fn better_fixed(
-    samples: &[i64],
-    narrow: bool,
-    bits: u32,
-    most: u8,
+    subject: &SampleView<'_>,
     order: usize,
     values: &mut [i64],
     folds: &mut [u32],
-    sums: &mut [u64],
-    four: &mut [u64],
-    five: &mut [u64],
-    widths: &mut [u8],
+    tables: &mut Tables,
     best: &mut Held,
 )
-    requires few { length samples.now ≤ 65535 }
-    requires most { most ≤ 8 }
-    requires bits { bits ≤ 33 }
-    requires fits { All (FitsBits 33) samples.now }
-    requires narrow { IsTrue narrow → All (FitsBits 27) samples.now }
     requires order { order ≤ 4 }
-    requires places { length samples.now ≤ length values.old }
-    requires folds { length samples.now ≤ length folds.old }
-    requires sums { 2 ^ most ≤ length sums.old }
-    requires four { 2 * 2 ^ most ≤ length four.old }
-    requires five { 2 * 2 ^ most ≤ length five.old }
-    requires widths { 2 * 2 ^ most ≤ length widths.old }
+    requires places { length subject.now.samples.now ≤ length values.old }
+    requires folds { length subject.now.samples.now ≤ length folds.old }
     requires small { best.old.bits ≤ 2 ^ 60 }
-    ensures { (tried : List Chooses) → IsBest most bits samples.now tried (priced_as best.old) → IsBest most bits samples.now (tried ++ fixed order ∷ []) (priced_as best.new) }
+    ensures { (tried : List Chooses) → IsBest subject.now.most subject.now.bits subject.now.samples.now tried (priced_as best.old) → IsBest subject.now.most subject.now.bits subject.now.samples.now (tried ++ fixed order ∷ []) (priced_as best.new) }
 {
+    let samples = subject.samples;
     if order >= samples.len() {
         return;
     }
     let places = &mut values[..samples.len() - order];
-    if !take_differences(order, samples, narrow, places) {
+    if !take_differences(order, samples, subject.narrow, places) {
         return;
     }
     let limit = limit(best, order);
-    let before = u64::from(bits) * order as u64;
+    let before = u64::from(subject.bits) * order as u64;
     if limit <= before {
         return;
     }
-    let below = limit - before;
-    if least_residual_into(
-        places,
+    let halvings = greatest_halvings(places, order, subject.most);
+    let folds = &mut folds[..places.len()];
+    fold_each(places, folds);
+    let residual = ResidualView {
+        values: places,
         folds,
         order,
-        most,
-        sums,
-        four,
-        five,
-        widths,
-        below,
-        &mut best.residual,
-    ) {
+        halvings,
+    };
+    if least_residual_into(&residual, tables, limit - before, &mut best.residual) {
         best.kind = HeldKind::AsFixed(order);
         best.bits = before + best.residual.bits;
     }
@@ -240,43 +225,25 @@ pub(crate) fn choose_body(
     requires folds { length samples.now ≤ length folds.old }
     ensures { IsBest most bits samples.now (fixed_below 5) result }
 {
-    let mut sums = [0; 256];
-    let mut four = [0; 512];
-    let mut five = [0; 512];
-    let mut widths = [0; 512];
+    let mut tables = Tables {
+        sums: [0; 256],
+        four: [0; 512],
+        five: [0; 512],
+        widths: [0; 512],
+    };
     let mut best = begin(samples, bits);
     let first = likely_order(samples);
     let narrow = are_narrow(samples);
-    better_fixed(
+    let subject = SampleView {
         samples,
-        narrow,
         bits,
         most,
-        first,
-        values,
-        folds,
-        &mut sums,
-        &mut four,
-        &mut five,
-        &mut widths,
-        &mut best,
-    );
+        narrow,
+    };
+    better_fixed(&subject, first, values, folds, &mut tables, &mut best);
     for order in 0..5 {
         if order != first {
-            better_fixed(
-                samples,
-                narrow,
-                bits,
-                most,
-                order,
-                values,
-                folds,
-                &mut sums,
-                &mut four,
-                &mut five,
-                &mut widths,
-                &mut best,
-            );
+            better_fixed(&subject, order, values, folds, &mut tables, &mut best);
         }
     }
     release(best)

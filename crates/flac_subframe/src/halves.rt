@@ -3,41 +3,25 @@
 
 ghost use Rattle.std.specs.Prelude.{◌≡◌, ◌<◌, ◌≤◌, ◌^◌, ◌+◌, ◌-◌, ◌*◌, ◌/◌, ℕ, true, false, length, map, min, All, slice_index, ◌⊎◌};
 ghost use Rattle.std.specs.List.{sum_by};
-ghost use Rattle.flac_bits.specs.Rice.{IsResidual};
 ghost use Rattle.flac_subframe.specs.Cost.{value_cost};
-ghost use Rattle.flac_subframe.specs.Spelling.{folded};
-ghost use Rattle.flac_subframe.specs.Halves.{part, Halves, priced, entry, LeastBelow};
+ghost use Rattle.flac_subframe.specs.Halves.{part, priced, entry, HasEntries};
 
 use crate::cost::rice_bits;
 use crate::halving::power;
+use crate::view::ResidualView;
 
 /// What each partition costs under a parameter, at the finest partition order.
-pub(crate) fn price(
-    values: &[i64],
-    folds: &[u32],
-    width: u8,
-    order: usize,
-    halvings: u8,
-    parameter: u8,
-    sums: &mut [u64],
-)
-    requires few { length values.now + order ≤ 65535 }
-    requires range { All IsResidual values.now }
-    requires folded { folds.now ≡ map folded values.now }
-    requires bounded { All (λ n. n < 2 ^ width) folds.now }
-    requires small { All (λ n. n < 2 ^ 32) folds.now }
-    requires long { length folds.now ≡ length values.now }
+pub(crate) fn price(residual: &ResidualView<'_>, width: u8, parameter: u8, sums: &mut [u64])
+    requires bounded { All (λ n. n < 2 ^ width) residual.now.folds.now }
     requires parameter { parameter < 31 }
-    requires most { halvings ≤ 8 }
-    requires halves { Halves order values.now halvings }
-    requires places { length sums.old ≡ 2 ^ halvings }
-    ensures costs { (j : ℕ) → j < 2 ^ halvings → slice_index sums.new j ≡ sum_by (value_cost parameter) (part order values.now halvings j) }
+    requires places { length sums.old ≡ 2 ^ residual.now.halvings }
+    ensures costs { (j : ℕ) → j < 2 ^ residual.now.halvings → slice_index sums.new j ≡ sum_by (value_cost parameter) (part residual.now.order residual.now.values.now residual.now.halvings j) }
 {
-    let size = (values.len() + order) >> halvings;
+    let size = (residual.values.len() + residual.order) >> residual.halvings;
     let mut from = 0;
-    let mut to = size - order;
+    let mut to = size - residual.order;
     for sum in sums.iter_mut() {
-        *sum = rice_bits(&folds[from..to], parameter, width);
+        *sum = rice_bits(&residual.folds[from..to], parameter, width);
         from = to;
         to += size;
     }
@@ -97,35 +81,25 @@ fn gains(sums: &[u64], best: &[u64], parameter: u8) -> bool
 
 /// Compares, at each partition order, each partition's cost under a parameter with the best so far: whether it lowers that of one of the finest.
 fn pass(
-    values: &[i64],
-    folds: &[u32],
+    residual: &ResidualView<'_>,
     width: u8,
-    order: usize,
-    halvings: u8,
     parameter: u8,
     sums: &mut [u64],
     table: &mut [u64],
 ) -> bool
-    requires few { length values.now + order ≤ 65535 }
-    requires range { All IsResidual values.now }
-    requires folded { folds.now ≡ map folded values.now }
-    requires bounded { All (λ n. n < 2 ^ width) folds.now }
-    requires small { All (λ n. n < 2 ^ 32) folds.now }
-    requires long { length folds.now ≡ length values.now }
+    requires bounded { All (λ n. n < 2 ^ width) residual.now.folds.now }
     requires parameter { parameter < 31 }
-    requires most { halvings ≤ 8 }
-    requires halves { Halves order values.now halvings }
-    requires sums { length sums.old ≡ 2 ^ halvings }
-    requires table { 2 * 2 ^ halvings ≤ length table.old }
+    requires sums { length sums.old ≡ 2 ^ residual.now.halvings }
+    requires table { 2 * 2 ^ residual.now.halvings ≤ length table.old }
     ensures kept { length table.new ≡ length table.old }
-    ensures entries { (p j : ℕ) → p ≤ halvings → j < 2 ^ p → entry table.new p j ≡ min (entry table.old p j) (priced parameter (sum_by (value_cost parameter) (part order values.now p j))) }
-    ensures none { result ≡ false → (j : ℕ) → j < 2 ^ halvings → entry table.old halvings j ≤ priced parameter (sum_by (value_cost parameter) (part order values.now halvings j)) }
+    ensures entries { (p j : ℕ) → p ≤ residual.now.halvings → j < 2 ^ p → entry table.new p j ≡ min (entry table.old p j) (priced parameter (sum_by (value_cost parameter) (part residual.now.order residual.now.values.now p j))) }
+    ensures none { result ≡ false → (j : ℕ) → j < 2 ^ residual.now.halvings → entry table.old residual.now.halvings j ≤ priced parameter (sum_by (value_cost parameter) (part residual.now.order residual.now.values.now residual.now.halvings j)) }
 {
-    price(values, folds, width, order, halvings, parameter, sums);
-    let first = power(halvings);
+    price(residual, width, parameter, sums);
+    let first = power(residual.halvings);
     let gained = gains(sums, &table[first..2 * first], parameter);
-    note_level(sums, table, halvings, parameter);
-    let mut level = halvings;
+    note_level(sums, table, residual.halvings, parameter);
+    let mut level = residual.halvings;
     while level > 0 {
         level -= 1;
         pair(sums, power(level));
@@ -136,34 +110,24 @@ fn pass(
 
 /// Fills an empty table with the least of the parameters below one: tries them downwards, as long as one of the finest partitions gains by it.
 pub(crate) fn compare_down(
-    values: &[i64],
-    folds: &[u32],
+    residual: &ResidualView<'_>,
     width: u8,
-    order: usize,
-    halvings: u8,
     from: u8,
     sums: &mut [u64],
     table: &mut [u64],
 )
-    requires few { length values.now + order ≤ 65535 }
-    requires range { All IsResidual values.now }
-    requires folded { folds.now ≡ map folded values.now }
-    requires bounded { All (λ n. n < 2 ^ width) folds.now }
-    requires small { All (λ n. n < 2 ^ 32) folds.now }
-    requires long { length folds.now ≡ length values.now }
+    requires bounded { All (λ n. n < 2 ^ width) residual.now.folds.now }
     requires from { from ≤ 31 }
-    requires most { halvings ≤ 8 }
-    requires halves { Halves order values.now halvings }
-    requires sums { length sums.old ≡ 2 ^ halvings }
-    requires table { 2 * 2 ^ halvings ≤ length table.old }
-    requires start { (p j : ℕ) → p ≤ halvings → j < 2 ^ p → entry table.old p j ≡ 2 ^ 64 - 1 }
-    ensures entries { (p j : ℕ) → p ≤ halvings → j < 2 ^ p → LeastBelow from (part order values.now p j) (entry table.new p j) }
+    requires sums { length sums.old ≡ 2 ^ residual.now.halvings }
+    requires table { 2 * 2 ^ residual.now.halvings ≤ length table.old }
+    requires start { (p j : ℕ) → p ≤ residual.now.halvings → j < 2 ^ p → entry table.old p j ≡ 2 ^ 64 - 1 }
+    ensures entries { HasEntries from residual.now.order residual.now.values.now residual.now.halvings table.new }
     ensures long { length table.new ≡ length table.old }
 {
     let mut low = from;
     while low > 0 {
         low -= 1;
-        if !pass(values, folds, width, order, halvings, low, sums, table) {
+        if !pass(residual, width, low, sums, table) {
             return;
         }
     }
@@ -171,37 +135,25 @@ pub(crate) fn compare_down(
 
 /// Goes on with a table of the parameters below one, upwards, as long as one of the finest partitions gains by it: whether none gains by any above.
 pub(crate) fn compare(
-    values: &[i64],
-    folds: &[u32],
+    residual: &ResidualView<'_>,
     width: u8,
-    order: usize,
-    halvings: u8,
     from: u8,
     parameters: u8,
     sums: &mut [u64],
     table: &mut [u64],
 ) -> bool
-    requires few { length values.now + order ≤ 65535 }
-    requires range { All IsResidual values.now }
-    requires folded { folds.now ≡ map folded values.now }
-    requires bounded { All (λ n. n < 2 ^ width) folds.now }
-    requires small { All (λ n. n < 2 ^ 32) folds.now }
-    requires long { length folds.now ≡ length values.now }
+    requires bounded { All (λ n. n < 2 ^ width) residual.now.folds.now }
     requires from { from ≤ parameters }
     requires parameters { parameters ≤ 31 }
-    requires most { halvings ≤ 8 }
-    requires halves { Halves order values.now halvings }
-    requires sums { length sums.old ≡ 2 ^ halvings }
-    requires table { 2 * 2 ^ halvings ≤ length table.old }
-    requires start { (p j : ℕ) → p ≤ halvings → j < 2 ^ p → LeastBelow from (part order values.now p j) (entry table.old p j) }
-    ensures entries { (p j : ℕ) → p ≤ halvings → j < 2 ^ p → LeastBelow parameters (part order values.now p j) (entry table.new p j) }
-    ensures settled { result ≡ true → (p j : ℕ) → p ≤ halvings → j < 2 ^ p → LeastBelow 31 (part order values.now p j) (entry table.new p j) }
+    requires sums { length sums.old ≡ 2 ^ residual.now.halvings }
+    requires table { 2 * 2 ^ residual.now.halvings ≤ length table.old }
+    requires start { HasEntries from residual.now.order residual.now.values.now residual.now.halvings table.old }
+    ensures entries { HasEntries parameters residual.now.order residual.now.values.now residual.now.halvings table.new }
+    ensures settled { result ≡ true → HasEntries 31 residual.now.order residual.now.values.now residual.now.halvings table.new }
     ensures long { length table.new ≡ length table.old }
 {
     for parameter in from..parameters {
-        if !pass(
-            values, folds, width, order, halvings, parameter, sums, table,
-        ) {
+        if !pass(residual, width, parameter, sums, table) {
             return true;
         }
     }

@@ -18,6 +18,7 @@ mod residual;
 mod restoration;
 mod subframe;
 mod survey;
+mod view;
 mod wasted;
 mod widths;
 mod writing;

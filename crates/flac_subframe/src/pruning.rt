@@ -2,14 +2,14 @@
 
 ghost use Rattle.std.specs.Prelude.{◌≡◌, ◌<◌, ◌≤◌, ◌^◌, ◌+◌, ◌*◌, ℕ, length, map, All, IsTrue, slice_index};
 ghost use Rattle.std.specs.List.{sum_by};
-ghost use Rattle.flac_bits.specs.Rice.{IsResidual};
 ghost use Rattle.flac_subframe.specs.Cost.{value_cost, MayWrite, Codings, residual_cost};
 ghost use Rattle.flac_subframe.specs.Spelling.{folded, FitsWidth};
-ghost use Rattle.flac_subframe.specs.Halves.{part, Halves, IsWidth, HasWidths};
+ghost use Rattle.flac_subframe.specs.Halves.{part, IsWidth, HasWidths};
 
 use crate::cost::quotients;
 use crate::halves::price;
 use crate::halving::power;
+use crate::view::ResidualView;
 
 /// A shift that brings the bits of values near their count.
 fn shift_to(count: u64, bits: u64) -> u32
@@ -94,34 +94,19 @@ fn bound_values(values: &[i64], folds: &[u32], bits: u64, width: u8, closely: bo
 }
 
 /// What the finest partitions take at least, one after another.
-fn bound_parts(
-    values: &[i64],
-    folds: &[u32],
-    order: usize,
-    halvings: u8,
-    sums: &[u64],
-    widths: &[u8],
-    closely: bool,
-) -> u64
-    requires few { length values.now + order ≤ 65535 }
-    requires range { All IsResidual values.now }
-    requires folded { folds.now ≡ map folded values.now }
-    requires small { All (λ n. n < 2 ^ 32) folds.now }
-    requires long { length folds.now ≡ length values.now }
-    requires most { halvings ≤ 8 }
-    requires halves { Halves order values.now halvings }
-    requires places { 2 ^ halvings ≤ length sums.now }
-    requires costs { (j : ℕ) → j < 2 ^ halvings → slice_index sums.now j ≡ sum_by (value_cost 0) (part order values.now halvings j) }
-    requires widths { HasWidths order values.now halvings halvings widths.now }
-    requires widths_long { 2 * 2 ^ halvings ≤ length widths.now }
-    ensures { (f : Codings) → MayWrite halvings order values.now f → result ≤ residual_cost order values.now f }
+fn bound_parts(residual: &ResidualView<'_>, sums: &[u64], widths: &[u8], closely: bool) -> u64
+    requires places { 2 ^ residual.now.halvings ≤ length sums.now }
+    requires costs { (j : ℕ) → j < 2 ^ residual.now.halvings → slice_index sums.now j ≡ sum_by (value_cost 0) (part residual.now.order residual.now.values.now residual.now.halvings j) }
+    requires widths { HasWidths residual.now.order residual.now.values.now 0 residual.now.halvings widths.now }
+    requires widths_long { 2 * 2 ^ residual.now.halvings ≤ length widths.now }
+    ensures { (f : Codings) → MayWrite residual.now.halvings residual.now.order residual.now.values.now f → result ≤ residual_cost residual.now.order residual.now.values.now f }
 {
-    let size = (values.len() + order) >> halvings;
-    let count = power(halvings);
+    let size = (residual.values.len() + residual.order) >> residual.halvings;
+    let count = power(residual.halvings);
     let mut bits = 0;
-    let mut rest = values;
-    let mut left = folds;
-    let mut long = size - order;
+    let mut rest = residual.values;
+    let mut left = residual.folds;
+    let mut long = size - residual.order;
     for j in 0..count {
         let (front, after) = rest.split_at(long);
         let (first, others) = left.split_at(long);
@@ -134,87 +119,47 @@ fn bound_parts(
 }
 
 /// What a residual takes at least in any form.
-fn lower_bound(
-    values: &[i64],
-    folds: &[u32],
-    order: usize,
-    halvings: u8,
-    sums: &mut [u64],
-    widths: &[u8],
-) -> u64
-    requires few { length values.now + order ≤ 65535 }
-    requires range { All IsResidual values.now }
-    requires folded { folds.now ≡ map folded values.now }
-    requires small { All (λ n. n < 2 ^ 32) folds.now }
-    requires long { length folds.now ≡ length values.now }
-    requires most { halvings ≤ 8 }
-    requires halves { Halves order values.now halvings }
-    requires sums { 2 ^ halvings ≤ length sums.old }
-    requires widths { HasWidths order values.now 0 halvings widths.now }
-    requires places { 2 * 2 ^ halvings ≤ length widths.now }
-    ensures bound { (f : Codings) → MayWrite halvings order values.now f → result ≤ residual_cost order values.now f }
-    ensures costs { (j : ℕ) → j < 2 ^ halvings → slice_index sums.new j ≡ sum_by (value_cost 0) (part order values.now halvings j) }
+fn lower_bound(residual: &ResidualView<'_>, sums: &mut [u64], widths: &[u8]) -> u64
+    requires sums { 2 ^ residual.now.halvings ≤ length sums.old }
+    requires widths { HasWidths residual.now.order residual.now.values.now 0 residual.now.halvings widths.now }
+    requires places { 2 * 2 ^ residual.now.halvings ≤ length widths.now }
+    ensures bound { (f : Codings) → MayWrite residual.now.halvings residual.now.order residual.now.values.now f → result ≤ residual_cost residual.now.order residual.now.values.now f }
+    ensures costs { (j : ℕ) → j < 2 ^ residual.now.halvings → slice_index sums.new j ≡ sum_by (value_cost 0) (part residual.now.order residual.now.values.now residual.now.halvings j) }
 {
-    let row = &mut sums[..power(halvings)];
-    price(values, folds, widths[1], order, halvings, 0, row);
-    bound_parts(values, folds, order, halvings, row, widths, false)
+    let row = &mut sums[..power(residual.halvings)];
+    price(residual, widths[1], 0, row);
+    bound_parts(residual, row, widths, false)
 }
 
 /// Whether the close bound shows that the residual takes `below` bits or more. It is worked out only if the rough bound is near that.
-fn reaches(
-    values: &[i64],
-    folds: &[u32],
-    order: usize,
-    halvings: u8,
-    sums: &[u64],
-    widths: &[u8],
-    bound: u64,
-    below: u64,
-) -> bool
-    requires few { length values.now + order ≤ 65535 }
-    requires range { All IsResidual values.now }
-    requires folded { folds.now ≡ map folded values.now }
-    requires small { All (λ n. n < 2 ^ 32) folds.now }
-    requires long { length folds.now ≡ length values.now }
-    requires most { halvings ≤ 8 }
-    requires halves { Halves order values.now halvings }
-    requires sums { 2 ^ halvings ≤ length sums.now }
-    requires costs { (j : ℕ) → j < 2 ^ halvings → slice_index sums.now j ≡ sum_by (value_cost 0) (part order values.now halvings j) }
-    requires widths { HasWidths order values.now halvings halvings widths.now }
-    requires places { 2 * 2 ^ halvings ≤ length widths.now }
-    ensures { IsTrue result → (f : Codings) → MayWrite halvings order values.now f → below ≤ residual_cost order values.now f }
+fn reaches(residual: &ResidualView<'_>, sums: &[u64], widths: &[u8], bound: u64, below: u64) -> bool
+    requires sums { 2 ^ residual.now.halvings ≤ length sums.now }
+    requires costs { (j : ℕ) → j < 2 ^ residual.now.halvings → slice_index sums.now j ≡ sum_by (value_cost 0) (part residual.now.order residual.now.values.now residual.now.halvings j) }
+    requires widths { HasWidths residual.now.order residual.now.values.now 0 residual.now.halvings widths.now }
+    requires places { 2 * 2 ^ residual.now.halvings ≤ length widths.now }
+    ensures { IsTrue result → (f : Codings) → MayWrite residual.now.halvings residual.now.order residual.now.values.now f → below ≤ residual_cost residual.now.order residual.now.values.now f }
 {
     if bound < below / 2 {
         return false;
     }
-    bound_parts(values, folds, order, halvings, sums, widths, true) >= below
+    bound_parts(residual, sums, widths, true) >= below
 }
 
 /// Whether lower bounds show that the residual takes `below` bits or more in any form.
 pub(crate) fn is_too_dear(
-    values: &[i64],
-    folds: &[u32],
-    order: usize,
-    halvings: u8,
+    residual: &ResidualView<'_>,
     sums: &mut [u64],
     widths: &[u8],
     below: u64,
 ) -> bool
-    requires few { length values.now + order ≤ 65535 }
-    requires range { All IsResidual values.now }
-    requires folded { folds.now ≡ map folded values.now }
-    requires small { All (λ n. n < 2 ^ 32) folds.now }
-    requires long { length folds.now ≡ length values.now }
-    requires most { halvings ≤ 8 }
-    requires halves { Halves order values.now halvings }
-    requires sums { 2 ^ halvings ≤ length sums.old }
-    requires widths { HasWidths order values.now 0 halvings widths.now }
-    requires places { 2 * 2 ^ halvings ≤ length widths.now }
-    ensures { IsTrue result → (f : Codings) → MayWrite halvings order values.now f → below ≤ residual_cost order values.now f }
+    requires sums { 2 ^ residual.now.halvings ≤ length sums.old }
+    requires widths { HasWidths residual.now.order residual.now.values.now 0 residual.now.halvings widths.now }
+    requires places { 2 * 2 ^ residual.now.halvings ≤ length widths.now }
+    ensures { IsTrue result → (f : Codings) → MayWrite residual.now.halvings residual.now.order residual.now.values.now f → below ≤ residual_cost residual.now.order residual.now.values.now f }
 {
-    let bound = lower_bound(values, folds, order, halvings, sums, widths);
+    let bound = lower_bound(residual, sums, widths);
     if bound >= below {
         return true;
     }
-    reaches(values, folds, order, halvings, sums, widths, bound, below)
+    reaches(residual, sums, widths, bound, below)
 }

@@ -3,6 +3,7 @@ use Rattle.flac_subframe.specs.Prediction.{fixed_coefficients}
 use Rattle.flac_subframe.specs.Bodies.{fixed}
 use Rattle.flac_subframe.proofs.Differences.{length-fixed}
 use Rattle.flac_subframe.specs.Chosen.{priced_as}
+use Rattle.flac_subframe.proofs.Orders.{least_of_all, none_of_all}
 use Rattle.flac_subframe.proofs.Searching.{too_long, out_of_range, too_dear, no_better, better}
 use Rattle.flac_subframe.proofs.choice.better_fixed.Goals as goal
 
@@ -15,19 +16,19 @@ before_is bits order from h e = rw (e, length-fixed order h) (omega arith)
 pub returns-then-order-samples : goal.returns-then-order-samples
 returns-then-order-samples c = λ tried so.
     let o = c.args.order in
-    too_long c.args.most c.args.bits c.args.samples.now tried (tried ++ fixed o ∷ []) (fixed o) refl (fixed_coefficients o) 0 o (c.args.bits * o) refl refl (order_is o c.requires.order) (before_is c.args.bits o c.args.bits c.requires.order refl)
+    too_long c.args.subject.now.most c.args.subject.now.bits c.args.subject.now.samples.now tried (tried ++ fixed o ∷ []) (fixed o) refl (fixed_coefficients o) 0 o (c.args.subject.now.bits * o) refl refl (order_is o c.requires.order) (before_is c.args.subject.now.bits o c.args.subject.now.bits c.requires.order refl)
     (priced_as c.args.best.now) so c.if-order-samples.true
 
 pub returns-then-not-take_differences : goal.returns-then-not-take_differences
 returns-then-not-take_differences c = λ tried so.
     let o = c.args.order in
-    out_of_range c.args.most c.args.bits c.args.samples.now tried (tried ++ fixed o ∷ []) (fixed o) refl (fixed_coefficients o) 0 o (c.args.bits * o) refl refl (order_is o c.requires.order) (before_is c.args.bits o c.args.bits c.requires.order refl)
+    out_of_range c.args.subject.now.most c.args.subject.now.bits c.args.subject.now.samples.now tried (tried ++ fixed o ∷ []) (fixed o) refl (fixed_coefficients o) 0 o (c.args.subject.now.bits * o) refl refl (order_is o c.requires.order) (before_is c.args.subject.now.bits o c.args.subject.now.bits c.requires.order refl)
     (priced_as c.args.best.now) so (λ all. cc (c.take_differences.ensures.range.1 all, c.if-not-take_differences.true))
 
 pub returns-then-limit-before : goal.returns-then-limit-before
 returns-then-limit-before c = λ tried so.
     let o = c.args.order in
-    too_dear c.args.most c.args.bits c.args.samples.now tried (tried ++ fixed o ∷ []) (fixed o) refl (fixed_coefficients o) 0 o (c.from.result * o) refl refl (order_is o c.requires.order) (before_is c.args.bits o c.from.result c.requires.order c.from.ensures)
+    too_dear c.args.subject.now.most c.args.subject.now.bits c.args.subject.now.samples.now tried (tried ++ fixed o ∷ []) (fixed o) refl (fixed_coefficients o) 0 o (c.from.result * o) refl refl (order_is o c.requires.order) (before_is c.args.subject.now.bits o c.from.result c.requires.order c.from.ensures)
     (priced_as c.args.best.now) so (omega (arith, c.if-limit-before.true, c.limit-limit.ensures.0))
 
 pub returns-then-least_residual_into : goal.returns-then-least_residual_into
@@ -36,11 +37,12 @@ returns-then-least_residual_into c = λ tried so.
     let is = c.take_differences.ensures.all in
     let range = c.take_differences.ensures.range.0 c.if-not-take_differences.false in
     let r = c.least_residual_into.new.into in
-    let least = rw is at (c.least_residual_into.ensures.least c.if-least_residual_into.true) in
+    let found = c.greatest_halvings-halvings.ensures in
+    let least = rw is at (least_of_all o c.greatest_halvings-halvings.result c.args.subject.now.most _ found.within found.greatest _ (c.least_residual_into.ensures.least c.if-least_residual_into.true)) in
     let bits = rw is at (c.least_residual_into.ensures.bits c.if-least_residual_into.true) in
     let less = c.least_residual_into.ensures.less c.if-least_residual_into.true in
     let small = c.least_residual_into.ensures.small c.if-least_residual_into.true in
-    better c.args.most c.args.bits c.args.samples.now tried (tried ++ fixed o ∷ []) (fixed o) refl (fixed_coefficients o) 0 o (c.from.result * o) refl refl (order_is o c.requires.order) (before_is c.args.bits o c.from.result c.requires.order c.from.ensures)
+    better c.args.subject.now.most c.args.subject.now.bits c.args.subject.now.samples.now tried (tried ++ fixed o ∷ []) (fixed o) refl (fixed_coefficients o) 0 o (c.from.result * o) refl refl (order_is o c.requires.order) (before_is c.args.subject.now.bits o c.from.result c.requires.order c.from.ensures)
     (priced_as c.args.best.now) so r _ (omega arith) range least bits small refl (omega (arith, less, c.limit-limit.ensures.1)) refl
 
 pub returns-else-least_residual_into : goal.returns-else-least_residual_into
@@ -48,6 +50,7 @@ returns-else-least_residual_into c = λ tried so.
     let o = c.args.order in
     let is = c.take_differences.ensures.all in
     let kept = c.if-least_residual_into.ensures.kept (λ t. cc) in
-    let none = rw is at (c.if-least_residual_into.ensures.none (λ t. cc)) in
-    rw kept (no_better c.args.most c.args.bits c.args.samples.now tried (tried ++ fixed o ∷ []) (fixed o) refl (fixed_coefficients o) 0 o (c.from.result * o) refl refl (order_is o c.requires.order) (before_is c.args.bits o c.from.result c.requires.order c.from.ensures)
+    let found = c.greatest_halvings-halvings.ensures in
+    let none = rw is at (none_of_all o c.greatest_halvings-halvings.result c.args.subject.now.most _ found.within found.greatest _ (c.if-least_residual_into.ensures.none (λ t. cc))) in
+    rw kept (no_better c.args.subject.now.most c.args.subject.now.bits c.args.subject.now.samples.now tried (tried ++ fixed o ∷ []) (fixed o) refl (fixed_coefficients o) 0 o (c.from.result * o) refl refl (order_is o c.requires.order) (before_is c.args.subject.now.bits o c.from.result c.requires.order c.from.ensures)
     (priced_as c.args.best.now) so (c.limit-limit.result - c.from.result * o) (omega (arith, c.limit-limit.ensures.0)) none)

@@ -13,10 +13,6 @@ loop-order-init c = record {
   best = c.better_fixed.ensures (fixed_below 0) (c.begin-best.ensures c.args.most);
   values = c.better_fixed.auto.values;
   folds = c.better_fixed.auto.folds;
-  sums = c.better_fixed.auto.sums;
-  four = c.better_fixed.auto.four;
-  five = c.better_fixed.auto.five;
-  widths = c.better_fixed.auto.widths;
 }
 
 pub loop-order-preserved : goal.loop-order-preserved
@@ -31,10 +27,6 @@ loop-order-preserved c =
             best = rw w.best-is (next_tried most bits s _ first order (new.ensures (fixed first ∷ fixed_below order) so.best));
             values = rw w.values-is (new.auto.values ∙ so.values);
             folds = rw w.folds-is (new.auto.folds ∙ so.folds);
-            sums = rw w.sums-is (new.auto.sums ∙ so.sums);
-            four = rw w.four-is (new.auto.four ∙ so.four);
-            five = rw w.five-is (new.auto.five ∙ so.five);
-            widths = rw w.widths-is (new.auto.widths ∙ so.widths);
           }
       | else-order-first w ↦
           let e : order ≡ first = omega arith in
@@ -43,9 +35,5 @@ loop-order-preserved c =
             best = rw (w.best-is, ← e) (first_tried most bits s (priced_as c.loop-order.best) order tried);
             values = rw w.values-is so.values;
             folds = rw w.folds-is so.folds;
-            sums = rw w.sums-is so.sums;
-            four = rw w.four-is so.four;
-            five = rw w.five-is so.five;
-            widths = rw w.widths-is so.widths;
           }
     ]

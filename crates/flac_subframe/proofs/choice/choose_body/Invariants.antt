@@ -8,8 +8,4 @@ invariant-loop-order l = record {
   best : IsBest l.most l.bits l.samples (fixed l.first ∷ fixed_below l.order) (priced_as l.best);
   values : length l.values ≡ length l.fn.values;
   folds : length l.folds ≡ length l.fn.folds;
-  sums : length l.sums ≡ 256;
-  four : length l.four ≡ 512;
-  five : length l.five ≡ 512;
-  widths : length l.widths ≡ 512;
 }

@@ -5,30 +5,30 @@ use Rattle.flac_subframe.proofs.Walks.{within_none, within_more, within_all, fal
 use Rattle.flac_subframe.proofs.halves.compare_down.Goals as goal
 
 pub loop-low-init : goal.loop-low-init
-loop-low-init c = record { within = omega arith; entries = λ p j h b. within_none c.args.from (part c.args.order c.args.values.now p j) _ (c.requires.start p j h b) }
+loop-low-init c = record { within = omega arith; entries = λ p j h b. within_none c.args.from (part c.args.residual.now.order c.args.residual.now.values.now p j) _ (c.requires.start p j h b) }
 
 pub loop-low-preserved : goal.loop-low-preserved
 loop-low-preserved c =
     let k : ℕ = c.loop-low.low - 1 in
-    let rs = c.args.values.now in
+    let rs = c.args.residual.now.values.now in
     let so = c.loop-low.invariant in
     let e : k + 1 ≡ c.loop-low.low = omega arith in
     record {
       within = omega arith;
       entries = λ p j h b.
-          rw (c.pass.ensures.entries p j h b) (within_more k c.args.from (part c.args.order rs p j) _ (omega arith) (part_small c.args.order k rs p j (omega arith) (omega arith) c.requires.range) (omega arith) (rw e (so.entries p j h b)));
+          rw (c.pass.ensures.entries p j h b) (within_more k c.args.from (part c.args.residual.now.order rs p j) _ (omega arith) (part_small c.args.residual.now.order k rs p j (omega arith) (omega arith) c.args.residual.now.range) (omega arith) (rw e (so.entries p j h b)));
     }
 
 pub returns-then-not-pass-clause-entries : goal.returns-then-not-pass-clause-entries
 returns-then-not-pass-clause-entries c = λ p j le b.
     let k : ℕ = c.loop-low.low - 1 in
-    let rs = c.args.values.now in let order = c.args.order in let h = c.args.halvings in
+    let rs = c.args.residual.now.values.now in let order = c.args.residual.now.order in let h = c.args.residual.now.halvings in
     let so = c.loop-low.invariant in
     let e : k + 1 ≡ c.loop-low.low = omega arith in
-    fallen order h k rs c.requires.halves (omega arith) (omega arith) c.requires.range c.loop-low.table (c.if-not-pass.ensures.none refl) c.args.from (λ i d. rw e (so.entries h i (omega arith) d)) p j _ le b (omega arith)
-    (rw (c.pass.ensures.entries p j le b) (within_more k c.args.from (part order rs p j) _ (omega arith) (part_small order k rs p j (omega arith) (omega arith) c.requires.range) (omega arith) (rw e (so.entries p j le b))))
+    fallen order h k rs c.args.residual.now.halves (omega arith) (omega arith) c.args.residual.now.range c.loop-low.table (c.if-not-pass.ensures.none refl) c.args.from (λ i d. rw e (so.entries h i (omega arith) d)) p j _ le b (omega arith)
+    (rw (c.pass.ensures.entries p j le b) (within_more k c.args.from (part order rs p j) _ (omega arith) (part_small order k rs p j (omega arith) (omega arith) c.args.residual.now.range) (omega arith) (rw e (so.entries p j le b))))
 
 pub returns-clause-entries : goal.returns-clause-entries
 returns-clause-entries c = λ p j le b.
     let e : c.loop-low.low ≡ 0 = omega arith in
-    within_all c.args.from (part c.args.order c.args.values.now p j) _ (rw e at (c.loop-low.invariant.entries p j le b))
+    within_all c.args.from (part c.args.residual.now.order c.args.residual.now.values.now p j) _ (rw e at (c.loop-low.invariant.entries p j le b))

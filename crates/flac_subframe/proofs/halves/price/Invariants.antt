@@ -6,7 +6,7 @@ use Rattle.flac_subframe.proofs.halves.price.Given as goal
 
 abbrev pub invariant-loop-sum : goal.invariant-loop-sum
 invariant-loop-sum l = record {
-  from : l.from ≡ start l.order (length l.values + l.order) l.halvings l.sum-index;
-  to : l.to ≡ start l.order (length l.values + l.order) l.halvings (l.sum-index + 1);
-  done : (j : ℕ) → j < l.sum-index → get_or l.sums j 0 ≡ sum_by (value_cost l.parameter) (part l.order l.values l.halvings j);
+  from : l.from ≡ start l.residual.order (length l.residual.values.now + l.residual.order) l.residual.halvings l.sum-index;
+  to : l.to ≡ start l.residual.order (length l.residual.values.now + l.residual.order) l.residual.halvings (l.sum-index + 1);
+  done : (j : ℕ) → j < l.sum-index → get_or l.sums j 0 ≡ sum_by (value_cost l.parameter) (part l.residual.order l.residual.values.now l.residual.halvings j);
 }

@@ -1,9 +1,6 @@
 use Rattle.std.proofs.Common.{arith}
 use Rattle.flac_subframe.proofs.pruning.is_too_dear.Goals as goal
 
-pub reaches-requires-clause-widths : goal.reaches-requires-clause-widths
-reaches-requires-clause-widths c = λ p j low high b. c.requires.widths p j (omega arith) high b
-
 pub returns-then-bound-below : goal.returns-then-bound-below
 returns-then-bound-below c = λ yes f m. omega (arith, c.lower_bound-bound.ensures.bound f m, c.if-bound-below.true)
 

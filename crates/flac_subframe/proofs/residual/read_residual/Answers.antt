@@ -1,4 +1,4 @@
-use Rattle.std.proofs.Common.{arith, sym, ◌∙◌, ◌+◌, length, ℕ}
+use Rattle.std.proofs.Common.{sym, ◌∙◌, ◌+◌, length, ℕ}
 use Rattle.std.proofs.lemmas.Result.{err_from_is_err_and}
 use Rattle.flac_bits.proofs.Counting.{answered_then, failed_then}
 use Rattle.flac_subframe.proofs.Predicted.{residual_run, residual_fails}

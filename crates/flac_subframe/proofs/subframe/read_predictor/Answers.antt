@@ -1,4 +1,4 @@
-use Rattle.std.proofs.Common.{arith, rules, refl, ◌+◌, ℕ, Bool, nat_eq, nat_lt, ◌∷◌, [], Result, Ok}
+use Rattle.std.proofs.Common.{arith, rules, refl, ◌+◌, Bool, nat_eq, nat_lt, ◌∷◌, [], Result, Ok}
 use Rattle.std.proofs.lemmas.Result.{err_from_is_err_and}
 use Rattle.flac_bits.proofs.Counting.{answered_then, failed_then, refused_then}
 use Rattle.flac_bits.proofs.Telling.{told_then, told_fault}

@@ -8,8 +8,8 @@ use Rattle.flac_subframe.proofs.survey.best_order.Given as goal
 abbrev pub invariant-loop-p : goal.invariant-loop-p
 invariant-loop-p l = record {
   method : l.best.parameter_bits ≡ l.parameter_bits;
-  within : l.best.halvings ≤ l.halvings;
-  least : IsLeastCost (BelowOrder l.parameter_bits l.halvings l.order l.values l.p) (residual_cost l.order l.values) l.best.bits;
-  here : IsLeastCost (HalvedTo l.parameter_bits l.best.halvings l.halvings l.order l.values) (residual_cost l.order l.values) l.best.bits;
+  within : l.best.halvings ≤ l.residual.halvings;
+  least : IsLeastCost (BelowOrder l.parameter_bits l.residual.halvings l.residual.order l.residual.values.now l.p) (residual_cost l.residual.order l.residual.values.now) l.best.bits;
+  here : IsLeastCost (HalvedTo l.parameter_bits l.best.halvings l.residual.halvings l.residual.order l.residual.values.now) (residual_cost l.residual.order l.residual.values.now) l.best.bits;
   small : l.best.bits ≤ 2 ^ 33 * 2 ^ 16;
 }

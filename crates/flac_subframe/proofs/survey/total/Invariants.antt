@@ -6,7 +6,7 @@ use Rattle.flac_subframe.proofs.survey.total.Given as goal
 
 abbrev pub invariant-loop-j : goal.invariant-loop-j
 invariant-loop-j l = record {
-  priced : (done : List Coding) × PricedTo l.parameter_bits (l.size - l.order) l.size l.count l.values done l.bits l.long (l.count - l.j) l.rest;
-  rest : l.rest ≡ drop (start l.order (length l.values + l.order) l.halvings l.j) l.values;
-  long : l.long ≡ start l.order (length l.values + l.order) l.halvings (l.j + 1) - start l.order (length l.values + l.order) l.halvings l.j;
+  priced : (done : List Coding) × PricedTo l.parameter_bits (l.size - l.residual.order) l.size l.count l.residual.values.now done l.bits l.long (l.count - l.j) l.rest;
+  rest : l.rest ≡ drop (start l.residual.order (length l.residual.values.now + l.residual.order) l.halvings l.j) l.residual.values.now;
+  long : l.long ≡ start l.residual.order (length l.residual.values.now + l.residual.order) l.halvings (l.j + 1) - start l.residual.order (length l.residual.values.now + l.residual.order) l.halvings l.j;
 }

@@ -10,15 +10,15 @@ pub loop-bits-preserved : goal.loop-bits-preserved
 unfolding part
 loop-bits-preserved c =
     let i = c.loop-bits.bits-index in let so = c.loop-bits.invariant in
-    let n = length c.args.values.now + c.args.order in
+    let n = length c.args.residual.now.values.now + c.args.residual.now.order in
     let w = c.width.result in
     record {
       from = so.to;
-      to = ap (λ (x : ℕ). x + n / 2 ^ c.args.halvings) so.to ∙ start_next c.args.order n c.args.halvings i c.requires.halves.room;
+      to = ap (λ (x : ℕ). x + n / 2 ^ c.args.residual.now.halvings) so.to ∙ start_next c.args.residual.now.order n c.args.residual.now.halvings i c.args.residual.now.halves.room;
       done = λ j h. elim (cases_lt j i) [
         | inl b ↦ rw (get_or-set_other c.loop-bits.widths i j w 0 (λ e. omega arith)) (so.done j b)
         | inr b ↦ let e : j ≡ i = omega arith in
-            rw (e, get_or-set_same c.loop-bits.widths i w 0 (omega arith), ← so.from, ← so.to) (segment_width w c.loop-bits.from c.loop-bits.to c.args.values.now c.args.folds.now c.requires.folded c.width.ensures.least)
+            rw (e, get_or-set_same c.loop-bits.widths i w 0 (omega arith), ← so.from, ← so.to) (segment_width w c.loop-bits.from c.loop-bits.to c.args.residual.now.values.now c.args.residual.now.folds.now c.args.residual.now.unsigned c.width.ensures.least)
       ];
       small = λ j h. elim (cases_lt j i) [
         | inl b ↦ rw (get_or-set_other c.loop-bits.widths i j w 0 (λ e. omega arith)) (so.small j b)

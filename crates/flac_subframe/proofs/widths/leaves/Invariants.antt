@@ -4,8 +4,8 @@ use Rattle.flac_subframe.proofs.widths.leaves.Given as goal
 
 abbrev pub invariant-loop-bits : goal.invariant-loop-bits
 invariant-loop-bits l = record {
-  from : l.from ≡ start l.order (length l.values + l.order) l.halvings l.bits-index;
-  to : l.to ≡ start l.order (length l.values + l.order) l.halvings (l.bits-index + 1);
-  done : (j : ℕ) → j < l.bits-index → IsWidth (part l.order l.values l.halvings j) (get_or l.widths j 0);
+  from : l.from ≡ start l.residual.order (length l.residual.values.now + l.residual.order) l.residual.halvings l.bits-index;
+  to : l.to ≡ start l.residual.order (length l.residual.values.now + l.residual.order) l.residual.halvings (l.bits-index + 1);
+  done : (j : ℕ) → j < l.bits-index → IsWidth (part l.residual.order l.residual.values.now l.residual.halvings j) (get_or l.widths j 0);
   small : (j : ℕ) → j < l.bits-index → get_or l.widths j 0 ≤ 32;
 }

@@ -1,0 +1,39 @@
+//! What the search reads: the samples of a subframe, and the residual of one predictor.
+
+ghost use Rattle.std.specs.Prelude.{◌≡◌, ◌<◌, ◌≤◌, ◌^◌, ◌+◌, length, map, All, IsTrue};
+ghost use Rattle.flac_bits.specs.Signed.{FitsBits};
+ghost use Rattle.flac_bits.specs.Rice.{IsResidual};
+ghost use Rattle.flac_subframe.specs.Spelling.{folded};
+ghost use Rattle.flac_subframe.specs.Halves.{Halves};
+
+/// A residual whose codings are searched: its values, the same as unsigned numbers, the order of its predictor, and how often its block
+/// can be halved.
+#[derive(Drop)]
+pub(crate) struct ResidualView<'a> {
+    pub(crate) values: &'a [i64],
+    pub(crate) folds: &'a [u32],
+    pub(crate) order: usize,
+    pub(crate) halvings: u8,
+    ghost few: { length values.now + order ≤ 65535 },
+    ghost range: { All IsResidual values.now },
+    ghost unsigned: { folds.now ≡ map folded values.now },
+    ghost small: { All (λ n. n < 2 ^ 32) folds.now },
+    ghost long: { length folds.now ≡ length values.now },
+    ghost most: { halvings ≤ 8 },
+    ghost halves: { Halves order values.now halvings },
+}
+
+/// The samples of a subframe without its wasted bits: how many bits each has, the greatest partition order that is tried, and whether
+/// each has so few bits that what a fixed predictor leaves is in the range of a residual.
+#[derive(Drop)]
+pub(crate) struct SampleView<'a> {
+    pub(crate) samples: &'a [i64],
+    pub(crate) bits: u32,
+    pub(crate) most: u8,
+    pub(crate) narrow: bool,
+    ghost few: { length samples.now ≤ 65535 },
+    ghost depth: { bits ≤ 33 },
+    ghost halved: { most ≤ 8 },
+    ghost fits: { All (FitsBits 33) samples.now },
+    ghost leaves: { IsTrue narrow → All (FitsBits 27) samples.now },
+}
