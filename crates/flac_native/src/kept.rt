@@ -5,7 +5,7 @@ ghost use Rattle.flac_bits.specs.Fencing.{lifted};
 ghost use Rattle.flac_bits.specs.Reading.{Counts};
 ghost use Rattle.flac_bits.specs.Items.{step_at, item, refused};
 ghost use Rattle.flac_bits.specs.Handing.{IsCalm, reason_of};
-ghost use Rattle.flac_native.specs.Stream.{Piece, Progress, grammar, next, block as block_piece};
+ghost use Rattle.flac_native.specs.Stream.{Piece, Progress, grammar, opening, next, block as block_piece};
 ghost use Rattle.flac_native.specs.Track.{IsAt, block_in};
 ghost use Rattle.flac_native.specs.Item.{told};
 ghost use Rattle.flac_native.specs.Retag.{keeps, is_behind_blocks, is_before_frames, AreKept, IsRefused};
@@ -80,6 +80,54 @@ fn is_behind(track: &Track) -> bool
     }
 }
 
+/// Reads the marker and all blocks, and keeps those that are no comments, in their order, after none were kept.
+fn keep_all<R: Source>(
+    reader: &mut BitReader<R>,
+    track: &mut Track,
+    kept: &mut Vec<Block>,
+) -> Result<(), Fault>
+    requires whole { reader.old.cursor.mark.unread ≡ 0 }
+    requires first { IsAt track.old opening }
+    requires none { kept.old.items ≡ [] }
+    ensures counts { Counts (lifted reader.old) reader.new (reason_of told result) }
+    ensures whole { OnOk result (reader.new.cursor.mark.unread ≡ 0) }
+    ensures kept { OnOk result (reader.old.known ≡ true → AreKept (lifted reader.old).cursor kept.new.items reader.new.cursor.left) }
+    ensures refused { IfErr result (λ f. reader.old.known ≡ true → IsCalm reader.old reader.new → f.why ≢ Why.Memory
+        → IsRefused (lifted reader.old).cursor.mark (lifted reader.old).cursor.left f.at f.why) }
+    ensures at { IfErr result (λ f. reader.old.known ≡ true → is_before_frames f.at ≡ true) }
+{
+    while !is_behind(track) {
+        keep_next(reader, track, kept)?;
+    }
+    reader.lift();
+    if reader.unread() != 0 {
+        return Err(Fault {
+            at: track.place(),
+            why: Why::Truncated,
+        });
+    }
+    Ok(())
+}
+
+/// The same from the start of a stream.
+fn keep_from_start<R: Source>(
+    alloc: Global,
+    reader: &mut BitReader<R>,
+    kept: &mut Vec<Block>,
+) -> Result<(), Fault>
+    requires whole { reader.old.cursor.mark.unread ≡ 0 }
+    requires none { kept.old.items ≡ [] }
+    ensures counts { Counts (lifted reader.old) reader.new (reason_of told result) }
+    ensures whole { OnOk result (reader.new.cursor.mark.unread ≡ 0) }
+    ensures kept { OnOk result (reader.old.known ≡ true → AreKept (lifted reader.old).cursor kept.new.items reader.new.cursor.left) }
+    ensures refused { IfErr result (λ f. reader.old.known ≡ true → IsCalm reader.old reader.new → f.why ≢ Why.Memory
+        → IsRefused (lifted reader.old).cursor.mark (lifted reader.old).cursor.left f.at f.why) }
+    ensures at { IfErr result (λ f. reader.old.known ≡ true → is_before_frames f.at ≡ true) }
+{
+    let mut track = Track::opening(alloc, Profile::Subset);
+    keep_all(reader, &mut track, kept)
+}
+
 /// Reads the marker and all blocks, and keeps those that are no comments, in their order. It begins at a whole byte, and behind the blocks no fence stands.
 pub(crate) fn read_kept<R: Source>(
     alloc: Global,
@@ -93,17 +141,9 @@ pub(crate) fn read_kept<R: Source>(
         → IsRefused (lifted reader.old).cursor.mark (lifted reader.old).cursor.left f.at f.why) }
     ensures at { IfErr result (λ f. reader.old.known ≡ true → is_before_frames f.at ≡ true) }
 {
-    let mut track = Track::opening(alloc, Profile::Subset);
     let mut kept = Vec::new(alloc);
-    while !is_behind(&track) {
-        keep_next(reader, &mut track, &mut kept)?;
+    match keep_from_start(alloc, reader, &mut kept) {
+        Ok(()) => Ok(kept),
+        Err(fault) => Err(fault),
     }
-    reader.lift();
-    if reader.unread() != 0 {
-        return Err(Fault {
-            at: track.place(),
-            why: Why::Truncated,
-        });
-    }
-    Ok(kept)
 }

@@ -4,7 +4,7 @@ use Rattle.flac_native.specs.Stream.{Progress, grammar}
 use Rattle.flac_native.specs.Track.{IsAt}
 use Rattle.flac_native.specs.Retag.{keeps}
 use Rattle.flac_native.proofs.Metadata.{no_errors}
-use Rattle.flac_native.proofs.kept.read_kept.Given as goal
+use Rattle.flac_native.proofs.kept.keep_all.Given as goal
 
 abbrev pub invariant-loop-reader : goal.invariant-loop-reader
 invariant-loop-reader g l = record {
