@@ -1,5 +1,5 @@
 -- Packets that lie one after another in memory.
-use Rattle.std.proofs.Common.{◌≡◌, ℕ, zero, suc, ◌-◌, ◌^◌, ◌<◌, ◌≤◌, Bool, true, List, [], ◌∷◌, ◌++◌, length, take, drop, get_or, map, refl, sym, ap, subst, ◌∙◌, arith, length-append, append_assoc}
+use Rattle.std.proofs.Common.{◌≡◌, ℕ, zero, suc, ◌-◌, ◌^◌, ◌<◌, ◌≤◌, Bool, true, List, [], ◌∷◌, ◌++◌, length, take, drop, get_or, map, refl, sym, ap, subst, ◌∙◌, arith, length-append, append_assoc, Result, Ok, Err, Vec, Global, IfOk}
 use Rattle.std.specs.List.{All, flat_map}
 use Rattle.std.specs.Int.{to_le_bytes, w32, w64}
 use Rattle.std.proofs.Math.Seq.{take-append_seam}
@@ -8,6 +8,7 @@ use Rattle.std.proofs.lemmas.List.Concat.{flat_map-cons}
 use Rattle.std.proofs.lemmas.List.Elements.{All-append}
 use Rattle.flac_bits.specs.Bits.{bits_of}
 use Rattle.flac_bits.specs.Forms.{AreBytes, joined}
+use Rattle.flac_bits.specs.declared.why.Why.{Why}
 use Rattle.flac_native.proofs.WholeBytes.{Whole, whole_nil, whole_append, bits_whole}
 use Rattle.flac_pages.specs.declared.writing.PacketAt.{PacketAt}
 use Rattle.flac_pages.specs.declared.writing.PacketKind.{PacketKind}
@@ -143,3 +144,9 @@ pages_whole (p ∷ ps) = subst (λ t. Whole t) (sym (flat_map-cons page_spelling
 pub stream_whole : (serial : ℕ) (ps : List Placed) → Whole (stream_spelling serial ps)
 unfolding stream_spelling
 stream_whole serial ps = pages_whole (stream_pages serial ps)
+
+-- and so it is of the packets that a list holds, where the pages were collected
+pub pages_collected : (serial : ℕ) (l : PacketList) (ps : List Placed) (r : Result (Vec ℕ Global) Why) → ps ≡ placed_in l.bytes.items 0 l.ends.items → IfOk r (λ v. bits_of v.items ≡ stream_spelling serial ps)
+    → IfOk r (λ v. (packets : List Placed) → Holds l packets → bits_of v.items ≡ stream_spelling serial packets)
+pages_collected serial l ps (Err e) same is = tt
+pages_collected serial l ps (Ok v) same is = λ packets h. is ∙ ap (λ p. stream_spelling serial p) (same ∙ h.placed)

@@ -1,7 +1,8 @@
 -- The packets of what is encoded.
-use Rattle.std.proofs.Common.{◌≡◌, ℕ, zero, suc, ◌+◌, ◌*◌, ◌<◌, ◌≤◌, min, max, Bool, nat_eq, List, [], ◌∷◌, ◌++◌, length, take, get_or, replicate, None, refl, sym, ap, subst, ◌∙◌, arith}
+use Rattle.std.proofs.Common.{◌≡◌, ℕ, zero, suc, ◌+◌, ◌*◌, ◌<◌, ◌≤◌, min, max, Bool, nat_eq, List, [], ◌∷◌, ◌++◌, length, take, get_or, replicate, None, refl, sym, ap, subst, ◌∙◌, arith, Result, Ok, Err, Vec, Global, IfOk}
 use Rattle.std.proofs.lemmas.Bool.Decides.{nat_tests}
 use Rattle.flac_bits.specs.Bits.{unsigned, bits_of, is_nil}
+use Rattle.flac_bits.specs.declared.why.Why.{Why}
 use Rattle.flac_bits.proofs.Words.{length-unsigned}
 use Rattle.flac_bits.proofs.Holding.{length-bits_of}
 use Rattle.flac_meta.specs.Info.{Info}
@@ -83,6 +84,13 @@ pub frame_text : (a : Sound) (start size number : ℕ) (f : FrameForm) (text : L
     → IsShort a.bits f → text ≡ frame_spelling a.bits f → IsFrameText a start size number text
 frame_text a start size number f text encoded chosen short is =
     record { frame = record { form = f; encoding = encoded; spelling = is; short = omega (arith, ap (λ (k : List Bool). length k) is, short) }; least = record { form = f; least = chosen; spelling = is } }
+
+-- and so it is where they were collected
+pub frame_collected : (a : Sound) (start size number : ℕ) (f : FrameForm) (r : Result (Vec ℕ Global) Why) → IsEncoding a size number (encoding.block_of start size a.channels) f
+    → IsLeastFrame a size number (encoding.block_of start size a.channels) f → IsShort a.bits f → IfOk r (λ v. bits_of v.items ≡ frame_spelling a.bits f)
+    → IfOk r (λ v. IsFrameText a start size number (bits_of v.items))
+frame_collected a start size number f (Err e) encoded chosen short is = tt
+frame_collected a start size number f (Ok v) encoded chosen short is = frame_text a start size number f (bits_of v.items) encoded chosen short is
 
 -- so many frames were put behind the other packets
 pub record FramesSoFar (p : Cut) (a : Sound) (old new : PacketList) (number least greatest : ℕ) : Type 0 where

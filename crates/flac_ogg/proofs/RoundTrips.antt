@@ -1,12 +1,11 @@
 -- What is encoded is read again, and as nothing else.
-use Rattle.std.proofs.Common.{◌≡◌, ℕ, zero, suc, ◌+◌, ◌*◌, ◌/◌, ◌^◌, ◌<◌, Bool, true, false, nat_eq, List, [], ◌∷◌, ◌++◌, append_assoc, length, map, Option, Some, None, Result, Ok, Err, refl, sym, ap, subst, ◌∙◌, arith}
+use Rattle.std.proofs.Common.{◌≡◌, ℕ, suc, ◌+◌, ◌/◌, ◌<◌, Bool, true, false, nat_eq, List, [], ◌∷◌, ◌++◌, length, map, Option, Some, None, Result, Ok, Err, refl, sym, ap, subst, ◌∙◌, arith}
 use Rattle.std.specs.List.{flat_map, range_with_len}
 use Rattle.std.proofs.lemmas.List.Concat.{flat_map-cons}
-use Rattle.std.proofs.lemmas.Bool.Decides.{nat_tests}
 use Rattle.flac_bits.specs.Bits.{unsigned, bits_of, is_nil}
 use Rattle.flac_bits.specs.Items.{Stream}
 use Rattle.flac_bits.specs.State.{Cursor}
-use Rattle.flac_bits.specs.Forms.{AreBytes, joined}
+use Rattle.flac_bits.specs.Forms.{AreBytes}
 use Rattle.flac_bits.specs.Handing.{Reading, ReadsOnce, by_grammar}
 use Rattle.flac_bits.specs.Layout.{Reason, number_at}
 use Rattle.flac_bits.specs.declared.why.Why.TheVariants.{Truncated}
@@ -17,7 +16,6 @@ use Rattle.flac_native.specs.Decoding.{beginning}
 use Rattle.flac_native.specs.Stream.{Piece, grammar, opening}
 use Rattle.flac_native.specs.Given.{Cut, given}
 use Rattle.flac_native.specs.Seeking.{points_of, table_of}
-use Rattle.flac_native.specs.Writing as native
 use Rattle.flac_native.specs.Writing.{Encodes}
 use Rattle.flac_native.specs.declared.fault.Place.{Place}
 use Rattle.flac_native.proofs.Deciding.{one_answer}

@@ -14,6 +14,7 @@ ghost use Rattle.flac_ogg.specs.Listed.{Holds, Puts};
 ghost use Rattle.flac_ogg.specs.Native.{mapping_spelling, block_spellings};
 ghost use Rattle.flac_ogg.specs.Writing.{begins_with_comment, may_be_ogg, header_count, IsFrameText, PutsFrames, ArePackets, EncodesOgg, BeginsOgg};
 
+use crate::memory::{collect, in_memory};
 use crate::packet_list::PacketList;
 use flac_bits::{BitWriter, Collected, Target, Why, send_all};
 use flac_frame::{Audio, EncodeBuffers, encode_frame};
@@ -59,33 +60,47 @@ fn write_mapping<W: Target>(count: u64, writer: &mut BitWriter<W>) -> Result<(),
     Ok(())
 }
 
-/// The first packet: the mapping and STREAMINFO, which is the last block where there are no others. Refuses where a growth is.
-fn first_packet(alloc: Global, info: StreamInfo, blocks: usize) -> Result<Vec<u8>, Why>
-    ensures { IfOk result (λ packet. bits_of packet.items ≡ mapping_spelling (header_count blocks) ++ block_spelling (nat_eq blocks 0) (block_of.StreamInfo info)) }
+/// Writes the first packet: the mapping and STREAMINFO, which is the last block if there are no others.
+fn write_first<W: Target>(
+    info: StreamInfo,
+    blocks: usize,
+    writer: &mut BitWriter<W>,
+) -> Result<(), Why>
+    ensures { Writes (mapping_spelling (header_count blocks) ++ block_spelling (nat_eq blocks 0) (block_of.StreamInfo info)) writer.old writer.new result }
 {
-    let mut writer = BitWriter::new(Collected::new(alloc));
-    write_mapping(header_count(blocks), &mut writer)?;
-    write_block(&Block::StreamInfo(info), blocks == 0, &mut writer)?;
-    writer.finish()?;
-    let target = writer.into_target();
-    Ok(target.into_bytes())
+    write_mapping(header_count(blocks), writer)?;
+    write_block(&Block::StreamInfo(info), blocks == 0, writer)
 }
 
-/// A block as a packet. Refuses where a growth is.
+/// The first packet. Its only error is `Memory`: an allocation failed.
+fn first_packet(alloc: Global, info: StreamInfo, blocks: usize) -> Result<Vec<u8>, Why>
+    ensures packet { IfOk result (λ packet. bits_of packet.items ≡ mapping_spelling (header_count blocks) ++ block_spelling (nat_eq blocks 0) (block_of.StreamInfo info)) }
+    ensures memory { IfErr result (λ e. e ≡ Why.Memory) }
+{
+    let mut writer = BitWriter::new(Collected::new(alloc));
+    match write_first(info, blocks, &mut writer) {
+        Ok(()) => collect(writer),
+        Err(why) => Err(in_memory(why)),
+    }
+}
+
+/// A block as a packet. Its only error is `Memory`: an allocation failed.
 fn block_packet(alloc: Global, block: &Block, last: bool) -> Result<Vec<u8>, Why>
     requires { block_fault block.now ≡ None }
-    ensures { IfOk result (λ packet. bits_of packet.items ≡ block_spelling last block.now) }
+    ensures packet { IfOk result (λ packet. bits_of packet.items ≡ block_spelling last block.now) }
+    ensures memory { IfErr result (λ e. e ≡ Why.Memory) }
 {
     let mut writer = BitWriter::new(Collected::new(alloc));
-    write_block(block, last, &mut writer)?;
-    writer.finish()?;
-    let target = writer.into_target();
-    Ok(target.into_bytes())
+    match write_block(block, last, &mut writer) {
+        Ok(()) => collect(writer),
+        Err(why) => Err(in_memory(why)),
+    }
 }
 
-/// Puts each block behind the others as a packet.
+/// Puts each block behind the others as a packet. Its only error is `Memory`: an allocation failed.
 fn push_blocks(alloc: Global, list: &BlockList, packets: &mut PacketList) -> Result<(), Why>
-    ensures { OnOk result (Puts (block_spellings list.now) (replicate (length list.now) Header) packets.old packets.new) }
+    ensures put { OnOk result (Puts (block_spellings list.now) (replicate (length list.now) Header) packets.old packets.new) }
+    ensures memory { IfErr result (λ e. e ≡ Why.Memory) }
 {
     let blocks = list.blocks();
     let count = blocks.len();
@@ -96,7 +111,7 @@ fn push_blocks(alloc: Global, list: &BlockList, packets: &mut PacketList) -> Res
     Ok(())
 }
 
-/// The samples from one place to another as the frame of a number, in memory. Refuses where a growth is.
+/// The samples from one place to another as the frame of a number, in memory. Its only error is `Memory`: an allocation failed.
 fn frame_packet(
     alloc: Global,
     audio: &Audio,
@@ -111,12 +126,13 @@ fn frame_packet(
     requires number { number < 2 ^ 31 }
     ensures kept { buffers.new ≡ buffers.old }
     ensures frame { IfOk result (λ packet. IsFrameText audio.now start (end - start) number (bits_of packet.items)) }
+    ensures memory { IfErr result (λ e. e ≡ Why.Memory) }
 {
     let mut writer = BitWriter::new(Collected::new(alloc));
-    encode_frame(audio, start..end, number, buffers, &mut writer)?;
-    writer.finish()?;
-    let target = writer.into_target();
-    Ok(target.into_bytes())
+    match encode_frame(audio, start..end, number, buffers, &mut writer) {
+        Ok(_) => collect(writer),
+        Err(why) => Err(in_memory(why)),
+    }
 }
 
 /// The least and the greatest number of bytes of a frame, 0 where there is none.
@@ -141,7 +157,7 @@ fn sizes_with(sizes: Sizes, number: u64, bytes: u32) -> Sizes
     }
 }
 
-/// Puts each frame of the samples behind the other packets.
+/// Puts each frame of the samples behind the other packets. Its only error is `Memory`: an allocation failed.
 fn push_frames(
     alloc: Global,
     plan: &Plan,
@@ -151,6 +167,7 @@ fn push_frames(
     requires { fits_plan plan.now audio.now ≡ true }
     ensures put { IfOk result (λ s. PutsFrames plan.now audio.now packets.old packets.new s.least s.greatest) }
     ensures sizes { IfOk result (λ s. (s.least ≤ s.greatest) × (s.greatest < 2 ^ 24)) }
+    ensures memory { IfErr result (λ e. e ≡ Why.Memory) }
 {
     let size = plan.block_size() as usize;
     let total = audio.len();
@@ -172,7 +189,7 @@ fn push_frames(
     Ok(sizes)
 }
 
-/// All packets of what is encoded. Refuses where a growth is.
+/// All packets of what is encoded. Its only error is `Memory`: an allocation failed.
 fn packets_of(
     alloc: Global,
     plan: &Plan,
@@ -180,7 +197,8 @@ fn packets_of(
     audio: &Audio,
 ) -> Result<PacketList, Why>
     requires { fits_plan plan.now audio.now ≡ true }
-    ensures { IfOk result (λ l. (packets : List Placed) × Holds l packets × ArePackets plan.now list.now audio.now packets) }
+    ensures packets { IfOk result (λ l. (packets : List Placed) × Holds l packets × ArePackets plan.now list.now audio.now packets) }
+    ensures memory { IfErr result (λ e. e ≡ Why.Memory) }
 {
     let mut packets = PacketList::new(alloc);
     // The frames' sizes, which the first packet tells, are known once all are made: till then zeros stand there.

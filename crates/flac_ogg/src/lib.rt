@@ -10,6 +10,7 @@ mod fronted;
 mod items;
 mod laws;
 mod mapping;
+mod memory;
 mod packet_list;
 mod packets;
 mod parts;

@@ -1,12 +1,13 @@
 //! Packets in memory, one after another.
 
-ghost use Rattle.std.specs.Prelude.{◌≡◌, ◌≤◌, ◌<◌, ◌^◌, ◌∷◌, [], ◌++◌, true, List, length, drop, vec_len, IfOk, OnOk};
+ghost use Rattle.std.specs.Prelude.{◌≡◌, ◌≤◌, ◌<◌, ◌^◌, ◌∷◌, [], ◌++◌, true, List, length, drop, vec_len, IfOk, IfErr, OnOk};
 ghost use Rattle.flac_bits.specs.Bits.{bits_of};
 ghost use Rattle.flac_bits.specs.Forms.{AreBytes};
 ghost use Rattle.flac_pages.specs.Placed.{Placed, AreInOrder, placed_in, stream_spelling};
 ghost use Rattle.flac_pages.specs.Written.{granule_at};
 ghost use Rattle.flac_ogg.specs.Listed.{Holds, Puts};
 
+use crate::memory::{collect, in_memory};
 use flac_bits::{BitWriter, Collected, Why};
 use flac_pages::{PacketAt, PacketKind, write_packets};
 use std::alloc::Global;
@@ -49,9 +50,10 @@ impl PacketList {
         }
     }
 
-    /// Puts a packet of this kind behind the others. After an error the list is of no use.
+    /// Puts a packet of this kind behind the others. Its only error is `Memory`: an allocation failed. After it the list is of no use.
     pub(crate) fn push(&mut self, packet: &[u8], kind: PacketKind) -> Result<(), Why>
-        ensures { OnOk result (Puts (bits_of packet.now ∷ []) (kind ∷ []) self.old self.new) }
+        ensures put { OnOk result (Puts (bits_of packet.now ∷ []) (kind ∷ []) self.old self.new) }
+        ensures memory { IfErr result (λ e. e ≡ Why.Memory) }
     {
         bytes_fit(packet);
         kind_fits(kind);
@@ -70,20 +72,18 @@ impl PacketList {
         put_first(&mut self.bytes, packet);
     }
 
-    /// The pages of a stream of these packets (RFC 3533, section 6). Refuses where a growth is.
+    /// The pages of a stream of these packets (RFC 3533, section 6). Its only error is `Memory`: an allocation failed.
     pub(crate) fn pages(&self, alloc: Global, serial: u32) -> Result<Vec<u8>, Why>
         requires { AreInOrder 0 (length self.now.bytes.items) self.now.ends.items }
-        ensures { IfOk result (λ pages. (packets : List Placed) → Holds self.now packets → bits_of pages.items ≡ stream_spelling serial packets) }
+        ensures pages { IfOk result (λ pages. (packets : List Placed) → Holds self.now packets → bits_of pages.items ≡ stream_spelling serial packets) }
+        ensures memory { IfErr result (λ e. e ≡ Why.Memory) }
     {
         let mut writer = BitWriter::new(Collected::new(alloc));
-        write_packets(
-            serial,
-            self.bytes.as_slice(),
-            self.ends.as_slice(),
-            &mut writer,
-        )?;
-        writer.finish()?;
-        let target = writer.into_target();
-        Ok(target.into_bytes())
+        let bytes = self.bytes.as_slice();
+        let ends = self.ends.as_slice();
+        match write_packets(serial, bytes, ends, &mut writer) {
+            Ok(()) => collect(writer),
+            Err(why) => Err(in_memory(why)),
+        }
     }
 }

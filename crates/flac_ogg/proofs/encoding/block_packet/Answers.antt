@@ -1,22 +1,21 @@
-use Rattle.std.proofs.Common.{◌≡◌, [], ◌++◌, true, List, Bool, ap, ◌∙◌, nat_lt, Vec, Global, ℕ}
+use Rattle.std.proofs.Common.{ap, ◌∙◌, nat_lt}
 use Rattle.flac_bits.specs.Bits.{bits_of}
-use Rattle.flac_bits.specs.State.{Mark}
 use Rattle.flac_bits.specs.Written.{Written}
-use Rattle.flac_bits.proofs.ItemSpellings.{behind_whole}
 use Rattle.flac_meta.specs.Spelling.{block_spelling}
+use Rattle.flac_native.proofs.Heads.{Blank, head_collected}
 use Rattle.flac_native.proofs.WholeBytes.{block_whole}
 use Rattle.flac_ogg.proofs.encoding.block_packet.Goals as goal
 
-pub returns : goal.returns
-returns c =
+pub returns-in-Ok-clause-packet : goal.returns-in-Ok-clause-packet
+returns-in-Ok-clause-packet c =
     let text = block_spelling c.args.last c.args.block.now in
     let writer = c.new-writer.result in
-    let known : writer.known ≡ true = ap (λ (v : Written). v.known) c.new-writer.ensures ∙ ap (λ e. nat_lt e 18446744073709551615) c.new.ensures.errors in
-    let bits : writer.bits ≡ [] = ap (λ (v : Written). v.bits) c.new-writer.ensures ∙ ap bits_of c.new.ensures.sent in
-    let unread : writer.mark.unread ≡ 0 = ap (λ (v : Written). v.mark.unread) c.new-writer.ensures in
-    let items : Vec ℕ Global → List Bool = λ v. bits_of v.items in
-    let adds = c.in_ok-write_block.ensures.writes c.requires in
-    let whole = block_whole c.args.last c.args.block.now in
-    ap items c.into_bytes.ensures ∙ ap bits_of c.into_target-target.ensures.sent
-    ∙ c.in_ok-finish.ensures.whole (adds.known known) (ap (λ (m : Mark). m.unread) adds.mark ∙ behind_whole text writer.mark unread whole.bytes)
-    ∙ adds.bits known ∙ ap (λ k. k ++ text) bits
+    let blank : Blank writer = record {
+      known = ap (λ (v : Written). v.known) c.new-writer.ensures ∙ ap (λ e. nat_lt e 18446744073709551615) c.new.ensures.errors;
+      bits = ap (λ (v : Written). v.bits) c.new-writer.ensures ∙ ap bits_of c.new.ensures.sent;
+      unread = ap (λ (v : Written). v.mark.unread) c.new-writer.ensures;
+    } in
+    head_collected writer _ text c.collect.result blank (block_whole c.args.last c.args.block.now).bytes (c.in-Ok.ensures.writes c.requires) c.collect.ensures.bytes
+
+pub returns-in-Err-clause-memory : goal.returns-in-Err-clause-memory
+returns-in-Err-clause-memory c = let fails = c.in-Err.ensures.writes c.requires in c.in_memory.ensures.target fails.reason

@@ -27,16 +27,16 @@ loop-i-preserved c =
     let lt : i < length bs = omega (arith, c.loop-i-test.true) in
     let so_far : List (List Bool) = take i (block_spellings bs) in
     let text : List Bool = bits_of c.as_slice.result.now in
-    let here : text ≡ block_spelling (nat_eq (i + 1) (length bs)) c.index-blocks-i.result = ap bits_of c.as_slice.ensures.value ∙ c.in_ok-packet.ensures in
+    let here : text ≡ block_spelling (nat_eq (i + 1) (length bs)) c.index-blocks-i.result = ap bits_of c.as_slice.ensures.value ∙ c.in_ok-packet.ensures.packet in
     let texts : so_far ++ text ∷ [] ≡ take (i + 1) (block_spellings bs) = ap (λ t. so_far ++ t ∷ []) here ∙ sym (block_more bs i c.index-blocks-i.result lt c.index-blocks-i.is) in
-    let more : Puts (so_far ++ text ∷ []) (headers i ++ Header ∷ []) old new = puts_then so_far (text ∷ []) (headers i) (Header ∷ []) old c.loop-i.packets new c.loop-i.invariant.put c.in_ok-push.ensures in
+    let more : Puts (so_far ++ text ∷ []) (headers i ++ Header ∷ []) old new = puts_then so_far (text ∷ []) (headers i) (Header ∷ []) old c.loop-i.packets new c.loop-i.invariant.put c.in_ok-push.ensures.put in
     record {
       few = omega (arith, lt);
       put = subst (λ t. Puts t (headers (i + 1)) old new) texts (subst (λ z. Puts (so_far ++ text ∷ []) z old new) (sym (headers_more i)) more);
     }
 
-pub returns : goal.returns
-returns c =
+pub returns-clause-put : goal.returns-clause-put
+returns-clause-put c =
     let bs : List Block = c.blocks-blocks.result.now in
     let i = c.loop-i.i in
     let old = c.args.packets.now in

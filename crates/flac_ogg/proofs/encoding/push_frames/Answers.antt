@@ -88,7 +88,7 @@ loop-start-preserved c =
     let text : IsFrameText a c.loop-start.start (c.loop-start.start + c.min.result - c.loop-start.start) n (bits_of packet) =
     subst (λ (k : List ℕ). IsFrameText a c.loop-start.start (c.loop-start.start + c.min.result - c.loop-start.start) n (bits_of k)) (sym c.as_slice.ensures.value) c.in_ok-packet.ensures.frame in
     let small : bytes ≤ 16777215 = omega (arith, bytes_is, length-bits_of packet, text.frame.short) in
-    let g = one_frame p a c.args.packets.now c.loop-start.packets c.push.new.self n c.loop-start.sizes.least c.loop-start.sizes.greatest bytes c.loop-start.start (c.loop-start.start + c.min.result - c.loop-start.start) (c.loop-start.start + c.min.result) packet inv.so_far at part upto bytes_is text c.in_ok-push.ensures in
+    let g = one_frame p a c.args.packets.now c.loop-start.packets c.push.new.self n c.loop-start.sizes.least c.loop-start.sizes.greatest bytes c.loop-start.start (c.loop-start.start + c.min.result - c.loop-start.start) (c.loop-start.start + c.min.result) packet inv.so_far at part upto bytes_is text c.in_ok-push.ensures.put in
     let max_is : c.sizes_with-sizes.result.greatest ≡ max c.loop-start.sizes.greatest bytes = c.sizes_with-sizes.ensures.greatest in
     let least_is : c.sizes_with-sizes.result.least ≡ least_with n c.loop-start.sizes.least bytes = c.sizes_with-sizes.ensures.least in
     let made = subst (λ l. FramesSoFar p a c.args.packets.now c.push.new.self (n + 1) l c.sizes_with-sizes.result.greatest) (sym least_is)
