@@ -1,6 +1,6 @@
 //! Frames from outside: of RFC 9639, appendix D.1, and worked by hand.
 
-ghost use Rattle.std.specs.Prelude.{◌≡◌, ◌≤◌, IfOk};
+ghost use Rattle.std.specs.Prelude.{◌≡◌, IfOk};
 
 use crate::rows::{channels_of, fields_of, pair_of};
 use flac_bits::{BitReader, BitWriter, Collected, Memory, Target, Why};
@@ -87,23 +87,27 @@ fn frames_are_read(rt: HostRuntime) -> Result<(), Fail> {
 }
 
 /// Reads a frame, and returns why it is refused, and how many channels are then kept.
-fn refused(buffers: &mut FrameBuffers, bytes: &[u8]) -> Result<(Option<Why>, usize), Why>
-    requires channels { 2 ≤ buffers.old.channels }
-    requires block { 16 ≤ buffers.old.max_block }
+fn refused(buffers: &mut FrameBuffers, info: &StreamInfo, bytes: &[u8]) -> (Option<Why>, usize)
+    requires info { (info.now.channels ≡ 2) × (info.now.greatest_block ≡ 16) }
+    requires buffers { (buffers.old.channels ≡ 2) × (buffers.old.max_block ≡ 16) }
+    ensures { (buffers.new.channels ≡ 2) × (buffers.new.max_block ≡ 16) }
 {
-    let info = stereo_info(16, 16)?;
     let mut bits = BitReader::new(Memory::new(bytes));
-    let outcome = buffers.fill(&mut bits, &info, Profile::Subset);
-    Ok((outcome.err(), buffers.view().channels()))
+    let outcome = buffers.fill(&mut bits, info, Profile::Subset);
+    (outcome.err(), buffers.view().channels())
 }
 
 #[test]
 fn out_of_range(rt: HostRuntime) -> Result<(), Fail> {
     let bytes = hex::decode(rt.alloc(), "fff86988000f3b007fff00ffff806f48")?;
+    let other = hex::decode(rt.alloc(), "fff86988000f3b007fff00ffff806f49")?;
+    let info = stereo_info(16, 16)?;
     let mut buffers = FrameBuffers::new(rt.alloc(), 2, 16)?;
-    let found = refused(&mut buffers, &bytes);
+    let first = refused(&mut buffers, &info, &bytes);
+    let second = refused(&mut buffers, &info, &other);
     drop(buffers);
-    assert!(rt; found == Ok((Some(Why::SampleRange), 0)));
+    assert!(rt; first == (Some(Why::SampleRange), 0));
+    assert!(rt; second.0 == Some(Why::FrameCheck));
     Ok(())
 }
 
