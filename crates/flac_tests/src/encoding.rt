@@ -1,10 +1,12 @@
 //! Streams that are written: samples of RFC 9639, appendix D.1, no samples, and blocks of 16 samples whose least subframe is known.
 
+use crate::rows::channels_of;
 use flac_bits::Collected;
 use flac_frame::Audio;
 use flac_meta::BlockList;
 use flac_native::{Plan, encode};
 use std::alloc::Global;
+use std::mem::drop;
 use std::process::Abort;
 use std::test::Fail;
 
@@ -36,6 +38,38 @@ const EQUAL_24: &str =
 const EQUAL_32: &str =
     "664c6143800000220010001000000e00000e0ac441f0000000109e9acc978df6458dadf4faef69ee5763fff8690e000f4d007fffffffda2b";
 
+/// A stream of some samples without further blocks.
+pub(crate) fn encoded(
+    alloc: Global,
+    audio: &Audio,
+    block: u32,
+    every: u32,
+) -> Result<Vec<u8>, Fail> {
+    let plan = Plan::new(block, audio, every)?;
+    let list = BlockList::new(Vec::new(alloc))?;
+    let mut target = Collected::new(alloc);
+    let outcome = encode(alloc, &plan, &list, audio, &mut target);
+    drop(list);
+    outcome?;
+    Ok(target.into_bytes())
+}
+
+/// Encodes channels in blocks of so many samples, and compares what is written.
+fn writes_channels(
+    rt: &impl Abort,
+    alloc: Global,
+    block: u32,
+    bits: u32,
+    channels: Vec<Vec<i32>>,
+    wanted: &str,
+) -> Result<(), Fail> {
+    let audio = Audio::new(44100, bits, channels)?;
+    let found = encoded(alloc, &audio, block, 0)?;
+    let wanted = hex::decode(alloc, wanted)?;
+    assert!(rt; found.as_slice() == wanted.as_slice());
+    Ok(())
+}
+
 /// Encodes one channel in blocks of 16 samples, and compares what is written.
 fn writes(
     rt: &impl Abort,
@@ -44,25 +78,24 @@ fn writes(
     samples: Vec<i32>,
     wanted: &str,
 ) -> Result<(), Fail> {
-    let audio = Audio::new(44100, bits, vec![in alloc; samples]?)?;
-    let plan = Plan::new(16, &audio, 0)?;
-    let list = BlockList::new(Vec::new(alloc))?;
-    let mut target = Collected::new(alloc);
-    encode(alloc, &plan, &list, &audio, &mut target)?;
-    let wanted = hex::decode(alloc, wanted)?;
-    assert_eq!(rt; target.bytes(), wanted.as_slice());
-    Ok(())
+    let channels = vec![in alloc; samples]?;
+    writes_channels(rt, alloc, 16, bits, channels, wanted)
 }
 
 #[test]
 fn least_subframes(rt: HostRuntime) -> Result<(), Fail> {
     let alloc = rt.alloc();
-    let mut rising = Vec::new(alloc);
-    for i in 0..16 {
-        rising.push(i)?;
-    }
-    writes(&rt, alloc, 16, rising, RISING)?;
+    writes(&rt, alloc, 16, ramp(alloc, 16)?, RISING)?;
     writes(&rt, alloc, 16, vec![in alloc; 0; 16]?, SILENT)
+}
+
+/// The samples 0, 1, .., as many.
+pub(crate) fn ramp(alloc: Global, count: i32) -> Result<Vec<i32>, Fail> {
+    let mut samples = Vec::new(alloc);
+    for i in 0..count {
+        samples.push(i)?;
+    }
+    Ok(samples)
 }
 
 #[test]
@@ -75,28 +108,24 @@ fn depths(rt: HostRuntime) -> Result<(), Fail> {
 
 #[test]
 fn one_sample(rt: HostRuntime) -> Result<(), Fail> {
-    let channels = vec![in rt.alloc(); vec![in rt.alloc(); 25588]?, vec![in rt.alloc(); 10416]?]?;
-    let audio = Audio::new(44100, 16, channels)?;
-    let plan = Plan::new(4096, &audio, 0)?;
-    assert!(rt; plan.fits(&audio));
-    let list = BlockList::new(Vec::new(rt.alloc()))?;
-    let mut target = Collected::new(rt.alloc());
-    encode(rt.alloc(), &plan, &list, &audio, &mut target)?;
-    let wanted = hex::decode(rt.alloc(), ONE)?;
-    assert_eq!(rt; target.bytes(), wanted.as_slice());
-    Ok(())
+    let channels = channels_of(rt.alloc(), ";25588;10416")?;
+    writes_channels(&rt, rt.alloc(), 4096, 16, channels, ONE)
 }
 
 #[test]
 fn no_samples(rt: HostRuntime) -> Result<(), Fail> {
-    let channels = vec![in rt.alloc(); Vec::new(rt.alloc()), Vec::new(rt.alloc())]?;
-    let audio = Audio::new(44100, 16, channels)?;
-    let plan = Plan::new(4096, &audio, 0)?;
-    assert!(rt; plan.fits(&audio));
-    let list = BlockList::new(Vec::new(rt.alloc()))?;
-    let mut target = Collected::new(rt.alloc());
-    encode(rt.alloc(), &plan, &list, &audio, &mut target)?;
-    let wanted = hex::decode(rt.alloc(), NONE)?;
-    assert_eq!(rt; target.bytes(), wanted.as_slice());
+    let channels = channels_of(rt.alloc(), ";;")?;
+    writes_channels(&rt, rt.alloc(), 4096, 16, channels, NONE)
+}
+
+/// A plan fits the samples that it was made for.
+#[test]
+fn plans_fit(rt: HostRuntime) -> Result<(), Fail> {
+    let one = Audio::new(44100, 16, channels_of(rt.alloc(), ";25588;10416")?)?;
+    let plan = Plan::new(4096, &one, 0)?;
+    assert!(rt; plan.fits(&one));
+    let none = Audio::new(44100, 16, channels_of(rt.alloc(), ";;")?)?;
+    let plan = Plan::new(4096, &none, 0)?;
+    assert!(rt; plan.fits(&none));
     Ok(())
 }

@@ -1,11 +1,13 @@
 //! Ogg streams that are written: pages whose sums were worked out apart from this project.
 
+use crate::rows::channels_of;
 use flac_bits::Collected;
 use flac_frame::Audio;
 use flac_meta::{Block, BlockList, Bytes, Comments, Texts};
 use flac_native::{EncodeFault, Plan};
 use flac_ogg::encode_ogg;
 use std::alloc::Global;
+use std::mem::drop;
 use std::process::Abort;
 use std::test::Fail;
 
@@ -22,8 +24,7 @@ const NO_FRAME: &str =
 
 /// One sample of two channels.
 fn sample(alloc: Global) -> Result<Audio, Fail> {
-    let channels = vec![in alloc; vec![in alloc; 25588]?, vec![in alloc; 10416]?]?;
-    Ok(Audio::new(44100, 16, channels)?)
+    Ok(Audio::new(44100, 16, channels_of(alloc, ";25588;10416")?)?)
 }
 
 /// A block of no vendor and no comments, behind this many paddings.
@@ -39,14 +40,27 @@ fn comments(alloc: Global, paddings: usize) -> Result<BlockList, Fail> {
     Ok(BlockList::new(blocks)?)
 }
 
+/// Writes samples with that block behind paddings, and seek points each so many samples: the outcome, and the pages.
+fn pages_of(
+    alloc: Global,
+    audio: &Audio,
+    paddings: usize,
+    every: u32,
+) -> Result<(Result<(), EncodeFault>, Vec<u8>), Fail> {
+    let plan = Plan::new(4096, audio, every)?;
+    let list = comments(alloc, paddings)?;
+    let mut target = Collected::new(alloc);
+    let outcome = encode_ogg(alloc, 1, &plan, &list, audio, &mut target);
+    drop(list);
+    Ok((outcome, target.into_bytes()))
+}
+
 /// Writes samples with that block, and compares the pages.
 fn writes(rt: &impl Abort, alloc: Global, audio: &Audio, wanted: &str) -> Result<(), Fail> {
-    let plan = Plan::new(4096, audio, 0)?;
-    let list = comments(alloc, 0)?;
-    let mut target = Collected::new(alloc);
-    encode_ogg(alloc, 1, &plan, &list, audio, &mut target)?;
+    let (outcome, pages) = pages_of(alloc, audio, 0, 0)?;
+    assert!(rt; outcome == Ok(()));
     let wanted = hex::decode(alloc, wanted)?;
-    assert_eq!(rt; target.bytes(), wanted.as_slice());
+    assert!(rt; pages.as_slice() == wanted.as_slice());
     Ok(())
 }
 
@@ -58,24 +72,23 @@ fn one_sample_in_pages(rt: HostRuntime) -> Result<(), Fail> {
 
 #[test]
 fn no_samples_in_pages(rt: HostRuntime) -> Result<(), Fail> {
-    let alloc = rt.alloc();
-    let channels = vec![in alloc; Vec::new(alloc), Vec::new(alloc)]?;
-    let audio = Audio::new(44100, 16, channels)?;
-    writes(&rt, alloc, &audio, NO_FRAME)
+    let audio = Audio::new(44100, 16, channels_of(rt.alloc(), ";;")?)?;
+    writes(&rt, rt.alloc(), &audio, NO_FRAME)
+}
+
+/// Checks that nothing is written of a sample, behind paddings and with seek points.
+fn is_refused(rt: &impl Abort, alloc: Global, paddings: usize, every: u32) -> Result<(), Fail> {
+    let audio = sample(alloc)?;
+    let (outcome, pages) = pages_of(alloc, &audio, paddings, every)?;
+    assert!(rt; outcome == Err(EncodeFault::BadMapping));
+    assert!(rt; pages.len() == 0);
+    Ok(())
 }
 
 /// A list that does not begin with a comment block is refused, and a plan that asks for a seek table; nothing is sent.
 #[test]
 fn no_stream_in_ogg(rt: HostRuntime) -> Result<(), Fail> {
-    let alloc = rt.alloc();
-    let audio = sample(alloc)?;
-    for (paddings, every) in [(1, 0), (0, 1), (1, 1)] {
-        let plan = Plan::new(4096, &audio, every)?;
-        let list = comments(alloc, paddings)?;
-        let mut target = Collected::new(alloc);
-        let refused = encode_ogg(alloc, 1, &plan, &list, &audio, &mut target);
-        assert_eq!(rt; refused, Err(EncodeFault::BadMapping));
-        assert_eq!(rt; target.bytes().len(), 0);
-    }
-    Ok(())
+    is_refused(&rt, rt.alloc(), 1, 0)?;
+    is_refused(&rt, rt.alloc(), 0, 1)?;
+    is_refused(&rt, rt.alloc(), 1, 1)
 }

@@ -3,12 +3,14 @@
 
 ghost use Rattle.std.specs.Prelude.{⊤, [], true};
 
-use crate::decoding::{ROW, peaks};
+use crate::decoding::{PEAKS, ROW, cut_off, next_type, peaks_to_end, two_faults};
 use flac_ogg::{
-    Block, Fault, FrameView, Item, Memory, Place, Profile, Sink, SinkFault, Why, decode_any,
-    ogg_decoder, verify,
+    Block, Fault, FrameView, Memory, Place, Profile, Sink, SinkFault, Why, decode_any, ogg_decoder,
+    verify,
 };
 use std::alloc::Global;
+use std::mem::drop;
+use std::process::Abort;
 use std::test::Fail;
 
 const PAGES: &str =
@@ -20,9 +22,9 @@ const PAGES: &str =
 fn peaks_of_pages(rt: HostRuntime) -> Result<(), Fail> {
     let stream = hex::decode(rt.alloc(), PAGES)?;
     let mut decoder = ogg_decoder(rt.alloc(), Memory::new(&stream), Profile::Subset)?;
-    let found = peaks(&mut decoder)?;
-    assert_eq!(rt; (found[0], found[1], found[2]), (25588, 10416, 0));
-    assert!(rt; matches!(decoder.next()?, Item::End));
+    let found = peaks_to_end(&mut decoder);
+    drop(decoder);
+    assert!(rt; found == PEAKS);
     Ok(())
 }
 
@@ -31,23 +33,11 @@ fn refused_once_in_pages(rt: HostRuntime) -> Result<(), Fail> {
     let mut stream = hex::decode(rt.alloc(), PAGES)?;
     let _last = stream.pop();
     let mut decoder = ogg_decoder(rt.alloc(), Memory::new(&stream), Profile::Subset)?;
-    assert!(rt; matches!(decoder.next()?, Item::Block(Block::StreamInfo(_))));
-    assert!(rt; matches!(decoder.next()?, Item::Block(Block::VorbisComment(_))));
-    let at = Place::Page(2);
-    assert_eq!(rt;
-        decoder.step(),
-        Err(Fault {
-            at,
-            why: Why::Truncated
-        })
-    );
-    assert_eq!(rt;
-        decoder.step(),
-        Err(Fault {
-            at,
-            why: Why::Spent
-        })
-    );
+    let blocks = (next_type(&mut decoder), next_type(&mut decoder));
+    let faults = two_faults(&mut decoder);
+    drop(decoder);
+    assert!(rt; blocks == (0, 4));
+    cut_off(&rt, faults, Place::Page(2));
     Ok(())
 }
 
@@ -73,11 +63,9 @@ impl Sink for First {
     }
 
     fn frame(&mut self, frame: &FrameView<'_>) -> Result<(), SinkFault> {
-        for (i, sample) in self.samples.iter_mut().enumerate() {
+        for i in 0..2 {
             if i < frame.channels() {
-                if let Some(first) = frame.channel(i).first() {
-                    *sample = *first;
-                }
+                self.samples[i] = frame.channel(i).first().copied().unwrap_or(0);
             }
         }
         Ok(())
@@ -94,35 +82,41 @@ fn decoded(alloc: Global, stream: &[u8]) -> Result<(u32, [i32; 2]), Fault> {
     Ok((first.blocks, first.samples))
 }
 
+/// Decodes a stream that hex text gives, and compares how many blocks it has, and its first samples.
+fn decodes(
+    rt: &impl Abort,
+    alloc: Global,
+    stream: &str,
+    wanted: Result<(u32, [i32; 2]), Fault>,
+) -> Result<(), Fail> {
+    let stream = hex::decode(alloc, stream)?;
+    assert!(rt; decoded(alloc, &stream) == wanted);
+    Ok(())
+}
+
 #[test]
 fn either_container(rt: HostRuntime) -> Result<(), Fail> {
-    let stream = hex::decode(rt.alloc(), ROW)?;
-    assert_eq!(rt; decoded(rt.alloc(), &stream)?, (1, [25588, 10416]));
-    let stream = hex::decode(rt.alloc(), PAGES)?;
-    assert_eq!(rt; decoded(rt.alloc(), &stream)?, (2, [25588, 10416]));
+    decodes(&rt, rt.alloc(), ROW, Ok((1, [25588, 10416])))?;
+    decodes(&rt, rt.alloc(), PAGES, Ok((2, [25588, 10416])))?;
     let at = Place::Marker;
-    assert_eq!(rt;
-        decoded(rt.alloc(), &[]),
-        Err(Fault {
-            at,
-            why: Why::Truncated
-        })
-    );
-    Ok(())
+    let why = Why::Truncated;
+    decodes(&rt, rt.alloc(), "", Err(Fault { at, why }))
+}
+
+/// Verifies bytes, and compares the outcome.
+fn verifies(rt: &impl Abort, alloc: Global, stream: &[u8], wanted: Result<(), Fault>) {
+    assert!(rt; verify(alloc, stream, Profile::Subset) == wanted);
 }
 
 #[test]
 fn verified_in_memory(rt: HostRuntime) -> Result<(), Fail> {
     let mut native = hex::decode(rt.alloc(), ROW)?;
     let stream = hex::decode(rt.alloc(), PAGES)?;
-    assert_eq!(rt; verify(rt.alloc(), &native, Profile::Subset), Ok(()));
-    assert_eq!(rt; verify(rt.alloc(), &stream, Profile::Subset), Ok(()));
+    verifies(&rt, rt.alloc(), &native, Ok(()));
+    verifies(&rt, rt.alloc(), &stream, Ok(()));
     let _last = native.pop();
     let at = Place::Frame(0);
     let why = Why::Truncated;
-    assert_eq!(rt;
-        verify(rt.alloc(), &native, Profile::Subset),
-        Err(Fault { at, why })
-    );
+    verifies(&rt, rt.alloc(), &native, Err(Fault { at, why }));
     Ok(())
 }

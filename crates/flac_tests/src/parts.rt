@@ -2,9 +2,11 @@
 
 use flac_native::{
     Audio, BitReader, Block, Decoder, EncodeFault, Fault, FrameView, Item, Memory, Place, Plan,
-    Profile, RetagFault, SetupFault, Track, Why, info_of, put_rows,
+    Profile, RetagFault, SetupFault, StreamInfo, Track, Why, info_of, put_rows,
 };
 use std::alloc::Global;
+use std::fmt::Display;
+use std::mem::drop;
 use std::process::Abort;
 use std::test::Fail;
 
@@ -25,36 +27,41 @@ fn rows(frame: &FrameView<'_>, out: &mut [u8; 64]) -> usize {
     put_rows(frame, 2, 0, frame.len(), out)
 }
 
-/// The one block of a stream is read: STREAMINFO, the last, and a sample is then missing at the end.
-fn reads_block(
-    rt: &impl Abort,
-    bits: &mut BitReader<Memory<'_>>,
-    track: &mut Track,
-) -> Result<(), Fail> {
-    assert_eq!(rt; track.place(), Place::Block(0));
-    let (last, block) = track.block(bits)?;
-    assert!(rt; last);
-    assert!(rt; matches!(block, Block::StreamInfo(_)));
-    assert_eq!(rt; track.place(), Place::Frame(0));
-    assert_eq!(rt; track.end(), Err(Why::TotalMismatch));
-    Ok(())
+/// Whether a STREAMINFO block comes next, and is the last.
+fn is_last_info(bits: &mut BitReader<Memory<'_>>, track: &mut Track) -> bool {
+    let read = track.block(bits);
+    let found = matches!(read, Ok((true, Block::StreamInfo(_))));
+    drop(read);
+    found
 }
 
-/// The one frame of a stream is read.
-fn reads_frame(
-    rt: &impl Abort,
-    bits: &mut BitReader<Memory<'_>>,
-    track: &mut Track,
-) -> Result<(), Fail> {
-    let mut out = [0; 64];
+/// Checks where a track is, and what its end would return there.
+fn is_at(rt: &impl Abort, track: &mut Track, place: Place, end: Result<(), Why>) {
+    assert!(rt; track.place() == place);
+    assert!(rt; track.end() == end);
+}
+
+/// The channels, the length and the number of the next frame; its samples as how many bytes, and the first five of them.
+type Told = ((usize, usize, u64), (usize, [u8; 5]));
+
+/// The next frame.
+fn next_frame(bits: &mut BitReader<Memory<'_>>, track: &mut Track) -> Result<Told, Why> {
     let frame = track.frame(bits)?;
-    assert_eq!(rt; (frame.channels(), frame.len(), frame.number()), (2, 1, 0));
+    let mut out = [0; 64];
     let count = rows(&frame, &mut out);
-    assert_eq!(rt;
-        (count, out[0], out[1], out[2], out[3], out[4]),
-        (4, 0xF4, 0x63, 0xB0, 0x28, 0)
-    );
-    Ok(())
+    let shape = (frame.channels(), frame.len(), frame.number());
+    Ok((shape, (count, [out[0], out[1], out[2], out[3], out[4]])))
+}
+
+/// Reads the example: a block, behind which a sample is missing at the end, a frame, and the end.
+fn reads_all(rt: &impl Abort, bits: &mut BitReader<Memory<'_>>, track: &mut Track) {
+    assert!(rt; track.place() == Place::Block(0));
+    assert!(rt; is_last_info(bits, track));
+    is_at(rt, track, Place::Frame(0), Err(Why::TotalMismatch));
+    let frame = next_frame(bits, track);
+    assert!(rt; frame == Ok(((2, 1, 0), (4, [0xF4, 0x63, 0xB0, 0x28, 0]))));
+    is_at(rt, track, Place::Frame(1), Ok(()));
+    assert!(rt; bits.at_end() == Ok(true));
 }
 
 /// A stream read part by part: a block, a frame, and what STREAMINFO states of all samples.
@@ -63,11 +70,8 @@ fn reads_parts(rt: HostRuntime) -> Result<(), Fail> {
     let stream = hex::decode(rt.alloc(), PARTS)?;
     let mut bits = BitReader::new(Memory::new(&stream));
     let mut track = Track::new(rt.alloc(), Profile::Subset);
-    reads_block(&rt, &mut bits, &mut track)?;
-    reads_frame(&rt, &mut bits, &mut track)?;
-    assert_eq!(rt; track.place(), Place::Frame(1));
-    assert_eq!(rt; bits.at_end(), Ok(true));
-    assert_eq!(rt; track.end(), Ok(()));
+    reads_all(&rt, &mut bits, &mut track);
+    drop(track);
     Ok(())
 }
 
@@ -77,143 +81,94 @@ fn one_sample(alloc: Global) -> Result<Audio, Fail> {
     Ok(Audio::new(44100, 16, channels)?)
 }
 
+/// STREAMINFO of the example, for frames of at most 15 bytes.
+fn info(alloc: Global, least: u32) -> Result<StreamInfo, Fail> {
+    let audio = one_sample(alloc)?;
+    let plan = Plan::new(4096, &audio, 0)?;
+    Ok(info_of(&plan, &audio, least.min(15), 15))
+}
+
 #[test]
 fn states_the_digest(rt: HostRuntime) -> Result<(), Fail> {
-    let audio = one_sample(rt.alloc())?;
-    let plan = Plan::new(4096, &audio, 0)?;
-    let info = info_of(&plan, &audio, 14, 15);
-    assert_eq!(rt; (info.least_block(), info.greatest_block()), (4096, 4096));
-    assert_eq!(rt; (info.least_frame(), info.greatest_frame()), (14, 15));
-    assert_eq!(rt;
-        (info.rate(), info.channels(), info.depth(), info.total()),
-        (44100, 2, 16, 1)
-    );
-    assert_eq!(rt; info.digest(), DIGEST);
+    let info = info(rt.alloc(), 14)?;
+    assert!(rt; (info.least_block(), info.greatest_block()) == (4096, 4096));
+    assert!(rt; (info.least_frame(), info.greatest_frame()) == (14, 15));
+    assert!(rt; (info.rate(), info.channels(), info.depth()) == (44100, 2, 16));
+    assert!(rt; info.total() == 1);
+    assert!(rt; info.digest() == DIGEST);
     Ok(())
 }
 
 /// A decoder gives its source back, here one that was read to its end.
 #[test]
 fn gives_its_source_back(rt: HostRuntime) -> Result<(), Fail> {
-    let audio = one_sample(rt.alloc())?;
-    let plan = Plan::new(4096, &audio, 0)?;
-    let info = info_of(&plan, &audio, 15, 15);
+    let info = info(rt.alloc(), 15)?;
     let stream = hex::decode(rt.alloc(), PARTS)?;
     let source = Memory::new(stream.get(38..).unwrap_or(&[]));
     let mut decoder = Decoder::resume(rt.alloc(), source, &info, Profile::Subset)?;
-    assert!(rt; matches!(decoder.next()?, Item::Frame(_)));
+    let read = matches!(decoder.next(), Ok(Item::Frame(_)));
     let mut bits = BitReader::new(decoder.into_source());
-    assert_eq!(rt; bits.at_end(), Ok(true));
+    assert!(rt; read);
+    assert!(rt; bits.at_end() == Ok(true));
     Ok(())
 }
 
 #[test]
 fn gives_its_channels_back(rt: HostRuntime) -> Result<(), Fail> {
     let channels = one_sample(rt.alloc())?.into_channels();
-    assert_eq!(rt; channels.len(), 2);
-    assert_eq!(rt;
-        (channels[0].as_slice(), channels[1].as_slice()),
-        ([25588].as_slice(), [10416].as_slice())
-    );
+    assert!(rt; channels.len() == 2);
+    assert!(rt; channels[0].as_slice() == [25588].as_slice());
+    assert!(rt; channels[1].as_slice() == [10416].as_slice());
     Ok(())
 }
 
 #[test]
 fn numbers_of_faults(rt: HostRuntime) {
-    assert_eq!(rt;
-        (
-            EncodeFault::Memory.number(),
-            EncodeFault::RepeatedBlock.number()
-        ),
-        (2, 9)
-    );
-    assert_eq!(rt;
-        (
-            EncodeFault::BadMapping.number(),
-            EncodeFault::Write.number()
-        ),
-        (37, 39)
-    );
-    assert_eq!(rt;
-        (SetupFault::BadRate.number(), SetupFault::BadDepth.number()),
-        (40, 41)
-    );
-    assert_eq!(rt;
-        (
-            SetupFault::BadChannels.number(),
-            SetupFault::LengthsDiffer.number()
-        ),
-        (42, 43)
-    );
-    assert_eq!(rt;
-        (
-            SetupFault::SampleTooLarge.number(),
-            SetupFault::TooLong.number()
-        ),
-        (44, 45)
-    );
-    assert_eq!(rt;
-        (
-            SetupFault::BadBlockSize.number(),
-            SetupFault::TooManyPoints.number()
-        ),
-        (46, 47)
-    );
+    assert!(rt; EncodeFault::Memory.number() == 2);
+    assert!(rt; EncodeFault::RepeatedBlock.number() == 9);
+    assert!(rt; EncodeFault::BadMapping.number() == 37);
+    assert!(rt; EncodeFault::Write.number() == 39);
+    assert!(rt; SetupFault::BadRate.number() == 40);
+    assert!(rt; SetupFault::BadDepth.number() == 41);
+    assert!(rt; SetupFault::BadChannels.number() == 42);
+    assert!(rt; SetupFault::LengthsDiffer.number() == 43);
+    assert!(rt; SetupFault::SampleTooLarge.number() == 44);
+    assert!(rt; SetupFault::TooLong.number() == 45);
+    assert!(rt; SetupFault::BadBlockSize.number() == 46);
+    assert!(rt; SetupFault::TooManyPoints.number() == 47);
 }
 
-/// Checks the text of a fault at a place.
-fn prints(rt: &impl Abort, alloc: Global, at: Place, why: Why, text: &str) -> Result<(), Fail> {
-    let fault = Fault { at, why };
-    assert_eq!(rt; format!(in alloc; "{fault}")?.as_str(), text);
-    let fault = RetagFault { at: Some(at), why };
-    assert_eq!(rt; format!(in alloc; "{fault}")?.as_str(), text);
+/// Checks how something prints.
+fn prints<D: Display>(rt: &impl Abort, alloc: Global, shown: &D, text: &str) -> Result<(), Fail> {
+    let found = format!(in alloc; "{shown}")?;
+    assert!(rt; found.as_str() == text);
     Ok(())
+}
+
+/// Checks how a fault at a place prints.
+fn prints_at(rt: &impl Abort, alloc: Global, at: Place, why: Why, text: &str) -> Result<(), Fail> {
+    prints(rt, alloc, &Fault { at, why }, text)?;
+    prints(rt, alloc, &RetagFault { at: Some(at), why }, text)
 }
 
 #[test]
 fn prints_faults(rt: HostRuntime) -> Result<(), Fail> {
     let alloc = rt.alloc();
-    prints(
-        &rt,
-        alloc,
-        Place::Marker,
-        Why::BadMarker,
-        "marker: 4 BadMarker",
-    )?;
-    prints(
-        &rt,
-        alloc,
-        Place::Block(0),
-        Why::BadStreamInfo,
-        "block 0: 8 BadStreamInfo",
-    )?;
-    prints(
-        &rt,
-        alloc,
-        Place::Frame(3),
-        Why::FrameCheck,
-        "frame 3: 26 FrameCheck",
-    )?;
-    prints(
-        &rt,
-        alloc,
-        Place::Page(7),
-        Why::PageCheck,
-        "page 7: 32 PageCheck",
-    )?;
-    prints(
-        &rt,
-        alloc,
-        Place::End,
-        Why::Md5Mismatch,
-        "end: 29 Md5Mismatch",
-    )?;
-    let fault = RetagFault {
-        at: None,
-        why: Why::BlockLength,
-    };
-    assert_eq!(rt; format!(in alloc; "{fault}")?.as_str(), "7 BlockLength");
-    let fault = SetupFault::SampleTooLarge;
-    assert_eq!(rt; format!(in alloc; "{fault}")?.as_str(), "44 SampleTooLarge");
-    Ok(())
+    let rows = [
+        (Place::Marker, Why::BadMarker, "marker: 4 BadMarker"),
+        (
+            Place::Block(0),
+            Why::BadStreamInfo,
+            "block 0: 8 BadStreamInfo",
+        ),
+        (Place::Frame(3), Why::FrameCheck, "frame 3: 26 FrameCheck"),
+        (Place::Page(7), Why::PageCheck, "page 7: 32 PageCheck"),
+        (Place::End, Why::Md5Mismatch, "end: 29 Md5Mismatch"),
+    ];
+    for (at, why, text) in rows {
+        prints_at(&rt, alloc, at, why, text)?;
+    }
+    let (at, why) = (None, Why::BlockLength);
+    prints(&rt, alloc, &RetagFault { at, why }, "7 BlockLength")?;
+    prints(&rt, alloc, &SetupFault::SampleTooLarge, "44 SampleTooLarge")
 }

@@ -3,6 +3,13 @@
 use std::alloc::Global;
 use std::test::Fail;
 
+/// The three fields of a row, each after a ` | `.
+pub(crate) fn fields_of(row: &str) -> (&str, &str, &str) {
+    let (first, rest) = row.split_once(" | ").unwrap_or(("", ""));
+    let (second, third) = rest.split_once(" | ").unwrap_or(("", ""));
+    (first, second, third)
+}
+
 /// The samples of some words.
 pub(crate) fn samples_of(alloc: Global, words: &str) -> Result<Vec<i32>, Fail> {
     let mut samples = Vec::new(alloc);

@@ -1,20 +1,19 @@
 //! Seek tables that are written, and a stream that is read from a point on.
 
+use crate::decoding::ends;
+use crate::encoding::{encoded, ramp};
 use flac_bits::{Collected, Memory};
 use flac_frame::{Audio, FrameView};
 use flac_meta::{Block, BlockList, SeekPoint, SeekTable, StreamInfo};
-use flac_native::{Container, Decoder, EncodeFault, Fault, Item, Plan, Profile, encode};
+use flac_native::{Container, Decoder, EncodeFault, Item, Plan, Profile, encode};
 use std::alloc::Global;
+use std::mem::drop;
 use std::process::Abort;
 use std::test::Fail;
 
 /// The samples 0, 1, .., 16 of one channel of 16 bits.
 fn seventeen(alloc: Global) -> Result<Audio, Fail> {
-    let mut samples = Vec::new(alloc);
-    for i in 0..17 {
-        samples.push(i)?;
-    }
-    Ok(Audio::new(44100, 16, vec![in alloc; samples]?)?)
+    Ok(Audio::new(44100, 16, vec![in alloc; ramp(alloc, 17)?]?)?)
 }
 
 /// A table of these points, and nothing else.
@@ -24,20 +23,25 @@ fn table(alloc: Global, points: Vec<SeekPoint>) -> Result<BlockList, Fail> {
     Ok(BlockList::new(blocks)?)
 }
 
+/// Encodes those samples with a seek table in the list, and a seek point each so many samples: the outcome, and how many bytes are written.
+fn encoded_with_table(alloc: Global, every: u32) -> Result<(Result<(), EncodeFault>, usize), Fail> {
+    let audio = seventeen(alloc)?;
+    let list = table(alloc, Vec::new(alloc))?;
+    let plan = Plan::new(16, &audio, every)?;
+    let mut target = Collected::new(alloc);
+    let outcome = encode(alloc, &plan, &list, &audio, &mut target);
+    drop(list);
+    Ok((outcome, target.bytes().len()))
+}
+
 /// A list that has a seek table is refused where the plan asks for one, and else written.
 #[test]
 fn repeated_table(rt: HostRuntime) -> Result<(), Fail> {
-    let alloc = rt.alloc();
-    let audio = seventeen(alloc)?;
-    let list = table(alloc, Vec::new(alloc))?;
-    let mut target = Collected::new(alloc);
-    let plan = Plan::new(16, &audio, 16)?;
-    let refused = encode(alloc, &plan, &list, &audio, &mut target);
-    assert_eq!(rt; refused, Err(EncodeFault::RepeatedBlock));
-    assert_eq!(rt; target.bytes().len(), 0);
-    let plan = Plan::new(16, &audio, 0)?;
-    encode(alloc, &plan, &list, &audio, &mut target)?;
-    assert!(rt; target.bytes().len() > 46);
+    let refused = encoded_with_table(rt.alloc(), 16)?;
+    assert!(rt; refused == (Err(EncodeFault::RepeatedBlock), 0));
+    let (outcome, count) = encoded_with_table(rt.alloc(), 0)?;
+    assert!(rt; outcome == Ok(()));
+    assert!(rt; count > 46);
     Ok(())
 }
 
@@ -55,23 +59,15 @@ const DIGEST: [u8; 16] = [
 
 /// Those samples, encoded.
 fn ten_thousand(alloc: Global) -> Result<Vec<u8>, Fail> {
-    let mut samples = Vec::new(alloc);
-    for i in 0..10000 {
-        samples.push(i)?;
-    }
-    let audio = Audio::new(44100, 16, vec![in alloc; samples]?)?;
-    let plan = Plan::new(4096, &audio, 1000)?;
-    let list = BlockList::new(Vec::new(alloc))?;
-    let mut target = Collected::new(alloc);
-    encode(alloc, &plan, &list, &audio, &mut target)?;
-    Ok(target.into_bytes())
+    let audio = Audio::new(44100, 16, vec![in alloc; ramp(alloc, 10000)?]?)?;
+    encoded(alloc, &audio, 4096, 1000)
 }
 
-/// The next frame: its number, its channels, how many samples a channel has, and the first and the last of them.
-fn next_frame<C: Container>(decoder: &mut Decoder<C>) -> Result<Option<Told>, Fault> {
-    match decoder.next()? {
-        Item::Frame(frame) => Ok(Some(told(&frame))),
-        _ => Ok(None),
+/// The next frame, if one comes next.
+fn next_frame<C: Container>(decoder: &mut Decoder<C>) -> Option<Told> {
+    match decoder.next() {
+        Ok(Item::Frame(frame)) => Some(told(&frame)),
+        _ => None,
     }
 }
 
@@ -91,27 +87,27 @@ fn told(frame: &FrameView<'_>) -> Told {
 fn written_with_points(rt: HostRuntime) -> Result<(), Fail> {
     let stream = ten_thousand(rt.alloc())?;
     let wanted = hex::decode(rt.alloc(), TEN_THOUSAND)?;
-    assert_eq!(rt; stream.as_slice(), wanted.as_slice());
+    assert!(rt; stream.as_slice() == wanted.as_slice());
     Ok(())
 }
 
-/// The third frame comes next, and then the end.
-fn third_and_end<C: Container>(rt: &impl Abort, decoder: &mut Decoder<C>) -> Result<(), Fail> {
+/// Reads the second and the third frame, and the end.
+fn two_and_end<C: Container>(rt: &impl Abort, decoder: &mut Decoder<C>) {
+    let second = Some((1, 1, 4096, Some(4096), Some(8191)));
+    assert!(rt; next_frame(decoder) == second);
     let third = Some((2, 1, 1808, Some(8192), Some(9999)));
-    assert_eq!(rt; next_frame(decoder)?, third);
-    assert!(rt; matches!(decoder.next()?, Item::End));
-    Ok(())
+    assert!(rt; next_frame(decoder) == third);
+    assert!(rt; ends(decoder));
 }
 
 /// The stream is read from its second point on: two frames, and the end.
 #[test]
 fn resumed_at_a_point(rt: HostRuntime) -> Result<(), Fail> {
-    let alloc = rt.alloc();
-    let stream = ten_thousand(alloc)?;
+    let stream = ten_thousand(rt.alloc())?;
     let info = StreamInfo::new(4096, 4096, 15, 17, 44100, 1, 16, 10000, DIGEST)?;
     let source = Memory::new(stream.get(100 + 15..).unwrap_or(&[]));
-    let mut decoder = Decoder::resume(alloc, source, &info, Profile::Subset)?;
-    let second = Some((1, 1, 4096, Some(4096), Some(8191)));
-    assert_eq!(rt; next_frame(&mut decoder)?, second);
-    third_and_end(&rt, &mut decoder)
+    let mut decoder = Decoder::resume(rt.alloc(), source, &info, Profile::Subset)?;
+    two_and_end(&rt, &mut decoder);
+    drop(decoder);
+    Ok(())
 }

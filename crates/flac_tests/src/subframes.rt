@@ -3,7 +3,7 @@
 ghost use Rattle.std.specs.Prelude.{◌≤◌, length, All, IsTrue};
 ghost use Rattle.flac_bits.specs.Signed.{FitsBits};
 
-use crate::rows::pair_of;
+use crate::rows::{fields_of, pair_of, samples_of};
 use flac_bits::{BitReader, BitWriter, Collected, Memory, Target, Why};
 use flac_subframe::{
     Limits, choose, choose_into, predict_fixed, predict_linear, read_subframe,
@@ -57,45 +57,59 @@ fn read(bytes: &[u8], depth: u32, linear: u32, samples: &mut [i64]) -> Result<bo
     read_subframe(&mut bits, depth, samples.len() as u32, &limits, samples)
 }
 
-/// What reading a subframe of at most 16 samples returns, in text, and the samples.
-fn outcome(alloc: Global, bytes: &[u8], shape: &str) -> Result<(String, [i64; 16]), Fail> {
+/// Reads a subframe of at most 16 samples, whose bit depth, largest order of a linear predictor and number of samples are given in words.
+fn read_shaped(
+    shape: &str,
+    bytes: &[u8],
+    block: &mut [i64; 16],
+) -> Result<Result<bool, Why>, Fail> {
     let (depth, rest) = shape.split_once(' ').unwrap_or(("", ""));
-    let (linear, count) = pair_of(rest)?;
     let depth = depth.parse::<u32>()?.max(1).min(33);
-    let mut block = [0i64; 16];
-    let samples = &mut block[..count.max(1).min(16) as usize];
-    let text = match read(bytes, depth, linear.min(32), samples) {
-        Ok(ends) => format!(in alloc; "{ends}")?,
-        Err(why) => format!(in alloc; "{why:?}")?,
-    };
-    Ok((text, block))
+    let (linear, count) = pair_of(rest)?;
+    let count = count.max(1).min(16) as usize;
+    Ok(read(bytes, depth, linear.min(32), &mut block[..count]))
+}
+
+/// What reading returns, in text.
+fn outcome(alloc: Global, read: Result<bool, Why>) -> Result<String, Fail> {
+    match read {
+        Ok(ends) => Ok(format!(in alloc; "{ends}")?),
+        Err(why) => Ok(format!(in alloc; "{why:?}")?),
+    }
 }
 
 /// Whether a block has a sample that is written as `PLACE:SAMPLE`.
-fn has(block: &[i64; 16], word: &str) -> Result<bool, Fail> {
-    let (place, sample) = word.split_once(':').unwrap_or(("", ""));
-    let wanted = sample.parse::<i64>()?;
-    Ok(block.get(place.parse::<usize>()?).copied() == Some(wanted))
+fn has(block: &[i64; 16], word: &str) -> Option<bool> {
+    let (place, sample) = word.split_once(':')?;
+    let place = place.parse::<usize>().ok()?;
+    let sample = sample.parse::<i64>().ok()?;
+    Some(block.get(place).copied()? == sample)
+}
+
+/// Checks the samples that words give.
+fn check_samples(rt: &impl Abort, block: &[i64; 16], words: &str) {
+    for word in words.split_whitespace() {
+        assert!(rt; has(block, word) == Some(true), "{word}");
+    }
 }
 
 /// Reads the subframe of a row, and compares what is read.
 fn check_row(rt: &impl Abort, alloc: Global, row: &str) -> Result<(), Fail> {
-    let mut fields = row.split(" | ");
-    let bytes = hex::decode(alloc, fields.next().unwrap_or(""))?;
-    let (text, block) = outcome(alloc, &bytes, fields.next().unwrap_or(""))?;
-    let mut words = fields.next().unwrap_or("").split_whitespace();
-    assert!(rt; words.next() == Some(text.as_str()), "{text}: {row}");
-    for word in words {
-        assert!(rt; has(&block, word)?, "{word}: {row}");
-    }
+    let (bytes, shape, wanted) = fields_of(row);
+    let bytes = hex::decode(alloc, bytes)?;
+    let mut block = [0; 16];
+    let text = outcome(alloc, read_shaped(shape, &bytes, &mut block)?)?;
+    let (first, words) = wanted.split_once(' ').unwrap_or((wanted, ""));
+    assert!(rt; text.as_str() == first, "{row}");
+    check_samples(rt, &block, words);
     Ok(())
 }
 
 #[test]
 fn predicts(rt: HostRuntime) {
     samples_are_restored();
-    assert_eq!(rt; predict_linear(&[1], 1, &[-3]), -2);
-    assert_eq!(rt; predict_fixed(2, &[0, 1]), 2);
+    assert!(rt; predict_linear(&[1], 1, &[-3]) == -2);
+    assert!(rt; predict_fixed(2, &[0, 1]) == 2);
 }
 
 #[test]
@@ -146,25 +160,81 @@ fn write_least<W: Target>(
     Ok(choice.bits())
 }
 
+/// The shortest subframes: the bit depth and the number of bits; the samples; and the bytes, with zeros up to a whole byte.
+const WRITTEN: &str = "# Predicted, equal, and a single sample: constant before verbatim.
+16 55 | 0 1 2 3 4 5 6 7 8 9 10 11 12 13 14 15 | 140000000103c0
+16 23 | 0 0 0 0 0 0 0 0 0 0 0 0 0 0 0 0 | 1003c0
+8 16 | 0 0 0 0 0 0 0 0 0 0 0 0 0 0 0 0 | 0000
+16 24 | 25588 | 0158fd
+# Of as many bits: constant before a fixed predictor, and verbatim before one.
+16 24 | 1 1 | 000001
+8 23 | 2 0 | 038100
+# A fixed predictor of order 0 before 1, 1 before 2, 2 before 3, 3 before 4.
+24 53 | -31823 -31342 | 1041ef89d7a6d8
+8 39 | -4 -8 -13 -17 | 12fc009cae
+12 66 | -14 -57 -149 -297 -481 | 14ff2fc701985bd1c0
+5 41 | 1 3 5 6 5 1 -7 | 1608ca002a80
+# Method 0 before 1.
+24 53 | -3239 -43936 | 1003aca682b9f8
+# Partition order 0 before 1, 1 before 2.
+16 29 | 0 -13 | 1000e048
+8 63 | 127 127 -128 127 127 127 127 127 | 127f06200febfc1e
+# Parameter 3 before 4, and 0 before an escape.
+20 23 | 7 | 1000dc
+16 23 | 0 0 0 0 0 | 10003e";
+
+/// The shortest subframe of 1 to 16 samples, written to a new target: how many bits it takes, and its bytes.
+fn written(alloc: Global, samples: &[i64], depth: u32) -> Result<(u64, Vec<u8>), Why> {
+    let len = samples.len();
+    if len == 0 || len > 16 || depth == 0 || depth > 33 {
+        return Err(Why::BlockSize);
+    }
+    let mut writer = BitWriter::new(Collected::new(alloc));
+    let bits = write_least(samples, depth, &mut writer)?;
+    Ok((bits, writer.into_target().into_bytes()))
+}
+
+/// Writes the subframe of a row, and compares its bits and bytes.
+fn check_written(rt: &impl Abort, alloc: Global, row: &str) -> Result<(), Fail> {
+    let (shape, words, wanted) = fields_of(row);
+    let (depth, bits) = pair_of(shape)?;
+    let samples = wide_of(alloc, words)?;
+    let (count, bytes) = written(alloc, &samples, depth)?;
+    let wanted = hex::decode(alloc, wanted)?;
+    assert!(rt; bytes.as_slice() == wanted.as_slice(), "{row}");
+    assert!(rt; count == bits as u64);
+    Ok(())
+}
+
+/// The samples of some words, of 64 bits.
+fn wide_of(alloc: Global, words: &str) -> Result<Vec<i64>, Fail> {
+    let mut samples = Vec::new(alloc);
+    for sample in samples_of(alloc, words)?.as_slice() {
+        samples.push(*sample as i64)?;
+    }
+    Ok(samples)
+}
+
 #[test]
 fn writes_the_least(rt: HostRuntime) -> Result<(), Fail> {
     subframes_are_spelled();
     subframes_are_read_again();
-    let ramp = [0, 1, 2, 3, 4, 5, 6, 7, 8, 9, 10, 11, 12, 13, 14, 15];
-    let mut writer = BitWriter::new(Collected::new(rt.alloc()));
-    assert_eq!(rt; write_least(&ramp, 16, &mut writer), Ok(55));
-    assert_eq!(rt; write_least(&[0; 16], 16, &mut writer), Ok(23));
-    assert_eq!(rt; write_least(&[0; 16], 8, &mut writer), Ok(16));
-    assert_eq!(rt; write_least(&[25588], 16, &mut writer), Ok(24));
-    assert_eq!(rt;
-        writer.into_target().bytes(),
-        [
-            0x14, 0x00, 0x00, 0x00, 0x01, 0x03, 0xC0, 0x10, 0x03, 0xC0, 0x00, 0x00, 0x01, 0x58,
-            0xFD
-        ]
-        .as_slice()
-    );
+    for row in WRITTEN.lines() {
+        if !row.starts_with('#') {
+            check_written(&rt, rt.alloc(), row)?;
+        }
+    }
     Ok(())
+}
+
+/// One subframe after another, at one target.
+#[test]
+fn writes_one_after_another(rt: HostRuntime) {
+    let mut writer = BitWriter::new(Collected::new(rt.alloc()));
+    let first = write_least(&[25588], 16, &mut writer);
+    let second = write_least(&[0; 16], 8, &mut writer);
+    assert!(rt; (first, second) == (Ok(24), Ok(16)));
+    assert!(rt; writer.into_target().bytes() == [0x01, 0x58, 0xFD, 0x00, 0x00].as_slice());
 }
 
 /// The least subframe of some samples, chosen and written at arrays on the stack, as its bytes.
@@ -187,21 +257,19 @@ fn write_alone<W: Target>(
 }
 
 #[test]
-fn writes_at_its_own_arrays(rt: HostRuntime) -> Result<(), Fail> {
+fn writes_at_its_own_arrays(rt: HostRuntime) {
     let ramp = [0, 1, 2, 3, 4, 5, 6, 7, 8, 9, 10, 11, 12, 13, 14, 15];
     let mut writer = BitWriter::new(Collected::new(rt.alloc()));
-    assert_eq!(rt; write_alone(&ramp, 16, &mut writer), Ok(55));
-    assert_eq!(rt; write_alone(&[25588; 4096], 16, &mut writer), Ok(24));
-    assert_eq!(rt;
-        writer.into_target().bytes(),
-        [0x14, 0x00, 0x00, 0x00, 0x01, 0x03, 0xC0, 0x01, 0x58, 0xFD].as_slice()
-    );
-    Ok(())
+    let first = write_alone(&ramp, 16, &mut writer);
+    let second = write_alone(&[25588; 4096], 16, &mut writer);
+    assert!(rt; (first, second) == (Ok(55), Ok(24)));
+    let wanted = [0x14, 0x00, 0x00, 0x00, 0x01, 0x03, 0xC0, 0x01, 0x58, 0xFD];
+    assert!(rt; writer.into_target().bytes() == wanted.as_slice());
 }
 
 #[test]
 fn compares_choices(rt: HostRuntime) {
     let choice = choose(&[0, 1, 2, 3, 4, 5, 6, 7], 16);
-    assert_eq!(rt; choice == choose(&[1, 2, 3, 4, 5, 6, 7, 8], 16), true);
-    assert_eq!(rt; choice == choose(&[0; 8], 16), false);
+    assert!(rt; choice == choose(&[1, 2, 3, 4, 5, 6, 7, 8], 16));
+    assert!(rt; !(choice == choose(&[0; 8], 16)));
 }
