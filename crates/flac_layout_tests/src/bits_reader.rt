@@ -131,12 +131,30 @@ fn call<R: Source>(
     }
 }
 
-/// Whether a call returns what is wanted.
-fn answers<R: Source>(alloc: Global, bits: &mut BitReader<R>, step: &str) -> Result<bool, Fail> {
+/// The name of a call, its number and what it is to return.
+fn parts_of<'a>(step: &'a str) -> (&'a str, &'a str, &'a str) {
     let (name, rest) = step.split_once(' ').unwrap_or((step, ""));
     let (number, wanted) = rest.split_once(' ').unwrap_or(("", ""));
+    (name, number, wanted)
+}
+
+/// Whether a call returns what is wanted.
+fn answers<R: Source>(alloc: Global, bits: &mut BitReader<R>, step: &str) -> Result<bool, Fail> {
+    let (name, number, wanted) = parts_of(step);
     let found = call(alloc, bits, name, number.parse::<u32>()?)?;
     Ok(found.as_str() == wanted)
+}
+
+/// Makes a call of a row, and compares what it returns.
+fn check_call<R: Source>(
+    rt: &impl Abort,
+    alloc: Global,
+    bits: &mut BitReader<R>,
+    step: &str,
+) -> Result<(), Fail> {
+    let same = answers(alloc, bits, step)?;
+    assert!(rt; same, "{step} at byte {}", bits.bytes_taken());
+    Ok(())
 }
 
 /// Makes the calls of a row, and compares what each returns.
@@ -148,7 +166,7 @@ fn check_calls<R: Source + Drop>(
 ) -> Result<(), Fail> {
     let mut bits = BitReader::new(source);
     for step in calls.split(" | ") {
-        assert!(rt; answers(alloc, &mut bits, step)?, "{step} in {calls}");
+        check_call(rt, alloc, &mut bits, step)?;
     }
     Ok(())
 }
@@ -175,8 +193,8 @@ fn checks_of(bytes: &[u8]) -> (u8, u16, u32) {
 
 #[test]
 fn checks(rt: HostRuntime) {
-    assert_eq!(rt; checks_of(b"123456789"), (0xF4, 0xFEE8, 0x89A1_897F));
-    assert_eq!(rt; checks_of(&[1]), (0x07, 0x8005, 0x04C1_1DB7));
+    assert!(rt; checks_of(b"123456789") == (0xF4, 0xFEE8, 0x89A1_897F));
+    assert!(rt; checks_of(&[1]) == (0x07, 0x8005, 0x04C1_1DB7));
 }
 
 /// A reader of one byte, which then fails once.
