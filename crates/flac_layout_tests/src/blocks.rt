@@ -219,15 +219,22 @@ fn kinds_are_numbered(rt: HostRuntime) -> Result<(), Fail> {
     Ok(())
 }
 
+/// Whether a block equals the one at this place, and no other.
+fn equals_only(block: &Block, others: &[Block], place: usize) -> bool {
+    let mut same = true;
+    for (i, other) in others.iter().enumerate() {
+        same = same && (block == other) == (i == place);
+    }
+    same
+}
+
 /// A clone equals its block, and no block equals one of another kind.
 #[test]
 fn blocks_are_cloned_and_compared(rt: HostRuntime) -> Result<(), Fail> {
     let blocks = of_each_kind(rt.alloc())?;
     let clones = blocks.clone()?;
     for (i, block) in blocks.iter().enumerate() {
-        for (k, other) in clones.iter().enumerate() {
-            assert_eq!(rt; block == other, i == k);
-        }
+        assert!(rt; equals_only(block, &clones, i), "at {i}");
     }
     Ok(())
 }

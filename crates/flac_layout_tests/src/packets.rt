@@ -106,23 +106,23 @@ PAGE_0 BEGUN 00*255 OTHER_END | ([51, 0, 0, 0, 0], Some((2, PageCheck)))
 # A packet of no bytes.
 4f6767530002000000000000000009000000000000001659733f0133 00*51 4f6767530000010000000000000009000000010000007adff6680100 4f676753000407000000000000000900000002000000539d323602ff2d 00*300 | ([51, 0, 300, 0, 0], None)";
 
-/// The bytes of the page of this name, or of the word itself.
-fn page_of(alloc: Global, word: &str) -> Result<Vec<u8>, Fail> {
+/// The hex digits of the page of this name, or else the word itself.
+fn digits_of<'a>(word: &'a str) -> &'a str {
     for line in PIECES.lines() {
         if let Some((name, digits)) = line.split_once(' ') {
             if name == word {
-                return bytes_of(alloc, digits);
+                return digits;
             }
         }
     }
-    bytes_of(alloc, word)
+    word
 }
 
 /// The bytes of some words, of which each is the name of a page or hex digits.
 fn pages_of(alloc: Global, words: &str) -> Result<Vec<u8>, Fail> {
     let mut bytes = Vec::new(alloc);
     for word in words.split_whitespace() {
-        bytes.extend_from_slice(&page_of(alloc, word)?)?;
+        bytes.extend_from_slice(&bytes_of(alloc, digits_of(word))?)?;
     }
     Ok(bytes)
 }
@@ -134,16 +134,20 @@ fn told(alloc: Global, bytes: &[u8], most: usize) -> Result<String, Fail> {
     Ok(format!(in alloc; "{found:?}")?)
 }
 
+/// Whether the pages of a row have the packets that the row says.
+fn are_read(alloc: Global, words: &str, wanted: &str, most: usize) -> Result<bool, Fail> {
+    let bytes = pages_of(alloc, words)?;
+    let found = told(alloc, &bytes, most)?;
+    Ok(found.as_str() == wanted)
+}
+
 /// The pages come in pieces of one byte, and of many.
 #[test]
 fn reads_packets(rt: HostRuntime) -> Result<(), Fail> {
     for row in READ.lines() {
         if let Some((words, wanted)) = row.split_once(" | ") {
-            let bytes = pages_of(rt.alloc(), words)?;
-            for most in [1, 4096] {
-                let found = told(rt.alloc(), &bytes, most)?;
-                assert!(rt; found.as_str() == wanted, "{found} at {row}");
-            }
+            assert!(rt; are_read(rt.alloc(), words, wanted, 1)?, "{row}");
+            assert!(rt; are_read(rt.alloc(), words, wanted, 4096)?, "{row}");
         }
     }
     Ok(())
