@@ -366,15 +366,18 @@ fn each_bit(rt: HostRuntime) -> Result<(), Fail> {
     Ok(())
 }
 
+/// The status and the text of a refusal, its lines ended by `;`.
+fn refusal_of(alloc: Global, status: u8, text: &str) -> Result<String, Fail> {
+    let text = text.replace(alloc, '\n', ";")?;
+    Ok(format!(in alloc; "{status} {text}")?)
+}
+
 /// What a command line is read as: the job, or the status and the text of the refusal, its lines ended by `;`.
 fn read_as(alloc: Global, line: &str) -> Result<String, Fail> {
     let words = words_of(alloc, line)?;
     match job(alloc, words.as_slice()) {
         Ok(job) => Ok(format!(in alloc; "{job:?}")?),
-        Err(fault) => {
-            let text = fault.text.replace(alloc, '\n', ";")?;
-            Ok(format!(in alloc; "{} {text}", fault.status)?)
-        }
+        Err(fault) => refusal_of(alloc, fault.status, &fault.text),
     }
 }
 
