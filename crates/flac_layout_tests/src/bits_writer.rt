@@ -25,38 +25,58 @@ fn put<W: Target>(writer: &mut BitWriter<W>, name: &str, number: i64) -> Result<
     }
 }
 
+/// Makes a call of a row.
+fn put_step<W: Target>(writer: &mut BitWriter<W>, step: &str) -> Result<(), Fail> {
+    let (name, number) = step.split_once(' ').unwrap_or((step, "0"));
+    put(writer, name, number.parse::<i64>()?)?;
+    Ok(())
+}
+
+/// Makes the calls of a row, and writes out the last bits.
+fn put_steps<W: Target>(writer: &mut BitWriter<W>, calls: &str) -> Result<(), Fail> {
+    for step in calls.split(", ") {
+        put_step(writer, step)?;
+    }
+    writer.finish()?;
+    Ok(())
+}
+
 /// The bytes that these calls write.
 fn written(alloc: Global, calls: &str) -> Result<Vec<u8>, Fail> {
     let mut writer = BitWriter::new(Collected::new(alloc));
-    for step in calls.split(", ") {
-        let (name, number) = step.split_once(' ').unwrap_or((step, "0"));
-        put(&mut writer, name, number.parse::<i64>()?)?;
-    }
-    writer.finish()?;
+    put_steps(&mut writer, calls)?;
     Ok(writer.into_target().into_bytes())
+}
+
+/// Whether the calls of a row write its bytes.
+fn is_written(alloc: Global, row: &str) -> Result<bool, Fail> {
+    let (calls, words) = row.split_once(" | ").unwrap_or((row, ""));
+    let wanted = bytes_of(alloc, words)?;
+    let found = written(alloc, calls)?;
+    Ok(found.as_slice() == wanted.as_slice())
 }
 
 #[test]
 fn calls(rt: HostRuntime) -> Result<(), Fail> {
     for row in CALLS.lines() {
-        let (calls, words) = row.split_once(" | ").unwrap_or((row, ""));
-        let found = written(rt.alloc(), calls)?;
-        let wanted = bytes_of(rt.alloc(), words)?;
-        assert!(rt; found.as_slice() == wanted.as_slice(), "{row}: {found:?}");
+        assert!(rt; is_written(rt.alloc(), row)?, "{row}");
     }
     Ok(())
+}
+
+/// A byte, and nine more over which the checks are made.
+fn put_checked<W: Target>(writer: &mut BitWriter<W>) -> Result<(), Why> {
+    writer.put(8, 7)?;
+    writer.start_checks()?;
+    writer.put_bytes(b"123456789")
 }
 
 #[test]
 fn checks(rt: HostRuntime) -> Result<(), Fail> {
     let mut writer = BitWriter::new(Collected::new(rt.alloc()));
-    writer.put(8, 7)?;
-    writer.start_checks()?;
-    writer.put_bytes(b"123456789")?;
-    assert_eq!(rt;
-        (writer.check8(), writer.check16(), writer.bytes_written()),
-        (0xF4, 0xFEE8, 10)
-    );
+    put_checked(&mut writer)?;
+    assert!(rt; writer.check8() == 0xF4 && writer.check16() == 0xFEE8);
+    assert!(rt; writer.bytes_written() == 10);
     Ok(())
 }
 
@@ -75,10 +95,8 @@ fn many_words(rt: HostRuntime) -> Result<(), Fail> {
     let mut writer = BitWriter::new(Collected::new(rt.alloc()));
     put_words(&mut writer)?;
     let bytes = writer.into_target().into_bytes();
-    assert_eq!(rt;
-        (bytes.len(), bytes.get(8000).copied(), bytes.last().copied()),
-        (8126, Some(0x70), Some(1))
-    );
+    assert!(rt; bytes.len() == 8126);
+    assert!(rt; bytes.get(8000).copied() == Some(0x70) && bytes.last().copied() == Some(1));
     Ok(())
 }
 
@@ -131,8 +149,7 @@ fn one_byte_at_a_time(rt: HostRuntime) {
     ];
     for (most, wanted, bytes) in rows {
         let (outcome, trickle) = trickled(most);
-        assert_eq!(rt; outcome, wanted);
-        assert_eq!(rt; trickle.bytes, bytes);
+        assert!(rt; outcome == wanted && trickle.bytes == bytes, "at {most}");
     }
 }
 
@@ -153,6 +170,6 @@ impl Write for Full {
 #[test]
 fn a_full_device(rt: HostRuntime) {
     let mut writer = BitWriter::new(Counted::new(Full));
-    assert_eq!(rt; writer.put(8, 1), Ok(()));
-    assert_eq!(rt; writer.finish(), Err(Why::Write));
+    assert!(rt; writer.put(8, 1).is_ok());
+    assert!(rt; writer.finish() == Err(Why::Write));
 }

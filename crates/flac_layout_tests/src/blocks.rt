@@ -3,9 +3,8 @@
 use crate::rows::bytes_of;
 use flac_bits::{BitReader, BitWriter, Collected, Memory, Why};
 use flac_meta::{
-    Block, BlockList, Bytes, Comments, CueIndices, CueSheet, CueTrack, CueTracks, SeekPoint,
-    SeekTable, Seen, StreamInfo, Texts, blocks_are_spelled, read_block, write_block,
-    write_comments,
+    Block, BlockList, Bytes, Comments, CueIndices, CueTrack, CueTracks, SeekPoint, SeekTable, Seen,
+    StreamInfo, Texts, blocks_are_spelled, read_block, write_block, write_comments,
 };
 use std::alloc::Global;
 use std::process::Abort;
@@ -151,22 +150,24 @@ fn info() -> Result<StreamInfo, Why> {
 }
 
 /// Whether the first block of these bytes is the last one and this STREAMINFO.
-fn says(alloc: Global, bytes: &[u8], info: &StreamInfo) -> Result<bool, Why> {
+fn says(alloc: Global, bytes: &[u8], info: StreamInfo) -> Result<bool, Why> {
     let (last, block) = first_block(alloc, bytes)?;
-    match block {
-        Block::StreamInfo(found) => Ok(last && found == *info),
-        _ => Ok(false),
-    }
+    Ok(last && block == Block::StreamInfo(info))
+}
+
+/// Whether this STREAMINFO, marked last, is written as these bytes.
+fn is_written(alloc: Global, bytes: &[u8], info: StreamInfo) -> Result<bool, Why> {
+    let again = written(alloc, &Block::StreamInfo(info), true)?;
+    Ok(again.as_slice() == bytes)
 }
 
 #[test]
 fn stream_info(rt: HostRuntime) -> Result<(), Fail> {
     blocks_are_spelled();
-    let bytes = bytes_of(rt.alloc(), LAST_INFO)?;
     let info = info()?;
-    assert!(rt; says(rt.alloc(), &bytes, &info)?);
-    let again = written(rt.alloc(), &Block::StreamInfo(info), true)?;
-    assert!(rt; again.as_slice() == bytes.as_slice());
+    let bytes = bytes_of(rt.alloc(), LAST_INFO)?;
+    assert!(rt; says(rt.alloc(), &bytes, info)?);
+    assert!(rt; is_written(rt.alloc(), &bytes, info)?);
     Ok(())
 }
 
@@ -194,13 +195,19 @@ fn claims_take_no_memory(rt: HostRuntime) -> Result<(), Fail> {
     Ok(())
 }
 
+/// Appends the block of each line.
+fn push_blocks(alloc: Global, blocks: &mut Vec<Block>, lines: &str) -> Result<(), Fail> {
+    for line in lines.lines() {
+        blocks.push(block_of(alloc, line)?)?;
+    }
+    Ok(())
+}
+
 /// One block of each kind, kinds 0 to 7 in their order.
 fn of_each_kind(alloc: Global) -> Result<Vec<Block>, Fail> {
     let mut blocks = Vec::new(alloc);
     blocks.push(Block::StreamInfo(info()?))?;
-    for row in KINDS.lines() {
-        blocks.push(block_of(alloc, row)?)?;
-    }
+    push_blocks(alloc, &mut blocks, KINDS)?;
     Ok(blocks)
 }
 
@@ -212,76 +219,88 @@ fn kinds_are_numbered(rt: HostRuntime) -> Result<(), Fail> {
     Ok(())
 }
 
+/// Whether a block equals the one at this place, and no other.
+fn equals_only(block: &Block, others: &[Block], place: usize) -> bool {
+    let mut same = true;
+    for (i, other) in others.iter().enumerate() {
+        same = same && (block == other) == (i == place);
+    }
+    same
+}
+
 /// A clone equals its block, and no block equals one of another kind.
 #[test]
 fn blocks_are_cloned_and_compared(rt: HostRuntime) -> Result<(), Fail> {
     let blocks = of_each_kind(rt.alloc())?;
     let clones = blocks.clone()?;
     for (i, block) in blocks.iter().enumerate() {
-        for (k, other) in clones.iter().enumerate() {
-            assert_eq!(rt; block == other, i == k);
-        }
+        assert!(rt; equals_only(block, &clones, i), "at {i}");
     }
     Ok(())
 }
 
-/// The comments of a block of `THREE_COMMENTS`.
-fn comments_of(alloc: Global) -> Result<Comments, Fail> {
-    match block_of(alloc, THREE_COMMENTS)? {
-        Block::VorbisComment(comments) => Ok(comments),
-        _ => Err(Fail::from(Why::BlockLength)),
+/// The words of the block of `KINDS` at a place.
+fn kind_at(place: usize) -> &'static str {
+    KINDS.lines().nth(place).unwrap_or("")
+}
+
+/// Takes the tracks out of a cue sheet.
+fn remove_tracks(alloc: Global, block: &mut Block) {
+    if let Block::CueSheet(sheet) = block {
+        sheet.tracks = CueTracks::from_vec(Vec::new(alloc));
     }
 }
 
-/// The cue sheet of a disc of one track.
-fn sheet_of(alloc: Global) -> Result<CueSheet, Fail> {
-    match block_of(alloc, KINDS.lines().nth(4).unwrap_or(""))? {
-        Block::CueSheet(sheet) => Ok(sheet),
-        _ => Err(Fail::from(Why::CueSheet)),
-    }
+/// The cue sheet of a disc of one track, without that track.
+fn sheet_without_tracks(alloc: Global) -> Result<Block, Fail> {
+    let mut block = block_of(alloc, kind_at(4))?;
+    remove_tracks(alloc, &mut block);
+    Ok(block)
 }
 
-/// That cue sheet without its track.
-fn sheet_without_tracks(alloc: Global) -> Result<CueSheet, Fail> {
-    let mut sheet = sheet_of(alloc)?;
-    sheet.tracks = CueTracks::from_vec(Vec::new(alloc));
-    Ok(sheet)
+/// Whether a block equals that of `KINDS` at a place.
+fn equals(alloc: Global, block: &Block, place: usize) -> Result<bool, Fail> {
+    let kind = block_of(alloc, kind_at(place))?;
+    Ok(kind == *block)
 }
 
-/// Whether the block of these words equals that of `KINDS` at a place.
-fn equals(alloc: Global, words: &str, place: usize) -> Result<bool, Fail> {
-    let block = block_of(alloc, words)?;
-    let kind = block_of(alloc, KINDS.lines().nth(place).unwrap_or(""))?;
-    Ok(block == kind)
+/// Whether the block of a row equals that of `KINDS` at the row's place.
+fn row_equals(alloc: Global, row: &str) -> Result<bool, Fail> {
+    let (place, words) = row.split_once(' ').unwrap_or(("", row));
+    let place = place.parse::<usize>()?;
+    equals(alloc, &block_of(alloc, words)?, place)
 }
 
-/// Whether the cue sheet equals itself without its track.
-fn sheets_are_equal(alloc: Global) -> Result<bool, Fail> {
-    let sheet = sheet_of(alloc)?;
-    let other = sheet_without_tracks(alloc)?;
-    Ok(sheet == other)
+/// Whether two seek tables without points are equal.
+fn empty_tables_are_equal(alloc: Global) -> bool {
+    SeekTable::from_vec(Vec::new(alloc)) == SeekTable::from_vec(Vec::new(alloc))
 }
 
 /// Blocks that differ in one text or one byte are not equal.
 #[test]
 fn differences_are_seen(rt: HostRuntime) -> Result<(), Fail> {
-    let alloc = rt.alloc();
     for row in OTHERS.lines() {
-        let (place, words) = row.split_once(' ').unwrap_or(("", row));
-        assert!(rt; !equals(alloc, words, place.parse::<usize>()?)?, "{row}");
+        assert!(rt; !row_equals(rt.alloc(), row)?, "{row}");
     }
-    assert!(rt; !sheets_are_equal(alloc)?);
-    assert!(rt; SeekTable::from_vec(Vec::new(alloc)) == SeekTable::from_vec(Vec::new(alloc)));
+    let sheet = sheet_without_tracks(rt.alloc())?;
+    assert!(rt; !equals(rt.alloc(), &sheet, 4)?);
+    assert!(rt; empty_tables_are_equal(rt.alloc()));
     Ok(())
+}
+
+/// Whether the parts and the length of these comments are those of `THREE_COMMENTS`.
+fn has_parts(comments: &Comments) -> bool {
+    comments.parts(0) == Some((b"A".as_slice(), b"b=c".as_slice()))
+        && comments.parts(1) == Some((b"".as_slice(), b"x".as_slice()))
+        && comments.parts(2).is_none()
+        && comments.parts(3).is_none()
+        && comments.length() == 31
 }
 
 #[test]
 fn parts(rt: HostRuntime) -> Result<(), Fail> {
-    let found = comments_of(rt.alloc())?;
-    assert_eq!(rt; found.parts(0), Some((b"A".as_slice(), b"b=c".as_slice())));
-    assert_eq!(rt; found.parts(1), Some((b"".as_slice(), b"x".as_slice())));
-    assert!(rt; found.parts(2).is_none() && found.parts(3).is_none());
-    assert_eq!(rt; found.length(), 31);
+    let block = block_of(rt.alloc(), THREE_COMMENTS)?;
+    assert!(rt; matches!(&block, Block::VorbisComment(comments) if has_parts(comments)));
     Ok(())
 }
 
@@ -315,34 +334,43 @@ fn fault(alloc: Global, block: Block) -> Result<Option<Why>, Why> {
 /// Comments, and padding or the same comments again.
 fn comments_and(alloc: Global, words: &str) -> Result<Vec<Block>, Fail> {
     let mut blocks = Vec::new(alloc);
-    blocks.push(block_of(alloc, THREE_COMMENTS)?)?;
-    blocks.push(block_of(alloc, words)?)?;
+    push_blocks(alloc, &mut blocks, THREE_COMMENTS)?;
+    push_blocks(alloc, &mut blocks, words)?;
     Ok(blocks)
+}
+
+/// Whether a list of these two blocks equals its clone and has them.
+fn is_listed(blocks: &Vec<Block>) -> Result<bool, Why> {
+    let list = BlockList::new(blocks.clone()?)?;
+    let same = list.clone()? == list && list.blocks().len() == 2;
+    Ok(same && list.into_blocks() == *blocks)
 }
 
 #[test]
 fn lists(rt: HostRuntime) -> Result<(), Fail> {
-    let alloc = rt.alloc();
-    let blocks = comments_and(alloc, "01000004 00000000")?;
-    let list = BlockList::new(blocks.clone()?)?;
-    assert_eq!(rt; list.blocks().len(), 2);
-    assert!(rt; list.clone()? == list);
-    assert!(rt; list.into_blocks() == blocks);
-    let twice = comments_and(alloc, THREE_COMMENTS)?;
-    assert_eq!(rt; BlockList::new(twice).err(), Some(Why::RepeatedBlock));
+    let blocks = comments_and(rt.alloc(), "01000004 00000000")?;
+    assert!(rt; is_listed(&blocks)?);
+    let twice = comments_and(rt.alloc(), THREE_COMMENTS)?;
+    assert!(rt; BlockList::new(twice).err() == Some(Why::RepeatedBlock));
     Ok(())
+}
+
+/// Bytes under the type of pictures.
+fn other_picture(alloc: Global) -> Block {
+    Block::Other {
+        kind: 6,
+        bytes: Bytes::from_vec(Vec::new(alloc)),
+    }
 }
 
 #[test]
 fn blocks_without_a_list(rt: HostRuntime) -> Result<(), Fail> {
-    let alloc = rt.alloc();
-    let bytes = Bytes::from_vec(Vec::new(alloc));
-    let other = fault(alloc, Block::Other { kind: 6, bytes })?;
-    assert_eq!(rt; other, Some(Why::ForbiddenType));
-    let padding = fault(alloc, Block::Padding(16777216))?;
-    assert_eq!(rt; padding, Some(Why::BlockLength));
-    let sheet = sheet_without_tracks(alloc)?;
-    assert_eq!(rt; fault(alloc, Block::CueSheet(sheet))?, Some(Why::CueSheet));
+    let other = fault(rt.alloc(), other_picture(rt.alloc()))?;
+    assert!(rt; other == Some(Why::ForbiddenType));
+    let padding = fault(rt.alloc(), Block::Padding(16777216))?;
+    assert!(rt; padding == Some(Why::BlockLength));
+    let sheet = fault(rt.alloc(), sheet_without_tracks(rt.alloc())?)?;
+    assert!(rt; sheet == Some(Why::CueSheet));
     Ok(())
 }
 
@@ -376,25 +404,40 @@ fn joined(alloc: Global, texts: Vec<Bytes>) -> Result<Vec<u8>, Fail> {
     Ok(bytes)
 }
 
-/// How many tracks the cue sheet has, and how many places these have.
-fn tracks_and_places(alloc: Global) -> Result<(usize, usize), Fail> {
-    let tracks = sheet_of(alloc)?.tracks.into_vec();
-    let count = tracks.len();
-    let mut all = 0usize;
-    for track in tracks {
-        all = all.wrapping_add(places(track));
+/// How many tracks a cue sheet has, and how many places the last of them has.
+fn tracks_and_places(block: Block) -> (usize, usize) {
+    match block {
+        Block::CueSheet(sheet) => {
+            let mut tracks = sheet.tracks.into_vec();
+            let count = tracks.len();
+            (count, tracks.pop().map_or(0, places))
+        }
+        _ => (0, 0),
     }
-    Ok((count, all))
+}
+
+/// The texts of a block of comments.
+fn texts_of(alloc: Global, block: Block) -> Vec<Bytes> {
+    match block {
+        Block::VorbisComment(comments) => comments.list.into_vec(),
+        _ => Vec::new(alloc),
+    }
+}
+
+/// Whether a seek table gives its point back.
+fn points_are_given_back(alloc: Global) -> Result<bool, Fail> {
+    let table = SeekTable::from_vec(vec![in alloc; POINT]?);
+    Ok(table.into_vec().as_slice() == [POINT].as_slice())
 }
 
 #[test]
 fn lists_are_given_back(rt: HostRuntime) -> Result<(), Fail> {
-    let alloc = rt.alloc();
-    let table = SeekTable::from_vec(vec![in alloc; POINT]?);
-    assert_eq!(rt; table.into_vec().as_slice(), [POINT].as_slice());
-    assert_eq!(rt; tracks_and_places(alloc)?, (1, 1));
-    let texts = comments_of(alloc)?.list.into_vec();
-    assert_eq!(rt; texts.len(), 3);
-    assert_eq!(rt; joined(alloc, texts)?.as_slice(), b"A=b=c=xnone".as_slice());
+    assert!(rt; points_are_given_back(rt.alloc())?);
+    let sheet = block_of(rt.alloc(), kind_at(4))?;
+    assert!(rt; tracks_and_places(sheet) == (1, 1));
+    let texts = texts_of(rt.alloc(), block_of(rt.alloc(), THREE_COMMENTS)?);
+    assert!(rt; texts.len() == 3);
+    let bytes = joined(rt.alloc(), texts)?;
+    assert!(rt; bytes.as_slice() == b"A=b=c=xnone".as_slice());
     Ok(())
 }

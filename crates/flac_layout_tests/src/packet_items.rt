@@ -7,60 +7,63 @@ use flac_pages::{Head, Pages, read_packet, write_page};
 use std::alloc::Global;
 use std::test::Fail;
 
-/// How the packets end, or why one had not its length.
-type Outcome = Result<(), (Option<u64>, Why)>;
+/// Whether a packet of a length is read, and not the end; or why not, and on which page.
+type Outcome = Result<bool, (Option<u64>, Why)>;
 
-/// How many packets had these lengths, and why the next one had not.
+/// How many packets had these lengths, and what came after them.
 type Answer = (usize, Outcome);
 
 /// Reads the next packet, which is to have as many bytes as there are places.
-fn read_next<R: Source>(pages: &mut Pages<R>, room: &mut [u8]) -> Result<(), Outcome> {
+fn read_next<R: Source>(pages: &mut Pages<R>, room: &mut [u8]) -> Outcome {
     if !pages.is_between_packets() {
-        return Err(Err((None, Why::Spent)));
+        return Err((None, Why::Spent));
     }
     match pages.next_packet() {
-        Ok(true) => read_packet(pages, room).map_err(Err),
-        Ok(false) => Err(Ok(())),
-        Err((page, why)) => Err(Err((Some(page), why))),
+        Ok(true) => read_packet(pages, room).and(Ok(true)),
+        Ok(false) => Ok(false),
+        Err((page, why)) => Err((Some(page), why)),
     }
+}
+
+/// Reads the next packet, which is to have this length, at most 400.
+fn read_length<R: Source>(pages: &mut Pages<R>, length: usize) -> Outcome {
+    let mut room = [0u8; 400];
+    read_next(pages, &mut room[..length.min(400)])
 }
 
 /// Reads packets of these lengths, one after another, up to the end or to one that has another length.
 fn read_all<R: Source + Drop>(alloc: Global, source: R, lengths: &[usize]) -> Result<Answer, Why> {
     let mut pages = Pages::new(alloc, source)?;
-    for (index, length) in lengths.iter().enumerate() {
-        let mut room = [0u8; 400];
-        if let Err(outcome) = read_next(&mut pages, &mut room[..(*length).min(400)]) {
-            return Ok((index, outcome));
+    let mut count = 0usize;
+    let mut outcome = Ok(true);
+    for length in lengths {
+        if outcome == Ok(true) {
+            outcome = read_length(&mut pages, *length);
+            count = count.wrapping_add(usize::from(outcome == Ok(true)));
         }
     }
-    Ok((lengths.len(), Ok(())))
+    Ok((count, outcome))
 }
 
+/// All packets of the stream and its end; a packet of other lengths than its own; and the last one without its last byte.
 #[test]
 fn lengths(rt: HostRuntime) -> Result<(), Fail> {
-    let whole = Memory::new(&STREAM);
-    assert_eq!(rt;
-        read_all(rt.alloc(), whole, &[51, 44, 22, 17, 5])?,
-        (4, Ok(()))
-    );
-    let less = Memory::new(&STREAM);
     let wrong = Err((None, Why::PacketLength));
-    assert_eq!(rt;
-        read_all(rt.alloc(), less, &[51, 43, 22, 17, 5])?,
-        (1, wrong)
-    );
-    let more = Memory::new(&STREAM);
-    assert_eq!(rt;
-        read_all(rt.alloc(), more, &[51, 44, 23, 17, 5])?,
-        (2, wrong)
-    );
-    let cut = Memory::new(&STREAM[..245]);
-    let broken = Err((Some(3), Why::Truncated));
-    assert_eq!(rt;
-        read_all(rt.alloc(), cut, &[51, 44, 22, 17, 5])?,
-        (3, broken)
-    );
+    let rows = [
+        (246, [51, 44, 22, 17, 5], (4, Ok(false))),
+        (246, [51, 43, 22, 17, 5], (1, wrong)),
+        (246, [51, 44, 23, 17, 5], (2, wrong)),
+        (
+            245,
+            [51, 44, 22, 17, 5],
+            (3, Err((Some(3), Why::Truncated))),
+        ),
+    ];
+    for (end, lengths, wanted) in rows {
+        let source = Memory::new(STREAM.get(..end).unwrap_or(&[]));
+        let found = read_all(rt.alloc(), source, &lengths)?;
+        assert!(rt; found == wanted, "{found:?}");
+    }
     Ok(())
 }
 
@@ -88,27 +91,41 @@ fn open_packet(alloc: Global, flags: u8) -> Result<Answer, Why> {
 #[test]
 fn open_ends(rt: HostRuntime) -> Result<(), Fail> {
     let marked_last = open_packet(rt.alloc(), 4)?;
-    assert_eq!(rt; marked_last, (1, Err((None, Why::PacketLength))));
+    assert!(rt; marked_last == (1, Err((None, Why::PacketLength))));
     let not_marked = open_packet(rt.alloc(), 0)?;
-    assert_eq!(rt; not_marked, (1, Err((Some(2), Why::NoEndPage))));
+    assert!(rt; not_marked == (1, Err((Some(2), Why::NoEndPage))));
     Ok(())
+}
+
+/// The first page of `STREAM`, and pages of packets of whole segments.
+fn whole_stream(alloc: Global) -> Result<Vec<u8>, Fail> {
+    let mut stream = Vec::from_slice(alloc, &STREAM[..79])?;
+    stream.extend_from_slice(&bytes_of(alloc, WHOLE_SEGMENTS)?)?;
+    Ok(stream)
+}
+
+/// Whether the next packet is this byte, so often.
+fn repeats<R: Source>(
+    alloc: Global,
+    pages: &mut Pages<R>,
+    byte: u8,
+    length: usize,
+) -> Result<bool, Fail> {
+    let mut room = vec![in alloc; 0u8; length]?;
+    let outcome = read_next(pages, &mut room);
+    Ok(outcome == Ok(true) && room.as_slice() == vec![in alloc; byte; length]?.as_slice())
 }
 
 /// Packets of whole segments after a first packet are read back, each to its last byte, and the end after them.
 #[test]
 fn whole_segments(rt: HostRuntime) -> Result<(), Fail> {
-    let alloc = rt.alloc();
-    let mut stream = Vec::from_slice(alloc, &STREAM[..79])?;
-    stream.extend_from_slice(&bytes_of(alloc, WHOLE_SEGMENTS)?)?;
-    let mut first = [0u8; 51];
-    let mut pages = Pages::new(alloc, Memory::new(&stream))?;
-    assert_eq!(rt; read_next(&mut pages, &mut first), Ok(()));
+    let stream = whole_stream(rt.alloc())?;
+    let mut pages = Pages::new(rt.alloc(), Memory::new(&stream))?;
+    assert!(rt; read_length(&mut pages, 51) == Ok(true));
     for (byte, length) in PACKETS {
-        let mut room = vec![in alloc; 0u8; length]?;
-        assert_eq!(rt; read_next(&mut pages, &mut room), Ok(()));
-        let wanted = vec![in alloc; byte; length]?;
-        assert!(rt; room.as_slice() == wanted.as_slice(), "at {length}");
+        let same = repeats(rt.alloc(), &mut pages, byte, length)?;
+        assert!(rt; same, "at {length}");
     }
-    assert_eq!(rt; read_next(&mut pages, &mut []), Err(Ok(())));
+    assert!(rt; read_next(&mut pages, &mut []) == Ok(false));
     Ok(())
 }

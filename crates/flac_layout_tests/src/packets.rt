@@ -106,23 +106,23 @@ PAGE_0 BEGUN 00*255 OTHER_END | ([51, 0, 0, 0, 0], Some((2, PageCheck)))
 # A packet of no bytes.
 4f6767530002000000000000000009000000000000001659733f0133 00*51 4f6767530000010000000000000009000000010000007adff6680100 4f676753000407000000000000000900000002000000539d323602ff2d 00*300 | ([51, 0, 300, 0, 0], None)";
 
-/// The bytes of the page of this name, or of the word itself.
-fn page_of(alloc: Global, word: &str) -> Result<Vec<u8>, Fail> {
+/// The hex digits of the page of this name, or else the word itself.
+fn digits_of<'a>(word: &'a str) -> &'a str {
     for line in PIECES.lines() {
         if let Some((name, digits)) = line.split_once(' ') {
             if name == word {
-                return bytes_of(alloc, digits);
+                return digits;
             }
         }
     }
-    bytes_of(alloc, word)
+    word
 }
 
 /// The bytes of some words, of which each is the name of a page or hex digits.
 fn pages_of(alloc: Global, words: &str) -> Result<Vec<u8>, Fail> {
     let mut bytes = Vec::new(alloc);
     for word in words.split_whitespace() {
-        bytes.extend_from_slice(&page_of(alloc, word)?)?;
+        bytes.extend_from_slice(&bytes_of(alloc, digits_of(word))?)?;
     }
     Ok(bytes)
 }
@@ -134,16 +134,20 @@ fn told(alloc: Global, bytes: &[u8], most: usize) -> Result<String, Fail> {
     Ok(format!(in alloc; "{found:?}")?)
 }
 
+/// Whether the pages of a row have the packets that the row says.
+fn are_read(alloc: Global, words: &str, wanted: &str, most: usize) -> Result<bool, Fail> {
+    let bytes = pages_of(alloc, words)?;
+    let found = told(alloc, &bytes, most)?;
+    Ok(found.as_str() == wanted)
+}
+
 /// The pages come in pieces of one byte, and of many.
 #[test]
 fn reads_packets(rt: HostRuntime) -> Result<(), Fail> {
     for row in READ.lines() {
         if let Some((words, wanted)) = row.split_once(" | ") {
-            let bytes = pages_of(rt.alloc(), words)?;
-            for most in [1, 4096] {
-                let found = told(rt.alloc(), &bytes, most)?;
-                assert!(rt; found.as_str() == wanted, "{found} at {row}");
-            }
+            assert!(rt; are_read(rt.alloc(), words, wanted, 1)?, "{row}");
+            assert!(rt; are_read(rt.alloc(), words, wanted, 4096)?, "{row}");
         }
     }
     Ok(())
@@ -155,6 +159,18 @@ fn written(alloc: Global, marks: PacketMarks, packet: &[u8]) -> Result<(u32, Vec
     let next = write_packet(marks, packet, &mut writer)?;
     writer.finish()?;
     Ok((next, writer.into_target().into_bytes()))
+}
+
+/// Appends the pages of a packet, and returns the number of the page after them.
+fn append(
+    alloc: Global,
+    all: &mut Vec<u8>,
+    marks: PacketMarks,
+    packet: &[u8],
+) -> Result<u32, Fail> {
+    let (next, pages) = written(alloc, marks, packet)?;
+    all.extend_from_slice(&pages)?;
+    Ok(next)
 }
 
 /// A packet of the stream with serial number 1 that is neither its first nor its last one.
@@ -178,22 +194,25 @@ fn stream_packets() -> [&'static [u8]; 4] {
     ]
 }
 
+/// The marks of the packet of `STREAM` that is on this page.
+fn stream_marks(sequence: u32) -> PacketMarks {
+    let mut marks = marks_of(sequence, PacketKind::Header);
+    marks.first = sequence == 0;
+    if sequence == 3 {
+        marks.last = true;
+        marks.kind = PacketKind::Frame { end: 16 };
+    }
+    marks
+}
+
 #[test]
 fn writes_the_pages_of_a_stream(rt: HostRuntime) -> Result<(), Fail> {
     let mut all = Vec::new(rt.alloc());
-    let mut marks = marks_of(0, PacketKind::Header);
+    let mut sequence = 0;
     for packet in stream_packets() {
-        marks.first = marks.sequence == 0;
-        marks.last = marks.sequence == 3;
-        if marks.last {
-            marks.kind = PacketKind::Frame { end: 16 };
-        }
-        let (next, pages) = written(rt.alloc(), marks, packet)?;
-        marks.sequence = next;
-        all.extend_from_slice(&pages)?;
+        sequence = append(rt.alloc(), &mut all, stream_marks(sequence), packet)?;
     }
-    assert_eq!(rt; marks.sequence, 4);
-    assert_eq!(rt; all.as_slice(), STREAM.as_slice());
+    assert!(rt; sequence == 4 && all.as_slice() == STREAM.as_slice());
     Ok(())
 }
 
@@ -207,20 +226,28 @@ pub(crate) const WHOLE_SEGMENTS: &str =
 /// Packets of whole segments, each of one byte that is repeated.
 pub(crate) const PACKETS: [(u8, usize); 3] = [(7, 255), (8, 510), (9, 65025)];
 
+/// Appends the pages of a packet that repeats a byte, and returns the number of the page after them.
+fn append_whole(
+    alloc: Global,
+    all: &mut Vec<u8>,
+    sequence: u32,
+    packet: (u8, usize),
+) -> Result<u32, Fail> {
+    let (byte, length) = packet;
+    let mut marks = marks_of(sequence, PacketKind::Frame { end: 5 });
+    marks.last = length == 65025;
+    append(alloc, all, marks, &vec![in alloc; byte; length]?)
+}
+
 #[test]
 fn writes_packets_of_whole_segments(rt: HostRuntime) -> Result<(), Fail> {
-    let alloc = rt.alloc();
-    let mut all = Vec::new(alloc);
-    let mut marks = marks_of(1, PacketKind::Frame { end: 5 });
-    for (byte, length) in PACKETS {
-        marks.last = length == 65025;
-        let packet = vec![in alloc; byte; length]?;
-        let (next, pages) = written(alloc, marks, &packet)?;
-        marks.sequence = next;
-        all.extend_from_slice(&pages)?;
+    let mut all = Vec::new(rt.alloc());
+    let mut sequence = 1;
+    for packet in PACKETS {
+        sequence = append_whole(rt.alloc(), &mut all, sequence, packet)?;
     }
-    assert_eq!(rt; marks.sequence, 5);
-    assert!(rt; all.as_slice() == bytes_of(alloc, WHOLE_SEGMENTS)?.as_slice());
+    let wanted = bytes_of(rt.alloc(), WHOLE_SEGMENTS)?;
+    assert!(rt; sequence == 5 && all.as_slice() == wanted.as_slice());
     Ok(())
 }
 
@@ -243,10 +270,7 @@ fn positions_of_long_packets(rt: HostRuntime) -> Result<(), Fail> {
     assert!(rt; writes_long(rt.alloc(), PacketKind::Header, LONG_HEADER)?);
     let frame = PacketKind::Frame { end: 4096 };
     assert!(rt; writes_long(rt.alloc(), frame, LONG_FRAME)?);
-    assert_eq!(rt;
-        (PacketKind::Header.granule(false), frame.granule(true)),
-        (0, 4096)
-    );
+    assert!(rt; PacketKind::Header.granule(false) == 0 && frame.granule(true) == 4096);
     Ok(())
 }
 
@@ -266,14 +290,17 @@ fn all_written(
 }
 
 /// The packets of `STREAM`, one after another.
-fn packet_bytes() -> [u8; 134] {
-    let mut bytes = [0u8; 134];
-    bytes[..51].copy_from_slice(&STREAM[28..79]);
-    bytes[51..95].copy_from_slice(&STREAM[107..151]);
-    bytes[95..117].copy_from_slice(&STREAM[179..201]);
-    bytes[117..].copy_from_slice(&STREAM[229..]);
-    bytes
-}
+const STREAM_PACKETS: [u8; 134] = [
+    0x7F, 0x46, 0x4C, 0x41, 0x43, 0x01, 0x00, 0x00, 0x02, 0x66, 0x4C, 0x61, 0x43, 0x00, 0x00, 0x00,
+    0x22, 0x00, 0x10, 0x00, 0x10, 0x00, 0x00, 0x11, 0x00, 0x00, 0x11, 0x0A, 0xC4, 0x40, 0xF0, 0x00,
+    0x00, 0x00, 0x10, 0x2D, 0xFE, 0xAE, 0xBF, 0xCE, 0xAD, 0xFE, 0x13, 0x0B, 0xA1, 0xB4, 0x5A, 0xE5,
+    0xAE, 0xC2, 0x02, 0x04, 0x00, 0x00, 0x28, 0x20, 0x00, 0x00, 0x00, 0x72, 0x65, 0x66, 0x65, 0x72,
+    0x65, 0x6E, 0x63, 0x65, 0x20, 0x6C, 0x69, 0x62, 0x46, 0x4C, 0x41, 0x43, 0x20, 0x31, 0x2E, 0x34,
+    0x2E, 0x32, 0x20, 0x32, 0x30, 0x32, 0x32, 0x31, 0x30, 0x32, 0x32, 0x00, 0x00, 0x00, 0x00, 0x83,
+    0x00, 0x00, 0x12, 0x00, 0x00, 0x00, 0x00, 0x00, 0x00, 0x00, 0x00, 0x00, 0x00, 0x00, 0x00, 0x00,
+    0x00, 0x00, 0x00, 0x00, 0x10, 0xFF, 0xF8, 0x69, 0x08, 0x00, 0x0F, 0x30, 0x14, 0x00, 0x00, 0x00,
+    0x01, 0x00, 0x3F, 0xFF, 0xCB, 0x50,
+];
 
 /// A header packet that ends at this place.
 fn header_at(end: usize) -> PacketAt
@@ -303,8 +330,8 @@ fn writes_the_packets_of_a_stream(rt: HostRuntime) -> Result<(), Fail> {
         header_at(117),
         frame_at(134, 16),
     ];
-    let found = all_written(rt.alloc(), 1, &packet_bytes(), &ends)?;
-    assert_eq!(rt; found.as_slice(), STREAM.as_slice());
+    let found = all_written(rt.alloc(), 1, &STREAM_PACKETS, &ends)?;
+    assert!(rt; found.as_slice() == STREAM.as_slice());
     Ok(())
 }
 
@@ -318,6 +345,6 @@ fn writes_a_packet_of_no_bytes(rt: HostRuntime) -> Result<(), Fail> {
     let ends = [header_at(51), frame_at(51, 1), frame_at(351, 7)];
     let found = all_written(rt.alloc(), 9, &[0; 351], &ends)?;
     let wanted = bytes_of(rt.alloc(), NO_BYTES)?;
-    assert_eq!(rt; found.as_slice(), wanted.as_slice());
+    assert!(rt; found.as_slice() == wanted.as_slice());
     Ok(())
 }

@@ -1,8 +1,7 @@
 //! Streams that are long, or never end.
 
-use crate::program::{TEST, answers, bytes_of};
-use flac_bits::{BitWriter, Collected, Counted};
-use flac_cli::run;
+use crate::program::{Outcome, TEST, answers, bytes_of, perform_on};
+use flac_bits::{BitWriter, Collected, Counted, Target, Why};
 use flac_pages::{Head, write_page};
 use std::alloc::Global;
 use std::io;
@@ -20,25 +19,37 @@ fn head(flags: u8, granule: u64, sequence: u32) -> Head {
     }
 }
 
-/// 100000 pages of no segments, and the page marked last, of one frame.
-fn empty_pages(alloc: Global, frame: &[u8]) -> Result<Vec<u8>, Fail> {
-    let mut writer = BitWriter::new(Collected::new(alloc));
+/// 100000 pages of no segments.
+fn write_empty_pages<W: Target>(writer: &mut BitWriter<W>) -> Result<(), Why> {
     for sequence in 2..100002 {
-        write_page(head(0, u64::MAX, sequence), &[], &[], &mut writer)?;
+        write_page(head(0, u64::MAX, sequence), &[], &[], writer)?;
     }
+    Ok(())
+}
+
+/// 100000 pages of no segments, and the page marked last, of one frame.
+fn empty_pages(alloc: Global, frame: &[u8]) -> Result<Vec<u8>, Why> {
+    let mut writer = BitWriter::new(Collected::new(alloc));
+    write_empty_pages(&mut writer)?;
     write_page(head(4, 1, 100002), &[15], frame, &mut writer)?;
     writer.finish()?;
     Ok(writer.into_target().into_bytes())
 }
 
-#[test]
-fn many_pages_without_segments(rt: HostRuntime) -> Result<(), Fail> {
-    let alloc = rt.alloc();
+/// A stream of many pages of no segments.
+fn empty_stream(alloc: Global) -> Result<Vec<u8>, Fail> {
     let mut stream = bytes_of(alloc, "MAPPING COMMENT")?;
     let frame = bytes_of(alloc, "ONE_FRAME")?;
     stream.extend_from_slice(&empty_pages(alloc, &frame)?)?;
-    assert_eq!(rt; stream.len(), 79 + 40 + 2700000 + 43);
-    answers(&rt, alloc, &stream, "frames 1 samples 1")
+    Ok(stream)
+}
+
+#[test]
+fn many_pages_without_segments(rt: HostRuntime) -> Result<(), Fail> {
+    let stream = empty_stream(rt.alloc())?;
+    assert!(rt; stream.len() == 79 + 40 + 2700000 + 43);
+    answers(&rt, rt.alloc(), &stream, "frames 1 samples 1");
+    Ok(())
 }
 
 /// Some bytes, one at a time, then 2^25 zeros; and how many bytes were taken of both.
@@ -68,6 +79,14 @@ impl Read for Zeros<'_> {
     }
 }
 
+/// What comes of testing these bytes.
+fn perform_zeros(alloc: Global, zeros: &mut Zeros<'_>) -> Outcome {
+    let mut source = Counted::new(zeros);
+    let found = perform_on(alloc, &TEST, &mut source);
+    let _device = source.into_inner();
+    found
+}
+
 /// A quotient whose zeros do not end within the 16777215 bytes of a frame: the source is asked for one piece of 4096 bytes more at most.
 #[test]
 fn endless_quotient(rt: HostRuntime) -> Result<(), Fail> {
@@ -78,15 +97,8 @@ fn endless_quotient(rt: HostRuntime) -> Result<(), Fail> {
         left: 33554432,
         taken: 0,
     };
-    let mut source = Counted::new(&mut zeros);
-    let mut file = Collected::new(alloc);
-    let mut out = Collected::new(alloc);
-    let mut err = Collected::new(alloc);
-    let status = run(alloc, &TEST, &mut source, &mut file, &mut out, &mut err);
-    let _device = source.into_inner();
-    assert_eq!(rt; status, 1);
-    assert!(rt; err.bytes() == b"flac: a.flac: frame 0: 25 FrameTooLong\n".as_slice());
-    assert!(rt; file.bytes().is_empty() && out.bytes().is_empty());
+    let found = perform_zeros(alloc, &mut zeros);
+    assert!(rt; found.is(1, &[], "", "flac: a.flac: frame 0: 25 FrameTooLong\n"));
     assert!(rt; zeros.taken > 42 + 16777215, "{}", zeros.taken);
     assert!(rt; zeros.taken <= 42 + 16777215 + 4096, "{}", zeros.taken);
     Ok(())

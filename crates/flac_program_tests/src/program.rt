@@ -4,7 +4,7 @@ use crate::tables::{
     CHANGES, COME_BACK, ENCODINGS, JOBS, LAST_BYTE, LISTS, NATIVE, OGG, PIECES, PREFIXES,
     RETAGGINGS, SWEPT,
 };
-use flac_bits::{Collected, Counted, Memory, Pieces};
+use flac_bits::{Collected, Counted, Memory, Pieces, Source, Target};
 use flac_cli::{Container, Format, Job, run};
 use flac_words::job;
 use std::alloc::Global;
@@ -33,12 +33,40 @@ pub(crate) struct Outcome {
 
 impl Outcome {
     /// Whether this status and just these bytes came of it.
-    fn is(&self, status: u8, file: &[u8], out: &str, err: &str) -> bool {
+    pub(crate) fn is(&self, status: u8, file: &[u8], out: &str, err: &str) -> bool {
         self.status == status
             && self.file.as_slice() == file
             && self.out.as_slice() == out.as_bytes()
             && self.err.as_slice() == err.as_bytes()
     }
+
+    /// Whether the same came of another command.
+    fn equals(&self, other: &Outcome) -> bool {
+        self.status == other.status
+            && self.file.as_slice() == other.file.as_slice()
+            && self.out.as_slice() == other.out.as_slice()
+            && self.err.as_slice() == other.err.as_slice()
+    }
+
+    /// Whether the line of counts, or that of a fault of `a.flac`, is all that came of it.
+    fn is_line(&self, line: &str) -> bool {
+        let (status, front, text, other) = if line.starts_with("frames ") {
+            (0, "", &self.out, &self.err)
+        } else {
+            (1, "flac: a.flac: ", &self.err, &self.out)
+        };
+        self.status == status
+            && self.file.is_empty()
+            && other.is_empty()
+            && has_line(text.as_slice(), front, line)
+    }
+}
+
+/// Whether these bytes are this text, a line and its end.
+fn has_line(bytes: &[u8], front: &str, line: &str) -> bool {
+    let rest = bytes.strip_prefix(front.as_bytes());
+    let rest = rest.unwrap_or(&[]).strip_suffix(b"\n");
+    rest == Some(line.as_bytes())
 }
 
 /// The hex digits of the piece of this name, or else the word itself.
@@ -80,13 +108,30 @@ fn words_of(alloc: Global, line: &str) -> Result<Vec<String>, Fail> {
     Ok(words)
 }
 
+/// Does a job over devices, with the fault's line in memory.
+fn run_on<R: Source, W: Target, O: Target>(
+    alloc: Global,
+    job: &Job<'_>,
+    source: &mut R,
+    file: &mut W,
+    out: &mut O,
+    err: &mut Collected,
+) -> u8 {
+    run(alloc, job, source, file, out, err)
+}
+
 /// Does a job over memory, which gives at most `most` bytes at once.
 pub(crate) fn perform(alloc: Global, job: &Job<'_>, input: &[u8], most: usize) -> Outcome {
     let mut source = Pieces::new(Memory::new(input), most.max(1));
+    perform_on(alloc, job, &mut source)
+}
+
+/// Does a job on a source, and keeps in memory all that it writes.
+pub(crate) fn perform_on<R: Source>(alloc: Global, job: &Job<'_>, source: &mut R) -> Outcome {
     let mut file = Collected::new(alloc);
     let mut out = Collected::new(alloc);
     let mut err = Collected::new(alloc);
-    let status = run(alloc, job, &mut source, &mut file, &mut out, &mut err);
+    let status = run_on(alloc, job, source, &mut file, &mut out, &mut err);
     Outcome {
         status,
         file: file.into_bytes(),
@@ -109,30 +154,51 @@ fn commanded(alloc: Global, line: &str, input: &[u8], most: usize) -> Result<Out
     }
 }
 
-/// Does the command of a row, on an input that comes in pieces of 1, 2, 3 and 4096 bytes, and compares all that came of it.
-fn check_row(rt: &impl Abort, alloc: Global, row: &str) -> Result<(), Fail> {
-    let mut fields = row.split(" | ");
-    let line = format!(in alloc; "flac {}", fields.next().unwrap_or(""))?;
-    let input = bytes_of(alloc, fields.next().unwrap_or(""))?;
+/// What a row wants: a status, and the contents of the file, of standard output and of standard error.
+fn wanted_of(alloc: Global, answer: &str) -> Result<Outcome, Fail> {
+    let mut fields = answer.split(" | ");
     let status = fields.next().unwrap_or("").parse::<u8>()?;
     let file = bytes_of(alloc, fields.next().unwrap_or(""))?;
-    let out = lines_of(alloc, fields.next().unwrap_or(""))?;
-    let err = lines_of(alloc, fields.next().unwrap_or(""))?;
+    let out = lines_of(alloc, fields.next().unwrap_or(""))?.into_bytes();
+    let err = lines_of(alloc, fields.next().unwrap_or(""))?.into_bytes();
+    Ok(Outcome {
+        status,
+        file,
+        out,
+        err,
+    })
+}
+
+/// Whether a command comes to what is wanted, on an input that comes in pieces of 1, 2, 3 and 4096 bytes.
+fn comes_to(alloc: Global, command: &str, input: &[u8], wanted: &Outcome) -> Result<bool, Fail> {
+    let line = format!(in alloc; "flac {command}")?;
+    let mut same = true;
     for most in [1, 2, 3, 4096] {
-        let found = commanded(alloc, &line, &input, most)?;
-        assert!(rt;
-            found.is(status, &file, &out, &err),
-            "in pieces of {most}: {row}"
-        );
+        let found = commanded(alloc, &line, input, most)?;
+        same = same && found.equals(wanted);
     }
-    Ok(())
+    Ok(same)
+}
+
+/// The part of a row before the next bar, and the rest.
+fn split_row<'a>(row: &'a str) -> (&'a str, &'a str) {
+    row.split_once(" | ").unwrap_or((row, ""))
+}
+
+/// Whether the command of a row comes to what the row wants.
+fn row_holds(alloc: Global, row: &str) -> Result<bool, Fail> {
+    let (command, rest) = split_row(row);
+    let (words, answer) = split_row(rest);
+    let input = bytes_of(alloc, words)?;
+    let wanted = wanted_of(alloc, answer)?;
+    comes_to(alloc, command, &input, &wanted)
 }
 
 /// Checks each row of a table but those that begin with `#`.
 fn check_table(rt: &impl Abort, alloc: Global, table: &str) -> Result<(), Fail> {
     for row in table.lines() {
         if !row.starts_with('#') {
-            check_row(rt, alloc, row)?;
+            assert!(rt; row_holds(alloc, row)?, "{row}");
         }
     }
     Ok(())
@@ -164,19 +230,19 @@ fn ogg(rt: HostRuntime) -> Result<(), Fail> {
 }
 
 /// `test` answers a stream by the line of its counts, or refuses it by the line of a fault.
-pub(crate) fn answers(
-    rt: &impl Abort,
-    alloc: Global,
-    input: &[u8],
-    line: &str,
-) -> Result<(), Fail> {
+pub(crate) fn answers(rt: &impl Abort, alloc: Global, input: &[u8], line: &str) {
     let found = perform(alloc, &TEST, input, 4096);
-    let same = if line.starts_with("frames ") {
-        found.is(0, &[], &format!(in alloc; "{line}\n")?, "")
-    } else {
-        found.is(1, &[], "", &format!(in alloc; "flac: a.flac: {line}\n")?)
-    };
-    assert!(rt; same, "at {line}");
+    assert!(rt; found.is_line(line), "at {line}");
+}
+
+/// A stream is refused by this line, and without its last byte in the same item, since the input ends.
+fn check_last_byte(rt: &impl Abort, alloc: Global, words: &str, line: &str) -> Result<(), Fail> {
+    let input = bytes_of(alloc, words)?;
+    answers(rt, alloc, &input, line);
+    let (place, _) = line.split_once(": ").unwrap_or((line, ""));
+    let short = format!(in alloc; "{place}: 3 Truncated")?;
+    let count = input.len().saturating_sub(1);
+    answers(rt, alloc, input.get(..count).unwrap_or(&[]), &short);
     Ok(())
 }
 
@@ -185,12 +251,7 @@ pub(crate) fn answers(
 fn refused_at_the_last_byte(rt: HostRuntime) -> Result<(), Fail> {
     for row in LAST_BYTE.lines() {
         if let Some((words, line)) = row.split_once(" | ") {
-            let mut input = bytes_of(rt.alloc(), words)?;
-            answers(&rt, rt.alloc(), &input, line)?;
-            let _last = input.pop();
-            let (place, _) = line.split_once(": ").unwrap_or((line, ""));
-            let short = format!(in rt.alloc(); "{place}: 3 Truncated")?;
-            answers(&rt, rt.alloc(), &input, &short)?;
+            check_last_byte(&rt, rt.alloc(), words, line)?;
         }
     }
     Ok(())
@@ -202,17 +263,23 @@ fn range_of(words: &str) -> Result<(usize, usize), Fail> {
     Ok((from.parse::<usize>()?, to.parse::<usize>()?))
 }
 
+/// Each prefix of the row's stream within its range.
+fn check_prefixes(rt: &impl Abort, alloc: Global, row: &str) -> Result<(), Fail> {
+    let (words, rest) = split_row(row);
+    let (range, line) = split_row(rest);
+    let stream = bytes_of(alloc, words)?;
+    let (from, to) = range_of(range)?;
+    for count in from..to {
+        answers(rt, alloc, stream.get(..count).unwrap_or(&[]), line);
+    }
+    Ok(())
+}
+
 /// Each prefix of two streams, one that states its number of samples and one that does not.
 #[test]
 fn prefixes(rt: HostRuntime) -> Result<(), Fail> {
     for row in PREFIXES.lines() {
-        let mut fields = row.split(" | ");
-        let stream = bytes_of(rt.alloc(), fields.next().unwrap_or(""))?;
-        let (from, to) = range_of(fields.next().unwrap_or(""))?;
-        let line = fields.next().unwrap_or("");
-        for count in from..to {
-            answers(&rt, rt.alloc(), stream.get(..count).unwrap_or(&[]), line)?;
-        }
+        check_prefixes(&rt, rt.alloc(), row)?;
     }
     Ok(())
 }
@@ -226,20 +293,41 @@ fn changed(alloc: Global, bytes: &[u8], place: usize, bits: u8) -> Result<Vec<u8
     Ok(all)
 }
 
+/// Each byte of a range of the stream with these bits changed.
+fn check_changes(
+    rt: &impl Abort,
+    alloc: Global,
+    stream: &[u8],
+    range: (usize, usize),
+    bits: u8,
+    line: &str,
+) -> Result<(), Fail> {
+    for place in range.0..range.1 {
+        let other = changed(alloc, stream, place, bits)?;
+        answers(rt, alloc, &other, line);
+    }
+    Ok(())
+}
+
+/// The changes of a row: its stream, a range of bytes, and a line for each of three changes.
+fn check_row_of_changes(rt: &impl Abort, alloc: Global, row: &str) -> Result<(), Fail> {
+    let (words, rest) = split_row(row);
+    let (range, lines) = split_row(rest);
+    let stream = bytes_of(alloc, words)?;
+    let range = range_of(range)?;
+    let mut lines = lines.split(" | ");
+    for bits in [0x01, 0x80, 0xFF] {
+        let line = lines.next().unwrap_or("");
+        check_changes(rt, alloc, &stream, range, bits, line)?;
+    }
+    Ok(())
+}
+
 /// Each byte of two streams with its lowest bit, its highest bit and all its bits changed.
 #[test]
 fn changes(rt: HostRuntime) -> Result<(), Fail> {
     for row in CHANGES.lines() {
-        let mut fields = row.split(" | ");
-        let stream = bytes_of(rt.alloc(), fields.next().unwrap_or(""))?;
-        let (from, to) = range_of(fields.next().unwrap_or(""))?;
-        for bits in [0x01, 0x80, 0xFF] {
-            let line = fields.next().unwrap_or("");
-            for place in from..to {
-                let other = changed(rt.alloc(), &stream, place, bits)?;
-                answers(&rt, rt.alloc(), &other, line)?;
-            }
-        }
+        check_row_of_changes(&rt, rt.alloc(), row)?;
     }
     Ok(())
 }
@@ -257,19 +345,31 @@ fn refused_in_frame(rt: &impl Abort, alloc: Global, input: &[u8], place: usize) 
     );
 }
 
+/// Each change of one bit, and of all bits, of the byte at a place.
+fn check_bits(rt: &impl Abort, alloc: Global, stream: &[u8], place: usize) -> Result<(), Fail> {
+    for bits in [1, 2, 4, 8, 16, 32, 64, 128, 255] {
+        let other = changed(alloc, stream, place, bits)?;
+        refused_in_frame(rt, alloc, &other, place);
+    }
+    Ok(())
+}
+
 /// Each change of one bit, and of all bits of one byte, of a frame.
 #[test]
 fn each_bit(rt: HostRuntime) -> Result<(), Fail> {
     for row in SWEPT.lines() {
         let stream = bytes_of(rt.alloc(), row)?;
         for place in 42..stream.len() {
-            for bits in [1, 2, 4, 8, 16, 32, 64, 128, 255] {
-                let other = changed(rt.alloc(), &stream, place, bits)?;
-                refused_in_frame(&rt, rt.alloc(), &other, place);
-            }
+            check_bits(&rt, rt.alloc(), &stream, place)?;
         }
     }
     Ok(())
+}
+
+/// The status and the text of a refusal, its lines ended by `;`.
+fn refusal_of(alloc: Global, status: u8, text: &str) -> Result<String, Fail> {
+    let text = text.replace(alloc, '\n', ";")?;
+    Ok(format!(in alloc; "{status} {text}")?)
 }
 
 /// What a command line is read as: the job, or the status and the text of the refusal, its lines ended by `;`.
@@ -277,10 +377,15 @@ fn read_as(alloc: Global, line: &str) -> Result<String, Fail> {
     let words = words_of(alloc, line)?;
     match job(alloc, words.as_slice()) {
         Ok(job) => Ok(format!(in alloc; "{job:?}")?),
-        Err(fault) => {
-            let text = fault.text.replace(alloc, '\n', ";")?;
-            Ok(format!(in alloc; "{} {text}", fault.status)?)
-        }
+        Err(fault) => refusal_of(alloc, fault.status, &fault.text),
+    }
+}
+
+/// Whether a text is the answer, or begins with it where that ends with `*`.
+fn is_answer(text: &str, answer: &str) -> bool {
+    match answer.strip_suffix('*') {
+        Some(start) => text.starts_with(start),
+        None => text == answer,
     }
 }
 
@@ -288,13 +393,9 @@ fn read_as(alloc: Global, line: &str) -> Result<String, Fail> {
 #[test]
 fn words(rt: HostRuntime) -> Result<(), Fail> {
     for row in JOBS.lines() {
-        let (line, answer) = row.split_once(" | ").unwrap_or((row, ""));
+        let (line, answer) = split_row(row);
         let found = read_as(rt.alloc(), line)?;
-        let same = match answer.strip_suffix('*') {
-            Some(start) => found.starts_with(start),
-            None => found.as_str() == answer,
-        };
-        assert!(rt; same, "{line}: {found}");
+        assert!(rt; is_answer(&found, answer), "{line}: {found}");
     }
     Ok(())
 }
@@ -308,19 +409,21 @@ fn rising(alloc: Global, len: usize) -> Result<Vec<u8>, Fail> {
     Ok(bytes)
 }
 
+/// Whether these samples are encoded with these options, and decoded to what was put in.
+fn is_given_back(alloc: Global, options: &str, raw: &[u8]) -> Result<bool, Fail> {
+    let line = format!(in alloc; "flac encode a.raw a.flac --rate 44100 --block 16 {options}")?;
+    let encoded = commanded(alloc, &line, raw, 4096)?;
+    let decoded = perform(alloc, &DECODE, &encoded.file, 4096);
+    Ok(encoded.is(0, &encoded.file, "", "") && decoded.is(0, raw, "", ""))
+}
+
 /// Seventeen samples of each channel, in blocks of sixteen: what is encoded is decoded to what was put in.
 #[test]
 fn comes_back(rt: HostRuntime) -> Result<(), Fail> {
     for row in COME_BACK.lines() {
-        let (options, len) = row.split_once(" | ").unwrap_or((row, ""));
+        let (options, len) = split_row(row);
         let raw = rising(rt.alloc(), len.parse::<usize>()?)?;
-        let line = format!(in rt.alloc();
-            "flac encode a.raw a.flac --rate 44100 --block 16 {options}"
-        )?;
-        let encoded = commanded(rt.alloc(), &line, &raw, 4096)?;
-        assert!(rt; encoded.is(0, &encoded.file, "", ""), "{options}");
-        let decoded = perform(rt.alloc(), &DECODE, &encoded.file, 4096);
-        assert!(rt; decoded.is(0, &raw, "", ""), "{options}");
+        assert!(rt; is_given_back(rt.alloc(), options, &raw)?, "{options}");
     }
     Ok(())
 }
@@ -339,25 +442,24 @@ impl Write for Full {
     }
 }
 
+/// Whether a job whose file and output have no room comes to the status 1 and this line.
+fn fails(alloc: Global, job: &Job<'_>, stream: &[u8], wanted: &str) -> bool {
+    let mut source = Memory::new(stream);
+    let mut file = Counted::new(Full);
+    let mut out = Counted::new(Full);
+    let mut err = Collected::new(alloc);
+    let status = run_on(alloc, job, &mut source, &mut file, &mut out, &mut err);
+    status == 1 && err.bytes() == wanted.as_bytes()
+}
+
 /// A file or an output that fails. The path is that of the file at fault.
 #[test]
 fn failing(rt: HostRuntime) -> Result<(), Fail> {
     let alloc = rt.alloc();
     let stream = bytes_of(alloc, "ROW")?;
-    let rows = [
-        (TEST, "flac: a.flac: 39 Write\n"),
-        (DECODE, "flac: a.raw: frame 0: 30 Sink\n"),
-        (LIST, "flac: a.flac: block 0: 30 Sink\n"),
-    ];
-    for (job, wanted) in rows {
-        let mut source = Memory::new(&stream);
-        let mut file = Counted::new(Full);
-        let mut out = Counted::new(Full);
-        let mut err = Collected::new(alloc);
-        let status = run(alloc, &job, &mut source, &mut file, &mut out, &mut err);
-        assert_eq!(rt; status, 1);
-        assert!(rt; err.bytes() == wanted.as_bytes(), "at {wanted}");
-    }
+    assert!(rt; fails(alloc, &TEST, &stream, "flac: a.flac: 39 Write\n"));
+    assert!(rt; fails(alloc, &DECODE, &stream, "flac: a.raw: frame 0: 30 Sink\n"));
+    assert!(rt; fails(alloc, &LIST, &stream, "flac: a.flac: block 0: 30 Sink\n"));
     Ok(())
 }
 
