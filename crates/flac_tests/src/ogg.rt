@@ -5,7 +5,7 @@ use flac_bits::Collected;
 use flac_frame::Audio;
 use flac_meta::{Block, BlockList, Bytes, Comments, Texts};
 use flac_native::{EncodeFault, Plan};
-use flac_ogg::encode_ogg;
+use flac_ogg::{encode_and_decode, encode_ogg};
 use std::alloc::Global;
 use std::mem::drop;
 use std::process::Abort;
@@ -16,6 +16,10 @@ const PAGES: &str =
     "4f67675300020000000000000000010000000000000018597d8f01337f464c414301000001664c6143000000221000100000000f00000f0ac442f0000000013e\
     84b41807dc690307586a3dad1a2e0f4f67675300000000000000000000010000000100000060d1f601010c8400000800000000000000004f6767530004010000\
     0000000000010000000200000049872f1f010ffff869180000bf0158fd01128b5ab2";
+
+/// The same blocks and frame as a native stream.
+const NATIVE: &str =
+    "664c6143000000221000100000000f00000f0ac442f0000000013e84b41807dc690307586a3dad1a2e0f840000080000000000000000fff869180000bf0158fd01128b5ab2";
 
 /// No samples of two channels with that block: no page ends a frame, and the block's page is marked last.
 const NO_FRAME: &str =
@@ -91,4 +95,25 @@ fn no_stream_in_ogg(rt: HostRuntime) -> Result<(), Fail> {
     is_refused(&rt, rt.alloc(), 1, 0)?;
     is_refused(&rt, rt.alloc(), 0, 1)?;
     is_refused(&rt, rt.alloc(), 1, 1)
+}
+
+/// Encoded and decoded again in one call: the pages of an Ogg stream, and the native stream of the same blocks and frame.
+#[test]
+fn encoded_and_decoded(rt: HostRuntime) -> Result<(), Fail> {
+    let alloc = rt.alloc();
+    let audio = sample(alloc)?;
+    let plan = Plan::new(4096, &audio, 0)?;
+    let list = comments(alloc, 0)?;
+    let pages = encode_and_decode(alloc, Some(1), &plan, &list, &audio)?;
+    assert_eq!(rt; pages, hex::decode(alloc, PAGES)?);
+    let native = encode_and_decode(alloc, None, &plan, &list, &audio)?;
+    assert_eq!(rt; native, hex::decode(alloc, NATIVE)?);
+    let list = comments(alloc, 1)?;
+    assert!(rt;
+        matches!(
+            encode_and_decode(alloc, Some(1), &plan, &list, &audio),
+            Err(EncodeFault::BadMapping)
+        )
+    );
+    Ok(())
 }
