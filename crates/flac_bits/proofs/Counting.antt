@@ -1,10 +1,10 @@
 -- What several calls one after another count.
-use Rattle.std.proofs.Common.{◌≡◌, ◌<◌, ◌≤◌, true, Result, sym, ◌∙◌, arith}
-use Rattle.flac_bits.specs.State.{State}
+use Rattle.std.proofs.Common.{◌≡◌, ℕ, ◌<◌, ◌≤◌, Bool, true, false, Result, refl, sym, ap, ◌∙◌, arith}
+use Rattle.flac_bits.specs.State.{State, Rises}
 use Rattle.flac_bits.specs.Layout.{Reason}
 use Rattle.flac_bits.specs.Reading.{Goes}
 use Rattle.flac_bits.specs.declared.why.Why.{Why}
-use Rattle.flac_bits.specs.declared.why.Why.TheVariants.{Read}
+use Rattle.flac_bits.specs.declared.why.Why.TheVariants.{Read, Sink}
 
 -- the clause Counts of a call that answered a value
 abbrev pub Answered : State → State → Type 0
@@ -12,7 +12,11 @@ Answered old new = (old.known ≡ true → new.known ≡ true) × (new.errors �
 
 -- and of one that answered a reason
 abbrev pub Failed : Why → State → State → Type 0
-Failed e old new = (old.errors ≤ new.errors) × (old.known ≡ true → new.errors ≡ old.errors → new.behind ≡ old.behind) × (old.known ≡ true → e ≡ Read → old.raised < new.raised) × (new.names ≡ old.names)
+Failed e old new = (old.errors ≤ new.errors) × (old.known ≡ true → new.errors ≡ old.errors → new.behind ≡ old.behind) × (old.known ≡ true → e ≡ Read → old.raised < new.raised) × (new.names ≡ old.names) × (e ≡ Read → Rises old.raised new.raised) × (e ≡ Sink → ⊥)
+
+-- behind calls that kept a count
+pub rises_then : (old mid new : ℕ) → mid ≡ old → Rises mid new → Rises old new
+rises_then old mid new same r = rw (← same) r
 
 pub answered_then : (old mid new : State) → Answered old mid → Answered mid new → Answered old new
 answered_then old mid new a b = (λ k. b.0 (a.0 k), b.1 ∙ a.1, b.2 ∙ a.2, λ k. b.3 (a.0 k) ∙ a.3 k, b.4 ∙ a.4)
@@ -26,12 +30,30 @@ failed_then old mid new a b =
       λ k same. b.1 (a.0 k) (same ∙ sym errors) ∙ a.3 k,
       λ k q. let lt : mid.raised < new.raised = b.2 (a.0 k) q in omega arith,
       b.3 ∙ a.4,
+      λ q. rises_then old.raised mid.raised new.raised raised (b.4 q),
+      b.5,
     )
 
 -- a loop that went so far
 pub gone : {Y : Type 0} {old now : State} {rest whole : Result Y Reason} → Goes old now rest whole → Answered old now
 gone h = (h.known, h.errors, h.raised, h.behind, h.names)
 
--- a refusal behind a call that answered a value
-pub refused_then : {e : Why} (old new : State) → Answered old new → (e ≡ Read → ⊥) → Failed e old new
-refused_then old new a never = (omega (arith, a.1), λ k same. a.3 k, λ k q. absurd (never q), a.4)
+-- the reasons that stand for an error of a source or of a sink
+abbrev pub is_device : Why → Bool
+is_device Read = true
+is_device Sink = true
+is_device _ = false
+
+other_than : {e d : Why} → is_device e ≡ false → is_device d ≡ true → e ≡ d → ⊥
+other_than other device q = let t : false ≡ true = sym other ∙ ap is_device q ∙ device in cc
+
+-- a refusal by another reason behind a call that answered a value
+pub refused_then : {e : Why} (old new : State) → Answered old new → is_device e ≡ false → Failed e old new
+refused_then old new a other = (
+  omega (arith, a.1),
+  λ k same. a.3 k,
+  λ k q. absurd (other_than other refl q),
+  a.4,
+  λ q. absurd (other_than other refl q),
+  other_than other refl,
+)

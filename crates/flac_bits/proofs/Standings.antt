@@ -32,6 +32,7 @@ module _ {S : Type 0} (g : target.Ghosts S) where
     kept = s.kept;
     names = s.names;
     rises = s.rises;
+    risen = s.risen;
     begun = λ known.
         let b = s.begun known in
         let bits = bits_of (g.sent old) ++ (bits_of held.bytes ++ held.rest) in

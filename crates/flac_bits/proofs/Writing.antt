@@ -6,6 +6,7 @@ use Rattle.flac_bits.specs.Forms.{joined}
 use Rattle.flac_bits.specs.State.{Mark, past}
 use Rattle.flac_bits.specs.Written.{Written, Adds, Writes, Wrote, WritesParts, Fails, begins, behind_parts, past_parts}
 use Rattle.flac_bits.specs.declared.why.Why.{Why}
+use Rattle.flac_bits.proofs.Counting.{rises_then}
 use Rattle.flac_bits.proofs.Laws.{past-append}
 
 -- ---- beginnings
@@ -49,6 +50,7 @@ fails_later {bits = bits} {old = old} {mid = mid} {new = new} bits' known errors
   names = f.names ∙ names;
   rises = λ k. let lt = f.rises (known k) in omega (arith, errors, lt);
   begun = λ k. ap (begins (bits_of new.sent)) (is k) ∙ begins_more (bits_of new.sent) bits more (f.begun (known k));
+  risen = rises_then old.errors mid.errors new.errors errors f.risen;
 }
 
 pub fails_more : {bits : List Bool} {old new : Written} {e : Why} (more : List Bool) → Fails bits old new e → Fails (bits ++ more) old new e

@@ -1,16 +1,16 @@
 -- What a reading call does.
 use Rattle.std.specs.Prelude.{◌≡◌, ◌<◌, ◌≤◌, Bool, true, List, ◌++◌, Result, Ok, Err, IfOk, IfErr, IsOkAnd, IsErrAnd, ◌⊎◌}
-use Rattle.flac_bits.specs.State.{Cursor, State}
+use Rattle.flac_bits.specs.State.{Cursor, State, Rises}
 use Rattle.flac_bits.specs.Layout.{Layout, Reason, because, run}
 use Rattle.flac_bits.specs.Meaning.{Spells, Shows, IsCut}
 use Rattle.flac_bits.specs.declared.why.Why.{Why}
-use Rattle.flac_bits.specs.declared.why.Why.TheVariants.{Memory, Read}
+use Rattle.flac_bits.specs.declared.why.Why.TheVariants.{Memory, Read, Sink}
 
 -- Errors of the source are counted: a call that answers a value met none, and one that answers Read met one.
--- What stands behind the bytes to come stays, and the references that the source goes through.
+-- No reading call answers Sink. What stands behind the bytes to come stays, and the references that the source goes through.
 abbrev pub Counts : {X : Type 0} → State → State → Result X Why → Type 0
 Counts old new (Ok x) = (old.known ≡ true → new.known ≡ true) × (new.errors ≡ old.errors) × (new.raised ≡ old.raised) × (old.known ≡ true → new.behind ≡ old.behind) × (new.names ≡ old.names)
-Counts old new (Err e) = (old.errors ≤ new.errors) × (old.known ≡ true → new.errors ≡ old.errors → new.behind ≡ old.behind) × (old.known ≡ true → e ≡ Read → old.raised < new.raised) × (new.names ≡ old.names)
+Counts old new (Err e) = (old.errors ≤ new.errors) × (old.known ≡ true → new.errors ≡ old.errors → new.behind ≡ old.behind) × (old.known ≡ true → e ≡ Read → old.raised < new.raised) × (new.names ≡ old.names) × (e ≡ Read → Rises old.raised new.raised) × (e ≡ Sink → ⊥)
 
 -- what was returned, seen by view, and where the reader stands then, is what is read
 abbrev pub Answers : {X Y : Type 0} → (X → Y) → Result (Y × Cursor) Reason → Cursor → Result X Why → Type 0

@@ -1,5 +1,6 @@
 -- What a call does that sends bytes to a target.
 use Rattle.std.specs.Prelude.{◌≡◌, ◌<◌, ◌≤◌, ℕ, List, ◌++◌, true, Result, OnOk, OnErr}
+use Rattle.flac_bits.specs.State.{Rises}
 use Rattle.flac_bits.specs.declared.target.Target as target
 
 -- A call that was to send these bytes sent all of them where it answered Ok, and else a beginning of them; then the target
@@ -12,3 +13,4 @@ pub record Sends {S X E : Type 0} (g : target.Ghosts S) (bytes : List ℕ) (old 
   pub counted : OnOk result (g.errors new ≡ g.errors old)
   pub kept : g.errors old ≤ g.errors new
   pub rises : OnErr result (g.known old ≡ true → g.errors old < g.errors new)
+  pub risen : OnErr result (Rises (g.errors old) (g.errors new))

@@ -1,5 +1,5 @@
 -- What a bit reader stands at.
-use Rattle.std.specs.Prelude.{ℕ, ◌≡◌, ◌++◌, ◌+◌, ◌-◌, ◌*◌, ◌%◌, ◌^◌, min, Bool, true, false, cond, nat_eq, List, [], ◌∷◌, bit_xor, Option, Some, None}
+use Rattle.std.specs.Prelude.{ℕ, ◌≡◌, ◌<◌, ◌++◌, ◌+◌, ◌-◌, ◌*◌, ◌%◌, ◌^◌, min, Bool, true, false, cond, nat_eq, List, [], ◌∷◌, bit_xor, Option, Some, None}
 use Rattle.std.specs.Int.{bit_at}
 use Rattle.std.specs.Borrow.{GName}
 use Rattle.flac_bits.specs.declared.why.Why.{Why}
@@ -80,6 +80,10 @@ with_short why m = record m { short = why }
 -- a mark at which the checks begin anew, as they do at a whole byte
 abbrev pub fresh : Mark → Mark
 fresh m = cond (nat_eq m.unread 0) (record m { check8 = 0; check16 = 0 }) m
+
+-- a count of errors rose, unless it is at 2^64 - 1, its greatest
+abbrev pub Rises : ℕ → ℕ → Type 0
+Rises old new = old < 2 ^ 64 - 1 → old < new
 
 -- what a reader stands at
 pub record State : Type 0 where

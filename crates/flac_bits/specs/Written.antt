@@ -2,7 +2,7 @@
 use Rattle.std.specs.Prelude.{◌≡◌, ◌<◌, ◌≤◌, ℕ, Bool, true, false, cond, List, [], ◌∷◌, ◌++◌, Result, Ok, Err}
 use Rattle.std.specs.Borrow.{GName}
 use Rattle.flac_bits.specs.Bits.{bits_of}
-use Rattle.flac_bits.specs.State.{Mark, past, fresh}
+use Rattle.flac_bits.specs.State.{Mark, past, fresh, Rises}
 use Rattle.flac_bits.specs.declared.why.Why.{Why}
 use Rattle.flac_bits.specs.declared.why.Why.TheVariants.{Write}
 
@@ -27,13 +27,14 @@ begins (b ∷ front) [] = false
 begins (true ∷ front) (c ∷ whole) = cond c (begins front whole) false
 begins (false ∷ front) (c ∷ whole) = cond c false (begins front whole)
 
--- The target failed: its count rose where it tells its bytes, and what it was sent is a beginning of these bits.
+-- The target failed: its count rose, if it could, and what it was sent is a beginning of these bits.
 pub record Fails (bits : List Bool) (old new : Written) (e : Why) : Type 0 where
   pub reason : e ≡ Write
   pub kept : old.errors ≤ new.errors
   pub names : new.names ≡ old.names
   pub rises : old.known ≡ true → old.errors < new.errors
   pub begun : old.known ≡ true → begins (bits_of new.sent) bits ≡ true
+  pub risen : Rises old.errors new.errors
 
 -- these bits were written behind those before
 pub record Adds (text : List Bool) (old new : Written) : Type 0 where

@@ -1,10 +1,10 @@
 //! Bytes that were pulled, and the bits of them that are held in a word.
 
-ghost use Rattle.std.specs.Prelude.{◌≡◌, ◌≢◌, ◌<◌, ◌≤◌, ◌+◌, ◌-◌, ◌*◌, ◌/◌, ◌%◌, ◌^◌, ◌++◌, ◌∷◌, [], ℕ, List, Bool, true, false, length, take, drop, replicate, min, IfSome, IfOk, IfErr, OnOk, Some, None, Ok, is_some, IsTrue, ◌↔◌, get_or, pos};
+ghost use Rattle.std.specs.Prelude.{◌≡◌, ◌≢◌, ◌<◌, ◌≤◌, ◌+◌, ◌-◌, ◌*◌, ◌/◌, ◌%◌, ◌^◌, ◌++◌, ◌∷◌, [], ℕ, List, Bool, true, false, length, take, drop, replicate, min, IfSome, IfOk, IfErr, OnOk, OnErr, Some, None, Ok, is_some, IsTrue, ◌↔◌, get_or, pos};
 ghost use Rattle.flac_bits.specs.declared.why.Why.TheVariants.{Truncated};
 ghost use Rattle.flac_bits.specs.Bits.{unsigned, bits_of};
 ghost use Rattle.flac_bits.specs.Meaning.{unary_bits};
-ghost use Rattle.flac_bits.specs.State.{past};
+ghost use Rattle.flac_bits.specs.State.{past, Rises};
 ghost use Rattle.flac_bits.specs.Rice.{IsResidual};
 ghost use Rattle.flac_bits.specs.Stretches.{IsRead};
 ghost use Rattle.flac_bits.specs.Store.{Store, passed, Takes, Passes, HoldsSame, four_at, allowed, forbidden, reached, seen as seen_bytes, room_behind as room_behind_bytes, hides_late, reason_of, Came};
@@ -197,6 +197,7 @@ impl Held {
         ensures fence { self.now.fence.room ≡ Some 0 → result ≡ Why.FrameTooLong }
         ensures over { (self.now.fence.room ≡ Some 0 → ⊥) → result ≡ Why.Truncated }
         ensures memory { result ≢ Why.Memory }
+        ensures device { (result ≢ Why.Read) × (result ≢ Why.Sink) }
     {
         match self.room {
             Some(0) => Why::FrameTooLong,
@@ -241,6 +242,7 @@ impl Held {
             → (allowed self.old.fence.room (R.coming source.old) ≡ []) × (reason_of (reached self.old.fence.room (R.coming source.old)) (R.behind source.old) ≡ Why.Read → ⊥) }
         ensures kept { R.errors source.old ≤ R.errors source.new }
         ensures foretold { R.known source.old ≡ true → R.errors source.new ≡ R.errors source.old → R.behind source.new ≡ R.behind source.old }
+        ensures risen { OnErr result (Rises (R.raised source.old) (R.raised source.new)) }
         ensures err { IfErr result (λ e. (e ≡ Why.Read)
             × (R.known source.old ≡ true → R.errors source.new ≡ R.errors source.old
             → (allowed self.old.fence.room (R.coming source.old) ≡ []) × (reason_of (reached self.old.fence.room (R.coming source.old)) (R.behind source.old) ≡ Why.Read)
@@ -267,6 +269,7 @@ impl Held {
             → (allowed self.old.fence.room (R.coming source.old) ≡ []) × (reason_of (reached self.old.fence.room (R.coming source.old)) (R.behind source.old) ≡ Why.Read → ⊥) }
         ensures kept { R.errors source.old ≤ R.errors source.new }
         ensures foretold { R.known source.old ≡ true → R.errors source.new ≡ R.errors source.old → R.behind source.new ≡ R.behind source.old }
+        ensures risen { OnErr result (Rises (R.raised source.old) (R.raised source.new)) }
         ensures err { IfErr result (λ e. (e ≡ Why.Read)
             × (R.known source.old ≡ true → R.errors source.new ≡ R.errors source.old
             → (allowed self.old.fence.room (R.coming source.old) ≡ []) × (reason_of (reached self.old.fence.room (R.coming source.old)) (R.behind source.old) ≡ Why.Read)

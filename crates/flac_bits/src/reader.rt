@@ -1,10 +1,10 @@
 //! Bits out of a source of bytes.
 
-ghost use Rattle.std.specs.Prelude.{◌≡◌, ◌≢◌, ◌<◌, ◌≤◌, ◌+◌, ◌^◌, ◌-◌, ◌++◌, ◌∷◌, [], ℕ, true, IfOk, IfErr, OnOk, ◌*◌, length, take, IfSome, None, Some, Ok, ◌↔◌, false, is_some, get_or, pos};
+ghost use Rattle.std.specs.Prelude.{◌≡◌, ◌≢◌, ◌<◌, ◌≤◌, ◌+◌, ◌^◌, ◌-◌, ◌++◌, ◌∷◌, [], ℕ, true, IfOk, IfErr, OnOk, OnErr, ◌*◌, length, take, IfSome, None, Some, Ok, ◌↔◌, false, is_some, get_or, pos};
 ghost use Rattle.flac_bits.specs.declared.why.Why.TheVariants.{Truncated};
 ghost use Rattle.flac_bits.specs.Bits.{is_nil};
 ghost use Rattle.flac_bits.specs.Bits.{unsigned, bits_of, bit_value};
-ghost use Rattle.flac_bits.specs.State.{State, Cursor, short_of, with_short, started, Consumes, without_fence};
+ghost use Rattle.flac_bits.specs.State.{State, Cursor, short_of, with_short, Rises, started, Consumes, without_fence};
 ghost use Rattle.flac_bits.specs.Fencing.{fence_at, lifted};
 ghost use Rattle.flac_bits.specs.Store.{state_of, left_of, fenced_of, most_of, reason_of, reached, SameBits};
 ghost use Rattle.flac_bits.specs.Layout.{next_bit, number_at, zeros_at, align as to_byte, run, and_then};
@@ -47,6 +47,7 @@ fn fill<R: Source>(held: &mut Held, source: &mut R) -> Result<bool, Why>
         → (left_of held.old (R.coming source.old) ≡ []) × (reason_of (reached held.old.fence.room (R.coming source.old)) (R.behind source.old) ≡ Why.Read → ⊥) }
     ensures kept { R.errors source.old ≤ R.errors source.new }
     ensures foretold { R.known source.old ≡ true → R.errors source.new ≡ R.errors source.old → R.behind source.new ≡ R.behind source.old }
+    ensures risen { OnErr result (Rises (R.raised source.old) (R.raised source.new)) }
     ensures err { IfErr result (λ e. (e ≡ Why.Read)
         × (R.known source.old ≡ true → R.errors source.new ≡ R.errors source.old
         → (left_of held.old (R.coming source.old) ≡ []) × (reason_of (reached held.old.fence.room (R.coming source.old)) (R.behind source.old) ≡ Why.Read)
@@ -82,6 +83,7 @@ fn refill<R: Source>(held: &mut Held, source: &mut R) -> Result<bool, Why>
         → (left_of held.old (R.coming source.old) ≡ []) × (reason_of (reached held.old.fence.room (R.coming source.old)) (R.behind source.old) ≡ Why.Read → ⊥) }
     ensures kept { R.errors source.old ≤ R.errors source.new }
     ensures foretold { R.known source.old ≡ true → R.errors source.new ≡ R.errors source.old → R.behind source.new ≡ R.behind source.old }
+    ensures risen { OnErr result (Rises (R.raised source.old) (R.raised source.new)) }
     ensures err { IfErr result (λ e. (e ≡ Why.Read)
         × (R.known source.old ≡ true → R.errors source.new ≡ R.errors source.old
         → (left_of held.old (R.coming source.old) ≡ []) × (reason_of (reached held.old.fence.room (R.coming source.old)) (R.behind source.old) ≡ Why.Read)
@@ -494,6 +496,7 @@ impl<R: Source> BitReader<R> {
     pub fn short(&self) -> Why
         ensures short { self.now.known ≡ true → self.now.cursor.left ≡ [] → (self.now.cursor.mark.short ≡ Why.Read → ⊥) → result ≡ self.now.cursor.mark.short }
         ensures memory { result ≢ Why.Memory }
+        ensures device { (result ≢ Why.Read) × (result ≢ Why.Sink) }
     {
         self.held.short()
     }

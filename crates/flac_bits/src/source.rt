@@ -1,7 +1,7 @@
 //! Where bytes come from.
 
 ghost use Rattle.std.specs.Prelude.{◌≡◌, ◌<◌, ◌≤◌, ◌+◌, ℕ, Bool, true, List, [], ◌∷◌, ◌++◌, length, take, IsTrue, IfOk, OnOk, OnErr, is_some, None};
-ghost use Rattle.flac_bits.specs.State.{Behind, the_end};
+ghost use Rattle.flac_bits.specs.State.{Behind, Rises, the_end};
 ghost use Rattle.std.specs.Io.{ReadsAtMost};
 ghost use Rattle.std.specs.Borrow.{GName};
 
@@ -21,7 +21,7 @@ pub trait Source {
     /// How many errors were answered that nothing foretold. Where the count can rise no more, the bytes count as unknown.
     ghost errors: { Self → ℕ };
 
-    /// How many errors were answered, foretold or not.
+    /// How many errors were answered, foretold or not. Each counts, known or not, as long as the count can rise.
     ghost raised: { Self → ℕ };
 
     /// How many bytes can come at most.
@@ -42,7 +42,8 @@ pub trait Source {
         ensures kept { errors self.old ≤ errors self.new }
         ensures failed { OnErr result (known self.old ≡ true → errors self.new ≡ errors self.old → (coming self.old ≡ []) × (is_some ((behind self.old).fails) ≡ true)) }
         ensures foretold { known self.old ≡ true → errors self.new ≡ errors self.old → behind self.new ≡ behind self.old }
-        ensures rises { OnErr result (known self.old ≡ true → raised self.old < raised self.new) };
+        ensures rises { OnErr result (known self.old ≡ true → raised self.old < raised self.new) }
+        ensures risen { OnErr result (Rises (raised self.old) (raised self.new)) };
 }
 
 impl<S: Source> Source for &mut S {

@@ -2,6 +2,7 @@
 
 ghost use Rattle.std.specs.Prelude.{◌≡◌, ◌<◌, ◌≤◌, ◌++◌, ◌∷◌, [], ◌-◌, ◌^◌, ℕ, Bool, List, true, nat_lt, length, take, IfOk, OnOk, OnErr};
 ghost use Rattle.std.specs.Borrow.{GName};
+ghost use Rattle.flac_bits.specs.State.{Rises};
 
 use std::alloc::Global;
 use std::io;
@@ -14,7 +15,7 @@ pub trait Target {
 
     ghost sent: { Self → List ℕ };
 
-    /// How many errors were answered. Where the count can rise no more, the bytes count as unknown.
+    /// How many errors were answered. Each counts, as long as the count can rise; where it cannot, the bytes count as unknown.
     ghost errors: { Self → ℕ };
 
     /// The references that it goes through.
@@ -30,7 +31,8 @@ pub trait Target {
         ensures nothing { OnErr result (known self.old ≡ true → sent self.new ≡ sent self.old) }
         ensures counted { OnOk result (errors self.new ≡ errors self.old) }
         ensures kept { errors self.old ≤ errors self.new }
-        ensures rises { OnErr result (known self.old ≡ true → errors self.old < errors self.new) };
+        ensures rises { OnErr result (known self.old ≡ true → errors self.old < errors self.new) }
+        ensures risen { OnErr result (Rises (errors self.old) (errors self.new)) };
 }
 
 impl<W: Target> Target for &mut W {
