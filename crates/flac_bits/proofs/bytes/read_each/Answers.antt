@@ -6,6 +6,8 @@ use Rattle.flac_bits.specs.Layout.{bits, run, and_then, number_at, Reason}
 use Rattle.flac_bits.specs.Lists.{list_of, behind}
 use Rattle.flac_bits.proofs.Loops.{goes_on}
 use Rattle.flac_bits.proofs.Lists.{list_more, list_end}
+use Rattle.std.proofs.lemmas.Result.{err_from_is_err_and}
+use Rattle.flac_bits.proofs.Counting.{gone, failed_then}
 use Rattle.flac_bits.proofs.bytes.read_each.Goals as goal
 
 pub loop-i-preserved : goal.loop-i-preserved
@@ -26,3 +28,11 @@ okay y = Ok y
 
 pub returns-clause-reads : goal.returns-clause-reads
 returns-clause-reads g c = λ known same. sym (c.loop-i.invariant.goes.reads known) ∙ list_end (length c.args.out.now) c.loop-i.i (bits 8) c.loop-i.bits.cursor (take c.loop-i.i c.loop-i.out) c.loop-i-test.false ∙ ap (λ front. okay (front, c.loop-i.bits.cursor)) (take_all c.loop-i.i c.loop-i.out (omega (arith, c.loop-i.auto.out, c.loop-i-test.false)))
+
+pub returns-in_err-out-clause-counts : goal.returns-in_err-out-clause-counts
+returns-in_err-out-clause-counts g c =
+    let p = err_from_is_err_and c.from_residual.result c.from_residual.ensures.1 in
+    rw (p.1, p.2) (failed_then c.args.bits.now c.loop-i.bits c.take.new.self (gone c.loop-i.invariant.goes) c.in_err-out.ensures.counts)
+
+pub returns-clause-counts : goal.returns-clause-counts
+returns-clause-counts g c = gone c.loop-i.invariant.goes

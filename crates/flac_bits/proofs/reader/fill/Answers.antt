@@ -26,3 +26,6 @@ returns-in-Ok-clause-ok g c =
       λ known. rw (← unchanged) (then_same c.begin_byte.new.self c.pull.new.self c.begin_byte-begun.new.self (g.R.Source.coming c.args.source.now) (g.R.Source.coming c.pull.new.source) (g.R.Source.coming c.pull.new.source)
           (came_bits c.begin_byte.new.self c.pull.new.self _ _ empty out c.in-Ok.ensures.word (ok.4 known)) (same_bits c.pull.new.self c.begin_byte-begun.new.self (g.R.Source.coming c.pull.new.source) same)),
     )
+
+pub returns-in-Err-clause-risen : goal.returns-in-Err-clause-risen
+returns-in-Err-clause-risen g c = c.in-Err.ensures.risen

@@ -24,3 +24,6 @@ returns-clause-ok g c =
       λ known. then_same c.args.held.now c.put_back.new.self c.pull.new.self (g.R.Source.coming c.args.source.now) (g.R.Source.coming c.args.source.now) (g.R.Source.coming c.pull.new.source)
           (same_bits c.args.held.now c.put_back.new.self (g.R.Source.coming c.args.source.now) same) (came_bits c.put_back.new.self c.pull.new.self _ _ empty out c.pull.ensures.word (ok.4 known)),
     ))
+
+pub returns-clause-risen : goal.returns-clause-risen
+returns-clause-risen g c = c.pull.ensures.risen

@@ -45,3 +45,6 @@ returns-in-Ok-clause-ok g c =
       rw (← open_fence, seen_is) (omega (arith, got.most, length-take (seen room n) buf, length-drop (seen room n) (take n buf), length-take n buf, few, got.bound.0)),
       λ known. rw (← open_fence, c.room_behind-self-inside.ensures, seen_is) (came_is room n buf (g.R.Source.coming c.pull.new.self) (g.R.Source.coming c.args.source.now) got.bound.0 (got.bytes known)),
     )
+
+pub returns-in-Err-clause-risen : goal.returns-in-Err-clause-risen
+returns-in-Err-clause-risen g c = c.in-Err.ensures.risen

@@ -10,6 +10,7 @@ use Rattle.flac_bits.specs.Rice.{IsResidual}
 use Rattle.flac_bits.proofs.Loops.{goes_on, goes_same}
 use Rattle.flac_bits.proofs.Lists.{list_more, list_end, list_start}
 use Rattle.flac_bits.proofs.Signs.{residual_kept}
+use Rattle.flac_bits.proofs.Counting.{gone}
 use Rattle.flac_bits.proofs.reader.BitReader.rice_partition.Goals as goal
 
 pub loop-i-preserved : goal.loop-i-preserved
@@ -56,3 +57,6 @@ okay y = Ok y
 
 pub returns-clause-reads : goal.returns-clause-reads
 returns-clause-reads g c = λ known same. sym (c.loop-i.invariant.goes.reads known) ∙ list_end (length c.args.values.now) c.loop-i.i (rice_value c.args.k) c.loop-i.self.cursor (take c.loop-i.i c.loop-i.values) (omega (arith, c.loop-i-test.false, c.loop-i.auto.values)) ∙ ap (λ front. okay (front, c.loop-i.self.cursor)) (take_all c.loop-i.i c.loop-i.values (omega (arith, c.loop-i.auto.values, c.loop-i-test.false)))
+
+pub returns-clause-counts : goal.returns-clause-counts
+returns-clause-counts g c = gone c.loop-i.invariant.goes

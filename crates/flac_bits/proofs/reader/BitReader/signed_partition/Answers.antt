@@ -10,6 +10,8 @@ use Rattle.flac_bits.specs.Signed.{FitsBits}
 use Rattle.flac_bits.proofs.Loops.{goes_on}
 use Rattle.flac_bits.proofs.Lists.{list_more, list_end, list_start}
 use Rattle.flac_bits.proofs.Signs.{signed_kept}
+use Rattle.std.proofs.lemmas.Result.{err_from_is_err_and}
+use Rattle.flac_bits.proofs.Counting.{gone, failed_then}
 use Rattle.flac_bits.proofs.reader.BitReader.signed_partition.Goals as goal
 
 pub loop-i-preserved : goal.loop-i-preserved
@@ -48,3 +50,11 @@ okay y = Ok y
 
 pub returns-clause-reads : goal.returns-clause-reads
 returns-clause-reads g c = λ known same. sym (c.loop-i.invariant.goes.reads known) ∙ list_end (length c.args.values.now) c.loop-i.i (signed_field c.args.n) c.loop-i.self.cursor (take c.loop-i.i c.loop-i.values) c.loop-i-test.false ∙ ap (λ front. okay (front, c.loop-i.self.cursor)) (take_all c.loop-i.i c.loop-i.values (omega (arith, c.loop-i.auto.values, c.loop-i-test.false)))
+
+pub returns-in_err-values-clause-counts : goal.returns-in_err-values-clause-counts
+returns-in_err-values-clause-counts g c =
+    let p = err_from_is_err_and c.from_residual.result c.from_residual.ensures.1 in
+    rw (p.1, p.2) (failed_then c.args.self.now c.loop-i.self c.take_signed.new.self (gone c.loop-i.invariant.goes) c.in_err-values.ensures.counts)
+
+pub returns-clause-counts : goal.returns-clause-counts
+returns-clause-counts g c = gone c.loop-i.invariant.goes
