@@ -173,6 +173,7 @@ impl FrameBuffers {
         ensures counts { Counts bits.old bits.new result }
         ensures memory { IfErr result (λ e. e ≢ Why.Memory) }
         ensures reads { Reads frame_of (frame info.now self.old.before) (started bits.old) bits.new result }
+        ensures means { Means frame_of (frame info.now self.old.before) (started bits.old) bits.new result }
         ensures* after { sem 𝓛 (follows_so the_row the_row self.entry.ghost_name none (λ _ _. ⊤) (λ last. Leaves self.old last frame_of result)) }
     {
         self.fill(bits, info, profile)?;

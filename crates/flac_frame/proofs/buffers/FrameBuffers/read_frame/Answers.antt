@@ -1,0 +1,39 @@
+use Rattle.std.proofs.Common.{Err, Ok, Some, ap, sym, refl, ◌∙◌}
+use Rattle.std.proofs.lemmas.Result.{err_from_is_err_and}
+use Rattle.flac_bits.specs.State.{started}
+use Rattle.flac_bits.proofs.Meaning.{means}
+use Rattle.flac_frame.specs.Frame.{frame, after}
+use Rattle.flac_frame.specs.Lent.{frame_of}
+use Rattle.flac_frame.proofs.buffers.FrameBuffers.read_frame.Goals as goal
+
+pub returns-in_err-fill : goal.returns-in_err-fill
+returns-in_err-fill g c =
+    let p = err_from_is_err_and c.from_residual.result c.from_residual.ensures.1 in
+    let was = c.in_err-fill.ensures in
+    rw (p.1, p.2) (
+      (refl, λ _. tt, (was.room.0, was.room.1, was.refused)),
+      record {
+        spends = tt;
+        counts = was.counts;
+        memory = was.memory;
+        reads = was.reads;
+        means = means frame_of (frame c.args.info.now c.args.self.now.before) (started c.args.bits.now) c.fill.new.bits (Err c.in_err-fill.field-0.0) was.reads;
+        after = tt;
+      },
+    )
+
+pub returns : goal.returns
+returns g c =
+    let was = c.in_ok-fill.ensures in
+    let held = sym c.view.ensures in
+    let reads = rw held at was.reads in (
+      (refl, λ _. tt, (was.room.0, was.room.1, (was.before ∙ ap (λ f. Some (after c.args.self.now.before f)) held, held))),
+      record {
+        spends = was.spends;
+        counts = was.counts;
+        memory = tt;
+        reads = reads;
+        means = means frame_of (frame c.args.info.now c.args.self.now.before) (started c.args.bits.now) c.fill.new.bits (Ok c.view.result) reads;
+        after = tt;
+      },
+    )
