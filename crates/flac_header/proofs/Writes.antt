@@ -18,7 +18,7 @@ fresh_check m e = rw e refl
 pub started_fails : {old new : Written} {e : Why} (h : Header) → Fails old.bits old new e → Fails ((restarted old).bits ++ header_spelling h) (restarted old) new e
 started_fails {old = old} {new = new} {e = e} h f =
     let g : Fails (old.bits ++ header_spelling h) old new e = fails_more (header_spelling h) f in
-    record { reason = g.reason; kept = g.kept; names = g.names; rises = g.rises; begun = g.begun }
+    record { reason = g.reason; kept = g.kept; names = g.names; rises = g.rises; begun = g.begun; risen = g.risen }
 
 -- the writer as it is behind the beginning of the checks
 begun : {old mid : Written} → Restarts old mid → Adds [] (restarted old) mid

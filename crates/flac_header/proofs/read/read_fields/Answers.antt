@@ -5,7 +5,7 @@ use Rattle.std.proofs.lemmas.Result.{err_from_is_err_and}
 use Rattle.flac_bits.specs.State.{Cursor}
 use Rattle.flac_bits.specs.Layout.{Reason, unless_broken}
 use Rattle.flac_bits.specs.declared.why.Why.{Why}
-use Rattle.flac_bits.specs.declared.why.Why.TheVariants.{BadSync, ReservedCode, HeaderCheck, Memory, Read}
+use Rattle.flac_bits.specs.declared.why.Why.TheVariants.{BadSync, ReservedCode, HeaderCheck, Memory}
 use Rattle.flac_bits.proofs.Counting.{answered_then, failed_then, refused_then}
 use Rattle.flac_bits.proofs.Telling.{told_then, told_fault}
 use Rattle.flac_header.specs.Header.{header, number_bits}
@@ -20,20 +20,11 @@ judged broken why d = unless_broken (record { broken = broken; why = why } ∷ [
 at_most_10 : (n : ℕ) → n ≤ 10 → nat_lt 10 n ≡ false
 at_most_10 n h = grind (arith, nat_tests)
 
-sync_no_read : BadSync ≡ Read → ⊥
-sync_no_read q = cc
-
 sync_no_memory : BadSync ≡ Memory → ⊥
 sync_no_memory q = cc
 
-code_no_read : ReservedCode ≡ Read → ⊥
-code_no_read q = cc
-
 code_no_memory : ReservedCode ≡ Memory → ⊥
 code_no_memory q = cc
-
-check_no_read : HeaderCheck ≡ Read → ⊥
-check_no_read q = cc
 
 check_no_memory : HeaderCheck ≡ Memory → ⊥
 check_no_memory q = cc
@@ -54,7 +45,7 @@ unfolding header
 returns-then-branch-ne32764 g c =
     record {
       spends = tt;
-      counts = refused_then c.args.bits.now c.take.new.self c.in_ok-take.ensures.counts sync_no_read;
+      counts = refused_then c.args.bits.now c.take.new.self c.in_ok-take.ensures.counts refl;
       memory = sync_no_memory;
       reads = told_then c.args.bits.now c.take.new.self c.take.new.self _ c.in_ok-take.ensures.counts c.in_ok-take.ensures.reads (told_broken {read = judged (not (nat_eq c.in_ok-take.field-0 0x7FFC)) BadSync c.take.new.self.cursor} c.take.new.self c.take.new.self _ (rw (ne_eqb c.in_ok-take.field-0 0x7FFC c.if-branch-ne32764.true) refl));
     }
@@ -86,7 +77,7 @@ unfolding header
 returns-then-size_code-eq0 g c =
     record {
       spends = tt;
-      counts = refused_then c.args.bits.now c.take-3.new.self (answered_then c.args.bits.now c.take.new.self c.take-3.new.self c.in_ok-take.ensures.counts (answered_then c.take.new.self c.take-2.new.self c.take-3.new.self c.in_ok-variable.ensures.counts c.in_ok-size_code.ensures.counts)) code_no_read;
+      counts = refused_then c.args.bits.now c.take-3.new.self (answered_then c.args.bits.now c.take.new.self c.take-3.new.self c.in_ok-take.ensures.counts (answered_then c.take.new.self c.take-2.new.self c.take-3.new.self c.in_ok-variable.ensures.counts c.in_ok-size_code.ensures.counts)) refl;
       memory = code_no_memory;
       reads = told_then c.args.bits.now c.take.new.self c.take-3.new.self _ c.in_ok-take.ensures.counts c.in_ok-take.ensures.reads (told_past {read = judged (not (nat_eq c.in_ok-take.field-0 0x7FFC)) BadSync c.take.new.self.cursor} c.take.new.self c.take-3.new.self c.take.new.self.cursor _ (rw c.if-branch-ne32764.false refl) (told_then c.take.new.self c.take-2.new.self c.take-3.new.self _ c.in_ok-variable.ensures.counts c.in_ok-variable.ensures.reads (told_then c.take-2.new.self c.take-3.new.self c.take-3.new.self _ c.in_ok-size_code.ensures.counts c.in_ok-size_code.ensures.reads (told_broken {read = judged (nat_eq c.in_ok-size_code.field-0 0) ReservedCode c.take-3.new.self.cursor} c.take-3.new.self c.take-3.new.self _ (rw c.if-size_code-eq0.true refl)))));
     }
@@ -107,7 +98,7 @@ unfolding header
 returns-then-rate_code-eq15 g c =
     record {
       spends = tt;
-      counts = refused_then c.args.bits.now c.take-4.new.self (answered_then c.args.bits.now c.take.new.self c.take-4.new.self c.in_ok-take.ensures.counts (answered_then c.take.new.self c.take-2.new.self c.take-4.new.self c.in_ok-variable.ensures.counts (answered_then c.take-2.new.self c.take-3.new.self c.take-4.new.self c.in_ok-size_code.ensures.counts c.in_ok-rate_code.ensures.counts))) code_no_read;
+      counts = refused_then c.args.bits.now c.take-4.new.self (answered_then c.args.bits.now c.take.new.self c.take-4.new.self c.in_ok-take.ensures.counts (answered_then c.take.new.self c.take-2.new.self c.take-4.new.self c.in_ok-variable.ensures.counts (answered_then c.take-2.new.self c.take-3.new.self c.take-4.new.self c.in_ok-size_code.ensures.counts c.in_ok-rate_code.ensures.counts))) refl;
       memory = code_no_memory;
       reads = told_then c.args.bits.now c.take.new.self c.take-4.new.self _ c.in_ok-take.ensures.counts c.in_ok-take.ensures.reads (told_past {read = judged (not (nat_eq c.in_ok-take.field-0 0x7FFC)) BadSync c.take.new.self.cursor} c.take.new.self c.take-4.new.self c.take.new.self.cursor _ (rw c.if-branch-ne32764.false refl) (told_then c.take.new.self c.take-2.new.self c.take-4.new.self _ c.in_ok-variable.ensures.counts c.in_ok-variable.ensures.reads (told_then c.take-2.new.self c.take-3.new.self c.take-4.new.self _ c.in_ok-size_code.ensures.counts c.in_ok-size_code.ensures.reads (told_past {read = judged (nat_eq c.in_ok-size_code.field-0 0) ReservedCode c.take-3.new.self.cursor} c.take-3.new.self c.take-4.new.self c.take-3.new.self.cursor _ (rw (ne_eqb c.in_ok-size_code.field-0 0 c.if-size_code-eq0.false) refl) (told_then c.take-3.new.self c.take-4.new.self c.take-4.new.self _ c.in_ok-rate_code.ensures.counts c.in_ok-rate_code.ensures.reads (told_broken {read = judged (nat_eq c.in_ok-rate_code.field-0 15) ReservedCode c.take-4.new.self.cursor} c.take-4.new.self c.take-4.new.self _ (rw c.if-rate_code-eq15.true refl)))))));
     }
@@ -128,7 +119,7 @@ unfolding header
 returns-then-channel_code-gt10 g c =
     record {
       spends = tt;
-      counts = refused_then c.args.bits.now c.take-5.new.self (answered_then c.args.bits.now c.take.new.self c.take-5.new.self c.in_ok-take.ensures.counts (answered_then c.take.new.self c.take-2.new.self c.take-5.new.self c.in_ok-variable.ensures.counts (answered_then c.take-2.new.self c.take-3.new.self c.take-5.new.self c.in_ok-size_code.ensures.counts (answered_then c.take-3.new.self c.take-4.new.self c.take-5.new.self c.in_ok-rate_code.ensures.counts c.in_ok-channel_code.ensures.counts)))) code_no_read;
+      counts = refused_then c.args.bits.now c.take-5.new.self (answered_then c.args.bits.now c.take.new.self c.take-5.new.self c.in_ok-take.ensures.counts (answered_then c.take.new.self c.take-2.new.self c.take-5.new.self c.in_ok-variable.ensures.counts (answered_then c.take-2.new.self c.take-3.new.self c.take-5.new.self c.in_ok-size_code.ensures.counts (answered_then c.take-3.new.self c.take-4.new.self c.take-5.new.self c.in_ok-rate_code.ensures.counts c.in_ok-channel_code.ensures.counts)))) refl;
       memory = code_no_memory;
       reads = told_then c.args.bits.now c.take.new.self c.take-5.new.self _ c.in_ok-take.ensures.counts c.in_ok-take.ensures.reads (told_past {read = judged (not (nat_eq c.in_ok-take.field-0 0x7FFC)) BadSync c.take.new.self.cursor} c.take.new.self c.take-5.new.self c.take.new.self.cursor _ (rw c.if-branch-ne32764.false refl) (told_then c.take.new.self c.take-2.new.self c.take-5.new.self _ c.in_ok-variable.ensures.counts c.in_ok-variable.ensures.reads (told_then c.take-2.new.self c.take-3.new.self c.take-5.new.self _ c.in_ok-size_code.ensures.counts c.in_ok-size_code.ensures.reads (told_past {read = judged (nat_eq c.in_ok-size_code.field-0 0) ReservedCode c.take-3.new.self.cursor} c.take-3.new.self c.take-5.new.self c.take-3.new.self.cursor _ (rw (ne_eqb c.in_ok-size_code.field-0 0 c.if-size_code-eq0.false) refl) (told_then c.take-3.new.self c.take-4.new.self c.take-5.new.self _ c.in_ok-rate_code.ensures.counts c.in_ok-rate_code.ensures.reads (told_past {read = judged (nat_eq c.in_ok-rate_code.field-0 15) ReservedCode c.take-4.new.self.cursor} c.take-4.new.self c.take-5.new.self c.take-4.new.self.cursor _ (rw (ne_eqb c.in_ok-rate_code.field-0 15 c.if-rate_code-eq15.false) refl) (told_then c.take-4.new.self c.take-5.new.self c.take-5.new.self _ c.in_ok-channel_code.ensures.counts c.in_ok-channel_code.ensures.reads (told_broken {read = judged (nat_lt 10 c.in_ok-channel_code.field-0) ReservedCode c.take-5.new.self.cursor} c.take-5.new.self c.take-5.new.self _ (search rules)))))))));
     }
@@ -149,7 +140,7 @@ unfolding header
 returns-then-depth_code-eq3 g c =
     record {
       spends = tt;
-      counts = refused_then c.args.bits.now c.take-6.new.self (answered_then c.args.bits.now c.take.new.self c.take-6.new.self c.in_ok-take.ensures.counts (answered_then c.take.new.self c.take-2.new.self c.take-6.new.self c.in_ok-variable.ensures.counts (answered_then c.take-2.new.self c.take-3.new.self c.take-6.new.self c.in_ok-size_code.ensures.counts (answered_then c.take-3.new.self c.take-4.new.self c.take-6.new.self c.in_ok-rate_code.ensures.counts (answered_then c.take-4.new.self c.take-5.new.self c.take-6.new.self c.in_ok-channel_code.ensures.counts c.in_ok-depth_code.ensures.counts))))) code_no_read;
+      counts = refused_then c.args.bits.now c.take-6.new.self (answered_then c.args.bits.now c.take.new.self c.take-6.new.self c.in_ok-take.ensures.counts (answered_then c.take.new.self c.take-2.new.self c.take-6.new.self c.in_ok-variable.ensures.counts (answered_then c.take-2.new.self c.take-3.new.self c.take-6.new.self c.in_ok-size_code.ensures.counts (answered_then c.take-3.new.self c.take-4.new.self c.take-6.new.self c.in_ok-rate_code.ensures.counts (answered_then c.take-4.new.self c.take-5.new.self c.take-6.new.self c.in_ok-channel_code.ensures.counts c.in_ok-depth_code.ensures.counts))))) refl;
       memory = code_no_memory;
       reads = told_then c.args.bits.now c.take.new.self c.take-6.new.self _ c.in_ok-take.ensures.counts c.in_ok-take.ensures.reads (told_past {read = judged (not (nat_eq c.in_ok-take.field-0 0x7FFC)) BadSync c.take.new.self.cursor} c.take.new.self c.take-6.new.self c.take.new.self.cursor _ (rw c.if-branch-ne32764.false refl) (told_then c.take.new.self c.take-2.new.self c.take-6.new.self _ c.in_ok-variable.ensures.counts c.in_ok-variable.ensures.reads (told_then c.take-2.new.self c.take-3.new.self c.take-6.new.self _ c.in_ok-size_code.ensures.counts c.in_ok-size_code.ensures.reads (told_past {read = judged (nat_eq c.in_ok-size_code.field-0 0) ReservedCode c.take-3.new.self.cursor} c.take-3.new.self c.take-6.new.self c.take-3.new.self.cursor _ (rw (ne_eqb c.in_ok-size_code.field-0 0 c.if-size_code-eq0.false) refl) (told_then c.take-3.new.self c.take-4.new.self c.take-6.new.self _ c.in_ok-rate_code.ensures.counts c.in_ok-rate_code.ensures.reads (told_past {read = judged (nat_eq c.in_ok-rate_code.field-0 15) ReservedCode c.take-4.new.self.cursor} c.take-4.new.self c.take-6.new.self c.take-4.new.self.cursor _ (rw (ne_eqb c.in_ok-rate_code.field-0 15 c.if-rate_code-eq15.false) refl) (told_then c.take-4.new.self c.take-5.new.self c.take-6.new.self _ c.in_ok-channel_code.ensures.counts c.in_ok-channel_code.ensures.reads (told_past {read = judged (nat_lt 10 c.in_ok-channel_code.field-0) ReservedCode c.take-5.new.self.cursor} c.take-5.new.self c.take-6.new.self c.take-5.new.self.cursor _ (rw (at_most_10 c.in_ok-channel_code.field-0 c.if-channel_code-gt10.false) refl) (told_then c.take-5.new.self c.take-6.new.self c.take-6.new.self _ c.in_ok-depth_code.ensures.counts c.in_ok-depth_code.ensures.reads (told_broken {read = judged (nat_eq c.in_ok-depth_code.field-0 3) ReservedCode c.take-6.new.self.cursor} c.take-6.new.self c.take-6.new.self _ (rw c.if-depth_code-eq3.true refl)))))))))));
     }
@@ -170,7 +161,7 @@ unfolding header
 returns-then-branch-ne0 g c =
     record {
       spends = tt;
-      counts = refused_then c.args.bits.now c.take-7.new.self (answered_then c.args.bits.now c.take.new.self c.take-7.new.self c.in_ok-take.ensures.counts (answered_then c.take.new.self c.take-2.new.self c.take-7.new.self c.in_ok-variable.ensures.counts (answered_then c.take-2.new.self c.take-3.new.self c.take-7.new.self c.in_ok-size_code.ensures.counts (answered_then c.take-3.new.self c.take-4.new.self c.take-7.new.self c.in_ok-rate_code.ensures.counts (answered_then c.take-4.new.self c.take-5.new.self c.take-7.new.self c.in_ok-channel_code.ensures.counts (answered_then c.take-5.new.self c.take-6.new.self c.take-7.new.self c.in_ok-depth_code.ensures.counts c.in_ok-take-2.ensures.counts)))))) code_no_read;
+      counts = refused_then c.args.bits.now c.take-7.new.self (answered_then c.args.bits.now c.take.new.self c.take-7.new.self c.in_ok-take.ensures.counts (answered_then c.take.new.self c.take-2.new.self c.take-7.new.self c.in_ok-variable.ensures.counts (answered_then c.take-2.new.self c.take-3.new.self c.take-7.new.self c.in_ok-size_code.ensures.counts (answered_then c.take-3.new.self c.take-4.new.self c.take-7.new.self c.in_ok-rate_code.ensures.counts (answered_then c.take-4.new.self c.take-5.new.self c.take-7.new.self c.in_ok-channel_code.ensures.counts (answered_then c.take-5.new.self c.take-6.new.self c.take-7.new.self c.in_ok-depth_code.ensures.counts c.in_ok-take-2.ensures.counts)))))) refl;
       memory = code_no_memory;
       reads = told_then c.args.bits.now c.take.new.self c.take-7.new.self _ c.in_ok-take.ensures.counts c.in_ok-take.ensures.reads (told_past {read = judged (not (nat_eq c.in_ok-take.field-0 0x7FFC)) BadSync c.take.new.self.cursor} c.take.new.self c.take-7.new.self c.take.new.self.cursor _ (rw c.if-branch-ne32764.false refl) (told_then c.take.new.self c.take-2.new.self c.take-7.new.self _ c.in_ok-variable.ensures.counts c.in_ok-variable.ensures.reads (told_then c.take-2.new.self c.take-3.new.self c.take-7.new.self _ c.in_ok-size_code.ensures.counts c.in_ok-size_code.ensures.reads (told_past {read = judged (nat_eq c.in_ok-size_code.field-0 0) ReservedCode c.take-3.new.self.cursor} c.take-3.new.self c.take-7.new.self c.take-3.new.self.cursor _ (rw (ne_eqb c.in_ok-size_code.field-0 0 c.if-size_code-eq0.false) refl) (told_then c.take-3.new.self c.take-4.new.self c.take-7.new.self _ c.in_ok-rate_code.ensures.counts c.in_ok-rate_code.ensures.reads (told_past {read = judged (nat_eq c.in_ok-rate_code.field-0 15) ReservedCode c.take-4.new.self.cursor} c.take-4.new.self c.take-7.new.self c.take-4.new.self.cursor _ (rw (ne_eqb c.in_ok-rate_code.field-0 15 c.if-rate_code-eq15.false) refl) (told_then c.take-4.new.self c.take-5.new.self c.take-7.new.self _ c.in_ok-channel_code.ensures.counts c.in_ok-channel_code.ensures.reads (told_past {read = judged (nat_lt 10 c.in_ok-channel_code.field-0) ReservedCode c.take-5.new.self.cursor} c.take-5.new.self c.take-7.new.self c.take-5.new.self.cursor _ (rw (at_most_10 c.in_ok-channel_code.field-0 c.if-channel_code-gt10.false) refl) (told_then c.take-5.new.self c.take-6.new.self c.take-7.new.self _ c.in_ok-depth_code.ensures.counts c.in_ok-depth_code.ensures.reads (told_past {read = judged (nat_eq c.in_ok-depth_code.field-0 3) ReservedCode c.take-6.new.self.cursor} c.take-6.new.self c.take-7.new.self c.take-6.new.self.cursor _ (rw (ne_eqb c.in_ok-depth_code.field-0 3 c.if-depth_code-eq3.false) refl) (told_then c.take-6.new.self c.take-7.new.self c.take-7.new.self _ c.in_ok-take-2.ensures.counts c.in_ok-take-2.ensures.reads (told_broken {read = judged (not (nat_eq c.in_ok-take-2.field-0 0)) ReservedCode c.take-7.new.self.cursor} c.take-7.new.self c.take-7.new.self _ (rw (ne_eqb c.in_ok-take-2.field-0 0 c.if-branch-ne0.true) refl)))))))))))));
     }
@@ -229,7 +220,7 @@ returns-then-branch-from g c =
     let most : c.if-variable.read_number ≡ number_bits (nat_eq c.in_ok-variable.field-0 1) = elim c.if-variable.branch [ then-variable w ↦ rw (w.read_number-is, w.if-variable.true) refl | else-variable w ↦ rw (w.read_number-is, ne_eqb c.in_ok-variable.field-0 1 w.if-variable.false) refl ] in
     record {
       spends = tt;
-      counts = refused_then c.args.bits.now c.take-8.new.self (answered_then c.args.bits.now c.take.new.self c.take-8.new.self c.in_ok-take.ensures.counts (answered_then c.take.new.self c.take-2.new.self c.take-8.new.self c.in_ok-variable.ensures.counts (answered_then c.take-2.new.self c.take-3.new.self c.take-8.new.self c.in_ok-size_code.ensures.counts (answered_then c.take-3.new.self c.take-4.new.self c.take-8.new.self c.in_ok-rate_code.ensures.counts (answered_then c.take-4.new.self c.take-5.new.self c.take-8.new.self c.in_ok-channel_code.ensures.counts (answered_then c.take-5.new.self c.take-6.new.self c.take-8.new.self c.in_ok-depth_code.ensures.counts (answered_then c.take-6.new.self c.take-7.new.self c.take-8.new.self c.in_ok-take-2.ensures.counts (answered_then c.take-7.new.self c.read_number.new.bits c.take-8.new.self c.in_ok-number.ensures.counts (answered_then c.read_number.new.bits c.read_size.new.bits c.take-8.new.self c.in_ok-size.ensures.counts (answered_then c.read_size.new.bits c.read_rate.new.bits c.take-8.new.self c.in_ok-rate.ensures.counts c.in_ok-take-3.ensures.counts)))))))))) check_no_read;
+      counts = refused_then c.args.bits.now c.take-8.new.self (answered_then c.args.bits.now c.take.new.self c.take-8.new.self c.in_ok-take.ensures.counts (answered_then c.take.new.self c.take-2.new.self c.take-8.new.self c.in_ok-variable.ensures.counts (answered_then c.take-2.new.self c.take-3.new.self c.take-8.new.self c.in_ok-size_code.ensures.counts (answered_then c.take-3.new.self c.take-4.new.self c.take-8.new.self c.in_ok-rate_code.ensures.counts (answered_then c.take-4.new.self c.take-5.new.self c.take-8.new.self c.in_ok-channel_code.ensures.counts (answered_then c.take-5.new.self c.take-6.new.self c.take-8.new.self c.in_ok-depth_code.ensures.counts (answered_then c.take-6.new.self c.take-7.new.self c.take-8.new.self c.in_ok-take-2.ensures.counts (answered_then c.take-7.new.self c.read_number.new.bits c.take-8.new.self c.in_ok-number.ensures.counts (answered_then c.read_number.new.bits c.read_size.new.bits c.take-8.new.self c.in_ok-size.ensures.counts (answered_then c.read_size.new.bits c.read_rate.new.bits c.take-8.new.self c.in_ok-rate.ensures.counts c.in_ok-take-3.ensures.counts)))))))))) refl;
       memory = check_no_memory;
       reads = told_then c.args.bits.now c.take.new.self c.take-8.new.self _ c.in_ok-take.ensures.counts c.in_ok-take.ensures.reads (told_past {read = judged (not (nat_eq c.in_ok-take.field-0 0x7FFC)) BadSync c.take.new.self.cursor} c.take.new.self c.take-8.new.self c.take.new.self.cursor _ (rw c.if-branch-ne32764.false refl) (told_then c.take.new.self c.take-2.new.self c.take-8.new.self _ c.in_ok-variable.ensures.counts c.in_ok-variable.ensures.reads (told_then c.take-2.new.self c.take-3.new.self c.take-8.new.self _ c.in_ok-size_code.ensures.counts c.in_ok-size_code.ensures.reads (told_past {read = judged (nat_eq c.in_ok-size_code.field-0 0) ReservedCode c.take-3.new.self.cursor} c.take-3.new.self c.take-8.new.self c.take-3.new.self.cursor _ (rw (ne_eqb c.in_ok-size_code.field-0 0 c.if-size_code-eq0.false) refl) (told_then c.take-3.new.self c.take-4.new.self c.take-8.new.self _ c.in_ok-rate_code.ensures.counts c.in_ok-rate_code.ensures.reads (told_past {read = judged (nat_eq c.in_ok-rate_code.field-0 15) ReservedCode c.take-4.new.self.cursor} c.take-4.new.self c.take-8.new.self c.take-4.new.self.cursor _ (rw (ne_eqb c.in_ok-rate_code.field-0 15 c.if-rate_code-eq15.false) refl) (told_then c.take-4.new.self c.take-5.new.self c.take-8.new.self _ c.in_ok-channel_code.ensures.counts c.in_ok-channel_code.ensures.reads (told_past {read = judged (nat_lt 10 c.in_ok-channel_code.field-0) ReservedCode c.take-5.new.self.cursor} c.take-5.new.self c.take-8.new.self c.take-5.new.self.cursor _ (rw (at_most_10 c.in_ok-channel_code.field-0 c.if-channel_code-gt10.false) refl) (told_then c.take-5.new.self c.take-6.new.self c.take-8.new.self _ c.in_ok-depth_code.ensures.counts c.in_ok-depth_code.ensures.reads (told_past {read = judged (nat_eq c.in_ok-depth_code.field-0 3) ReservedCode c.take-6.new.self.cursor} c.take-6.new.self c.take-8.new.self c.take-6.new.self.cursor _ (rw (ne_eqb c.in_ok-depth_code.field-0 3 c.if-depth_code-eq3.false) refl) (told_then c.take-6.new.self c.take-7.new.self c.take-8.new.self _ c.in_ok-take-2.ensures.counts c.in_ok-take-2.ensures.reads (told_past {read = judged (not (nat_eq c.in_ok-take-2.field-0 0)) ReservedCode c.take-7.new.self.cursor} c.take-7.new.self c.take-8.new.self c.take-7.new.self.cursor _ (rw c.if-branch-ne0.false refl) (told_then c.take-7.new.self c.read_number.new.bits c.take-8.new.self _ c.in_ok-number.ensures.counts (rw most at c.in_ok-number.ensures.reads) (told_then c.read_number.new.bits c.read_size.new.bits c.take-8.new.self _ c.in_ok-size.ensures.counts c.in_ok-size.ensures.reads (told_then c.read_size.new.bits c.read_rate.new.bits c.take-8.new.self _ c.in_ok-rate.ensures.counts c.in_ok-rate.ensures.reads (told_then c.read_rate.new.bits c.take-8.new.self c.take-8.new.self _ c.in_ok-take-3.ensures.counts c.in_ok-take-3.ensures.reads (told_broken {read = judged (not (nat_eq c.in_ok-take-3.field-0 c.read_rate.new.bits.cursor.mark.check8)) HeaderCheck c.take-8.new.self.cursor} c.take-8.new.self c.take-8.new.self _ (search rules))))))))))))))))));
     }
