@@ -54,7 +54,7 @@ returns-then-method-gt1 g c = record {
   whole = tt;
   room = tt;
   spends = tt;
-  counts = refused_then c.args.bits.now c.take.new.self c.in_ok-method.ensures.counts (λ q. cc);
+  counts = refused_then c.args.bits.now c.take.new.self c.in_ok-method.ensures.counts refl;
   memory = λ q. cc;
   reads = told_then c.args.bits.now c.take.new.self c.take.new.self _ c.in_ok-method.ensures.counts c.in_ok-method.ensures.reads (told_broken {read = judged c.in_ok-method.field-0 c.take.new.self.cursor} c.take.new.self c.take.new.self _ (search rules));
 }
@@ -67,7 +67,7 @@ returns-then-times-limit g c = record {
   whole = tt;
   room = tt;
   spends = tt;
-  counts = refused_then c.args.bits.now c.take-2.new.self (answered_then c.args.bits.now c.take.new.self c.take-2.new.self c.in_ok-method.ensures.counts c.in_ok-times.ensures.counts) (λ q. cc);
+  counts = refused_then c.args.bits.now c.take-2.new.self (answered_then c.args.bits.now c.take.new.self c.take-2.new.self c.in_ok-method.ensures.counts c.in_ok-times.ensures.counts) refl;
   memory = λ q. cc;
   reads = told_then c.args.bits.now c.take.new.self c.take-2.new.self _ c.in_ok-method.ensures.counts c.in_ok-method.ensures.reads (told_past {read = judged c.in_ok-method.field-0 c.take.new.self.cursor} c.take.new.self c.take-2.new.self c.take.new.self.cursor _ (search rules) (told_then c.take.new.self c.take-2.new.self c.take-2.new.self _ c.in_ok-times.ensures.counts c.in_ok-times.ensures.reads (told_broken {read = judged_order c.args.limit c.args.order c.args.block c.in_ok-times.field-0 c.take-2.new.self.cursor} c.take-2.new.self c.take-2.new.self _ (search rules))));
 }
@@ -80,7 +80,7 @@ returns-then-block-count-ne0 g c = record {
   whole = tt;
   room = tt;
   spends = tt;
-  counts = refused_then c.args.bits.now c.take-2.new.self (answered_then c.args.bits.now c.take.new.self c.take-2.new.self c.in_ok-method.ensures.counts c.in_ok-times.ensures.counts) (λ q. cc);
+  counts = refused_then c.args.bits.now c.take-2.new.self (answered_then c.args.bits.now c.take.new.self c.take-2.new.self c.in_ok-method.ensures.counts c.in_ok-times.ensures.counts) refl;
   memory = λ q. cc;
   reads = told_then c.args.bits.now c.take.new.self c.take-2.new.self _ c.in_ok-method.ensures.counts c.in_ok-method.ensures.reads (told_past {read = judged c.in_ok-method.field-0 c.take.new.self.cursor} c.take.new.self c.take-2.new.self c.take.new.self.cursor _ (search rules) (told_then c.take.new.self c.take-2.new.self c.take-2.new.self _ c.in_ok-times.ensures.counts c.in_ok-times.ensures.reads (told_broken {read = judged_order c.args.limit c.args.order c.args.block c.in_ok-times.field-0 c.take-2.new.self.cursor} c.take-2.new.self c.take-2.new.self _ (search rules))));
 }

@@ -79,7 +79,7 @@ returns-then-zero-eq1 g c = record {
   order = tt;
   left = tt;
   spends = tt;
-  counts = refused_then c.args.bits.now c.take-3.new.self (answered_then c.args.bits.now c.take.new.self c.take-3.new.self c.in_ok-zero.ensures.counts (answered_then c.take.new.self c.take-2.new.self c.take-3.new.self c.in_ok-kind.ensures.counts c.in_ok-flag.ensures.counts)) (λ q. cc);
+  counts = refused_then c.args.bits.now c.take-3.new.self (answered_then c.args.bits.now c.take.new.self c.take-3.new.self c.in_ok-zero.ensures.counts (answered_then c.take.new.self c.take-2.new.self c.take-3.new.self c.in_ok-kind.ensures.counts c.in_ok-flag.ensures.counts)) refl;
   memory = λ q. cc;
   reads = told_then c.args.bits.now c.take.new.self c.take-3.new.self _ c.in_ok-zero.ensures.counts c.in_ok-zero.ensures.reads (told_then c.take.new.self c.take-2.new.self c.take-3.new.self _ c.in_ok-kind.ensures.counts c.in_ok-kind.ensures.reads (told_then c.take-2.new.self c.take-3.new.self c.take-3.new.self _ c.in_ok-flag.ensures.counts c.in_ok-flag.ensures.reads (told_broken {read = judged c.in_ok-zero.zero c.in_ok-kind.kind c.in_ok-flag.flag c.args.depth c.args.block c.args.limits.now.linear c.take-3.new.self.cursor} c.take-3.new.self c.take-3.new.self _ (search rules))));
 }
@@ -91,7 +91,7 @@ returns-then-saturating_sub-from g c = record {
   order = tt;
   left = tt;
   spends = tt;
-  counts = refused_then c.args.bits.now c.take-3.new.self (answered_then c.args.bits.now c.take.new.self c.take-3.new.self c.in_ok-zero.ensures.counts (answered_then c.take.new.self c.take-2.new.self c.take-3.new.self c.in_ok-kind.ensures.counts c.in_ok-flag.ensures.counts)) (λ q. cc);
+  counts = refused_then c.args.bits.now c.take-3.new.self (answered_then c.args.bits.now c.take.new.self c.take-3.new.self c.in_ok-zero.ensures.counts (answered_then c.take.new.self c.take-2.new.self c.take-3.new.self c.in_ok-kind.ensures.counts c.in_ok-flag.ensures.counts)) refl;
   memory = λ q. cc;
   reads = told_then c.args.bits.now c.take.new.self c.take-3.new.self _ c.in_ok-zero.ensures.counts c.in_ok-zero.ensures.reads (told_then c.take.new.self c.take-2.new.self c.take-3.new.self _ c.in_ok-kind.ensures.counts c.in_ok-kind.ensures.reads (told_then c.take-2.new.self c.take-3.new.self c.take-3.new.self _ c.in_ok-flag.ensures.counts c.in_ok-flag.ensures.reads (told_broken {read = judged c.in_ok-zero.zero c.in_ok-kind.kind c.in_ok-flag.flag c.args.depth c.args.block c.args.limits.now.linear c.take-3.new.self.cursor} c.take-3.new.self c.take-3.new.self _ (search rules))));
 }
@@ -103,7 +103,7 @@ returns-then-predictor_order-block g c = record {
   order = tt;
   left = tt;
   spends = tt;
-  counts = refused_then c.args.bits.now c.take-3.new.self (answered_then c.args.bits.now c.take.new.self c.take-3.new.self c.in_ok-zero.ensures.counts (answered_then c.take.new.self c.take-2.new.self c.take-3.new.self c.in_ok-kind.ensures.counts c.in_ok-flag.ensures.counts)) (λ q. cc);
+  counts = refused_then c.args.bits.now c.take-3.new.self (answered_then c.args.bits.now c.take.new.self c.take-3.new.self c.in_ok-zero.ensures.counts (answered_then c.take.new.self c.take-2.new.self c.take-3.new.self c.in_ok-kind.ensures.counts c.in_ok-flag.ensures.counts)) refl;
   memory = λ q. cc;
   reads = told_then c.args.bits.now c.take.new.self c.take-3.new.self _ c.in_ok-zero.ensures.counts c.in_ok-zero.ensures.reads (told_then c.take.new.self c.take-2.new.self c.take-3.new.self _ c.in_ok-kind.ensures.counts c.in_ok-kind.ensures.reads (told_then c.take-2.new.self c.take-3.new.self c.take-3.new.self _ c.in_ok-flag.ensures.counts c.in_ok-flag.ensures.reads (told_broken {read = judged c.in_ok-zero.zero c.in_ok-kind.kind c.in_ok-flag.flag c.args.depth c.args.block c.args.limits.now.linear c.take-3.new.self.cursor} c.take-3.new.self c.take-3.new.self _ (search rules))));
 }

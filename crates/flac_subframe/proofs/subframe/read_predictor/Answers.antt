@@ -58,7 +58,7 @@ returns-then-low-eq15 g c = record {
   shift = tt;
   fits = tt;
   spends = tt;
-  counts = refused_then c.args.bits.now c.take.new.self c.in_ok-low.ensures.counts (λ q. cc);
+  counts = refused_then c.args.bits.now c.take.new.self c.in_ok-low.ensures.counts refl;
   memory = λ q. cc;
   reads = told_then c.args.bits.now c.take.new.self c.take.new.self _ c.in_ok-low.ensures.counts c.in_ok-low.ensures.reads (told_broken {read = judged (nat_eq c.in_ok-low.field-0 15) c.take.new.self.cursor} c.take.new.self c.take.new.self _ (search rules));
 }
@@ -69,7 +69,7 @@ returns-then-shift-gt15 g c = record {
   shift = tt;
   fits = tt;
   spends = tt;
-  counts = refused_then c.args.bits.now c.take-2.new.self (answered_then c.args.bits.now c.take.new.self c.take-2.new.self c.in_ok-low.ensures.counts c.in_ok-shift.ensures.counts) (λ q. cc);
+  counts = refused_then c.args.bits.now c.take-2.new.self (answered_then c.args.bits.now c.take.new.self c.take-2.new.self c.in_ok-low.ensures.counts c.in_ok-shift.ensures.counts) refl;
   memory = λ q. cc;
   reads = told_then c.args.bits.now c.take.new.self c.take-2.new.self _ c.in_ok-low.ensures.counts c.in_ok-low.ensures.reads (told_past {read = judged (nat_eq c.in_ok-low.field-0 15) c.take.new.self.cursor} c.take.new.self c.take-2.new.self c.take.new.self.cursor _ (search rules) (told_then c.take.new.self c.take-2.new.self c.take-2.new.self _ c.in_ok-shift.ensures.counts c.in_ok-shift.ensures.reads (told_broken {read = judged (nat_lt 15 c.in_ok-shift.field-0) c.take-2.new.self.cursor} c.take-2.new.self c.take-2.new.self _ (search rules))));
 }
