@@ -14,6 +14,7 @@ pub mod Judging
 pub mod ItemReading
 pub mod PacketList
 pub mod PageRuns
+pub mod PageMeaning
 pub mod PageStands
 pub mod PlacedPages
 pub mod PlacedWritten

@@ -32,7 +32,7 @@ page_next before c d p e = go (number_at 8 c) e
 abbrev page_at : Option Before → Result (ℕ × Cursor) Reason → Result (Page × Cursor) Reason
 page_at before r = page_or_end before r
 
-no_page_read : (before : Option Before) (m : Mark) (left : List Bool) (why : Why) → IsNoPage before m left why → next_page before (at_ left m) ≡ Err (because why)
+pub no_page_read : (before : Option Before) (m : Mark) (left : List Bool) (why : Why) → IsNoPage before m left why → next_page before (at_ left m) ≡ Err (because why)
 unfolding next_page page
 no_page_read before m left why (inl (front, rest, split, inl shows)) = absurd shows
 no_page_read before m left why (inl (front, rest, split, inr (x, part, more, parts, spelled, shows))) =
@@ -52,7 +52,7 @@ no_page_read before m left why (inr (inr (long, inr (x, part, rest, split, spell
 eight : (v : ℕ) (part rest left : List Bool) → part ≡ unsigned 8 v → left ≡ part ++ rest → 8 ≤ length left
 eight v part rest left e split = omega (arith, ap length split, length-append part rest, ap length e)
 
-read_no_page : (before : Option Before) (m : Mark) (left : List Bool) (why : Why) → next_page before (at_ left m) ≡ Err (because why) → IsNoPage before m left why
+pub read_no_page : (before : Option Before) (m : Mark) (left : List Bool) (why : Why) → next_page before (at_ left m) ≡ Err (because why) → IsNoPage before m left why
 unfolding next_page page
 read_no_page before m left why e = go (number_at 8 (at_ left m)) refl e
   where
@@ -123,7 +123,7 @@ run_within (suc n) before c lt = go (next_page before c) refl (λ k d fewer. run
 
 -- ---- a run is what is read
 
-next_again : (before : Option Before) (m : Mark) (front rest : List Bool) (p : Page) → Spells (page before) m front p → next_page before (at_ (front ++ rest) m) ≡ Ok (p, at_ rest (past front m))
+pub next_again : (before : Option Before) (m : Mark) (front rest : List Bool) (p : Page) → Spells (page before) m front p → next_page before (at_ (front ++ rest) m) ≡ Ok (p, at_ rest (past front m))
 next_again before m front rest p spelled = page_next before (at_ (front ++ rest) m) (at_ rest (past front m)) p (again (page before) m front rest p spelled)
 
 read_again : (before : Option Before) (m : Mark) (pages : List Page) (stop : Stop) (text rest : List Bool) → GoodPages before m pages text → EndsSo before m pages text rest stop → pages_of before (at_ (text ++ rest) m) ≡ run_of pages stop

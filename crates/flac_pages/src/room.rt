@@ -8,6 +8,7 @@ ghost use Rattle.flac_bits.specs.Reading.{Counts, Reads, Gives};
 ghost use Rattle.flac_bits.specs.Unchecked.{begun_anew};
 ghost use Rattle.flac_pages.specs.Pages.{between, next_page};
 ghost use Rattle.flac_pages.specs.Page.{page_sum, page_behind, end_rules, first_broken};
+ghost use Rattle.flac_pages.specs.Runs.{MeansPage};
 
 use crate::fields::read_head;
 use crate::page::{Before, Head};
@@ -258,6 +259,7 @@ pub fn next_page<R: Source>(
     ensures counts { Counts reader.old reader.new result }
     ensures memory { IfErr result (λ e. e ≢ Why.Memory) }
     ensures reads { Gives (λ _. room.new) (begun_anew (next_page before reader.old.cursor)) reader.old reader.new result }
+    ensures means { MeansPage (λ _. room.new) before reader.old reader.new result }
 {
     match reader.take(8) {
         Ok(first) => match room.read_behind(reader, before, first as u8) {
