@@ -114,7 +114,7 @@ impl PageRoom {
     fn fault(&self, before: Option<Before>) -> Option<Why>
         requires whole { length self.now.body ≡ sum self.now.lacing }
         ensures first { result ≡ first_broken (end_rules before self.now) }
-        ensures kind { IfSome result (λ e. (e ≢ Why.Read) × (e ≢ Why.Memory)) }
+        ensures kind { IfSome result (λ e. (e ≢ Why.Read) × (e ≢ Why.Memory) × (e ≢ Why.Sink)) }
     {
         let head = self.head;
         if head.sum != self.sum() {

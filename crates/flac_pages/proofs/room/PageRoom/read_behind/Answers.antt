@@ -35,6 +35,8 @@ returns-in-Some-clause-counts g c =
       λ k same. body.3 (lacing.0 (count.0 (head.0 k))) ∙ lacing.3 (count.0 (head.0 k)) ∙ count.3 (head.0 k) ∙ head.3 k,
       λ k read. absurd (c.in-Some.ensures.kind.0 read),
       body.4 ∙ lacing.4 ∙ count.4 ∙ head.4,
+      λ read. absurd (c.in-Some.ensures.kind.0 read),
+      c.in-Some.ensures.kind.2,
     )
 
 pub returns-in-None-clause-counts : goal.returns-in-None-clause-counts
