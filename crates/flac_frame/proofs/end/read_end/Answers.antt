@@ -1,19 +1,13 @@
 use Rattle.std.proofs.Common.{◌≡◌, refl}
 use Rattle.std.proofs.lemmas.Result.{err_from_is_err_and}
-use Rattle.flac_bits.specs.declared.why.Why.TheVariants.{Read, Memory, NonzeroPadding, FrameCheck}
+use Rattle.flac_bits.specs.declared.why.Why.TheVariants.{Memory, NonzeroPadding, FrameCheck}
 use Rattle.flac_bits.proofs.Counting.{answered_then, failed_then, refused_then}
 use Rattle.flac_bits.proofs.Telling.{told_then, told_fault}
 use Rattle.flac_frame.specs.Frame.{frame_end}
 use Rattle.flac_frame.proofs.end.read_end.Goals as goal
 
-padding_no_read : NonzeroPadding ≡ Read → ⊥
-padding_no_read q = cc
-
 padding_no_memory : NonzeroPadding ≡ Memory → ⊥
 padding_no_memory q = cc
-
-check_no_read : FrameCheck ≡ Read → ⊥
-check_no_read q = cc
 
 check_no_memory : FrameCheck ≡ Memory → ⊥
 check_no_memory q = cc
@@ -33,7 +27,7 @@ pub returns-then-not-branch : goal.returns-then-not-branch
 unfolding frame_end
 returns-then-not-branch g c = record {
   spends = tt;
-  counts = refused_then c.args.bits.now c.align.new.self c.in_ok-align.ensures.counts padding_no_read;
+  counts = refused_then c.args.bits.now c.align.new.self c.in_ok-align.ensures.counts refl;
   memory = padding_no_memory;
   reads = told_then c.args.bits.now c.align.new.self c.align.new.self _ c.in_ok-align.ensures.counts c.in_ok-align.ensures.reads (λ known same. rw c.if-not-branch.true refl);
 }
@@ -50,7 +44,7 @@ returns-in_err-take g c =
     })
 
 pub returns-then-branch-from-clause-counts : goal.returns-then-branch-from-clause-counts
-returns-then-branch-from-clause-counts g c = refused_then c.args.bits.now c.take.new.self (answered_then c.args.bits.now c.align.new.self c.take.new.self c.in_ok-align.ensures.counts c.in_ok-take.ensures.counts) check_no_read
+returns-then-branch-from-clause-counts g c = refused_then c.args.bits.now c.take.new.self (answered_then c.args.bits.now c.align.new.self c.take.new.self c.in_ok-align.ensures.counts c.in_ok-take.ensures.counts) refl
 
 pub returns-then-branch-from-clause-memory : goal.returns-then-branch-from-clause-memory
 returns-then-branch-from-clause-memory g c = check_no_memory

@@ -1,11 +1,8 @@
-use Rattle.std.proofs.Common.{◌≡◌}
+use Rattle.std.proofs.Common.{◌≡◌, refl}
 use Rattle.std.proofs.lemmas.Result.{err_from_is_err_and}
 use Rattle.flac_bits.proofs.Counting.{answered_then, failed_then, refused_then}
-use Rattle.flac_bits.specs.declared.why.Why.TheVariants.{Read, Memory, SampleRange}
+use Rattle.flac_bits.specs.declared.why.Why.TheVariants.{Memory, SampleRange}
 use Rattle.flac_frame.proofs.fill.read_body.Goals as goal
-
-range_no_read : SampleRange ≡ Read → ⊥
-range_no_read q = cc
 
 range_no_memory : SampleRange ≡ Memory → ⊥
 range_no_memory q = cc
@@ -22,10 +19,10 @@ returns-in_err-read_end-clause-counts g c =
     rw (p.1, p.2) (failed_then c.args.bits.now c.read_subframes.new.bits c.read_end.new.bits c.in_ok-fits.ensures.counts c.in_err-read_end.ensures.counts)
 
 pub returns-then-not-fits-clause-counts : goal.returns-then-not-fits-clause-counts
-returns-then-not-fits-clause-counts g c = refused_then c.args.bits.now c.read_end.new.bits (answered_then c.args.bits.now c.read_subframes.new.bits c.read_end.new.bits c.in_ok-fits.ensures.counts c.in_ok-read_end.ensures.counts) range_no_read
+returns-then-not-fits-clause-counts g c = refused_then c.args.bits.now c.read_end.new.bits (answered_then c.args.bits.now c.read_subframes.new.bits c.read_end.new.bits c.in_ok-fits.ensures.counts c.in_ok-read_end.ensures.counts) refl
 
 pub returns-then-not-narrow-clause-counts : goal.returns-then-not-narrow-clause-counts
-returns-then-not-narrow-clause-counts g c = refused_then c.args.bits.now c.read_end.new.bits (answered_then c.args.bits.now c.read_subframes.new.bits c.read_end.new.bits c.in_ok-fits.ensures.counts c.in_ok-read_end.ensures.counts) range_no_read
+returns-then-not-narrow-clause-counts g c = refused_then c.args.bits.now c.read_end.new.bits (answered_then c.args.bits.now c.read_subframes.new.bits c.read_end.new.bits c.in_ok-fits.ensures.counts c.in_ok-read_end.ensures.counts) refl
 
 pub returns-clause-counts : goal.returns-clause-counts
 returns-clause-counts g c = answered_then c.args.bits.now c.read_subframes.new.bits c.read_end.new.bits c.in_ok-fits.ensures.counts c.in_ok-read_end.ensures.counts

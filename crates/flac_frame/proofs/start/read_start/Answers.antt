@@ -1,32 +1,20 @@
-use Rattle.std.proofs.Common.{◌≡◌}
+use Rattle.std.proofs.Common.{◌≡◌, refl}
 use Rattle.std.proofs.lemmas.Result.{err_from_is_err_and}
 use Rattle.flac_bits.specs.State.{started}
-use Rattle.flac_bits.specs.declared.why.Why.TheVariants.{Read, Memory, NotSubset, HeaderMismatch, Sequence, BlockSize}
+use Rattle.flac_bits.specs.declared.why.Why.TheVariants.{Memory, NotSubset, HeaderMismatch, Sequence, BlockSize}
 use Rattle.flac_bits.proofs.Counting.{refused_then}
 use Rattle.flac_bits.proofs.Telling.{told_fault}
 use Rattle.flac_frame.specs.Frame.{stream_header}
 use Rattle.flac_frame.proofs.start.read_start.Goals as goal
 
-subset_no_read : NotSubset ≡ Read → ⊥
-subset_no_read q = cc
-
 subset_no_memory : NotSubset ≡ Memory → ⊥
 subset_no_memory q = cc
-
-mismatch_no_read : HeaderMismatch ≡ Read → ⊥
-mismatch_no_read q = cc
 
 mismatch_no_memory : HeaderMismatch ≡ Memory → ⊥
 mismatch_no_memory q = cc
 
-sequence_no_read : Sequence ≡ Read → ⊥
-sequence_no_read q = cc
-
 sequence_no_memory : Sequence ≡ Memory → ⊥
 sequence_no_memory q = cc
-
-size_no_read : BlockSize ≡ Read → ⊥
-size_no_read q = cc
 
 size_no_memory : BlockSize ≡ Memory → ⊥
 size_no_memory q = cc
@@ -47,25 +35,25 @@ returns-in_err-header g c =
     })
 
 pub returns-then-not-allowed-clause-counts : goal.returns-then-not-allowed-clause-counts
-returns-then-not-allowed-clause-counts g c = refused_then c.args.bits.now c.read_header.new.bits c.in_ok-header.ensures.counts subset_no_read
+returns-then-not-allowed-clause-counts g c = refused_then c.args.bits.now c.read_header.new.bits c.in_ok-header.ensures.counts refl
 
 pub returns-then-not-allowed-clause-memory : goal.returns-then-not-allowed-clause-memory
 returns-then-not-allowed-clause-memory g c = subset_no_memory
 
 pub returns-then-differs-clause-counts : goal.returns-then-differs-clause-counts
-returns-then-differs-clause-counts g c = refused_then c.args.bits.now c.read_header.new.bits c.in_ok-header.ensures.counts mismatch_no_read
+returns-then-differs-clause-counts g c = refused_then c.args.bits.now c.read_header.new.bits c.in_ok-header.ensures.counts refl
 
 pub returns-then-differs-clause-memory : goal.returns-then-differs-clause-memory
 returns-then-differs-clause-memory g c = mismatch_no_memory
 
 pub returns-then-breaks_sequence-clause-counts : goal.returns-then-breaks_sequence-clause-counts
-returns-then-breaks_sequence-clause-counts g c = refused_then c.args.bits.now c.read_header.new.bits c.in_ok-header.ensures.counts sequence_no_read
+returns-then-breaks_sequence-clause-counts g c = refused_then c.args.bits.now c.read_header.new.bits c.in_ok-header.ensures.counts refl
 
 pub returns-then-breaks_sequence-clause-memory : goal.returns-then-breaks_sequence-clause-memory
 returns-then-breaks_sequence-clause-memory g c = sequence_no_memory
 
 pub returns-then-breaks_size-clause-counts : goal.returns-then-breaks_size-clause-counts
-returns-then-breaks_size-clause-counts g c = refused_then c.args.bits.now c.read_header.new.bits c.in_ok-header.ensures.counts size_no_read
+returns-then-breaks_size-clause-counts g c = refused_then c.args.bits.now c.read_header.new.bits c.in_ok-header.ensures.counts refl
 
 pub returns-then-breaks_size-clause-memory : goal.returns-then-breaks_size-clause-memory
 returns-then-breaks_size-clause-memory g c = size_no_memory
