@@ -1,4 +1,4 @@
-use Rattle.std.proofs.Common.{arith, ◌+◌, ◌-◌, ◌*◌, ◌++◌, ◌∷◌, [], length, sym, ap, ◌∙◌}
+use Rattle.std.proofs.Common.{arith, ◌+◌, ◌-◌, ◌*◌, ◌++◌, ◌∷◌, [], length, refl, sym, ap, ◌∙◌}
 use Rattle.std.proofs.lemmas.Result.{err_from_is_err_and}
 use Rattle.flac_bits.specs.State.{Cursor}
 use Rattle.flac_bits.specs.Layout.{run, and_then}
@@ -7,7 +7,7 @@ use Rattle.flac_bits.proofs.Loops.{goes_on}
 use Rattle.flac_meta.specs.CueSheet.{cue_track, cue_tracks}
 use Rattle.flac_meta.specs.declared.cue_sheet.CueTrack.{CueTrack}
 use Rattle.flac_meta.proofs.Turns.{tracks_more}
-use Rattle.flac_bits.proofs.Counting.{gone, failed_then}
+use Rattle.flac_bits.proofs.Counting.{gone, answered_then, failed_then, refused_then}
 use Rattle.flac_meta.proofs.read_cue_sheet.read_tracks.Goals as goal
 
 pub returns-in_err-track-clause-reads : goal.returns-in_err-track-clause-reads
@@ -35,3 +35,11 @@ returns-in_err-track-clause-counts g c =
 
 pub returns-clause-counts : goal.returns-clause-counts
 returns-clause-counts g c = gone c.loop-i.invariant.2
+
+pub returns-in_err-push-clause-counts : goal.returns-in_err-push-clause-counts
+returns-in_err-push-clause-counts g c =
+    let p = err_from_is_err_and c.from_residual-in_err-push.result c.from_residual-in_err-push.ensures.1 in
+    rw (p.1, p.2) (refused_then c.args.bits.now c.read_track.new.bits (answered_then c.args.bits.now c.loop-i.bits c.read_track.new.bits (gone c.loop-i.invariant.2) c.in_ok-track.ensures.counts) refl)
+
+pub returns-then-left-ne0-clause-counts : goal.returns-then-left-ne0-clause-counts
+returns-then-left-ne0-clause-counts g c = refused_then c.args.bits.now c.loop-i.bits (gone c.loop-i.invariant.2) refl

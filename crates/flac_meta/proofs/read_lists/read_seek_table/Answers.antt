@@ -1,4 +1,4 @@
-use Rattle.std.proofs.Common.{arith, ◌+◌, ◌-◌, ◌++◌, ◌∷◌, [], sym, ap, ◌∙◌, Some}
+use Rattle.std.proofs.Common.{arith, ◌+◌, ◌-◌, ◌++◌, ◌∷◌, [], refl, sym, ap, ◌∙◌, Some}
 use Rattle.std.proofs.lemmas.Result.{err_from_is_err_and}
 use Rattle.flac_bits.specs.State.{Cursor}
 use Rattle.flac_bits.specs.Layout.{run, and_then}
@@ -6,7 +6,7 @@ use Rattle.flac_bits.specs.Lists.{behind}
 use Rattle.flac_meta.specs.SeekTable.{seek_points}
 use Rattle.flac_meta.specs.declared.seek_table.SeekPoint.{SeekPoint}
 use Rattle.flac_meta.proofs.Turns.{points_more, points_end}
-use Rattle.flac_bits.proofs.Counting.{gone, failed_then}
+use Rattle.flac_bits.proofs.Counting.{gone, answered_then, failed_then, refused_then}
 use Rattle.flac_meta.proofs.read_lists.read_seek_table.Goals as goal
 
 pub returns-in_err-point-clause-reads : goal.returns-in_err-point-clause-reads
@@ -30,3 +30,8 @@ returns-in_err-point-clause-counts g c =
 
 pub returns-clause-counts : goal.returns-clause-counts
 returns-clause-counts g c = gone c.loop-i.invariant.1
+
+pub returns-in_err-push-clause-counts : goal.returns-in_err-push-clause-counts
+returns-in_err-push-clause-counts g c =
+    let p = err_from_is_err_and c.from_residual-in_err-push.result c.from_residual-in_err-push.ensures.1 in
+    rw (p.1, p.2) (refused_then c.args.bits.now c.read_point.new.bits (answered_then c.args.bits.now c.loop-i.bits c.read_point.new.bits (gone c.loop-i.invariant.1) c.in_ok-point.ensures.counts) refl)

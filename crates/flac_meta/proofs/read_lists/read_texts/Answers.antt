@@ -1,4 +1,4 @@
-use Rattle.std.proofs.Common.{arith, ◌+◌, ◌-◌, List, ℕ, ◌++◌, ◌∷◌, [], length, sym, ap, ◌∙◌}
+use Rattle.std.proofs.Common.{arith, ◌+◌, ◌-◌, List, ℕ, ◌++◌, ◌∷◌, [], length, refl, sym, ap, ◌∙◌}
 use Rattle.std.proofs.lemmas.Result.{err_from_is_err_and}
 use Rattle.flac_bits.specs.State.{Cursor}
 use Rattle.flac_bits.specs.Layout.{run, and_then}
@@ -8,7 +8,7 @@ use Rattle.flac_bits.specs.LittleEndian.{little_32}
 use Rattle.flac_meta.specs.Comments.{texts}
 use Rattle.flac_meta.specs.Fields.{sized}
 use Rattle.flac_meta.proofs.Turns.{texts_more}
-use Rattle.flac_bits.proofs.Counting.{gone, failed_then}
+use Rattle.flac_bits.proofs.Counting.{gone, answered_then, failed_then, refused_then}
 use Rattle.flac_meta.proofs.read_lists.read_texts.Goals as goal
 
 pub returns-in_err-text-clause-reads : goal.returns-in_err-text-clause-reads
@@ -36,3 +36,11 @@ returns-in_err-text-clause-counts g c =
 
 pub returns-clause-counts : goal.returns-clause-counts
 returns-clause-counts g c = gone c.loop-i.invariant.2
+
+pub returns-in_err-push-clause-counts : goal.returns-in_err-push-clause-counts
+returns-in_err-push-clause-counts g c =
+    let p = err_from_is_err_and c.from_residual-in_err-push.result c.from_residual-in_err-push.ensures.1 in
+    rw (p.1, p.2) (refused_then c.args.bits.now c.read_sized_little.new.bits (answered_then c.args.bits.now c.loop-i.bits c.read_sized_little.new.bits (gone c.loop-i.invariant.2) c.in_ok-text.ensures.counts) refl)
+
+pub returns-then-left-ne0-clause-counts : goal.returns-then-left-ne0-clause-counts
+returns-then-left-ne0-clause-counts g c = refused_then c.args.bits.now c.loop-i.bits (gone c.loop-i.invariant.2) refl
