@@ -1,10 +1,10 @@
 -- The exits of the calls of a reader of packets.
 use Rattle.std.proofs.Common.{◌≡◌, ℕ, ◌<◌, ◌≤◌, Bool, true, false, cond, List, [], ◌∷◌, length, Option, Some, None, Result, Ok, Err, refl, sym, ap, subst, ◌∙◌, arith, ◌^◌}
-use Rattle.std.specs.Prelude.{⊤}
+use Rattle.std.specs.Prelude.{⊤, IfSome}
 use Rattle.flac_bits.specs.declared.why.Why.{Why}
 use Rattle.flac_pages.specs.Pages.{end_fault}
-use Rattle.flac_pages.specs.Packets.{Place, Ahead, ahead, only_fault, next_segment, Turns, Steps, Begins, ended}
-use Rattle.flac_pages.proofs.Stepping.{Same, Waits, segment_same, same_ahead, packet_over, pages_over, none_ahead, broken_ahead, closed_ahead}
+use Rattle.flac_pages.specs.Packets.{Place, Ahead, Met, ahead, only_fault, next_segment, Turns, Steps, Begins, ended}
+use Rattle.flac_pages.proofs.Stepping.{Same, Waits, met_then, segment_same, same_ahead, packet_over, pages_over, none_ahead, broken_ahead, closed_ahead}
 
 abbrev turn_ok : Result ⊤ Why
 turn_ok = Ok tt
@@ -30,6 +30,7 @@ segment_step old new (v ∷ vs) r m some eq e =
     subst (λ (p : Place). Steps old p (Ok true)) (sym e) (record {
       known = λ known. known;
       errors = refl;
+      raised = refl;
       names = refl;
       bytes = λ known. same.bytes;
       behind = λ known. same.behind;
@@ -46,6 +47,7 @@ step_turned old new r l t =
     record {
       known = t.known;
       errors = t.errors;
+      raised = t.raised;
       names = t.names;
       bytes = λ known. (same known).bytes;
       behind = λ known. (same known).behind;
@@ -56,6 +58,7 @@ step_turned old new r l t =
 pub step_refused : (old new : Place) (why : Why) → old.rest ≡ 0 → old.more ≡ true → Turns old new (turn_err why) → Steps old new (Err why)
 step_refused old new why r m t = record {
   errors = t.errors;
+  met = t.met;
   names = t.names;
   count = t.count;
   bytes = λ known same. (broken_ahead old (old.count, why) r m (t.ahead known same)).bytes;
@@ -75,6 +78,7 @@ pub waits_turned : (old now new : Place) → Waits old now → Turns now new tur
 waits_turned old now new w t = record {
   known = λ known. t.known (w.known known);
   errors = t.errors ∙ w.errors;
+  raised = t.raised ∙ w.raised;
   names = t.names ∙ w.names;
   rest = t.rest;
   more = t.more ∙ w.more;
@@ -85,6 +89,7 @@ waits_turned old now new w t = record {
 pub waits_refused : (old now new : Place) (why : Why) → Waits old now → Turns now new (turn_err why) → Begins old new (Err (new.count, why))
 waits_refused old now new why w t = record {
   errors = omega (arith, w.errors, t.errors);
+  met = met_then why old.raised now.raised new.raised w.raised t.met;
   names = t.names ∙ w.names;
   fault = λ known same.
       let is : ahead old ≡ only_fault (new.count, why) = sym (w.ahead known) ∙ t.ahead (w.known known) (same ∙ sym w.errors) ∙ ap (λ k. only_fault (k, why)) (sym t.count) in
@@ -99,6 +104,7 @@ unfolding ahead
 waits_begun old now w some = record {
   known = w.known;
   errors = w.errors;
+  raised = w.raised;
   names = w.names;
   stands = (w.rest, refl);
   some = some;
@@ -110,6 +116,7 @@ pub waits_begins : (old now new : Place) (result : Result Bool (ℕ × Why)) →
 waits_begins old now new (Ok true) w b = record {
   known = λ known. b.known (w.known known);
   errors = b.errors ∙ w.errors;
+  raised = b.raised ∙ w.raised;
   names = b.names ∙ w.names;
   stands = b.stands;
   some = b.some;
@@ -119,6 +126,7 @@ waits_begins old now new (Ok true) w b = record {
 waits_begins old now new (Ok false) w b = record {
   known = λ known. b.known (w.known known);
   errors = b.errors ∙ w.errors;
+  raised = b.raised ∙ w.raised;
   names = b.names ∙ w.names;
   over = λ known.
       let over = b.over (w.known known) in
@@ -126,6 +134,7 @@ waits_begins old now new (Ok false) w b = record {
 }
 waits_begins old now new (Err f) w b = record {
   errors = omega (arith, w.errors, b.errors);
+  met = met_then f.1 old.raised now.raised new.raised w.raised b.met;
   names = b.names ∙ w.names;
   fault = λ known same.
       let over = b.fault (w.known known) (same ∙ sym w.errors) in
@@ -133,17 +142,22 @@ waits_begins old now new (Err f) w b = record {
   breaks = λ known same. ap (λ (a : Ahead). a.fault) (sym (w.ahead known)) ∙ b.breaks (w.known known) (same ∙ sym w.errors);
 }
 
+pub met_at : (o : Option Why) (old mid new : ℕ) → mid ≡ old → IfSome o (λ why. Met why mid new) → IfSome o (λ why. Met why old new)
+met_at None old mid new same met = tt
+met_at (Some why) old mid new same met = met_then why old mid new same met
+
 -- behind the last page
 pub closes : (old new : Place) (o : Option Why) (result : Result Bool (ℕ × Why)) → result ≡ ended old.count o → old.count < 2 ^ 64 → old.lacing ≡ [] → old.last ≡ true → new.last ≡ true → old.errors ≤ new.errors → new.names ≡ old.names
-    → (o ≡ None → (old.known ≡ true → new.known ≡ true) × (new.errors ≡ old.errors)) → (old.known ≡ true → new.errors ≡ old.errors → o ≡ end_fault old.cursor) → Begins old new result
-closes old new o result e small l la nla errors names over fault = subst (λ (r : Result Bool (ℕ × Why)). Begins old new r) (sym e) (go o over fault)
+    → (o ≡ None → (old.known ≡ true → new.known ≡ true) × (new.errors ≡ old.errors) × (new.raised ≡ old.raised)) → IfSome o (λ why. Met why old.raised new.raised) → (old.known ≡ true → new.errors ≡ old.errors → o ≡ end_fault old.cursor) → Begins old new result
+closes old new o result e small l la nla errors names over met fault = subst (λ (r : Result Bool (ℕ × Why)). Begins old new r) (sym e) (go o over met fault)
   where
-    go : (o : Option Why) → (o ≡ None → (old.known ≡ true → new.known ≡ true) × (new.errors ≡ old.errors)) → (old.known ≡ true → new.errors ≡ old.errors → o ≡ end_fault old.cursor) → Begins old new (ended old.count o)
-    go None over fault =
+    go : (o : Option Why) → (o ≡ None → (old.known ≡ true → new.known ≡ true) × (new.errors ≡ old.errors) × (new.raised ≡ old.raised)) → IfSome o (λ why. Met why old.raised new.raised) → (old.known ≡ true → new.errors ≡ old.errors → o ≡ end_fault old.cursor) → Begins old new (ended old.count o)
+    go None over met fault =
         let calm = over refl in
-        record { known = calm.0; errors = calm.1; names = names; over = λ known. closed_ahead old None small l la (sym (fault known calm.1)) }
-    go (Some why) over fault = record {
+        record { known = calm.0; errors = calm.1; raised = calm.2; names = names; over = λ known. closed_ahead old None small l la (sym (fault known calm.1)) }
+    go (Some why) over met fault = record {
       errors = errors;
+      met = met;
       names = names;
       fault = λ known same. closed_ahead old (Some why) small l la (sym (fault known same));
       breaks = λ known same. closed_fault old la ∙ ap (λ b. unless_last b (old.count, why)) (sym nla);

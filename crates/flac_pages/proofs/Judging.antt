@@ -1,12 +1,15 @@
 -- What a judged packet is, by what stands behind its bits.
-use Rattle.std.proofs.Common.{◌≡◌, ℕ, ◌<◌, Bool, true, false, Option, Some, None, Result, Ok, Err, OnOk, refl, sym, ap, subst, ◌∙◌, arith}
+use Rattle.std.proofs.Common.{◌≡◌, ℕ, ◌<◌, Bool, true, false, ◌∷◌, Option, Some, None, Result, Ok, Err, OnOk, refl, sym, ap, subst, ◌∙◌, arith}
 use Rattle.std.specs.Prelude.{⊤, ◌&&◌}
+use Rattle.std.specs.Borrow.{GName}
+use Rattle.std.specs.Option.{ForSome}
 use Rattle.flac_bits.specs.Bits.{is_nil}
 use Rattle.flac_bits.specs.State.{State, Behind, short_of, without_fence}
 use Rattle.flac_bits.specs.declared.why.Why.{Why}
-use Rattle.flac_bits.specs.declared.why.Why.TheVariants.{Read, Truncated}
-use Rattle.flac_pages.specs.Packets.{Place, ahead, behind_of, behind_in, behind_left}
-use Rattle.flac_pages.specs.Items.{PacketEnd, whole, unended, cut_at, end_of, in_packet, behind_item, why_in, EndsPacket, JudgesPacket, GoesBehind}
+use Rattle.flac_bits.specs.declared.why.Why.TheVariants.{Read, Sink, Truncated}
+use Rattle.flac_pages.specs.Packets.{Place, Met, ahead, behind_of, behind_in, behind_left}
+use Rattle.flac_pages.specs.Items.{PacketEnd, whole, unended, cut_at, end_of, in_packet, behind_item, why_in, EndsPacket, CountsSo, GivesBack, JudgesPacket, GoesBehind}
+use Rattle.flac_pages.proofs.Stepping.{met_then}
 
 -- ---- behind a packet that is one item
 
@@ -90,6 +93,43 @@ pub judged_end : {X : Type 0} (s : State) (new : Place) (read : Result X Why) (x
 judged_end {X = X} s new read x r why is refused judges =
     subst (λ (r : Result X Why). JudgesPacket s new r (Err why)) (sym is)
     (λ known same short. same_refusal x (end_of s.behind) (is_nil s.cursor.left) r why refused (judges known same short))
+
+-- ---- the pages are given back
+
+same_names : (s : State) (name : GName) (lent : ℕ) (pages old new : Place) → s.names ≡ name ∷ lent ∷ pages.names → old ≡ pages → new.names ≡ old.names → s.names ≡ name ∷ lent ∷ new.names
+same_names s name lent pages old new names is kept = names ∙ ap (λ n. name ∷ lent ∷ n) (sym (kept ∙ ap (λ (p : Place). p.names) is))
+
+-- behind a whole item, where the packet's end is judged
+pub end_back : (s : State) (name : GName) (lent : ℕ) (fault : Option (ℕ × Why)) (errors : ℕ) (pages old new : Place) (result : Result ⊤ (Option ℕ × Why)) → s.names ≡ name ∷ lent ∷ pages.names → old ≡ pages → errors ≡ s.raised → (errors ≡ 0 → fault ≡ None)
+    → (fault ≡ None → pages.raised ≡ lent) → EndsPacket old new result → GivesBack s name new (Ok nothing) result
+end_back s name lent fault errors pages old new (Ok x) names is raised none calm ends = record {
+  lent = lent;
+  names = same_names s name lent pages old new names is ends.names;
+  meets = λ counts. ends.raised ∙ ap (λ (p : Place). p.raised) is ∙ calm (none (raised ∙ counts));
+}
+end_back s name lent fault errors pages old new (Err why) names is raised none calm ends = record {
+  lent = lent;
+  names = same_names s name lent pages old new names is ends.names;
+  meets = λ counts. met_then why.1 lent old.raised new.raised (ap (λ (p : Place). p.raised) is ∙ calm (none (raised ∙ counts))) ends.met;
+}
+
+met_why : (fault : Option (ℕ × Why)) (errors lent raised : ℕ) (why : Why) → (fault ≡ None → errors ≡ 0) → ForSome fault (λ f. Met f.1 lent raised) → (why ≡ Read → 0 < errors) × (why ≡ Sink → ⊥) → Met (why_in fault why).1 lent raised
+met_why fault errors lent raised Truncated quiet met counts = (λ e. absurd cc, λ e. absurd cc)
+met_why None errors lent raised Read quiet met counts = absurd (omega (arith, quiet refl, counts.0 refl))
+met_why (Some f) errors lent raised Read quiet met counts = met f refl
+met_why fault errors lent raised why quiet met counts = (λ e. absurd cc, counts.1)
+
+-- where the item's reader refused
+pub why_back : {X : Type 0} (s : State) (name : GName) (lent : ℕ) (fault seen : Option (ℕ × Why)) (errors : ℕ) (pages new : Place) (read : Result X Why) (why : Why) (told : Option ℕ × Why) → read ≡ Err why → told ≡ why_in seen why → seen ≡ fault
+    → s.names ≡ name ∷ lent ∷ pages.names → new ≡ pages → errors ≡ s.raised → (fault ≡ None → errors ≡ 0) → ForSome fault (λ f. Met f.1 lent pages.raised) → GivesBack s name new read (Err told)
+why_back {X = X} s name lent fault seen errors pages new read why told is tells same names at raised quiet met = record {
+  lent = lent;
+  names = same_names s name lent pages new new names at refl;
+  meets = λ counts.
+      let so : CountsSo {X = X} (Err why) s.raised = subst (λ (r : Result X Why). CountsSo r s.raised) is counts in
+      let found : Met (why_in fault why).1 lent pages.raised = met_why fault errors lent pages.raised why quiet met (λ e. subst (λ n. 0 < n) (sym raised) (so.0 e), so.1) in
+      subst (λ (p : Place). Met told.1 lent p.raised) (sym at) (subst (λ (w : Option ℕ × Why). Met w.1 lent pages.raised) (ap (λ o. why_in o why) (sym same) ∙ sym tells) found);
+}
 
 -- ---- facts of the calls
 

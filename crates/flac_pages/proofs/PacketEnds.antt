@@ -3,14 +3,16 @@ use Rattle.std.proofs.Common.{◌≡◌, ◌≤◌, ◌+◌, ℕ, length, Bool, 
 use Rattle.std.specs.Prelude.{⊤}
 use Rattle.flac_bits.specs.State.{Behind}
 use Rattle.flac_bits.specs.declared.why.Why.{Why}
-use Rattle.flac_bits.specs.declared.why.Why.TheVariants.{PacketLength}
+use Rattle.flac_bits.specs.declared.why.Why.TheVariants.{PacketLength, Read, Sink}
 use Rattle.flac_pages.specs.Packets.{Place, ahead, behind_of, behind_in, broken_off, Finds, Copies}
 use Rattle.flac_pages.specs.Items.{whole, unended, cut_at, end_in, end_of, cut_off, EndsPacket}
+use Rattle.flac_pages.proofs.Stepping.{met_then}
 
 -- what a way to the packet's end keeps
 pub record Passes (old now : Place) : Type 0 where
   pub known : old.known ≡ true → now.known ≡ true
   pub errors : now.errors ≡ old.errors
+  pub raised : now.raised ≡ old.raised
   pub names : now.names ≡ old.names
   pub room : now.most + length now.body ≤ old.most + length old.body
   pub behind : old.known ≡ true → behind_of now ≡ behind_of old
@@ -31,6 +33,7 @@ pub passed_more : (old now mid new : Place) (out : List ℕ) (n : ℕ) → Passe
 passed_more old now mid new out n p f c = record {
   known = λ known. c.known ∙ f.known (p.known known);
   errors = c.errors ∙ f.errors ∙ p.errors;
+  raised = c.raised ∙ f.raised ∙ p.raised;
   names = c.names ∙ f.names ∙ p.names;
   room = omega (arith, p.room, f.room, c.room);
   behind = λ known. c.behind ∙ f.behind (p.known known) ∙ p.behind known;
@@ -43,6 +46,7 @@ ends_between old now new p f stands =
     record {
       known = λ known. f.known (p.known known);
       errors = f.errors ∙ p.errors;
+      raised = f.raised ∙ p.raised;
       names = f.names ∙ p.names;
       stands = stands;
       room = omega (arith, p.room, f.room);
@@ -56,6 +60,7 @@ ends_inside old now new p f inside =
     let goes_on : new.more ≡ true = go new.more refl in
     record {
       errors = omega (arith, f.errors, p.errors);
+      met = (λ e. absurd (read_not e), λ e. absurd (sink_not e));
       names = f.names ∙ p.names;
       fault = λ known same.
           let behind : behind_of new ≡ behind_of old = f.behind (p.known known) ∙ p.behind known in
@@ -69,6 +74,12 @@ ends_inside old now new p f inside =
     differ : unended ≡ whole → ⊥
     differ e = absurd cc
 
+    read_not : PacketLength ≡ Read → ⊥
+    read_not e = absurd cc
+
+    sink_not : PacketLength ≡ Sink → ⊥
+    sink_not e = absurd cc
+
     go : (b : Bool) → new.more ≡ b → new.more ≡ true
     go true e = e
     go false e = absurd (inside ((f.stands refl).0, e))
@@ -76,6 +87,7 @@ ends_inside old now new p f inside =
 pub ends_broken : (old now new : Place) (why : Why) → Passes old now → Finds now new (not_found why) → EndsPacket old new (ends_err (Some new.count, why))
 ends_broken old now new why p f = record {
   errors = omega (arith, f.errors, p.errors);
+  met = met_then why old.raised now.raised new.raised p.raised f.met;
   names = f.names ∙ p.names;
   fault = λ known same.
       let behind : behind_of old ≡ broken_off (new.count, why) = sym (p.behind known) ∙ f.behind (p.known known) (same ∙ sym p.errors) in

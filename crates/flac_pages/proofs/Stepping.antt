@@ -9,7 +9,7 @@ use Rattle.flac_bits.specs.Layout.{because}
 use Rattle.flac_bits.specs.declared.why.Why.{Why}
 use Rattle.flac_pages.specs.Page.{Page, is_last, after, goes_on_behind}
 use Rattle.flac_pages.specs.Pages.{Stop, closed, broken, one, next_page, pages_of, pages_behind, end_fault}
-use Rattle.flac_pages.specs.Packets.{Place, Ahead, ahead, size, ends, past_packet, to_come, rest_of, behind_of, rest_in, behind_in, only_fault, broken_off, fault_of, stop_of, at_page, page_index, next_segment, Copies}
+use Rattle.flac_pages.specs.Packets.{Place, Ahead, Met, ahead, size, ends, past_packet, to_come, rest_of, behind_of, rest_in, behind_in, only_fault, broken_off, fault_of, stop_of, at_page, page_index, next_segment, Copies}
 use Rattle.flac_pages.proofs.Turns.{good_turn, bad_turn}
 
 -- what a step keeps
@@ -161,10 +161,15 @@ pub broken_ahead : (old : Place) (f : ℕ × Why) → old.rest ≡ 0 → old.mor
 unfolding rest_of behind_of
 broken_ahead old f r m a = record { bytes = rest_same old.rest 0 old.more true (ahead old) (only_fault f) r m a; behind = behind_same old.rest 0 old.more true (ahead old) (only_fault f) r m a }
 
+-- a refusal behind calls that kept the count of the device's errors
+pub met_then : (why : Why) (old mid new : ℕ) → mid ≡ old → Met why mid new → Met why old new
+met_then why old mid new same met = subst (λ n. Met why n new) same met
+
 -- what a loop of steps keeps
 pub record Kept (old new : Place) : Type 0 where
   pub known : old.known ≡ true → new.known ≡ true
   pub errors : new.errors ≡ old.errors
+  pub raised : new.raised ≡ old.raised
   pub names : new.names ≡ old.names
   pub room : new.most + length new.body ≤ old.most + length old.body
   pub bytes : old.known ≡ true → rest_of new ≡ rest_of old
@@ -174,6 +179,7 @@ pub record Kept (old new : Place) : Type 0 where
 pub record Waits (old new : Place) : Type 0 where
   pub known : old.known ≡ true → new.known ≡ true
   pub errors : new.errors ≡ old.errors
+  pub raised : new.raised ≡ old.raised
   pub names : new.names ≡ old.names
   pub rest : new.rest ≡ 0
   pub more : new.more ≡ false
@@ -196,11 +202,11 @@ drop_more xs zero n = let e : 0 + n ≡ n = omega arith in ap (λ k. drop k xs) 
 drop_more [] (suc a) n = let e : suc a + n ≡ suc (a + n) = omega arith in ap (λ k. drop k nothing) e ∙ sym (drop_all n [] (omega arith))
 drop_more (x ∷ xs) (suc a) n = let e : suc a + n ≡ suc (a + n) = omega arith in ap (λ k. drop k (x ∷ xs)) e ∙ drop_more xs a n
 
-pub copied : (old new : Place) (out : List ℕ) (n : ℕ) → n ≤ old.rest → n ≤ length old.body → take n out ≡ take n old.body → new.known ≡ old.known → new.errors ≡ old.errors → new.names ≡ old.names → new.most ≡ old.most
+pub copied : (old new : Place) (out : List ℕ) (n : ℕ) → n ≤ old.rest → n ≤ length old.body → take n out ≡ take n old.body → new.known ≡ old.known → new.errors ≡ old.errors → new.raised ≡ old.raised → new.names ≡ old.names → new.most ≡ old.most
     → new.rest ≡ old.rest - n → new.more ≡ old.more → new.lacing ≡ old.lacing → new.body ≡ drop n old.body → new.last ≡ old.last → new.before ≡ old.before → new.count ≡ old.count → new.cursor ≡ old.cursor
     → Copies old new out n
 unfolding rest_of behind_of ahead
-copied old new out n a b o nk ne nn nmo nr nm nl nb nla nf nc nd =
+copied old new out n a b o nk ne ns nn nmo nr nm nl nb nla nf nc nd =
     let front = take n old.body in
     let rest = drop n old.body in
     let behind = flat_map (λ (q : Page). q.body) (to_come old).pages in
@@ -213,6 +219,7 @@ copied old new out n a b o nk ne nn nmo nr nm nl nb nla nf nc nd =
     record {
       known = nk;
       errors = ne;
+      raised = ns;
       names = nn;
       room = omega (arith, ap length nb, length-drop n old.body);
       bytes = ap (take (old.rest + more)) split ∙ ap (λ k. take k (front ++ (rest ++ behind))) count ∙ take-append-add front (rest ++ behind) (old.rest - n + more) ∙ rw (o, nr, nm, nl, nb, nla, nf, nd) refl;
@@ -222,20 +229,21 @@ copied old new out n a b o nk ne nn nmo nr nm nl nb nla nf nc nd =
 
 -- nothing is copied
 pub copies_none : (p : Place) (out : List ℕ) → Copies p p out 0
-copies_none p out = record { known = refl; errors = refl; names = refl; room = omega arith; bytes = refl; behind = refl }
+copies_none p out = record { known = refl; errors = refl; raised = refl; names = refl; room = omega arith; bytes = refl; behind = refl }
 
 -- the packet's next segment is entered, and nothing copied
 pub copies_entered : (old new : Place) (l : List ℕ) → old.rest ≡ 0 → old.more ≡ true → 0 < length old.lacing → old.lacing ≡ l → new ≡ next_segment old l → Copies old new [] 0
 copies_entered old new [] r m some eq e = absurd (omega (arith, ap length eq, some))
 copies_entered old new (v ∷ vs) r m some eq e =
     let same = segment_same old v vs r m eq in
-    subst (λ (p : Place). Copies old p [] 0) (sym e) (record { known = refl; errors = refl; names = refl; room = omega arith; bytes = sym same.bytes; behind = same.behind })
+    subst (λ (p : Place). Copies old p [] 0) (sym e) (record { known = refl; errors = refl; raised = refl; names = refl; room = omega arith; bytes = sym same.bytes; behind = same.behind })
 
 -- none more
 pub copies_still : (old mid new : Place) (xs : List ℕ) (n : ℕ) → Copies old mid xs n → Copies mid new [] 0 → Copies old new xs n
 copies_still old mid new xs n a b = record {
   known = b.known ∙ a.known;
   errors = b.errors ∙ a.errors;
+  raised = b.raised ∙ a.raised;
   names = b.names ∙ a.names;
   room = omega (arith, a.room, b.room);
   bytes = a.bytes ∙ ap (λ r. take n xs ++ r) b.bytes;
@@ -247,6 +255,7 @@ pub copies_more : (old mid new : Place) (xs ys zs : List ℕ) (n m : ℕ) → ta
 copies_more old mid new xs ys zs n m e a b = record {
   known = b.known ∙ a.known;
   errors = b.errors ∙ a.errors;
+  raised = b.raised ∙ a.raised;
   names = b.names ∙ a.names;
   room = omega (arith, a.room, b.room);
   bytes = a.bytes ∙ ap (λ r. take n xs ++ r) b.bytes ∙ sym (append_assoc (take n xs) (take m ys) (rest_of new)) ∙ ap (λ k. k ++ rest_of new) (sym e);

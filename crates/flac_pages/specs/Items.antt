@@ -8,8 +8,8 @@ use Rattle.flac_bits.specs.Lists.{list_of}
 use Rattle.flac_bits.specs.Meaning.{Spells, Shows, IsCut}
 use Rattle.flac_bits.specs.Fence.{InRoom, LeavesRoom, FillsRoom, read_in}
 use Rattle.flac_bits.specs.declared.why.Why.{Why}
-use Rattle.flac_bits.specs.declared.why.Why.TheVariants.{Read, Truncated, FrameTooLong, PacketLength}
-use Rattle.flac_pages.specs.Packets.{Place, ahead, rest_of, behind_of}
+use Rattle.flac_bits.specs.declared.why.Why.TheVariants.{Read, Sink, Truncated, FrameTooLong, PacketLength}
+use Rattle.flac_pages.specs.Packets.{Place, Met, ahead, rest_of, behind_of}
 
 -- How a packet ends behind the bytes that good pages give of it (RFC 3533, section 6).
 pub data PacketEnd : Type 0 where
@@ -123,6 +123,7 @@ abbrev pub EndsPacket : {X : Type 0} → Place → Place → Result X (Option �
 EndsPacket old new (Ok x) = record {
   known : old.known ≡ true → new.known ≡ true;
   errors : new.errors ≡ old.errors;
+  raised : new.raised ≡ old.raised;
   names : new.names ≡ old.names;
   stands : (new.rest ≡ 0) × (new.more ≡ false);
   room : new.most + length new.body ≤ old.most + length old.body;
@@ -131,19 +132,37 @@ EndsPacket old new (Ok x) = record {
 }
 EndsPacket old new (Err why) = record {
   errors : old.errors ≤ new.errors;
+  met : Met why.1 old.raised new.raised;
   names : new.names ≡ old.names;
   fault : old.known ≡ true → new.errors ≡ old.errors → (end_of (behind_of old) ≢ whole) × (why ≡ cut_off (end_of (behind_of old)));
 }
 
--- a reader of bits stands at the first bit of the packet that was begun, by pages that are lent under this name
+-- A reader of bits stands at the first bit of the packet that was begun, by pages that are lent under this name. What stays of them, whatever it meets: the name,
+-- how many errors of the device they had met, and the references that they go through.
 pub record IsAtPacket (name : GName) (p : Place) (s : State) : Type 0 where
   pub known : s.known ≡ p.known
   pub errors : s.errors ≡ p.errors
   pub raised : s.raised ≡ 0
   pub behind : s.behind ≡ without_fence (behind_of p)
   pub most : s.most ≡ 8 * (p.most + length p.body)
-  pub names : s.names ≡ name ∷ p.names
+  pub names : s.names ≡ name ∷ p.raised ∷ p.names
   pub cursor : s.cursor ≡ record { left = (packet_of p).bits; mark = packet_mark p }
+
+-- What was answered tells which errors of the device were met: none, or one where it tells Read.
+abbrev pub Meets : {X : Type 0} → ℕ → ℕ → Result X (Option ℕ × Why) → Type 0
+Meets old new (Ok x) = new ≡ old
+Meets old new (Err e) = Met e.1 old new
+
+-- so a reader of bits counts that met no error before
+abbrev pub CountsSo : {X : Type 0} → Result X Why → ℕ → Type 0
+CountsSo (Ok x) raised = raised ≡ 0
+CountsSo (Err why) raised = (why ≡ Read → 0 < raised) × (why ≡ Sink → ⊥)
+
+-- Pages that were lent to a reader of a packet's bits, which answered this, are given back under their name; they had met so many errors when they were lent.
+pub record GivesBack {X : Type 0} (s : State) (name : GName) (new : Place) (read : Result X Why) (result : Result X (Option ℕ × Why)) : Type 0 where
+  pub lent : ℕ
+  pub names : s.names ≡ name ∷ lent ∷ new.names
+  pub meets : CountsSo read s.raised → Meets lent new.raised result
 
 -- What an item's reader answered over a packet's bits, behind which it stands at `s`, and what stands behind those bits are told together.
 abbrev pub JudgesPacket : {X : Type 0} → State → Place → Result X Why → Result X (Option ℕ × Why) → Type 0

@@ -2,8 +2,9 @@
 use Rattle.std.specs.Prelude.{◌≡◌, ℕ, ◌+◌, ◌*◌, ◌/◌, ◌%◌, ◌<◌, Bool, true, false, cond, List, [], ◌∷◌, ◌++◌, length, take, drop, replicate, Option, Some, None, nat_eq, ◌&&◌, not, min, Result, Ok, Err, ◌≤◌}
 use Rattle.std.specs.Borrow.{GName}
 use Rattle.std.specs.List.{flat_map}
-use Rattle.flac_bits.specs.State.{Cursor, Behind}
+use Rattle.flac_bits.specs.State.{Cursor, Behind, Rises}
 use Rattle.flac_bits.specs.declared.why.Why.{Why}
+use Rattle.flac_bits.specs.declared.why.Why.TheVariants.{Read, Sink}
 use Rattle.flac_pages.specs.declared.page.Before.{Before}
 use Rattle.flac_pages.specs.Page.{Page}
 use Rattle.flac_pages.specs.Pages.{Run, Stop, closed, broken, pages_behind, end_fault}
@@ -146,6 +147,10 @@ broken_off f = record { fails = Some f; cut = true; pieces = []; bytes = []; fau
 
 -- ---- what the calls of a reader do
 
+-- A call that refused for this reason: by Read it met an error of the device, whose count rose, if it could; and no reader answers Sink.
+abbrev pub Met : Why → ℕ → ℕ → Type 0
+Met why old new = (why ≡ Read → Rises old new) × (why ≡ Sink → ⊥)
+
 -- the next segment of the page
 abbrev pub next_segment : Place → List ℕ → Place
 next_segment p [] = p
@@ -156,6 +161,7 @@ abbrev pub Turns : {X : Type 0} → Place → Place → Result X Why → Type 0
 Turns old new (Ok x) = record {
   known : old.known ≡ true → new.known ≡ true;
   errors : new.errors ≡ old.errors;
+  raised : new.raised ≡ old.raised;
   names : new.names ≡ old.names;
   rest : new.rest ≡ 0;
   more : new.more ≡ old.more;
@@ -165,6 +171,7 @@ Turns old new (Ok x) = record {
 }
 Turns old new (Err why) = record {
   errors : old.errors ≤ new.errors;
+  met : Met why old.raised new.raised;
   names : new.names ≡ old.names;
   count : new.count ≡ old.count;
   last : new.last ≡ false;
@@ -177,6 +184,7 @@ abbrev pub Steps : Place → Place → Result Bool Why → Type 0
 Steps old new (Ok true) = record {
   known : old.known ≡ true → new.known ≡ true;
   errors : new.errors ≡ old.errors;
+  raised : new.raised ≡ old.raised;
   names : new.names ≡ old.names;
   bytes : old.known ≡ true → rest_of new ≡ rest_of old;
   behind : old.known ≡ true → behind_of new ≡ behind_of old;
@@ -186,6 +194,7 @@ Steps old new (Ok true) = record {
 Steps old new (Ok false) = record { same : new ≡ old; bytes : rest_of old ≡ []; fault : (behind_of old).fails ≡ None; none : old.more ≡ true → (ahead old).lacing ≡ [] }
 Steps old new (Err why) = record {
   errors : old.errors ≤ new.errors;
+  met : Met why old.raised new.raised;
   names : new.names ≡ old.names;
   count : new.count ≡ old.count;
   bytes : old.known ≡ true → new.errors ≡ old.errors → rest_of old ≡ [];
@@ -197,6 +206,7 @@ abbrev pub Finds : Place → Place → Result Bool Why → Type 0
 Finds old new (Ok found) = record {
   known : old.known ≡ true → new.known ≡ true;
   errors : new.errors ≡ old.errors;
+  raised : new.raised ≡ old.raised;
   names : new.names ≡ old.names;
   room : new.most + length new.body ≤ old.most + length old.body;
   bytes : old.known ≡ true → rest_of new ≡ rest_of old;
@@ -207,6 +217,7 @@ Finds old new (Ok found) = record {
 }
 Finds old new (Err why) = record {
   errors : old.errors ≤ new.errors;
+  met : Met why old.raised new.raised;
   names : new.names ≡ old.names;
   bytes : old.known ≡ true → new.errors ≡ old.errors → rest_of old ≡ [];
   behind : old.known ≡ true → new.errors ≡ old.errors → behind_of old ≡ broken_off (new.count, why);
@@ -216,6 +227,7 @@ Finds old new (Err why) = record {
 pub record Copies (old new : Place) (out : List ℕ) (n : ℕ) : Type 0 where
   pub known : new.known ≡ old.known
   pub errors : new.errors ≡ old.errors
+  pub raised : new.raised ≡ old.raised
   pub names : new.names ≡ old.names
   pub room : new.most + length new.body + n ≤ old.most + length old.body
   pub bytes : rest_of old ≡ take n out ++ rest_of new
@@ -227,6 +239,7 @@ abbrev pub Begins : Place → Place → Result Bool (ℕ × Why) → Type 0
 Begins old new (Ok true) = record {
   known : old.known ≡ true → new.known ≡ true;
   errors : new.errors ≡ old.errors;
+  raised : new.raised ≡ old.raised;
   names : new.names ≡ old.names;
   stands : (new.rest ≡ 0) × (new.more ≡ true);
   some : 0 < length new.lacing;
@@ -236,11 +249,13 @@ Begins old new (Ok true) = record {
 Begins old new (Ok false) = record {
   known : old.known ≡ true → new.known ≡ true;
   errors : new.errors ≡ old.errors;
+  raised : new.raised ≡ old.raised;
   names : new.names ≡ old.names;
   over : old.known ≡ true → ((ahead old).lacing ≡ []) × ((ahead old).stop ≡ None);
 }
 Begins old new (Err f) = record {
   errors : old.errors ≤ new.errors;
+  met : Met f.1 old.raised new.raised;
   names : new.names ≡ old.names;
   fault : old.known ≡ true → new.errors ≡ old.errors → ((ahead old).lacing ≡ []) × ((ahead old).stop ≡ Some f);
   breaks : old.known ≡ true → new.errors ≡ old.errors → (ahead old).fault ≡ cond new.last None (Some f);

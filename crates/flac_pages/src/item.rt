@@ -6,7 +6,7 @@ ghost use Rattle.flac_bits.specs.Layout.{bits as number};
 ghost use Rattle.flac_bits.specs.Lists.{list_of};
 ghost use Rattle.flac_bits.specs.Reading.{Counts, Reads};
 ghost use Rattle.flac_bits.specs.State.{short_of};
-ghost use Rattle.flac_pages.specs.Items.{end_of, behind_item, why_in, packet_of, packet_mark, TellsItem, IsAtPacket, JudgesPacket, GoesBehind, HasBehind};
+ghost use Rattle.flac_pages.specs.Items.{end_of, behind_item, why_in, packet_of, packet_mark, TellsItem, Meets, GivesBack, IsAtPacket, JudgesPacket, GoesBehind, HasBehind};
 
 use crate::packet_bytes::PacketBytes;
 use crate::pages::Pages;
@@ -15,7 +15,7 @@ use flac_bits::{BitReader, Source, Why, read_bytes};
 /// The bits of a packet, which an item is read from. [`end_item`] gives the pages back.
 pub fn packet_bits<R: Source>(packet: PacketBytes<'_, R>) -> BitReader<PacketBytes<'_, R>>
     ensures at { packet.entry.fault ≡ None → packet.entry.errors ≡ 0 → IsAtPacket packet.entry.pages.ghost_name packet.entry.pages.now result }
-    ensures names { result.names ≡ packet.entry.pages.ghost_name ∷ packet.entry.pages.now.names }
+    ensures names { result.names ≡ packet.entry.pages.ghost_name ∷ packet.entry.lent.value.raised ∷ packet.entry.pages.now.names }
 {
     BitReader::new(packet)
 }
@@ -40,7 +40,7 @@ fn end_behind<'a, R: Source>(
     bits: BitReader<PacketBytes<'a, R>>,
 ) -> (Result<(), (Option<u64>, Why)>, &'a mut Pages<R>)
     ensures kept { bits.entry.errors ≤ result.1.now.errors }
-    ensures names { result.1.ghost_name ∷ result.1.now.names ≡ bits.entry.names }
+    ensures back { GivesBack bits.entry result.1.ghost_name result.1.now (Ok tt) result.0 }
     ensures spends { OnOk result.0 (8 * (result.1.now.most + length result.1.now.body) ≤ bits.entry.most) }
     ensures memory { IfErr result.0 (λ e. e.1 ≢ Why.Memory) }
     ensures judges { bits.entry.known ≡ true → result.1.now.errors ≡ bits.entry.errors → bits.entry.cursor.mark.short ≡ short_of bits.entry.behind.fails → result.0 ≡ behind_item (end_of bits.entry.behind) (is_nil bits.entry.cursor.left) tt }
@@ -72,7 +72,7 @@ pub fn end_item<'a, R: Source, X: Drop>(
     read: Result<X, Why>,
 ) -> (Result<X, (Option<u64>, Why)>, &'a mut Pages<R>)
     ensures kept { bits.entry.errors ≤ result.1.now.errors }
-    ensures names { result.1.ghost_name ∷ result.1.now.names ≡ bits.entry.names }
+    ensures back { GivesBack bits.entry result.1.ghost_name result.1.now read result.0 }
     // The bits that were read are spent.
     ensures spends { OnOk result.0 (8 * (result.1.now.most + length result.1.now.body) ≤ bits.entry.most) }
     ensures memory { IfErr result.0 (λ e. e.1 ≡ Why.Memory → read ≡ Err Why.Memory) }
@@ -115,6 +115,8 @@ pub fn read_packet<R: Source>(
 ) -> Result<(), (Option<u64>, Why)>
     ensures kept { pages.old.errors ≤ pages.new.errors }
     ensures names { pages.new.names ≡ pages.old.names }
+    // Read is told only where the device answered an error in the call.
+    ensures meets { Meets pages.old.raised pages.new.raised result }
     ensures memory { IfErr result (λ e. e.1 ≢ Why.Memory) }
     ensures tells { pages.old.known ≡ true → pages.new.errors ≡ pages.old.errors → TellsItem (λ _. out.new) None (list_of (length out.old) (number 8)) (packet_mark pages.old) (packet_of pages.old) result }
     ensures stands { OnOk result ((pages.new.rest ≡ 0) × (pages.new.more ≡ false)) }

@@ -3,19 +3,25 @@
 ghost use Rattle.std.specs.Prelude.{◌≡◌, ◌≢◌, ◌≤◌, ◌<◌, ◌+◌, ◌^◌, ◌-◌, ◌&&◌, ◌∷◌, true, nat_lt, length, IfSome, None, Some};
 ghost use Rattle.std.specs.Option.{ForSome};
 ghost use Rattle.flac_bits.specs.declared.why.Why.TheVariants.{Memory};
-ghost use Rattle.flac_pages.specs.Packets.{left_of, behind_left};
+ghost use Rattle.flac_pages.specs.Packets.{Met, left_of, behind_left};
 
 use crate::pages::Pages;
 use flac_bits::{Source, Why};
 use std::io;
+use std::snapshot::Snapshot;
 
 /// The bytes of the packet that these pages have begun, which are lent for the time. A page's fault is an error of its read, which [`PacketBytes::why`] names.
 #[derive(Drop)]
 pub struct PacketBytes<'a, R: Source> {
     pages: &'a mut Pages<R>,
+    /// The pages as they were lent, which clauses alone read.
+    lent: Snapshot<Pages<R>>,
     fault: Option<(u64, Why)>,
     errors: u64,
     ghost quiet: { fault ≡ None → errors ≡ 0 },
+    ghost counted: { errors ≡ 0 → fault ≡ None },
+    ghost calm: { fault ≡ None → pages.now.raised ≡ lent.value.raised },
+    ghost met: { ForSome fault (λ f. Met f.1 lent.value.raised pages.now.raised) },
     ghost memory: { ForSome fault (λ f. f.1 ≢ Memory) },
 }
 
@@ -26,8 +32,10 @@ impl<'a, R: Source> PacketBytes<'a, R> {
         ensures pages { result.pages.now ≡ pages.old }
         ensures unread { (result.fault ≡ None) × (result.errors ≡ 0) }
     {
+        let lent = Snapshot::of(&*pages);
         PacketBytes {
             pages,
+            lent,
             fault: None,
             errors: 0,
         }
@@ -48,6 +56,7 @@ impl<'a, R: Source> PacketBytes<'a, R> {
     {
         let PacketBytes {
             pages,
+            lent: _,
             fault: _,
             errors: _,
         } = self;
@@ -68,7 +77,7 @@ impl<R: Source> Source for PacketBytes<'_, R> {
 
     ghost most = { λ p. p.pages.now.most + length p.pages.now.body };
 
-    ghost names = { λ p. p.pages.ghost_name ∷ p.pages.now.names };
+    ghost names = { λ p. p.pages.ghost_name ∷ p.lent.value.raised ∷ p.pages.now.names };
 
     fn pull(&mut self, buf: &mut [u8]) -> io::Result<usize> {
         if self.fault.is_some() {

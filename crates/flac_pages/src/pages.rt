@@ -6,7 +6,7 @@ ghost use Rattle.flac_bits.specs.Bits.{bits_of};
 ghost use Rattle.flac_pages.specs.Pages.{unless_over, end_fault};
 ghost use Rattle.flac_pages.specs.Page.{went_on, goes_on_behind};
 ghost use Rattle.flac_pages.specs.Items.{EndsPacket};
-ghost use Rattle.flac_pages.specs.Packets.{next_segment, at_front, Turns, Steps, Finds, Copies, Begins, ended};
+ghost use Rattle.flac_pages.specs.Packets.{next_segment, at_front, Met, Turns, Steps, Finds, Copies, Begins, ended};
 
 use crate::page::Before;
 use crate::room::{PageRoom, next_page};
@@ -358,7 +358,8 @@ fn end_fault<R: Source>(reader: &mut BitReader<R>) -> Option<Why>
     ensures kept { reader.old.errors ≤ reader.new.errors }
     ensures names { reader.new.names ≡ reader.old.names }
     ensures memory { IfSome result (λ e. e ≢ Why.Memory) }
-    ensures calm { result ≡ None → (reader.old.known ≡ true → reader.new.known ≡ true) × (reader.new.errors ≡ reader.old.errors) }
+    ensures calm { result ≡ None → (reader.old.known ≡ true → reader.new.known ≡ true) × (reader.new.errors ≡ reader.old.errors) × (reader.new.raised ≡ reader.old.raised) }
+    ensures met { IfSome result (λ e. Met e reader.old.raised reader.new.raised) }
     ensures fault { reader.old.known ≡ true → reader.new.errors ≡ reader.old.errors → result ≡ end_fault reader.old.cursor }
 {
     match reader.at_end() {

@@ -1,6 +1,7 @@
-use Rattle.std.proofs.Common.{ap, ◌∙◌}
+use Rattle.std.proofs.Common.{◌∷◌, ap, sym, ◌∙◌}
+use Rattle.std.specs.Borrow.{GName}
 use Rattle.flac_bits.specs.State.{without_fence}
-use Rattle.flac_pages.proofs.Judging.{goes_behind, and_left, is_over}
+use Rattle.flac_pages.proofs.Judging.{goes_behind, end_back, and_left, is_over}
 use Rattle.flac_pages.proofs.item.end_behind.Goals as goal
 
 pub returns-in-Ok-true-clause-behind : goal.returns-in-Ok-true-clause-behind
@@ -14,3 +15,11 @@ returns-in-Ok-true-clause-behind g c =
     (c.at_end-over.ensures.ended (is_over c.at_end-over.result c.in-Ok-true.field-0 c.in-Ok-true.is c.in-Ok-true.field-0-test))
     (λ known. tells.behind ∙ ap without_fence (counts.3 known))
     c.end_packet-ended.ensures.ends
+
+pub returns-in-Ok-true-clause-back : goal.returns-in-Ok-true-clause-back
+returns-in-Ok-true-clause-back g c =
+    let packet = c.into_source-packet.result in
+    let tells = c.into_source-packet.ensures in
+    let counts = c.in-Ok-true.ensures.counts in
+    end_back c.args.bits _ packet.lent.value.raised packet.fault packet.errors packet.pages.now c.into_pages-pages.result.now c.end_packet-ended.new.self c.end_packet-ended.result
+    (sym (tells.names ∙ counts.4) ∙ ap (λ (k : GName). k ∷ packet.lent.value.raised ∷ packet.pages.now.names) (sym c.into_pages-pages.ensures.same)) c.into_pages-pages.ensures.pages (tells.raised ∙ counts.2) packet.counted packet.calm c.end_packet-ended.ensures.ends

@@ -1,4 +1,6 @@
-use Rattle.flac_pages.proofs.Judging.{judged_end, judged_why}
+use Rattle.std.proofs.Common.{◌∷◌, ap, sym, ◌∙◌}
+use Rattle.std.specs.Borrow.{GName}
+use Rattle.flac_pages.proofs.Judging.{judged_end, judged_why, why_back}
 use Rattle.flac_pages.proofs.item.end_item.Goals as goal
 
 pub returns-in-Err-default-clause-judges : goal.returns-in-Err-default-clause-judges
@@ -9,3 +11,10 @@ returns-in-Err-clause-judges g c =
     let packet = c.into_source-packet.result in
     let tells = c.into_source-packet.ensures in
     judged_why c.args.bits packet.fault c.why.result packet.errors packet.pages.now c.into_pages.result.now c.args.read c.in-Err.why c.why_in-why.result c.in-Err.is c.why_in-why.ensures.value c.why.ensures.fault packet.quiet tells.raised tells.behind
+
+pub returns-in-Err-clause-back : goal.returns-in-Err-clause-back
+returns-in-Err-clause-back g c =
+    let packet = c.into_source-packet.result in
+    let tells = c.into_source-packet.ensures in
+    why_back c.args.bits _ packet.lent.value.raised packet.fault c.why.result packet.errors packet.pages.now c.into_pages.result.now c.args.read c.in-Err.why c.why_in-why.result c.in-Err.is c.why_in-why.ensures.value c.why.ensures.fault
+    (sym tells.names ∙ ap (λ (k : GName). k ∷ packet.lent.value.raised ∷ packet.pages.now.names) (sym c.into_pages.ensures.same)) c.into_pages.ensures.pages tells.raised packet.quiet packet.met

@@ -22,5 +22,5 @@ returns-clause-copies g c =
     let body = ap (λ (p : Place). p.body) is in
     copied c.args.self.now _ _ n (omega (arith, small, ap (λ (p : Place). p.rest) is)) (omega (arith, ap length body, length-drop at inside.page.body, within))
     (seam c.copy_from_slice.new.self (drop n c.args.out.now) n long ∙ mid ∙ ap (take n) body)
-    (ap (λ (p : Place). p.known) is) (ap (λ (p : Place). p.errors) is) (ap (λ (p : Place). p.names) is) (ap (λ (p : Place). p.most) is) (ap (λ (p : Place). p.rest - n) is) (ap (λ (p : Place). p.more) is) (ap (λ (p : Place). p.lacing) is)
+    (ap (λ (p : Place). p.known) is) (ap (λ (p : Place). p.errors) is) (ap (λ (p : Place). p.raised) is) (ap (λ (p : Place). p.names) is) (ap (λ (p : Place). p.most) is) (ap (λ (p : Place). p.rest - n) is) (ap (λ (p : Place). p.more) is) (ap (λ (p : Place). p.lacing) is)
     (drop_more inside.page.body at n ∙ ap (drop n) body) (ap (λ (p : Place). p.last) is) (ap (λ (p : Place). p.before) is) (ap (λ (p : Place). p.count) is) (ap (λ (p : Place). p.cursor) is)

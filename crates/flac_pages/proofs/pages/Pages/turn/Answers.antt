@@ -7,6 +7,7 @@ use Rattle.flac_pages.specs.Page.{after, went_on, goes_on_behind, is_last}
 use Rattle.flac_bits.specs.Unchecked.{begun_anew}
 use Rattle.flac_pages.specs.Pages.{next_page}
 use Rattle.flac_pages.specs.Packets.{Place}
+use Rattle.flac_pages.proofs.Stepping.{met_then}
 use Rattle.flac_pages.proofs.Unchecked.{turned_anew, refused_anew}
 use Rattle.flac_pages.proofs.pages.Pages.turn.Goals as goal
 
@@ -25,6 +26,7 @@ returns-in-Ok-clause-turns g c =
     record {
       known = λ known. counts.0 (ap (λ (p : Place). p.known) is ∙ known);
       errors = counts.1 ∙ ap (λ (p : Place). p.errors) is;
+      raised = counts.2 ∙ ap (λ (p : Place). p.raised) is;
       names = counts.4 ∙ ap (λ (p : Place). p.names) is;
       rest = rest;
       more = ap (λ (p : Place). p.more) is;
@@ -45,6 +47,7 @@ returns-in-Err-clause-turns g c =
     let errors = ap (λ (p : Place). p.errors) is in
     record {
       errors = omega (arith, errors, c.in-Err.ensures.counts.0);
+      met = met_then c.in-Err.why _ _ _ (ap (λ (p : Place). p.raised) is) (c.in-Err.ensures.counts.4, c.in-Err.ensures.counts.5);
       names = c.in-Err.ensures.counts.3 ∙ ap (λ (p : Place). p.names) is;
       count = ap (λ (p : Place). p.count) is;
       last = ap (λ (p : Place). p.last) is ∙ c.requires.last;
