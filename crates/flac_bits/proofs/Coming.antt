@@ -4,7 +4,11 @@ use Rattle.std.proofs.lemmas.List.{drop_all, length-append, length-take, take-ta
 use Rattle.std.proofs.lemmas.Bool.{eqb-true, eq-eqb}
 use Rattle.std.proofs.lemmas.Bool.Decides.{nat_tests}
 use Rattle.std.proofs.lemmas.Bool.{cases_lt}
-use Rattle.flac_bits.specs.Store.{Came, allowed, forbidden, reached, seen, room_behind, hides_late}
+use Rattle.std.specs.Prelude.{is_some}
+use Rattle.flac_bits.specs.State.{Behind, short_of}
+use Rattle.flac_bits.specs.Store.{Fence, Came, allowed, forbidden, reached, reason_of, seen, room_behind, hides_late}
+use Rattle.flac_bits.specs.declared.why.Why.{Why}
+use Rattle.flac_bits.specs.declared.why.Why.TheVariants.{Read}
 
 -- a number of two lists that are joined
 pub take_over : {A : Type 0} (n : ℕ) (xs ys : List A) → take n (xs ++ ys) ≡ take n xs ++ take (n - length xs) ys
@@ -76,6 +80,35 @@ pub hidden_none : (room : Option ℕ) (end filled : ℕ) (bytes : List ℕ) → 
 hidden_none None end filled bytes more late le = drop_all end (take filled bytes) (omega (arith, length-take filled bytes, eqb-true end filled late))
 hidden_none (Some zero) end filled bytes more late le = absurd (more refl)
 hidden_none (Some (suc n)) end filled bytes more late le = drop_all end (take filled bytes) (omega (arith, length-take filled bytes, eqb-true end filled late))
+
+-- so a fence that lets more come hides none
+pub hides_none : (room : Option ℕ) (end filled : ℕ) (bytes : List ℕ) (fence : Fence) → record { room = room; hidden = drop end (take filled bytes) } ≡ fence → (fence.room ≡ Some 0 → ⊥)
+    → hides_late room end filled ≡ true → filled ≤ length bytes → record { room = room; hidden = [] } ≡ fence
+hides_none room end filled bytes fence is more late le =
+    ap (λ xs. record { room = room; hidden = xs }) (sym (hidden_none room end filled bytes (λ e. more (sym (ap (λ (f : Fence). f.room) is) ∙ e)) late le)) ∙ is
+
+-- where nothing is to come, nothing is before such a fence or past it, and the reason is that of the end
+pub none_allowed : (room : Option ℕ) (coming : List ℕ) → coming ≡ [] → allowed room coming ≡ []
+none_allowed None coming e = e
+none_allowed (Some zero) coming e = refl
+none_allowed (Some (suc n)) coming e = rw e refl
+
+pub none_forbidden : (room : Option ℕ) (coming : List ℕ) → coming ≡ [] → forbidden room coming ≡ []
+none_forbidden None coming e = refl
+none_forbidden (Some zero) coming e = e
+none_forbidden (Some (suc n)) coming e = rw e refl
+
+pub ends_short : (room : Option ℕ) (coming : List ℕ) (behind : Behind) → (room ≡ Some 0 → ⊥) → coming ≡ [] → reason_of (reached room coming) behind ≡ short_of behind.fails
+ends_short None coming behind more e = refl
+ends_short (Some zero) coming behind more e = absurd (more refl)
+ends_short (Some (suc n)) coming behind more e = let late : nat_le (suc n) 0 ≡ false = grind (arith, nat_tests) in rw (e, late) refl
+
+pub foretold : (o : Option (ℕ × Why)) → is_some o ≡ true → short_of o ≡ Read
+foretold None e = absurd cc
+foretold (Some f) e = refl
+
+pub not_foretold : (o : Option (ℕ × Why)) → o ≡ None → short_of o ≡ Read → ⊥
+not_foretold o is e = let t : short_of None ≡ Read = ap short_of (sym is) ∙ e in absurd cc
 
 -- so those past the fence are the hidden ones and all to come, or there are none of these
 pub lifted_list : (room : Option ℕ) (end filled : ℕ) (bytes coming : List ℕ) → hides_late room end filled ≡ true → filled ≤ length bytes
