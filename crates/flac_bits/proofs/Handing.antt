@@ -4,7 +4,7 @@ use Rattle.std.proofs.lemmas.List.{append-nil, length-append}
 use Rattle.flac_bits.specs.State.{Mark, Cursor, State, past, fresh}
 use Rattle.flac_bits.specs.Meaning.{Spells}
 use Rattle.flac_bits.specs.Fence.{InRoom}
-use Rattle.flac_bits.specs.Items.{Grammar, after, Joined, mark_behind, StopsAt, Step, item, over, refused, step_at, NeedsBits}
+use Rattle.flac_bits.specs.Items.{Grammar, after, Joined, mark_behind, StopsAt, Refused, Step, item, over, refused, step_at, NeedsBits}
 use Rattle.flac_bits.specs.Handing.{IsCalm, TakesAll, Reading, Hands, by_grammar, IsRead, OneReading, SomeReading}
 use Rattle.flac_bits.specs.declared.why.Why.{Why}
 use Rattle.flac_bits.specs.declared.why.Why.TheVariants.{Memory}
@@ -105,53 +105,35 @@ ends e = e
 none_some : {P : Type 0} (r : P × Why) → ends None ≡ Some r → ⊥
 none_some r e = absurd cc
 
-some_none : {P : Type 0} (r : P × Why) → ends (Some r) ≡ None → ⊥
-some_none r e = absurd cc
-
 some_is : {P : Type 0} (r q : P × Why) → ends (Some r) ≡ Some q → r ≡ q
 some_is r q e = cc
 
 same_end : {P : Type 0} (at to : P) (v w : Why) → ends (Some (at, v)) ≡ Some (to, w) → (at ≡ to) × (v ≡ w)
 same_end {P} at to v w e = let pair = some_is (at, v) (to, w) e in (ap (λ (r : P × Why). r.0) pair, ap (λ (r : P × Why). r.1) pair)
 
--- the step refused: a want of memory and an error of the source, which leave calm false, say no more than what was taken before
-pub all_refused : {S I P K : Type 0} (g : Grammar S I P) (takes : K → I → K → Type 0) (errors : K → ℕ) (first state : S) (old now : State) (calm : Type 0) (sink taken : K) (at : P) (why : Why)
-    → SoFar g takes errors first state old now sink taken → (now.known ≡ true → calm → why ≢ Memory → step_at g state now.cursor ≡ refused at why) → old.known ≡ true
-    → Hands (by_grammar g first old.cursor.mark old.cursor.left) takes errors calm sink taken (Some (at, why))
-all_refused g takes errors first state old now calm sink taken at why so_far step known =
-    let far = so_far.far known in
-    record {
-      done = λ quiet is. absurd (some_none (at, why) is);
-      refused = λ quiet to w is room same.
-          let same_one = same_end at to why w is in
-          let stop : step_at g state now.cursor ≡ refused to w = subst (λ v. step_at g state now.cursor ≡ refused to v) same_one.1
-          (subst (λ p. step_at g state now.cursor ≡ refused p why) same_one.0 (step (so_far.known known) quiet (λ e. room (sym same_one.1 ∙ e)))) in (
-            far.items,
-            record {
-              front = far.text;
-              left = now.cursor.left;
-              stands = far.stands;
-              spelled = far.spelled;
-              stops = subst (λ (k : Mark). StopsAt g (after g first far.items) k now.cursor.left to w) far.mark_is
-                  (subst (λ s. StopsAt g s now.cursor.mark now.cursor.left to w) far.state_is (step_stops g state now.cursor.mark now.cursor.left to w stop));
-            },
-            far.took,
-          );
-      begun = (far.items, taken, (far.text, now.cursor.left, far.stands, far.spelled), far.took, λ same. refl);
-      failed = λ rose. absurd (omega (arith, rose, so_far.received));
-    }
-
--- the same from the clause of the call that read
+-- the step refused, where the source answered no error in the call and memory was not wanting
 pub step_refused : {S I P K : Type 0} (g : Grammar S I P) (takes : K → I → K → Type 0) (errors : K → ℕ) (first state : S) (old now end : State) (sink taken : K) (at : P) (why : Why)
     → SoFar g takes errors first state old now sink taken → (now.known ≡ true → end.errors ≡ now.errors → end.raised ≡ now.raised → why ≢ Memory → step_at g state now.cursor ≡ refused at why) → old.known ≡ true
-    → Hands (by_grammar g first old.cursor.mark old.cursor.left) takes errors (IsCalm old end) sink taken (Some (at, why))
-step_refused g takes errors first state old now end sink taken at why so_far step known =
-    all_refused g takes errors first state old now (IsCalm old end) sink taken at why so_far (λ k calm. step k (calm.0 ∙ sym so_far.errors_are) (calm.1 ∙ sym so_far.raised)) known
+    → IsCalm old end → why ≢ Memory → (items : List I) × Refused g first old.cursor.mark items old.cursor.left at why × TakesAll takes sink items taken
+step_refused g takes errors first state old now end sink taken at why so_far step known calm room =
+    let far = so_far.far known in
+    let stop = step (so_far.known known) (calm.0 ∙ sym so_far.errors_are) (calm.1 ∙ sym so_far.raised) room in (
+      far.items,
+      record {
+        front = far.text;
+        left = now.cursor.left;
+        stands = far.stands;
+        spelled = far.spelled;
+        stops = subst (λ (k : Mark). StopsAt g (after g first far.items) k now.cursor.left at why) far.mark_is
+            (subst (λ s. StopsAt g s now.cursor.mark now.cursor.left at why) far.state_is (step_stops g state now.cursor.mark now.cursor.left at why stop));
+      },
+      far.took,
+    )
 
 -- what holds where the source answered no error holds where a stronger condition says so
 pub calmer : {I P K : Type 0} {r : Reading I P} {takes : K → I → K → Type 0} {errors : K → ℕ} (calm quiet : Type 0) {old new : K} {outcome : Option (P × Why)}
     → (quiet → calm) → Hands r takes errors calm old new outcome → Hands r takes errors quiet old new outcome
-calmer calm quiet f h = record { done = λ q. h.done (f q); refused = λ q. h.refused (f q); begun = h.begun; failed = h.failed }
+calmer calm quiet f h = record { done = λ q. h.done (f q); refused = λ q. h.refused (f q); begun = h.begun; broken = h.broken; failed = h.failed }
 
 -- ---- an input has one answer
 

@@ -94,7 +94,7 @@ inside (Err e) f h = tt
 abbrev wrong : {X : Type 0} → Why → Result X Why
 wrong w = Err w
 
-same_why : {X Y : Type 0} (v w : Why) → wrong {X = X} v ≡ wrong {X = X} w → wrong {X = Y} v ≡ wrong {X = Y} w
+pub same_why : {X Y : Type 0} (v w : Why) → wrong {X = X} v ≡ wrong {X = X} w → wrong {X = Y} v ≡ wrong {X = Y} w
 same_why v w e = let k : v ≡ w = cc in ap wrong k
 
 -- a refusal is the same for every view of the answers
@@ -102,7 +102,7 @@ pub moves_refused : {C X Y : Type 0} (g : container.Ghosts C) (old new : Stage C
 moves_refused {C} {X} {Y} g old new view seen f h = go old.course h
   where
     goes : Goes g old new view (Err f) → Goes g old new seen (Err f)
-    goes h = record { gives = λ p at known same quiet room items end still. h.gives p at known same quiet (λ e. room (same_why f.why Memory e)) items end still; counts = record { met = tt; kept = h.counts.kept; read = h.counts.read; behind = h.counts.behind; names = h.counts.names }; memory = h.memory; going = h.going; ends = h.ends; refused = h.refused }
+    goes h = record { gives = λ p at known same quiet room items end still. h.gives p at known same quiet (λ e. room (same_why f.why Memory e)) items end still; counts = record { met = tt; kept = h.counts.kept; read = h.counts.read; behind = h.counts.behind; names = h.counts.names }; broken = h.broken; memory = h.memory; going = h.going; ends = h.ends; refused = h.refused }
 
     go : (k : Course) → MovesFrom g k old new view (Err f) → MovesFrom g k old new seen (Err f)
     go course.Begun h = goes h

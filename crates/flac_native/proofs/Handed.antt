@@ -1,7 +1,7 @@
 -- The parts that come are handed to a receiver, one after another, whatever container they stand in.
-use Rattle.std.proofs.Common.{◌≡◌, ◌≢◌, ◌<◌, ℕ, List, [], ◌∷◌, ◌++◌, Option, Some, None, Result, Ok, Err, refl, sym, ap, subst, ◌∙◌, append_assoc, arith}
+use Rattle.std.proofs.Common.{◌≡◌, ◌≢◌, ◌<◌, ℕ, List, [], ◌∷◌, ◌++◌, Option, Some, None, Result, Ok, Err, inl, inr, refl, sym, ap, subst, ◌∙◌, append_assoc, arith}
 use Rattle.flac_bits.specs.Items.{after}
-use Rattle.flac_bits.specs.Handing.{TakesAll, reason_of}
+use Rattle.flac_bits.specs.Handing.{TakesAll, reason_of, IsOutside}
 use Rattle.flac_bits.specs.declared.why.Why.{Why}
 use Rattle.flac_bits.specs.declared.why.Why.TheVariants.{Memory, Sink}
 use Rattle.flac_bits.proofs.Handing.{after-append, TakesAll-append}
@@ -81,9 +81,9 @@ one_more {X = X} gives given takes errors p parts end t u old now new view x far
         }
 
 -- the stream is over
-pub all_done : {K X : Type 0} (gives given : Coming) (takes : K → Piece → K → Type 0) (errors : K → ℕ) (p : Progress) (parts : List Piece) (end : Option (Place × Why)) (t : Track) (old now : K) (view : X → Piece) (calm : Type 0)
-    → (far : Far gives takes errors p parts end t old now) → (calm → IsNext given far.q view (Ok None) far.left end) → HandsFirst takes errors p parts end calm old now None
-all_done {X = X} gives given takes errors p parts end t old now view calm far first = record {
+pub all_done : {K X : Type 0} (gives given : Coming) (takes : K → Piece → K → Type 0) (errors : K → ℕ) (p : Progress) (parts : List Piece) (end : Option (Place × Why)) (t : Track) (old now : K) (view : X → Piece) (calm : Type 0) (breaks : Progress → Place → Type 0)
+    → (far : Far gives takes errors p parts end t old now) → (calm → IsNext given far.q view (Ok None) far.left end) → HandsFirst takes errors p parts end calm breaks old now None
+all_done {X = X} gives given takes errors p parts end t old now view calm breaks far first = record {
   taken = far.taken;
   left = far.left;
   split = far.split;
@@ -92,6 +92,7 @@ all_done {X = X} gives given takes errors p parts end t old now view calm far fi
   whole = λ same. refl;
   done = λ quiet is. let e = go far.left end (first quiet) in (e.0, e.1, refl);
   refused = λ quiet at why is. absurd (none_is_no_end (at, why) is);
+  broken = λ at why is. absurd (none_is_no_end (at, why) is);
   failed = λ rose. absurd (omega (arith, rose, far.received));
 }
   where
@@ -101,9 +102,10 @@ all_done {X = X} gives given takes errors p parts end t old now view calm far fi
     go (z ∷ zs) stop (y, is, seen, rest) = absurd (none_some y is)
 
 -- or the call refused
-pub next_refused : {K X : Type 0} (gives given : Coming) (takes : K → Piece → K → Type 0) (errors : K → ℕ) (p : Progress) (parts : List Piece) (end : Option (Place × Why)) (t : Track) (old now : K) (view : X → Piece) (calm : Type 0) (fault : Fault)
-    → (far : Far gives takes errors p parts end t old now) → (calm → fault.why ≢ Memory → IsNext given far.q view (Err fault) far.left end) → HandsFirst takes errors p parts end calm old now (Some (fault.at, fault.why))
-next_refused {X = X} gives given takes errors p parts end t old now view calm fault far first = record {
+pub next_refused : {K X : Type 0} (gives given : Coming) (takes : K → Piece → K → Type 0) (errors : K → ℕ) (p : Progress) (parts : List Piece) (end : Option (Place × Why)) (t : Track) (old now : K) (view : X → Piece) (calm : Type 0) (breaks : Progress → Place → Type 0) (fault : Fault)
+    → (far : Far gives takes errors p parts end t old now) → (calm → fault.why ≢ Memory → IsNext given far.q view (Err fault) far.left end) → (IsOutside fault.why → breaks far.q fault.at)
+    → HandsFirst takes errors p parts end calm breaks old now (Some (fault.at, fault.why))
+next_refused {X = X} gives given takes errors p parts end t old now view calm breaks fault far first broke = record {
   taken = far.taken;
   left = far.left;
   split = far.split;
@@ -114,6 +116,10 @@ next_refused {X = X} gives given takes errors p parts end t old now view calm fa
   refused = λ quiet to w is room same.
       let pair = some_is (fault.at, fault.why) (to, w) is in
       go to w pair far.left end (first quiet (λ e. room (sym (ap (λ (r : Place × Why). r.1) pair) ∙ e)));
+  broken = λ to w is out.
+      let pair = some_is (fault.at, fault.why) (to, w) is in
+      let told = broke (subst IsOutside (sym (ap (λ (r : Place × Why). r.1) pair)) out) in
+      (refl, subst (λ k. breaks (after grammar p far.taken) k) (ap (λ (r : Place × Why). r.0) pair) (subst (λ q. breaks q fault.at) far.state told));
   failed = λ rose. absurd (omega (arith, rose, far.received));
 }
   where
@@ -122,10 +128,14 @@ next_refused {X = X} gives given takes errors p parts end t old now view calm fa
     go to w pair [] (Some r) f = let same = same_failure {X = X} fault (record { at = r.0; why = r.1 }) f in (refl, ap (λ (k : Fault). ends (Some (k.at, k.why))) (sym same) ∙ ap (λ k. ends (Some k)) pair)
     go to w pair (z ∷ zs) stop (y, is, seen, rest) = absurd (some_err y fault (sym is))
 
+sink_inside : IsOutside Sink → ⊥
+sink_inside (inl e) = absurd cc
+sink_inside (inr e) = absurd cc
+
 -- the receiver did not take the part that was read
-pub sink_failed : {K : Type 0} (gives : Coming) (takes : K → Piece → K → Type 0) (errors : K → ℕ) (p : Progress) (parts : List Piece) (end : Option (Place × Why)) (t : Track) (old now new : K) (calm : Type 0) (at : Place) (why : Why)
-    → (far : Far gives takes errors p parts end t old now) → errors now < errors new → why ≡ Sink → ((q : Progress) → IsAt t q → at ≡ grammar.place q) → HandsFirst takes errors p parts end calm old new (Some (at, why))
-sink_failed gives takes errors p parts end t old now new calm at why far rose is place = record {
+pub sink_failed : {K : Type 0} (gives : Coming) (takes : K → Piece → K → Type 0) (errors : K → ℕ) (p : Progress) (parts : List Piece) (end : Option (Place × Why)) (t : Track) (old now new : K) (calm : Type 0) (breaks : Progress → Place → Type 0) (at : Place) (why : Why)
+    → (far : Far gives takes errors p parts end t old now) → errors now < errors new → why ≡ Sink → ((q : Progress) → IsAt t q → at ≡ grammar.place q) → HandsFirst takes errors p parts end calm breaks old new (Some (at, why))
+sink_failed gives takes errors p parts end t old now new calm breaks at why far rose is place = record {
   taken = far.taken;
   left = far.left;
   split = far.split;
@@ -134,6 +144,7 @@ sink_failed gives takes errors p parts end t old now new calm at why far rose is
   whole = λ same. absurd (omega (arith, rose, same, far.received));
   done = λ quiet e. absurd (none_is_no_end (at, why) (sym e));
   refused = λ quiet to w e room same. absurd (omega (arith, rose, same, far.received));
+  broken = λ to w e out. absurd (sink_inside (subst IsOutside (sym (ap (λ (r : Place × Why). r.1) (some_is (at, why) (to, w) e)) ∙ is) out));
   failed = λ more. (at, ap (λ w. ends (Some (at, w))) is, place far.q far.at ∙ ap (λ s. grammar.place s) far.state);
 }
 

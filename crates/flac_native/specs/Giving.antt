@@ -1,18 +1,18 @@
 -- What a decoder has still to give, and that each call gives the first of it.
-use Rattle.std.specs.Prelude.{◌≡◌, ◌≢◌, ◌≤◌, ◌<◌, true, List, [], ◌∷◌, Option, Some, None, Result, Ok, Err, IfOk, IfErr, IfSome}
+use Rattle.std.specs.Prelude.{◌≡◌, ◌≢◌, ◌≤◌, ◌<◌, ◌⊎◌, true, List, [], ◌∷◌, Option, Some, None, Result, Ok, Err, IfOk, IfErr, IfSome}
 use Rattle.flac_bits.specs.State.{without_fence}
-use Rattle.flac_bits.specs.Handing.{reason_of}
+use Rattle.flac_bits.specs.Handing.{reason_of, IsOutside}
 use Rattle.flac_bits.specs.declared.why.Why.{Why}
 use Rattle.flac_bits.specs.declared.why.Why.TheVariants.{Memory, Read, Spent}
 use Rattle.flac_frame.specs.Lent.{frame_of}
-use Rattle.flac_native.specs.Stream.{Piece, marked, block, framed, Progress}
+use Rattle.flac_native.specs.Stream.{Piece, marked, block, framed, Progress, next}
 use Rattle.flac_native.specs.Track.{IsAt, piece_of}
 use Rattle.flac_native.specs.Item.{Item, metadata, frame, told}
 use Rattle.flac_native.specs.Coming.{Coming}
 use Rattle.flac_native.specs.declared.fault.Place.{Place}
 use Rattle.flac_native.specs.declared.fault.Fault.{Fault}
 use Rattle.flac_native.specs.declared.part.Part.{Part}
-use Rattle.flac_native.specs.declared.phase.Phase.TheVariants.{Frames}
+use Rattle.flac_native.specs.declared.phase.Phase.TheVariants.{Opening, Frames}
 use Rattle.flac_native.specs.declared.track.Track.{Track}
 use Rattle.flac_native.specs.declared.course.Course.{Course}
 use Rattle.flac_native.specs.declared.course.Course.TheVariants as course
@@ -72,6 +72,11 @@ pub record CountsIn {C X : Type 0} (g : container.Ghosts C) (track : Track) (old
   pub behind : g.known old ≡ true → g.errors new ≡ g.errors old → g.behind new ≡ without_fence (g.behind old)
   pub names : g.names new ≡ g.names old
 
+-- A call that gives the item behind this progress reports an error of the device, and that memory ran out, at these places: those of the next part, and
+-- where that is the marker, those of the first block too.
+abbrev pub BreaksAt : (Progress → Place → Type 0) → Progress → Place → Type 0
+BreaksAt breaks p at = breaks p at ⊎ ((p.stand.phase ≡ Opening) × breaks (next p marked) at)
+
 -- the item that stands in a track behind a call that read this part
 abbrev pub found : Track → Option Part → Option Item
 found t None = None
@@ -103,6 +108,7 @@ held (course.Spent at) t = None
 pub record Goes {C X : Type 0} (g : container.Ghosts C) (old new : Stage C) (view : X → Option Item) (result : Result X Fault) : Type 0 where
   pub gives : (p : Progress) → IsAt old.track p → GivesFirst g p old.container new.container new.track view result
   pub counts : CountsIn g old.track old.container new.container result
+  pub broken : (p : Progress) → IsAt old.track p → IfErr result (λ f. IsOutside f.why → BreaksAt (g.breaks new.container) p f.at)
   -- no growth is refused behind the last block
   pub memory : old.track.phase ≡ Frames → IfErr result (λ f. f.why ≢ Memory)
   pub going : IfOk result (λ x. IfSome (view x) (λ _. (part : Part) × (new.course ≡ course.Read part)))

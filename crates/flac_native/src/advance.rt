@@ -5,7 +5,7 @@ ghost use Rattle.flac_bits.specs.Bits.{is_nil};
 ghost use Rattle.flac_bits.specs.Fencing.{lifted};
 ghost use Rattle.flac_bits.specs.Reading.{Counts, Reads};
 ghost use Rattle.flac_bits.specs.Items.{step_at};
-ghost use Rattle.flac_bits.specs.Handing.{StepsTo, reason_of};
+ghost use Rattle.flac_bits.specs.Handing.{StepsTo, reason_of, IsOutside};
 ghost use Rattle.flac_native.specs.Stream.{marker, layout, room_in, Progress, grammar, may_end_in, next};
 ghost use Rattle.flac_native.specs.Within.{ReadsWithinInRoom};
 ghost use Rattle.flac_native.specs.Track.{IsAt, IsMadeAs, piece_of, stand_of, info_in};
@@ -88,6 +88,7 @@ pub(crate) fn advance<R: Source>(
     ensures counts { Counts (lifted reader.old) reader.new (reason_of told result) }
     // Behind the last block no memory is taken.
     ensures memory { track.old.phase ≡ Phase.Frames → IfErr result (λ f. f.why ≢ Why.Memory) }
+    ensures broken { (p : Progress) → IsAt track.old p → IfErr result (λ f. IsOutside f.why → f.at ≡ grammar.place p) }
     ensures steps { (p : Progress) → IsAt track.old p → StepsTo (λ part. piece_of track.new part) told (step_at grammar p (lifted reader.old).cursor) (lifted reader.old) reader.new result }
     ensures made { IfOk result (λ o. IfSome o (λ part. IsMadeAs part track.old track.new)) }
     ensures next { IfOk result (λ o. IfSome o (λ part. (p : Progress) → IsAt track.old p → IsAt track.new (next p (piece_of track.new part)))) }

@@ -3,7 +3,7 @@
 ghost use Rattle.std.specs.Prelude.{◌≡◌, ◌≢◌, ◌<◌, ◌≤◌, ℕ, Bool, true, List, Option, IfOk, IfErr, IfSome, Err};
 ghost use Rattle.std.specs.Borrow.{GName};
 ghost use Rattle.flac_bits.specs.State.{Behind, without_fence};
-ghost use Rattle.flac_bits.specs.Handing.{reason_of};
+ghost use Rattle.flac_bits.specs.Handing.{reason_of, IsOutside};
 ghost use Rattle.flac_bits.specs.declared.why.Why.TheVariants.{Memory};
 ghost use Rattle.flac_native.specs.Stream.{Piece, Progress, Stand, next};
 ghost use Rattle.flac_native.specs.Track.{IsAt, IsMadeAs, piece_of, stand_of};
@@ -18,6 +18,7 @@ use flac_bits::Why;
 
 /// What the parts of a stream are read from, one after another: the bits of a native stream (RFC 9639, section 6), or the packets of another format.
 pub trait Container {
+    ghost use Rattle.flac_native.specs.declared.fault.Place.{Place};
     ghost use Rattle.flac_native.specs.declared.track.Track.{Track};
 
     /// Whether what is still to come is known.
@@ -47,6 +48,9 @@ pub trait Container {
     /// What is still to come.
     ghost gives: { Self → Coming };
 
+    /// Where a call that reads the part after this progress reports an error of the device, and that it is out of memory.
+    ghost breaks: { Self → Progress → Place → Type 0 };
+
     /// Reads the next part and keeps it in the track; `None` at the end of the stream. After an error neither is of use any more.
     ///
     /// # Errors
@@ -67,6 +71,7 @@ pub trait Container {
         ensures memory { (stand_of track.old).phase ≡ Frames → IfErr result (λ f. f.why ≢ Why.Memory) }
         ensures gives { (p : Progress) → IsAt track.old p → known self.old ≡ true → errors self.new ≡ errors self.old → raised self.new ≡ raised self.old → (reason_of told result ≡ Err Memory → ⊥) →
             (parts : List Piece) (end : Option (Place × Why)) → gives self.old p parts end → IsNext (gives self.new) p (piece_of track.new) result parts end }
+        ensures broken { (p : Progress) → IsAt track.old p → IfErr result (λ f. IsOutside f.why → breaks self.new p f.at) }
         ensures made { IfOk result (λ o. IfSome o (λ part. IsMadeAs part track.old track.new)) }
         ensures next { IfOk result (λ o. IfSome o (λ part. (p : Progress) → IsAt track.old p → IsAt track.new (next p (piece_of track.new part)))) };
 }

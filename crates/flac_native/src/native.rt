@@ -1,7 +1,8 @@
 //! A native stream is a container: the bits from the marker `fLaC` on (RFC 9639, section 6).
 
-ghost use Rattle.std.specs.Prelude.{⊤, true};
+ghost use Rattle.std.specs.Prelude.{◌≡◌, ⊤, true};
 ghost use Rattle.flac_bits.specs.Fencing.{lifted};
+ghost use Rattle.flac_native.specs.Stream.{grammar};
 ghost use Rattle.flac_native.specs.Coming.{PartsCome};
 
 use crate::advance::advance;
@@ -29,6 +30,8 @@ impl<R: Source> Container for BitReader<R> {
     ghost stands = { λ _ _. true };
 
     ghost gives = { λ r p parts end. PartsCome p (lifted r).cursor parts end };
+
+    ghost breaks = { λ _ p at. at ≡ grammar.place p };
 
     fn next(&mut self, track: &mut Track) -> Result<Option<Part>, Fault> {
         advance(self, track)

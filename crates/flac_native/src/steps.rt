@@ -6,11 +6,12 @@ ghost use mathlib.Core.Option.{none};
 ghost use Rattle.flac_bits.specs.Bits.{bits_of};
 ghost use Rattle.flac_bits.specs.State.{short_of};
 ghost use Rattle.flac_bits.specs.Fencing.{lifted};
+ghost use Rattle.flac_bits.specs.Handing.{IsOutside};
 ghost use Rattle.flac_native.specs.contracts.decoder.Decoder.{the_row};
 ghost use Rattle.flac_native.specs.Stream.{Progress, opening};
 ghost use Rattle.flac_native.specs.Track.{IsAt, is_made, is_going, stand_of};
 ghost use Rattle.flac_native.specs.Decoding.{beginning};
-ghost use Rattle.flac_native.specs.Giving.{GivesFirst, CountsIn, found, held, shown_of, Goes, Moves, stage_of};
+ghost use Rattle.flac_native.specs.Giving.{GivesFirst, BreaksAt, CountsIn, found, held, shown_of, Goes, Moves, stage_of};
 
 use crate::container::Container;
 use crate::course::Course;
@@ -40,6 +41,7 @@ fn next_item<C: Container>(container: &mut C, track: &mut Track) -> Result<Optio
     ensures memory { track.old.phase ≡ Phase.Frames → IfErr result (λ f. f.why ≢ Why.Memory) }
     ensures made { IfOk result (λ o. IfSome o (λ part. is_made (Course.Read part) track.new ≡ true)) }
     ensures gives { (p : Progress) → IsAt track.old p → GivesFirst C.Container p container.old container.new track.new (λ o. found track.new o) result }
+    ensures broken { (p : Progress) → IsAt track.old p → IfErr result (λ f. IsOutside f.why → BreaksAt (C.breaks container.new) p f.at) }
 {
     let outcome = container.next(track);
     if is_marker(&outcome) {

@@ -15,6 +15,7 @@ use Rattle.flac_native.specs.Item.{told}
 use Rattle.flac_native.specs.Decoding.{beginning}
 use Rattle.flac_native.specs.Coming.{ReadAs, IsNext, HandsFirst}
 use Rattle.flac_native.specs.declared.fault.Place.{Place}
+use Rattle.flac_native.specs.declared.fault.Place.TheVariants as place
 use Rattle.flac_native.specs.declared.fault.Fault.{Fault}
 use Rattle.flac_native.specs.declared.phase.Phase.TheVariants.{Opening}
 use Rattle.flac_native.specs.declared.track.Track.{Track}
@@ -22,7 +23,7 @@ use Rattle.flac_pages.specs.Packets.{Place as Stands, Ahead, ahead, at_front}
 use Rattle.flac_pages.specs.Items.{IsAtPacket, GoesBehind}
 use Rattle.flac_ogg.specs.Stream.{start, packet_start, closed_packet, fault_in, stop_in, OggStream, OggRefused}
 use Rattle.flac_ogg.specs.Steps.{PacketStep, item, over, refused, packet_step, Goes}
-use Rattle.flac_ogg.specs.Decoding.{BeginsWith, ogg_reading}
+use Rattle.flac_ogg.specs.Decoding.{BeginsWith, IsItemOrPage, ogg_reading}
 use Rattle.flac_ogg.specs.Telling.{IsUnderWay, StepIs}
 use Rattle.flac_ogg.specs.Coming.{final, ItemsCome, Foretells, IsClear}
 use Rattle.flac_ogg.proofs.MeaningContents.{ahead_of, begins_ahead, some_contents, contents_ahead, contents_fault, contents_stop}
@@ -261,14 +262,14 @@ fronts mark text items end come = record {
 }
 
 pub hands_ogg : {K : Type 0} (takes : K → Piece → K → Type 0) (errors : K → ℕ) (mark : Mark) (text : List Bool) (items : List Piece) (end : Option (Place × Why)) (calm : Type 0) (old new : K) (outcome : Option (Place × Why))
-    → ItemsCome start (ahead_of mark text) items end → HandsFirst takes errors start items end calm old new outcome → Hands (ogg_reading mark text) takes errors calm old new outcome
+    → ItemsCome start (ahead_of mark text) items end → HandsFirst takes errors start items end calm IsItemOrPage old new outcome → Hands (ogg_reading mark text) takes errors calm old new outcome
 hands_ogg takes errors mark text items end calm old new outcome come h =
-    hands_of (ogg_reading mark text) takes errors start items end calm old new outcome (read_as mark text items end come) (fronts mark text items end come) h
+    hands_of (ogg_reading mark text) takes errors start items end calm IsItemOrPage old new outcome (read_as mark text items end come) (fronts mark text items end come) (λ xs at b. inl b) h
 
 pub decides_ogg : {K : Type 0} (takes : K → Piece → K → Type 0) (errors : K → ℕ) (mark : Mark) (text : List Bool) (calm : Type 0) (old new : K) (outcome : Option (Place × Why))
-    → ((items : List Piece) (end : Option (Place × Why)) → ItemsCome start (ahead_of mark text) items end → HandsFirst takes errors start items end calm old new outcome) → calm → errors new ≡ errors old → Decides (ogg_reading mark text) outcome
+    → ((items : List Piece) (end : Option (Place × Why)) → ItemsCome start (ahead_of mark text) items end → HandsFirst takes errors start items end calm IsItemOrPage old new outcome) → calm → errors new ≡ errors old → Decides (ogg_reading mark text) outcome
 decides_ogg takes errors mark text calm old new outcome hands quiet same =
-    decides_of (ogg_reading mark text) takes errors start calm old new outcome (λ items end has. hands items end (comes mark text items end has)) quiet same
+    decides_of (ogg_reading mark text) takes errors start calm IsItemOrPage old new outcome (λ items end has. hands items end (comes mark text items end has)) quiet same
 
 -- an error that is foretold stands behind the input
 pub foretold_short : (mark : Mark) (text : List Bool) → Foretells (ahead_of mark text) → mark.short ≡ Read
@@ -281,20 +282,16 @@ foretold_short mark text h =
     ]
 
 -- before the first page memory is wanting
-pub nothing_read : {K : Type 0} (takes : K → Piece → K → Type 0) (errors : K → ℕ) (mark : Mark) (text : List Bool) (calm : Type 0) (sink : K) (at : Place) (why : Why) → why ≡ Memory → Hands (ogg_reading mark text) takes errors calm sink sink (Some (at, why))
-nothing_read takes errors mark text calm sink at why is =
-    let there = some_come mark text in
-    hands_ogg takes errors mark text there.items there.end calm sink sink (Some (at, why)) there.come (record {
-      taken = [];
-      left = there.items;
-      split = refl;
-      mid = sink;
-      took = refl;
-      whole = λ same. refl;
-      done = λ quiet e. absurd (none_some (at, why) (sym e));
-      refused = λ quiet to w e room same. absurd (room (sym (same_end at to why w e).1 ∙ is));
+pub nothing_read : {K : Type 0} (takes : K → Piece → K → Type 0) (errors : K → ℕ) (mark : Mark) (text : List Bool) (calm : Type 0) (sink : K) (why : Why) → why ≡ Memory → Hands (ogg_reading mark text) takes errors calm sink sink (Some (place.Marker, why))
+nothing_read takes errors mark text calm sink why is =
+    let begins = (goes_begins mark text [] start (ahead_of mark text) (refl, refl)).begins in
+    record {
+      done = λ quiet e. absurd (none_some (place.Marker, why) (sym e));
+      refused = λ quiet to w e room same. absurd (room (sym (same_end place.Marker to why w e).1 ∙ is));
+      begun = ([], sink, begins, refl, λ same. refl);
+      broken = λ to w e out. ([], begins, inr (refl, sym (same_end place.Marker to why w e).0), refl);
       failed = λ rose. absurd (omega (arith, rose));
-    })
+    }
 
 -- where the source foretells no error
 pub clear_start : (p : Stands) (t : Track) (fails : Option (ℕ × Why)) (text : List Bool) → ahead p ≡ ahead_of (beginning (short_of fails)) text → IsAt t start → fails ≡ None → IsClear p t

@@ -1,10 +1,11 @@
 -- A byte in front of those that a source gives.
-use Rattle.std.proofs.Common.{◌≡◌, ℕ, ◌<◌, Bool, true, false, List, [], ◌∷◌, ◌++◌, length, take, slice_set, Option, Some, None, refl, ap, arith}
+use Rattle.std.proofs.Common.{◌≡◌, ℕ, ◌<◌, Bool, true, false, List, [], ◌∷◌, ◌++◌, length, take, slice_set, Option, Some, None, inr, refl, ap, arith}
 use Rattle.flac_bits.specs.State.{Mark}
 use Rattle.flac_bits.specs.Handing.{Hands}
 use Rattle.flac_bits.specs.declared.why.Why.{Why}
 use Rattle.flac_native.specs.Stream.{Piece}
 use Rattle.flac_native.specs.declared.fault.Place.{Place}
+use Rattle.flac_native.specs.declared.fault.Place.TheVariants as place
 use Rattle.flac_ogg.specs.Stream.{start}
 use Rattle.flac_ogg.specs.Fronts.{front_bytes}
 use Rattle.flac_ogg.specs.Either.{begins_page, read_either}
@@ -25,12 +26,18 @@ begins_nothing : (is_ogg : Bool) (mark : Mark) (text : List Bool) → (read_eith
 begins_nothing true mark text = (goes_begins mark text [] start (ahead_of mark text) (refl, refl)).begins
 begins_nothing false mark text = ([], text, refl, refl)
 
+-- at the marker it is told that a call was broken off before the first item
+breaks_nothing : (is_ogg : Bool) (mark : Mark) (text : List Bool) (at : Place) → at ≡ place.Marker → (read_either is_ogg mark text).breaks [] at
+breaks_nothing true mark text at e = inr (refl, e)
+breaks_nothing false mark text at e = e
+
 -- the source failed before the first item
 pub nothing_came : {K : Type 0} (is_ogg : Bool) (mark : Mark) (text : List Bool) (takes : K → Piece → K → Type 0) (errors : K → ℕ) (calm : Type 0) (sink : K) (outcome : Option (Place × Why))
-    → (calm → ⊥) → Hands (read_either is_ogg mark text) takes errors calm sink sink outcome
-nothing_came is_ogg mark text takes errors calm sink outcome none = record {
+    → (calm → ⊥) → ((at : Place) (why : Why) → outcome ≡ Some (at, why) → at ≡ place.Marker) → Hands (read_either is_ogg mark text) takes errors calm sink sink outcome
+nothing_came is_ogg mark text takes errors calm sink outcome none marker = record {
   done = λ quiet e. absurd (none quiet);
   refused = λ quiet at why e room same. absurd (none quiet);
   begun = ([], sink, begins_nothing is_ogg mark text, refl, λ same. refl);
+  broken = λ at why e out. ([], begins_nothing is_ogg mark text, breaks_nothing is_ogg mark text at (marker at why e), refl);
   failed = λ rose. absurd (omega (arith, rose));
 }

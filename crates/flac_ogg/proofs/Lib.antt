@@ -8,6 +8,7 @@ pub mod Packeted
 pub mod UnderWay
 pub mod Arriving
 pub mod Stepped
+pub mod Breaking
 pub mod NativeItems
 pub mod NativeBlocks
 pub mod NativeFrames

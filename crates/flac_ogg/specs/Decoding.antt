@@ -1,10 +1,11 @@
 -- How an input is read as an Ogg stream.
-use Rattle.std.specs.Prelude.{◌≡◌, ℕ, Bool, List, ◌++◌}
+use Rattle.std.specs.Prelude.{◌≡◌, ◌⊎◌, ℕ, Bool, List, [], ◌++◌}
 use Rattle.flac_bits.specs.State.{Mark}
 use Rattle.flac_bits.specs.Items.{after}
 use Rattle.flac_bits.specs.Handing.{Reading}
-use Rattle.flac_native.specs.Stream.{Piece, grammar}
+use Rattle.flac_native.specs.Stream.{Piece, Progress, grammar}
 use Rattle.flac_native.specs.declared.fault.Place.{Place}
+use Rattle.flac_native.specs.declared.fault.Place.TheVariants as place
 use Rattle.flac_ogg.specs.Stream.{start, Contents, AreItems, OggStream, OggRefused}
 
 -- the input's first packets are these items, each whole
@@ -15,11 +16,17 @@ pub record BeginsWith (mark : Mark) (items : List Piece) (text : List Bool) : Ty
   pub split : contents.packets ≡ taken ++ left
   pub spelled : AreItems start taken items
 
--- it is an Ogg stream of these items, or is refused behind them, or its first packets are these items; the next one stands where it would in a native stream
+-- the place of the item that comes next, or that of a page
+abbrev pub IsItemOrPage : Progress → Place → Type 0
+IsItemOrPage p at = (at ≡ grammar.place p) ⊎ ((n : ℕ) × (at ≡ place.Page n))
+
+-- it is an Ogg stream of these items, or is refused behind them, or its first packets are these items; the next one stands where it would in a native stream.
+-- Before the first item a call is broken off at the marker too
 abbrev pub ogg_reading : Mark → List Bool → Reading Piece Place
 ogg_reading mark text = record {
   whole = λ items. OggStream mark items text;
   refused = λ items at why. OggRefused mark items text at why;
   begins = λ items. BeginsWith mark items text;
   place = λ items. grammar.place (after grammar start items);
+  breaks = λ items at. IsItemOrPage (after grammar start items) at ⊎ ((items ≡ []) × (at ≡ place.Marker));
 }

@@ -1,6 +1,7 @@
 //! One packet after another.
 
 ghost use Rattle.std.specs.Prelude.{◌≡◌, ◌≢◌, ◌≤◌, ◌<◌, ◌+◌, true, false, length, cond, IfOk, IfErr, IfSome, None, Some};
+ghost use Rattle.flac_bits.specs.Handing.{IsOutside};
 ghost use Rattle.flac_native.specs.Stream.{Progress, next, place_in};
 ghost use Rattle.flac_native.specs.Track.{IsAt, IsMadeAs, piece_of, stand_of};
 ghost use Rattle.flac_native.specs.declared.phase.Phase.TheVariants.{Frames};
@@ -8,6 +9,7 @@ ghost use Rattle.flac_pages.specs.Packets.{ahead};
 ghost use Rattle.flac_ogg.specs.Steps.{packet_step, without_packet, refused};
 ghost use Rattle.flac_ogg.specs.Stream.{last_fault};
 ghost use Rattle.flac_ogg.specs.Telling.{IsUnderWay, StepIs, EndIs};
+ghost use Rattle.flac_ogg.specs.Decoding.{IsItemOrPage};
 
 use crate::items::read_packet;
 use crate::places::{is_behind_blocks, packet_fault, page_place};
@@ -33,6 +35,7 @@ fn block_due(track: &Track) -> Fault
 /// `PacketLength` where a block is due, and what [`Track::end`] refuses.
 fn end_here(track: &mut Track) -> Result<(), Fault>
     ensures memory { IfErr result (λ f. f.why ≢ Why.Memory) }
+    ensures quiet { IfErr result (λ f. f.why ≢ Why.Read) }
     ensures ends { (p : Progress) → IsAt track.old p → IsUnderWay p.stand → EndIs (without_packet p None) result }
 {
     if !is_behind_blocks(track) {
@@ -50,6 +53,7 @@ fn end_here(track: &mut Track) -> Result<(), Fault>
 /// The fault where a byte follows the page marked last: a block that is due comes first.
 fn behind_last(track: &Track, page: u64, why: Why) -> Fault
     ensures memory { why ≢ Why.Memory → result.why ≢ Why.Memory }
+    ensures page { IsOutside result.why → result.at ≡ Place.Page page }
     ensures fault { (p : Progress) → IsAt track.now p → IsUnderWay p.stand → without_packet p (last_fault p None (Some (page, why))) ≡ refused result.at result.why }
 {
     if !is_behind_blocks(track) {
@@ -64,6 +68,7 @@ fn behind_last(track: &Track, page: u64, why: Why) -> Fault
 /// The fault where no packet is left: of the page that was refused, or of a byte behind the page marked last.
 fn page_fault(track: &Track, is_last: bool, page: u64, why: Why) -> Fault
     ensures memory { why ≢ Why.Memory → result.why ≢ Why.Memory }
+    ensures page { IsOutside result.why → result.at ≡ Place.Page page }
     ensures fault { (p : Progress) → IsAt track.now p → IsUnderWay p.stand → without_packet p (last_fault p (cond is_last None (Some (page, why))) (Some (page, why))) ≡ refused result.at result.why }
 {
     if is_last {
@@ -90,6 +95,7 @@ pub(crate) fn advance<R: Source>(
     ensures names { pages.new.names ≡ pages.old.names }
     ensures steps { (p : Progress) → IsAt track.old p → IsUnderWay p.stand → pages.old.known ≡ true → pages.new.errors ≡ pages.old.errors →
         StepIs (λ part. piece_of track.new part) (packet_step p (ahead pages.old)) (ahead pages.new) result }
+    ensures broken { (p : Progress) → IsAt track.old p → IfErr result (λ f. IsOutside f.why → IsItemOrPage p f.at) }
     ensures stands { IfOk result (λ o. IfSome o (λ _. (pages.new.rest ≡ 0) × (pages.new.more ≡ false))) }
     ensures spends { IfOk result (λ o. IfSome o (λ _. pages.new.most + length pages.new.body < pages.old.most + length pages.old.body)) }
     ensures goes { IfOk result (λ _. (pages.old.known ≡ true → pages.new.known ≡ true) × (pages.new.errors ≡ pages.old.errors)) }

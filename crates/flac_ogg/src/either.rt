@@ -33,6 +33,7 @@ fn pull_front<R: Source>(source: &mut R) -> Result<Option<u8>, Fault>
     ensures counted { OnOk result ((R.errors source.new ≡ R.errors source.old) × (R.raised source.new ≡ R.raised source.old)) }
     ensures kept { R.errors source.old ≤ R.errors source.new }
     ensures behind { R.known source.old ≡ true → R.errors source.new ≡ R.errors source.old → R.behind source.new ≡ R.behind source.old }
+    ensures place { IfErr result (λ f. f.at ≡ Place.Marker) }
     ensures rises { IfErr result (λ f. R.known source.old ≡ true → R.raised source.old < R.raised source.new) }
     ensures names { R.names source.new ≡ R.names source.old }
 {

@@ -4,6 +4,7 @@ ghost use Rattle.std.specs.Prelude.{◌≡◌, ◌+◌, ◌&&◌, not, nat_eq, l
 ghost use Rattle.flac_bits.specs.State.{the_end};
 ghost use Rattle.flac_pages.specs.Packets.{ahead};
 ghost use Rattle.flac_ogg.specs.Coming.{ItemsCome, IsClear};
+ghost use Rattle.flac_ogg.specs.Decoding.{IsItemOrPage};
 
 use crate::advance::advance;
 use flac_bits::Source;
@@ -51,6 +52,8 @@ impl<R: Source> Container for OggPackets<R> {
     ghost stands = { λ c _. nat_eq c.pages.rest 0 && not c.pages.more };
 
     ghost gives = { λ c p items end. ItemsCome p (ahead c.pages) items end };
+
+    ghost breaks = { λ _ p at. IsItemOrPage p at };
 
     fn next(&mut self, track: &mut Track) -> Result<Option<Part>, Fault> {
         advance(&mut self.pages, track)

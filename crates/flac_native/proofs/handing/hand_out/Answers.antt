@@ -10,8 +10,8 @@ returns-in-Err-clause-hands g c = λ p at known receives parts end come.
     let C = g.C.Container in
     let inv = c.loop-part.invariant in
     let far = inv.far p at known receives parts end come in
-    next_refused (C.gives c.loop-part.container) (C.gives c.next.new.self) (taken g.S.Sink.takes) g.S.Sink.errors p parts end c.loop-part.track c.args.sink.now c.loop-part.sink (piece_of c.next.new.track) _ c.in-Err.fault far
-    (λ calm room. c.in-Err.ensures.gives far.q far.at (inv.knows known) (calm.0 ∙ sym inv.errors) (calm.1 ∙ sym inv.raised) (room_for c.in-Err.fault room) far.left end far.comes)
+    next_refused (C.gives c.loop-part.container) (C.gives c.next.new.self) (taken g.S.Sink.takes) g.S.Sink.errors p parts end c.loop-part.track c.args.sink.now c.loop-part.sink (piece_of c.next.new.track) _ (C.breaks c.next.new.self) c.in-Err.fault far
+    (λ calm room. c.in-Err.ensures.gives far.q far.at (inv.knows known) (calm.0 ∙ sym inv.errors) (calm.1 ∙ sym inv.raised) (room_for c.in-Err.fault room) far.left end far.comes) (c.in-Err.ensures.broken far.q far.at)
 
 pub loop-part-preserved : goal.loop-part-preserved
 loop-part-preserved g c =

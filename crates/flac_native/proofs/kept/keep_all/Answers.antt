@@ -69,7 +69,6 @@ returns-in_err-keep_next-clause-refused g c =
     let at = c.in_err-keep_next.ensures.at in
     rw (p.1, p.2) (λ known calm room.
     let far = c.loop-reader.invariant.far opening c.requires.first in
-    let hands = step_refused grammar keeps no_errors opening far.0 (lifted c.args.reader.now) (lifted c.loop-reader.reader) c.keep_next.new.reader c.args.kept.now.items c.loop-reader.kept.items _ _ far.2
-    (λ told same quiet some. refuses far.0 far.1 told same quiet some) known in
-    let r = hands.refused calm _ _ refl room refl in
+    let r = step_refused grammar keeps no_errors opening far.0 (lifted c.args.reader.now) (lifted c.loop-reader.reader) c.keep_next.new.reader c.args.kept.now.items c.loop-reader.kept.items _ _ far.2
+    (λ told same quiet some. refuses far.0 far.1 told same quiet some) known calm room in
     record { items = r.0; refused = r.1; place = at })

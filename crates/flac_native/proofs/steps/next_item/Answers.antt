@@ -1,6 +1,9 @@
-use Rattle.std.proofs.Common.{Ok, Some, sym, ap, subst, ◌∙◌}
-use Rattle.flac_native.specs.Stream.{marked, next}
-use Rattle.flac_native.specs.Giving.{IsFirst, seen_by, found}
+use Rattle.std.proofs.Common.{◌≡◌, Ok, Some, inl, inr, sym, ap, subst, ◌∙◌}
+use Rattle.std.proofs.lemmas.Result.{IfErr-weaker}
+use Rattle.flac_native.specs.declared.phase.Phase.TheVariants.{Opening}
+use Rattle.flac_native.specs.Stream.{Stand, marked, next}
+use Rattle.flac_bits.specs.Handing.{IsOutside}
+use Rattle.flac_native.specs.Giving.{IsFirst, BreaksAt, seen_by, found}
 use Rattle.flac_native.proofs.Giving.{item_first, behind_marker, inside, made_as, made_behind}
 use Rattle.flac_native.proofs.Handed.{no_fault}
 use Rattle.flac_native.proofs.steps.next_item.Goals as goal
@@ -32,3 +35,15 @@ returns-then-is_marker-clause-gives g c = λ p at known same quiet room items en
     (inside result (λ y is made. made_behind mid.track now.track y first.made.1 made) second.made)
     (inside result (λ y is noted. noted (next p marked) stands) second.next) later.0 end
     (second.gives (next p marked) stands told (same ∙ sym first.counts.1) (quiet ∙ sym first.counts.2) room later.0 end later.2))
+
+pub returns-clause-broken : goal.returns-clause-broken
+returns-clause-broken g c = λ p at.
+    let breaks = g.C.Container.breaks c.next-outcome.new.self in
+    IfErr-weaker c.next-outcome.result (λ f. IsOutside f.why → breaks p f.at) (λ f. IsOutside f.why → BreaksAt breaks p f.at) (λ f told out. inl (told out)) (c.next-outcome.ensures.broken p at)
+
+pub returns-then-is_marker-clause-broken : goal.returns-then-is_marker-clause-broken
+returns-then-is_marker-clause-broken g c = λ p at.
+    let first = rw (c.is_marker.ensures.is c.if-is_marker.true) at c.next-outcome.ensures in
+    let opens : p.stand.phase ≡ Opening = ap (λ (s : Stand). s.phase) (sym at.stand) ∙ first.made.0 in
+    let breaks = g.C.Container.breaks c.next.new.self in
+    IfErr-weaker c.next.result (λ f. IsOutside f.why → breaks (next p marked) f.at) (λ f. IsOutside f.why → BreaksAt breaks p f.at) (λ f told out. inr (opens, told out)) (c.next.ensures.broken (next p marked) (first.next p at))

@@ -1,4 +1,4 @@
-use Rattle.std.proofs.Common.{ℕ, true, false, cond, None, Some, sym, ap, ◌∙◌}
+use Rattle.std.proofs.Common.{ℕ, true, false, cond, None, Some, inl, inr, sym, ap, ◌∙◌}
 use Rattle.flac_bits.specs.declared.why.Why.{Why}
 use Rattle.flac_native.specs.Stream.{Stand, place_in}
 use Rattle.flac_native.specs.Track.{stand_of, piece_of}
@@ -6,6 +6,7 @@ use Rattle.flac_ogg.specs.Steps.{without_packet}
 use Rattle.flac_ogg.specs.Stream.{last_fault}
 use Rattle.flac_ogg.proofs.Arriving.{begun_there, on_ok_at}
 use Rattle.flac_ogg.proofs.Stepped.{begins_so, ok_step, err_step, end_step, fault_step}
+use Rattle.flac_ogg.proofs.Breaking.{in_packet}
 use Rattle.flac_ogg.proofs.advance.advance.Goals as goal
 
 pub returns-in-Ok-clause-steps : goal.returns-in-Ok-clause-steps
@@ -35,3 +36,13 @@ pub returns-in-Err-clause-steps : goal.returns-in-Err-clause-steps
 returns-in-Err-clause-steps g c = λ p at way known same room.
     let f : ℕ × Why = (c.in-Err.page, c.in-Err.why) in
     fault_step p c.args.pages.now c.next_packet.new.self f c.in-Err.ensures.begins known same ∙ ap (λ b. without_packet p (last_fault p (cond b None (Some f)) (Some f))) (sym c.is_last.ensures) ∙ c.page_fault.ensures.fault p at way
+
+pub returns-in-Err-read_packet-clause-broken : goal.returns-in-Err-read_packet-clause-broken
+returns-in-Err-read_packet-clause-broken g c = λ p at.
+    in_packet p c.in-Err-read_packet.told c.packet_fault.result (c.packet_fault.ensures.place p.stand (c.place-at.ensures ∙ ap (λ (s : Stand). place_in s.phase s.index) at.stand)) c.packet_fault.ensures.why
+
+pub returns-in-Err-end_here-clause-broken : goal.returns-in-Err-end_here-clause-broken
+returns-in-Err-end_here-clause-broken g c = λ p at out. elim out [ inl e ↦ absurd (c.in-Err-end_here.ensures.quiet e) | inr e ↦ absurd (c.in-Err-end_here.ensures.memory e) ]
+
+pub returns-in-Err-clause-broken : goal.returns-in-Err-clause-broken
+returns-in-Err-clause-broken g c = λ p at out. inr (c.in-Err.page, c.page_fault.ensures.page out)

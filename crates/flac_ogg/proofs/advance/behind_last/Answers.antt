@@ -1,6 +1,7 @@
 use Rattle.std.proofs.Common.{sym, ap, ◌∙◌}
 use Rattle.flac_ogg.specs.Steps.{refused}
 use Rattle.flac_ogg.proofs.Stepped.{byte_behind, due_behind}
+use Rattle.flac_ogg.proofs.Breaking.{in_page, none_due}
 use Rattle.flac_ogg.proofs.advance.behind_last.Goals as goal
 
 pub returns-then-not-is_behind_blocks-clause-fault : goal.returns-then-not-is_behind_blocks-clause-fault
@@ -9,3 +10,9 @@ returns-then-not-is_behind_blocks-clause-fault c = λ p at way. due_behind c.arg
 pub returns-clause-fault : goal.returns-clause-fault
 returns-clause-fault c = λ p at way.
     byte_behind c.args.track.now p (c.args.page, c.args.why) at way (sym c.is_behind_blocks.ensures ∙ c.if-not-is_behind_blocks.false) ∙ ap (λ k. refused k c.args.why) (sym c.page_place.ensures)
+
+pub returns-then-not-is_behind_blocks-clause-page : goal.returns-then-not-is_behind_blocks-clause-page
+returns-then-not-is_behind_blocks-clause-page c = λ out. absurd (none_due c.block_due.result.why c.block_due.ensures.why out)
+
+pub returns-clause-page : goal.returns-clause-page
+returns-clause-page c = λ out. c.page_place.ensures ∙ in_page c.args.page c.args.why out

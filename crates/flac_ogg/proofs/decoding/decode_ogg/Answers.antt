@@ -15,7 +15,7 @@ use Rattle.flac_ogg.proofs.decoding.decode_ogg.Goals as goal
 pub returns-in-Err-clause-hands : goal.returns-in-Err-clause-hands
 returns-in-Err-clause-hands g c = λ known receives.
     let R = g.R.Source in
-    nothing_read (taken g.S.Sink.takes) g.S.Sink.errors (beginning (short_of ((R.behind c.args.source.now).fails))) (bits_of (R.coming c.args.source.now)) _ c.args.sink.now _ c.in-Err.why c.in-Err.ensures.err
+    nothing_read (taken g.S.Sink.takes) g.S.Sink.errors (beginning (short_of ((R.behind c.args.source.now).fails))) (bits_of (R.coming c.args.source.now)) _ c.args.sink.now c.in-Err.why c.in-Err.ensures.err
 
 pub returns-clause-hands : goal.returns-clause-hands
 returns-clause-hands g c = λ known receives.
