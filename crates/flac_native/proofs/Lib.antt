@@ -31,3 +31,4 @@ pub mod Heads
 pub mod AnyMark
 pub mod ReadBack
 pub mod Whole
+pub mod Meant

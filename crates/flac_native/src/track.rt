@@ -1,11 +1,11 @@
 //! What the parts of a stream so far leave for those behind them.
 
-ghost use Rattle.std.specs.Prelude.{◌≡◌, ◌≢◌, ◌≤◌, ◌+◌, cond, OnOk, IfOk, IfErr, Some, is_some, true, ⊤};
+ghost use Rattle.std.specs.Prelude.{◌≡◌, ◌≢◌, ◌≤◌, ◌+◌, cond, OnOk, IfOk, IfErr, Err, Some, is_some, true, ⊤};
 ghost use Rattle.std.specs.Borrow.{sem, follows_so};
 ghost use mathlib.Core.Option.{none};
-ghost use Rattle.flac_bits.specs.Reading.{Counts, ReadsInRoom};
+ghost use Rattle.flac_bits.specs.Reading.{Counts, ReadsInRoom, Means};
 ghost use Rattle.flac_bits.specs.Fencing.{lifted};
-ghost use Rattle.flac_native.specs.Within.{ReadsWithin};
+ghost use Rattle.flac_native.specs.Within.{ReadsWithin, MeansWithin};
 ghost use Rattle.flac_meta.specs.Block.{block as block_layout};
 ghost use Rattle.flac_native.specs.Resuming.{at_frames};
 ghost use Rattle.flac_frame.specs.Lent.{frame_of};
@@ -117,6 +117,7 @@ impl Track {
         ensures spends { OnOk result (bits.new.most + 32 ≤ bits.old.most) }
         ensures counts { Counts bits.old bits.new result }
         ensures reads { ReadsInRoom (λ x. x) (block_layout (stand_of self.old).seen) bits.old bits.new result }
+        ensures means { (result ≡ Err Why.Memory → ⊥) → Means (λ x. x) (block_layout (stand_of self.old).seen) bits.old bits.new result }
         ensures next { IfOk result (λ x. (p : Progress) → IsAt self.old p → IsAt self.new (next p (block_piece x.0 x.1))) }
         // The block that Track::next_block keeps stays.
         ensures last { self.new.last ≡ self.old.last }
@@ -135,6 +136,7 @@ impl Track {
         ensures spends { OnOk result (bits.new.most + 32 ≤ bits.old.most) }
         ensures counts { Counts bits.old bits.new result }
         ensures reads { ReadsInRoom (λ _. kept self.new) (layout_in Blocks (stand_of self.old)) bits.old bits.new result }
+        ensures means { (result ≡ Err Why.Memory → ⊥) → Means (λ _. kept self.new) (layout_in Blocks (stand_of self.old)) bits.old bits.new result }
         ensures next { OnOk result ((p : Progress) → IsAt self.old p → IsAt self.new (next p (kept self.new))) }
         ensures made { OnOk result (is_some self.new.block ≡ true) }
     {
@@ -156,6 +158,7 @@ impl Track {
         ensures counts { Counts (lifted bits.old) bits.new result }
         ensures memory { IfErr result (λ e. e ≢ Why.Memory) }
         ensures reads { ReadsWithin (Some 16777215) (λ _. shown self.new) (frame_behind (stand_of self.old).info (stand_of self.old).before) bits.old bits.new result }
+        ensures means { MeansWithin (Some 16777215) (λ _. shown self.new) (frame_behind (stand_of self.old).info (stand_of self.old).before) bits.old bits.new result }
         ensures next { OnOk result ((p : Progress) → IsAt self.old p → IsAt self.new (next p (framed (shown self.new)))) }
         ensures made { OnOk result (is_some (stand_of self.new).info ≡ true) }
         // The block that Track::next_block keeps stays.
@@ -192,6 +195,7 @@ impl Track {
         ensures counts { Counts (lifted bits.old) bits.new result }
         ensures memory { IfErr result (λ e. e ≢ Why.Memory) }
         ensures reads { ReadsWithin (Some 16777215) frame_of (frame_behind (stand_of self.old).info (stand_of self.old).before) bits.old bits.new result }
+        ensures means { MeansWithin (Some 16777215) frame_of (frame_behind (stand_of self.old).info (stand_of self.old).before) bits.old bits.new result }
         ensures* after { sem 𝓛 (follows_so the_row the_row self.entry.ghost_name none (λ _ _. ⊤)
             (λ last. IfOk result (λ v. (p : Progress) → IsAt self.old p → IsAt last (next p (framed (frame_of v)))))) }
     {

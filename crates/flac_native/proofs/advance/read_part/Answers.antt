@@ -4,6 +4,7 @@ use Rattle.flac_bits.specs.Fencing.{lifted}
 use Rattle.flac_native.specs.Stream.{framed, frame_behind, layout}
 use Rattle.flac_native.specs.Track.{info_in, before_in}
 use Rattle.flac_native.proofs.Bounds.{refused_within}
+use Rattle.flac_native.proofs.Giving.{same_why}
 use Rattle.flac_native.proofs.advance.read_part.Goals as goal
 
 pub returns-in_err-next_frame-in-Frames-clause-reads : goal.returns-in_err-next_frame-in-Frames-clause-reads
@@ -13,3 +14,11 @@ returns-in_err-next_frame-in-Frames-clause-reads g c =
     rw (p.1, p.2, c.in-Frames.is) (λ room known same.
     refused_within 16777215 (frame_behind (info_in c.args.track.now.format) (before_in c.args.track.now.format)) framed (started (lifted c.args.reader.now)).cursor _
     (c.in_err-next_frame-in-Frames.ensures.reads known same))
+
+pub returns-in_err-next_block-in-Blocks-clause-reads : goal.returns-in_err-next_block-in-Blocks-clause-reads
+unfolding layout
+returns-in_err-next_block-in-Blocks-clause-reads g c =
+    let p = err_from_is_err_and c.from_residual-in_err-next_block-in-Blocks.result c.from_residual-in_err-next_block-in-Blocks.ensures.1 in
+    let begins = rw c.lift-in-Blocks.ensures at c.start_checks-in-Blocks.ensures in
+    let reads = rw begins at c.in_err-next_block-in-Blocks.ensures.reads in
+    rw (p.1, p.2, c.in-Blocks.is) (λ room. reads (λ e. room (same_why _ _ e)))
