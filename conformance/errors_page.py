@@ -32,24 +32,16 @@ def counted(text, name):
     return first and list(enumerate(variants(text, name), int(first[1])))
 
 
-def reasons():
-    """`Why`, in the order of its variants."""
-    found = counted(source("flac_bits/src/why.rt"), "Why")
-    if not found:
-        raise SystemExit("errors_page: Why::number is not `self as u8 + FIRST`")
-    return found
-
-
 def printed(path, name):
-    """An enum whose variants print as `NUMBER NAME`, by an attribute each."""
+    """An enum whose variants print as `NUMBER NAME`: the arms of `as_str`."""
     text = source(path)
-    found = re.findall(r'#\[error\("(\d+) (\w+)"\)\]\s*(\w+),', text)
-    if [variant for _, _, variant in found] != variants(text, name):
-        raise SystemExit(f"errors_page: a variant of {name} has no number")
-    wrong = [variant for _, shown, variant in found if shown != variant]
+    found = re.findall(rf'\b{name}::(\w+) => "(\d+) (\w+)"', text)
+    if [variant for variant, _, _ in found] != variants(text, name):
+        raise SystemExit(f"errors_page: a variant of {name} has no text")
+    wrong = [variant for variant, _, shown in found if shown != variant]
     if wrong:
         raise SystemExit(f"errors_page: of {name} these print another name: {', '.join(wrong)}")
-    found = [(int(number), shown) for number, shown, _ in found]
+    found = [(int(number), shown) for _, number, shown in found]
     if (counted(text, name) or found) != found:
         raise SystemExit(f"errors_page: {name}::number and its text differ")
     return found
@@ -77,7 +69,8 @@ def due():
     encode = printed("flac_native/src/encode_fault.rt", "EncodeFault")
     if encode != numbered():
         raise SystemExit("errors_page: EncodeFault::number and its text differ")
-    for number, name in reasons() + printed("flac_frame/src/setup.rt", "SetupFault") + encode + own():
+    reasons = printed("flac_bits/src/why.rt", "Why")
+    for number, name in reasons + printed("flac_frame/src/setup.rt", "SetupFault") + encode + own():
         if names.setdefault(number, name) != name:
             raise SystemExit(f"errors_page: {number} is {names[number]} and {name} in the sources")
     return names

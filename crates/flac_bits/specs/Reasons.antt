@@ -1,5 +1,5 @@
--- The numbers by which reasons are told.
-use Rattle.std.specs.Prelude.{ℕ}
+-- The numbers of reasons, and the texts that are printed of them.
+use Rattle.std.specs.Prelude.{ℕ, List, codes}
 use Rattle.flac_bits.specs.declared.why.Why.{Why}
 use Rattle.flac_bits.specs.declared.why.Why.TheVariants.{Read, Memory, Truncated, BadMarker, NotStreamInfoFirst, ForbiddenType, BlockLength, BadStreamInfo, RepeatedBlock, SeekOrder, CueSheet, BadSync, ReservedCode, NotSubset, BadNumber, HeaderCheck, HeaderMismatch, Sequence, BlockSize, BadSubframe, BadPredictor, BadPartition, ResidualRange, NonzeroPadding, FrameTooLong, FrameCheck, SampleRange, TotalMismatch, Md5Mismatch, Sink, BadPage, PageCheck, PageOrder, OtherStream, PacketLength, NoEndPage, BadMapping, Spent, Write}
 
@@ -43,3 +43,45 @@ number_of NoEndPage = 36
 number_of BadMapping = 37
 number_of Spent = 38
 number_of Write = 39
+
+-- the number and the name
+abbrev pub text_of : Why → List ℕ
+text_of Read = codes "1 Read"
+text_of Memory = codes "2 Memory"
+text_of Truncated = codes "3 Truncated"
+text_of BadMarker = codes "4 BadMarker"
+text_of NotStreamInfoFirst = codes "5 NotStreamInfoFirst"
+text_of ForbiddenType = codes "6 ForbiddenType"
+text_of BlockLength = codes "7 BlockLength"
+text_of BadStreamInfo = codes "8 BadStreamInfo"
+text_of RepeatedBlock = codes "9 RepeatedBlock"
+text_of SeekOrder = codes "10 SeekOrder"
+text_of CueSheet = codes "11 CueSheet"
+text_of BadSync = codes "12 BadSync"
+text_of ReservedCode = codes "13 ReservedCode"
+text_of NotSubset = codes "14 NotSubset"
+text_of BadNumber = codes "15 BadNumber"
+text_of HeaderCheck = codes "16 HeaderCheck"
+text_of HeaderMismatch = codes "17 HeaderMismatch"
+text_of Sequence = codes "18 Sequence"
+text_of BlockSize = codes "19 BlockSize"
+text_of BadSubframe = codes "20 BadSubframe"
+text_of BadPredictor = codes "21 BadPredictor"
+text_of BadPartition = codes "22 BadPartition"
+text_of ResidualRange = codes "23 ResidualRange"
+text_of NonzeroPadding = codes "24 NonzeroPadding"
+text_of FrameTooLong = codes "25 FrameTooLong"
+text_of FrameCheck = codes "26 FrameCheck"
+text_of SampleRange = codes "27 SampleRange"
+text_of TotalMismatch = codes "28 TotalMismatch"
+text_of Md5Mismatch = codes "29 Md5Mismatch"
+text_of Sink = codes "30 Sink"
+text_of BadPage = codes "31 BadPage"
+text_of PageCheck = codes "32 PageCheck"
+text_of PageOrder = codes "33 PageOrder"
+text_of OtherStream = codes "34 OtherStream"
+text_of PacketLength = codes "35 PacketLength"
+text_of NoEndPage = codes "36 NoEndPage"
+text_of BadMapping = codes "37 BadMapping"
+text_of Spent = codes "38 Spent"
+text_of Write = codes "39 Write"

@@ -1,8 +1,8 @@
 //! Why something was refused.
 
-ghost use Rattle.std.specs.Prelude.{◌≡◌};
+ghost use Rattle.std.specs.Prelude.{◌≡◌, Some};
 ghost use Rattle.flac_bits.specs.declared.why.Why.TheVariants.{Memory};
-ghost use Rattle.flac_bits.specs.Reasons.{number_of};
+ghost use Rattle.flac_bits.specs.Reasons.{number_of, text_of};
 
 use std::alloc::{AllocError, AllocFailed};
 use std::fmt;
@@ -99,12 +99,60 @@ impl Why {
     {
         self as u8 + 1
     }
+
+    /// The number and the name of the reason: `26 FrameCheck`.
+    pub fn as_str(self) -> &'static str
+        ensures { result.now ≡ text_of self }
+    {
+        match self {
+            Why::Read => "1 Read",
+            Why::Memory => "2 Memory",
+            Why::Truncated => "3 Truncated",
+            Why::BadMarker => "4 BadMarker",
+            Why::NotStreamInfoFirst => "5 NotStreamInfoFirst",
+            Why::ForbiddenType => "6 ForbiddenType",
+            Why::BlockLength => "7 BlockLength",
+            Why::BadStreamInfo => "8 BadStreamInfo",
+            Why::RepeatedBlock => "9 RepeatedBlock",
+            Why::SeekOrder => "10 SeekOrder",
+            Why::CueSheet => "11 CueSheet",
+            Why::BadSync => "12 BadSync",
+            Why::ReservedCode => "13 ReservedCode",
+            Why::NotSubset => "14 NotSubset",
+            Why::BadNumber => "15 BadNumber",
+            Why::HeaderCheck => "16 HeaderCheck",
+            Why::HeaderMismatch => "17 HeaderMismatch",
+            Why::Sequence => "18 Sequence",
+            Why::BlockSize => "19 BlockSize",
+            Why::BadSubframe => "20 BadSubframe",
+            Why::BadPredictor => "21 BadPredictor",
+            Why::BadPartition => "22 BadPartition",
+            Why::ResidualRange => "23 ResidualRange",
+            Why::NonzeroPadding => "24 NonzeroPadding",
+            Why::FrameTooLong => "25 FrameTooLong",
+            Why::FrameCheck => "26 FrameCheck",
+            Why::SampleRange => "27 SampleRange",
+            Why::TotalMismatch => "28 TotalMismatch",
+            Why::Md5Mismatch => "29 Md5Mismatch",
+            Why::Sink => "30 Sink",
+            Why::BadPage => "31 BadPage",
+            Why::PageCheck => "32 PageCheck",
+            Why::PageOrder => "33 PageOrder",
+            Why::OtherStream => "34 OtherStream",
+            Why::PacketLength => "35 PacketLength",
+            Why::NoEndPage => "36 NoEndPage",
+            Why::BadMapping => "37 BadMapping",
+            Why::Spent => "38 Spent",
+            Why::Write => "39 Write",
+        }
+    }
 }
 
 impl fmt::Display for Why {
+    ghost output = { λ why. Some (text_of why) };
+
     fn fmt<W: fmt::Write>(&self, f: &mut fmt::Formatter<W>) -> fmt::Result {
-        let number = self.number();
-        write!(f, "{number} {self:?}")
+        f.write_str(self.as_str())
     }
 }
 

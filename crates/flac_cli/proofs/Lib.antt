@@ -3,6 +3,7 @@ pub mod Counting
 pub mod Lined
 pub mod Outcomes
 pub mod Refused
+pub mod Reported
 pub mod Rows
 pub mod Sent
 pub mod Wide

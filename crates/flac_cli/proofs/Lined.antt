@@ -1,10 +1,12 @@
 -- What calls that write text one after another have written.
-use Rattle.std.proofs.Common.{◌≡◌, ℕ, List, [], ◌∷◌, ◌++◌, Bool, true, take, ap, refl, sym, subst, ◌∙◌, append_assoc, append-nil}
+use Rattle.std.proofs.Common.{◌≡◌, ◌<◌, ◌≤◌, ℕ, List, [], ◌∷◌, ◌++◌, Bool, true, take, Result, Ok, Err, OnOk, OnErr, ap, refl, sym, subst, ◌∙◌, append_assoc, append-nil, arith}
 use Rattle.std.specs.Borrow.{GName}
 use Rattle.std.specs.List.{FoldsTo, concat}
 use Rattle.std.specs.Fmt.{WritesInCalls}
+use Rattle.flac_bits.specs.declared.target.Target as target
+use Rattle.flac_cli.specs.Lined.{Adds}
 
-none_taken : (bytes : List ℕ) → take 0 bytes ≡ []
+pub none_taken : (bytes : List ℕ) → take 0 bytes ≡ []
 none_taken [] = refl
 none_taken (x ∷ xs) = refl
 
@@ -40,3 +42,79 @@ module _ {S : Type 0} (is_known : S → Bool) (names : S → List GName) (text :
   -- So they have written a whole text.
   pub after_writes : (s : S) (bs : List ℕ) (t : S) → WritesInCalls Took s bs t → Took s bs t
   after_writes s bs t p = subst (λ b. Took s b t) p.whole (after_calls s p.parts t p.calls)
+
+module _ {T : Type 0} (g : target.Ghosts T) where
+  -- a text that was added, and what came of the next
+  pub adds_then : {X Y E F : Type 0} {a b : List ℕ} {old mid new : T} {had held has : List ℕ} {x : X} (r : Result Y F)
+      → Adds {E = E} g a old mid had held (Ok x) → Adds g b mid new held has r → Adds g (a ++ b) old new had has r
+  adds_then {a = a} {b = b} {old = old} {had = had} (Ok y) p q = record {
+    names = q.names ∙ p.names;
+    kept = omega (arith, p.kept, q.kept);
+    known = λ k. q.known (p.known k);
+    added = λ k. q.added (p.known k) ∙ (ap (λ l. l ++ b) (p.added k) ∙ append_assoc (g.sent old ++ had) a b);
+    rises = tt;
+  }
+  adds_then (Err e) p q = record {
+    names = q.names ∙ p.names;
+    kept = omega (arith, p.kept, q.kept);
+    known = tt;
+    added = tt;
+    rises = λ k. omega (arith, q.rises (p.known k), p.kept);
+  }
+
+  -- a call that did not come out
+  abbrev pub Lost : T → T → Type 0
+  Lost old new = record {
+    names : g.names new ≡ g.names old;
+    kept : g.errors old ≤ g.errors new;
+    rises : g.known old ≡ true → g.errors old < g.errors new;
+  }
+
+  pub lost : {X E : Type 0} {text : List ℕ} {old new : T} {had has : List ℕ} {e : E} → Adds {X = X} g text old new had has (Err e) → Lost old new
+  lost p = record {
+    names = p.names;
+    kept = p.kept;
+    rises = p.rises;
+  }
+
+  -- the same after a text that was added
+  pub lost_then : {X E : Type 0} {text : List ℕ} {old mid new : T} {had has : List ℕ} {x : X} → Adds {E = E} g text old mid had has (Ok x) → Lost mid new → Lost old new
+  lost_then p q = record {
+    names = q.names ∙ p.names;
+    kept = omega (arith, p.kept, q.kept);
+    rises = λ k. omega (arith, q.rises (p.known k), p.kept);
+  }
+
+  -- so no text was added, whatever it was
+  pub adds_lost : {X E : Type 0} {text : List ℕ} {old new : T} {had has : List ℕ} {e : E} → Lost old new → Adds {X = X} g text old new had has (Err e)
+  adds_lost p = record {
+    names = p.names;
+    kept = p.kept;
+    known = tt;
+    added = tt;
+    rises = p.rises;
+  }
+
+  -- what is held, sent
+  pub sent_adds : {X E : Type 0} {old new : T} (held : List ℕ) (r : Result X E) → g.names new ≡ g.names old → g.errors old ≤ g.errors new
+      → OnOk r (g.known old ≡ true → g.known new ≡ true) → OnOk r (g.known old ≡ true → g.sent new ≡ g.sent old ++ held)
+      → OnErr r (g.known old ≡ true → g.errors old < g.errors new) → Adds g [] old new held [] r
+  sent_adds {old = old} {new = new} held (Ok x) names kept known sent rises = record {
+    names = names;
+    kept = kept;
+    known = known;
+    added = λ k. append-nil (g.sent new) ∙ (sent k ∙ sym (append-nil (g.sent old ++ held)));
+    rises = tt;
+  }
+  sent_adds held (Err e) names kept known sent rises = record {
+    names = names;
+    kept = kept;
+    known = tt;
+    added = tt;
+    rises = rises;
+  }
+
+  -- with nothing held before and after, the text was sent
+  pub all_added : {X E : Type 0} {text : List ℕ} {old new : T} (r : Result X E) → Adds g text old new [] [] r → OnOk r (g.known old ≡ true → g.sent new ≡ g.sent old ++ text)
+  all_added {text = text} {old = old} {new = new} (Ok x) p = λ k. sym (append-nil (g.sent new)) ∙ (p.added k ∙ ap (λ l. l ++ text) (append-nil (g.sent old)))
+  all_added (Err e) p = tt

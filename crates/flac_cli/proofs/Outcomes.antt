@@ -1,5 +1,5 @@
 -- What an answer of a decoding says.
-use Rattle.std.proofs.Common.{Bool, false, List, ◌≡◌, ◌≢◌, ◌⊎◌, ℕ, nat_lt, true, None, Ok, Err, OnOk, OnErr, IfErr, Result, refl, ap, arith, inl, inr}
+use Rattle.std.proofs.Common.{Bool, false, List, ◌≡◌, ◌≢◌, ◌⊎◌, ℕ, nat_lt, true, None, Ok, Err, OnOk, OnErr, IfErr, Result, refl, ap, subst, arith, inl, inr}
 use Rattle.std.specs.Result.{is_err}
 use Rattle.flac_native.specs.Item.{told}
 use Rattle.flac_native.specs.declared.fault.Fault.{Fault}
@@ -8,11 +8,18 @@ use Rattle.flac_native.specs.declared.encode_fault.EncodeFault.{EncodeFault}
 use Rattle.flac_native.specs.declared.encode_fault.EncodeFault.TheVariants.{Memory, RepeatedBlock, BadMapping, Write}
 use Rattle.flac_bits.specs.Handing.{outcome_of}
 use Rattle.flac_bits.specs.Bits.{bits_of, bit_value}
+use Rattle.flac_meta.specs.declared.block.Block.{Block}
+use Rattle.flac_frame.specs.Audio.{Sound}
+use Rattle.flac_native.specs.Given.{Cut, cut_of}
 use Rattle.flac_bits.specs.State.{Behind, short_of}
 use Rattle.flac_native.specs.Stream.{Piece}
 use Rattle.flac_native.specs.Decoding.{beginning}
 use Rattle.flac_ogg.specs.Either.{read_either}
+use Rattle.flac_cli.specs.Encoded.{comment_list, BeginsIn, BeginsRaw}
+use Rattle.flac_cli.specs.Raw.{IsRaw}
 use Rattle.flac_cli.specs.Streams.{IsStream}
+use Rattle.flac_jobs.specs.declared.formats.Container.{Container}
+use Rattle.flac_jobs.specs.declared.formats.Format.{Format}
 
 -- What holds where nothing was refused holds at Ok.
 pub at_ok : {A X : Type 0} (r : Result A Fault) → (outcome_of told r ≡ None → X) → OnOk r X
@@ -46,6 +53,17 @@ same_or_begun X known (Err Write) old new begun same = λ k. inr (begun refl k)
 same_or_begun X known (Err Memory) old new begun same = λ k. inl (same (λ e. let n : 2 ≡ 39 = ap fault_number e in absurd (omega (arith, n))))
 same_or_begun X known (Err RepeatedBlock) old new begun same = λ k. inl (same (λ e. let n : 9 ≡ 39 = ap fault_number e in absurd (omega (arith, n))))
 same_or_begun X known (Err BadMapping) old new begun same = λ k. inl (same (λ e. let n : 37 ≡ 39 = ap fault_number e in absurd (omega (arith, n))))
+
+-- What a call that writes a stream has begun, it has begun of the samples that these bytes are.
+pub begun_raw : {X : Type 0} (format : Format) (c : Container) (words : List (List ℕ)) (bytes : List ℕ) (p : Cut) (l : List Block) (a : Sound) (before after : List Bool)
+    → IsRaw format bytes a → p ≡ cut_of format.block a format.seek_every → l ≡ comment_list words → (X → after ≡ before)
+    → X ⊎ BeginsIn c p l a before after → (after ≡ before) ⊎ BeginsRaw format c words bytes before after
+begun_raw format c words bytes p l a before after raw plan list same (inl x) = inl (same x)
+begun_raw format c words bytes p l a before after raw plan list same (inr b) = inr (record {
+  audio = a;
+  raw = raw;
+  begins = subst (λ k. BeginsIn c k (comment_list words) a before after) plan (subst (λ k. BeginsIn c p k a before after) list b);
+})
 
 -- What is read in either container is a stream.
 pub is_stream : (is_ogg : Bool) (parts : List Piece) (bytes : List ℕ) (behind : Behind) → (read_either is_ogg (beginning (short_of behind.fails)) (bits_of bytes)).whole parts → IsStream parts bytes behind

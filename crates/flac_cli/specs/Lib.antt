@@ -1,7 +1,9 @@
 pub mod Counted
 pub mod Encoded
+pub mod Lined
 pub mod Raw
 pub mod Refusals
+pub mod Reports
 pub mod Retagged
 pub mod Samples
 pub mod Streams

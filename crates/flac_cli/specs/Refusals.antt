@@ -1,15 +1,18 @@
 -- Which raw samples cannot be encoded as asked for, and for which first reason.
-use Rattle.std.specs.Prelude.{◌≡◌, ◌⊎◌, ◌*◌, ◌%◌, ◌||◌, ℕ, nat_eq, nat_lt, cond, List, length, map, Option, Some, None, is_none, option_map}
+use Rattle.std.specs.Prelude.{◌≡◌, ◌⊎◌, ◌*◌, ◌%◌, ◌||◌, ℕ, nat_eq, nat_lt, cond, List, length, map, codes, Option, Some, None, is_none, option_map}
 use Rattle.std.specs.Option.{option_or}
+use Rattle.flac_bits.specs.Reasons as reasons
 use Rattle.flac_bits.specs.declared.why.Why.TheVariants as why
 use Rattle.flac_header.specs.Choice.{rate_choice, depth_choice}
 use Rattle.flac_meta.specs.Listed.{list_fault, info_seen}
 use Rattle.flac_meta.specs.declared.block.Block.{Block}
 use Rattle.flac_frame.specs.Audio.{audio_fault}
+use Rattle.flac_frame.specs.Setup as setup
 use Rattle.flac_frame.specs.declared.setup.SetupFault.{SetupFault}
 use Rattle.flac_frame.specs.declared.setup.SetupFault.TheVariants.{BadRate, BadDepth, BadChannels}
 use Rattle.flac_native.specs.Given.{Cut, cut_of, plan_fault}
 use Rattle.flac_native.specs.Message.{sample_width}
+use Rattle.flac_native.specs.Numbers as numbers
 use Rattle.flac_native.specs.Seeking.{repeats_table}
 use Rattle.flac_native.specs.declared.encode_fault.EncodeFault.{EncodeFault}
 use Rattle.flac_native.specs.declared.encode_fault.EncodeFault.TheVariants as encode
@@ -53,6 +56,13 @@ refusal format c words bytes =
     (option_or (option_map Setup (plan_fault (cut_of format.block (raw_sound format bytes) format.seek_every)))
     (option_or (option_map Input (list_fault info_seen (comment_list words)))
     (option_map Output (stream_fault c (cut_of format.block (raw_sound format bytes) format.seek_every) (comment_list words)))))
+
+-- the number and the name of a reason
+abbrev pub text_of : Refusal → List ℕ
+text_of (Input why) = reasons.text_of why
+text_of (Setup fault) = setup.text_of fault
+text_of RawLength = codes "48 RawLength"
+text_of (Output fault) = numbers.text_of fault
 
 -- no fault of what was asked for: out of memory, or the target failed
 abbrev pub IsOutside : Refusal → Type 0

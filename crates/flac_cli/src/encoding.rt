@@ -1,12 +1,12 @@
 //! Raw samples, encoded.
 
-ghost use Rattle.std.specs.Prelude.{◌≡◌, ◌≤◌, ◌⊎◌, true, map, IfOk, IfErr, OnOk, OnErr, Some, None};
+ghost use Rattle.std.specs.Prelude.{◌≡◌, ◌≢◌, ◌≤◌, ◌<◌, ◌⊎◌, true, map, IfOk, IfErr, OnOk, OnErr, Some, None};
 ghost use Rattle.flac_bits.specs.Bits.{bits_of};
 ghost use Rattle.flac_meta.specs.Listed.{list_fault, info_seen};
 ghost use Rattle.flac_native.specs.Given.{fits_plan};
 ghost use Rattle.flac_cli.specs.Encoded.{comments_of, comment_list, EncodesIn, EncodesRaw, BeginsIn, BeginsRaw};
 ghost use Rattle.flac_cli.specs.Raw.{IsRaw, raw_sound};
-ghost use Rattle.flac_cli.specs.Refusals.{format_fault, raw_fault, stream_fault, refusal, IsOutside};
+ghost use Rattle.flac_cli.specs.Refusals.{format_fault, raw_fault, stream_fault, refusal, text_of, IsOutside};
 ghost use Rattle.flac_cli.specs.declared.encoding.Refusal.TheVariants.{Input, Setup, Output};
 
 use crate::raw::{channels_of, read_all};
@@ -18,7 +18,6 @@ use flac_meta::{Block, BlockList, Bytes, Comments, Texts};
 use flac_native::{EncodeFault, Plan, encode};
 use flac_ogg::encode_ogg;
 use std::alloc::Global;
-use std::fmt;
 
 /// The program's name in the streams that it writes.
 const VENDOR: &[u8] = b"flac profile 1";
@@ -60,13 +59,16 @@ impl From<EncodeFault> for Refusal {
     }
 }
 
-impl fmt::Display for Refusal {
-    fn fmt<W: fmt::Write>(&self, f: &mut fmt::Formatter<W>) -> fmt::Result {
+impl Refusal {
+    /// The number and the name of the reason: `48 RawLength`.
+    pub(crate) fn as_str(self) -> &'static str
+        ensures { result.now ≡ text_of self }
+    {
         match self {
-            Refusal::Input(why) => write!(f, "{why}"),
-            Refusal::Setup(fault) => write!(f, "{fault}"),
-            Refusal::RawLength => f.write_str("48 RawLength"),
-            Refusal::Output(fault) => write!(f, "{fault}"),
+            Refusal::Input(why) => why.as_str(),
+            Refusal::Setup(fault) => fault.as_str(),
+            Refusal::RawLength => "48 RawLength",
+            Refusal::Output(fault) => fault.as_str(),
         }
     }
 }
@@ -100,6 +102,7 @@ fn audio_of<R: Source>(alloc: Global, source: &mut R, format: Format) -> Result<
     ensures sound { IfOk result (λ a. R.known source.old ≡ true → a ≡ raw_sound format (R.coming source.old)) }
     ensures accepted { OnOk result (R.known source.old ≡ true → raw_fault format (R.coming source.old) ≡ None) }
     ensures refused { IfErr result (λ e. R.known source.old ≡ true → R.raised source.new ≡ R.raised source.old → IsOutside e ⊎ (raw_fault format (R.coming source.old) ≡ Some e)) }
+    ensures unwritten { IfErr result (λ e. e ≢ Output EncodeFault.Write) }
 {
     if let Some(fault) = format_fault(format) {
         return Err(Refusal::Setup(fault));
@@ -159,6 +162,7 @@ fn write_stream<W: Target>(
     ensures begun { OnErr result (W.known target.old ≡ true → (target.new ≡ target.old) ⊎ BeginsIn container plan.now list.now audio.now (bits_of (W.sent target.old)) (bits_of (W.sent target.new))) }
     ensures accepted { OnOk result (stream_fault container plan.now list.now ≡ None) }
     ensures refused { IfErr result (λ e. IsOutside (Refusal.Output e) ⊎ (stream_fault container plan.now list.now ≡ Some e)) }
+    ensures failed { IfErr result (λ e. e ≡ EncodeFault.Write → W.known target.old ≡ true → W.errors target.old < W.errors target.new) }
 {
     match container {
         Container::Native => encode(alloc, plan, list, audio, target),
@@ -185,6 +189,7 @@ pub(crate) fn encode_raw<R: Source, W: Target>(
         ⊎ BeginsRaw format container (map (λ word. word.now) comments.now) (R.coming source.old) (bits_of (W.sent target.old)) (bits_of (W.sent target.new))) }
     ensures accepted { OnOk result (R.known source.old ≡ true → refusal format container (map (λ word. word.now) comments.now) (R.coming source.old) ≡ None) }
     ensures refused { IfErr result (λ e. R.known source.old ≡ true → R.raised source.new ≡ R.raised source.old → IsOutside e ⊎ (refusal format container (map (λ word. word.now) comments.now) (R.coming source.old) ≡ Some e)) }
+    ensures failed { IfErr result (λ e. e ≡ Output EncodeFault.Write → W.known target.old ≡ true → W.errors target.old < W.errors target.new) }
 {
     let audio = audio_of(alloc, source, format)?;
     let plan = Plan::new(format.block, &audio, format.seek_every)?;

@@ -1,6 +1,8 @@
 //! Lines of text, sent to a target.
 
-ghost use Rattle.std.specs.Prelude.{◌≡◌, ◌≤◌, ◌+◌, ◌++◌, true, length, take, OnOk};
+ghost use Rattle.std.specs.Prelude.{◌≡◌, ◌≤◌, ◌<◌, ◌+◌, ◌++◌, true, [], length, take, OnOk, OnErr};
+ghost use Rattle.flac_cli.specs.Lined.{Adds};
+ghost use Rattle.flac_cli.specs.Reports.{fault_line};
 
 use flac_bits::{Target, Why, send_all};
 use std::fmt;
@@ -39,6 +41,8 @@ impl<W: Target> Lines<W> {
         ensures known { OnOk result (W.known self.old.target ≡ true → W.known self.new.target ≡ true) }
         ensures sent { OnOk result (W.known self.old.target ≡ true → W.sent self.new.target ≡ W.sent self.old.target ++ take self.old.held self.old.bytes) }
         ensures held { self.new.held ≡ 0 }
+        ensures kept { W.errors self.old.target ≤ W.errors self.new.target }
+        ensures failed { OnErr result (W.known self.old.target ≡ true → W.errors self.old.target < W.errors self.new.target) }
     {
         let held = self.held;
         self.held = 0;
@@ -56,6 +60,26 @@ impl<W: Target> Lines<W> {
         self.bytes[self.held..end].copy_from_slice(text);
         self.held = end;
     }
+
+    /// Takes a text: holds it where there is room, and sends it otherwise.
+    ///
+    /// # Errors
+    /// [`Why::Write`] if the target fails.
+    fn put(&mut self, text: &str) -> Result<(), Why>
+        ensures { Adds W.Target text.now self.old.target self.new.target (take self.old.held self.old.bytes) (take self.new.held self.new.bytes) result }
+    {
+        let text = text.as_bytes();
+        if text.len() <= ROOM - self.held {
+            self.hold(text);
+            return Ok(());
+        }
+        self.send()?;
+        if text.len() <= ROOM {
+            self.hold(text);
+            return Ok(());
+        }
+        send_all(&mut self.target, text)
+    }
 }
 
 impl<W: Target> fmt::Write for Lines<W> {
@@ -66,23 +90,36 @@ impl<W: Target> fmt::Write for Lines<W> {
     } };
 
     fn write_str(&mut self, text: &str) -> fmt::Result {
-        let text = text.as_bytes();
-        if text.len() <= ROOM - self.held {
-            self.hold(text);
-            return Ok(());
+        match self.put(text) {
+            Ok(()) => Ok(()),
+            Err(_) => Err(fmt::Error),
         }
-        if self.send().is_err() {
-            return Err(fmt::Error);
-        }
-        if text.len() <= ROOM {
-            self.hold(text);
-            return Ok(());
-        }
-        if send_all(&mut self.target, text).is_err() {
-            return Err(fmt::Error);
-        }
-        Ok(())
     }
+}
+
+/// Sends the line of a fault through a buffer.
+fn put_line<W: Target>(lines: &mut Lines<W>, path: &str, text: &str) -> Result<(), Why>
+    requires { lines.old.held ≡ 0 }
+    ensures { Adds W.Target (fault_line path.now text.now) lines.old.target lines.new.target [] [] result }
+{
+    lines.put("flac: ")?;
+    lines.put(path)?;
+    lines.put(": ")?;
+    lines.put(text)?;
+    lines.put("\n")?;
+    lines.send()
+}
+
+/// Sends the line of a fault: `flac: PATH: TEXT`.
+///
+/// # Errors
+/// [`Why::Write`] if the target fails.
+pub(crate) fn write_line<E: Target>(err: &mut E, path: &str, text: &str) -> Result<(), Why>
+    ensures sent { OnOk result (E.known err.old ≡ true → E.sent err.new ≡ E.sent err.old ++ fault_line path.now text.now) }
+    ensures failed { OnErr result (E.known err.old ≡ true → E.errors err.old < E.errors err.new) }
+{
+    let mut lines = Lines::new(err);
+    put_line(&mut lines, path, text)
 }
 
 /// Writes the line of a fault: `flac: PATH: FAULT`. If it cannot be written, there is no one left to report it to.

@@ -7,14 +7,15 @@ ghost use Rattle.flac_jobs.specs.Asks.{AsksDecode, AsksStream};
 ghost use Rattle.flac_cli.specs.Samples.{all_samples};
 ghost use Rattle.flac_cli.specs.Counted.{AsksTest, line_of, counts_line, frames_in, samples_in_all, printed};
 ghost use Rattle.flac_cli.specs.Encoded.{HasEncoded, HasBegun};
-ghost use Rattle.flac_cli.specs.Refusals.{CanBeEncoded};
+ghost use Rattle.flac_cli.specs.Refusals.{CanBeEncoded, text_of};
+ghost use Rattle.flac_cli.specs.Reports.{fault_line, path_of, Serves, Reports};
 ghost use Rattle.flac_cli.specs.Retagged.{HasRetagged};
 ghost use Rattle.flac_bits.specs.Bits.{bits_of};
 
 use crate::counts::Counts;
 use crate::decoding::decode_stream;
 use crate::encoding::{Refusal, encode_raw};
-use crate::lines::{Lines, write_fault};
+use crate::lines::{Lines, write_fault, write_line};
 use crate::listing::Listing;
 use crate::retagging::retag_with;
 use crate::samples::SampleWriter;
@@ -104,6 +105,20 @@ fn refuse<E: Target, F: Display>(err: &mut E, job: &Job<'_>, of_output: bool, fa
     1
 }
 
+/// Writes the line of a refused encoding, and returns the status 1.
+fn refuse_encoding<E: Target>(err: &mut E, input: &str, output: &str, refusal: Refusal) -> u8
+    ensures status { result ≡ 1 }
+    ensures line { E.known err.old ≡ true → E.errors err.new ≡ E.errors err.old → E.sent err.new ≡ E.sent err.old ++ fault_line (path_of input.now output.now refusal) (text_of refusal) }
+{
+    let path = match refusal {
+        Refusal::Output(EncodeFault::Write) => output,
+        _ => input,
+    };
+    // If it cannot be written, there is no one left to report it to.
+    let _ = write_line(err, path, refusal.as_str());
+    1
+}
+
 /// Whether the file at fault is the one that the job writes.
 fn is_of_output(why: Why) -> bool {
     matches!(why, Why::Sink | Why::Write)
@@ -133,6 +148,9 @@ pub fn run<R: Source, W: Target, O: Target, E: Target>(
     ensures accepted { result ≡ 0 → R.known source.old ≡ true → CanBeEncoded job.now (R.coming source.old) }
     // Where it is refused, it has added nothing, or a beginning of such a stream.
     ensures begun { result ≡ 1 → R.known source.old ≡ true → W.known target.old ≡ true → HasBegun job.now (R.coming source.old) (bits_of (W.sent target.old)) (bits_of (W.sent target.new)) }
+    // Where there is one it is refused, and its line was added to standard error. Without one it is done in silence, but where memory ran out: then the line says that.
+    ensures refused { Tells R.Source source.old source.new → Serves W.Target target.old target.new → Serves E.Target err.old err.new →
+        Reports job.now (R.coming source.old) result (E.sent err.old) (E.sent err.new) }
     // A retagging has then added to the file the same STREAMINFO, the comments, the other blocks and the rest of the input.
     ensures retagged { result ≡ 0 → R.known source.old ≡ true → W.known target.old ≡ true → HasRetagged job.now (R.coming source.old) (R.behind source.old) (bits_of (W.sent target.old)) (bits_of (W.sent target.new)) }
 {
@@ -153,10 +171,11 @@ pub fn run<R: Source, W: Target, O: Target, E: Target>(
             Err(fault) => refuse(err, job, is_of_output(fault.why), &fault),
         },
         Job::Encode {
+            input,
+            output,
             format,
             container,
             comments,
-            ..
         } => match encode_raw(
             alloc,
             source,
@@ -166,10 +185,7 @@ pub fn run<R: Source, W: Target, O: Target, E: Target>(
             target,
         ) {
             Ok(()) => 0,
-            Err(refusal) => {
-                let of_output = refusal == Refusal::Output(EncodeFault::Write);
-                refuse(err, job, of_output, &refusal)
-            }
+            Err(refusal) => refuse_encoding(err, input, output, refusal),
         },
         Job::Retag { comments, .. } => match retag_with(
             alloc,

@@ -1,5 +1,5 @@
--- The numbers of the reasons why samples or a plan are refused.
-use Rattle.std.specs.Prelude.{ℕ}
+-- The numbers of the reasons why samples or a plan are refused, and the texts that are printed of them.
+use Rattle.std.specs.Prelude.{ℕ, List, codes}
 use Rattle.flac_frame.specs.declared.setup.SetupFault.{SetupFault}
 use Rattle.flac_frame.specs.declared.setup.SetupFault.TheVariants.{BadRate, BadDepth, BadChannels, LengthsDiffer, SampleTooLarge, TooLong, BadBlockSize, TooManyPoints}
 
@@ -12,3 +12,14 @@ number_of SampleTooLarge = 44
 number_of TooLong = 45
 number_of BadBlockSize = 46
 number_of TooManyPoints = 47
+
+-- the number and the name
+abbrev pub text_of : SetupFault → List ℕ
+text_of BadRate = codes "40 BadRate"
+text_of BadDepth = codes "41 BadDepth"
+text_of BadChannels = codes "42 BadChannels"
+text_of LengthsDiffer = codes "43 LengthsDiffer"
+text_of SampleTooLarge = codes "44 SampleTooLarge"
+text_of TooLong = codes "45 TooLong"
+text_of BadBlockSize = codes "46 BadBlockSize"
+text_of TooManyPoints = codes "47 TooManyPoints"

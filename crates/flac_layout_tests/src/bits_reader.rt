@@ -238,6 +238,7 @@ fn reasons(rt: HostRuntime) -> Result<(), Fail> {
     assert!(rt; numbers == [1, 26, 39]);
     let text = format!(in rt.alloc(); "{}", Why::FrameCheck)?;
     assert!(rt; text.as_str() == "26 FrameCheck");
+    assert!(rt; Why::Write.as_str() == "39 Write");
     Ok(())
 }
 

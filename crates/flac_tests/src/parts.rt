@@ -136,6 +136,8 @@ fn numbers_of_faults(rt: HostRuntime) {
     assert!(rt; SetupFault::TooLong.number() == 45);
     assert!(rt; SetupFault::BadBlockSize.number() == 46);
     assert!(rt; SetupFault::TooManyPoints.number() == 47);
+    assert!(rt; EncodeFault::Memory.as_str() == "2 Memory");
+    assert!(rt; SetupFault::BadRate.as_str() == "40 BadRate");
 }
 
 /// Checks how something prints.

@@ -1,10 +1,12 @@
-use Rattle.std.proofs.Common.{rules, ◌≡◌, ◌∙◌, None, subst, map, inr}
+use Rattle.std.proofs.Common.{rules, ◌≡◌, ◌∙◌, None, subst, ap, map, inr}
 use Rattle.flac_bits.specs.Bits.{bits_of}
 use Rattle.flac_native.specs.Given.{cut_of, plan_fault}
 use Rattle.flac_cli.specs.Encoded.{comment_list, EncodesIn}
 use Rattle.flac_cli.proofs.Back.{parts_back}
 use Rattle.std.proofs.lemmas.Result.{err_from_is_err_and}
 use Rattle.flac_cli.proofs.Refused.{refused_raw, refused_plan, refused_words, refused_stream, accepted}
+use Rattle.flac_cli.proofs.Outcomes.{begun_raw}
+use Rattle.flac_cli.proofs.Reported.{not_setup, same_output}
 use Rattle.flac_cli.proofs.encoding.encode_raw.Goals as goal
 
 pub returns-clause-written : goal.returns-clause-written
@@ -62,3 +64,27 @@ returns-clause-accepted g c = λ known.
     accepted c.args.format c.args.container (map (λ word. word.now) c.args.comments.now) (g.R.Source.coming c.args.source.now) c.in_ok-audio.audio
     (c.in_ok-audio.ensures.accepted known) (c.in_ok-audio.ensures.sound known) c.in_ok-plan.plan plan c.block_size-size.ensures.good
     _ c.in_ok-list.ensures.list c.in_ok-list.ensures.accepted c.in_ok-write_stream.ensures.accepted
+
+pub returns-in_err-audio-clause-failed : goal.returns-in_err-audio-clause-failed
+returns-in_err-audio-clause-failed g c =
+    let p = err_from_is_err_and c.from_residual.result c.from_residual.ensures.1 in
+    rw (p.1, p.2) (λ is. absurd (c.in_err-audio.ensures.unwritten is))
+
+pub returns-in_err-plan-clause-failed : goal.returns-in_err-plan-clause-failed
+returns-in_err-plan-clause-failed g c =
+    let p = err_from_is_err_and c.from_residual-in_err-plan.result c.from_residual-in_err-plan.ensures.1 in
+    rw (p.1, p.2) (λ is. not_setup _ _ is)
+
+pub returns-in_err-write_stream-clause-failed : goal.returns-in_err-write_stream-clause-failed
+returns-in_err-write_stream-clause-failed g c =
+    let p = err_from_is_err_and c.from_residual-in_err-write_stream.result c.from_residual-in_err-write_stream.ensures.1 in
+    rw (p.1, p.2) (λ is. c.in_err-write_stream.ensures.failed (same_output _ _ is))
+
+pub returns-in_err-write_stream-clause-begun : goal.returns-in_err-write_stream-clause-begun
+returns-in_err-write_stream-clause-begun g c =
+    let p = err_from_is_err_and c.from_residual-in_err-write_stream.result c.from_residual-in_err-write_stream.ensures.1 in
+    let plan : c.in_ok-plan.plan ≡ cut_of c.args.format.block c.in_ok-audio.audio c.args.format.seek_every = search rules in
+    rw p.1 (λ known told.
+    begun_raw c.args.format c.args.container (map (λ word. word.now) c.args.comments.now) (g.R.Source.coming c.args.source.now) c.in_ok-plan.plan c.in_ok-list.list c.in_ok-audio.audio
+    (bits_of (g.W.Target.sent c.args.target.now)) (bits_of (g.W.Target.sent c.write_stream.new.target)) (c.in_ok-audio.ensures.raw known) plan c.in_ok-list.ensures.list
+    (λ same. ap (λ t. bits_of (g.W.Target.sent t)) same) (c.in_err-write_stream.ensures.begun told))
