@@ -8,6 +8,7 @@ use Rattle.flac_bits.specs.Fence.{fenced, unfenced, read_in}
 use Rattle.flac_bits.specs.Fencing.{lifted, fence_at, all_left}
 use Rattle.flac_bits.specs.Items.{Grammar, step_at, item}
 use Rattle.flac_bits.specs.declared.why.Why.{Why}
+use Rattle.flac_bits.proofs.Counting.{rises_then}
 use Rattle.flac_bits.proofs.Meaning.{past-short}
 use Rattle.flac_bits.proofs.Fences.{answers_in}
 use Rattle.flac_bits.proofs.Items.{step_spelled}
@@ -60,7 +61,7 @@ unfenced_end n s t behind =
 
 pub counts_within : {X : Type 0} (n : ℕ) (s t : State) (result : Result X Why) → Counts (fence_at n s) t result → Counts (lifted s) (lifted t) result
 counts_within n s t (Ok x) c = (c.0, c.1, c.2, λ known. ap without_fence (c.3 known), c.4)
-counts_within n s t (Err e) c = (c.0, λ known same. ap without_fence (c.1 known same), c.2, c.3)
+counts_within n s t (Err e) c = (c.0, λ known same. ap without_fence (c.1 known same), c.2, c.3, c.4, c.5)
 
 behind_is : {X : Type 0} (s t : State) (result : Result X Why) → Counts s t result → s.known ≡ true → t.errors ≡ s.errors → t.behind ≡ s.behind
 behind_is s t (Ok x) c known same = c.3 known
@@ -80,6 +81,8 @@ counts_on s t u x (Err e) c d = (
   λ known same. d.1 (c.0 known) (same ∙ sym c.1) ∙ ap without_fence (c.3 known),
   λ known is. subst (λ n. n < u.raised) c.2 (d.2 (c.0 known) is),
   d.3 ∙ c.4,
+  λ is. rises_then s.raised t.raised u.raised c.2 (d.4 is),
+  d.5,
 )
 
 -- behind an item bits run short for the same reason as before it

@@ -32,3 +32,4 @@ pub mod AnyMark
 pub mod ReadBack
 pub mod Whole
 pub mod Meant
+pub mod Unread

@@ -3,6 +3,7 @@ use Rattle.std.proofs.Common.{◌≡◌, ℕ, true, false, Bool, List, ◌∷◌
 use Rattle.flac_bits.specs.Bits.{unsigned, bits_of}
 use Rattle.flac_bits.specs.Sending.{Sends}
 use Rattle.flac_bits.specs.declared.target.Target as target
+use Rattle.flac_bits.proofs.Counting.{rises_then}
 use Rattle.flac_bits.proofs.Holding.{bits_of-append}
 use Rattle.flac_meta.specs.Listed.{list_fault, info_seen}
 use Rattle.flac_meta.specs.Valid.{AllAre, FitsFields}
@@ -28,8 +29,9 @@ module _ {S : Type 0} (g : target.Ghosts S) where
     counted = q.counted ∙ p.counted;
     kept = omega (arith, p.kept, q.kept);
     rises = tt;
+    risen = tt;
   }
-  sends_then {a = a} {b = b} {old = old} (Err e) p q = record {
+  sends_then {a = a} {b = b} {old = old} {mid = mid} {new = new} (Err e) p q = record {
     known = tt;
     sent = tt;
     begun = λ k.
@@ -39,6 +41,7 @@ module _ {S : Type 0} (g : target.Ghosts S) where
     counted = tt;
     kept = omega (arith, p.kept, q.kept);
     rises = λ k. omega (arith, q.rises (p.known k), p.counted);
+    risen = rises_then (g.errors old) (g.errors mid) (g.errors new) p.counted q.risen;
   }
 
   -- a sending that failed, of more bytes
@@ -51,6 +54,7 @@ module _ {S : Type 0} (g : target.Ghosts S) where
     counted = tt;
     kept = p.kept;
     rises = p.rises;
+    risen = p.risen;
   }
 
 -- these bytes are a stream of what was given

@@ -2,7 +2,7 @@
 
 ghost use Rattle.std.specs.Prelude.{◌≡◌, ◌≢◌, ◌<◌, ◌≤◌, ℕ, Bool, true, List, Option, IfOk, IfErr, IfSome, Err};
 ghost use Rattle.std.specs.Borrow.{GName};
-ghost use Rattle.flac_bits.specs.State.{Behind, without_fence};
+ghost use Rattle.flac_bits.specs.State.{Behind, Rises, without_fence};
 ghost use Rattle.flac_bits.specs.Handing.{reason_of, IsOutside};
 ghost use Rattle.flac_bits.specs.declared.why.Why.TheVariants.{Memory};
 ghost use Rattle.flac_native.specs.Stream.{Piece, Progress, Stand, next};
@@ -27,7 +27,7 @@ pub trait Container {
     /// How many errors of the device were returned that nothing foretold.
     ghost errors: { Self → ℕ };
 
-    /// How many errors of the device were returned, foretold or not.
+    /// How many errors of the device were returned, foretold or not. Each counts, known or not, as long as the count can rise.
     ghost raised: { Self → ℕ };
 
     /// What stands behind the bytes to come.
@@ -65,6 +65,9 @@ pub trait Container {
         ensures clear { IfOk result (λ o. IfSome o (λ _. known self.old ≡ true → clear self.old track.old → clear self.new track.new)) }
         ensures kept { errors self.old ≤ errors self.new }
         ensures read { IfErr result (λ f. known self.old ≡ true → f.why ≡ Why.Read → clear self.old track.old → raised self.old < raised self.new) }
+        ensures risen { IfErr result (λ f. f.why ≡ Why.Read → Rises (raised self.old) (raised self.new)) }
+        // No error of a sink is met.
+        ensures sinkless { IfErr result (λ f. f.why ≢ Why.Sink) }
         ensures behind { known self.old ≡ true → errors self.new ≡ errors self.old → behind self.new ≡ without_fence (behind self.old) }
         ensures names { names self.new ≡ names self.old }
         // After the last metadata block no memory is allocated.

@@ -2,6 +2,7 @@
 
 ghost use Rattle.std.specs.Prelude.{◌≡◌, ◌<◌, ◌≤◌, ◌++◌, ◌⊎◌, true, Bool, List, OnOk, OnErr, IfErr};
 ghost use Rattle.flac_bits.specs.Bits.{bits_of};
+ghost use Rattle.flac_bits.specs.State.{Rises};
 ghost use Rattle.flac_native.specs.Retag.{not_read, not_written};
 
 use crate::fault::Place;
@@ -23,6 +24,8 @@ pub(crate) fn copy_rest<R: Source, W: Target>(
     ensures fault { IfErr result (λ f. (f ≡ not_read) ⊎ (f ≡ not_written)) }
     ensures read { IfErr result (λ f. f.why ≡ Why.Read → reader.old.known ≡ true → reader.old.raised < reader.new.raised) }
     ensures write { IfErr result (λ f. f.why ≡ Why.Write → W.known target.old ≡ true → W.errors target.old < W.errors target.new) }
+    ensures read_risen { IfErr result (λ f. f.why ≡ Why.Read → Rises reader.old.raised reader.new.raised) }
+    ensures write_risen { IfErr result (λ f. f.why ≡ Why.Write → Rises (W.errors target.old) (W.errors target.new)) }
     ensures errors { (reader.old.errors ≤ reader.new.errors) × (W.errors target.old ≤ W.errors target.new) }
     ensures names { (reader.new.names ≡ reader.old.names) × (W.names target.new ≡ W.names target.old) }
 {

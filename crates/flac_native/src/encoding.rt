@@ -2,6 +2,7 @@
 
 ghost use Rattle.std.specs.Prelude.{◌≡◌, ◌≢◌, ◌∷◌, ◌++◌, ◌≤◌, ◌<◌, ◌^◌, ◌↔◌, length, min, max, cond, nat_eq, true, IfOk, IfErr, OnOk, None, Err};
 ghost use Rattle.flac_bits.specs.Bits.{bits_of};
+ghost use Rattle.flac_bits.specs.State.{Rises};
 ghost use Rattle.flac_bits.specs.Sending.{Sends};
 ghost use Rattle.flac_bits.specs.Written.{Writes};
 ghost use Rattle.flac_meta.specs.Listed.{block_fault};
@@ -204,6 +205,8 @@ pub fn encode<W: Target>(
     ensures written { OnOk result (W.known target.old ≡ true → Encodes plan.now list.now audio.now (bits_of (W.sent target.old)) (bits_of (W.sent target.new))) }
     ensures begun { IfErr result (λ e. e ≡ EncodeFault.Write → W.known target.old ≡ true → BeginsEncoding plan.now list.now audio.now (bits_of (W.sent target.old)) (bits_of (W.sent target.new))) }
     ensures failed { IfErr result (λ e. e ≡ EncodeFault.Write → W.known target.old ≡ true → W.errors target.old < W.errors target.new) }
+    // An error of the target is counted, if the count can rise, whatever is known of it.
+    ensures risen { IfErr result (λ e. e ≡ EncodeFault.Write → Rises (W.errors target.old) (W.errors target.new)) }
     ensures repeated { (result ≡ Err EncodeFault.RepeatedBlock) ↔ (repeats_table plan.now list.now ≡ true) }
     ensures mapping { result ≢ Err EncodeFault.BadMapping }
     ensures kept { IfErr result (λ e. e ≢ EncodeFault.Write → target.new ≡ target.old) }

@@ -33,6 +33,7 @@ fn judge(info: &StreamInfo, samples: u64, hasher: Md5) -> Result<(), Why>
     ensures judged { (count : ℕ) (message : List ℕ) → samples ≡ min count 18446744073709551615 → Holds hasher message → EndsBy (end_rules (Some info.now) count message) result }
     ensures quiet { IfErr result (λ e. e ≢ Why.Read) }
     ensures memory { IfErr result (λ e. e ≢ Why.Memory) }
+    ensures sinkless { IfErr result (λ e. e ≢ Why.Sink) }
 {
     if info.total() != 0 && info.total() != samples {
         return Err(Why::TotalMismatch);
@@ -58,6 +59,7 @@ impl Track {
         ensures judged { (p : Progress) → IsAt self.old p → EndsBy (end_rules p.stand.info p.samples p.message) result }
         ensures quiet { IfErr result (λ e. e ≢ Why.Read) }
         ensures memory { IfErr result (λ e. e ≢ Why.Memory) }
+        ensures sinkless { IfErr result (λ e. e ≢ Why.Sink) }
         // All else stays.
         ensures stays { self.new ≡ record self.old { hasher = self.new.hasher } }
         ensures anew { is_some self.old.format ≡ true → Holds self.new.hasher [] }

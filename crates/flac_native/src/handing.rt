@@ -1,7 +1,7 @@
 //! Passes the items of a container to a sink.
 
 ghost use Rattle.std.specs.Prelude.{◌≡◌, ◌<◌, ◌≤◌, List, Option, true, OnOk, OnErr, IfOk, IfErr, is_some};
-ghost use Rattle.flac_bits.specs.State.{without_fence};
+ghost use Rattle.flac_bits.specs.State.{Rises, without_fence};
 ghost use Rattle.flac_bits.specs.Handing.{outcome_of};
 ghost use Rattle.flac_native.specs.Stream.{Piece, Progress};
 ghost use Rattle.flac_native.specs.Track.{IsAt, piece_of, stand_of};
@@ -23,6 +23,7 @@ fn hand<S: Sink>(part: Part, track: &Track, sink: &mut S) -> Result<(), SinkFaul
     ensures takes { OnOk result (S.known sink.old ≡ true → taken S.takes sink.old (piece_of track.now part) sink.new) }
     ensures counted { OnOk result (S.errors sink.new ≡ S.errors sink.old) }
     ensures failed { OnErr result (S.known sink.old ≡ true → S.errors sink.old < S.errors sink.new) }
+    ensures risen { OnErr result (Rises (S.errors sink.old) (S.errors sink.new)) }
     ensures names { S.names sink.new ≡ S.names sink.old }
 {
     match part {
@@ -45,6 +46,7 @@ fn hand_at<S: Sink>(at: Place, part: Part, track: &Track, sink: &mut S) -> Resul
     ensures takes { OnOk result (S.known sink.old ≡ true → taken S.takes sink.old (piece_of track.now part) sink.new) }
     ensures counted { OnOk result (S.errors sink.new ≡ S.errors sink.old) }
     ensures failed { IfErr result (λ f. (S.known sink.old ≡ true → S.errors sink.old < S.errors sink.new) × (f.why ≡ Why.Sink) × (f.at ≡ at)) }
+    ensures risen { OnErr result (Rises (S.errors sink.old) (S.errors sink.new)) }
     ensures names { S.names sink.new ≡ S.names sink.old }
 {
     match hand(part, track, sink) {
@@ -72,6 +74,9 @@ pub fn hand_out<C: Container, S: Sink>(
     ensures met { IfOk result (λ _. (C.known container.old ≡ true → C.known container.new ≡ true) × (C.errors container.new ≡ C.errors container.old) × (C.raised container.new ≡ C.raised container.old)) }
     ensures kept { C.errors container.old ≤ C.errors container.new }
     ensures read { IfErr result (λ f. C.known container.old ≡ true → f.why ≡ Why.Read → C.clear container.old track.old → C.raised container.old < C.raised container.new) }
+    // An error of the device and of the sink is counted, if the count can rise, whatever is known of them: no other call returns it.
+    ensures risen { IfErr result (λ f. f.why ≡ Why.Read → Rises (C.raised container.old) (C.raised container.new)) }
+    ensures sink { IfErr result (λ f. f.why ≡ Why.Sink → Rises (S.errors sink.old) (S.errors sink.new)) }
     ensures behind { C.known container.old ≡ true → C.errors container.new ≡ C.errors container.old → C.behind container.new ≡ without_fence (C.behind container.old) }
     ensures names { S.names sink.new ≡ S.names sink.old }
     ensures container_names { C.names container.new ≡ C.names container.old }

@@ -1,6 +1,6 @@
 //! Writes metadata blocks one after another.
 
-ghost use Rattle.std.specs.Prelude.{◌≡◌, ◌++◌, length, List, OnOk, IfErr};
+ghost use Rattle.std.specs.Prelude.{◌≡◌, ◌≢◌, ◌++◌, length, List, OnOk, IfErr};
 ghost use Rattle.flac_bits.specs.Written.{Fails};
 ghost use Rattle.flac_meta.specs.declared.block.Block.{Block};
 ghost use Rattle.flac_native.specs.InOrder.{MayBeWritten, Advances};
@@ -16,6 +16,7 @@ pub(crate) fn write_each<W: Target>(
     writer: &mut BitWriter<W>,
 ) -> Result<(), Why>
     ensures written { OnOk result ((more : List Block) → count ≡ length (blocks.now ++ more) → Advances (blocks_spelling more) (blocks_spelling (blocks.now ++ more)) writer.old writer.new) }
+    ensures unread { IfErr result (λ e. e ≢ Why.Read) }
     ensures failed { IfErr result (λ e. (more : List Block) → count ≡ length (blocks.now ++ more) → MayBeWritten blocks.now → Fails (writer.old.bits ++ blocks_spelling (blocks.now ++ more)) writer.old writer.new e) }
 {
     for i in 0..blocks.len() {

@@ -9,6 +9,7 @@ use flac_bits::{BitWriter, Collected, Why};
 pub(crate) fn in_memory(why: Why) -> Why
     ensures target { why ≡ Why.Write → result ≡ Why.Memory }
     ensures others { why ≢ Why.Write → result ≡ why }
+    ensures unread { why ≢ Why.Read → result ≢ Why.Read }
 {
     match why {
         Why::Write => Why::Memory,

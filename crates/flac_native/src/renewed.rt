@@ -1,6 +1,6 @@
 //! What stands before the frames of a stream that is retagged.
 
-ghost use Rattle.std.specs.Prelude.{◌≡◌, ◌++◌, OnOk, IfOk, IfErr};
+ghost use Rattle.std.specs.Prelude.{◌≡◌, ◌≢◌, ◌++◌, OnOk, IfOk, IfErr};
 ghost use Rattle.flac_bits.specs.Bits.{bits_of};
 ghost use Rattle.flac_bits.specs.Written.{Adds, Fails};
 ghost use Rattle.flac_native.specs.Retag.{MayBeHead, new_head};
@@ -19,6 +19,7 @@ fn write_renewed<W: Target>(
     writer: &mut BitWriter<W>,
 ) -> Result<(), Why>
     ensures added { OnOk result (Adds (new_head comments.now kept.now) writer.old writer.new) }
+    ensures unread { IfErr result (λ e. e ≢ Why.Read) }
     ensures failed { IfErr result (λ e. MayBeHead comments.now kept.now → Fails (writer.old.bits ++ new_head comments.now kept.now) writer.old writer.new e) }
 {
     let Some((info, others)) = kept.split_first() else {
@@ -33,6 +34,7 @@ fn write_renewed<W: Target>(
 /// The same bytes in memory. Where all blocks may be written, it refuses for want of memory alone.
 pub(crate) fn renewed(alloc: Global, kept: &[Block], comments: &Comments) -> Result<Vec<u8>, Why>
     ensures head { IfOk result (λ head. bits_of head.items ≡ new_head comments.now kept.now) }
+    ensures unread { IfErr result (λ e. e ≢ Why.Read) }
     ensures memory { IfErr result (λ e. MayBeHead comments.now kept.now → e ≡ Why.Memory) }
 {
     let mut writer = BitWriter::new(Collected::new(alloc));

@@ -2,7 +2,7 @@
 
 ghost use Rattle.std.specs.Prelude.{◌≡◌, ◌≢◌, ◌<◌, ◌≤◌, ◌++◌, ◌⊎◌, true, Bool, List, OnOk, IfErr, IfSome, IsErrAnd, Err, Some, None};
 ghost use Rattle.flac_bits.specs.Bits.{bits_of};
-ghost use Rattle.flac_bits.specs.State.{short_of};
+ghost use Rattle.flac_bits.specs.State.{Rises, short_of};
 ghost use Rattle.flac_bits.specs.Fencing.{lifted};
 ghost use Rattle.flac_bits.specs.Handing.{IsCalm};
 ghost use Rattle.flac_meta.specs.Spelling.{comments_length};
@@ -44,6 +44,8 @@ fn retag_from<R: Source, W: Target>(
     ensures placeless { IfErr result (λ f. f.at ≡ None → f ≡ not_written) }
     ensures read { IfErr result (λ f. f.why ≡ Why.Read → reader.old.known ≡ true → reader.old.raised < reader.new.raised) }
     ensures write { IfErr result (λ f. f ≡ not_written → W.known target.old ≡ true → W.errors target.old < W.errors target.new) }
+    ensures read_risen { IfErr result (λ f. f.why ≡ Why.Read → Rises reader.old.raised reader.new.raised) }
+    ensures write_risen { IfErr result (λ f. f ≡ not_written → Rises (W.errors target.old) (W.errors target.new)) }
     ensures errors { reader.old.errors ≤ reader.new.errors }
     ensures names { (reader.new.names ≡ reader.old.names) × (W.names target.new ≡ W.names target.old) }
 {
@@ -120,6 +122,9 @@ pub fn retag<R: Source, W: Target>(
     ensures placeless { IfErr result (λ f. f.at ≡ None → (f ≡ too_long) ⊎ (f ≡ not_written)) }
     ensures read { IfErr result (λ f. f.why ≡ Why.Read → R.known source.old ≡ true → R.raised source.old < R.raised source.new) }
     ensures write { IfErr result (λ f. f ≡ not_written → W.known target.old ≡ true → W.errors target.old < W.errors target.new) }
+    // An error of a device is counted, if the count can rise, whatever is known of it.
+    ensures read_risen { IfErr result (λ f. f.why ≡ Why.Read → Rises (R.raised source.old) (R.raised source.new)) }
+    ensures write_risen { IfErr result (λ f. f ≡ not_written → Rises (W.errors target.old) (W.errors target.new)) }
     ensures kept { R.errors source.old ≤ R.errors source.new }
     ensures names { W.names target.new ≡ W.names target.old }
 {

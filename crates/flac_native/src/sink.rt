@@ -2,6 +2,7 @@
 
 ghost use Rattle.std.specs.Prelude.{◌≡◌, ◌<◌, ℕ, Bool, true, List, OnOk, OnErr};
 ghost use Rattle.std.specs.Borrow.{GName};
+ghost use Rattle.flac_bits.specs.State.{Rises};
 ghost use Rattle.flac_frame.specs.Lent.{frame_of};
 ghost use Rattle.flac_native.specs.Item.{Item, metadata, frame as frame_item};
 
@@ -17,10 +18,10 @@ pub trait Sink {
     /// From old, a sink that takes this item may go on to new.
     ghost takes: { Self → Item → Self → Type 0 };
 
-    /// Whether its errors are counted. Where the count can rise no more they are not, and nothing is claimed of the sink.
+    /// Whether its errors are counted. Where the count can rise no more they are not, and nothing is claimed of what it takes.
     ghost known: { Self → Bool };
 
-    /// How many errors it answered.
+    /// How many errors it answered. Each counts, as long as the count can rise.
     ghost errors: { Self → ℕ };
 
     /// The borrows that it writes through.
@@ -32,6 +33,7 @@ pub trait Sink {
         ensures takes { OnOk result (known self.old ≡ true → takes self.old (metadata block.now) self.new) }
         ensures counted { OnOk result (errors self.new ≡ errors self.old) }
         ensures failed { OnErr result (known self.old ≡ true → errors self.old < errors self.new) }
+        ensures risen { OnErr result (Rises (errors self.old) (errors self.new)) }
         ensures names { names self.new ≡ names self.old };
 
     /// Takes a frame, which is lent for the call. An error takes nothing.
@@ -40,5 +42,6 @@ pub trait Sink {
         ensures takes { OnOk result (known self.old ≡ true → takes self.old (frame_item (frame_of frame.now)) self.new) }
         ensures counted { OnOk result (errors self.new ≡ errors self.old) }
         ensures failed { OnErr result (known self.old ≡ true → errors self.old < errors self.new) }
+        ensures risen { OnErr result (Rises (errors self.old) (errors self.new)) }
         ensures names { names self.new ≡ names self.old };
 }

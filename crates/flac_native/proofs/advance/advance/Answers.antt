@@ -1,4 +1,4 @@
-use Rattle.std.proofs.Common.{inl, inr, ap, ◌∙◌}
+use Rattle.std.proofs.Common.{inl, inr, ap, ◌∙◌, arith}
 use Rattle.flac_bits.specs.Fencing.{lifted}
 use Rattle.flac_native.specs.Stream.{Stand, place_in}
 use Rattle.flac_native.proofs.Advancing.{over_here, refused_here}
@@ -22,3 +22,9 @@ returns-in-Err-clause-broken g c = λ p at out. c.place-at.ensures ∙ ap (λ (s
 
 pub returns-in-Err-end-clause-broken : goal.returns-in-Err-end-clause-broken
 returns-in-Err-end-clause-broken g c = λ p at out. elim out [ inl e ↦ absurd (c.in-Err-end.ensures.quiet e) | inr e ↦ absurd (c.in-Err-end.ensures.memory e) ]
+
+pub returns-in-Err-end-clause-counts : goal.returns-in-Err-end-clause-counts
+returns-in-Err-end-clause-counts g c =
+    let went = rw c.lift.ensures at c.in-Ok-true.ensures.counts in
+    let ended = c.in-Err-end.ensures in
+    (omega (arith, went.1), λ known same. went.3 known, λ known read. absurd (ended.quiet read), went.4, λ read. absurd (ended.quiet read), ended.sinkless)

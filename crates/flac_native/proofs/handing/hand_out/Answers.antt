@@ -26,6 +26,7 @@ loop-part-preserved g c =
       raised = step.counts.2 ∙ inv.raised;
       container_names = step.names ∙ inv.container_names;
       names = c.hand_at.ensures.names ∙ inv.names;
+      received = took.counted ∙ inv.received;
       known = λ receives. took.known (inv.known receives);
       clear = λ known clear. step.clear (inv.knows known) (inv.clear known clear);
       behind = λ known. ap without_fence (step.behind (inv.knows known) step.counts.1) ∙ inv.behind known;

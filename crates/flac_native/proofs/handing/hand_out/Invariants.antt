@@ -16,6 +16,7 @@ invariant-loop-part g l = record {
   raised : g.C.Container.raised l.container ≡ g.C.Container.raised l.initial.container;
   container_names : g.C.Container.names l.container ≡ g.C.Container.names l.initial.container;
   names : g.S.Sink.names l.sink ≡ g.S.Sink.names l.initial.sink;
+  received : g.S.Sink.errors l.sink ≡ g.S.Sink.errors l.initial.sink;
   known : g.S.Sink.known l.initial.sink ≡ true → g.S.Sink.known l.sink ≡ true;
   clear : g.C.Container.known l.initial.container ≡ true → g.C.Container.clear l.initial.container l.initial.track → g.C.Container.clear l.container l.track;
   behind : g.C.Container.known l.initial.container ≡ true → without_fence (g.C.Container.behind l.container) ≡ without_fence (g.C.Container.behind l.initial.container);

@@ -6,6 +6,7 @@ use Rattle.flac_meta.specs.declared.block.Block.{Block}
 use Rattle.flac_native.specs.Writing.{blocks_spelling}
 use Rattle.flac_native.proofs.BlocksWritten.{blocks_step, before_table, behind_all}
 use Rattle.flac_native.proofs.Renewing.{was_written}
+use Rattle.flac_native.proofs.Unread.{never_read}
 use Rattle.flac_native.proofs.in_order.write_each.Goals as goal
 
 -- one block more, of so many
@@ -43,3 +44,8 @@ returns-in_err-write_block-clause-failed g c =
     let lt : i < length bs = omega (arith, c.loop-i-test.true) in
     rw (p.1, p.2) (λ more is good. towards_fail _ (blocks_spelling (drop (i + 1) (bs ++ more))) (step_of bs more i c.args.count c.index-blocks-i.result is lt c.index-blocks-i.is) (c.loop-i.invariant.towards more is)
     (c.in_err-write_block.ensures.writes (good i c.index-blocks-i.result lt c.index-blocks-i.is)))
+
+pub returns-in_err-write_block-clause-unread : goal.returns-in_err-write_block-clause-unread
+returns-in_err-write_block-clause-unread g c =
+    let p = err_from_is_err_and c.from_residual.result c.from_residual.ensures.1 in
+    rw (p.1, p.2) (never_read _ c.index-blocks-i.result _ _ _ c.in_err-write_block.ensures.refused c.in_err-write_block.ensures.writes (λ f. f.reason))

@@ -54,9 +54,6 @@ no_device : (f : RetagFault) → f.why ≡ why.Memory → (f ≡ not_read) ⊎ (
 no_device f e (inl h) = let g = sym e ∙ ap (λ (r : RetagFault). r.why) h in absurd cc
 no_device f e (inr h) = let g = sym e ∙ ap (λ (r : RetagFault). r.why) h in absurd cc
 
-not_refused : (w : Why) → w ≡ why.Memory → w ≡ why.Read → ⊥
-not_refused w e h = let g = sym e ∙ h in absurd cc
-
 may_be : (comments : Comments) (c : Cursor) (kept slice : List Block) (rest : List Bool) → comments_length comments ≤ 16777215 → slice ≡ kept → AreKept c kept rest → MayBeHead comments slice
 may_be comments c kept slice rest short is are = subst (λ l. MayBeHead comments l) (sym is) (kept_may_be_head comments c kept rest short are)
 
@@ -75,6 +72,7 @@ returns-in-Err-renewed-clause-begun g c = λ either known told.
     absurd (no_device _ e either)
 
 pub returns-in-Err-renewed-clause-read : goal.returns-in-Err-renewed-clause-read
-returns-in-Err-renewed-clause-read g c = λ read known.
-    let e = c.in-Err-renewed.ensures.memory (may_be c.args.comments.now (lifted c.args.reader.now).cursor c.in-Ok.kept.items _ c.read_kept.new.reader.cursor.left c.requires.short c.as_slice.ensures.value (c.in-Ok.ensures.kept known)) in
-    absurd (not_refused _ e read)
+returns-in-Err-renewed-clause-read g c = λ read known. absurd (c.in-Err-renewed.ensures.unread read)
+
+pub returns-in-Err-renewed-clause-read_risen : goal.returns-in-Err-renewed-clause-read_risen
+returns-in-Err-renewed-clause-read_risen g c = λ read. absurd (c.in-Err-renewed.ensures.unread read)
