@@ -1,5 +1,5 @@
 -- A block that may not be written is refused for a reason of its own, and never for one of a source.
-use Rattle.std.proofs.Common.{◌≡◌, Bool, true, false, nat_lt, [], ◌∷◌, Option, Some, None, IfSome, Result, Ok, Err, refl, sym, ap, ◌∙◌}
+use Rattle.std.proofs.Common.{◌≡◌, Bool, true, false, nat_lt, [], ◌∷◌, Option, Some, None, IfSome, Result, Err, refl, sym, ap, ◌∙◌}
 use Rattle.flac_bits.specs.declared.why.Why.{Why}
 use Rattle.flac_bits.specs.declared.why.Why.TheVariants as why
 use Rattle.flac_meta.specs.Listed.{block_fault, first_broken, is_forbidden, is_out_of_order, has_bad_sheet}

@@ -2,7 +2,6 @@ use Rattle.std.proofs.Common.{◌≡◌, ◌≤◌, ◌++◌, List, Some, Bool, 
 use Rattle.std.specs.Prelude.{◌⊎◌, OnOk, OnErr, IfErr}
 use Rattle.flac_bits.specs.State.{Cursor}
 use Rattle.flac_bits.specs.Fencing.{lifted}
-use Rattle.flac_bits.specs.declared.why.Why.{Why}
 use Rattle.flac_bits.specs.declared.why.Why.TheVariants as why
 use Rattle.flac_meta.specs.Spelling.{comments_length}
 use Rattle.flac_meta.specs.declared.block.Block.{Block}
