@@ -1,5 +1,5 @@
 -- What a sink that counts has counted.
-use Rattle.std.proofs.Common.{◌≡◌, ◌≤◌, ℕ, ◌+◌, min, List, [], ◌∷◌, ap, sym, ◌∙◌, arith}
+use Rattle.std.proofs.Common.{◌≡◌, ◌≤◌, ℕ, ◌+◌, List, [], ◌∷◌, ap, arith}
 use Rattle.flac_native.specs.Stream.{Piece, marked, block, framed}
 use Rattle.flac_bits.specs.Handing.{TakesAll}
 use Rattle.flac_native.specs.Item.{Item}

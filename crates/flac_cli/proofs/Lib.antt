@@ -1,9 +1,9 @@
 pub mod Back
 pub mod Counting
+pub mod Failed
 pub mod Lined
 pub mod Outcomes
 pub mod Refused
-pub mod Reported
 pub mod Rows
 pub mod Sent
 pub mod Wide

@@ -1,5 +1,5 @@
 -- What the program reports of an encoding.
-use Rattle.std.specs.Prelude.{◌≡◌, ◌⊎◌, ℕ, Bool, true, List, ◌++◌, map, codes, Option, Some, None}
+use Rattle.std.specs.Prelude.{◌≡◌, ◌⊎◌, ℕ, true, List, ◌++◌, map, codes, Option, Some, None}
 use Rattle.flac_bits.specs.declared.target.Target as target
 use Rattle.flac_native.specs.declared.encode_fault.EncodeFault.TheVariants as encode
 use Rattle.flac_cli.specs.Refusals.{refusal, text_of}

@@ -1,10 +1,4 @@
-use Rattle.std.proofs.Common.{Bool, true, false, inl, inr}
-use Rattle.flac_bits.specs.Bits.{bits_of}
-use Rattle.flac_bits.specs.State.{Behind, short_of}
-use Rattle.flac_native.specs.Stream.{Piece}
-use Rattle.flac_native.specs.Decoding.{beginning}
-use Rattle.flac_ogg.specs.Either.{begins_page, read_either}
-use Rattle.flac_cli.specs.Streams.{IsStream}
+use Rattle.flac_ogg.specs.Either.{begins_page}
 use Rattle.flac_cli.proofs.Outcomes.{at_ok, is_stream}
 use Rattle.flac_cli.proofs.decoding.decode_stream.Goals as goal
 

@@ -6,7 +6,7 @@ use Rattle.flac_cli.proofs.Back.{parts_back}
 use Rattle.std.proofs.lemmas.Result.{err_from_is_err_and}
 use Rattle.flac_cli.proofs.Refused.{refused_raw, refused_plan, refused_words, refused_stream, accepted}
 use Rattle.flac_cli.proofs.Outcomes.{begun_raw}
-use Rattle.flac_cli.proofs.Reported.{not_setup, same_output}
+use Rattle.flac_cli.proofs.Failed.{not_setup, same_output}
 use Rattle.flac_cli.proofs.encoding.encode_raw.Goals as goal
 
 pub returns-clause-written : goal.returns-clause-written
