@@ -1,5 +1,5 @@
 -- A reader's call over a packet's bits and the judgement of the packet's end, together: they tell what the packet is.
-use Rattle.std.proofs.Common.{◌≡◌, ℕ, ◌≤◌, Bool, true, false, [], Option, Some, None, Result, Ok, Err, OnOk, refl, sym, ap, subst, ◌∙◌, arith}
+use Rattle.std.proofs.Common.{◌≡◌, ℕ, ◌<◌, ◌-◌, ◌^◌, ◌≤◌, ◌∷◌, Bool, true, false, [], Option, Some, None, Result, Ok, Err, OnOk, refl, sym, ap, subst, ◌∙◌, arith}
 use Rattle.std.proofs.lemmas.List.{append-nil}
 use Rattle.std.specs.Borrow.{GName}
 use Rattle.flac_bits.specs.Bits.{is_nil}
@@ -13,7 +13,7 @@ use Rattle.flac_bits.specs.declared.why.Why.TheVariants.{Memory, Read}
 use Rattle.flac_bits.proofs.Meaning.{past-short}
 use Rattle.flac_bits.proofs.Fences.{takes_in, refuses_in}
 use Rattle.flac_pages.specs.Packets.{Place, ahead, behind_of}
-use Rattle.flac_pages.specs.Items.{PacketEnd, whole, unended, cut_at, Packet, end_in, end_of, packet_of, packet_mark, short_at, in_packet, behind_item, TellsItem, IsAtPacket, JudgesPacket, GoesBehind, HasBehind}
+use Rattle.flac_pages.specs.Items.{PacketEnd, whole, unended, cut_at, Packet, end_in, end_of, packet_of, packet_mark, short_at, in_packet, behind_item, TellsItem, Meets, CountsSo, GivesBack, IsAtPacket, JudgesPacket, GoesBehind, HasBehind}
 use Rattle.flac_pages.proofs.ItemMeaning.{stopped, told_behind}
 
 pub short_is : (fails : Option (ℕ × Why)) (cut : Bool) → short_of fails ≡ short_at (end_in fails cut)
@@ -51,6 +51,23 @@ item_told {X = X} view room l c old mid new (Err why) result raised short counts
   where
     refusal : Option ℕ × Why → Result X (Option ℕ × Why)
     refusal why = Err why
+
+-- what is met over a packet's bits
+counts_so : {X : Type 0} (s mid : State) (read : Result X Why) → s.raised ≡ 0 → Counts s mid read → CountsSo read mid.raised
+counts_so s mid (Ok x) none counts = counts.2 ∙ none
+counts_so s mid (Err why) none counts = (λ e. let rose : s.raised < 2 ^ 64 - 1 → s.raised < mid.raised = counts.4 e in omega (arith, none, rose (omega (arith, none))), counts.5)
+
+same_names : {X : Type 0} (s mid : State) (read : Result X Why) → Counts s mid read → mid.names ≡ s.names
+same_names s mid (Ok x) counts = counts.4
+same_names s mid (Err why) counts = counts.3
+
+-- a packet's item was read, or none: what is told of the device's errors
+pub met_told : {X : Type 0} (p new : Place) (name back : GName) (s mid : State) (read : Result X Why) (result : Result X (Option ℕ × Why)) → s.raised ≡ 0 → s.names ≡ name ∷ p.raised ∷ p.names → Counts s mid read → GivesBack mid back new read result
+    → Meets p.raised new.raised result
+met_told p new name back s mid read result none names counts gives =
+    let same : back ∷ gives.lent ∷ new.names ≡ name ∷ p.raised ∷ p.names = sym gives.names ∙ same_names s mid read counts ∙ names in
+    let lent : gives.lent ≡ p.raised = cc in
+    subst (λ n. Meets n new.raised result) lent (gives.meets (counts_so s mid read none counts))
 
 -- a growth that was refused is told so, and so is none where it is not told
 pub memory_told : {X : Type 0} (mid : State) (new : Place) (read : Result X Why) (result : Result X (Option ℕ × Why)) → JudgesPacket mid new read result → (result ≡ Err (None, Memory) → ⊥) → read ≡ Err Memory → ⊥

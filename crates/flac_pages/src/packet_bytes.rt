@@ -77,6 +77,7 @@ impl<R: Source> Source for PacketBytes<'_, R> {
 
     ghost most = { λ p. p.pages.now.most + length p.pages.now.body };
 
+    // Between them: how many errors the device had returned when the pages were lent, which stays too.
     ghost names = { λ p. p.pages.ghost_name ∷ p.lent.value.raised ∷ p.pages.now.names };
 
     fn pull(&mut self, buf: &mut [u8]) -> io::Result<usize> {
