@@ -67,10 +67,10 @@ GivesFirst g p old new track view result =
 -- Each that is returned raises the count, if it can rise, and none is of a sink. What stands behind the bytes to come stays, and the references that the
 -- container goes through.
 pub record CountsIn {C X : Type 0} (g : container.Ghosts C) (track : Track) (old new : C) (result : Result X Fault) : Type 0 where
-  pub met : IfOk result (λ _. (g.known old ≡ true → g.known new ≡ true) × (g.errors new ≡ g.errors old) × (g.raised new ≡ g.raised old))
+  pub met : IfOk result (λ _. (g.known old ≡ true → g.known new ≡ true) × (g.errors new ≡ g.errors old) × (g.raised new ≡ g.raised old) × (g.met new ≡ g.met old))
   pub kept : g.errors old ≤ g.errors new
   pub read : IfErr result (λ f. g.known old ≡ true → f.why ≡ Read → g.clear old track → g.raised old < g.raised new)
-  pub risen : IfErr result (λ f. f.why ≡ Read → Rises (g.raised old) (g.raised new))
+  pub risen : IfErr result (λ f. f.why ≡ Read → Rises (g.met old) (g.met new))
   pub sinkless : IfErr result (λ f. f.why ≢ Sink)
   pub behind : g.known old ≡ true → g.errors new ≡ g.errors old → g.behind new ≡ without_fence (g.behind old)
   pub names : g.names new ≡ g.names old

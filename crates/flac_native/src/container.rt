@@ -27,8 +27,11 @@ pub trait Container {
     /// How many errors of the device were returned that nothing foretold.
     ghost errors: { Self → ℕ };
 
-    /// How many errors of the device were returned, foretold or not. Each counts, known or not, as long as the count can rise.
+    /// How many errors of the device were returned, foretold or not, as far as what is still to come depends on it.
     ghost raised: { Self → ℕ };
+
+    /// How many errors the device itself returned. Each counts, whatever is known of it, as long as the count can rise.
+    ghost met: { Self → ℕ };
 
     /// What stands behind the bytes to come.
     ghost behind: { Self → Behind };
@@ -61,11 +64,11 @@ pub trait Container {
         requires { stands self.old (stand_of track.old) ≡ true }
         ensures stands { IfOk result (λ o. IfSome o (λ _. stands self.new (stand_of track.new) ≡ true)) }
         ensures spends { IfOk result (λ o. IfSome o (λ _. most self.new < most self.old)) }
-        ensures counts { IfOk result (λ _. (known self.old ≡ true → known self.new ≡ true) × (errors self.new ≡ errors self.old) × (raised self.new ≡ raised self.old)) }
+        ensures counts { IfOk result (λ _. (known self.old ≡ true → known self.new ≡ true) × (errors self.new ≡ errors self.old) × (raised self.new ≡ raised self.old) × (met self.new ≡ met self.old)) }
         ensures clear { IfOk result (λ o. IfSome o (λ _. known self.old ≡ true → clear self.old track.old → clear self.new track.new)) }
         ensures kept { errors self.old ≤ errors self.new }
         ensures read { IfErr result (λ f. known self.old ≡ true → f.why ≡ Why.Read → clear self.old track.old → raised self.old < raised self.new) }
-        ensures risen { IfErr result (λ f. f.why ≡ Why.Read → Rises (raised self.old) (raised self.new)) }
+        ensures risen { IfErr result (λ f. f.why ≡ Why.Read → Rises (met self.old) (met self.new)) }
         // No error of a sink is met.
         ensures sinkless { IfErr result (λ f. f.why ≢ Why.Sink) }
         ensures behind { known self.old ≡ true → errors self.new ≡ errors self.old → behind self.new ≡ without_fence (behind self.old) }

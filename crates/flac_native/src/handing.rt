@@ -75,7 +75,7 @@ pub fn hand_out<C: Container, S: Sink>(
     ensures kept { C.errors container.old ≤ C.errors container.new }
     ensures read { IfErr result (λ f. C.known container.old ≡ true → f.why ≡ Why.Read → C.clear container.old track.old → C.raised container.old < C.raised container.new) }
     // An error of the device and of the sink is counted, if the count can rise, whatever is known of them: no other call returns it.
-    ensures risen { IfErr result (λ f. f.why ≡ Why.Read → Rises (C.raised container.old) (C.raised container.new)) }
+    ensures risen { IfErr result (λ f. f.why ≡ Why.Read → Rises (C.met container.old) (C.met container.new)) }
     ensures sink { IfErr result (λ f. f.why ≡ Why.Sink → Rises (S.errors sink.old) (S.errors sink.new)) }
     ensures behind { C.known container.old ≡ true → C.errors container.new ≡ C.errors container.old → C.behind container.new ≡ without_fence (C.behind container.old) }
     ensures names { S.names sink.new ≡ S.names sink.old }

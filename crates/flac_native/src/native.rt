@@ -19,6 +19,8 @@ impl<R: Source> Container for BitReader<R> {
 
     ghost raised = { λ r. r.raised };
 
+    ghost met = { λ r. r.raised };
+
     ghost behind = { λ r. r.behind };
 
     ghost clear = { λ _ _. ⊤ };

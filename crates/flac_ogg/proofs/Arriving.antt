@@ -1,15 +1,14 @@
 -- The items of packets come one after another.
-use Rattle.std.proofs.lemmas.List.{append-nil}
 use Rattle.std.proofs.Common.{◌≡◌, ◌≢◌, ◌<◌, ◌≤◌, ℕ, zero, suc, ◌*◌, arith, Bool, true, List, [], ◌∷◌, ◌++◌, Option, Some, None, Result, Ok, Err, refl, sym, ap, subst, ◌∙◌, inl, inr, ◌⊎◌}
 use Rattle.std.specs.Prelude.{OnOk, IfOk, IfErr, IfSome}
 use Rattle.std.specs.Borrow.{GName}
-use Rattle.flac_bits.specs.State.{Mark, State, short_of}
+use Rattle.flac_bits.specs.State.{Mark, State, Rises, short_of}
 use Rattle.flac_bits.specs.Fencing.{lifted}
 use Rattle.flac_bits.specs.Reading.{Counts}
-use Rattle.flac_bits.specs.Handing.{TakesAll, Hands, Decides, reason_of}
+use Rattle.flac_bits.specs.Handing.{Hands, Decides, reason_of}
 use Rattle.flac_bits.specs.declared.why.Why.{Why}
-use Rattle.flac_bits.specs.declared.why.Why.TheVariants.{Memory, Read, Truncated}
-use Rattle.flac_native.specs.Stream.{Piece, Progress, Stand, grammar, next}
+use Rattle.flac_bits.specs.declared.why.Why.TheVariants.{Memory, Read, Sink, Truncated}
+use Rattle.flac_native.specs.Stream.{Piece, Progress, Stand, next}
 use Rattle.flac_native.specs.Track.{IsAt, stand_of}
 use Rattle.flac_native.specs.Item.{told}
 use Rattle.flac_native.specs.Decoding.{beginning}
@@ -21,10 +20,10 @@ use Rattle.flac_native.specs.declared.phase.Phase.TheVariants.{Opening}
 use Rattle.flac_native.specs.declared.track.Track.{Track}
 use Rattle.flac_pages.specs.Packets.{Place as Stands, Ahead, ahead, at_front}
 use Rattle.flac_pages.specs.Items.{IsAtPacket, GoesBehind}
-use Rattle.flac_ogg.specs.Stream.{start, packet_start, closed_packet, fault_in, stop_in, OggStream, OggRefused}
+use Rattle.flac_ogg.specs.Stream.{start, packet_start, closed_packet, OggStream, OggRefused}
 use Rattle.flac_ogg.specs.Steps.{PacketStep, item, over, refused, packet_step, Goes}
-use Rattle.flac_ogg.specs.Decoding.{BeginsWith, IsItemOrPage, ogg_reading}
-use Rattle.flac_ogg.specs.Telling.{IsUnderWay, StepIs}
+use Rattle.flac_ogg.specs.Decoding.{IsItemOrPage, ogg_reading}
+use Rattle.flac_ogg.specs.Telling.{IsUnderWay, MeetsIn, StepIs}
 use Rattle.flac_ogg.specs.Coming.{final, ItemsCome, Foretells, IsClear}
 use Rattle.flac_ogg.proofs.MeaningContents.{ahead_of, begins_ahead, some_contents, contents_ahead, contents_fault, contents_stop}
 use Rattle.flac_ogg.proofs.MeaningSteps.{step_item, step_refused}
@@ -167,9 +166,19 @@ Steps view t p q result = (pr : Progress) → IsAt t pr → IsUnderWay pr.stand 
 abbrev Went : {X : Type 0} → Stands → Stands → Result X Fault → Type 0
 Went p q result = IfOk result (λ _. (p.known ≡ true → q.known ≡ true) × (q.errors ≡ p.errors))
 
-pub counts_both : {X : Type 0} (p q : Stands) (result : Result X Fault) → Went p q result → IfOk result (λ _. (p.known ≡ true → q.known ≡ true) × (q.errors ≡ p.errors) × (q.errors ≡ p.errors))
-counts_both p q (Ok x) went = (went.0, went.1, went.1)
-counts_both p q (Err e) went = tt
+pub counts_both : {X : Type 0} (p q : Stands) (result : Result X Fault) → Went p q result → MeetsIn p.raised q.raised result
+    → IfOk result (λ _. (p.known ≡ true → q.known ≡ true) × (q.errors ≡ p.errors) × (q.errors ≡ p.errors) × (q.raised ≡ p.raised))
+counts_both p q (Ok x) went meets = (went.0, went.1, went.1, meets)
+counts_both p q (Err e) went meets = tt
+
+-- one that returns Read met one, and none is of a sink
+pub read_risen : {X : Type 0} (old new : ℕ) (result : Result X Fault) → MeetsIn old new result → IfErr result (λ f. f.why ≡ Read → Rises old new)
+read_risen old new (Ok x) meets = tt
+read_risen old new (Err f) meets = meets.0
+
+pub none_of_sink : {X : Type 0} (old new : ℕ) (result : Result X Fault) → MeetsIn old new result → IfErr result (λ f. f.why ≢ Sink)
+none_of_sink old new (Ok x) meets = tt
+none_of_sink old new (Err f) meets = meets.1
 
 come_next : {X : Type 0} (p : Progress) (a b : Ahead) (view : X → Piece) (x : X) (items : List Piece) (end : Option (Place × Why)) → packet_step p a ≡ item (view x) b → ItemsCome p a items end → (xs : List Piece) × ItemsCome (next p (view x)) b xs end
 come_next p a b view x [] end step i = absurd (final_item end (view x) b (sym (last_here p a end i) ∙ step))

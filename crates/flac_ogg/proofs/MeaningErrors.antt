@@ -1,16 +1,16 @@
 -- An input is refused by `Read` only where its bits run short by an error.
-use Rattle.std.proofs.Common.{◌≡◌, ◌≢◌, ℕ, zero, suc, Bool, true, false, cond, List, [], ◌∷◌, Option, Some, None, Result, Ok, Err, refl, sym, ap, subst, ◌∙◌, inl, inr, ◌⊎◌}
+use Rattle.std.proofs.Common.{◌≡◌, ◌≢◌, ℕ, zero, suc, Bool, true, false, cond, List, [], ◌∷◌, Option, Some, None, refl, sym, ap, subst, ◌∙◌, inl, inr, ◌⊎◌}
 use Rattle.std.specs.Prelude.{⊤}
 use Rattle.std.specs.List.{sum}
 use Rattle.flac_bits.specs.Bits.{is_nil}
 use Rattle.flac_bits.specs.State.{Mark, Cursor, past}
-use Rattle.flac_bits.specs.Layout.{Layout, done, bind, bits, unary, judge, refuse, mark, Rule, Reason, number_at}
+use Rattle.flac_bits.specs.Layout.{Layout, done, bind, bits, unary, judge, refuse, mark, Rule}
 use Rattle.flac_bits.specs.Lists.{list_of}
 use Rattle.flac_bits.specs.LittleEndian.{little_32, little_64}
 use Rattle.flac_bits.specs.Meaning.{BreaksFirst, Shows}
 use Rattle.flac_bits.specs.declared.why.Why.{Why}
 use Rattle.flac_bits.specs.declared.why.Why.TheVariants.{Read, Truncated, FrameTooLong, PacketLength, NoEndPage, PageOrder, BadPage}
-use Rattle.flac_bits.proofs.Meaning.{past-short, refuses}
+use Rattle.flac_bits.proofs.Meaning.{past-short}
 use Rattle.flac_meta.specs.Info.{Info}
 use Rattle.flac_native.specs.Stream.{Piece, Progress, grammar, end_rules as stream_rules}
 use Rattle.flac_native.specs.declared.fault.Place.{Place}

@@ -1,14 +1,11 @@
 -- No input has two readings, and each has one.
-use Rattle.std.proofs.Common.{◌≡◌, ◌≢◌, ℕ, Bool, List, [], ◌∷◌, ◌++◌, Option, Some, None, ◌⊎◌, inl, inr, refl, sym, ap, subst, ◌∙◌}
+use Rattle.std.proofs.Common.{◌≡◌, ℕ, Bool, List, [], ◌∷◌, ◌++◌, inl, inr, refl, sym, ap, subst, ◌∙◌}
 use Rattle.std.specs.Prelude.{⊤}
 use Rattle.flac_bits.specs.State.{Mark}
-use Rattle.flac_bits.specs.declared.why.Why.{Why}
-use Rattle.flac_bits.specs.declared.why.Why.TheVariants.{Memory}
 use Rattle.flac_native.specs.Stream.{Piece, Progress, next}
-use Rattle.flac_native.specs.declared.fault.Place.{Place}
 use Rattle.flac_pages.specs.Packets.{Ahead}
 use Rattle.flac_pages.specs.Given.{PacketsAhead}
-use Rattle.flac_ogg.specs.Stream.{start, OggStream, OggRefused}
+use Rattle.flac_ogg.specs.Stream.{start}
 use Rattle.flac_ogg.specs.Steps.{PacketStep, item, over, refused, packet_step, Goes}
 use Rattle.flac_bits.specs.Handing.{ReadsOnce, IsRead}
 use Rattle.flac_ogg.specs.Decoding.{ogg_reading}

@@ -1,11 +1,10 @@
 -- All packets of what is encoded, and the Ogg stream of them.
-use Rattle.std.proofs.Common.{◌≡◌, ℕ, suc, ◌+◌, ◌^◌, ◌<◌, Bool, true, List, [], ◌∷◌, ◌++◌, length, length-append, append-nil, map, get_or, ◌-◌, nat_eq, None, Err, refl, sym, ap, subst, ◌∙◌, arith}
+use Rattle.std.proofs.Common.{◌≡◌, ℕ, suc, ◌+◌, ◌^◌, ◌<◌, Bool, true, List, [], ◌∷◌, ◌++◌, length, length-append, append-nil, map, get_or, ◌-◌, nat_eq, None, refl, sym, ap, subst, ◌∙◌, arith}
 use Rattle.std.specs.List.{All}
 use Rattle.std.proofs.lemmas.List.{length-replicate}
 use Rattle.std.proofs.lemmas.Bool.Decides.{nat_tests}
 use Rattle.flac_bits.specs.Bits.{unsigned, bits_of, is_nil}
 use Rattle.flac_bits.specs.State.{Mark, past}
-use Rattle.flac_bits.specs.Layout.{number_at, number_from, next_bit, because}
 use Rattle.flac_bits.specs.Forms.{IsBytes}
 use Rattle.flac_bits.specs.declared.why.Why.TheVariants.{Truncated}
 use Rattle.flac_bits.proofs.Meaning.{past-short}

@@ -1,5 +1,5 @@
 -- What a track keeps of a packet, and what a call answers that reads the next one.
-use Rattle.std.specs.Prelude.{◌≡◌, ◌≢◌, Bool, true, false, List, [], is_some, Option, Some, None, Result, Ok, Err, ⊤, ◌⊎◌}
+use Rattle.std.specs.Prelude.{◌≡◌, ◌≢◌, ℕ, Bool, true, false, List, [], is_some, Option, Some, None, Result, Ok, Err, ◌⊎◌}
 use Rattle.flac_bits.specs.State.{Mark}
 use Rattle.flac_bits.specs.Layout.{Layout, ◌>>=◌}
 use Rattle.flac_bits.specs.declared.why.Why.TheVariants.{Memory}
@@ -7,7 +7,7 @@ use Rattle.flac_native.specs.Stream.{Piece, Stand, layout_in}
 use Rattle.flac_native.specs.declared.fault.Fault.{Fault}
 use Rattle.flac_native.specs.declared.phase.Phase.{Phase}
 use Rattle.flac_native.specs.declared.phase.Phase.TheVariants.{Opening, Blocks, Frames}
-use Rattle.flac_pages.specs.Packets.{Ahead, Place as Stands}
+use Rattle.flac_pages.specs.Packets.{Ahead, Met, Place as Stands}
 use Rattle.flac_ogg.specs.Mapping.{mapping}
 use Rattle.flac_ogg.specs.Steps.{PacketStep, item, over, refused}
 
@@ -50,6 +50,11 @@ abbrev pub StepIs : {X : Type 0} → (X → Piece) → PacketStep → Ahead → 
 StepIs view step a (Ok None) = step ≡ over
 StepIs view step a (Ok (Some x)) = step ≡ item (view x) a
 StepIs view step a (Err f) = f.why ≢ Memory → step ≡ refused f.at f.why
+
+-- Errors of the device are counted: a call that returns a value met none, and one that returns Read met one.
+abbrev pub MeetsIn : {X : Type 0} → ℕ → ℕ → Result X Fault → Type 0
+MeetsIn old new (Ok x) = new ≡ old
+MeetsIn old new (Err f) = Met f.why old new
 
 -- and what is answered where no packet is left
 abbrev pub EndIs : {X : Type 0} → PacketStep → Result X Fault → Type 0

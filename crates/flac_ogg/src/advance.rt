@@ -1,14 +1,14 @@
 //! One packet after another.
 
-ghost use Rattle.std.specs.Prelude.{◌≡◌, ◌≢◌, ◌≤◌, ◌<◌, ◌+◌, true, false, length, cond, IfOk, IfErr, IfSome, None, Some};
+ghost use Rattle.std.specs.Prelude.{◌≡◌, ◌≢◌, ◌≤◌, ◌<◌, ◌+◌, ℕ, true, false, length, cond, IfOk, IfErr, IfSome, None, Some};
 ghost use Rattle.flac_bits.specs.Handing.{IsOutside};
 ghost use Rattle.flac_native.specs.Stream.{Progress, next, place_in};
 ghost use Rattle.flac_native.specs.Track.{IsAt, IsMadeAs, piece_of, stand_of};
 ghost use Rattle.flac_native.specs.declared.phase.Phase.TheVariants.{Frames};
-ghost use Rattle.flac_pages.specs.Packets.{ahead};
+ghost use Rattle.flac_pages.specs.Packets.{Met, ahead};
 ghost use Rattle.flac_ogg.specs.Steps.{packet_step, without_packet, refused};
 ghost use Rattle.flac_ogg.specs.Stream.{last_fault};
-ghost use Rattle.flac_ogg.specs.Telling.{IsUnderWay, StepIs, EndIs};
+ghost use Rattle.flac_ogg.specs.Telling.{IsUnderWay, MeetsIn, StepIs, EndIs};
 ghost use Rattle.flac_ogg.specs.Decoding.{IsItemOrPage};
 
 use crate::items::read_packet;
@@ -36,6 +36,7 @@ fn block_due(track: &Track) -> Fault
 fn end_here(track: &mut Track) -> Result<(), Fault>
     ensures memory { IfErr result (λ f. f.why ≢ Why.Memory) }
     ensures quiet { IfErr result (λ f. f.why ≢ Why.Read) }
+    ensures sink { IfErr result (λ f. f.why ≢ Why.Sink) }
     ensures ends { (p : Progress) → IsAt track.old p → IsUnderWay p.stand → EndIs (without_packet p None) result }
 {
     if !is_behind_blocks(track) {
@@ -53,6 +54,7 @@ fn end_here(track: &mut Track) -> Result<(), Fault>
 /// The fault where a byte follows the page marked last: a block that is due comes first.
 fn behind_last(track: &Track, page: u64, why: Why) -> Fault
     ensures memory { why ≢ Why.Memory → result.why ≢ Why.Memory }
+    ensures met { (old new : ℕ) → Met why old new → Met result.why old new }
     ensures page { IsOutside result.why → result.at ≡ Place.Page page }
     ensures fault { (p : Progress) → IsAt track.now p → IsUnderWay p.stand → without_packet p (last_fault p None (Some (page, why))) ≡ refused result.at result.why }
 {
@@ -68,6 +70,7 @@ fn behind_last(track: &Track, page: u64, why: Why) -> Fault
 /// The fault where no packet is left: of the page that was refused, or of a byte behind the page marked last.
 fn page_fault(track: &Track, is_last: bool, page: u64, why: Why) -> Fault
     ensures memory { why ≢ Why.Memory → result.why ≢ Why.Memory }
+    ensures met { (old new : ℕ) → Met why old new → Met result.why old new }
     ensures page { IsOutside result.why → result.at ≡ Place.Page page }
     ensures fault { (p : Progress) → IsAt track.now p → IsUnderWay p.stand → without_packet p (last_fault p (cond is_last None (Some (page, why))) (Some (page, why))) ≡ refused result.at result.why }
 {
@@ -93,6 +96,8 @@ pub(crate) fn advance<R: Source>(
     ensures memory { (stand_of track.old).phase ≡ Frames → IfErr result (λ f. f.why ≢ Why.Memory) }
     ensures kept { pages.old.errors ≤ pages.new.errors }
     ensures names { pages.new.names ≡ pages.old.names }
+    // Read is returned only if the device returned an error in the call.
+    ensures meets { MeetsIn pages.old.raised pages.new.raised result }
     ensures steps { (p : Progress) → IsAt track.old p → IsUnderWay p.stand → pages.old.known ≡ true → pages.new.errors ≡ pages.old.errors →
         StepIs (λ part. piece_of track.new part) (packet_step p (ahead pages.old)) (ahead pages.new) result }
     ensures broken { (p : Progress) → IsAt track.old p → IfErr result (λ f. IsOutside f.why → IsItemOrPage p f.at) }

@@ -35,6 +35,7 @@ pub fn ogg_decoder<R: Source + Drop>(
     ensures course { IfOk result (λ d. (stage_of d).course ≡ Begun) }
     ensures known { IfOk result (λ d. (stage_of d).container.pages.known ≡ R.known source) }
     ensures errors { IfOk result (λ d. (stage_of d).container.pages.errors ≡ R.errors source) }
+    ensures met { IfOk result (λ d. (stage_of d).container.pages.raised ≡ R.raised source) }
     // What is still to come is what the input is.
     ensures stream { IfOk result (λ d. (items : List Piece) → OggStream (beginning (short_of ((R.behind source).fails))) items (bits_of (R.coming source)) → ItemsCome start (ahead (stage_of d).container.pages) items None) }
     ensures refused { IfOk result (λ d. (items : List Piece) (at : Where) (why : Reason) → OggRefused (beginning (short_of ((R.behind source).fails))) items (bits_of (R.coming source)) at why → ItemsCome start (ahead (stage_of d).container.pages) items (Some (at, why))) }

@@ -2,7 +2,7 @@
 
 ghost use Rattle.std.specs.Prelude.{◌≡◌, ◌<◌, ◌≤◌, ◌++◌, ◌⊎◌, true, [], OnOk, IfOk, IfErr, None, Ok};
 ghost use Rattle.flac_bits.specs.Bits.{bits_of};
-ghost use Rattle.flac_bits.specs.State.{short_of};
+ghost use Rattle.flac_bits.specs.State.{Rises, short_of};
 ghost use Rattle.flac_bits.specs.Handing.{Hands, Decides, outcome_of};
 ghost use Rattle.flac_native.specs.Item.{told};
 ghost use Rattle.flac_native.specs.Decoding.{taken, beginning};
@@ -34,7 +34,9 @@ fn pull_front<R: Source>(source: &mut R) -> Result<Option<u8>, Fault>
     ensures kept { R.errors source.old ≤ R.errors source.new }
     ensures behind { R.known source.old ≡ true → R.errors source.new ≡ R.errors source.old → R.behind source.new ≡ R.behind source.old }
     ensures place { IfErr result (λ f. f.at ≡ Place.Marker) }
+    ensures why { IfErr result (λ f. f.why ≡ Why.Read) }
     ensures rises { IfErr result (λ f. R.known source.old ≡ true → R.raised source.old < R.raised source.new) }
+    ensures risen { IfErr result (λ f. Rises (R.raised source.old) (R.raised source.new)) }
     ensures names { R.names source.new ≡ R.names source.old }
 {
     let mut first = [0];
@@ -63,6 +65,9 @@ fn decode_as<R: Source, S: Sink>(
         Decides (read_either is_ogg (beginning (short_of ((R.behind source.old).fails))) (bits_of (R.coming source.old))) (outcome_of told result) }
     ensures kept { R.errors source.old ≤ R.errors source.new }
     ensures read { IfErr result (λ f. R.known source.old ≡ true → (R.behind source.old).fails ≡ None → f.why ≡ Why.Read → (R.errors source.old < R.errors source.new) ⊎ (R.raised source.old < R.raised source.new)) }
+    // An error of the source and of the sink is counted, if the count can rise, whatever is known of them: no other call returns it.
+    ensures risen { IfErr result (λ f. f.why ≡ Why.Read → Rises (R.raised source.old) (R.raised source.new)) }
+    ensures sink { IfErr result (λ f. f.why ≡ Why.Sink → Rises (S.errors sink.old) (S.errors sink.new)) }
     ensures names { S.names sink.new ≡ S.names sink.old }
     ensures source_names { R.names source.new ≡ R.names source.old }
 {
@@ -96,6 +101,9 @@ pub fn decode_any<R: Source, S: Sink>(
     ensures kept { R.errors source.old ≤ R.errors source.new }
     // Read is told only where the source answered an error in the call, where it foretells none.
     ensures read { IfErr result (λ f. R.known source.old ≡ true → (R.behind source.old).fails ≡ None → f.why ≡ Why.Read → (R.errors source.old < R.errors source.new) ⊎ (R.raised source.old < R.raised source.new)) }
+    // An error of the source and of the sink is counted, if the count can rise, whatever is known of them: no other call returns it.
+    ensures risen { IfErr result (λ f. f.why ≡ Why.Read → Rises (R.raised source.old) (R.raised source.new)) }
+    ensures sink { IfErr result (λ f. f.why ≡ Why.Sink → Rises (S.errors sink.old) (S.errors sink.new)) }
     ensures names { S.names sink.new ≡ S.names sink.old }
     ensures source_names { R.names source.new ≡ R.names source.old }
 {

@@ -4,7 +4,7 @@ ghost use Rattle.std.specs.Prelude.{◌≡◌, ◌≢◌, ◌≤◌, ◌<◌, �
 ghost use Rattle.flac_native.specs.Stream.{Progress, next, room_in};
 ghost use Rattle.flac_native.specs.Track.{IsAt, IsMadeAs, piece_of, stand_of};
 ghost use Rattle.flac_native.specs.declared.phase.Phase.TheVariants.{Opening, Frames};
-ghost use Rattle.flac_pages.specs.Items.{packet_of, packet_mark, TellsItem, HasBehind};
+ghost use Rattle.flac_pages.specs.Items.{packet_of, packet_mark, TellsItem, Meets, HasBehind};
 ghost use Rattle.flac_ogg.specs.Mapping.{packet_layout};
 
 use crate::parts::read_part;
@@ -28,6 +28,8 @@ pub(crate) fn read_packet<R: Source>(
     ensures spends { OnOk result (pages.new.most + length pages.new.body < pages.old.most + length pages.old.body) }
     ensures tells { (stand_of track.old).phase ≢ Opening → pages.old.known ≡ true → pages.new.errors ≡ pages.old.errors → (result ≡ Err (None, Why.Memory) → ⊥) →
         TellsItem (λ part. piece_of track.new part) (room_in (stand_of track.old).phase) (packet_layout (stand_of track.old)) (packet_mark pages.old) (packet_of pages.old) result }
+    // Read is told only where the device answered an error in the call.
+    ensures meets { Meets pages.old.raised pages.new.raised result }
     ensures stands { OnOk result ((pages.new.rest ≡ 0) × (pages.new.more ≡ false)) }
     ensures goes { OnOk result ((pages.old.known ≡ true → pages.new.known ≡ true) × (pages.new.errors ≡ pages.old.errors)) }
     ensures ahead { OnOk result ((stand_of track.old).phase ≢ Opening → pages.old.known ≡ true → HasBehind pages.old pages.new) }

@@ -41,6 +41,8 @@ impl<R: Source> Container for OggPackets<R> {
 
     ghost raised = { λ c. c.pages.errors };
 
+    ghost met = { λ c. c.pages.raised };
+
     ghost behind = { λ _. the_end };
 
     ghost clear = { λ c t. IsClear c.pages t };

@@ -24,6 +24,7 @@ loop-part-preserved g c =
       knows = λ known. step.counts.0 (inv.knows known);
       errors = step.counts.1 ∙ inv.errors;
       raised = step.counts.2 ∙ inv.raised;
+      met = step.counts.3 ∙ inv.met;
       container_names = step.names ∙ inv.container_names;
       names = c.hand_at.ensures.names ∙ inv.names;
       received = took.counted ∙ inv.received;

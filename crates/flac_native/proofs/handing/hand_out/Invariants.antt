@@ -14,6 +14,7 @@ invariant-loop-part g l = record {
   knows : g.C.Container.known l.initial.container ≡ true → g.C.Container.known l.container ≡ true;
   errors : g.C.Container.errors l.container ≡ g.C.Container.errors l.initial.container;
   raised : g.C.Container.raised l.container ≡ g.C.Container.raised l.initial.container;
+  met : g.C.Container.met l.container ≡ g.C.Container.met l.initial.container;
   container_names : g.C.Container.names l.container ≡ g.C.Container.names l.initial.container;
   names : g.S.Sink.names l.sink ≡ g.S.Sink.names l.initial.sink;
   received : g.S.Sink.errors l.sink ≡ g.S.Sink.errors l.initial.sink;

@@ -46,3 +46,11 @@ returns-in-Err-end_here-clause-broken g c = λ p at out. elim out [ inl e ↦ ab
 
 pub returns-in-Err-clause-broken : goal.returns-in-Err-clause-broken
 returns-in-Err-clause-broken g c = λ p at out. inr (c.in-Err.page, c.page_fault.ensures.page out)
+
+pub returns-in-Ok-clause-meets : goal.returns-in-Ok-clause-meets
+returns-in-Ok-clause-meets g c =
+    let begun = begins_so c.args.pages.now c.next_packet.new.self c.in-Ok-true.field-0 true c.in-Ok-true.field-0-test c.in-Ok-true.ensures.begins in
+    c.in-Ok.ensures.meets ∙ begun.raised
+
+pub returns-in-Err-clause-meets : goal.returns-in-Err-clause-meets
+returns-in-Err-clause-meets g c = c.page_fault.ensures.met _ _ c.in-Err.ensures.begins.met

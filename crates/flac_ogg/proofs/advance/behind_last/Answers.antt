@@ -1,7 +1,7 @@
 use Rattle.std.proofs.Common.{sym, ap, ◌∙◌}
 use Rattle.flac_ogg.specs.Steps.{refused}
 use Rattle.flac_ogg.proofs.Stepped.{byte_behind, due_behind}
-use Rattle.flac_ogg.proofs.Breaking.{in_page, none_due}
+use Rattle.flac_ogg.proofs.Breaking.{in_page, none_due, due_met}
 use Rattle.flac_ogg.proofs.advance.behind_last.Goals as goal
 
 pub returns-then-not-is_behind_blocks-clause-fault : goal.returns-then-not-is_behind_blocks-clause-fault
@@ -16,3 +16,6 @@ returns-then-not-is_behind_blocks-clause-page c = λ out. absurd (none_due c.blo
 
 pub returns-clause-page : goal.returns-clause-page
 returns-clause-page c = λ out. c.page_place.ensures ∙ in_page c.args.page c.args.why out
+
+pub returns-then-not-is_behind_blocks-clause-met : goal.returns-then-not-is_behind_blocks-clause-met
+returns-then-not-is_behind_blocks-clause-met c = λ old new met. due_met c.block_due.result.why old new c.block_due.ensures.why

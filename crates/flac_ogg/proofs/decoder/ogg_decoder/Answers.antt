@@ -3,8 +3,7 @@ use Rattle.flac_bits.specs.Bits.{bits_of}
 use Rattle.flac_bits.specs.State.{short_of}
 use Rattle.flac_native.specs.Decoding.{beginning}
 use Rattle.flac_ogg.specs.Stream.{start}
-use Rattle.flac_pages.specs.Packets.{Place, Ahead, ahead}
-use Rattle.flac_ogg.specs.Coming.{ItemsCome, IsClear}
+use Rattle.flac_ogg.specs.Coming.{ItemsCome}
 use Rattle.flac_ogg.proofs.Arriving.{front_ahead, stream_comes, refusal_comes, clear_start}
 use Rattle.flac_ogg.proofs.decoder.ogg_decoder.Goals as goal
 

@@ -7,7 +7,7 @@ use Rattle.flac_native.specs.Item.{told}
 use Rattle.flac_native.specs.Decoding.{taken, beginning}
 use Rattle.flac_ogg.specs.Stream.{start}
 use Rattle.flac_pages.specs.Packets.{Place, ahead}
-use Rattle.flac_ogg.specs.Coming.{ItemsCome, IsClear}
+use Rattle.flac_ogg.specs.Coming.{ItemsCome}
 use Rattle.flac_bits.proofs.Handing.{calmer}
 use Rattle.flac_ogg.proofs.Arriving.{front_ahead, some_come, hands_ogg, decides_ogg, nothing_read, clear_start}
 use Rattle.flac_ogg.proofs.decoding.decode_ogg.Goals as goal

@@ -1,4 +1,4 @@
-use Rattle.std.proofs.Common.{rules, ◌≡◌, ◌<◌, length, ◌++◌, arith, ap, sym, refl}
+use Rattle.std.proofs.Common.{rules, ◌<◌, length, arith, refl}
 use Rattle.flac_ogg.proofs.FirstByte.{front_put}
 use Rattle.flac_ogg.proofs.fronted.FrontedSource.pull.Goals as goal
 

@@ -1,9 +1,9 @@
 use Rattle.flac_native.specs.Track.{piece_of}
-use Rattle.flac_ogg.proofs.Arriving.{counts_both, clear_behind, read_rises, gives_there}
+use Rattle.flac_ogg.proofs.Arriving.{counts_both, read_risen, none_of_sink, clear_behind, read_rises, gives_there}
 use Rattle.flac_ogg.proofs.packets.OggPacketsContainer.next.Goals as goal
 
 pub returns-clause-counts : goal.returns-clause-counts
-returns-clause-counts g c = counts_both c.args.self.now.pages c.advance.new.pages c.advance.result c.advance.ensures.goes
+returns-clause-counts g c = counts_both c.args.self.now.pages c.advance.new.pages c.advance.result c.advance.ensures.goes c.advance.ensures.meets
 
 pub returns-clause-clear : goal.returns-clause-clear
 returns-clause-clear g c =
@@ -16,3 +16,9 @@ returns-clause-read g c =
 pub returns-clause-gives : goal.returns-clause-gives
 returns-clause-gives g c = λ p at known same quiet room items end come.
     gives_there c.args.self.now.pages c.advance.new.pages (λ part. piece_of c.advance.new.track part) c.args.track.now c.advance.result c.advance.ensures.steps p at known same room items end come
+
+pub returns-clause-risen : goal.returns-clause-risen
+returns-clause-risen g c = read_risen c.args.self.now.pages.raised c.advance.new.pages.raised c.advance.result c.advance.ensures.meets
+
+pub returns-clause-sinkless : goal.returns-clause-sinkless
+returns-clause-sinkless g c = none_of_sink c.args.self.now.pages.raised c.advance.new.pages.raised c.advance.result c.advance.ensures.meets
