@@ -12,10 +12,11 @@ use Rattle.flac_subframe.specs.Chosen.{fixed_below}
 use Rattle.flac_subframe.specs.Family.{Stands}
 use Rattle.flac_subframe.specs.Spelling.{subframe_spelling, IsSubframe}
 use Rattle.flac_subframe.specs.Subframe.{Form, Verbatim, fitting, scaled, samples_of}
+use Rattle.flac_subframe.proofs.Family.{may_stand}
 use Rattle.flac_subframe.proofs.Samples.{fitting_is}
 use Rattle.flac_subframe.proofs.Scaling.{scaled_none}
+use Rattle.flac_subframe.proofs.Valid.{all_width}
 use Rattle.flac_frame.specs.Encoding.{block_of, AreForms, AreLeast, WritesLeast, WritesForms}
-use Rattle.flac_frame.proofs.Stood.{forms_stand, all_width}
 
 -- ---- samples in wider places
 
@@ -82,7 +83,7 @@ module _ (depth size : ℕ) (deep : 1 ≤ depth) (some : 1 ≤ size) where
 
   one_form : (f : Form) (s : List ℤ) → length s ≡ size → All (FitsBits depth) s → Stands 8 (fixed_below 5) f s → AreForms depth size (f ∷ []) (s ∷ [])
   one_form f s long fits stands =
-      let both = λ (limits : Limits) (few : 8 ≤ limits.partition). forms_stand depth limits f s deep (omega (arith, long, some)) few fits stands in
+      let both = λ (limits : Limits) (few : 8 ≤ limits.partition). may_stand depth limits f s deep (omega (arith, long, some)) few fits stands in
       let limits : Limits = record { partition = 8; linear = 0 } in
       (λ limits few. subst (λ n. IsSubframe depth n limits f) long (both limits few).0, subst (λ n. samples_of depth n f ≡ Some s) long (both limits (omega arith)).1, tt)
 

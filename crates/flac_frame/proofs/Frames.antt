@@ -11,6 +11,7 @@ use Rattle.flac_header.specs.Choice.{size_choice, rate_choice, depth_choice, cho
 use Rattle.flac_header.specs.Spelling.{restarted}
 use Rattle.flac_subframe.specs.declared.limits.Limits.{Limits}
 use Rattle.flac_subframe.specs.Spelling.{subframe_spelling}
+use Rattle.flac_subframe.proofs.Family.{fits_more}
 use Rattle.flac_frame.specs.Audio.{Sound, IsSound, samples_each}
 use Rattle.flac_frame.specs.Frame.{limits_at}
 use Rattle.flac_frame.specs.Stereo.{joined}
@@ -20,7 +21,6 @@ use Rattle.flac_frame.proofs.Encoded.{is_block, part_fits}
 use Rattle.flac_frame.proofs.Short.{all_short, parts_few, frame_short}
 use Rattle.flac_frame.proofs.Family.{independent_least}
 use Rattle.flac_frame.proofs.Sounds.{depth_small}
-use Rattle.flac_frame.proofs.Stood.{fits_more}
 use Rattle.flac_frame.proofs.Wholes.{on_ok_map, text_is, texts_are, subframes_are, samples_are, as_many, not_joined, all_fit_in, codes_are, chosen_as, chosen_there}
 
 -- ---- the whole

@@ -7,7 +7,6 @@ pub mod Following
 pub mod Gathered
 pub mod FrameTie
 pub mod Sounds
-pub mod Stood
 pub mod Encoded
 pub mod Short
 pub mod Wholes
@@ -16,6 +15,6 @@ pub mod Frames
 pub mod Pairs
 pub mod PairLeast
 pub mod Encodings
-pub mod WholeFamily
+pub mod PlainFamily
 pub mod Sizes
 pub mod Rooms

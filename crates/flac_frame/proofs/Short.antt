@@ -19,11 +19,11 @@ use Rattle.flac_subframe.specs.Family.{Stands}
 use Rattle.flac_subframe.specs.Spelling.{content_spelling, subframe_spelling}
 use Rattle.flac_subframe.specs.Subframe.{Form, Verbatim}
 use Rattle.flac_subframe.specs.Wasted.{times_power}
+use Rattle.flac_subframe.proofs.Family.{may_stand}
 use Rattle.flac_subframe.proofs.Lengths.{length-samples}
 use Rattle.flac_subframe.proofs.WholeLeast.{length-subframe}
 use Rattle.flac_frame.specs.Encoding.{IsLeastFor, AreLeast, IsShort}
 use Rattle.flac_frame.specs.Spelling.{FrameForm, subframes_spelling, filled, checked, frame_spelling}
-use Rattle.flac_frame.proofs.Stood.{forms_stand}
 
 -- ---- a header
 
@@ -120,7 +120,7 @@ module _ (depth : ℕ) (deep : 1 ≤ depth) where
       let so : s ≡ map (times_power k) t = least.member.body.3 in
       let stands : Stands 8 (fixed_below 5) (record { wasted = k; content = Verbatim t }) s = record { wasted = least.member.wasted; body = (verbatim t, t, refl, so, refl) } in
       let limits : Limits = record { partition = 8; linear = 0 } in
-      let left : k < depth = (forms_stand depth limits f s deep some (omega arith) fits least.member).0.left in
+      let left : k < depth = (may_stand depth limits f s deep some (omega arith) fits least.member).0.left in
       let long : length t ≡ length s = sym (length-map t (times_power k)) ∙ ap (λ (l : List ℤ). length l) (sym so) in
       let le = least.least (record { wasted = k; content = Verbatim t }) stands in
       let few : (depth - k) * length t ≤ depth * length s = subst (λ n. (depth - k) * length t ≤ depth * n) long (mul-le-mul_right (length t) (omega arith)) in

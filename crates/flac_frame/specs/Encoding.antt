@@ -1,5 +1,5 @@
 -- What encoding a frame writes.
-use Rattle.std.specs.Prelude.{◌≡◌, ℕ, ◌≤◌, ◌<◌, Bool, ℤ, List, [], ◌∷◌, ◌++◌, ◌*◌, length, map, take, drop, flat_map, Some, Option, All, Result, OnOk, true, false, ⊤}
+use Rattle.std.specs.Prelude.{◌≡◌, ℕ, ◌≤◌, ◌<◌, ◌↔◌, Bool, ℤ, List, [], ◌∷◌, ◌++◌, ◌*◌, length, map, take, drop, flat_map, Some, Option, All, Result, OnOk, true, false, ⊤}
 use Rattle.flac_bits.specs.Bits.{unsigned}
 use Rattle.flac_bits.specs.State.{Mark, past, fresh}
 use Rattle.flac_bits.specs.Signed.{FitsBits}
@@ -82,9 +82,10 @@ EachInFamily [] (s ∷ ss) = ⊥
 EachInFamily (f ∷ fs) [] = ⊥
 EachInFamily (f ∷ fs) (s ∷ ss) = InFamily f s × EachInFamily fs ss
 
--- every encoding of a block, under any channel code, whose subframes are of the family is one of these frames
-abbrev pub FrameFamilyIsWhole : Type 0
-FrameFamilyIsWhole = (sound : Sound) (size number : ℕ) (block : List (List ℤ)) (f : FrameForm) (e : IsEncoding sound size number block f) → EachInFamily f.subframes e.samples.kept → IsOfFamily sound size number block f
+-- these frames are just the encodings of a block, under any channel code, whose subframes are of the family, each for the samples that it has
+abbrev pub FrameFamilyIsPlain : Type 0
+FrameFamilyIsPlain = (sound : Sound) (size number : ℕ) (block : List (List ℤ)) (f : FrameForm)
+    → IsOfFamily sound size number block f ↔ ((e : IsEncoding sound size number block f) × EachInFamily f.subframes e.samples.kept)
 
 -- the bits of the subframes
 abbrev pub subframes_cost : ℕ → FrameForm → ℕ

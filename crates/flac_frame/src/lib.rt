@@ -22,7 +22,7 @@ pub use before::Before;
 pub use buffers::FrameBuffers;
 pub use encode::{EncodeBuffers, encode_frame};
 pub use promises::{
-    channels_are_joined, encodings_are_frames, forms_stand_for_samples, frame_family_is_whole,
+    channels_are_joined, encodings_are_frames, forms_stand_for_samples, frame_family_is_plain,
     frames_are_spelled, frames_follow,
 };
 pub use setup::SetupFault;

@@ -1,6 +1,6 @@
 //! What holds of the definitions.
 
-ghost use Rattle.flac_frame.specs.Encoding.{FormsStand, EncodingsAreFrames, FrameFamilyIsWhole};
+ghost use Rattle.flac_frame.specs.Encoding.{FormsStand, EncodingsAreFrames, FrameFamilyIsPlain};
 ghost use Rattle.flac_frame.specs.Follows.{AcceptedFollow, FramesFollow};
 ghost use Rattle.flac_frame.specs.Spelling.{FramesAreSpelled, FramesAreReadAgain, FramesAreBytes};
 ghost use Rattle.flac_frame.specs.Stereo.{ChannelsAreJoined, ChannelsAreKept};
@@ -37,8 +37,8 @@ pub fn encodings_are_frames()
     ensures { EncodingsAreFrames }
 {}
 
-/// The family among which a frame is the least is every encoding of the block, under any channel code, whose subframes are constant, verbatim or by a fixed
+/// The frames among which one is the least are just the encodings of the block, under any channel code, whose subframes are constant, verbatim or by a fixed
 /// predictor, and leave out all the lowest bits that their samples lack.
-pub fn frame_family_is_whole()
-    ensures { FrameFamilyIsWhole }
+pub fn frame_family_is_plain()
+    ensures { FrameFamilyIsPlain }
 {}

@@ -14,7 +14,7 @@ use Rattle.flac_subframe.specs.declared.limits.Limits.{Limits}
 use Rattle.flac_subframe.specs.Bodies.{fixed, Among, Body, constant, verbatim, predicted, StandsFor, content_of, cut, residual_of}
 use Rattle.flac_subframe.specs.Chosen.{fixed_below}
 use Rattle.flac_subframe.specs.Cost.{Codings, MayCode, MayCodeEach, MayWrite}
-use Rattle.flac_subframe.specs.Laws.{WithoutLinear, InFamily, FamilyIsWhole}
+use Rattle.flac_subframe.specs.Laws.{WithoutLinear, FamilyIsWhole}
 use Rattle.flac_subframe.specs.Prediction.{fixed_coefficients, Restored}
 use Rattle.flac_subframe.specs.Residual.{Partition, Residual, all_values, residual_values}
 use Rattle.flac_subframe.specs.Spelling.{FitsWidth, IsCoded, ArePartitions, MayLeave, MayHold, IsSubframe}
@@ -178,16 +178,20 @@ family_whole depth block limits f s small valid samples family =
     let b = body_in (depth - f.wasted) block limits f.content small valid.content family.plain in
     record { wasted = family.wasted; body = (b.0, restored_samples block f.content, b.1, scaled_is f.wasted _ (restored_samples block f.content) s samples, b.2) }
 
-body_long : (depth block : ℕ) (limits : Limits) (c : Content) → limits.partition ≤ 8 → MayHold depth block limits c → WithoutLinear c → length (restored_samples block c) ≡ block
-body_long depth block limits (Constant v) small may plain = length-replicate block v
-body_long depth block limits (Verbatim vs) small may plain = may.many
-body_long depth block limits (Fixed ws rest) small may plain =
+body_long : (depth block : ℕ) (limits : Limits) (c : Content) → limits.partition ≤ 8 → MayHold depth block limits c → length (restored_samples block c) ≡ block
+body_long depth block limits (Constant v) small may = length-replicate block v
+body_long depth block limits (Verbatim vs) small may = may.many
+body_long depth block limits (Fixed ws rest) small may =
     let restored' : Restored (fixed_coefficients (length ws)) 0 (ws ++ residual_values rest) (restored_samples block (Fixed ws rest)) = (samples_restored block (Fixed ws rest) (restored_samples block (Fixed ws rest)) tt).1 refl in
     omega (arith, restored'.long, length-append ws (residual_values rest), whole limits.partition (length ws) block rest small may.3)
-body_long depth block limits (Linear ws chosen rest) small may plain = absurd plain
+body_long depth block limits (Linear ws chosen rest) small may =
+    let c : Content = Linear ws chosen rest in
+    let predict = may.4 in
+    let restored' : Restored chosen.coefficients chosen.shift (ws ++ residual_values rest) (restored_samples block c) = (samples_restored block c (restored_samples block c) (sym predict.many)).1 refl in
+    omega (arith, restored'.long, length-append ws (residual_values rest), whole limits.partition (length ws) block rest small may.5)
 
--- its samples are as many as the block has
-pub samples_long : (depth block : ℕ) (limits : Limits) (f : Form) (s : List ℤ) → limits.partition ≤ 8 → IsSubframe depth block limits f → samples_of depth block f ≡ Some s → InFamily f s → length s ≡ block
+-- the samples of a form are as many as the block has
+pub samples_long : (depth block : ℕ) (limits : Limits) (f : Form) (s : List ℤ) → limits.partition ≤ 8 → IsSubframe depth block limits f → samples_of depth block f ≡ Some s → length s ≡ block
 unfolding fitting
-samples_long depth block limits f s small valid samples family =
-    ap (λ (l : List ℤ). length l) (scaled_is f.wasted _ (restored_samples block f.content) s samples) ∙ length-map (restored_samples block f.content) (times_power f.wasted) ∙ body_long (depth - f.wasted) block limits f.content small valid.content family.plain
+samples_long depth block limits f s small valid samples =
+    ap (λ (l : List ℤ). length l) (scaled_is f.wasted _ (restored_samples block f.content) s samples) ∙ length-map (restored_samples block f.content) (times_power f.wasted) ∙ body_long (depth - f.wasted) block limits f.content small valid.content

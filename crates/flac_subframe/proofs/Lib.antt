@@ -43,3 +43,4 @@ pub mod Made
 pub mod Cuts
 pub mod Valid
 pub mod Complete
+pub mod Family

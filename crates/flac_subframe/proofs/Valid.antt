@@ -44,11 +44,11 @@ fits_width : (n : ℕ) (z : ℤ) → 1 ≤ n → FitsBits n z → FitsWidth n z
 fits_width zero z some f = absurd (omega (arith, some))
 fits_width (suc n) z some f = f
 
-all_width : (n : ℕ) (zs : List ℤ) → 1 ≤ n → All (FitsBits n) zs → All (FitsWidth n) zs
+pub all_width : (n : ℕ) (zs : List ℤ) → 1 ≤ n → All (FitsBits n) zs → All (FitsWidth n) zs
 all_width n zs some all = λ i d h. fits_width n _ some (all i d h)
 
 -- no fixed predictor is a linear one
-not_linear : (precision shift : ℕ) (cs : List ℤ) → Among (linear precision shift cs) (fixed_below 5) → ⊥
+pub not_linear : (precision shift : ℕ) (cs : List ℤ) → Among (linear precision shift cs) (fixed_below 5) → ⊥
 not_linear precision shift cs (inl e) = cc
 not_linear precision shift cs (inr (inl e)) = cc
 not_linear precision shift cs (inr (inr (inl e))) = cc

@@ -1,8 +1,9 @@
 -- What the samples of a form are, as equations, and the laws.
-use Rattle.std.specs.Prelude.{◌≡◌, ℕ, ◌<◌, ◌≤◌, ◌↔◌, Bool, ℤ, List, ◌++◌, length, Ok, Some}
+use Rattle.std.specs.Prelude.{◌≡◌, ℕ, ◌<◌, ◌≤◌, ◌↔◌, Bool, ℤ, List, ◌++◌, length, Ok, Some, All}
 use Rattle.flac_bits.specs.State.{Mark, past}
 use Rattle.flac_bits.specs.Layout.{run}
 use Rattle.flac_bits.specs.Meaning.{Spells}
+use Rattle.flac_bits.specs.Signed.{FitsBits}
 use Rattle.flac_subframe.specs.declared.limits.Limits.{Limits}
 use Rattle.flac_subframe.specs.Chosen.{fixed_below}
 use Rattle.flac_subframe.specs.Family.{Stands}
@@ -59,3 +60,8 @@ pub record InFamily (f : Form) (s : List ℤ) : Type 0 where
 abbrev pub FamilyIsWhole : Type 0
 FamilyIsWhole = (depth block : ℕ) (limits : Limits) (f : Form) (s : List ℤ) → limits.partition ≤ 8 → IsSubframe depth block limits f → samples_of depth block f ≡ Some s → InFamily f s
     → Stands 8 (fixed_below 5) f s
+
+-- and the other way: each form that stands for samples of a depth may be spelled in a block of as many, has these samples, and is of the family
+abbrev pub FamilyIsPlain : Type 0
+FamilyIsPlain = (depth : ℕ) (limits : Limits) (f : Form) (s : List ℤ) → 1 ≤ depth → 0 < length s → 8 ≤ limits.partition → All (FitsBits depth) s → Stands 8 (fixed_below 5) f s
+    → IsSubframe depth (length s) limits f × (samples_of depth (length s) f ≡ Some s) × InFamily f s

@@ -27,7 +27,7 @@ pub use chosen::{Choice, choose, choose_into};
 pub use limits::Limits;
 pub use predictors::{predict_fixed, predict_linear};
 pub use promises::{
-    family_is_whole, samples_are_restored, subframes_are_read_again, subframes_are_spelled,
+    family_is_plain, samples_are_restored, subframes_are_read_again, subframes_are_spelled,
 };
 pub use subframe::read_subframe;
 pub use writing::{write_subframe, write_subframe_into};

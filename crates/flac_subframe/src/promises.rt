@@ -1,6 +1,6 @@
 //! Laws of the definitions, each on a function that does nothing.
 
-ghost use Rattle.flac_subframe.specs.Laws.{SamplesAreRestored, SubframesAreSpelled, SubframesAreReadAgain, FamilyIsWhole};
+ghost use Rattle.flac_subframe.specs.Laws.{SamplesAreRestored, SubframesAreSpelled, SubframesAreReadAgain, FamilyIsWhole, FamilyIsPlain};
 
 /// The samples of a form are the one list that its equations allow: each later sample is its prediction plus its residual value.
 pub fn samples_are_restored()
@@ -17,7 +17,9 @@ pub fn subframes_are_read_again()
     ensures { SubframesAreReadAgain }
 {}
 
-/// Each form of the family that may be spelled, with a partition order of at most 8, is one of those among which a choice for its samples is the least.
-pub fn family_is_whole()
-    ensures { FamilyIsWhole }
+/// The forms among which a choice for some samples is the least are just those that may be spelled, with a partition order of at most 8, have these samples, are
+/// constant, verbatim or by a fixed predictor, and leave out all the lowest bits that the samples lack.
+pub fn family_is_plain()
+    ensures whole { FamilyIsWhole }
+    ensures plain { FamilyIsPlain }
 {}

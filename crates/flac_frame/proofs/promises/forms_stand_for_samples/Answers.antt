@@ -1,5 +1,5 @@
-use Rattle.flac_frame.proofs.Stood.{forms_stand}
+use Rattle.flac_subframe.proofs.Family.{may_stand}
 use Rattle.flac_frame.proofs.promises.forms_stand_for_samples.Goals as goal
 
 pub returns : goal.returns
-returns c = forms_stand
+returns c = may_stand

@@ -1,4 +1,4 @@
--- Each encoding whose subframes are of the family is a frame of the family.
+-- The frames of the family are the encodings whose subframes are of the family in plain words.
 use Rattle.std.proofs.Common.{◌≡◌, ◌∙◌, refl, sym, subst, ℕ, ◌+◌, ◌≤◌, ◌<◌, arith, ℤ, pos, ◌+ℤ◌, ◌-ℤ◌, Bool, true, false, cond, nat_eq, nat_lt, List, [], ◌∷◌, length}
 use Rattle.std.specs.Bool.{⊤}
 use Rattle.std.specs.Int.{int_shr}
@@ -8,9 +8,11 @@ use Rattle.flac_header.specs.Header.{channels_of}
 use Rattle.flac_subframe.specs.declared.limits.Limits.{Limits}
 use Rattle.flac_subframe.specs.Subframe.{Form}
 use Rattle.flac_subframe.proofs.Complete.{family_whole, samples_long}
-use Rattle.flac_frame.specs.Encoding.{EachStands, EachInFamily, FrameFamilyIsWhole}
+use Rattle.flac_subframe.proofs.Family.{in_family}
+use Rattle.flac_frame.specs.Audio.{Sound}
+use Rattle.flac_frame.specs.Encoding.{IsEncoding, EachStands, EachInFamily, FrameFamilyIsPlain}
 use Rattle.flac_frame.specs.Frame.{limits_at}
-use Rattle.flac_frame.specs.Spelling.{AreSubframes, HaveSamples}
+use Rattle.flac_frame.specs.Spelling.{FrameForm, AreSubframes, HaveSamples}
 use Rattle.flac_frame.specs.Stereo.{sample_at, Joined, joined, kept_as, side_of, middle_of}
 use Rattle.flac_frame.proofs.Family.{coded_as, kept_same}
 use Rattle.flac_frame.proofs.Joins.{channels_joined}
@@ -61,17 +63,26 @@ EachLong n [] = ⊤
 EachLong n (s ∷ ss) = (length s ≡ n) × EachLong n ss
 
 module _ (depth code size : ℕ) (limits : Limits) (small : limits.partition ≤ 8) where
-  each_stands : (channel : ℕ) (fs : List Form) (ss : List (List ℤ)) → AreSubframes depth code size limits channel fs → HaveSamples depth code size channel fs ss → EachInFamily fs ss
-      → EachStands fs ss × EachLong size ss × (length ss ≡ length fs)
-  each_stands channel [] [] valid have family = (tt, tt, refl)
+  each_long : (channel : ℕ) (fs : List Form) (ss : List (List ℤ)) → AreSubframes depth code size limits channel fs → HaveSamples depth code size channel fs ss → EachLong size ss × (length ss ≡ length fs)
+  each_long channel [] [] valid have = (tt, refl)
+  each_long channel [] (s ∷ ss) valid have = absurd have
+  each_long channel (f ∷ fs) [] valid have = absurd have
+  each_long channel (f ∷ fs) (s ∷ ss) valid have =
+      let rest = each_long (channel + 1) fs ss valid.1 have.1 in
+      ((samples_long _ size limits f s small valid.0 have.0, rest.0), omega (arith, rest.1))
+
+  each_stands : (channel : ℕ) (fs : List Form) (ss : List (List ℤ)) → AreSubframes depth code size limits channel fs → HaveSamples depth code size channel fs ss → EachInFamily fs ss → EachStands fs ss
+  each_stands channel [] [] valid have family = tt
   each_stands channel [] (s ∷ ss) valid have family = absurd have
   each_stands channel (f ∷ fs) [] valid have family = absurd have
   each_stands channel (f ∷ fs) (s ∷ ss) valid have family =
-      let rest = each_stands (channel + 1) fs ss valid.1 have.1 family.1 in (
-        (family_whole _ size limits f s small valid.0 have.0 family.0, rest.0),
-        (samples_long _ size limits f s small valid.0 have.0 family.0, rest.1),
-        omega (arith, rest.2),
-      )
+      (family_whole _ size limits f s small valid.0 have.0 family.0, each_stands (channel + 1) fs ss valid.1 have.1 family.1)
+
+each_plain : (fs : List Form) (ss : List (List ℤ)) → EachStands fs ss → EachInFamily fs ss
+each_plain [] [] stand = tt
+each_plain [] (s ∷ ss) stand = absurd stand
+each_plain (f ∷ fs) [] stand = absurd stand
+each_plain (f ∷ fs) (s ∷ ss) stand = (in_family f s stand.0, each_plain fs ss stand.1)
 
 pair_back : (code size : ℕ) (kept block : List (List ℤ)) → 7 < code → code < 11 → length kept ≡ 2 → length block ≡ 2 → EachLong size kept → joined code kept ≡ block → kept_as code block ≡ kept
 pair_back code size [] block over few two two' long e = absurd (omega (arith, two))
@@ -96,18 +107,30 @@ paired code n t e = go (nat_lt code 8) t e
         no z = cc
     go false t e = sym e
 
-pub frame_family_whole : FrameFamilyIsWhole
-frame_family_whole sound size number block f e family =
-    let code : ℕ = f.header.channel_code in
-    let kept : List (List ℤ) = e.samples.kept in
-    let limits = limits_at sound.rate in
-    let codes = coded_as size sound.rate e.code sound.bits number f.header e.header in
-    let valid : AreSubframes sound.bits code f.header.size limits 0 f.subframes =
-    subst (λ z. AreSubframes sound.bits code z limits 0 f.subframes) (sym codes.1) (subst (λ c. AreSubframes sound.bits c size limits 0 f.subframes) (sym codes.0) e.subframes) in
-    let each = each_stands sound.bits code f.header.size limits (omega arith) 0 f.subframes kept valid e.samples.subframes family in
-    let back : kept_as code block ≡ kept = by_test (nat_lt code 8)
-    (λ t. let low : code ≤ 7 = grind (arith, nat_tests) in kept_same code block low ∙ sym e.samples.joined ∙ not_joined 1 code 1 low kept)
-    (λ t. let over : 7 < code = grind (arith, nat_tests) in
-    let two : length block ≡ 2 = paired code (length block) t e.channels in
-    pair_back code f.header.size kept block over (omega (arith, e.valid.channel_code)) (each.2 ∙ e.many ∙ two) two each.1 e.samples.joined) in
-    record { encoding = e; stand = subst (EachStands f.subframes) (sym back) each.0 }
+module _ (sound : Sound) (size number : ℕ) (block : List (List ℤ)) (f : FrameForm) (e : IsEncoding sound size number block f) where
+  subframes_valid : AreSubframes sound.bits f.header.channel_code f.header.size (limits_at sound.rate) 0 f.subframes
+  subframes_valid =
+      let codes = coded_as size sound.rate e.code sound.bits number f.header e.header in
+      subst (λ z. AreSubframes sound.bits f.header.channel_code z (limits_at sound.rate) 0 f.subframes) (sym codes.1)
+      (subst (λ c. AreSubframes sound.bits c size (limits_at sound.rate) 0 f.subframes) (sym codes.0) e.subframes)
+
+  -- the subframes have just what the channel code keeps of the block
+  kept_is : kept_as f.header.channel_code block ≡ e.samples.kept
+  kept_is =
+      let code : ℕ = f.header.channel_code in
+      let kept : List (List ℤ) = e.samples.kept in
+      let each = each_long sound.bits code f.header.size (limits_at sound.rate) (omega arith) 0 f.subframes kept subframes_valid e.samples.subframes in
+      by_test (nat_lt code 8)
+      (λ t. let low : code ≤ 7 = grind (arith, nat_tests) in kept_same code block low ∙ sym e.samples.joined ∙ not_joined 1 code 1 low kept)
+      (λ t. let over : 7 < code = grind (arith, nat_tests) in
+      let two : length block ≡ 2 = paired code (length block) t e.channels in
+      pair_back code f.header.size kept block over (omega (arith, e.valid.channel_code)) (each.1 ∙ e.many ∙ two) two each.0 e.samples.joined)
+
+  stand : EachInFamily f.subframes e.samples.kept → EachStands f.subframes e.samples.kept
+  stand family = each_stands sound.bits f.header.channel_code f.header.size (limits_at sound.rate) (omega arith) 0 f.subframes e.samples.kept subframes_valid e.samples.subframes family
+
+pub frame_family_plain : FrameFamilyIsPlain
+frame_family_plain sound size number block f = (
+  λ o. (o.encoding, subst (EachInFamily f.subframes) (kept_is sound size number block f o.encoding) (each_plain f.subframes (kept_as f.header.channel_code block) o.stand)),
+  λ p. record { encoding = p.0; stand = subst (EachStands f.subframes) (sym (kept_is sound size number block f p.0)) (stand sound size number block f p.0 p.1) },
+)
