@@ -33,3 +33,4 @@ pub mod ReadBack
 pub mod Whole
 pub mod Meant
 pub mod Unread
+pub mod BlockOrder

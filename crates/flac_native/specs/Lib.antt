@@ -17,3 +17,4 @@ pub mod Resuming
 pub mod InOrder
 pub mod ReadBack
 pub mod Whole
+pub mod BlockOrder

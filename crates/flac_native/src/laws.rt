@@ -4,6 +4,7 @@ ghost use Rattle.flac_bits.specs.Handing.{OneReading, SomeReading};
 ghost use Rattle.flac_native.specs.Stream.{grammar};
 ghost use Rattle.flac_native.specs.Retag.{HeadsAreOne, RetaggedAreRead};
 ghost use Rattle.flac_native.specs.Whole.{StreamsAreWhole};
+ghost use Rattle.flac_native.specs.BlockOrder.{BlocksAreInOrder};
 
 /// No input has two readings: it is one stream, or is refused at one place and for one reason.
 pub fn only_one_way()
@@ -19,6 +20,12 @@ pub fn some_way()
 /// STREAMINFO's number of samples and digest, where it states them, are those of all frames (RFC 9639, sections 6, 8.2 and 9.1).
 pub fn streams_are_whole()
     ensures { StreamsAreWhole }
+{}
+
+/// The metadata blocks of a stream are in order: STREAMINFO is the first and the only one, one block at most is a seek table and one at most a Vorbis comment, and the
+/// last alone is marked as the last; frames come after them. Such blocks, each valid by itself, and no others are read one after another (RFC 9639, section 8).
+pub fn blocks_are_in_order()
+    ensures { BlocksAreInOrder }
 {}
 
 /// No input has two heads, the marker and the blocks before the frames: it begins with one, or is refused there at one place and for one reason.
