@@ -249,12 +249,12 @@ ordered : (list : List MarkedBlock) → LastIsMarked list → AllBlocks nothing_
 ordered [] marks all = absurd marks
 ordered (b ∷ bs) marks all = in_order b.1 (without_marks bs) all
 
-are_ordered : (m : Mark) (list : List MarkedBlock) (text : List Bool) → AreRead m list text → AreOrdered list text
+pub are_ordered : (m : Mark) (list : List MarkedBlock) (text : List Bool) → AreRead m list text → AreOrdered list text
 are_ordered m list text u =
     let r = read (next opening marked) m list text refl u.spelled u.over in
     record { marks = r.marks; order = ordered list r.marks r.all; spelled = r.spelled }
 
-are_read : (m : Mark) (list : List MarkedBlock) (text : List Bool) → AreOrdered list text → AreRead m list text
+pub are_read : (m : Mark) (list : List MarkedBlock) (text : List Bool) → AreOrdered list text → AreRead m list text
 are_read m list text o =
     let u = here (next opening marked) m list text refl o.marks (of_order (without_marks list) o.order) o.spelled in
     record { spelled = u.0; over = u.1 }
@@ -262,17 +262,17 @@ are_read m list text o =
 -- ---- a stream
 
 -- blocks with their marks, of which the last is marked
-record Closed (b : Block) (bs : List Block) : Type 0 where
-  list : List MarkedBlock
-  parts : closing (b ∷ bs) ≡ map part_of list
-  marks : LastIsMarked list
-  blocks : without_marks list ≡ b ∷ bs
+pub record Closed (b : Block) (bs : List Block) : Type 0 where
+  pub list : List MarkedBlock
+  pub parts : closing (b ∷ bs) ≡ map part_of list
+  pub marks : LastIsMarked list
+  pub blocks : without_marks list ≡ b ∷ bs
 
 before_all : (b : Block) (c : Block) (cs : List Block) (list : List MarkedBlock) → closing (c ∷ cs) ≡ map part_of list → LastIsMarked list → without_marks list ≡ c ∷ cs → Closed b (c ∷ cs)
 before_all b c cs [] parts marks blocks = absurd marks
 before_all b c cs (x ∷ xs) parts marks blocks = record { list = (false, b) ∷ x ∷ xs; parts = ap (λ k. block false b ∷ k) parts; marks = (refl, marks); blocks = ap (λ k. b ∷ k) blocks }
 
-closed : (b : Block) (bs : List Block) → Closed b bs
+pub closed : (b : Block) (bs : List Block) → Closed b bs
 closed b [] = record { list = (true, b) ∷ []; parts = refl; marks = refl; blocks = refl }
 closed b (c ∷ cs) = let r = closed c cs in before_all b c cs r.list r.parts r.marks r.blocks
 

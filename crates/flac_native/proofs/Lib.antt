@@ -34,3 +34,4 @@ pub mod Whole
 pub mod Meant
 pub mod Unread
 pub mod BlockOrder
+pub mod Ordered

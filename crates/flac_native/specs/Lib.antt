@@ -18,3 +18,4 @@ pub mod InOrder
 pub mod ReadBack
 pub mod Whole
 pub mod BlockOrder
+pub mod Ordered

@@ -5,6 +5,7 @@ ghost use Rattle.flac_native.specs.Stream.{grammar};
 ghost use Rattle.flac_native.specs.Retag.{HeadsAreOne, RetaggedAreRead};
 ghost use Rattle.flac_native.specs.Whole.{StreamsAreWhole};
 ghost use Rattle.flac_native.specs.BlockOrder.{BlocksAreInOrder};
+ghost use Rattle.flac_native.specs.Ordered.{StreamsAreOrdered};
 
 /// No input has two readings: it is one stream, or is refused at one place and for one reason.
 pub fn only_one_way()
@@ -26,6 +27,12 @@ pub fn streams_are_whole()
 /// last alone is marked as the last; frames come after them. Such blocks, each valid by itself, and no others are read one after another (RFC 9639, section 8).
 pub fn blocks_are_in_order()
     ensures { BlocksAreInOrder }
+{}
+
+/// A stream, said without a state: the marker, blocks in order, and frames to the end whose headers follow one another, with the number of samples and the digest that
+/// STREAMINFO states, if it states them (RFC 9639, sections 6, 8 and 9.1).
+pub fn streams_are_ordered()
+    ensures { StreamsAreOrdered }
 {}
 
 /// No input has two heads, the marker and the blocks before the frames: it begins with one, or is refused there at one place and for one reason.
