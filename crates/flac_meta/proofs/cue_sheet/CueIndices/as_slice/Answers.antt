@@ -1,0 +1,5 @@
+use Rattle.std.proofs.Common.{rules}
+use Rattle.flac_meta.proofs.cue_sheet.CueIndices.as_slice.Goals as goal
+
+pub returns : goal.returns
+returns c = search rules

@@ -1,0 +1,5 @@
+use Rattle.std.proofs.Common.{rules}
+use Rattle.flac_pages.proofs.pages.Pages.is_last.Goals as goal
+
+pub returns : goal.returns
+returns g c = search rules
