@@ -47,8 +47,15 @@ fn tell(rt: &HostRuntime, fault: &LineFault) -> io::Result<ExitCode> {
     Ok(ExitCode::from(fault.status))
 }
 
+/// A file that takes the lowest number that is free. If a standard file was closed when the program began, this is its
+/// number, which a file of the job would get otherwise.
+fn stand_in(rt: &HostRuntime) -> Option<File> {
+    File::open(rt, "/dev/null").ok()
+}
+
 /// Opens the job's files, and does it. Returns the status.
 fn perform(rt: &HostRuntime, job: &Job<'_>) -> u8 {
+    let _standard = (stand_in(rt), stand_in(rt), stand_in(rt));
     let Ok(input) = File::open(rt, job.input()) else {
         return refuse(rt, job.input(), "opened");
     };
