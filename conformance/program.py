@@ -8,6 +8,8 @@ import model
 
 ROOT = os.path.dirname(os.path.dirname(os.path.abspath(__file__)))
 PROGRAM = os.path.abspath(os.environ.get("FLAC") or os.path.join(ROOT, "flac"))
+BINARY = os.path.abspath(os.environ.get("FLAC") or os.path.join(ROOT, "crates", "flac", "out", "flac"))
+"""The program itself, and not the script that builds it."""
 PLACE = r"(?:marker|end|(?:block|frame|page) \d+)"
 
 

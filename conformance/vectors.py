@@ -300,6 +300,14 @@ def subframe_vectors():
     yield "mid-side-odd", stream(frame(odd, channel_code=10), info=sixteens(channels=2)), "frames 1 samples 16"
 
 
+def whole_vectors():
+    """Streams of several blocks and frames."""
+    import streams
+    comments = VENDOR + hexed("01000000 07000000") + b"TITLE=x"
+    yield "row-1-retagged", ROW_1[:4] + hexed("00000022") + ROW_1[8:42] + block(4, comments) + ROW_1[42:], "frames 1 samples 1"
+    yield "every-block", streams.native().data, "frames 3 samples 41"
+
+
 def foreign_vectors():
     """Tags of another format around a good stream."""
     good = stream(RAMP, info=sixteens(total=16))
@@ -318,14 +326,15 @@ def large_vectors():
 
 def all_vectors():
     for source in (metadata_vectors, row_1_vectors, header_vectors, sequence_vectors, subframe_vectors,
-                   foreign_vectors):
+                   whole_vectors, foreign_vectors):
         yield from source()
     import vectors_ogg
     yield from vectors_ogg.all_vectors()
 
 
-SWEPT = ("row-1", "ramp", "zeros", "alternating", "left-side")
+SWEPT = ("row-1", "row-2", "empty-audio", "ramp", "zeros", "alternating", "left-side", "row-1-retagged", "every-block")
 SWEPT_OGG = ("ogg", "ogg-one-page")
+"""The streams that `sweep` changes."""
 
 
 def main(words):

@@ -1,0 +1,147 @@
+#!/usr/bin/env python3
+"""Measures the memory that `flac test` takes on the largest streams, beside what a decoder may hold.
+
+usage: conformance/memory.py [--quick]
+
+--quick leaves out the streams of 16 MiB. A decoder holds one metadata block, two arrays of a place for each sample of the largest
+block that STREAMINFO and the subset allow, and in Ogg one page. FLAC names the program. Status 1 if more is taken, or an answer is
+not the one that is due.
+"""
+import argparse
+import os
+import subprocess
+import sys
+import tempfile
+import time
+
+import program
+import vectors
+import vectors_ogg
+from program import read
+
+HERE = os.path.dirname(os.path.abspath(__file__))
+MOST = 16777215
+PAGE = 65025 + 255
+TEXT = POINT = 24
+"""Bytes of a text in a list of comments (pointer, length, capacity), and of a point in a list of points."""
+SLACK = 3 * 4096
+"""The allocator gives whole pages for what is large: two arrays, and a block's content or a page."""
+
+
+def arrays(channels, block):
+    """The bytes of the arrays of 64 and 32 bits that a frame is read into."""
+    return 12 * channels * block
+
+
+def grown(count):
+    """The places of a list that grows as it is read: at most the next power of two."""
+    return 1 << (count - 1).bit_length()
+
+
+def with_block(kind, content, length=None):
+    """A stream of STREAMINFO and one block, and no frame."""
+    head = vectors.MARKER + vectors.block(0, vectors.stream_info(16, 16), False)
+    return head + bytes([kind | 128]) + (len(content) if length is None else length).to_bytes(3, "big") + content
+
+
+def frame_streams():
+    """Of these and the others: name, stream, answer, and how much may be held."""
+    fast = dict(rate=96000, depth=32)
+    wide = vectors.frame(("0 000001 0" + "01" * (16 * 16384)) * 8, 16384, rate_code=11, channel_code=7, depth_code=7)
+    yield ("8 channels of 16384 samples of 32 bits", vectors.stream(wide, info=vectors.stream_info(16, 65535, channels=8, **fast)),
+           "frames 1 samples 16384", arrays(8, 16384))
+    yield "8 channels, blocks of 65535 stated", vectors.stream(info=vectors.stream_info(16, 65535, channels=8)), "frames 0 samples 0", arrays(8, 4608)
+    yield "a total of 10^9 that is a lie", vectors.stream(info=vectors.stream_info(16, 16, total=10**9)), "end: 28 TotalMismatch", arrays(1, 16)
+    frames = b"".join(vectors.frame(vectors.SILENCE, 16, number) for number in range(10000))
+    yield "10000 frames", vectors.stream(frames, info=vectors.stream_info(16, 16)), "frames 10000 samples 160000", arrays(1, 16)
+
+
+def block_streams():
+    least = arrays(1, 16)
+    blocks = [(2, b"abcd" + bytes(96))] * 10000
+    yield "10000 blocks", vectors.stream(info=vectors.stream_info(16, 16), blocks=blocks), "frames 0 samples 0", least + grown(100)
+    yield "a number of comments that is a lie", with_block(4, bytes(4) + b"\xff" * 4, MOST), "block 1: 7 BlockLength", least
+    yield "a length of a text that is a lie", with_block(4, b"\xf0\xff\xff\0" + bytes(100), MOST), "block 1: 3 Truncated", least + grown(100)
+    yield "a length of a seek table that is a lie", with_block(3, b"", MOST // 18 * 18), "block 1: 3 Truncated", least
+    yield "a length of a picture's text that is a lie", with_block(6, bytes(4) + b"\xff" * 4 + bytes(24)), "block 1: 7 BlockLength", least
+
+
+def page_streams():
+    for name, stream, answer in vectors_ogg.large_vectors():
+        yield name.replace("ogg-", "").replace("-", " "), stream, answer, arrays(2, 4096) + PAGE
+
+
+def long_frame():
+    """508 samples 2^31 - 1, each with a quotient of 262143 zeros, and four of 0: a frame of 16.6 million bytes."""
+    four = sum(((1 << 14) + 0x3FFE) << 262158 * place for place in range(4)).to_bytes(4 * 262158 // 8, "big")
+    values = int.from_bytes(four * 127, "big") << 60 | sum(1 << 15 * place + 14 for place in range(4))
+    length = 18 + 508 * 262158 + 60
+    body = (0b000100000000001110 << length - 18 | values) << -length % 8
+    return vectors.frame(size=512, rate_code=11, depth_code=7, body_bytes=body.to_bytes((length + 7) // 8, "big"))
+
+
+def ogg_of(kind, content):
+    """A stream of one long block, in full pages."""
+    packet = vectors.block(kind, content)
+    pieces = [packet[at:at + 65025] for at in range(0, len(packet), 65025)]
+    pages = [vectors_ogg.page(0, vectors_ogg.mapping(vectors.stream_info(16, 16)), flags=2)]
+    for number, piece in enumerate(pieces, 1):
+        last = number == len(pieces)
+        pages.append(vectors_ogg.page(number, piece, flags=(1 if number > 1 else 0) | (4 if last else 0), ended=last))
+    return b"".join(pages)
+
+
+def large_streams():
+    least, empty, rest = arrays(1, 16), "frames 0 samples 0", bytes(MOST)
+    yield ("a frame of 16.6 million bytes", vectors.stream(long_frame(), info=vectors.stream_info(16, 512, rate=96000, depth=32)),
+           "frames 1 samples 512", arrays(1, 512))
+    yield "padding of 16 MiB", with_block(1, rest), empty, least
+    yield "application block of 16 MiB", with_block(2, rest), empty, least + grown(MOST)
+    yield "unknown block of 16 MiB", with_block(99, rest), empty, least + grown(MOST)
+    yield "picture of 16 MiB", with_block(6, bytes(28) + (MOST - 32).to_bytes(4, "big") + rest[32:]), empty, least + grown(MOST)
+    comment = bytes(4) + b"\1\0\0\0" + (MOST - 12).to_bytes(4, "little") + rest[12:]
+    yield "comment of 16 MiB", with_block(4, comment), empty, least + grown(MOST)
+    count = (MOST - 8) // 4
+    yield f"{count} comments", with_block(4, bytes(4) + count.to_bytes(4, "little") + bytes(4 * count)), empty, least + TEXT * grown(count)
+    table = b"".join(index.to_bytes(8, "big") + bytes(10) for index in range(MOST // 18))
+    yield f"seek table of {MOST // 18} points", with_block(3, table), empty, least + POINT * grown(MOST // 18)
+    yield "Ogg, application block of 16 MiB in full pages", ogg_of(2, rest), empty, least + PAGE + grown(MOST)
+
+
+class Meter:
+    def __init__(self, folder):
+        self.stream, self.report, self.library = (os.path.join(folder, name) for name in ("stream", "report", "failing.so"))
+        subprocess.run(["cc", "-O1", "-shared", "-fPIC", "-o", self.library, os.path.join(HERE, "failing.c")], check=True)
+
+    def of(self, data):
+        """The answer of `test`, the peak of the memory that it asks for from the first byte on, and the peak of the process."""
+        with open(self.stream, "wb") as file:
+            file.write(data)
+        answer = program.answer(self.stream)
+        subprocess.run([program.BINARY, "test", self.stream], stdout=subprocess.DEVNULL, stderr=subprocess.DEVNULL, check=False,
+                       env={"LD_PRELOAD": self.library, "FAILING_REPORT": self.report, "FAILING_CUT": "0"})
+        lines = {line.split()[0]: dict(pair.split("=") for pair in line.split()[1:]) for line in read(self.report).decode().splitlines()}
+        os.remove(self.report)
+        return answer, int(lines["exit"]["peak"]) - int(lines["cut"]["live"]), 1024 * int(lines["exit"]["resident"])
+
+
+def main():
+    parser = argparse.ArgumentParser(description=__doc__, formatter_class=argparse.RawDescriptionHelpFormatter)
+    parser.add_argument("--quick", action="store_true")
+    words, began, failed, cases = parser.parse_args(), time.time(), 0, 0
+    with tempfile.TemporaryDirectory() as folder:
+        meter = Meter(folder)
+        _, _, least = meter.of(with_block(1, b""))
+        print(f"{'bytes':46}  {'stream':>9}  {'taken':>9}  {'at most':>9}  {'process':>9}")
+        for group in (frame_streams, block_streams, page_streams) + (() if words.quick else (large_streams,)):
+            for name, stream, due, most in group():
+                answer, taken, whole = meter.of(stream)
+                good, cases = answer == due and taken <= most + SLACK, cases + 1
+                failed += not good
+                print(f"{name:46}  {len(stream):9}  {taken:9}  {most:9}  {whole - least:9}" + ("" if good else f"  FAILED, answers '{answer}'"))
+    print(f"memory: {cases} cases, {cases - failed} passed, {failed} failed, {time.time() - began:.0f} seconds")
+    return 1 if failed else 0
+
+
+if __name__ == "__main__":
+    sys.exit(main())
