@@ -96,14 +96,16 @@ class Runner:
 
 
 def jobs():
-    native, ogg, long = streams.native(), streams.ogg(), streams.ogg(long=True)
-    raw = b"".join((n * 401 % 65536).to_bytes(2, "little") for n in range(2 * 41))
-    for name, layout in (("native", native), ("Ogg", ogg), ("long Ogg", long)):
+    native, longer = streams.native(), streams.native(frames=300)
+    raw = [b"".join((n * 401 % 65536).to_bytes(2, "little") for n in range(2 * length)) for length in (41, 9000)]
+    for name, layout in (("native", native), ("long native", longer), ("Ogg", streams.ogg()), ("long Ogg", streams.ogg(long=True))):
         for kind in ("test", "list", "decode"):
             yield Job(f"{kind}, {name}", [kind, "IN", *(["OUT"] if kind == "decode" else [])], layout)
-    yield Job("retag", ["retag", "IN", "OUT", "TITLE=y", "A=b"], native)
-    yield Job("encode", [*ENCODE, "--seek-every", "20", "TITLE=y"], source=raw)
-    yield Job("encode, Ogg", [*ENCODE, "--ogg", "--serial", "7", "TITLE=y"], source=raw)
+    for name, layout in (("retag", native), ("retag, long", longer)):
+        yield Job(name, ["retag", "IN", "OUT", "TITLE=y", "A=b"], layout)
+    for name, source in zip(("", ", long"), raw):
+        yield Job(f"encode{name}", [*ENCODE, "--seek-every", "20", "TITLE=y"], source=source)
+        yield Job(f"encode in Ogg{name}", [*ENCODE, "--ogg", "--serial", "7", "TITLE=y"], source=source)
     yield Job("help", ["--help"])
     yield Job("help of encode", ["encode", "--help"])
 
@@ -119,11 +121,11 @@ def opened_line(job, call, at):
     return "flac: OUT: cannot be created" if call in ("statx", "ftruncate") else None
 
 
-def line_of(job, call, at, alone=True):
+def line_of(job, call, at):
     """The line that is due on standard error after a failure."""
     line = opened_line(job, call, at)
     if line is not None:
-        return line if alone or line else line_of(job, call, {**at, "open": 2})
+        return line
     if call == "write":
         if job.pieces:
             return f"flac: {'OUT' if job.writes else 'IN'}: {job.place_of(at['written'])}: 30 Sink"
@@ -178,7 +180,9 @@ def failure_case(job, due, runner, call, number, how, **more):
     if job.name.startswith("help") and call == "write":
         expect(ran.status, 1)
         return expect(ran.printed, due.printed[:ran.at["exit"]["written"]])
-    line = due_line(job, call, ran, alone="on" not in more)
+    line = line_of(job, call, ran.at["fails"])
+    if not line and call == "memory" and "on" in more:
+        line = later_line(ran)
     # the standard library reserves room for the words ahead, and does without it
     if not line or (call == "memory" and ran.at["fails"]["open"] == 0 and ran.status == 0):
         return same_as(due, ran)
@@ -187,15 +191,12 @@ def failure_case(job, due, runner, call, number, how, **more):
     return files_are_right(job, ran, due, line)
 
 
-def due_line(job, call, ran, alone):
-    """As `line_of`; without a place, if the first request to fail does no harm and a later one does."""
-    at = ran.at["fails"]
-    if call == "memory" and not alone and job.writes and at["open"] == 1:
-        found = names_of(ran.error.decode().strip(), ran)
-        if not found.endswith(": 2 Memory") or not found.startswith(f"flac: {ran.source}: "):
-            raise Wrong(f"answers {found}")
-        return found
-    return line_of(job, call, at, alone)
+def later_line(ran):
+    """The line of a job in which the first request to fail did no harm, and a later one did: its place is not judged."""
+    found = ran.error.decode().strip()
+    if not found.startswith(f"flac: {ran.source}: ") or not found.endswith("2 Memory"):
+        raise Wrong(f"answers {found}")
+    return found
 
 
 def linked_case(job, runner, call, number):
