@@ -1,3 +1,4 @@
+pub mod Named
 pub mod Skips
 pub mod Turns
 pub mod Zeros

@@ -11,4 +11,5 @@ pub mod Spelling
 pub mod Listed
 pub mod Fielded
 pub mod Parts
+pub mod Named
 pub mod Valid

@@ -1,9 +1,12 @@
 //! Comments.
 
-ghost use Rattle.std.specs.Prelude.{◌≡◌, ◌≢◌, ℕ, ◌<◌, ◌+◌, ◌++◌, ◌∷◌, length, take, drop, EachIndex, MatchOption, slice_index};
+ghost use Rattle.std.specs.Prelude.{◌≡◌, ◌≢◌, ℕ, ◌<◌, ◌≤◌, ◌+◌, ◌++◌, [], ◌∷◌, length, take, drop, nat_eq, EachIndex, MatchOption, OnOk, OnErr, IfOk, slice_index, slice_index_or};
+ghost use Rattle.std.specs.Iterator.{YieldsFirstRef, item_count};
 ghost use Rattle.flac_meta.specs.Parts.{HasNoEquals, LacksParts, AreParts};
+ghost use Rattle.flac_meta.specs.Named.{value_under, values_of, IsFirstOf};
 
 use crate::lists::{Bytes, Texts};
+use std::alloc::{AllocError, Global};
 
 /// A Vorbis comment (RFC 9639, section 8.6).
 #[derive(Clone, Debug, PartialEq, Eq, Drop)]
@@ -26,7 +29,157 @@ fn place_of_equals(text: &[u8]) -> Option<usize>
     None
 }
 
+/// The name and the value of a text.
+fn parts_of(text: &[u8]) -> Option<(&[u8], &[u8])>
+    ensures { MatchOption result (HasNoEquals text.now) (λ p. (text.now ≡ p.0.now ++ 61 ∷ p.1.now) × HasNoEquals p.0.now) }
+{
+    let k = place_of_equals(text)?;
+    let behind = k + 1;
+    Some((&text[..k], &text[behind..]))
+}
+
+/// The value of a text of this name.
+#[tactic(auto, using(crate::proofs::Named::under_none, crate::proofs::Named::under_same, crate::proofs::Named::under_other))]
+fn value_under<'a>(name: &[u8], text: &'a [u8]) -> Option<&'a [u8]>
+    ensures { MatchOption result (value_under name.now text.now ≡ []) (λ v. value_under name.now text.now ≡ v.now ∷ []) }
+{
+    match parts_of(text) {
+        Some((own, value)) if own.eq_ignore_ascii_case(name) => Some(value),
+        _ => None,
+    }
+}
+
+/// The first value of this name among some texts, and its place.
+#[tactic(auto, unfolding(crate::specs::Named::values_of), using(crate::proofs::Named::values_more))]
+fn first_named<'a>(name: &[u8], texts: &'a [Bytes]) -> Option<(usize, &'a [u8])>
+    ensures { MatchOption result (values_of name.now texts.now ≡ []) (λ p. (p.0 < length texts.now) × (values_of name.now texts.now ≡ p.1.now ∷ values_of name.now (drop (p.0 + 1) texts.now))) }
+{
+    for (i, text) in texts.iter().enumerate() {
+        match value_under(name, text.as_slice()) {
+            Some(value) => return Some((i, value)),
+            None => {}
+        }
+    }
+    None
+}
+
+/// The values of one name, in the order of the comments: see [`Comments::values`].
+#[derive(Clone, Copy, Debug, Drop)]
+pub struct Values<'a> {
+    name: &'a [u8],
+    texts: &'a [Bytes],
+}
+
+impl<'a> Iterator for Values<'a> {
+    type Item = &'a [u8];
+
+    ghost next_gives = { YieldsFirstRef (λ v. values_of v.name.now v.texts.now) };
+
+    ghost remaining = { item_count (λ v. values_of v.name.now v.texts.now) };
+
+    fn next(&mut self) -> Option<&'a [u8]> {
+        let (i, value) = first_named(self.name, self.texts)?;
+        self.texts = &self.texts[i + 1..];
+        Some(value)
+    }
+}
+
 impl Comments {
+    /// No comments yet, of a program of this name.
+    ///
+    /// # Errors
+    ///
+    /// An allocation failed.
+    ///
+    /// ```
+    /// let mut comments = Comments::new(rt.alloc(), b"my program 1.0")?;
+    /// comments.push(rt.alloc(), b"TITLE", b"A song")?;
+    /// ```
+    pub fn new(alloc: Global, vendor: &[u8]) -> Result<Comments, AllocError>
+        ensures vendor { IfOk result (λ c. c.vendor ≡ vendor.now) }
+        ensures list { IfOk result (λ c. c.list ≡ []) }
+    {
+        let vendor = Bytes::from_vec(Vec::from_slice(alloc, vendor)?);
+        Ok(Comments {
+            vendor,
+            list: Texts::from_vec(Vec::new(alloc)),
+        })
+    }
+
+    /// Puts the comment `NAME=VALUE` behind the others. A name has bytes from 0x20 to 0x7E without `=`, and a value is UTF-8 (RFC 9639, section 8.6); this is not judged.
+    ///
+    /// # Errors
+    ///
+    /// An allocation failed, and the comments are as before.
+    pub fn push(&mut self, alloc: Global, name: &[u8], value: &[u8]) -> Result<(), AllocError>
+        ensures pushed { OnOk result (self.new.list ≡ self.old.list ++ (name.now ++ 61 ∷ value.now) ∷ []) }
+        ensures vendor { self.new.vendor ≡ self.old.vendor }
+        ensures kept { OnErr result (self.new.list ≡ self.old.list) }
+    {
+        let mut text = Vec::from_slice(alloc, name)?;
+        text.push(b'=')?;
+        text.extend_from_slice(value)?;
+        self.list.push(Bytes::from_vec(text))
+    }
+
+    /// The name of the program that wrote the stream, as bytes of UTF-8 (RFC 9639, section 8.6).
+    pub fn vendor(&self) -> &[u8]
+        ensures { result.now ≡ self.now.vendor }
+    {
+        self.vendor.as_slice()
+    }
+
+    /// How many comments there are.
+    pub fn len(&self) -> usize
+        ensures { result ≡ length self.now.list }
+    {
+        self.list.as_slice().len()
+    }
+
+    /// Whether there is no comment.
+    pub fn is_empty(&self) -> bool
+        ensures { result ≡ nat_eq (length self.now.list) 0 }
+    {
+        self.len() == 0
+    }
+
+    /// A comment, counted from 0, as it stands in the block: `NAME=VALUE`. `None` where there is no such comment.
+    pub fn get(&self, i: usize) -> Option<&[u8]>
+        ensures { MatchOption result (length self.now.list ≤ i) (λ t. (i < length self.now.list) × (t.now ≡ slice_index_or self.now.list i [])) }
+    {
+        let list = self.list.as_slice();
+        if i < list.len() {
+            Some(list[i].as_slice())
+        } else {
+            None
+        }
+    }
+
+    /// The values of all comments of a name, in their order. Names are the same but for the case of ASCII letters (RFC 9639, section 8.6).
+    ///
+    /// ```
+    /// for artist in comments.values(b"ARTIST") {
+    ///     println!(rt; "{artist:?}")?;
+    /// }
+    /// ```
+    pub fn values<'a>(&'a self, name: &'a [u8]) -> Values<'a>
+        ensures name { result.name.now ≡ name.now }
+        ensures texts { result.texts.now ≡ self.now.list }
+    {
+        Values {
+            name,
+            texts: self.list.as_slice(),
+        }
+    }
+
+    /// The first value of a name, as [`Comments::values`] gives it.
+    pub fn find(&self, name: &[u8]) -> Option<&[u8]>
+        ensures { MatchOption result (values_of name.now self.now.list ≡ []) (λ v. IsFirstOf v.now (values_of name.now self.now.list)) }
+    {
+        let (_, value) = first_named(name, self.list.as_slice())?;
+        Some(value)
+    }
+
     /// The name and the value of a comment, before and behind its first `=`. `None` where there is no such comment, or no
     /// `=` in it.
     pub fn parts(&self, i: usize) -> Option<(&[u8], &[u8])>

@@ -29,7 +29,7 @@ mod writing;
 
 pub use block::Block;
 pub use block_list::BlockList;
-pub use comments::Comments;
+pub use comments::{Comments, Values};
 pub use cue_sheet::{CueIndex, CueIndices, CueSheet, CueTrack, CueTracks};
 pub use lists::{Bytes, Texts};
 pub use picture::Picture;

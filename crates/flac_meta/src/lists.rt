@@ -1,6 +1,6 @@
 //! Bytes and texts, which contracts see as lists.
 
-ghost use Rattle.std.specs.Prelude.{◌≡◌, ℕ, List, length, nat_eq};
+ghost use Rattle.std.specs.Prelude.{◌≡◌, ◌++◌, ◌∷◌, [], ℕ, List, length, nat_eq, OnOk, OnErr};
 ghost use Rattle.std.specs.Cmp.{partial_equiv_from_equiv};
 ghost use Rattle.std.specs.Cmp.Lexicographic.{pointwise, lists_equiv, nat_list_eq_equiv};
 
@@ -122,6 +122,15 @@ impl Texts {
         ensures { result.items ≡ self }
     {
         self.texts
+    }
+
+    /// Puts a text behind the others. After an error they are as before.
+    pub(crate) fn push(&mut self, text: Bytes) -> Result<(), AllocError>
+        ensures pushed { OnOk result (self.new ≡ self.old ++ text ∷ []) }
+        ensures kept { OnErr result (self.new ≡ self.old) }
+    {
+        self.texts.push(text)?;
+        Ok(())
     }
 
     /// The texts.
