@@ -18,3 +18,4 @@ pub mod Encodings
 pub mod PlainFamily
 pub mod Sizes
 pub mod Rooms
+pub mod Interleaved

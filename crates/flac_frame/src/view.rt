@@ -1,6 +1,6 @@
 //! A frame that is lent.
 
-ghost use Rattle.std.specs.Prelude.{◌≡◌, ◌<◌, ◌≤◌, ◌*◌, length, slice_index_or, [], nat_eq};
+ghost use Rattle.std.specs.Prelude.{◌≡◌, ◌<◌, ◌≤◌, ◌+◌, ◌*◌, ◌/◌, ◌++◌, min, length, take, drop, slice_index_or, [], nat_eq, pos};
 
 /// A frame, lent by the buffers that it was read into.
 #[derive(Clone, Copy, Debug, PartialEq, Eq)]
@@ -17,6 +17,7 @@ pub struct FrameView<'a> {
 
 impl<'a> FrameView<'a> {
     ghost use Rattle.flac_frame.specs.Lent.{frame_of};
+    ghost use Rattle.flac_frame.specs.Interleaved.{row, rows};
 
     /// Samples a channel.
     pub fn len(&self) -> usize
@@ -61,5 +62,53 @@ impl<'a> FrameView<'a> {
     {
         let start = i * self.block;
         &self.samples[start..start + self.block]
+    }
+
+    /// The sample of a channel, the first of which is 0, at an index: a sample takes as many bits as STREAMINFO states, at most 32.
+    pub fn sample(&self, channel: usize, i: usize) -> i32
+        requires channel { channel < length (frame_of self.now).channels }
+        requires index { i < (frame_of self.now).size }
+        ensures { result ≡ slice_index_or (slice_index_or (frame_of self.now).channels channel []) i (pos 0) }
+    {
+        self.channel(channel)[i]
+    }
+
+    /// Writes the samples of all channels at an index behind the first `at`.
+    #[tactic(auto, unfolding(crate::specs::Interleaved::row), using(crate::proofs::Interleaved::row_more))]
+    fn put_row(&self, i: usize, out: &mut [i32], at: usize)
+        requires index { i < (frame_of self.now).size }
+        requires room { at + length (frame_of self.now).channels ≤ length out.old }
+        ensures row { take (at + length (frame_of self.now).channels) out.new ≡ take at out.old ++ row (frame_of self.now).channels i }
+        ensures rest { drop (at + length (frame_of self.now).channels) out.new ≡ drop (at + length (frame_of self.now).channels) out.old }
+    {
+        for c in 0..self.channels() {
+            out[at + c] = self.sample(c, i);
+        }
+    }
+
+    /// Writes the samples of all channels to the front of `out`: those at the first index, channel by channel, then those at the next, and so on. It stops before
+    /// an index at which not all of them fit, and returns how many samples it wrote; those of `out` behind them stay.
+    ///
+    /// ```
+    /// let mut samples = vec![in rt.alloc(); 0; frame.channels() * frame.len()]?;
+    /// let written = frame.interleave(&mut samples);
+    /// ```
+    #[tactic(auto, unfolding(crate::specs::Interleaved::rows), using(crate::proofs::Interleaved::rows_more))]
+    pub fn interleave(&self, out: &mut [i32]) -> usize
+        ensures count { result ≡ length (frame_of self.now).channels * min (frame_of self.now).size (length out.old / length (frame_of self.now).channels) }
+        ensures samples { take result out.new ≡ rows (frame_of self.now).channels (min (frame_of self.now).size (length out.old / length (frame_of self.now).channels)) 0 }
+        ensures rest { drop result out.new ≡ drop result out.old }
+    {
+        let channels = self.channels();
+        if channels == 0 {
+            return 0;
+        }
+        let count = self.len().min(out.len() / channels);
+        let mut at = 0;
+        for i in 0..count {
+            self.put_row(i, out, at);
+            at += channels;
+        }
+        at
     }
 }

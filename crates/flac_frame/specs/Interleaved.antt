@@ -1,0 +1,18 @@
+-- The samples of all channels in one list: those at the first index, channel by channel, then those at the next, and so on, as STREAMINFO's digest takes them
+-- (RFC 9639, section 8.2).
+use Rattle.std.specs.Prelude.{ℕ, zero, suc, ◌+◌, ℤ, pos, List, [], ◌∷◌, ◌++◌, slice_index_or}
+use Rattle.flac_frame.specs.Frame.{Frame}
+
+-- the samples of all channels at one index
+unfoldable pub row : List (List ℤ) → ℕ → List ℤ
+row [] i = []
+row (channel ∷ channels) i = slice_index_or channel i (pos 0) ∷ row channels i
+
+-- the samples of all channels at n indices from i on
+unfoldable pub rows : List (List ℤ) → ℕ → ℕ → List ℤ
+rows channels zero i = []
+rows channels (suc n) i = row channels i ++ rows channels n (i + 1)
+
+-- all samples of a frame
+abbrev pub interleaved : Frame → List ℤ
+interleaved f = rows f.channels f.size 0
