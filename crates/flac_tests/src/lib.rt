@@ -15,6 +15,8 @@ mod ogg_decoding;
 #[cfg(test)]
 mod parts;
 #[cfg(test)]
+mod reading_files;
+#[cfg(test)]
 mod retagging;
 #[cfg(test)]
 mod rows;

@@ -1,0 +1,5 @@
+pub mod Moving
+pub mod Heads
+pub mod Firsts
+pub mod Gives
+pub mod Openings

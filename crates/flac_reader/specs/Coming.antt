@@ -1,0 +1,106 @@
+-- What a decoder has still to give, and what a reader gives of it: the metadata blocks at once, and then one frame after another.
+use Rattle.std.specs.Prelude.{◌≡◌, ◌≤◌, ℕ, Bool, true, false, List, [], ◌∷◌, ◌++◌, map, filter, Option, Some, None, Result, Ok, Err, IfOk, IfErr, ⊤}
+use Rattle.flac_bits.specs.State.{Rises}
+use Rattle.flac_bits.specs.Handing.{reason_of}
+use Rattle.flac_bits.specs.declared.why.Why.{Why}
+use Rattle.flac_bits.specs.declared.why.Why.TheVariants.{Memory, Read, Spent}
+use Rattle.flac_meta.specs.declared.block.Block.{Block}
+use Rattle.flac_frame.specs.Frame.{Frame}
+use Rattle.flac_frame.specs.Lent.{frame_of}
+use Rattle.flac_frame.specs.declared.view.FrameView.{FrameView}
+use Rattle.flac_native.specs.Stream.{Progress}
+use Rattle.flac_native.specs.Track.{IsAt}
+use Rattle.flac_native.specs.Item.{Item, metadata, frame, told}
+use Rattle.flac_native.specs.Giving.{StillGives, EndsBy, Stage, held, seen_by}
+use Rattle.flac_native.specs.declared.fault.Place.{Place}
+use Rattle.flac_native.specs.declared.fault.Fault.{Fault}
+use Rattle.flac_native.specs.declared.course.Course.{Course}
+use Rattle.flac_native.specs.declared.course.Course.TheVariants as course
+use Rattle.flac_native.specs.declared.container.Container as container
+use Rattle.flac_reader.specs.Kept.{keeps}
+use Rattle.flac_reader.specs.declared.keep.Keep.{Keep}
+
+-- ---- a decoder
+
+-- A decoder has still to give these items, and then the end of the stream, or its refusal. Behind the end nothing is left but the end, and behind a refusal
+-- that it is spent, at the place of that refusal.
+abbrev pub ComesBehind : {C : Type 0} → container.Ghosts C → Course → Stage C → List Item → Option (Place × Why) → Type 0
+ComesBehind g course.Begun s items end = (p : Progress) × IsAt s.track p × StillGives (g.gives s.container) p items end
+ComesBehind g (course.Read part) s items end = (p : Progress) × IsAt s.track p × StillGives (g.gives s.container) p items end
+ComesBehind g course.Over s items end = (items ≡ []) × (end ≡ None)
+ComesBehind g (course.Spent at) s items end = (items ≡ []) × (end ≡ Some (at, Spent))
+
+abbrev pub Comes : {C : Type 0} → container.Ghosts C → Stage C → List Item → Option (Place × Why) → Type 0
+Comes g s items end = ComesBehind g s.course s items end
+
+-- what comes once this end was told
+abbrev pub again : Option (Place × Why) → Option (Place × Why)
+again None = None
+again (Some f) = Some (f.0, Spent)
+
+-- the answer is the first of these items, or else the end, and the others are still to come
+abbrev pub IsFirst : {C : Type 0} → container.Ghosts C → List Item → Option (Place × Why) → Result (Option Item) Fault → Stage C → Type 0
+IsFirst g [] end answer s = EndsBy end answer × Comes g s [] (again end)
+IsFirst g (x ∷ xs) end answer s = (answer ≡ Ok (Some x)) × Comes g s xs end
+
+-- the source tells its bytes, and answered no error
+abbrev pub IsCalm : {C : Type 0} → container.Ghosts C → Stage C → Stage C → Type 0
+IsCalm g old new = (g.known old.container ≡ true) × (g.errors new.container ≡ g.errors old.container) × (g.raised new.container ≡ g.raised old.container)
+
+-- memory did not run out
+abbrev pub HadRoom : {X : Type 0} → Result X Fault → Type 0
+HadRoom result = reason_of told result ≡ Err Memory → ⊥
+
+-- Errors of the device are counted: a call that returns a value met none, and one that returns Read raises the count, if it can rise.
+pub record Counted {C X : Type 0} (g : container.Ghosts C) (old new : Stage C) (result : Result X Fault) : Type 0 where
+  pub met : IfOk result (λ _. (g.known old.container ≡ true → g.known new.container ≡ true) × (g.errors new.container ≡ g.errors old.container) × (g.raised new.container ≡ g.raised old.container) × (g.met new.container ≡ g.met old.container))
+  pub kept : g.errors old.container ≤ g.errors new.container
+  pub risen : IfErr result (λ f. f.why ≡ Read → Rises (g.met old.container) (g.met new.container))
+
+-- ---- the metadata
+
+-- blocks, and frames behind them
+abbrev pub stream_items : List Block → List Frame → List Item
+stream_items blocks frames = map metadata blocks ++ map frame frames
+
+-- ---- the frames
+
+-- A reader has still to give these frames, and then this end. It may have read the first of them ahead.
+abbrev pub FramesCome : {C : Type 0} → container.Ghosts C → (ahead : Bool) → Stage C → List Frame → Option (Place × Why) → Type 0
+FramesCome g false s frames end = Comes g s (map frame frames) end
+FramesCome g true s frames end = IsFirst g (map frame frames) end (Ok (held s.course s.track)) s
+
+-- the frame that is lent
+abbrev pub lent : Option FrameView → Option Item
+lent None = None
+lent (Some v) = Some (frame (frame_of v))
+
+-- a frame, and no block
+abbrev pub only_frame : Option Item → Option Item
+only_frame None = None
+only_frame (Some (metadata b)) = None
+only_frame (Some (frame f)) = Some (frame f)
+
+-- what a call gave, seen by view, is the first of the frames that were still to come, or else the end
+abbrev pub GivesFrame : {C X : Type 0} → container.Ghosts C → (ahead : Bool) → Stage C → Stage C → (X → Option Item) → Result X Fault → Type 0
+GivesFrame g ahead old new view result =
+    IsCalm g old new → HadRoom result → (frames : List Frame) (end : Option (Place × Why)) → FramesCome g ahead old frames end → IsFirst g (map frame frames) end (seen_by view result) new
+
+-- a call read all blocks, and the wanted ones are kept, where the stream was not refused before its first frame
+abbrev pub HeadIs : {C : Type 0} → container.Ghosts C → Keep → List Block → List Frame → Option (Place × Why) → List Block → Result ⊤ Fault → Stage C → Type 0
+HeadIs g keep blocks frames end kept (Ok x) s = (kept ≡ filter (keeps keep) blocks) × FramesCome g true s frames end
+HeadIs g keep blocks frames end kept (Err f) s = (frames ≡ []) × (end ≡ Some (told f))
+
+-- how many samples of each channel
+abbrev pub size_of : Option Item → ℕ
+size_of None = 0
+size_of (Some (metadata b)) = 0
+size_of (Some (frame f)) = f.size
+
+-- The metadata was read from old on, of a source that tells its bytes: the wanted blocks are kept, and the frames come next. No error was met.
+pub record HeadOf {C : Type 0} (g : container.Ghosts C) (old new : Stage C) (keep : Keep) (kept : List Block) (ahead : Bool) : Type 0 where
+  pub known : g.known old.container ≡ true → g.known new.container ≡ true
+  pub errors : g.errors new.container ≡ g.errors old.container
+  pub raised : g.raised new.container ≡ g.raised old.container
+  pub blocks : g.known old.container ≡ true → (blocks : List Block) (frames : List Frame) (end : Option (Place × Why)) → Comes g old (stream_items blocks frames) end → kept ≡ filter (keeps keep) blocks
+  pub frames : g.known old.container ≡ true → (blocks : List Block) (frames : List Frame) (end : Option (Place × Why)) → Comes g old (stream_items blocks frames) end → FramesCome g ahead new frames end

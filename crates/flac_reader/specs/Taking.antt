@@ -1,0 +1,19 @@
+-- What a call does that reads one item of the metadata.
+use Rattle.std.specs.Prelude.{◌≡◌, Bool, true, false, List, [], ◌∷◌, ◌++◌, filter, Option, Some, Result, Ok, Err}
+use Rattle.flac_bits.specs.declared.why.Why.{Why}
+use Rattle.flac_meta.specs.declared.block.Block.{Block}
+use Rattle.flac_frame.specs.Frame.{Frame}
+use Rattle.flac_native.specs.Item.{told}
+use Rattle.flac_native.specs.Giving.{Stage}
+use Rattle.flac_native.specs.declared.fault.Place.{Place}
+use Rattle.flac_native.specs.declared.fault.Fault.{Fault}
+use Rattle.flac_native.specs.declared.container.Container as container
+use Rattle.flac_reader.specs.Kept.{keeps}
+use Rattle.flac_reader.specs.Coming.{Comes, FramesCome, stream_items}
+use Rattle.flac_reader.specs.declared.keep.Keep.{Keep}
+
+-- a block was the first of what was to come, and is kept if it is wanted; or else a frame was, or the end, and is read ahead; or the stream is refused
+abbrev pub Took : {C : Type 0} → container.Ghosts C → Keep → List Block → List Frame → Option (Place × Why) → (old new : List Block) → Result Bool Fault → Stage C → Type 0
+Took g keep blocks frames end old new (Ok true) s = (b : Block) × (rest : List Block) × (blocks ≡ b ∷ rest) × (new ≡ old ++ filter (keeps keep) (b ∷ [])) × Comes g s (stream_items rest frames) end
+Took g keep blocks frames end old new (Ok false) s = (blocks ≡ []) × (new ≡ old) × FramesCome g true s frames end
+Took g keep blocks frames end old new (Err f) s = (blocks ≡ []) × (frames ≡ []) × (end ≡ Some (told f))

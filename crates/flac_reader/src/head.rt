@@ -1,0 +1,121 @@
+//! The metadata of a stream.
+
+ghost use Rattle.std.specs.Prelude.{◌≡◌, ◌++◌, [], ◌∷◌, List, Option, Some, true, false, IfOk};
+ghost use Rattle.flac_meta.specs.declared.block.Block.{Block as ABlock};
+ghost use Rattle.flac_frame.specs.Frame.{Frame};
+ghost use Rattle.flac_native.specs.Giving.{stage_of, held};
+ghost use Rattle.flac_reader.specs.Kept.{first_info};
+ghost use Rattle.flac_reader.specs.Coming.{Comes, IsCalm, HadRoom, Counted, HeadIs, HeadOf, GivesFrame, stream_items};
+ghost use Rattle.flac_reader.specs.Taking.{Took};
+
+use crate::keep::{Keep, keep_block};
+use flac_native::{Block, Container, Decoder, Fault, Item, Place, StreamInfo, Why};
+
+/// Reads the next item, and keeps a block that is wanted; `false` if the item is none.
+fn take_block<C: Container>(
+    decoder: &mut Decoder<C>,
+    keep: Keep,
+    index: u64,
+    kept: &mut Vec<Block>,
+) -> Result<bool, Fault>
+    ensures counts { Counted C.Container (stage_of decoder.old) (stage_of decoder.new) result }
+    ensures gives { IsCalm C.Container (stage_of decoder.old) (stage_of decoder.new) → HadRoom result → (blocks : List ABlock) (frames : List Frame) (end : Option (Place × Why)) → Comes C.Container (stage_of decoder.old) (stream_items blocks frames) end →
+        Took C.Container keep blocks frames end kept.old.items kept.new.items result (stage_of decoder.new) }
+{
+    match decoder.step() {
+        Ok(()) => {}
+        Err(fault) => return Err(fault),
+    }
+    let outcome = match decoder.view() {
+        Item::Block(block) => keep_block(kept, keep, block),
+        Item::Frame(_) => return Ok(false),
+        Item::End => return Ok(false),
+    };
+    match outcome {
+        Ok(()) => Ok(true),
+        Err(why) => Err(Fault {
+            at: Place::Block(index),
+            why,
+        }),
+    }
+}
+
+/// Reads all metadata blocks of a stream from its start, and keeps those that are wanted, in their order (RFC 9639, section 8). It reads the first frame too,
+/// or the end if there is none: [`Decoder::view`] shows it.
+///
+/// # Errors
+///
+/// Those of [`Decoder::next`]. [`Why::Memory`] too if a block that is to be kept cannot be copied.
+pub fn read_blocks<C: Container>(
+    decoder: &mut Decoder<C>,
+    keep: Keep,
+    kept: &mut Vec<Block>,
+) -> Result<(), Fault>
+    requires { kept.old.items ≡ [] }
+    ensures counts { Counted C.Container (stage_of decoder.old) (stage_of decoder.new) result }
+    // Of a stream that is read so: all its blocks that are wanted are kept, and its frames come next; refused only as the stream is, with no frame before.
+    ensures head { IsCalm C.Container (stage_of decoder.old) (stage_of decoder.new) → HadRoom result → (blocks : List ABlock) (frames : List Frame) (end : Option (Place × Why)) → Comes C.Container (stage_of decoder.old) (stream_items blocks frames) end →
+        HeadIs C.Container keep blocks frames end kept.new.items result (stage_of decoder.new) }
+{
+    for index in 0..u64::MAX {
+        match take_block(decoder, keep, index, kept) {
+            Ok(true) => {}
+            Ok(false) => return Ok(()),
+            Err(fault) => return Err(fault),
+        }
+    }
+    Err(Fault {
+        at: Place::Block(u64::MAX),
+        why: Why::Memory,
+    })
+}
+
+/// The first STREAMINFO of some blocks.
+#[tactic(auto, unfolding(crate::specs::Kept::first_info), using(crate::proofs::Firsts::info_more))]
+fn info_of(blocks: &[Block]) -> Option<StreamInfo>
+    ensures { result ≡ first_info blocks.now }
+{
+    for block in blocks {
+        match block {
+            Block::StreamInfo(info) => return Some(*info),
+            _ => {}
+        }
+    }
+    None
+}
+
+/// Reads all metadata blocks, and finds STREAMINFO.
+pub(crate) fn read_head<C: Container>(
+    decoder: &mut Decoder<C>,
+    keep: Keep,
+    kept: &mut Vec<Block>,
+) -> Result<StreamInfo, Fault>
+    requires { kept.old.items ≡ [] }
+    ensures info { IfOk result (λ i. first_info kept.new.items ≡ Some i) }
+    ensures head { IfOk result (λ _. HeadOf C.Container (stage_of decoder.old) (stage_of decoder.new) keep kept.new.items true) }
+{
+    match read_blocks(decoder, keep, kept) {
+        Ok(()) => {}
+        Err(fault) => return Err(fault),
+    }
+    match info_of(kept.as_slice()) {
+        Some(info) => Ok(info),
+        None => Err(Fault {
+            at: Place::Block(0),
+            why: Why::NotStreamInfoFirst,
+        }),
+    }
+}
+
+/// Reads the next frame, unless it was read ahead.
+pub(crate) fn forward<C: Container>(decoder: &mut Decoder<C>, ahead: &mut bool) -> Result<(), Fault>
+    ensures ahead { ahead.new ≡ false }
+    ensures counts { Counted C.Container (stage_of decoder.old) (stage_of decoder.new) result }
+    ensures frame { GivesFrame C.Container ahead.old (stage_of decoder.old) (stage_of decoder.new) (λ _. held (stage_of decoder.new).course (stage_of decoder.new).track) result }
+{
+    if *ahead {
+        *ahead = false;
+        return Ok(());
+    }
+    decoder.step()
+}

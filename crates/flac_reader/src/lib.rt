@@ -1,0 +1,20 @@
+//! A reader of FLAC streams, native or Ogg: the metadata first, then one frame after another (RFC 9639, sections 6 and 10.1).
+#![tactic(auto)]
+
+mod either;
+mod fronted;
+mod head;
+mod keep;
+mod opening;
+mod reader;
+
+pub use either::{Opened, open};
+pub use flac_native::{
+    Block, Comments, Container, Counted, Decoder, Fault, FrameView, Memory, Place, Profile, Source,
+    StreamInfo, Why,
+};
+pub use fronted::Fronted;
+pub use head::read_blocks;
+pub use keep::Keep;
+pub use opening::{open_native, open_ogg};
+pub use reader::Reader;

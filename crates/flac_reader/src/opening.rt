@@ -1,0 +1,62 @@
+//! Readers of native and of Ogg streams.
+
+ghost use Rattle.std.specs.Prelude.{◌≡◌, IfOk, true};
+ghost use Rattle.flac_bits.specs.Bits.{bits_of};
+ghost use Rattle.flac_bits.specs.State.{short_of};
+ghost use Rattle.flac_bits.specs.Handing.{by_grammar};
+ghost use Rattle.flac_native.specs.Stream.{grammar, opening};
+ghost use Rattle.flac_native.specs.Decoding.{beginning};
+ghost use Rattle.flac_ogg.specs.Decoding.{ogg_reading};
+ghost use Rattle.flac_reader.specs.Opening.{Opens};
+
+use crate::keep::Keep;
+use crate::reader::Reader;
+use flac_bits::BitReader;
+use flac_native::{Decoder, Fault, Profile, Source};
+use flac_ogg::{OggPackets, ogg_decoder};
+use std::alloc::Global;
+
+/// Opens a native stream (RFC 9639, section 6): reads its metadata, and the first frame, which [`Reader::next`] lends then.
+///
+/// # Errors
+///
+/// Those of [`Reader::over`].
+///
+/// ```
+/// let mut reader = open_native(rt.alloc(), Counted::new(file), Profile::Subset, Keep::Tags)?;
+/// ```
+pub fn open_native<R: Source + Drop>(
+    alloc: Global,
+    source: R,
+    profile: Profile,
+    keep: Keep,
+) -> Result<Reader<BitReader<R>>, Fault>
+    // The blocks that are kept, and the frames to come, are those of the stream that the bytes are.
+    ensures opens { IfOk result (λ r. R.known source ≡ true → Opens (by_grammar grammar opening (beginning (short_of ((R.behind source).fails))) (bits_of (R.coming source))) keep r) }
+{
+    Reader::over(alloc, Decoder::new(alloc, source, profile), keep)
+}
+
+/// Opens an Ogg stream (RFC 9639, section 10.1): reads its metadata, and the first frame, which [`Reader::next`] lends then.
+///
+/// # Errors
+///
+/// Those of [`Reader::over`], and `Memory` at the marker if the 65025 bytes for a page are not to be had.
+///
+/// ```
+/// let mut reader = open_ogg(rt.alloc(), Counted::new(file), Profile::Subset, Keep::Tags)?;
+/// ```
+pub fn open_ogg<R: Source + Drop>(
+    alloc: Global,
+    source: R,
+    profile: Profile,
+    keep: Keep,
+) -> Result<Reader<OggPackets<R>>, Fault>
+    // The blocks that are kept, and the frames to come, are those of the stream that the bytes are.
+    ensures opens { IfOk result (λ r. R.known source ≡ true → Opens (ogg_reading (beginning (short_of ((R.behind source).fails))) (bits_of (R.coming source))) keep r) }
+{
+    match ogg_decoder(alloc, source, profile) {
+        Ok(decoder) => Reader::over(alloc, decoder, keep),
+        Err(fault) => Err(fault),
+    }
+}
