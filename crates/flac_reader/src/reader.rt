@@ -83,7 +83,8 @@ impl<C: Container> Reader<C> {
         None
     }
 
-    /// The number of the first sample of the frame that was lent last, counted from 0 in each channel.
+    /// The number of the first sample of the frame that was lent last, counted from 0 in each channel. At the end of the stream it is how many samples each channel
+    /// has. It stops at 2^64 - 1.
     pub fn first_sample(&self) -> u64
         ensures { result ≡ self.now.first }
     {

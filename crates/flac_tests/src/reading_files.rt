@@ -52,7 +52,7 @@ fn has_title<C: Container>(reader: &Reader<C>) -> bool {
     }
 }
 
-/// What is printed of a stream: its rate, whether it has the title, its peak, and where its last frame begins.
+/// What is printed of a stream: its rate, whether it has the title, its peak, and how many samples each channel has.
 type Printed = (u32, bool, u32, u64);
 
 /// What is printed of a stream that is open.
@@ -82,11 +82,11 @@ fn printed_and_dropped<C: Container + Drop>(reader: Reader<C>) -> Result<Printed
 #[test]
 fn tags_and_peak_of_a_stream(rt: HostRuntime) -> Result<(), Fail> {
     let native = hex::decode(rt.alloc(), TAGGED)?;
-    let wanted = Ok((44100, true, 25588, 0));
+    let wanted = Ok((44100, true, 25588, 1));
     assert!(rt; tags_and_peak(rt.alloc(), &native, Keep::Tags) == wanted);
     assert!(rt; tags_and_peak(rt.alloc(), &native, Keep::All) == wanted);
     let pages = hex::decode(rt.alloc(), PAGES)?;
-    assert!(rt; tags_and_peak(rt.alloc(), &pages, Keep::Tags) == Ok((44100, false, 25588, 0)));
+    assert!(rt; tags_and_peak(rt.alloc(), &pages, Keep::Tags) == Ok((44100, false, 25588, 1)));
     Ok(())
 }
 
@@ -216,7 +216,7 @@ fn copied(alloc: Global, stream: &[u8]) -> Result<Vec<u8>, Fail> {
 fn copy_of_a_stream(rt: HostRuntime) -> Result<(), Fail> {
     let stream = hex::decode(rt.alloc(), TAGGED)?;
     let copy = copied(rt.alloc(), &stream)?;
-    let wanted = Ok((44100, false, 25588, 0));
+    let wanted = Ok((44100, false, 25588, 1));
     assert!(rt; tags_and_peak(rt.alloc(), &copy, Keep::All) == wanted);
     Ok(())
 }
