@@ -1,10 +1,11 @@
 -- Bits held in a word.
 use Rattle.std.proofs.Common.{◌≡◌, ℕ, zero, suc, ◌+◌, ◌-◌, ◌*◌, ◌/◌, ◌%◌, ◌^◌, ◌<◌, ◌≤◌, false, nat_eq, ◌∷◌, ◌++◌, length, bit_and, bit_or, refl, sym, ap, ◌∙◌, arith}
 use Rattle.std.specs.Int.{bit_at}
-use Rattle.std.proofs.lemmas.Nat.{pow_pos, pow-add, shl-shr, shr-shr, shr_split, mod-pow-add, field_of, shl_below, shr_below, shl_whole, shr_high, mod_low, or_shr, or_lt, le_or_r, mod_below, mul-add-lt, mul-mod_first}
+use Rattle.std.proofs.lemmas.Nat.{pow_pos, pow-add, shl-shr, shr-shr, shr_split, mod-pow-add, field_of, shl_below, shr_below, shl_whole, shr_high, mod_low, or_shr, or_lt, le_or_l, le_or_r, mod_below, mul-add-lt, mul-mod_first}
 use Rattle.std.proofs.lemmas.Nat.Bits.{shr_and_one, bit_at-suc, bit_at-zero}
 use Rattle.std.specs.Int.Bits.{or_zero_r}
 use Rattle.std.specs.Int.{w64, leading_zeros}
+use Rattle.std.specs.Int.Count.{leading_unique, leading_of_zero}
 use Rattle.std.proofs.lemmas.Nat.{leading_top, pow_below, le-div}
 use Rattle.std.proofs.Math.Nat.{pow-suc, mul-mod_left}
 use Rattle.std.proofs.Common.{append_assoc}
@@ -174,6 +175,15 @@ top_one w z c wide le is lt =
     let same : a / 2 ^ j ≡ w / 2 ^ j = or_shr w 1 j ∙ ap (λ k. bit_or (w / 2 ^ j) k) small ∙ or_zero_r (w / 2 ^ j) in
     let s : 1 + (63 - (z + 1)) ≡ j = omega arith in
     shr-shr w 1 (63 - (z + 1)) ∙ ap (λ k. w / 2 ^ k) s ∙ sym same ∙ one
+
+-- where fewer zeros are found than there are places, another one at the end changes nothing
+pub top_same : (w k c : ℕ) → w < 2 ^ 64 → c ≤ 63 → leading_zeros w64 w + 1 + k ≤ c → leading_zeros w64 w ≡ leading_zeros w64 (bit_or w 1)
+top_same w k c wide le fits =
+    let some : w ≡ 0 → ⊥ = λ e. let all : leading_zeros w64 w ≡ 64 = rw e (leading_of_zero 64) in omega (arith, all, fits, le) in
+    let top = leading_top 64 w (omega (arith, some)) wide in
+    let j = top.0 in
+    let one : 1 < 2 ^ suc j = pow_below 0 (suc j) (omega arith) in
+    leading_unique 64 (bit_or w 1) (leading_zeros w64 w) (suc j) top.1 (or_lt (suc j) w 1 top.3 one) (omega (arith, le_or_l w 1, pow-suc 2 j, top.2))
 
 pub zeros_taken : (w z c : ℕ) → w < 2 ^ 64 → c ≤ 63 → z ≡ leading_zeros w64 (bit_or w 1) → z < c
     → unsigned c (w / 2 ^ (64 - c)) ≡ unary_bits z ++ unsigned (c - (z + 1)) (w * 2 ^ (z + 1) % 2 ^ 64 / 2 ^ (64 - (c - (z + 1))))

@@ -161,7 +161,8 @@ impl Word {
         ensures small { IfSome result (λ v. v ≤ 0xFFFF_FFFE) }
         ensures none { result ≡ None → self.new ≡ self.old }
     {
-        let zeros = (self.word | 1).leading_zeros();
+        // 64 where no one is held: too many in any case
+        let zeros = self.word.leading_zeros();
         let used = zeros + 1 + k;
         if used <= self.count {
             // so that where k is known only one shift is by a number that is not
