@@ -16,11 +16,11 @@ each_is depth (suc c) n xs long =
     let rest : length (drop n xs) ≡ c * n = length-drop n xs ∙ omega (arith, long) in
     ap (λ b. cond (all_fit depth (take n xs)) b false) (each_is depth c n (drop n xs) rest) ∙ sym (all_fit-append depth (take n xs) (drop n xs)) ∙ ap (all_fit depth) (take-append-drop n xs)
 
-pub some_fit : (depth code c n : ℕ) (old xs : List ℤ) → chunks c n xs ≡ joined code (chunks c n old) → length xs ≡ c * n → all_fit depth xs ≡ true → in_range depth code (Some (chunks c n old)) ≡ Some (chunks c n xs)
-some_fit depth code c n old xs is long h = rw (← is, each_is depth c n xs long, h) refl
+pub some_fit : (depth code c n : ℕ) (old xs : List ℤ) → chunks c n xs ≡ joined code (chunks c n old) → each_fits depth (joined code (chunks c n old)) ≡ true → in_range depth code (Some (chunks c n old)) ≡ Some (chunks c n xs)
+some_fit depth code c n old xs is h = rw (h, is) refl
 
-pub none_fits : (depth code c n : ℕ) (old xs : List ℤ) → chunks c n xs ≡ joined code (chunks c n old) → length xs ≡ c * n → all_fit depth xs ≡ false → in_range depth code (Some (chunks c n old)) ≡ None
-none_fits depth code c n old xs is long h = rw (← is, each_is depth c n xs long, h) refl
+pub none_fits : (depth code c n : ℕ) (old : List ℤ) → each_fits depth (joined code (chunks c n old)) ≡ false → in_range depth code (Some (chunks c n old)) ≡ None
+none_fits depth code c n old h = rw h refl
 
 -- the first places, after a write to them
 pub first_places : (m : ℕ) (ys zs : List ℤ) → length ys ≡ m → take m (ys ++ zs) ≡ ys

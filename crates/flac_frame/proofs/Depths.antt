@@ -1,8 +1,10 @@
 -- Samples that fit a depth.
-use Rattle.std.proofs.Common.{◌≡◌, ℕ, ◌+◌, ◌-◌, ◌*◌, ◌%◌, ◌^◌, ◌<◌, ◌≤◌, ℤ, pos, negsuc, neg_ℤ, ◌≤ℤ◌, ◌<ℤ◌, ◌-ℤ◌, Bool, true, false, cond, List, [], ◌∷◌, ◌++◌, length, take, get_or, set, FitsSigned, to_z, w32, w64, refl, sym, ap, ◌∙◌, arith}
+use Rattle.std.proofs.Common.{◌≡◌, ℕ, ◌+◌, ◌-◌, ◌*◌, ◌%◌, ◌^◌, ◌<◌, ◌≤◌, ℤ, pos, negsuc, neg_ℤ, ◌≤ℤ◌, ◌<ℤ◌, ◌-ℤ◌, Bool, true, false, cond, List, [], ◌∷◌, ◌++◌, length, take, get_or, set, nat_eq, FitsSigned, to_z, w32, w64, refl, sym, ap, ◌∙◌, arith}
 use Rattle.std.proofs.lemmas.Bool.{lt-ltb, le-ltb, ltb-true}
 use Rattle.std.proofs.lemmas.Int.{ints, to_z_pos}
-use Rattle.std.proofs.lemmas.Nat.{one_shl, pow_below}
+use Rattle.std.specs.Prelude.{bit_or}
+use Rattle.std.proofs.lemmas.Bool.Decides.{nat_tests}
+use Rattle.std.proofs.lemmas.Nat.{one_shl, pow_below, le_or_l, le_or_r}
 use Rattle.std.proofs.lemmas.List.{take_more, take_more_set}
 use Rattle.std.proofs.Math.Nat.{pow-le-pow_right}
 use Rattle.flac_subframe.specs.Numbers.{fits, all_fit}
@@ -65,3 +67,28 @@ pub put_more : (xs out : List ℤ) (i : ℕ) (value : ℤ) → i < length xs →
     → take (i + 1) (set out i value) ≡ take (i + 1) xs
 put_more xs out i value lt long same is =
     take_more_set out i value (omega (arith, long, lt)) ∙ (ap (λ k. k ++ value ∷ []) same ∙ ap (λ z. take i xs ++ z ∷ []) is) ∙ sym (take_more xs i (pos 0) lt)
+
+-- of two counts of what is wrong none is left where their union has none
+pub none_left : (a b : ℕ) → bit_or a b ≡ 0 → (a ≡ 0) × (b ≡ 0)
+none_left a b e = (omega (arith, le_or_l a b, e), omega (arith, le_or_r a b, e))
+
+pub none_both : (a b : ℕ) → a ≡ 0 → b ≡ 0 → bit_or a b ≡ 0
+none_both a b e f = rw (e, f) refl
+
+-- one sample more of a channel, where nothing is wrong
+pub side_more : (depth : ℕ) (xs out : List ℤ) (i : ℕ) (x low : ℤ) → depth ≤ 32 → i < length xs → length out ≡ length xs → x ≡ get_or xs i (pos 0) → fits depth x ≡ true → (FitsSigned w32 x → low ≡ x)
+    → all_fit depth (take i xs) ≡ true → take i out ≡ take i xs → (all_fit depth (take (i + 1) xs) ≡ true) × (take (i + 1) (set out i low) ≡ take (i + 1) xs)
+side_more depth xs out i x low few lt long is good kept fit same =
+    (fit_more depth xs i lt fit (ap (fits depth) (sym is) ∙ good), put_more xs out i low lt long same (kept (kept_32 depth x few good) ∙ is))
+
+differ : false ≡ true → ⊥
+differ e = cc
+
+not_zero : (n : ℕ) → (n ≡ 0 → ⊥) → nat_eq n 0 ≡ false
+not_zero n h = grind (arith, nat_tests, h)
+
+-- the judgement on two channels
+pub judged : (wrong : ℕ) (p q : Bool) → (wrong ≡ 0 → (p ≡ true) × (q ≡ true)) → (p ≡ true → q ≡ true → wrong ≡ 0) → nat_eq wrong 0 ≡ cond p (cond q true false) false
+judged wrong true true none some = rw (some refl refl) refl
+judged wrong true false none some = not_zero wrong (λ e. differ ((none e).1))
+judged wrong false q none some = not_zero wrong (λ e. differ ((none e).0))

@@ -1,11 +1,11 @@
 -- Left and right samples from those that they are kept as.
-use Rattle.std.proofs.Common.{◌≡◌, ℕ, ◌+◌, ◌<◌, ◌≤◌, ℤ, pos, negsuc, ◌≤ℤ◌, ◌<ℤ◌, ◌+ℤ◌, ◌-ℤ◌, Bool, true, false, nat_eq, nat_lt, List, [], ◌∷◌, length, get_or, slice_set, below_more, refl, sym, ap, ◌∙◌, arith}
+use Rattle.std.proofs.Common.{◌≡◌, ℕ, ◌+◌, ◌<◌, ℤ, pos, negsuc, ◌≤ℤ◌, ◌<ℤ◌, ◌+ℤ◌, ◌-ℤ◌, Bool, true, false, nat_eq, nat_lt, List, [], ◌∷◌, length, get_or, refl, sym, ap, ◌∙◌, arith}
 use Rattle.std.specs.Int.{int_shr}
 use Rattle.std.specs.Simd.Lanes.{zip2}
 use Rattle.std.proofs.lemmas.Int.{ints}
 use Rattle.std.proofs.lemmas.Bool.Decides.{nat_tests}
 use Rattle.std.proofs.lemmas.Simd.{length-zip2, get_or-zip2}
-use Rattle.std.proofs.lemmas.List.{get_or-set_same, get_or-set_other, ext_get_or, length-set}
+use Rattle.std.proofs.lemmas.List.{ext_get_or}
 use Rattle.flac_frame.specs.Stereo.{sample_at, IsMiddle, KeptAs, left_of, right_of, joined, ChannelsAreJoined}
 
 by_test : {R : Type 0} (b : Bool) → (b ≡ true → R) → (b ≡ false → R) → R
@@ -48,41 +48,9 @@ kept_only code a b l r low high k = by_test (nat_eq code 8)
 
 -- ---- two channels
 
--- the first i pairs are joined, and the rest stands as it was
-pub record JoinedTo (code : ℕ) (a b x y : List ℤ) (i : ℕ) : Type 0 where
-  pub left_long : length x ≡ length a
-  pub right_long : length y ≡ length a
-  pub left : (k : ℕ) → k < i → sample_at x k ≡ left_of code (sample_at a k) (sample_at b k)
-  pub right : (k : ℕ) → k < i → sample_at y k ≡ right_of code (sample_at a k) (sample_at b k)
-  pub first : (k : ℕ) → i ≤ k → sample_at x k ≡ sample_at a k
-  pub second : (k : ℕ) → i ≤ k → sample_at y k ≡ sample_at b k
-
-pub joined_none : (code : ℕ) (a b : List ℤ) → length b ≡ length a → JoinedTo code a b a b 0
-joined_none code a b long = record { left_long = refl; right_long = long; left = λ k h. absurd (omega (arith, h)); right = λ k h. absurd (omega (arith, h)); first = λ k h. refl; second = λ k h. refl }
-
-pub joined_more : (code : ℕ) (a b x y : List ℤ) (i : ℕ) (u v : ℤ) → i < length a → JoinedTo code a b x y i → u ≡ left_of code (sample_at a i) (sample_at b i) → v ≡ right_of code (sample_at a i) (sample_at b i)
-    → JoinedTo code a b (slice_set x i u) (slice_set y i v) (i + 1)
-joined_more code a b x y i u v within so is_left is_right =
-    let in_x : i < length x = omega (arith, so.left_long, within) in
-    let in_y : i < length y = omega (arith, so.right_long, within) in
-    record {
-      left_long = length-set x i u ∙ so.left_long;
-      right_long = length-set y i v ∙ so.right_long;
-      left = below_more _ i (λ k h. get_or-set_other x i k u (pos 0) (λ e. omega arith) ∙ so.left k h) (get_or-set_same x i u (pos 0) in_x ∙ is_left);
-      right = below_more _ i (λ k h. get_or-set_other y i k v (pos 0) (λ e. omega arith) ∙ so.right k h) (get_or-set_same y i v (pos 0) in_y ∙ is_right);
-      first = λ k h. get_or-set_other x i k u (pos 0) (λ e. omega arith) ∙ so.first k (omega arith);
-      second = λ k h. get_or-set_other y i k v (pos 0) (λ e. omega arith) ∙ so.second k (omega arith);
-    }
-
 zipped : (f : ℤ → ℤ → ℤ) (a b x : List ℤ) → length b ≡ length a → length x ≡ length a → ((k : ℕ) → k < length a → sample_at x k ≡ f (sample_at a k) (sample_at b k)) → x ≡ zip2 f a b
 zipped f a b x long is each = ext_get_or (pos 0) x (zip2 f a b) (is ∙ sym (length-zip2 f a b (sym long)))
     (λ k h. each k (omega (arith, is, h)) ∙ sym (get_or-zip2 f a b k (pos 0) (pos 0) (pos 0) (omega (arith, is, h)) (omega (arith, is, long, h))))
-
-pub left_all : (code : ℕ) (a b x y : List ℤ) (i : ℕ) → length b ≡ length a → length a ≤ i → JoinedTo code a b x y i → x ≡ zip2 (left_of code) a b
-left_all code a b x y i long over so = zipped (left_of code) a b x long so.left_long (λ k h. so.left k (omega arith))
-
-pub right_all : (code : ℕ) (a b x y : List ℤ) (i : ℕ) → length b ≡ length a → length a ≤ i → JoinedTo code a b x y i → y ≡ zip2 (right_of code) a b
-right_all code a b x y i long over so = zipped (right_of code) a b y long so.right_long (λ k h. so.right k (omega arith))
 
 pub zip_at : (f : ℤ → ℤ → ℤ) (a b : List ℤ) (i : ℕ) → length b ≡ length a → i < length a → sample_at (zip2 f a b) i ≡ f (sample_at a i) (sample_at b i)
 zip_at f a b i long h = get_or-zip2 f a b i (pos 0) (pos 0) (pos 0) h (omega (arith, long, h))

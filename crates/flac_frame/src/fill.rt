@@ -10,7 +10,6 @@ ghost use Rattle.flac_frame.specs.View.{frame_in};
 use crate::before::Before;
 use crate::channels::{limits_of, read_subframes};
 use crate::end::read_end;
-use crate::samples::narrow;
 use crate::start::read_start;
 use crate::stereo::join_channels;
 use flac_bits::{BitReader, Source, Why};
@@ -51,8 +50,14 @@ fn read_body<R: Source>(
     if !fits {
         return Err(Why::SampleRange);
     }
-    join_channels(header.channel_code(), channels, block as usize, wide);
-    if !narrow(wide, depth, out) {
+    if !join_channels(
+        header.channel_code(),
+        channels,
+        block as usize,
+        depth,
+        wide,
+        out,
+    ) {
         return Err(Why::SampleRange);
     }
     Ok(())

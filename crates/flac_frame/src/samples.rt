@@ -22,7 +22,7 @@ pub(crate) fn fits_depth(sample: i64, depth: u32) -> bool
 
 /// A number that is 0 just where a sample fits the depth.
 #[inline(always)]
-fn excess(sample: i64, depth: u32) -> u64
+pub(crate) fn excess(sample: i64, depth: u32) -> u64
     requires depth { (1 ≤ depth) × (depth ≤ 32) }
     ensures none { result ≡ 0 → fits depth sample ≡ true }
     ensures some { fits depth sample ≡ true → result ≡ 0 }
@@ -32,7 +32,7 @@ fn excess(sample: i64, depth: u32) -> u64
 
 /// The lowest 32 bits of a sample, which are the sample again where it fits them.
 #[inline(always)]
-fn lowest(sample: i64) -> i32
+pub(crate) fn lowest(sample: i64) -> i32
     ensures { FitsSigned w32 sample → result ≡ sample }
 {
     ((sample.cast_unsigned() & 0xFFFF_FFFF) as u32).cast_signed()

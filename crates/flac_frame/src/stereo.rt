@@ -1,10 +1,13 @@
 //! Left and right channels from those that they are kept as.
 
-ghost use Rattle.std.specs.Prelude.{◌≡◌, ◌<◌, ◌≤◌, ◌*◌, length, All};
+ghost use Rattle.std.specs.Prelude.{◌≡◌, ◌<◌, ◌≤◌, ◌*◌, ◌∷◌, [], length, All, true};
 ghost use Rattle.std.specs.Simd.Lanes.{zip2};
 ghost use Rattle.flac_bits.specs.Signed.{FitsBits};
 ghost use Rattle.flac_frame.specs.Stereo.{left_of, right_of, joined};
 ghost use Rattle.flac_frame.specs.View.{chunks};
+ghost use Rattle.flac_frame.specs.Frame.{each_fits};
+
+use crate::samples::{excess, lowest, narrow};
 
 /// The left and the right sample that two samples of these channels are kept as (RFC 9639, section 4.2).
 #[inline(always)]
@@ -25,32 +28,63 @@ pub(crate) fn join_samples(code: u8, first: i64, second: i64) -> (i64, i64)
     }
 }
 
-/// Puts left and right samples into the places of those that they are kept as.
+/// Puts the left and the right samples of two kept channels into places of 32 bits, and answers whether each fits the depth.
 #[inline(always)]
-fn join_two(code: u8, first: &mut [i64], second: &mut [i64])
-    requires long { length second.old ≡ length first.old }
-    requires first { All (FitsBits 34) first.old }
-    requires second { All (FitsBits 34) second.old }
-    ensures left { first.new ≡ zip2 (left_of code) first.old second.old }
-    ensures right { second.new ≡ zip2 (right_of code) first.old second.old }
+fn join_two(
+    code: u8,
+    depth: u32,
+    first: &[i64],
+    second: &[i64],
+    left: &mut [i32],
+    right: &mut [i32],
+) -> bool
+    requires depth { (1 ≤ depth) × (depth ≤ 32) }
+    requires long { length second.now ≡ length first.now }
+    requires lefts { length left.old ≡ length first.now }
+    requires rights { length right.old ≡ length first.now }
+    requires first { All (FitsBits 34) first.now }
+    requires second { All (FitsBits 34) second.now }
+    ensures fits { result ≡ each_fits depth (zip2 (left_of code) first.now second.now ∷ zip2 (right_of code) first.now second.now ∷ []) }
+    ensures left { result ≡ true → left.new ≡ zip2 (left_of code) first.now second.now }
+    ensures right { result ≡ true → right.new ≡ zip2 (right_of code) first.now second.now }
 {
+    let mut wrong = 0;
     for i in 0..first.len() {
-        let (left, right) = join_samples(code, first[i], second[i]);
-        first[i] = left;
-        second[i] = right;
+        let (joined_left, joined_right) = join_samples(code, first[i], second[i]);
+        let over = excess(joined_left, depth);
+        let above = excess(joined_right, depth);
+        wrong |= over | above;
+        let short_left = lowest(joined_left);
+        let short_right = lowest(joined_right);
+        left[i] = short_left;
+        right[i] = short_right;
     }
+    wrong == 0
 }
 
-/// Puts the channels into the places of those that they are kept as, which stand one after another.
-#[tactic(auto, unfolding(crate::specs::Stereo::joined))]
-pub(crate) fn join_channels(code: u8, channels: usize, block: usize, samples: &mut [i64])
+/// Puts the samples of the channels that are kept as these into places of 32 bits, and answers whether each fits the depth. In both
+/// arrays the channels stand one after another.
+#[tactic(auto, unfolding(crate::specs::Stereo::joined), using(crate::proofs::Bodies::each_is))]
+pub(crate) fn join_channels(
+    code: u8,
+    channels: usize,
+    block: usize,
+    depth: u32,
+    samples: &[i64],
+    out: &mut [i32],
+) -> bool
     requires two { 7 < code → channels ≡ 2 }
-    requires long { length samples.old ≡ channels * block }
-    requires small { All (FitsBits 34) samples.old }
-    ensures { chunks channels block samples.new ≡ joined code (chunks channels block samples.old) }
+    requires depth { (1 ≤ depth) × (depth ≤ 32) }
+    requires long { length samples.now ≡ channels * block }
+    requires places { length out.old ≡ length samples.now }
+    requires small { All (FitsBits 34) samples.now }
+    ensures fits { result ≡ each_fits depth (joined code (chunks channels block samples.now)) }
+    ensures same { result ≡ true → chunks channels block out.new ≡ joined code (chunks channels block samples.now) }
 {
     if code > 7 {
-        let (first, second) = samples.split_at_mut(block);
-        join_two(code, first, second);
+        let (first, second) = samples.split_at(block);
+        let (left, right) = out.split_at_mut(block);
+        return join_two(code, depth, first, second, left, right);
     }
+    narrow(samples, depth, out)
 }

@@ -10,8 +10,8 @@ range_no_memory q = cc
 pub returns-then-not-fits-clause-memory : goal.returns-then-not-fits-clause-memory
 returns-then-not-fits-clause-memory g c = range_no_memory
 
-pub returns-then-not-narrow-clause-memory : goal.returns-then-not-narrow-clause-memory
-returns-then-not-narrow-clause-memory g c = range_no_memory
+pub returns-then-not-join_channels-clause-memory : goal.returns-then-not-join_channels-clause-memory
+returns-then-not-join_channels-clause-memory g c = range_no_memory
 
 pub returns-in_err-read_end-clause-counts : goal.returns-in_err-read_end-clause-counts
 returns-in_err-read_end-clause-counts g c =
@@ -21,8 +21,8 @@ returns-in_err-read_end-clause-counts g c =
 pub returns-then-not-fits-clause-counts : goal.returns-then-not-fits-clause-counts
 returns-then-not-fits-clause-counts g c = refused_then c.args.bits.now c.read_end.new.bits (answered_then c.args.bits.now c.read_subframes.new.bits c.read_end.new.bits c.in_ok-fits.ensures.counts c.in_ok-read_end.ensures.counts) refl
 
-pub returns-then-not-narrow-clause-counts : goal.returns-then-not-narrow-clause-counts
-returns-then-not-narrow-clause-counts g c = refused_then c.args.bits.now c.read_end.new.bits (answered_then c.args.bits.now c.read_subframes.new.bits c.read_end.new.bits c.in_ok-fits.ensures.counts c.in_ok-read_end.ensures.counts) refl
+pub returns-then-not-join_channels-clause-counts : goal.returns-then-not-join_channels-clause-counts
+returns-then-not-join_channels-clause-counts g c = refused_then c.args.bits.now c.read_end.new.bits (answered_then c.args.bits.now c.read_subframes.new.bits c.read_end.new.bits c.in_ok-fits.ensures.counts c.in_ok-read_end.ensures.counts) refl
 
 pub returns-clause-counts : goal.returns-clause-counts
 returns-clause-counts g c = answered_then c.args.bits.now c.read_subframes.new.bits c.read_end.new.bits c.in_ok-fits.ensures.counts c.in_ok-read_end.ensures.counts

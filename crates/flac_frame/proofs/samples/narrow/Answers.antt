@@ -1,16 +1,8 @@
-use Rattle.std.proofs.Common.{arith, rules, ◌≡◌, ℕ, ℤ, pos, length, get_or, to_z, of_z, w32, w64, SFits, true, refl, sym, ap, ◌∙◌}
-use Rattle.std.specs.Prelude.{bit_or}
+use Rattle.std.proofs.Common.{arith, rules, ◌≡◌, ℕ, ℤ, pos, length, get_or, to_z, of_z, w32, w64, SFits, true, sym, ap, ◌∙◌}
 use Rattle.std.proofs.lemmas.Int.{to_z-of_z}
-use Rattle.std.proofs.lemmas.Nat.{le_or_l, le_or_r}
 use Rattle.flac_subframe.specs.Numbers.{fits}
-use Rattle.flac_frame.proofs.Depths.{fit_more, fit_less, put_more, kept_32}
+use Rattle.flac_frame.proofs.Depths.{fit_more, fit_less, put_more, kept_32, none_left, none_both}
 use Rattle.flac_frame.proofs.samples.narrow.Goals as goal
-
-none_left : (a b : ℕ) → bit_or a b ≡ 0 → (a ≡ 0) × (b ≡ 0)
-none_left a b e = (omega (arith, le_or_l a b, e), omega (arith, le_or_r a b, e))
-
-none_both : (a b : ℕ) → a ≡ 0 → b ≡ 0 → bit_or a b ≡ 0
-none_both a b e f = rw (e, f) refl
 
 pub loop-i-preserved : goal.loop-i-preserved
 loop-i-preserved c =
