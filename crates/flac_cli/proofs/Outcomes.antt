@@ -5,11 +5,12 @@ use Rattle.flac_native.specs.Item.{told}
 use Rattle.flac_native.specs.declared.fault.Fault.{Fault}
 use Rattle.flac_native.specs.Numbers.{fault_number}
 use Rattle.flac_native.specs.declared.encode_fault.EncodeFault.{EncodeFault}
-use Rattle.flac_native.specs.declared.encode_fault.EncodeFault.TheVariants.{Memory, RepeatedBlock, BadMapping, Write}
+use Rattle.flac_native.specs.declared.encode_fault.EncodeFault.TheVariants.{Memory, RepeatedBlock, BlockSize, BadMapping, Spent, Write, Setup}
 use Rattle.flac_bits.specs.Handing.{outcome_of}
 use Rattle.flac_bits.specs.Bits.{bits_of, bit_value}
 use Rattle.flac_meta.specs.declared.block.Block.{Block}
 use Rattle.flac_frame.specs.Audio.{Sound}
+use Rattle.flac_frame.specs.declared.setup.SetupFault.{SetupFault}
 use Rattle.flac_native.specs.Given.{Cut, cut_of}
 use Rattle.flac_bits.specs.State.{Behind, short_of}
 use Rattle.flac_native.specs.Stream.{Piece}
@@ -45,6 +46,9 @@ pub at_no_err : {A E X : Type 0} (r : Result A E) → is_err r ≡ false → OnO
 at_no_err (Ok a) e x = x
 at_no_err (Err f) e x = let n : 1 ≡ 0 = ap bit_value e in absurd (omega (arith, n))
 
+no_write : (f : SetupFault) → Setup f ≡ Write → ⊥
+no_write f e = absurd cc
+
 -- A call that failed in writing has begun; one that failed otherwise has changed nothing.
 pub same_or_begun : {A T : Type 0} (X known : Type 0) (r : Result A EncodeFault) (old new : T)
     → IfErr r (λ e. e ≡ Write → known → X) → IfErr r (λ e. e ≢ Write → new ≡ old) → OnErr r (known → (new ≡ old) ⊎ X)
@@ -53,6 +57,9 @@ same_or_begun X known (Err Write) old new begun same = λ k. inr (begun refl k)
 same_or_begun X known (Err Memory) old new begun same = λ k. inl (same (λ e. let n : 2 ≡ 39 = ap fault_number e in absurd (omega (arith, n))))
 same_or_begun X known (Err RepeatedBlock) old new begun same = λ k. inl (same (λ e. let n : 9 ≡ 39 = ap fault_number e in absurd (omega (arith, n))))
 same_or_begun X known (Err BadMapping) old new begun same = λ k. inl (same (λ e. let n : 37 ≡ 39 = ap fault_number e in absurd (omega (arith, n))))
+same_or_begun X known (Err BlockSize) old new begun same = λ k. inl (same (λ e. let n : 19 ≡ 39 = ap fault_number e in absurd (omega (arith, n))))
+same_or_begun X known (Err Spent) old new begun same = λ k. inl (same (λ e. let n : 38 ≡ 39 = ap fault_number e in absurd (omega (arith, n))))
+same_or_begun X known (Err (Setup f)) old new begun same = λ k. inl (same (λ e. absurd (no_write f e)))
 
 -- What a call that writes a stream has begun, it has begun of the samples that these bytes are.
 pub begun_raw : {X : Type 0} (format : Format) (c : Container) (words : List (List ℕ)) (bytes : List ℕ) (p : Cut) (l : List Block) (a : Sound) (before after : List Bool)

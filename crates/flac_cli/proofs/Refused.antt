@@ -16,7 +16,9 @@ use Rattle.flac_frame.specs.declared.setup.SetupFault.{SetupFault}
 use Rattle.flac_native.specs.Given.{Cut, cut_of, plan_fault}
 use Rattle.flac_native.specs.Message.{sample_width}
 use Rattle.flac_native.specs.declared.encode_fault.EncodeFault.{EncodeFault}
+use Rattle.flac_native.specs.Numbers.{is_of_whole}
 use Rattle.flac_native.specs.declared.encode_fault.EncodeFault.TheVariants.{Memory, RepeatedBlock, BadMapping, Write}
+use Rattle.flac_native.specs.declared.encode_fault.EncodeFault.TheVariants as encode
 use Rattle.flac_cli.specs.Encoded.{comment_list}
 use Rattle.flac_cli.specs.Raw.{AreChannels, raw_channels, raw_sound}
 use Rattle.flac_cli.specs.Refusals.{format_fault, raw_fault, stream_fault, refusal, IsOutside}
@@ -119,12 +121,15 @@ native_accepts (Ok a) false h = refl
 native_accepts (Err e) b h = tt
 
 pub native_refuses : {A : Type 0} (r : Result A EncodeFault) (b : Bool) → ((r ≡ Err RepeatedBlock) ↔ (b ≡ true)) → r ≢ Err BadMapping
-    → IfErr r (λ e. IsOutside (Output e) ⊎ (cond b (Some RepeatedBlock) None ≡ Some e))
-native_refuses (Ok a) b h other = tt
-native_refuses (Err Memory) b h other = inl (inr (inl refl))
-native_refuses (Err RepeatedBlock) b h other = inr (rw (h.0 refl) refl)
-native_refuses (Err BadMapping) b h other = absurd (other refl)
-native_refuses (Err Write) b h other = inl (inr (inr refl))
+    → IfErr r (λ e. is_of_whole e ≡ true) → IfErr r (λ e. IsOutside (Output e) ⊎ (cond b (Some RepeatedBlock) None ≡ Some e))
+native_refuses (Ok a) b h other whole = tt
+native_refuses (Err Memory) b h other whole = inl (inr (inl refl))
+native_refuses (Err RepeatedBlock) b h other whole = inr (rw (h.0 refl) refl)
+native_refuses (Err encode.BlockSize) b h other whole = absurd cc
+native_refuses (Err BadMapping) b h other whole = absurd (other refl)
+native_refuses (Err encode.Spent) b h other whole = absurd cc
+native_refuses (Err Write) b h other whole = inl (inr (inr refl))
+native_refuses (Err (encode.Setup f)) b h other whole = absurd cc
 
 pub ogg_accepts : {A : Type 0} (r : Result A EncodeFault) (b : Bool) → ((r ≡ Err BadMapping) ↔ (b ≡ false)) → OnOk r (cond b None (Some BadMapping) ≡ None)
 ogg_accepts (Ok a) true h = refl
@@ -132,12 +137,15 @@ ogg_accepts (Ok a) false h = let e = h.1 refl in absurd cc
 ogg_accepts (Err e) b h = tt
 
 pub ogg_refuses : {A : Type 0} (r : Result A EncodeFault) (b : Bool) → ((r ≡ Err BadMapping) ↔ (b ≡ false)) → r ≢ Err RepeatedBlock
-    → IfErr r (λ e. IsOutside (Output e) ⊎ (cond b None (Some BadMapping) ≡ Some e))
-ogg_refuses (Ok a) b h other = tt
-ogg_refuses (Err Memory) b h other = inl (inr (inl refl))
-ogg_refuses (Err RepeatedBlock) b h other = absurd (other refl)
-ogg_refuses (Err BadMapping) b h other = inr (rw (h.0 refl) refl)
-ogg_refuses (Err Write) b h other = inl (inr (inr refl))
+    → IfErr r (λ e. is_of_whole e ≡ true) → IfErr r (λ e. IsOutside (Output e) ⊎ (cond b None (Some BadMapping) ≡ Some e))
+ogg_refuses (Ok a) b h other whole = tt
+ogg_refuses (Err Memory) b h other whole = inl (inr (inl refl))
+ogg_refuses (Err RepeatedBlock) b h other whole = absurd (other refl)
+ogg_refuses (Err encode.BlockSize) b h other whole = absurd cc
+ogg_refuses (Err BadMapping) b h other whole = inr (rw (h.0 refl) refl)
+ogg_refuses (Err encode.Spent) b h other whole = absurd cc
+ogg_refuses (Err Write) b h other whole = inl (inr (inr refl))
+ogg_refuses (Err (encode.Setup f)) b h other whole = absurd cc
 
 -- ---- the first reason
 

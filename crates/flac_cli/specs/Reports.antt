@@ -19,7 +19,10 @@ path_of input output (Setup fault) = input
 path_of input output RawLength = input
 path_of input output (Output encode.Memory) = input
 path_of input output (Output encode.RepeatedBlock) = input
+path_of input output (Output encode.BlockSize) = input
 path_of input output (Output encode.BadMapping) = input
+path_of input output (Output encode.Spent) = input
+path_of input output (Output (encode.Setup fault)) = input
 path_of input output (Output encode.Write) = output
 
 -- the target tells its bytes, and answered no error in the call

@@ -24,7 +24,7 @@ use Rattle.flac_native.proofs.Planned.{Planned, Fit}
 
 -- ---- the rules of a header
 
-same_three : (a b c d e f : ℕ) → a ≡ b → c ≡ d → e ≡ f → not (nat_eq a b && nat_eq c d && nat_eq e f) ≡ false
+pub same_three : (a b c d e f : ℕ) → a ≡ b → c ≡ d → e ≡ f → not (nat_eq a b && nat_eq c d && nat_eq e f) ≡ false
 same_three a b c d e f p q r = grind (arith, nat_tests)
 
 same_number : (a b : ℕ) → a ≡ b → not (nat_eq a b) ≡ false
@@ -41,11 +41,11 @@ small_later false b size h = grind (arith, nat_tests)
 abbrev pub full_before : ℕ → ℕ → Before
 full_before b number = record { first_size = b; variable = false; next = number; size = b }
 
-follows_on : (b number : ℕ) (before : Option Before) (h : Header) → h.variable ≡ false → h.number ≡ number → (before ≡ None) ⊎ (before ≡ Some (full_before b number)) → breaks_sequence before h ≡ false
+pub follows_on : (b number : ℕ) (before : Option Before) (h : Header) → h.variable ≡ false → h.number ≡ number → (before ≡ None) ⊎ (before ≡ Some (full_before b number)) → breaks_sequence before h ≡ false
 follows_on b number before h v n (inl e) = rw e refl
 follows_on b number before h v n (inr e) = rw (e, v) (same_number h.number number n)
 
-sized : (info : Info) (b number : ℕ) (before : Option Before) (h : Header) → info.least_block ≡ b → info.greatest_block ≡ b → h.size ≤ b → (before ≡ None) ⊎ (before ≡ Some (full_before b number)) → breaks_size info before h ≡ false
+pub sized : (info : Info) (b number : ℕ) (before : Option Before) (h : Header) → info.least_block ≡ b → info.greatest_block ≡ b → h.size ≤ b → (before ≡ None) ⊎ (before ≡ Some (full_before b number)) → breaks_size info before h ≡ false
 sized info b number before h l g s (inl e) = rw (e, g) (small_first b h.size s)
 sized info b number before h l g s (inr e) = rw (e, g, l) (small_later h.variable b h.size s)
 

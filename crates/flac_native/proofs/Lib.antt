@@ -35,3 +35,4 @@ pub mod Meant
 pub mod Unread
 pub mod BlockOrder
 pub mod Ordered
+pub mod Pushing

@@ -70,7 +70,7 @@ moved i m k hs fs text rules u z are follow =
     record { headers = there.0; are = there.1; follow = there.2 }
 
 -- parts end at a whole byte
-ends_whole : (p : Progress) (m : Mark) (items : List Piece) (text : List Bool) (j : Joined grammar p m items text) → Told p.stand.info → m.unread ≡ 0 → (mark_behind grammar p m items text j).unread ≡ 0
+pub ends_whole : (p : Progress) (m : Mark) (items : List Piece) (text : List Bool) (j : Joined grammar p m items text) → Told p.stand.info → m.unread ≡ 0 → (mark_behind grammar p m items text j).unread ≡ 0
 ends_whole p m [] text j told u = u
 ends_whole p m (x ∷ xs) text (front, rest, split, spelled, fits, others) told u =
     let s = step_of p.stand m front x told u spelled in

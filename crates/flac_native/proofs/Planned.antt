@@ -9,11 +9,11 @@ use Rattle.flac_native.specs.Given.{Cut, fits_plan, blocks_in, points_before, pl
 
 -- ---- tests in a row
 
-first_none : {A : Type 0} (b : Bool) (x : A) (rest : Option A) → cond b (Some x) rest ≡ None → (b ≡ false) × (rest ≡ None)
+pub first_none : {A : Type 0} (b : Bool) (x : A) (rest : Option A) → cond b (Some x) rest ≡ None → (b ≡ false) × (rest ≡ None)
 first_none true x rest e = absurd cc
 first_none false x rest e = (refl, e)
 
-either_false : (a b : Bool) → (a || b) ≡ false → (a ≡ false) × (b ≡ false)
+pub either_false : (a b : Bool) → (a || b) ≡ false → (a ≡ false) × (b ≡ false)
 either_false true b e = absurd cc
 either_false false b e = (refl, e)
 
@@ -21,10 +21,10 @@ both_true : (a b : Bool) → (a && b) ≡ true → (a ≡ true) × (b ≡ true)
 both_true true b e = (refl, e)
 both_true false b e = absurd cc
 
-not_zero : (n : ℕ) → nat_eq n 0 ≡ false → 1 ≤ n
+pub not_zero : (n : ℕ) → nat_eq n 0 ≡ false → 1 ≤ n
 not_zero n e = grind (arith, nat_tests)
 
-not_less : (a b : ℕ) → nat_lt a b ≡ false → b ≤ a
+pub not_less : (a b : ℕ) → nat_lt a b ≡ false → b ≤ a
 not_less a b e = grind (arith, nat_tests)
 
 not_at_most : (a b : ℕ) → nat_le a b ≡ false → b < a
@@ -84,15 +84,15 @@ fit p a e =
     let z = both_true _ _ y.0 in
     record { rate = same _ _ z.0; bits = same _ _ z.1; channels = same _ _ y.1; total = same _ _ x.1 }
 
-rate_range : (rate : ℕ) → is_none (rate_choice rate) ≡ false → (1 ≤ rate) × (rate < 2 ^ 20)
+pub rate_range : (rate : ℕ) → is_none (rate_choice rate) ≡ false → (1 ≤ rate) × (rate < 2 ^ 20)
 unfolding rate_choice
 rate_range rate e = grind (arith, nat_tests)
 
-depth_range : (depth : ℕ) → is_none (depth_choice depth) ≡ false → (8 ≤ depth) × (depth ≤ 32)
+pub depth_range : (depth : ℕ) → is_none (depth_choice depth) ≡ false → (8 ≤ depth) × (depth ≤ 32)
 unfolding depth_choice
 depth_range depth e = grind (arith, nat_tests)
 
-greatest_small : (rate : ℕ) → greatest_block rate ≤ 16384
+pub greatest_small : (rate : ℕ) → greatest_block rate ≤ 16384
 greatest_small rate = go (nat_le rate 48000)
   where
     go : (b : Bool) → cond b 4608 16384 ≤ 16384

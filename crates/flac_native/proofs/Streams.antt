@@ -129,7 +129,7 @@ module _ (i : Info) where
     abbrev unread_stand : Progress
     unread_stand = record { stand = record { phase = Blocks; index = 0; seen = nothing_seen; info = None; before = None }; samples = 0; message = [] }
 
-    info_run : (list : List Block) (m : Mark) → m.unread ≡ 0 → IsInfo i → list_fault info_seen list ≡ None → AllAre FitsFields list
+    pub info_run : (list : List Block) (m : Mark) → m.unread ≡ 0 → IsInfo i → list_fault info_seen list ≡ None → AllAre FitsFields list
         → Runs i message unread_stand m (closing (blocks.StreamInfo i ∷ list) ++ items) (blocks_spelling (blocks.StreamInfo i ∷ list) ++ text)
     info_run [] m z is e fits =
         let b = blocks.StreamInfo i in

@@ -188,12 +188,12 @@ begun m (x ∷ xs) text (front, behind, split, spelled, fits, others) end =
     subst (λ y. Begun m (y ∷ xs) text) (sym first.0) (begun_by m xs text front behind split mark here s i.0 i.1)
 
 -- what the blocks leave
-record AtFrames (i : Info) (p : Progress) : Type 0 where
-  phase : p.stand.phase ≡ Frames
-  info : p.stand.info ≡ Some i
-  before : p.stand.before ≡ None
-  samples : p.samples ≡ 0
-  message : p.message ≡ []
+pub record AtFrames (i : Info) (p : Progress) : Type 0 where
+  pub phase : p.stand.phase ≡ Frames
+  pub info : p.stand.info ≡ Some i
+  pub before : p.stand.before ≡ None
+  pub samples : p.samples ≡ 0
+  pub message : p.message ≡ []
 
 blocks_leave : (i : Info) (b : Block) (bs : List Block) (index : ℕ) (seen : Seen) → seen.stream_info ≡ true → AllBlocks seen (b ∷ bs) → AtFrames i (after grammar (at_block i index seen) (closing (b ∷ bs)))
 blocks_leave i b [] index seen first (valid, all) = subst (AtFrames i) (sym (goes_on i true b index seen first valid.once).0) (record { phase = refl; info = refl; before = refl; samples = refl; message = refl })
@@ -201,7 +201,7 @@ blocks_leave i b (c ∷ cs) index seen first (valid, all) =
     let on = goes_on i false b index seen first valid.once in
     subst (λ q. AtFrames i (after grammar q (closing (c ∷ cs)))) (sym on.0) (blocks_leave i c cs (behind i false index (seen_after seen b)).stand.index (seen_after seen b) on.1 all)
 
-head_leaves : (i : Info) (list : List Block) → AllBlocks info_seen list → AtFrames i (after grammar opening (head_parts i list))
+pub head_leaves : (i : Info) (list : List Block) → AllBlocks info_seen list → AtFrames i (after grammar opening (head_parts i list))
 head_leaves i [] all = record { phase = refl; info = refl; before = refl; samples = refl; message = refl }
 head_leaves i (b ∷ bs) all = blocks_leave i b bs 1 info_seen refl all
 

@@ -10,6 +10,7 @@ pub mod Giving
 pub mod Given
 pub mod Seeking
 pub mod Writing
+pub mod Pushing
 pub mod Points
 pub mod Numbers
 pub mod Retag

@@ -3,32 +3,42 @@
 ghost use Rattle.std.specs.Prelude.{◌≡◌, Some};
 ghost use Rattle.flac_native.specs.Numbers.{fault_number, text_of};
 
+use flac_frame::SetupFault;
 use std::fmt;
 use thiserror::Error;
 
-/// Why encoding was refused.
+/// Why encoding was refused. A call that encodes all samples at once answers `Memory`, `RepeatedBlock`, `BadMapping` or `Write` alone.
 #[derive(Clone, Copy, Debug, PartialEq, Eq, Error)]
 pub enum EncodeFault {
     /// A growth was refused in this call.
     Memory,
     /// The list of blocks has a seek table, and the plan asks for one.
     RepeatedBlock,
+    /// A block is pushed behind one that was shorter than the block size; only the last may be (RFC 9639, section 9.1).
+    BlockSize,
     /// The blocks or the plan cannot stand in an Ogg stream: the first block behind STREAMINFO is no Vorbis comment, or a seek table is asked for.
     BadMapping,
+    /// The target answered an error in an earlier call, and nothing more is encoded.
+    Spent,
     /// The writer answered an error in this call.
     Write,
+    /// The format or the samples cannot be encoded.
+    Setup(SetupFault),
 }
 
 impl EncodeFault {
-    /// The number of the fault: 2, 9, 37 or 39.
+    /// The number of the fault: 2, 9, 19, 37 to 39, or 40 to 47.
     pub fn number(self) -> u8
         ensures { result ≡ fault_number self }
     {
         match self {
             EncodeFault::Memory => 2,
             EncodeFault::RepeatedBlock => 9,
+            EncodeFault::BlockSize => 19,
             EncodeFault::BadMapping => 37,
+            EncodeFault::Spent => 38,
             EncodeFault::Write => 39,
+            EncodeFault::Setup(fault) => fault.number(),
         }
     }
 
@@ -39,8 +49,11 @@ impl EncodeFault {
         match self {
             EncodeFault::Memory => "2 Memory",
             EncodeFault::RepeatedBlock => "9 RepeatedBlock",
+            EncodeFault::BlockSize => "19 BlockSize",
             EncodeFault::BadMapping => "37 BadMapping",
+            EncodeFault::Spent => "38 Spent",
             EncodeFault::Write => "39 Write",
+            EncodeFault::Setup(fault) => fault.as_str(),
         }
     }
 }

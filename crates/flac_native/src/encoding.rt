@@ -8,6 +8,7 @@ ghost use Rattle.flac_bits.specs.Written.{Writes};
 ghost use Rattle.flac_meta.specs.Listed.{block_fault};
 ghost use Rattle.flac_meta.specs.declared.block.Block.TheVariants as block_of;
 ghost use Rattle.flac_native.specs.Given.{fits_plan};
+ghost use Rattle.flac_native.specs.Numbers.{is_of_whole};
 ghost use Rattle.flac_native.specs.Seeking.{table_of, is_table, has_table, repeats_table};
 ghost use Rattle.flac_native.specs.Writing.{blocks_spelling, head_spelling, IsEncoded, Encodes, BeginsEncoding};
 
@@ -74,7 +75,7 @@ fn write_head<W: Target>(
 }
 
 /// The bytes before the frames, in memory. Its only error is `Memory`: an allocation failed.
-fn head_of(
+pub(crate) fn head_of(
     alloc: Global,
     info: StreamInfo,
     list: &BlockList,
@@ -209,6 +210,7 @@ pub fn encode<W: Target>(
     ensures risen { IfErr result (λ e. e ≡ EncodeFault.Write → Rises (W.errors target.old) (W.errors target.new)) }
     ensures repeated { (result ≡ Err EncodeFault.RepeatedBlock) ↔ (repeats_table plan.now list.now ≡ true) }
     ensures mapping { result ≢ Err EncodeFault.BadMapping }
+    ensures whole { IfErr result (λ e. is_of_whole e ≡ true) }
     ensures kept { IfErr result (λ e. e ≢ EncodeFault.Write → target.new ≡ target.old) }
     ensures names { W.names target.new ≡ W.names target.old }
 {

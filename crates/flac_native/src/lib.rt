@@ -4,6 +4,7 @@
 #![tactic(auto)]
 
 mod advance;
+mod block_bytes;
 mod container;
 mod copying;
 mod course;
@@ -35,6 +36,7 @@ mod retagging;
 mod rows;
 mod sink;
 mod steps;
+mod stream_encoder;
 mod subset;
 mod track;
 
@@ -70,4 +72,5 @@ pub use promises::{
 pub use retag_fault::RetagFault;
 pub use retagging::retag;
 pub use sink::{Sink, SinkFault};
+pub use stream_encoder::StreamEncoder;
 pub use track::Track;

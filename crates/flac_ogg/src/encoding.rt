@@ -9,6 +9,7 @@ ghost use Rattle.flac_meta.specs.Spelling.{block_spelling};
 ghost use Rattle.flac_meta.specs.declared.block.Block.TheVariants as block_of;
 ghost use Rattle.flac_frame.specs.Audio.{samples_each};
 ghost use Rattle.flac_native.specs.Given.{fits_plan};
+ghost use Rattle.flac_native.specs.Numbers.{is_of_whole};
 ghost use Rattle.flac_pages.specs.Placed.{Placed};
 ghost use Rattle.flac_pages.specs.declared.writing.PacketKind.TheVariants.{Header};
 ghost use Rattle.flac_ogg.specs.Listed.{Holds, Puts};
@@ -238,6 +239,7 @@ pub fn encode_ogg<W: Target>(
     ensures risen { IfErr result (λ e. e ≡ EncodeFault.Write → Rises (W.errors target.old) (W.errors target.new)) }
     ensures mapping { (result ≡ Err EncodeFault.BadMapping) ↔ (may_be_ogg plan.now list.now ≡ false) }
     ensures repeated { result ≢ Err EncodeFault.RepeatedBlock }
+    ensures whole { IfErr result (λ e. is_of_whole e ≡ true) }
     ensures kept { IfErr result (λ e. e ≢ EncodeFault.Write → target.new ≡ target.old) }
     ensures names { W.names target.new ≡ W.names target.old }
 {

@@ -2,6 +2,7 @@
 
 ghost use Rattle.std.specs.Prelude.{◌≡◌, ◌≢◌, ◌↔◌, List, true, false, IfOk, IfErr, Err, Some, None};
 ghost use Rattle.flac_native.specs.Given.{fits_plan};
+ghost use Rattle.flac_native.specs.Numbers.{is_of_whole};
 ghost use Rattle.flac_native.specs.Seeking.{repeats_table};
 ghost use Rattle.flac_native.specs.Stream.{Piece};
 ghost use Rattle.flac_ogg.specs.RoundTrip.{EncodedBytes, IsJust, NativeBytes, OggBytes, is_no_ogg, is_repeated};
@@ -21,6 +22,7 @@ use std::alloc::Global;
 fn in_memory(fault: EncodeFault) -> EncodeFault
     ensures write { fault ≡ EncodeFault.Write → result ≡ EncodeFault.Memory }
     ensures others { fault ≢ EncodeFault.Write → result ≡ fault }
+    ensures whole { is_of_whole fault ≡ true → is_of_whole result ≡ true }
 {
     match fault {
         EncodeFault::Write => EncodeFault::Memory,
@@ -40,6 +42,7 @@ fn native_bytes(
     ensures repeated { (result ≡ Err EncodeFault.RepeatedBlock) ↔ (repeats_table plan.now list.now ≡ true) }
     ensures mapping { result ≢ Err EncodeFault.BadMapping }
     ensures write { result ≢ Err EncodeFault.Write }
+    ensures whole { IfErr result (λ e. is_of_whole e ≡ true) }
 {
     let mut target = Collected::new(alloc);
     match encode(alloc, plan, list, audio, &mut target) {
@@ -65,6 +68,7 @@ fn ogg_bytes(
     ensures repeated { result ≢ Err EncodeFault.RepeatedBlock }
     ensures mapping { (result ≡ Err EncodeFault.BadMapping) ↔ (may_be_ogg plan.now list.now ≡ false) }
     ensures write { result ≢ Err EncodeFault.Write }
+    ensures whole { IfErr result (λ e. is_of_whole e ≡ true) }
 {
     let mut target = Collected::new(alloc);
     match encode_ogg(alloc, serial, plan, list, audio, &mut target) {
@@ -113,6 +117,7 @@ pub fn encode_and_decode(
     ensures mapping { (result ≡ Err EncodeFault.BadMapping) ↔ (is_no_ogg serial plan.now list.now ≡ true) }
     ensures repeated { (result ≡ Err EncodeFault.RepeatedBlock) ↔ (is_repeated serial plan.now list.now ≡ true) }
     ensures write { result ≢ Err EncodeFault.Write }
+    ensures whole { IfErr result (λ e. is_of_whole e ≡ true) }
 {
     let bytes = match serial {
         Some(serial) => ogg_bytes(alloc, serial, plan, list, audio)?,

@@ -15,6 +15,7 @@ mod ogg_decoding;
 #[cfg(test)]
 mod parts;
 #[cfg(test)]
+mod pushing;
 mod reading_files;
 #[cfg(test)]
 mod retagging;

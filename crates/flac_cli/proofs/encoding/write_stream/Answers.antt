@@ -20,10 +20,10 @@ pub returns-in-Native-clause-accepted : goal.returns-in-Native-clause-accepted
 returns-in-Native-clause-accepted g c = rw c.in-Native.is (native_accepts c.encode.result (repeats_table c.args.plan.now c.args.list.now) c.encode.ensures.repeated)
 
 pub returns-in-Native-clause-refused : goal.returns-in-Native-clause-refused
-returns-in-Native-clause-refused g c = rw c.in-Native.is (native_refuses c.encode.result (repeats_table c.args.plan.now c.args.list.now) c.encode.ensures.repeated c.encode.ensures.mapping)
+returns-in-Native-clause-refused g c = rw c.in-Native.is (native_refuses c.encode.result (repeats_table c.args.plan.now c.args.list.now) c.encode.ensures.repeated c.encode.ensures.mapping c.encode.ensures.whole)
 
 pub returns-in-Ogg-clause-accepted : goal.returns-in-Ogg-clause-accepted
 returns-in-Ogg-clause-accepted g c = rw c.in-Ogg.is (ogg_accepts c.encode_ogg.result (may_be_ogg c.args.plan.now c.args.list.now) c.encode_ogg.ensures.mapping)
 
 pub returns-in-Ogg-clause-refused : goal.returns-in-Ogg-clause-refused
-returns-in-Ogg-clause-refused g c = rw c.in-Ogg.is (ogg_refuses c.encode_ogg.result (may_be_ogg c.args.plan.now c.args.list.now) c.encode_ogg.ensures.mapping c.encode_ogg.ensures.repeated)
+returns-in-Ogg-clause-refused g c = rw c.in-Ogg.is (ogg_refuses c.encode_ogg.result (may_be_ogg c.args.plan.now c.args.list.now) c.encode_ogg.ensures.mapping c.encode_ogg.ensures.repeated c.encode_ogg.ensures.whole)

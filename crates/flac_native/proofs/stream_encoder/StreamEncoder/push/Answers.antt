@@ -1,0 +1,79 @@
+use Rattle.std.proofs.Common.{◌≡◌, ◌≤◌, ◌++◌, map, sym, ap, subst, ◌∙◌, arith}
+use Rattle.flac_frame.specs.Audio.{samples_each}
+use Rattle.flac_native.specs.Pushing.{Pushed, behind_block, spent_with}
+use Rattle.flac_native.proofs.Pushing.{never_write, not_refused, pushes, begins_push}
+use Rattle.flac_native.proofs.stream_encoder.StreamEncoder.push.Goals as goal
+
+pub returns-in-Some-clause-begun : goal.returns-in-Some-clause-begun
+returns-in-Some-clause-begun g c = λ w known. never_write _ _ _ _ c.push_fault.ensures c.in-Some.is w
+
+pub returns-in-Some-clause-spent : goal.returns-in-Some-clause-spent
+returns-in-Some-clause-spent g c = λ w. never_write _ _ _ _ c.push_fault.ensures c.in-Some.is w
+
+pub returns-in-Some-clause-failed : goal.returns-in-Some-clause-failed
+returns-in-Some-clause-failed g c = λ w known. never_write _ _ _ _ c.push_fault.ensures c.in-Some.is w
+
+pub returns-in-Some-clause-risen : goal.returns-in-Some-clause-risen
+returns-in-Some-clause-risen g c = λ w few. never_write _ _ _ _ c.push_fault.ensures c.in-Some.is w
+
+pub block_bytes-requires-clause-good : goal.block_bytes-requires-clause-good
+block_bytes-requires-clause-good g c = let a = not_refused _ _ _ _ c.self.view_is c.self.invariant.shape c.push_fault.ensures c.in_default.is in a.good
+
+pub block_bytes-requires-clause-some : goal.block_bytes-requires-clause-some
+block_bytes-requires-clause-some g c = let a = not_refused _ _ _ _ c.self.view_is c.self.invariant.shape c.push_fault.ensures c.in_default.is in a.some
+
+pub block_bytes-requires-clause-room : goal.block_bytes-requires-clause-room
+block_bytes-requires-clause-room g c =
+    let a = not_refused _ _ _ _ c.self.view_is c.self.invariant.shape c.push_fault.ensures c.in_default.is in
+    subst (λ n. samples_each (map (λ b. b.now) c.args.block.now) ≤ n) (sym c.self.invariant.buffers) a.most
+
+pub block_bytes-requires-clause-number : goal.block_bytes-requires-clause-number
+block_bytes-requires-clause-number g c = let a = not_refused _ _ _ _ c.self.view_is c.self.invariant.shape c.push_fault.ensures c.in_default.is in a.number
+
+pub overflow_add-self-in-Ok-send_all : goal.overflow_add-self-in-Ok-send_all
+overflow_add-self-in-Ok-send_all g c =
+    let a = not_refused _ _ _ _ c.self.view_is c.self.invariant.shape c.push_fault.ensures c.in_default.is in
+    omega (arith, a.samples, c.block_len-len.ensures)
+
+pub invariant_of-self-in-Ok-send_all : goal.invariant_of-self-in-Ok-send_all
+invariant_of-self-in-Ok-send_all g c =
+    let a = not_refused _ _ _ _ c.self.view_is c.self.invariant.shape c.push_fault.ensures c.in_default.is in
+    record {
+      shape = c.self.invariant.shape;
+      buffers = c.block_bytes.ensures.kept ∙ c.self.invariant.buffers;
+      number = omega (arith, a.number);
+      samples = omega (arith, a.samples, c.block_len-len.ensures);
+    }
+
+pub returns-in-Ok-send_all-clause-written : goal.returns-in-Ok-send_all-clause-written
+returns-in-Ok-send_all-clause-written g c =
+    let a = not_refused _ _ _ _ c.self.view_is c.self.invariant.shape c.push_fault.ensures c.in_default.is in
+    let old : Pushed g.row.W.Denot = record {
+      shape = record { rate = c.self.inside.rate; bits = c.self.inside.bits; channels = c.self.inside.channels; block_size = c.self.inside.block_size };
+      number = c.self.inside.number;
+      samples = c.self.inside.samples;
+      ended = c.self.inside.ended;
+      spent = c.self.inside.spent;
+      target = c.self.inside.target;
+    } in
+    let new = c.send_all.new.target in
+    rw (← c.self.view_is) (λ known.
+        pushes g.W.Target old (behind_block old c.block_len-len.result new) (map (λ b. b.now) c.args.block.now) c.in-Ok.frame.items c.self.invariant.shape a c.in-Ok.ensures.frame c.in-Ok.ensures.least
+        (ap (λ n. behind_block old n new) c.block_len-len.ensures) (c.in-Ok-send_all.ensures.sends.sent known ∙ ap (λ l. g.W.Target.sent c.self.inside.target ++ l) c.as_slice.ensures.value))
+
+pub returns-clause-begun : goal.returns-clause-begun
+returns-clause-begun g c =
+    let a = not_refused _ _ _ _ c.self.view_is c.self.invariant.shape c.push_fault.ensures c.in_default.is in
+    let old : Pushed g.row.W.Denot = record {
+      shape = record { rate = c.self.inside.rate; bits = c.self.inside.bits; channels = c.self.inside.channels; block_size = c.self.inside.block_size };
+      number = c.self.inside.number;
+      samples = c.self.inside.samples;
+      ended = c.self.inside.ended;
+      spent = c.self.inside.spent;
+      target = c.self.inside.target;
+    } in
+    let new = c.send_all.new.target in
+    rw (← c.self.view_is) (λ w known.
+        let b = c.in-Err.ensures.sends.begun known in
+        begins_push g.W.Target old (spent_with old new) (map (λ b. b.now) c.args.block.now) c.in-Ok.frame.items c.self.invariant.shape a c.in-Ok.ensures.frame c.in-Ok.ensures.least
+        b.0 b.1 (sym c.as_slice.ensures.value ∙ b.2) b.3)

@@ -1,0 +1,143 @@
+//! A block of samples that are lent, encoded into memory.
+
+ghost use Rattle.std.specs.Prelude.{◌≡◌, ◌≤◌, ◌<◌, ◌^◌, map, length, nat_eq, IfOk, IfErr, Some, None};
+ghost use Rattle.std.specs.List.{list_all};
+ghost use Rattle.flac_bits.specs.Bits.{bits_of};
+ghost use Rattle.flac_subframe.specs.Numbers.{fits};
+ghost use Rattle.flac_frame.specs.Audio.{samples_each, audio_fault};
+ghost use Rattle.flac_native.specs.Pushing.{block_fault, frame_with};
+ghost use Rattle.flac_native.specs.Writing.{SpellsFrame, SpellsLeast};
+
+use crate::memory::{collect, in_memory};
+use flac_bits::{BitWriter, Collected, Why};
+use flac_frame::{Audio, EncodeBuffers, SetupFault, encode_frame};
+use std::alloc::Global;
+
+/// Whether a sample fits so many bits.
+fn fits(sample: i32, bits: u32) -> bool
+    requires { (1 ≤ bits) × (bits ≤ 32) }
+    ensures { result ≡ fits bits sample }
+{
+    let sample = sample as i64;
+    let limit = 1i64 << (bits - 1);
+    if sample < -limit {
+        return false;
+    }
+    if sample >= limit {
+        return false;
+    }
+    true
+}
+
+/// Whether each sample fits so many bits.
+fn small(samples: &[i32], bits: u32) -> bool
+    requires { (1 ≤ bits) × (bits ≤ 32) }
+    ensures { result ≡ list_all (fits bits) samples.now }
+{
+    samples.iter().all(|s| fits(*s, bits))
+}
+
+/// Whether each sample of each channel fits so many bits.
+fn each_small(block: &[&[i32]], bits: u32) -> bool
+    requires { (1 ≤ bits) × (bits ≤ 32) }
+    ensures { result ≡ list_all (λ c. list_all (fits bits) c.now) block.now }
+{
+    block.iter().all(|c| small(c, bits))
+}
+
+/// Whether each channel has so many samples.
+fn are_long(block: &[&[i32]], len: usize) -> bool
+    ensures { result ≡ list_all (λ c. nat_eq (length c.now) len) block.now }
+{
+    block.iter().all(|c| c.len() == len)
+}
+
+/// How many samples the first channel has, 0 where there is none.
+pub(crate) fn block_len(block: &[&[i32]]) -> usize
+    ensures { result ≡ samples_each (map (λ c. c.now) block.now) }
+{
+    if block.is_empty() {
+        return 0;
+    }
+    block[0].len()
+}
+
+/// Why a block does not have the format, if so.
+pub(crate) fn block_fault(channels: u32, bits: u32, block: &[&[i32]]) -> Option<SetupFault>
+    requires { (1 ≤ bits) × (bits ≤ 32) }
+    ensures { result ≡ block_fault channels bits (map (λ c. c.now) block.now) }
+{
+    if block.len() as u64 != channels as u64 {
+        return Some(SetupFault::BadChannels);
+    }
+    if !are_long(block, block_len(block)) {
+        return Some(SetupFault::LengthsDiffer);
+    }
+    if !each_small(block, bits) {
+        return Some(SetupFault::SampleTooLarge);
+    }
+    None
+}
+
+/// The samples of each channel, copied. Its only error is `Memory`: an allocation failed.
+fn copied(alloc: Global, block: &[&[i32]]) -> Result<Vec<Vec<i32>>, Why>
+    ensures items { IfOk result (λ channels. map (λ c. c.items) channels.items ≡ map (λ c. c.now) block.now) }
+    ensures memory { IfErr result (λ e. e ≡ Why.Memory) }
+{
+    let mut channels = Vec::with_capacity(alloc, block.len())?;
+    for channel in block {
+        let samples = Vec::from_slice(alloc, channel)?;
+        channels.push(samples)?;
+    }
+    Ok(channels)
+}
+
+/// All samples as the frame of a number, in memory. Its only error is `Memory`: an allocation failed.
+fn frame_bytes(
+    alloc: Global,
+    audio: &Audio,
+    number: u64,
+    buffers: &mut EncodeBuffers,
+) -> Result<Vec<u8>, Why>
+    requires some { 0 < samples_each audio.now.channels }
+    requires room { samples_each audio.now.channels ≤ buffers.old }
+    requires number { number < 2 ^ 31 }
+    ensures kept { buffers.new ≡ buffers.old }
+    ensures frame { IfOk result (λ bytes. SpellsFrame audio.now (frame_with number audio.now.channels) (bits_of bytes.items)) }
+    ensures least { IfOk result (λ bytes. SpellsLeast audio.now (frame_with number audio.now.channels) (bits_of bytes.items)) }
+    ensures memory { IfErr result (λ e. e ≡ Why.Memory) }
+{
+    let _channels = audio.channels();
+    let end = audio.len();
+    let mut writer = BitWriter::new(Collected::new(alloc));
+    match encode_frame(audio, 0..end, number, buffers, &mut writer) {
+        Ok(_) => collect(writer),
+        Err(why) => Err(in_memory(why)),
+    }
+}
+
+/// A block of the format as the frame of a number, in memory. Its only error is `Memory`: an allocation failed.
+pub(crate) fn block_bytes(
+    alloc: Global,
+    rate: u32,
+    bits: u32,
+    block: &[&[i32]],
+    number: u64,
+    buffers: &mut EncodeBuffers,
+) -> Result<Vec<u8>, Why>
+    requires good { audio_fault rate bits (map (λ c. c.now) block.now) ≡ None }
+    requires some { 0 < samples_each (map (λ c. c.now) block.now) }
+    requires room { samples_each (map (λ c. c.now) block.now) ≤ buffers.old }
+    requires number { number < 2 ^ 31 }
+    ensures kept { buffers.new ≡ buffers.old }
+    ensures frame { IfOk result (λ bytes. SpellsFrame (record { rate = rate; bits = bits; channels = map (λ c. c.now) block.now }) (frame_with number (map (λ c. c.now) block.now)) (bits_of bytes.items)) }
+    ensures least { IfOk result (λ bytes. SpellsLeast (record { rate = rate; bits = bits; channels = map (λ c. c.now) block.now }) (frame_with number (map (λ c. c.now) block.now)) (bits_of bytes.items)) }
+    ensures memory { IfErr result (λ e. e ≡ Why.Memory) }
+{
+    let channels = copied(alloc, block)?;
+    let audio = match Audio::new(rate, bits, channels) {
+        Ok(audio) => audio,
+        Err(_) => unreachable!(),
+    };
+    frame_bytes(alloc, &audio, number, buffers)
+}

@@ -1,0 +1,283 @@
+//! Native streams, encoded a block at a time.
+
+ghost use Rattle.std.specs.Prelude.{◌≡◌, ◌≢◌, ◌++◌, ◌≤◌, ◌<◌, ◌+◌, ◌^◌, ◌↔◌, map, option_map, true, IfOk, OnOk, IfErr, None, Err};
+ghost use Rattle.flac_bits.specs.Bits.{bits_of};
+ghost use Rattle.flac_bits.specs.State.{Rises};
+ghost use Rattle.flac_frame.specs.Audio.{samples_each};
+ghost use Rattle.flac_native.specs.Pushing.{shape_fault, open_info, unpushed, behind_block, spent_with, size_fault, push_fault, IsFirst, StandsFor, Pushes, BeginsPush};
+ghost use Rattle.flac_native.specs.declared.encode_fault.EncodeFault.TheVariants.{Setup};
+ghost use Rattle.flac_native.specs.Whole.{head_parts};
+ghost use Rattle.flac_native.specs.Writing.{head_spelling};
+
+use crate::block_bytes::{block_bytes, block_fault, block_len};
+use crate::encode_fault::EncodeFault;
+use crate::encoding::head_of;
+use crate::subset::greatest_block;
+use flac_bits::{Target, Why, send_all};
+use flac_frame::{EncodeBuffers, SetupFault};
+use flac_header::{depth_code, rate_code};
+use flac_meta::{BlockList, StreamInfo};
+use std::alloc::Global;
+use std::marker::Model;
+
+/// Encodes a native stream whose samples are not all there yet, as a recorder or a ripper does (RFC 9639, section 6). [`StreamEncoder::new`] writes the marker,
+/// STREAMINFO and the metadata blocks; each [`StreamEncoder::push`] writes one frame; [`StreamEncoder::finish`] gives the target back.
+///
+/// What was written is a stream after each call. Its STREAMINFO tells neither the number of samples, nor the sizes of the frames, nor the digest, since these are not
+/// known when it is written (section 8.2).
+///
+/// ```
+/// let mut encoder = StreamEncoder::new(alloc, 44100, 16, 2, 4096, &blocks, file)?;
+/// encoder.push(&[left.as_slice(), right.as_slice()])?;
+/// let file = encoder.finish()?;
+/// ```
+#[derive(Drop)]
+pub struct StreamEncoder<W: Target> {
+    alloc: Global,
+    rate: u32,
+    bits: u32,
+    channels: u32,
+    block_size: u32,
+    number: u64,
+    samples: u64,
+    ended: bool,
+    spent: bool,
+    buffers: EncodeBuffers,
+    target: W,
+}
+
+impl<W: Target> Model for StreamEncoder<W> {
+    ghost use Rattle.std.specs.Prelude.{◌≡◌, ◌<◌, ◌≤◌, ◌^◌, None};
+    ghost use Rattle.flac_native.specs.Pushing.{Pushed, shape_fault};
+
+    ghost Value = { Pushed W };
+
+    ghost view = { λ e. record {
+      shape = record { rate = e.rate; bits = e.bits; channels = e.channels; block_size = e.block_size };
+      number = e.number;
+      samples = e.samples;
+      ended = e.ended;
+      spent = e.spent;
+      target = e.target;
+    } };
+
+    ghost invariant = { λ e. record {
+      shape : shape_fault (record { rate = e.rate; bits = e.bits; channels = e.channels; block_size = e.block_size }) ≡ None;
+      buffers : e.buffers ≡ e.block_size;
+      number : e.number ≤ 2 ^ 31;
+      samples : e.samples < 2 ^ 36;
+    } };
+}
+
+/// Why nothing of a format can be encoded, if so.
+#[tactic(auto, unfolding(crate::specs::Pushing::shape_fault))]
+fn shape_fault(rate: u32, bits: u32, channels: u32, block_size: u32) -> Option<SetupFault>
+    ensures { result ≡ shape_fault (record { rate = rate; bits = bits; channels = channels; block_size = block_size }) }
+{
+    if rate_code(rate).is_none() {
+        return Some(SetupFault::BadRate);
+    }
+    if depth_code(bits).is_none() {
+        return Some(SetupFault::BadDepth);
+    }
+    if channels < 1 || channels > 8 {
+        return Some(SetupFault::BadChannels);
+    }
+    if block_size < 16 || block_size > greatest_block(rate) {
+        return Some(SetupFault::BadBlockSize);
+    }
+    None
+}
+
+/// STREAMINFO of a format, where all that the samples tell is unknown (RFC 9639, section 8.2).
+fn open_info(rate: u32, bits: u32, channels: u32, block_size: u32) -> StreamInfo
+    requires { shape_fault (record { rate = rate; bits = bits; channels = channels; block_size = block_size }) ≡ None }
+    ensures { result ≡ open_info (record { rate = rate; bits = bits; channels = channels; block_size = block_size }) }
+{
+    let size = block_size as u16;
+    let info = StreamInfo::new(
+        size,
+        size,
+        0,
+        0,
+        rate,
+        channels as u8,
+        bits as u8,
+        0,
+        [0; 16],
+    );
+    match info {
+        Ok(info) => info,
+        Err(_) => unreachable!(),
+    }
+}
+
+/// The bytes before the frames, in memory. Its only error is `Memory`: an allocation failed.
+fn open_head(
+    alloc: Global,
+    rate: u32,
+    bits: u32,
+    channels: u32,
+    block_size: u32,
+    list: &BlockList,
+) -> Result<Vec<u8>, Why>
+    requires { shape_fault (record { rate = rate; bits = bits; channels = channels; block_size = block_size }) ≡ None }
+    ensures head { IfOk result (λ head. bits_of head.items ≡ head_spelling (open_info (record { rate = rate; bits = bits; channels = channels; block_size = block_size })) list.now) }
+    ensures memory { IfErr result (λ e. e ≡ Why.Memory) }
+{
+    let info = open_info(rate, bits, channels, block_size);
+    head_of(alloc, info, list, Vec::new(alloc))
+}
+
+impl<W: Target + Drop> StreamEncoder<W> {
+    /// Writes the marker, STREAMINFO and the blocks of the list, and makes an encoder of blocks of a format: the rate in Hz, the bits of a sample, 1 to 8 channels, and
+    /// 16 to 16384 samples of each channel in a block, at most 4608 at a rate of 48000 Hz or less (RFC 9639, sections 6 to 8).
+    ///
+    /// # Errors
+    /// [`EncodeFault::Setup`] with `BadRate`, `BadDepth`, `BadChannels` or `BadBlockSize`, the first of these that applies, and [`EncodeFault::Memory`] where the
+    /// buffers are not to be had: then nothing was sent. [`EncodeFault::Write`] where the target answered an error: then it was sent a beginning.
+    pub fn new(
+        alloc: Global,
+        rate: u32,
+        bits: u32,
+        channels: u32,
+        block_size: u32,
+        list: &BlockList,
+        target: W,
+    ) -> Result<StreamEncoder<W>, EncodeFault>
+        ensures made { IfOk result (λ e. e ≡ unpushed (record { rate = rate; bits = bits; channels = channels; block_size = block_size }) e.target) }
+        ensures stands { IfOk result (λ e. StandsFor e (head_parts (open_info e.shape) list.now) (head_spelling (open_info e.shape) list.now)) }
+        ensures written { IfOk result (λ e. W.known target ≡ true → bits_of (W.sent e.target) ≡ bits_of (W.sent target) ++ head_spelling (open_info e.shape) list.now) }
+        ensures known { IfOk result (λ e. W.known target ≡ true → W.known e.target ≡ true) }
+        ensures counted { IfOk result (λ e. W.errors e.target ≡ W.errors target) }
+        ensures names { IfOk result (λ e. W.names e.target ≡ W.names target) }
+        ensures accepted { OnOk result (shape_fault (record { rate = rate; bits = bits; channels = channels; block_size = block_size }) ≡ None) }
+        ensures refused { IfErr result (λ e. IsFirst (option_map Setup (shape_fault (record { rate = rate; bits = bits; channels = channels; block_size = block_size }))) e) }
+    {
+        if let Some(fault) = shape_fault(rate, bits, channels, block_size) {
+            return Err(EncodeFault::Setup(fault));
+        }
+        let _blocks = list.blocks();
+        let Ok(buffers) = EncodeBuffers::new(alloc, block_size) else {
+            return Err(EncodeFault::Memory);
+        };
+        let Ok(head) = open_head(alloc, rate, bits, channels, block_size, list) else {
+            return Err(EncodeFault::Memory);
+        };
+        let mut target = target;
+        match send_all(&mut target, head.as_slice()) {
+            Ok(()) => Ok(StreamEncoder {
+                alloc,
+                rate,
+                bits,
+                channels,
+                block_size,
+                number: 0,
+                samples: 0,
+                ended: false,
+                spent: false,
+                buffers,
+                target,
+            }),
+            Err(_) => Err(EncodeFault::Write),
+        }
+    }
+    /// Why a block of so many samples cannot be the next frame, if so.
+    #[tactic(auto, unfolding(crate::specs::Pushing::size_fault))]
+    fn size_fault(&self, len: u64) -> Option<EncodeFault>
+        ensures { result ≡ size_fault self.now len }
+    {
+        if len >= (1 << 36) - self.samples || self.number >= 1 << 31 {
+            return Some(EncodeFault::Setup(SetupFault::TooLong));
+        }
+        if len == 0 || len > self.block_size as u64 {
+            return Some(EncodeFault::Setup(SetupFault::BadBlockSize));
+        }
+        if self.ended {
+            return Some(EncodeFault::BlockSize);
+        }
+        None
+    }
+
+    /// The first reason why a block is refused, if there is one.
+    #[tactic(auto, unfolding(crate::specs::Pushing::push_fault))]
+    fn push_fault(&self, block: &[&[i32]]) -> Option<EncodeFault>
+        ensures { result ≡ push_fault self.now (map (λ c. c.now) block.now) }
+    {
+        if self.spent {
+            return Some(EncodeFault::Spent);
+        }
+        if let Some(fault) = block_fault(self.channels, self.bits, block) {
+            return Some(EncodeFault::Setup(fault));
+        }
+        self.size_fault(block_len(block) as u64)
+    }
+
+    /// Writes a block as the next frame: the samples of each channel, 1 to as many as the block size, which are copied. The frame is the least of its family, as in
+    /// [`crate::encode`]. It is sent whole: the encoder holds nothing back. Only the last block may be shorter than the block size (RFC 9639, section 9.1).
+    ///
+    /// # Errors
+    /// The first of these that applies: [`EncodeFault::Spent`] after a call that answered [`EncodeFault::Write`]; [`EncodeFault::Setup`] with `BadChannels` where there is
+    /// not one slice for each channel, `LengthsDiffer` where they are not of one length, `SampleTooLarge` where a sample does not fit its bits, `TooLong` where there
+    /// would be 2^36 samples of each channel or more than 2^31 frames, `BadBlockSize` where there is no sample or there are more than the block size;
+    /// [`EncodeFault::BlockSize`] where the block before was short. So long as it is none of these, [`EncodeFault::Memory`] where a growth was refused. After each of these the
+    /// encoder is as it was, and nothing was sent. [`EncodeFault::Write`] where the target answered an error: then it was sent a beginning of the frame.
+    pub fn push(&mut self, block: &[&[i32]]) -> Result<(), EncodeFault>
+        ensures next { OnOk result (self.new ≡ behind_block self.old (samples_each (map (λ c. c.now) block.now)) self.new.target) }
+        ensures written { OnOk result (W.known self.old.target ≡ true → Pushes W.Target (map (λ c. c.now) block.now) self.old self.new) }
+        ensures known { OnOk result (W.known self.old.target ≡ true → W.known self.new.target ≡ true) }
+        ensures counted { OnOk result (W.errors self.new.target ≡ W.errors self.old.target) }
+        ensures accepted { OnOk result (push_fault self.old (map (λ c. c.now) block.now) ≡ None) }
+        ensures refused { IfErr result (λ e. IsFirst (push_fault self.old (map (λ c. c.now) block.now)) e) }
+        ensures kept { IfErr result (λ e. e ≢ EncodeFault.Write → self.new ≡ self.old) }
+        ensures begun { IfErr result (λ e. e ≡ EncodeFault.Write → W.known self.old.target ≡ true → BeginsPush W.Target (map (λ c. c.now) block.now) self.old self.new) }
+        ensures spent { IfErr result (λ e. e ≡ EncodeFault.Write → self.new ≡ spent_with self.old self.new.target) }
+        ensures failed { IfErr result (λ e. e ≡ EncodeFault.Write → W.known self.old.target ≡ true → W.errors self.old.target < W.errors self.new.target) }
+        // An error of the target is counted, if the count can rise, whatever is known of it.
+        ensures risen { IfErr result (λ e. e ≡ EncodeFault.Write → Rises (W.errors self.old.target) (W.errors self.new.target)) }
+        ensures names { W.names self.new.target ≡ W.names self.old.target }
+    {
+        if let Some(fault) = self.push_fault(block) {
+            return Err(fault);
+        }
+        let len = block_len(block) as u64;
+        let Ok(frame) = block_bytes(
+            self.alloc,
+            self.rate,
+            self.bits,
+            block,
+            self.number,
+            &mut self.buffers,
+        ) else {
+            return Err(EncodeFault::Memory);
+        };
+        match send_all(&mut self.target, frame.as_slice()) {
+            Ok(()) => {
+                self.number += 1;
+                self.samples += len;
+                self.ended = len < self.block_size as u64;
+                Ok(())
+            }
+            Err(_) => {
+                self.spent = true;
+                Err(EncodeFault::Write)
+            }
+        }
+    }
+
+    /// Ends the stream, and gives the target back. Nothing more is sent.
+    ///
+    /// # Errors
+    /// [`EncodeFault::Spent`] after a call that answered [`EncodeFault::Write`].
+    pub fn finish(self) -> Result<W, EncodeFault>
+        ensures given { IfOk result (λ target. target ≡ self.target) }
+        ensures spent { (result ≡ Err EncodeFault.Spent) ↔ (self.spent ≡ true) }
+        ensures only { IfErr result (λ e. e ≡ EncodeFault.Spent) }
+    {
+        if self.spent {
+            return Err(EncodeFault::Spent);
+        }
+        let StreamEncoder { target, .. } = self;
+        Ok(target)
+    }
+}

@@ -1,0 +1,250 @@
+//! Streams that are encoded a block at a time, as the samples come.
+
+use crate::encoding::ramp;
+use flac_bits::{Collected, Counted, Memory, Target};
+use flac_meta::BlockList;
+use flac_native::{Container, Decoder, EncodeFault, Item, Profile, SetupFault, StreamEncoder};
+use std::alloc::Global;
+use std::io;
+use std::io::{ErrorKind, Write};
+use std::mem::drop;
+use std::test::Fail;
+
+/// One sample of two channels in blocks of 4096, its total and digest unknown.
+const ONE: &str =
+    "664c614380000022100010000000000000000ac442f00000000000000000000000000000000000000000fff869180000bf0158fd01128b5ab2";
+
+/// An encoder of a format of 44100 Hz and 16 bits, without further blocks.
+fn encoder_of<W: Target + Drop>(
+    alloc: Global,
+    channels: u32,
+    block: u32,
+    target: W,
+) -> Result<StreamEncoder<W>, Fail> {
+    let list = BlockList::new(Vec::new(alloc))?;
+    let made = StreamEncoder::new(alloc, 44100, 16, channels, block, &list, target);
+    drop(list);
+    Ok(made?)
+}
+
+/// The number of a fault, 0 where there is none.
+fn number_of(outcome: Result<(), EncodeFault>) -> u8 {
+    match outcome {
+        Ok(()) => 0,
+        Err(fault) => fault.number(),
+    }
+}
+
+/// Pushes a block.
+fn push<W: Target + Drop>(encoder: &mut StreamEncoder<W>, block: &[&[i32]]) -> u8 {
+    number_of(encoder.push(block))
+}
+
+/// Pushes a short block, the same once more, no samples, and three channels.
+fn short_first<W: Target + Drop>(encoder: &mut StreamEncoder<W>) -> [u8; 4] {
+    let (left, right) = ([25588], [10416]);
+    let block = [left.as_slice(), right.as_slice()];
+    let none: [i32; 0] = [];
+    let three = [left.as_slice(), right.as_slice(), left.as_slice()];
+    [
+        push(encoder, &block),
+        push(encoder, &block),
+        push(encoder, &[none.as_slice(), none.as_slice()]),
+        push(encoder, &three),
+    ]
+}
+
+/// A short block is the last, and what is refused adds nothing.
+#[test]
+fn one_sample(rt: HostRuntime) -> Result<(), Fail> {
+    let alloc = rt.alloc();
+    let mut encoder = encoder_of(alloc, 2, 4096, Collected::new(alloc))?;
+    let answers = short_first(&mut encoder);
+    let target = encoder.finish()?;
+    let wanted = hex::decode(alloc, ONE)?;
+    assert!(rt; answers == [0, 19, 46, 42]);
+    assert!(rt; target.bytes() == wanted.as_slice());
+    Ok(())
+}
+
+/// Pushes channels of two lengths, a sample of 17 bits, and a block that is too long.
+fn bad_blocks<W: Target + Drop>(encoder: &mut StreamEncoder<W>) -> [u8; 3] {
+    let (short, long, large) = ([1; 16], [1; 17], [32768; 16]);
+    [
+        push(encoder, &[short.as_slice(), long.as_slice()]),
+        push(encoder, &[short.as_slice(), large.as_slice()]),
+        push(encoder, &[long.as_slice(), long.as_slice()]),
+    ]
+}
+
+#[test]
+fn refused_blocks(rt: HostRuntime) -> Result<(), Fail> {
+    let alloc = rt.alloc();
+    let mut encoder = encoder_of(alloc, 2, 16, Collected::new(alloc))?;
+    let answers = bad_blocks(&mut encoder);
+    let target = encoder.finish()?;
+    assert!(rt; answers == [43, 44, 46]);
+    assert!(rt; target.bytes().len() == 42);
+    Ok(())
+}
+
+/// The number of the fault for which a format is refused, 0 where it is not.
+fn refused(alloc: Global, rate: u32, bits: u32, channels: u32, block: u32) -> Result<u8, Fail> {
+    let list = BlockList::new(Vec::new(alloc))?;
+    let made = StreamEncoder::new(
+        alloc,
+        rate,
+        bits,
+        channels,
+        block,
+        &list,
+        Collected::new(alloc),
+    );
+    drop(list);
+    match made {
+        Ok(encoder) => {
+            drop(encoder);
+            Ok(0)
+        }
+        Err(fault) => Ok(fault.number()),
+    }
+}
+
+#[test]
+fn refused_formats(rt: HostRuntime) -> Result<(), Fail> {
+    let alloc = rt.alloc();
+    assert!(rt; refused(alloc, 0, 9, 0, 15)? == 40);
+    assert!(rt; refused(alloc, 44100, 9, 0, 15)? == 41);
+    assert!(rt; refused(alloc, 44100, 16, 0, 15)? == 42);
+    assert!(rt; refused(alloc, 44100, 16, 9, 15)? == 42);
+    assert!(rt; refused(alloc, 44100, 16, 8, 15)? == 46);
+    assert!(rt; refused(alloc, 48000, 16, 8, 4609)? == 46);
+    assert!(rt; refused(alloc, 96000, 16, 8, 16385)? == 46);
+    assert!(rt; refused(alloc, 96000, 16, 8, 16384)? == 0);
+    Ok(())
+}
+
+#[test]
+fn texts_of_faults(rt: HostRuntime) {
+    let fault = EncodeFault::Setup(SetupFault::TooLong);
+    assert!(rt; (fault.number(), fault.as_str()) == (45, "45 TooLong"));
+    assert!(rt; EncodeFault::BlockSize.as_str() == "19 BlockSize");
+    assert!(rt; EncodeFault::Spent.as_str() == "38 Spent");
+}
+
+/// A writer that has room for so many bytes.
+#[derive(Drop)]
+struct Narrow {
+    room: usize,
+}
+
+impl Write for Narrow {
+    fn write(&mut self, bytes: &[u8]) -> io::Result<usize> {
+        if self.room == 0 {
+            return Err(io::Error::from(ErrorKind::Other));
+        }
+        let count = bytes.len().min(self.room);
+        self.room -= count;
+        Ok(count)
+    }
+
+    fn flush(&mut self) -> io::Result<()> {
+        Ok(())
+    }
+}
+
+/// Pushes two blocks, and ends.
+fn two_and_finish<W: Target + Drop>(encoder: StreamEncoder<W>) -> [u8; 3] {
+    let mut encoder = encoder;
+    let samples = [1; 16];
+    let first = push(&mut encoder, &[samples.as_slice()]);
+    let second = push(&mut encoder, &[samples.as_slice()]);
+    let end = match encoder.finish() {
+        Ok(target) => {
+            drop(target);
+            0
+        }
+        Err(fault) => fault.number(),
+    };
+    [first, second, end]
+}
+
+/// A target that fails in the first frame, after which nothing is encoded.
+#[test]
+fn spent(rt: HostRuntime) -> Result<(), Fail> {
+    let encoder = encoder_of(rt.alloc(), 1, 16, Counted::new(Narrow { room: 50 }))?;
+    let answers = two_and_finish(encoder);
+    assert!(rt; answers == [39, 38, 38]);
+    let encoder = encoder_of(rt.alloc(), 1, 16, Counted::new(Narrow { room: 500 }))?;
+    let answers = two_and_finish(encoder);
+    assert!(rt; answers == [0, 0, 0]);
+    Ok(())
+}
+
+/// A source of samples that does not have all of them yet: 0, 1, 2, ..
+struct Recorder {
+    at: i32,
+}
+
+impl Recorder {
+    /// Puts the next samples into a block.
+    fn fill(&mut self, block: &mut [i32]) {
+        for i in 0..block.len() {
+            block[i] = self.at;
+            self.at = self.at.wrapping_add(1);
+        }
+    }
+}
+
+/// Records two blocks of 16 samples and one of 5, each encoded as it comes.
+fn record<W: Target + Drop>(encoder: &mut StreamEncoder<W>) -> Result<(), EncodeFault> {
+    let mut recorder = Recorder { at: 0 };
+    let mut block = [0; 16];
+    recorder.fill(&mut block);
+    encoder.push(&[block.as_slice()])?;
+    recorder.fill(&mut block);
+    encoder.push(&[block.as_slice()])?;
+    recorder.fill(&mut block);
+    encoder.push(&[&block[..5]])
+}
+
+/// Puts the samples of the next item behind the others, and answers whether it was the end.
+fn read_on<C: Container>(decoder: &mut Decoder<C>, samples: &mut Vec<i32>) -> Result<bool, Fail> {
+    match decoder.next()? {
+        Item::Block(_) => Ok(false),
+        Item::Frame(frame) => {
+            if frame.channels() > 0 {
+                samples.extend_from_slice(frame.channel(0))?;
+            }
+            Ok(false)
+        }
+        Item::End => Ok(true),
+    }
+}
+
+/// The samples of a stream of one channel.
+fn read_all<C: Container>(decoder: &mut Decoder<C>, samples: &mut Vec<i32>) -> Result<bool, Fail> {
+    for _ in 0..10 {
+        if read_on(decoder, samples)? {
+            return Ok(true);
+        }
+    }
+    Ok(false)
+}
+
+/// What a recorder pushes is read again.
+#[test]
+fn recorded(rt: HostRuntime) -> Result<(), Fail> {
+    let alloc = rt.alloc();
+    let mut encoder = encoder_of(alloc, 1, 16, Collected::new(alloc))?;
+    let outcome = record(&mut encoder);
+    let target = encoder.finish()?;
+    let mut samples = Vec::new(alloc);
+    let mut decoder = Decoder::new(alloc, Memory::new(target.bytes()), Profile::Subset);
+    let ended = read_all(&mut decoder, &mut samples);
+    drop(decoder);
+    let wanted = ramp(alloc, 37)?;
+    assert!(rt; outcome == Ok(()));
+    assert!(rt; ended? && samples.as_slice() == wanted.as_slice());
+    Ok(())
+}
