@@ -386,8 +386,7 @@ module _ {X : Type 0} (f : X → List ℤ) (xs : List X) (channels bits : ℕ) w
 -- ---- what was sent
 
 module _ {S : Type 0} (g : target.Ghosts S) (old new : Pushed S) (block : List (List ℤ)) (bytes : List ℕ) (shape : shape_fault old.shape ≡ None) (accept : Accepted old block)
-  (frame_is : SpellsFrame (sound_of old.shape block) (frame_with old.number block) (bits_of bytes)) (least_is : SpellsLeast (sound_of old.shape block) (frame_with old.number block) (bits_of bytes)) where
-
+    (frame_is : SpellsFrame (sound_of old.shape block) (frame_with old.number block) (bits_of bytes)) (least_is : SpellsLeast (sound_of old.shape block) (frame_with old.number block) (bits_of bytes)) where
   next_to : (to : Pushed S) → to ≡ behind_block old (samples_each block) to.target → IsNext old to block (bits_of bytes)
   next_to to is = record {
     spells = frame_is;

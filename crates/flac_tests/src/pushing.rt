@@ -182,6 +182,7 @@ fn spent(rt: HostRuntime) -> Result<(), Fail> {
 }
 
 /// A source of samples that does not have all of them yet: 0, 1, 2, ..
+#[derive(Drop)]
 struct Recorder {
     at: i32,
 }
@@ -243,8 +244,9 @@ fn recorded(rt: HostRuntime) -> Result<(), Fail> {
     let mut decoder = Decoder::new(alloc, Memory::new(target.bytes()), Profile::Subset);
     let ended = read_all(&mut decoder, &mut samples);
     drop(decoder);
+    let ended = ended?;
     let wanted = ramp(alloc, 37)?;
     assert!(rt; outcome == Ok(()));
-    assert!(rt; ended? && samples.as_slice() == wanted.as_slice());
+    assert!(rt; ended && samples.as_slice() == wanted.as_slice());
     Ok(())
 }

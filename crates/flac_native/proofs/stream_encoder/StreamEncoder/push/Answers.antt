@@ -58,8 +58,8 @@ returns-in-Ok-send_all-clause-written g c =
     } in
     let new = c.send_all.new.target in
     rw (← c.self.view_is) (λ known.
-        pushes g.W.Target old (behind_block old c.block_len-len.result new) (map (λ b. b.now) c.args.block.now) c.in-Ok.frame.items c.self.invariant.shape a c.in-Ok.ensures.frame c.in-Ok.ensures.least
-        (ap (λ n. behind_block old n new) c.block_len-len.ensures) (c.in-Ok-send_all.ensures.sends.sent known ∙ ap (λ l. g.W.Target.sent c.self.inside.target ++ l) c.as_slice.ensures.value))
+    pushes g.W.Target old (behind_block old c.block_len-len.result new) (map (λ b. b.now) c.args.block.now) c.in-Ok.frame.items c.self.invariant.shape a c.in-Ok.ensures.frame c.in-Ok.ensures.least
+    (ap (λ n. behind_block old n new) c.block_len-len.ensures) (c.in-Ok-send_all.ensures.sends.sent known ∙ ap (λ l. g.W.Target.sent c.self.inside.target ++ l) c.as_slice.ensures.value))
 
 pub returns-clause-begun : goal.returns-clause-begun
 returns-clause-begun g c =
@@ -74,6 +74,6 @@ returns-clause-begun g c =
     } in
     let new = c.send_all.new.target in
     rw (← c.self.view_is) (λ w known.
-        let b = c.in-Err.ensures.sends.begun known in
-        begins_push g.W.Target old (spent_with old new) (map (λ b. b.now) c.args.block.now) c.in-Ok.frame.items c.self.invariant.shape a c.in-Ok.ensures.frame c.in-Ok.ensures.least
-        b.0 b.1 (sym c.as_slice.ensures.value ∙ b.2) b.3)
+    let b = c.in-Err.ensures.sends.begun known in
+    begins_push g.W.Target old (spent_with old new) (map (λ b. b.now) c.args.block.now) c.in-Ok.frame.items c.self.invariant.shape a c.in-Ok.ensures.frame c.in-Ok.ensures.least
+    b.0 b.1 (sym c.as_slice.ensures.value ∙ b.2) b.3)
