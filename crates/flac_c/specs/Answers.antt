@@ -1,0 +1,48 @@
+-- What a call answers in C: a number, and where a stream was refused.
+use Rattle.std.specs.Prelude.{◌≡◌, ℕ, min, List, [], ◌++◌, length, take, drop, slice_index_or, ◌∷◌, Option, Some, None, codes}
+use Rattle.flac_bits.specs.declared.why.Why.{Why}
+use Rattle.flac_bits.specs.Reasons.{number_of}
+use Rattle.flac_native.specs.declared.fault.Place.{Place}
+use Rattle.flac_native.specs.declared.fault.Place.TheVariants.{Marker, Block, Frame, Page, End}
+use Rattle.flac_c.specs.declared.fault.FlacProvedFault.{FlacProvedFault}
+
+-- which kind of place it is
+abbrev pub kind_of : Place → ℕ
+kind_of Marker = 1
+kind_of (Block index) = 2
+kind_of (Frame index) = 3
+kind_of (Page index) = 4
+kind_of End = 5
+
+-- the index of the block, the frame or the page, counted from 0
+abbrev pub index_of : Place → ℕ
+index_of Marker = 0
+index_of (Block index) = index
+index_of (Frame index) = index
+index_of (Page index) = index
+index_of End = 0
+
+-- where and why a call refused; all are 0 if it did not
+abbrev pub in_c : Option (Place × Why) → FlacProvedFault
+in_c None = record { number = 0; place = 0; index = 0 }
+in_c (Some f) = record { number = number_of f.1; place = kind_of f.0; index = index_of f.0 }
+
+-- what C is told is an outcome of which this holds
+abbrev pub IsAnswered : (Option (Place × Why) → Type 0) → FlacProvedFault → Type 0
+IsAnswered holds fault = (outcome : Option (Place × Why)) × holds outcome × (fault ≡ in_c outcome)
+
+-- as much of a text as there is room for, and the rest of the buffer as it was
+abbrev pub copied : (text out : List ℕ) → List ℕ
+copied text out = take (min (length text) (length out)) text ++ drop (min (length text) (length out)) out
+
+-- so it was written, and its length is told
+abbrev pub IsCopied : (text old new : List ℕ) → ℕ → Type 0
+IsCopied text old new told = (new ≡ copied text old) × (told ≡ length text)
+
+-- the names of the kinds of places, in the order of their numbers
+abbrev pub place_texts : List (List ℕ)
+place_texts = [] ∷ codes "marker" ∷ codes "block" ∷ codes "frame" ∷ codes "page" ∷ codes "end" ∷ []
+
+-- the name of a kind of place, empty where there is no such kind
+abbrev pub place_text : ℕ → List ℕ
+place_text kind = slice_index_or place_texts kind []

@@ -1,0 +1,64 @@
+//! Where and why a call refused, in numbers.
+
+ghost use Rattle.std.specs.Prelude.{◌≡◌};
+ghost use Rattle.flac_bits.specs.Handing.{outcome_of};
+ghost use Rattle.flac_native.specs.Item.{told};
+ghost use Rattle.flac_c.specs.Answers.{kind_of, index_of, in_c};
+
+use flac_native::{Fault, Place};
+
+/// Where and why a call refused. All fields are 0 if it did not.
+#[repr(C)]
+#[derive(Clone, Copy, Drop)]
+pub struct FlacProvedFault {
+    /// The number of the reason, 1 to 39.
+    pub number: u32,
+    /// The kind of the place: 1 the marker, 2 a metadata block, 3 a frame, 4 a page of an Ogg stream, 5 the end.
+    pub place: u32,
+    /// Which block, frame or page, counted from 0.
+    pub index: u64,
+}
+
+/// The kind of a place.
+fn kind_of(place: Place) -> u32
+    ensures { result ≡ kind_of place }
+{
+    match place {
+        Place::Marker => 1,
+        Place::Block(_) => 2,
+        Place::Frame(_) => 3,
+        Place::Page(_) => 4,
+        Place::End => 5,
+    }
+}
+
+/// The index of a place.
+fn index_of(place: Place) -> u64
+    ensures { result ≡ index_of place }
+{
+    match place {
+        Place::Block(index) => index,
+        Place::Frame(index) => index,
+        Place::Page(index) => index,
+        Place::Marker => 0,
+        Place::End => 0,
+    }
+}
+
+/// What a call answered, in numbers.
+pub(crate) fn in_c(outcome: Result<(), Fault>) -> FlacProvedFault
+    ensures { result ≡ in_c (outcome_of told outcome) }
+{
+    match outcome {
+        Ok(()) => FlacProvedFault {
+            number: 0,
+            place: 0,
+            index: 0,
+        },
+        Err(fault) => FlacProvedFault {
+            number: u32::from(fault.why.number()),
+            place: kind_of(fault.at),
+            index: index_of(fault.at),
+        },
+    }
+}

@@ -1,0 +1,132 @@
+//! The texts of numbers.
+
+ghost use Rattle.std.specs.Prelude.{◌≡◌, ◌<◌, ◌⊎◌, length, [], Some, None};
+ghost use Rattle.flac_bits.specs.Reasons.{number_of, text_of};
+ghost use Rattle.flac_frame.specs.Setup.{number_of as setup_number, text_of as setup_text};
+ghost use Rattle.flac_c.specs.Answers.{copied, place_text, IsCopied};
+
+use flac_bits::Why;
+use flac_frame::SetupFault;
+
+/// Copies a text to the front of a buffer, as far as there is room, and returns its length.
+pub(crate) fn copy(text: &[u8], out: &mut [u8]) -> usize
+    ensures { IsCopied text.now out.old out.new result }
+{
+    let n = text.len().min(out.len());
+    out[..n].copy_from_slice(&text[..n]);
+    text.len()
+}
+
+/// The reason of a number, 1 to 39.
+fn reason_of(number: u32) -> Option<Why>
+    ensures each { (why : Why) → number_of why ≡ number → result ≡ Some why }
+    ensures other { (number ≡ 0) ⊎ (39 < number) → result ≡ None }
+{
+    let reasons = [
+        Why::Read,
+        Why::Memory,
+        Why::Truncated,
+        Why::BadMarker,
+        Why::NotStreamInfoFirst,
+        Why::ForbiddenType,
+        Why::BlockLength,
+        Why::BadStreamInfo,
+        Why::RepeatedBlock,
+        Why::SeekOrder,
+        Why::CueSheet,
+        Why::BadSync,
+        Why::ReservedCode,
+        Why::NotSubset,
+        Why::BadNumber,
+        Why::HeaderCheck,
+        Why::HeaderMismatch,
+        Why::Sequence,
+        Why::BlockSize,
+        Why::BadSubframe,
+        Why::BadPredictor,
+        Why::BadPartition,
+        Why::ResidualRange,
+        Why::NonzeroPadding,
+        Why::FrameTooLong,
+        Why::FrameCheck,
+        Why::SampleRange,
+        Why::TotalMismatch,
+        Why::Md5Mismatch,
+        Why::Sink,
+        Why::BadPage,
+        Why::PageCheck,
+        Why::PageOrder,
+        Why::OtherStream,
+        Why::PacketLength,
+        Why::NoEndPage,
+        Why::BadMapping,
+        Why::Spent,
+        Why::Write,
+    ];
+    if number < 1 || number > 39 {
+        return None;
+    }
+    Some(reasons[number as usize - 1])
+}
+
+/// The reason of a number, 40 to 47.
+fn setup_of(number: u32) -> Option<SetupFault>
+    ensures each { (fault : SetupFault) → setup_number fault ≡ number → result ≡ Some fault }
+    ensures other { (number < 40) ⊎ (47 < number) → result ≡ None }
+{
+    let faults = [
+        SetupFault::BadRate,
+        SetupFault::BadDepth,
+        SetupFault::BadChannels,
+        SetupFault::LengthsDiffer,
+        SetupFault::SampleTooLarge,
+        SetupFault::TooLong,
+        SetupFault::BadBlockSize,
+        SetupFault::TooManyPoints,
+    ];
+    if number < 40 || number > 47 {
+        return None;
+    }
+    Some(faults[number as usize - 40])
+}
+
+/// Copies number and name of a reason to the front of a buffer, as `26 FrameCheck`, as far as there is room, and returns the length of this text. The rest of the
+/// buffer stays as it is. Numbers that are no reason have the empty text.
+#[unsafe(no_mangle)]
+pub extern "C" fn flac_proved_strerror(number: u32, out: &mut [u8]) -> usize
+    ensures reason { (why : Why) → number_of why ≡ number → IsCopied (text_of why) out.old out.new result }
+    ensures setup { (fault : SetupFault) → setup_number fault ≡ number → IsCopied (setup_text fault) out.old out.new result }
+    ensures other { (number ≡ 0) ⊎ (47 < number) → IsCopied [] out.old out.new result }
+{
+    if let Some(why) = reason_of(number) {
+        return copy(why.as_str().as_bytes(), out);
+    }
+    if let Some(fault) = setup_of(number) {
+        return copy(fault.as_str().as_bytes(), out);
+    }
+    copy(&[], out)
+}
+
+/// Copies the name of a kind of place to the front of a buffer, as `frame`, as far as there is room, and returns the length of this text. The rest of the buffer
+/// stays as it is. Numbers that are no kind have the empty text.
+#[unsafe(no_mangle)]
+pub extern "C" fn flac_proved_place(kind: u32, out: &mut [u8]) -> usize
+    ensures { IsCopied (place_text kind) out.old out.new result }
+{
+    if kind == 1 {
+        return copy(b"marker", out);
+    }
+    if kind == 2 {
+        return copy(b"block", out);
+    }
+    if kind == 3 {
+        return copy(b"frame", out);
+    }
+    if kind == 4 {
+        return copy(b"page", out);
+    }
+    if kind == 5 {
+        return copy(b"end", out);
+    }
+    copy(&[], out)
+}
