@@ -16,6 +16,7 @@ mod ogg_decoding;
 mod parts;
 #[cfg(test)]
 mod pushing;
+#[cfg(test)]
 mod reading_files;
 #[cfg(test)]
 mod retagging;
