@@ -11,31 +11,31 @@ use std::process::Abort;
 use std::test::Fail;
 
 /// One sample of two channels: the digest is the MD5 of F4 63 B0 28.
-const ONE: &str =
+pub(crate) const ONE: &str =
     "664c6143800000221000100000000f00000f0ac442f0000000013e84b41807dc690307586a3dad1a2e0ffff869180000bf0158fd01128b5ab2";
 
 /// No samples of two channels: the digest is the MD5 of nothing.
-const NONE: &str =
+pub(crate) const NONE: &str =
     "664c614380000022100010000000000000000ac442f000000000d41d8cd98f00b204e9800998ecf8427e";
 
 /// 0, 1, .., 15 of 16 bits: a fixed predictor of order 2 leaves nothing.
-const RISING: &str =
+pub(crate) const RISING: &str =
     "664c614380000022001000100000100000100ac440f0000000102dfeaebfceadfe130ba1b45ae5aec202fff86908000f30140000000103c0efc9";
 
 /// Sixteen zeros of 16 bits: a fixed predictor of order 0 takes a bit less than a constant.
-const SILENT: &str =
+pub(crate) const SILENT: &str =
     "664c6143800000220010001000000c00000c0ac440f00000001070bc8f4b72a86921468bf8e8441dce51fff86908000f301003c0cf43";
 
 /// Sixteen samples of 8 bits, each -127.
-const EQUAL_8: &str =
+pub(crate) const EQUAL_8: &str =
     "664c6143800000220010001000000b00000b0ac4407000000010dd613bdc90e1e71e57e40931cf3803c1fff86902000fb70081f924";
 
 /// Sixteen samples of 24 bits, each the greatest.
-const EQUAL_24: &str =
+pub(crate) const EQUAL_24: &str =
     "664c6143800000220010001000000d00000d0ac441700000001033b1608b899bb337be51c107bac955a1fff8690c000f9b007ffffff7c6";
 
 /// Sixteen samples of 32 bits, each the greatest.
-const EQUAL_32: &str =
+pub(crate) const EQUAL_32: &str =
     "664c6143800000220010001000000e00000e0ac441f0000000109e9acc978df6458dadf4faef69ee5763fff8690e000f4d007fffffffda2b";
 
 /// A stream of some samples without further blocks.

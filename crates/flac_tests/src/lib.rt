@@ -15,6 +15,8 @@ mod ogg_decoding;
 #[cfg(test)]
 mod parts;
 #[cfg(test)]
+mod pieces;
+#[cfg(test)]
 mod pushing;
 #[cfg(test)]
 mod reading_files;
