@@ -17,7 +17,7 @@ from concurrent.futures import ThreadPoolExecutor
 
 import program
 import streams
-from program import NotYet, Wrong, expect, read
+from program import Wrong, expect, read
 
 JOBS = int(os.environ.get("JOBS", os.cpu_count() or 1))
 ENCODE = ["--rate", "44100", "--channels", "2", "--bits", "16", "--block", "16"]
@@ -241,7 +241,7 @@ def closed_files(place, words, closed):
     expect(place.call(words, names, closing(closed))[0], 1)
     expect(read(names["IN"]), refused)
     if "OUT" in words and b"flac: " in read(names["OUT"]):
-        raise NotYet("the line of the fault is written into OUT, which got the number of standard error")
+        raise Wrong("the line of the fault is written into OUT, which got the number of standard error")
 
 
 def help_is_not_printed(place, words):
@@ -269,8 +269,6 @@ def outcome(case, folder, binary):
         try:
             call(Place(own, binary))
             return "passed", ""
-        except NotYet as reason:
-            return "not yet", f"not yet: {name}: {reason}"
         except (Wrong, OSError, subprocess.SubprocessError) as reason:
             return "failed", f"FAILED {name}: {reason if isinstance(reason, Wrong) else repr(reason)}"
 
@@ -287,8 +285,8 @@ def main():
         found = list(pool.map(lambda case: outcome(case, folder, binary), every))
     for _, line in found:
         print(line, end="\n" if line else "")
-    count = {state: sum(1 for one, _ in found if one == state) for state in ("passed", "failed", "not yet")}
-    print(f"devices: {len(every)} cases, {count['passed']} passed, {count['failed']} failed, {count['not yet']} not yet, {time.time() - began:.0f} seconds")
+    count = {state: sum(1 for one, _ in found if one == state) for state in ("passed", "failed")}
+    print(f"devices: {len(every)} cases, {count['passed']} passed, {count['failed']} failed, {time.time() - began:.0f} seconds")
     return 1 if count["failed"] else 0
 
 
