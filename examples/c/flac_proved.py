@@ -48,7 +48,8 @@ class Library:
 
     def text(self, name, number):
         out = buffer(64)
-        return bytes(out)[:getattr(self.c, "flac_proved_" + name)(number, out, 64)].decode("ascii")
+        length = getattr(self.c, "flac_proved_" + name)(number, out, 64)
+        return bytes(out)[:length].decode("ascii")
 
     def strerror(self, number):
         """Number and name of a reason."""
