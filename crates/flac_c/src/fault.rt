@@ -1,6 +1,6 @@
 //! Where and why a call refused, in numbers.
 
-ghost use Rattle.std.specs.Prelude.{◌≡◌};
+ghost use Rattle.std.specs.Prelude.{◌≡◌, ◌≢◌, OnErr};
 ghost use Rattle.flac_bits.specs.Handing.{outcome_of};
 ghost use Rattle.flac_native.specs.Item.{told};
 ghost use Rattle.flac_c.specs.Answers.{kind_of, index_of, in_c};
@@ -46,8 +46,10 @@ fn index_of(place: Place) -> u64
 }
 
 /// What a call answered, in numbers.
+#[tactic(auto, using(crate::proofs::Numbered::some_number))]
 pub(crate) fn in_c(outcome: Result<(), Fault>) -> FlacProvedFault
-    ensures { result ≡ in_c (outcome_of told outcome) }
+    ensures value { result ≡ in_c (outcome_of told outcome) }
+    ensures some { OnErr outcome (result.number ≢ 0) }
 {
     match outcome {
         Ok(()) => FlacProvedFault {

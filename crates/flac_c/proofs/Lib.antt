@@ -1,0 +1,3 @@
+pub mod Collecting
+pub mod Kept
+pub mod Numbered

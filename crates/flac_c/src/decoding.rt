@@ -1,0 +1,150 @@
+//! The samples of a stream.
+
+ghost use Rattle.std.specs.Prelude.{◌≡◌, ◌≢◌, ◌≤◌, ◌++◌, [], nat_lt, length, min, List, OnOk, IfErr, Some, None};
+ghost use Rattle.flac_native.specs.Item.{told};
+ghost use Rattle.flac_native.specs.Message.{rows_bytes};
+ghost use Rattle.flac_native.specs.Stream.{Piece};
+ghost use Rattle.flac_frame.specs.Lent.{frame_of};
+ghost use Rattle.flac_ogg.specs.Verifying.{Verifies, bytes_reading};
+ghost use Rattle.flac_c.specs.Answers.{IsAnswered, IsCopied};
+ghost use Rattle.flac_c.specs.Sampled.{depth_behind, samples_in, samples_from};
+
+use crate::failures::Failures;
+use crate::fault::{FlacProvedFault, in_c};
+use crate::texts::copy;
+use flac_bits::{Memory, Why};
+use flac_frame::FrameView;
+use flac_meta::Block;
+use flac_native::{Fault, Place, Profile, Sink, SinkFault, put_rows};
+use flac_ogg::decode_any;
+use std::alloc::{AllocError, Global};
+
+/// How many bytes are put at once at most.
+const ROOM: usize = 32768;
+
+/// How many rows are put at once at most. Each has at most 8 samples of 4 bytes.
+const ROWS: usize = 1024;
+
+/// Collects the samples of each frame.
+#[derive(Drop)]
+struct Samples {
+    bytes: Vec<u8>,
+    /// How many bytes a sample has; 0: the fewest that hold its bits.
+    asked: usize,
+    /// Bits a sample, as STREAMINFO tells them; 0 before it.
+    depth: u8,
+    failures: Failures,
+    ghost range: { depth ≤ 32 },
+    ghost few: { asked ≤ 4 },
+}
+
+/// Adds the samples of a frame.
+fn push_frame(frame: &FrameView<'_>, width: usize, bytes: &mut Vec<u8>) -> Result<(), AllocError>
+    requires { width ≤ 4 }
+    ensures { OnOk result (bytes.new.items ≡ bytes.old.items ++ rows_bytes width (frame_of frame.now).channels (frame_of frame.now).size 0) }
+{
+    let mut buffer = [0u8; ROOM];
+    let mut start = 0;
+    while start < frame.len() {
+        let count = (frame.len() - start).min(ROWS);
+        let end = put_rows(frame, width, start, count, &mut buffer);
+        bytes.extend_from_slice(&buffer[..end])?;
+        start += count;
+    }
+    Ok(())
+}
+
+impl Sink for Samples {
+    ghost takes = { λ old item new. record {
+      asked : new.asked ≡ old.asked;
+      depth : new.depth ≡ depth_behind old.depth item;
+      bytes : new.bytes.items ≡ old.bytes.items ++ samples_in old.asked old.depth item;
+    } };
+
+    ghost known = { λ s. nat_lt s.failures.count 18446744073709551615 };
+
+    ghost errors = { λ s. s.failures.count };
+
+    ghost names = { λ _. [] };
+
+    fn block(&mut self, block: &Block) -> Result<(), SinkFault> {
+        if let Block::StreamInfo(info) = block {
+            self.depth = info.depth();
+        }
+        Ok(())
+    }
+
+    fn frame(&mut self, frame: &FrameView<'_>) -> Result<(), SinkFault> {
+        let width = if self.asked == 0 {
+            (usize::from(self.depth) + 7) / 8
+        } else {
+            self.asked
+        };
+        match push_frame(frame, width, &mut self.bytes) {
+            Ok(()) => Ok(()),
+            Err(_) => self.failures.fail(),
+        }
+    }
+}
+
+/// Decodes a stream, and collects its samples.
+fn collect(alloc: Global, bytes: &[u8], sink: &mut Samples) -> Result<(), Fault>
+    requires bytes { sink.old.bytes.items ≡ [] }
+    requires depth { sink.old.depth ≡ 0 }
+    requires failures { sink.old.failures.count ≡ 0 }
+    ensures done { OnOk result ((items : List Piece) × (bytes_reading bytes.now).whole items × (sink.new.bytes.items ≡ samples_from sink.old.asked 0 items)) }
+    ensures refused { sink.new.failures.count ≡ 0 → IfErr result (λ f. Verifies bytes.now (Some (told f))) }
+{
+    let mut source = Memory::new(bytes);
+    decode_any(alloc, &mut source, Profile::Subset, sink)
+}
+
+/// Decodes a stream, and collects its samples. A failed allocation is its error.
+fn collect_all(alloc: Global, bytes: &[u8], sink: &mut Samples) -> Result<(), Fault>
+    requires bytes { sink.old.bytes.items ≡ [] }
+    requires depth { sink.old.depth ≡ 0 }
+    requires failures { sink.old.failures.count ≡ 0 }
+    ensures done { OnOk result ((items : List Piece) × (bytes_reading bytes.now).whole items × (sink.new.bytes.items ≡ samples_from sink.old.asked 0 items)) }
+    ensures refused { IfErr result (λ f. Verifies bytes.now (Some (told f))) }
+{
+    match collect(alloc, bytes, sink) {
+        Ok(()) => Ok(()),
+        Err(fault) if sink.failures.count == 0 => Err(fault),
+        Err(fault) => Err(Fault {
+            at: fault.at,
+            why: Why::Memory,
+        }),
+    }
+}
+
+/// Decodes a stream, native or Ogg, and copies its samples to the front of a buffer, as far as there is room: interleaved channel by channel, signed little-endian, each of
+/// `width` bytes, at most 4; 0 stands for the fewest bytes that hold the bits of a sample. Tells how many bytes all samples have. Returns 0, or the number of the fault; the
+/// buffer and the length are then as they were.
+#[unsafe(no_mangle)]
+pub extern "C" fn flac_proved_decode(
+    alloc: Global,
+    bytes: &[u8],
+    width: u32,
+    out: &mut [u8],
+    len: &mut usize,
+    fault: &mut FlacProvedFault,
+) -> u32
+    ensures decoded { result ≡ 0 → (items : List Piece) × (bytes_reading bytes.now).whole items × IsCopied (samples_from (min width 4) 0 items) out.old out.new len.new }
+    ensures refused { result ≢ 0 → IsAnswered (Verifies bytes.now) fault.new }
+    ensures kept { result ≢ 0 → (out.new ≡ out.old) × (len.new ≡ len.old) }
+    ensures number { result ≡ fault.new.number }
+{
+    let mut sink = Samples {
+        bytes: Vec::new(alloc),
+        asked: width.min(4) as usize,
+        depth: 0,
+        failures: Failures { count: 0 },
+    };
+    if let Err(told) = collect_all(alloc, bytes, &mut sink) {
+        *fault = in_c(Err(told));
+        return fault.number;
+    }
+    *fault = in_c(Ok(()));
+    *len = copy(sink.bytes.as_slice(), out);
+    0
+}

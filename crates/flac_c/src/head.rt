@@ -1,0 +1,142 @@
+//! STREAMINFO and the comments with which a stream begins.
+
+ghost use Rattle.std.specs.Prelude.{◌≡◌, ◌≤◌, [], nat_lt, true, length, is_some, List, IfOk, IfErr, OnOk, None, Some};
+ghost use Rattle.flac_native.specs.Item.{told};
+ghost use Rattle.flac_native.specs.Stream.{Piece};
+ghost use Rattle.flac_ogg.specs.Verifying.{Verifies, bytes_reading};
+ghost use Rattle.flac_c.specs.Heads.{info_behind, comments_behind, info_from, BeginsBy, Begins, Lacks};
+
+use crate::failures::Failures;
+use flac_bits::{Memory, Why};
+use flac_frame::FrameView;
+use flac_meta::{Block, Comments, StreamInfo};
+use flac_native::{Fault, Place, Profile, Sink, SinkFault};
+use flac_ogg::decode_any;
+use std::alloc::Global;
+
+/// How many bytes are read at first: metadata mostly has fewer.
+const FEW: usize = 1 << 16;
+
+/// How many bytes are read next: metadata with a picture mostly has fewer.
+const MORE: usize = 1 << 21;
+
+/// Keeps STREAMINFO and the comments of a stream.
+#[derive(Drop)]
+pub(crate) struct Head {
+    pub(crate) info: Option<StreamInfo>,
+    pub(crate) comments: Option<Comments>,
+    /// Whether a frame came, behind all blocks.
+    pub(crate) is_over: bool,
+    pub(crate) failures: Failures,
+}
+
+impl Head {
+    pub(crate) fn new() -> Head
+        ensures info { result.info ≡ None }
+        ensures comments { result.comments ≡ None }
+        ensures failures { result.failures.count ≡ 0 }
+    {
+        Head {
+            info: None,
+            comments: None,
+            is_over: false,
+            failures: Failures { count: 0 },
+        }
+    }
+}
+
+impl Sink for Head {
+    ghost takes = { λ old item new. record {
+      info : new.info ≡ info_behind old.info item;
+      comments : new.comments ≡ comments_behind old.comments item;
+    } };
+
+    ghost known = { λ s. nat_lt s.failures.count 18446744073709551615 };
+
+    ghost errors = { λ s. s.failures.count };
+
+    ghost names = { λ _. [] };
+
+    fn block(&mut self, block: &Block) -> Result<(), SinkFault> {
+        match block {
+            Block::StreamInfo(info) => {
+                self.info = Some(*info);
+                Ok(())
+            }
+            Block::VorbisComment(comments) => match comments.clone() {
+                Ok(comments) => {
+                    self.comments = Some(comments);
+                    Ok(())
+                }
+                Err(_) => self.failures.fail(),
+            },
+            _ => Ok(()),
+        }
+    }
+
+    fn frame(&mut self, _frame: &FrameView<'_>) -> Result<(), SinkFault> {
+        self.is_over = true;
+        Ok(())
+    }
+}
+
+/// Reads a stream, and keeps its head.
+fn decode_head(alloc: Global, bytes: &[u8], head: &mut Head) -> Result<(), Fault>
+    requires info { head.old.info ≡ None }
+    requires comments { head.old.comments ≡ None }
+    requires failures { head.old.failures.count ≡ 0 }
+    ensures begun { head.new.failures.count ≡ 0 → BeginsBy bytes.now head.new.info head.new.comments }
+    ensures refused { head.new.failures.count ≡ 0 → IfErr result (λ f. Verifies bytes.now (Some (told f))) }
+    ensures whole { OnOk result ((items : List Piece) × (bytes_reading bytes.now).whole items × (head.new.info ≡ info_from None items)) }
+{
+    let mut source = Memory::new(bytes);
+    decode_any(alloc, &mut source, Profile::Subset, head)
+}
+
+/// Reads the head of the first bytes anew, and tells whether they are enough: a frame was read, or they are all bytes.
+///
+/// # Errors
+/// `Memory`, and where all bytes are read and no STREAMINFO is found, what is wrong with them.
+fn read_front(alloc: Global, bytes: &[u8], most: usize, head: &mut Head) -> Result<bool, Fault>
+    ensures begun { IfOk result (λ enough. enough ≡ true → Begins bytes.now head.new.info head.new.comments) }
+    ensures found { IfOk result (λ enough. enough ≡ true → is_some head.new.info ≡ true) }
+    ensures all { length bytes.now ≤ most → IfOk result (λ enough. enough ≡ true) }
+    ensures refused { IfErr result (λ f. Lacks bytes.now (Some (told f))) }
+{
+    *head = Head::new();
+    let n = bytes.len().min(most);
+    let outcome = decode_head(alloc, &bytes[..n], head);
+    if head.failures.count != 0 {
+        return Err(Fault {
+            at: Place::Marker,
+            why: Why::Memory,
+        });
+    }
+    if n < bytes.len() {
+        return Ok(head.is_over && head.info.is_some());
+    }
+    if head.info.is_some() {
+        return Ok(true);
+    }
+    outcome?;
+    Err(Fault {
+        at: Place::Marker,
+        why: Why::NotStreamInfoFirst,
+    })
+}
+
+/// Reads STREAMINFO and the comments with which a stream begins.
+pub(crate) fn read_head(alloc: Global, bytes: &[u8], head: &mut Head) -> Result<(), Fault>
+    ensures begun { OnOk result (Begins bytes.now head.new.info head.new.comments) }
+    ensures found { OnOk result (is_some head.new.info ≡ true) }
+    ensures refused { IfErr result (λ f. Lacks bytes.now (Some (told f))) }
+{
+    if read_front(alloc, bytes, FEW, head)? {
+        return Ok(());
+    }
+    if read_front(alloc, bytes, MORE, head)? {
+        return Ok(());
+    }
+    let _all = read_front(alloc, bytes, bytes.len(), head)?;
+    Ok(())
+}
