@@ -173,6 +173,9 @@ int open(const char *path, int flags, ...)
     __builtin_va_start(more, flags);
     int mode = flags & O_CREAT ? __builtin_va_arg(more, int) : 0;
     __builtin_va_end(more);
+    /* what stands for the standard files is no file of the job, and does no harm where it is not opened */
+    if (strcmp(path, "/dev/null") == 0)
+        return syscall(SYS_openat, AT_FDCWD, path, flags, mode);
     return fails(OPEN) ? -1 : syscall(SYS_openat, AT_FDCWD, path, flags, mode);
 }
 
