@@ -24,3 +24,4 @@ pub mod Meant
 pub mod Stretches
 pub mod LittleEndian
 pub mod Unchecked
+pub mod Failing

@@ -1,14 +1,15 @@
 //! A source of any reader, and a target of any writer.
 
-ghost use Rattle.std.specs.Prelude.{◌≡◌, ◌<◌, ◌≤◌, ◌+◌, ◌-◌, ℕ, Bool, true, List, [], ◌++◌, length, take, is_some, unwrap_or, min, ◌&&◌, nat_lt, ◌^◌};
-ghost use Rattle.flac_bits.specs.State.{the_end};
+ghost use Rattle.std.specs.Prelude.{◌≡◌, ◌<◌, ◌≤◌, ◌+◌, ◌-◌, ℕ, Bool, true, List, [], ◌++◌, length, take, IfOk, OnOk, OnErr, MatchResult, Some, is_some, option_copied, unwrap_or, min, ◌&&◌, nat_lt, ◌^◌};
+ghost use Rattle.flac_bits.specs.State.{Rises, the_end};
+ghost use Rattle.std.specs.Io.{ReadsAtMost};
 
 use crate::source::Source;
 use crate::target::Target;
 use std::io;
 use std::io::{Read, Write};
 
-/// A reader or a writer whose errors are counted. Of a reader 2^64 - 1 bytes are read at most.
+/// A reader or a writer whose errors are counted, and the last of them kept. Of a reader 2^64 - 1 bytes are read at most.
 ///
 /// Where a writer takes no byte of a piece that has some, this is counted and answered as an error. What a writer
 /// holds itself is not flushed.
@@ -17,6 +18,8 @@ pub struct Counted<T> {
     device: T,
     errors: u64,
     room: u64,
+    last: Option<io::Error>,
+    ghost kept: { is_some last ≡ nat_lt 0 errors },
 }
 
 impl<T> Counted<T> {
@@ -28,7 +31,37 @@ impl<T> Counted<T> {
             device,
             errors: 0,
             room: u64::MAX,
+            last: None,
         }
+    }
+
+    /// The device's last error, `None` as long as it had none. Where a decoder or an encoder answers `Why::Read` or
+    /// `Why::Write`, this tells what went wrong, as `No space left on device`.
+    ///
+    /// ```rust
+    /// let mut file = Counted::new(file);
+    /// let outcome = encode(rt.alloc(), &plan, &blocks, &audio, &mut file);
+    /// if let Some(error) = file.last_error() {
+    ///     eprintln!("{error}");
+    /// }
+    /// ```
+    pub fn last_error(&self) -> Option<&io::Error>
+        ensures error { option_copied result ≡ self.now.last }
+        ensures counted { is_some result ≡ nat_lt 0 self.now.errors }
+    {
+        self.last.as_ref()
+    }
+
+    /// One error more, as far as the count goes.
+    fn count(&mut self, error: io::Error)
+        ensures device { self.new.device ≡ self.old.device }
+        ensures room { self.new.room ≡ self.old.room }
+        ensures errors { self.new.errors ≡ min (self.old.errors + 1) (2 ^ 64 - 1) }
+        ensures kept { self.old.errors ≤ self.new.errors }
+        ensures last { self.new.last ≡ Some error }
+    {
+        self.errors = self.errors.saturating_add(1);
+        self.last = Some(error);
     }
 
     /// The device again.
@@ -39,6 +72,7 @@ impl<T> Counted<T> {
             device,
             errors: _,
             room: _,
+            last: _,
         } = self;
         device
     }
@@ -59,26 +93,30 @@ impl<T: Read> Source for Counted<T> {
 
     ghost names = { λ _. [] };
 
-    fn pull(&mut self, buf: &mut [u8]) -> io::Result<usize> {
+    /// Asks the device for some of the bytes to come. An error of the device is counted and kept.
+    fn pull(&mut self, buf: &mut [u8]) -> io::Result<usize>
+        ensures bound { ReadsAtMost result buf.new }
+        ensures known { OnOk result (is_some (T.remaining self.old.device) ≡ true → is_some (T.remaining self.new.device) ≡ true) }
+        ensures bytes { IfOk result (λ n. is_some (T.remaining self.old.device) ≡ true → take self.old.room (unwrap_or (T.remaining self.old.device) []) ≡ take n buf.new ++ take self.new.room (unwrap_or (T.remaining self.new.device) [])) }
+        ensures end { IfOk result (λ n. n ≡ 0 → 0 < length buf.new → is_some (T.remaining self.old.device) ≡ true → take self.old.room (unwrap_or (T.remaining self.old.device) []) ≡ []) }
+        ensures most { IfOk result (λ n. self.new.room + n ≤ self.old.room) }
+        ensures counted { OnOk result (self.new.errors ≡ self.old.errors) }
+        ensures kept { self.old.errors ≤ self.new.errors }
+        ensures risen { OnErr result (Rises self.old.errors self.new.errors) }
+        ensures last { MatchResult result (λ _. self.new.last ≡ self.old.last) (λ e. self.new.last ≡ Some e) }
+    {
         let most = self.room.min(buf.len() as u64) as usize;
         match self.device.read(&mut buf[..most]) {
             Ok(n) => {
                 self.room -= n as u64;
                 Ok(n)
             }
-            Err(e) => {
-                self.errors = self.errors.saturating_add(1);
-                Err(e)
+            Err(error) => {
+                self.count(error);
+                Err(error)
             }
         }
     }
-}
-
-/// One error more, as far as the count goes.
-fn one_more(errors: u64) -> u64
-    ensures { result ≡ min (errors + 1) (2 ^ 64 - 1) }
-{
-    errors.saturating_add(1)
 }
 
 impl<T: Write> Target for Counted<T> {
@@ -90,17 +128,29 @@ impl<T: Write> Target for Counted<T> {
 
     ghost names = { λ _. [] };
 
-    fn send(&mut self, bytes: &[u8]) -> io::Result<usize> {
+    /// Sends some of the bytes to the device. An error, of the device or that it took none, is counted and kept.
+    fn send(&mut self, bytes: &[u8]) -> io::Result<usize>
+        ensures count { IfOk result (λ n. n ≤ length bytes.now) }
+        ensures some { IfOk result (λ n. 0 < length bytes.now → 0 < n) }
+        ensures known { OnOk result (is_some (T.contents self.old.device) ≡ true → is_some (T.contents self.new.device) ≡ true) }
+        ensures bytes { IfOk result (λ n. is_some (T.contents self.old.device) ≡ true → unwrap_or (T.contents self.new.device) [] ≡ unwrap_or (T.contents self.old.device) [] ++ take n bytes.now) }
+        ensures nothing { OnErr result (is_some (T.contents self.old.device) ≡ true → unwrap_or (T.contents self.new.device) [] ≡ unwrap_or (T.contents self.old.device) []) }
+        ensures counted { OnOk result (self.new.errors ≡ self.old.errors) }
+        ensures kept { self.old.errors ≤ self.new.errors }
+        ensures risen { OnErr result (Rises self.old.errors self.new.errors) }
+        ensures last { MatchResult result (λ _. self.new.last ≡ self.old.last) (λ e. self.new.last ≡ Some e) }
+    {
         match self.device.write(bytes) {
             Ok(n) => {
                 if n == 0 && !bytes.is_empty() {
-                    self.errors = one_more(self.errors);
-                    return Err(io::Error::from(io::ErrorKind::WriteZero));
+                    let nothing = io::Error::from(io::ErrorKind::WriteZero);
+                    self.count(nothing);
+                    return Err(nothing);
                 }
                 Ok(n)
             }
             Err(e) => {
-                self.errors = one_more(self.errors);
+                self.count(e);
                 Err(e)
             }
         }

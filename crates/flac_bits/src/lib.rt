@@ -4,6 +4,7 @@
 mod bytes;
 mod coded;
 mod counted;
+mod failing;
 mod held;
 mod little;
 mod number;
@@ -27,6 +28,7 @@ mod writer;
 pub use bytes::{read_bytes, read_unchecked};
 pub use coded::write_number;
 pub use counted::Counted;
+pub use failing::FailAt;
 pub use little::{put_little_32, read_little_32, read_little_64};
 pub use number::read_number;
 pub use promises::{fields_are_meant, numbers_are_spelled};
