@@ -79,7 +79,8 @@ def input_cases():
     def refused(words, path, line, place):
         names = {"IN": path, "OUT": place.put("out", BEFORE)}
         place.refused(words, names, f"{path}: {line}")
-        expect(read(names["OUT"]), BEFORE if line.endswith("opened") else b"" if "OUT" in words else BEFORE)
+        expect(read(names["OUT"]), BEFORE)
+        expect([it for it in os.listdir(place.folder) if it.startswith("out.")], [])
 
     for name, words, _ in READING + WRITING:
         at = "" if name.startswith("encode") else "marker: "
@@ -138,6 +139,69 @@ def output_cases():
         yield f"{name}: OUT may not grow", lambda p, w=words, s=source, n=name: limited(p, w, s, n)
         for how in ("stdin", "stdout", "a third file"):
             yield f"{name}: OUT is IN, open already as {how}", lambda p, w=words, s=source, h=how: open_twice(p, w, s, h)
+
+
+def kept_cases():
+    """OUT is a file that has bytes: they stay until the job is done."""
+    for name, words, source in WRITING:
+        yield f"{name}: OUT is replaced", lambda p, w=words, s=source: replaced(p, w, s)
+        yield f"{name}: OUT is replaced behind a link", lambda p, w=words, s=source: replaced(p, w, s, linked=True)
+        yield f"{name}: OUT stays, since it may not grow", lambda p, w=words, s=source, n=name: kept(p, w, s, n)
+        yield f"{name}: OUT stays, in a folder without rights", lambda p, w=words, s=source: kept_without_rights(p, w, s)
+        yield f"{name}: standard output is added to", lambda p, w=words, s=source: added(p, w, s, "ab")
+        yield f"{name}: standard output goes on where it is", lambda p, w=words, s=source: added(p, w, s, "wb")
+    for name, words, source in (WRITING[0], WRITING[1]):
+        yield f"{name}: OUT stays, what was decoded is beside it", lambda p, w=words, s=source: kept_beside(p, w, s)
+
+
+def replaced(place, words, source, linked=False):
+    """The file has the new bytes and its old permissions, and nothing is left beside it."""
+    names, due = {"IN": place.put("in", source), "OUT": place.put("out", BEFORE)}, due_of(place, words, source)
+    os.chmod(names["OUT"], 0o640)
+    if linked:
+        os.symlink("out", place.path("link"))
+        names["OUT"] = place.path("link")
+    expect(place.call(words, names), (0, b"", ""))
+    expect((read(place.path("out")), os.stat(place.path("out")).st_mode & 0o7777), (due, 0o640))
+    expect(os.path.islink(names["OUT"]), linked)
+    expect([it for it in os.listdir(place.folder) if ".part" in it], [])
+
+
+def kept(place, words, source, name):
+    """A full disk: what found room is beside OUT, each time in another file."""
+    due, names = due_of(place, words, source), {"IN": place.put("in", source), "OUT": place.put("out", BEFORE)}
+    for part in ("out.part", "out.part2"):
+        place.refused(words, names, f"{names['OUT']}: {writing_fault(name)}", ["env", "--ignore-signal=XFSZ", "prlimit", "--fsize=30"])
+        expect((read(names["OUT"]), read(place.path(part))), (BEFORE, due[:30]))
+
+
+def kept_without_rights(place, words, source):
+    os.mkdir(place.path("below"))
+    names = {"IN": place.put("in", source), "OUT": place.put("below/out", BEFORE)}
+    os.chmod(names["OUT"], 0o666)
+    os.chmod(place.path("below"), 0o555)
+    place.refused(words, names, f"{names['OUT']}: cannot be created", **other_user())
+    expect((read(names["OUT"]), os.listdir(place.path("below"))), (BEFORE, ["out"]))
+
+
+def kept_beside(place, words, source):
+    """An error after some frames: OUT is as it was, and the frames before are beside it."""
+    names, due = {"IN": place.put("in", source[:-1]), "OUT": place.put("out", BEFORE)}, due_of(place, words, source)
+    status, printed, _ = place.call(words, names)
+    found = read(place.path("out.part"))
+    expect((status, printed, read(names["OUT"]), 0 < len(found) < len(due), found), (1, b"", BEFORE, True, due[: len(found)]))
+
+
+def added(place, words, source, mode):
+    """What standard output has already stays there, before the bytes of the job."""
+    names, due = {"IN": place.put("in", source), "OUT": "/dev/stdout"}, due_of(place, words, source)
+    place.put("all", BEFORE if mode == "ab" else b"")
+    with open(place.path("all"), mode) as out:
+        if mode == "wb":
+            out.write(BEFORE)
+            out.flush()
+        expect(place.call(words, names, stdout=out)[::2], (0, ""))
+    expect(read(place.path("all")), BEFORE + due)
 
 
 def no_rights_to_write(place, words, source):
@@ -247,8 +311,7 @@ def closed_files(place, words, closed):
 def help_is_not_printed(place, words):
     with open("/dev/full", "wb") as device:
         status, _, error = place.call(words, {}, stdout=device)
-    expect(status, 1)
-    expect(len(error.splitlines()), 1)
+    expect((status, error), (1, "flac: command: 39 Write\n"))
 
 
 def memory_cases():
@@ -281,7 +344,7 @@ def main():
     with tempfile.TemporaryDirectory() as folder, ThreadPoolExecutor(JOBS) as pool:
         os.chmod(folder, 0o755)
         binary = shutil.copy(program.BINARY, os.path.join(folder, "flac"))
-        every = [case for group in (input_cases, output_cases, print_cases, memory_cases) for case in group() if words.only in case[0]]
+        every = [case for group in (input_cases, output_cases, kept_cases, print_cases, memory_cases) for case in group() if words.only in case[0]]
         found = list(pool.map(lambda case: outcome(case, folder, binary), every))
     for _, line in found:
         print(line, end="\n" if line else "")

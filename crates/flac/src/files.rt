@@ -1,21 +1,40 @@
 //! The files of a job.
 
-use std::fs::{File, OpenOptions};
+use std::fs::{File, Metadata, OpenOptions};
 use std::io;
-use std::io::{ErrorKind, Write};
+use std::io::{ErrorKind, Stdout, Write};
 use std::os::unix::fs::MetadataExt;
+use std::path::PathBuf;
 
-/// The file that a job writes, if it writes one.
+/// Where the bytes go that a job writes.
 #[derive(Drop)]
 pub(crate) enum Output {
+    /// A file or a device, opened for the job.
     File(File),
+    /// Standard output, at the place that the caller left it at.
+    Standard(Stdout),
+    /// The job writes nothing.
     None,
+}
+
+impl Output {
+    /// Has the system store what was written to a file.
+    ///
+    /// # Errors
+    /// It cannot be stored, for which a file system may have waited until now.
+    fn store(&self) -> io::Result<()> {
+        match self {
+            Output::File(file) => file.sync_all(),
+            _ => Ok(()),
+        }
+    }
 }
 
 impl Write for Output {
     fn write(&mut self, bytes: &[u8]) -> io::Result<usize> {
         match self {
             Output::File(file) => file.write(bytes),
+            Output::Standard(out) => out.write(bytes),
             Output::None => Ok(bytes.len()),
         }
     }
@@ -23,16 +42,45 @@ impl Write for Output {
     fn flush(&mut self) -> io::Result<()> {
         match self {
             Output::File(file) => file.flush(),
+            Output::Standard(out) => out.flush(),
             Output::None => Ok(()),
         }
     }
 }
 
-/// Opens the file that a job writes, and empties it. A file that is the job's input stays as it is.
+/// A new file beside one that has bytes. It takes the place of that one when the job is done; until then, and if the
+/// job fails, the old file stays as it was.
+#[derive(Drop)]
+pub(crate) struct Replacement {
+    part: String,
+    path: PathBuf,
+}
+
+impl Replacement {
+    /// Ends the job with its status: if the job was done, has the new file stored and puts it in the place of the old
+    /// one. Otherwise the new file keeps what was written; it is removed if that is nothing.
+    ///
+    /// # Errors
+    /// The file cannot take the old one's place; it stays beside it.
+    pub(crate) fn end(self, rt: &HostRuntime, output: Output, status: u8) -> io::Result<()> {
+        let Replacement { part, path } = self;
+        if status == 0 {
+            output.store()?;
+            return std::fs::rename(rt, part.as_str(), path.as_str());
+        }
+        if std::fs::metadata(rt, part.as_str())?.len() == 0 {
+            std::fs::remove_file(rt, part.as_str())?;
+        }
+        Ok(())
+    }
+}
+
+/// Opens what a job writes to. A file that is there and has bytes is not touched: a new one is opened beside it.
 ///
-/// First the two paths are compared, with `.`, `..` and symbolic links resolved. Then the file is opened as it is, and
-/// its device and inode are compared with those of the input, so that a hard link is seen too. Only then is it emptied,
-/// if it is a regular file: a terminal, a pipe or a device has no length.
+/// The job's input is refused. First the two paths are compared, with `.`, `..` and symbolic links resolved. Then the
+/// file is opened as it is, and its device and inode are compared with those of the input, so that a hard link is seen
+/// too. `/dev/stdout` is standard output itself and not its file opened anew, so that the bytes are added to a file that
+/// the caller appends to.
 ///
 /// # Errors
 /// The file cannot be created, or it is the input.
@@ -41,19 +89,66 @@ pub(crate) fn create(
     path: &str,
     input: &File,
     input_path: &str,
-) -> io::Result<File> {
+) -> io::Result<(Output, Option<Replacement>)> {
     if is_one_path(rt, path, input_path) {
         return Err(io::Error::from(ErrorKind::AlreadyExists));
     }
+    let read = input.metadata()?;
+    if path == "/dev/stdout" {
+        differ(&std::fs::metadata(rt, path)?, &read)?;
+        return Ok((Output::Standard(rt.stdout()), None));
+    }
     let file = OpenOptions::new().write(true).create(true).open(rt, path)?;
-    let (found, read) = (file.metadata()?, input.metadata()?);
-    if found.dev() == read.dev() && found.ino() == read.ino() {
+    let found = file.metadata()?;
+    differ(&found, &read)?;
+    if !found.is_file() || found.len() == 0 {
+        return Ok((Output::File(file), None));
+    }
+    let (file, replacement) = create_beside(rt, path, &found)?;
+    Ok((Output::File(file), Some(replacement)))
+}
+
+/// Opens a new file beside one that is there, with its permissions: its path and `.part`, or `.part2` to `.part99`.
+///
+/// # Errors
+/// The file cannot be created.
+fn create_beside(
+    rt: &HostRuntime,
+    path: &str,
+    found: &Metadata,
+) -> io::Result<(File, Replacement)> {
+    let path = std::fs::canonicalize(rt, path)?;
+    for n in 1..100u32 {
+        let part = part_name(rt, path.as_str(), n)?;
+        match File::create_new(rt, part.as_str()) {
+            Ok(file) => {
+                file.set_permissions(found.permissions())?;
+                return Ok((file, Replacement { part, path }));
+            }
+            Err(error) if error.kind() == ErrorKind::AlreadyExists => {}
+            Err(error) => return Err(error),
+        }
+    }
+    Err(io::Error::from(ErrorKind::AlreadyExists))
+}
+
+/// The path of the nth file that may stand beside this one.
+///
+/// # Errors
+/// Out of memory.
+fn part_name(rt: &HostRuntime, path: &str, n: u32) -> io::Result<String> {
+    if n == 1 {
+        return Ok(format!(in rt.alloc(); "{path}.part")?);
+    }
+    Ok(format!(in rt.alloc(); "{path}.part{n}")?)
+}
+
+/// Refuses two files that are one.
+fn differ(one: &Metadata, other: &Metadata) -> io::Result<()> {
+    if one.dev() == other.dev() && one.ino() == other.ino() {
         return Err(io::Error::from(ErrorKind::AlreadyExists));
     }
-    if found.is_file() {
-        file.set_len(0)?;
-    }
-    Ok(file)
+    Ok(())
 }
 
 /// Whether both paths name one file that is there.

@@ -9,18 +9,17 @@ use flac_cli::run;
 use flac_jobs::{Job, LineFault};
 use flac_words::job;
 use std::fs::File;
-use std::io;
 use std::process::ExitCode;
 
-fn main(rt: HostRuntime) -> io::Result<ExitCode> {
+fn main(rt: HostRuntime) -> ExitCode {
     let given = match given_words(&rt) {
         Ok(given) => given,
-        Err(fault) => return tell(&rt, &fault),
+        Err(fault) => return ExitCode::from(tell(&rt, &fault)),
     };
-    match job(rt.alloc(), given.as_slice()) {
-        Ok(job) => Ok(ExitCode::from(perform(&rt, &job))),
+    ExitCode::from(match job(rt.alloc(), given.as_slice()) {
+        Ok(job) => perform(&rt, &job),
         Err(fault) => tell(&rt, &fault),
-    }
+    })
 }
 
 /// The words of the command line, the program's name first.
@@ -34,17 +33,17 @@ fn given_words(rt: &HostRuntime) -> Result<Vec<String>, LineFault> {
         .map_err(|_| LineFault::no_memory())
 }
 
-/// Prints what there is in place of a job, and returns its status.
-///
-/// # Errors
-/// The help cannot be printed.
-fn tell(rt: &HostRuntime, fault: &LineFault) -> io::Result<ExitCode> {
+/// Prints what there is in place of a job: the help on standard output, a refusal on standard error. Returns the status.
+fn tell(rt: &HostRuntime, fault: &LineFault) -> u8 {
     if fault.status == 0 {
-        rt.print(&fault.text)?;
+        if rt.print(&fault.text).is_err() {
+            let _ = eprintln!(rt; "flac: command: 39 Write");
+            return 1;
+        }
     } else {
         let _ = rt.eprint(&fault.text);
     }
-    Ok(ExitCode::from(fault.status))
+    fault.status
 }
 
 /// A file that takes the lowest number that is free. If a standard file was closed when the program began, this is its
@@ -59,34 +58,41 @@ fn perform(rt: &HostRuntime, job: &Job<'_>) -> u8 {
     let Ok(input) = File::open(rt, job.input()) else {
         return refuse(rt, job.input(), "opened");
     };
-    let output = match job.output() {
-        None => Output::None,
-        Some(path) => match create(rt, path, &input, job.input()) {
-            Ok(file) => Output::File(file),
-            Err(_) => return refuse(rt, path, "created"),
-        },
+    let Some(path) = job.output() else {
+        return do_over(rt, job, input, Output::None).0;
     };
-    do_over(rt, job, input, output)
+    let Ok((output, replacement)) = create(rt, path, &input, job.input()) else {
+        return refuse(rt, path, "created");
+    };
+    let (status, output) = do_over(rt, job, input, output);
+    let Some(replacement) = replacement else {
+        return status;
+    };
+    match replacement.end(rt, output, status) {
+        Err(_) if status == 0 => refuse(rt, path, "replaced"),
+        _ => status,
+    }
 }
 
-/// Says on standard error that a file cannot be opened or created, and returns the status.
+/// Says on standard error what cannot be done with a file, and returns the status.
 fn refuse(rt: &HostRuntime, path: &str, what: &str) -> u8 {
     let _ = eprintln!(rt; "flac: {path}: cannot be {what}");
     1
 }
 
-/// Does the job over its files. Returns the status.
-fn do_over(rt: &HostRuntime, job: &Job<'_>, input: File, output: Output) -> u8 {
+/// Does the job over its files. Returns the status, and what was written to.
+fn do_over(rt: &HostRuntime, job: &Job<'_>, input: File, output: Output) -> (u8, Output) {
     let mut source = Counted::new(input);
     let mut target = Counted::new(output);
     let mut out = Counted::new(rt.stdout());
     let mut err = Counted::new(rt.stderr());
-    run(
+    let status = run(
         rt.alloc(),
         job,
         &mut source,
         &mut target,
         &mut out,
         &mut err,
-    )
+    );
+    (status, target.into_inner())
 }
