@@ -1,6 +1,6 @@
 /* Is loaded before the C library (LD_PRELOAD), counts what a program asks of it, and lets one call fail.
 
-   FAILING_CALL   memory, read, write, open, statx, realpath or ftruncate: the calls of which one fails
+   FAILING_CALL   memory, read, write, open, statx, realpath, fchmod, fsync or rename: the calls of which one fails
    FAILING_NUMBER which of them, from 1; with FAILING_ON=1 all later ones fail too
    FAILING_HOW    a number: the call fails with this errno; `short`: a read or write moves one byte; `none`: a write moves none
    FAILING_PIECE  no read or write moves more bytes than this
@@ -25,8 +25,8 @@
 void *__libc_malloc(size_t), *__libc_calloc(size_t, size_t), *__libc_realloc(void *, size_t), *__libc_memalign(size_t, size_t);
 void __libc_free(void *);
 
-enum kind { MEMORY, READ, WRITE, OPEN, STATX, REALPATH, FTRUNCATE, KINDS };
-static const char *const names[KINDS] = { "memory", "read", "write", "open", "statx", "realpath", "ftruncate" };
+enum kind { MEMORY, READ, WRITE, OPEN, STATX, REALPATH, FCHMOD, FSYNC, RENAME, KINDS };
+static const char *const names[KINDS] = { "memory", "read", "write", "open", "statx", "realpath", "fchmod", "fsync", "rename" };
 
 static long counts[KINDS], number, taken, written, live, peak, cut = -1, piece = INT64_MAX;
 static int failing = KINDS, on, cut_told, error, moved = -1, report = -1;
@@ -186,7 +186,9 @@ int statx(int folder, const char *path, int flags, unsigned mask, struct statx *
 
 char *realpath(const char *path, char *place) { return fails(REALPATH) ? NULL : next_realpath(path, place); }
 
-int ftruncate(int file, off_t length) { return fails(FTRUNCATE) ? -1 : syscall(SYS_ftruncate, file, length); }
+int fchmod(int file, mode_t mode) { return fails(FCHMOD) ? -1 : syscall(SYS_fchmod, file, mode); }
+int fsync(int file) { return fails(FSYNC) ? -1 : syscall(SYS_fsync, file); }
+int rename(const char *from, const char *to) { return fails(RENAME) ? -1 : syscall(SYS_rename, from, to); }
 
 static int (*program)(int, char **, char **);
 

@@ -54,11 +54,12 @@ class Job:
 
 
 class Ran:
-    """What comes of a run: status, standard output and error, OUT, and the lines of `failing.c` by their first word."""
+    """What comes of a run: status, standard output and error, OUT, the file beside it if there is one, and the lines of `failing.c` by their first word."""
 
     def __init__(self, result, path, source, out):
         self.status, self.printed, self.error = result.returncode, result.stdout, result.stderr
         self.source, self.out, self.file, self.input = source, out, read(out), read(source)
+        self.part = read(out + ".part") if os.path.exists(out + ".part") else None
         self.at = {}
         for line in read(path).decode().splitlines():
             when, *counts = line.split()
@@ -90,8 +91,8 @@ class Runner:
             raise Wrong(f"status {result.returncode}: {result.stderr[-200:]!r}")
         ran = Ran(result, report, source, out)
         expect(ran.input, job.source)
-        os.remove(source)
-        os.remove(out)
+        for path in (source, out, *([out + ".part"] if ran.part is not None else [])):
+            os.remove(path)
         return ran
 
 
@@ -115,10 +116,14 @@ def opened_line(job, call, at):
     if at["open"] == 0:
         return "flac: command: 2 Memory"
     if call == "open":
-        return "flac: OUT: cannot be created" if at["open"] == 2 else "flac: IN: cannot be opened"
-    if call == "realpath" or call == "memory" and job.writes and at["open"] < 2:
+        return "flac: OUT: cannot be created" if at["open"] > 1 else "flac: IN: cannot be opened"
+    # the paths are compared before OUT is opened; the file beside it gets its permissions if there are any
+    if call == "fchmod" or at["open"] < 2 and (call == "realpath" or call == "memory" and job.writes):
         return ""
-    return "flac: OUT: cannot be created" if call in ("statx", "ftruncate") else None
+    if call in ("fsync", "rename"):
+        return "flac: OUT: cannot be replaced"
+    is_begun = at["open"] > 2 or not job.writes
+    return "flac: OUT: cannot be created" if call in ("statx", "realpath") or call == "memory" and not is_begun else None
 
 
 def line_of(job, call, at):
@@ -148,15 +153,11 @@ def place_of(job, call, taken):
 
 
 def files_are_right(job, ran, due, line):
-    """What was written begins what is due. OUT keeps its bytes if the job does not begin."""
+    """OUT keeps its bytes, and what was written is beside it, and begins what is due."""
     written = ran.at["exit"]["written"]
-    early = line.endswith(("be opened", "be created", "command: 2 Memory"))
-    if job.writes:
-        expect(ran.file, BEFORE if early else due.file[:written])
-        expect(ran.printed, b"")
-    else:
-        expect(ran.printed, due.printed[:written])
-        expect(ran.file, BEFORE)
+    expect(ran.file, BEFORE)
+    expect(ran.part, due.file[:written] if job.writes and written else None)
+    expect(ran.printed, b"" if job.writes else due.printed[:written])
     if job.kind in ("encode", "retag") and line.endswith(("Memory", "created")) and written:
         raise Wrong(f"{written} bytes are written before memory runs out")
 
@@ -167,7 +168,7 @@ def names_of(line, ran):
 
 def same_as(due, ran):
     expect((ran.status, ran.error), (due.status, due.error))
-    expect((ran.printed, ran.file), (due.printed, due.file))
+    expect((ran.printed, ran.file, ran.part), (due.printed, due.file, None))
 
 
 def failure_case(job, due, runner, call, number, how, **more):
@@ -178,7 +179,7 @@ def failure_case(job, due, runner, call, number, how, **more):
     if how == "short" or (job.name.startswith("help") and call == "write" and how == "EINTR"):
         return same_as(due, ran)
     if job.name.startswith("help") and call == "write":
-        expect(ran.status, 1)
+        expect((ran.status, ran.error), (1, b"" if "on" in more else b"flac: command: 39 Write\n"))
         return expect(ran.printed, due.printed[:ran.at["exit"]["written"]])
     line = line_of(job, call, ran.at["fails"])
     if not line and call == "memory" and "on" in more:
@@ -194,6 +195,8 @@ def failure_case(job, due, runner, call, number, how, **more):
 def later_line(ran):
     """The line of a job in which the first request to fail did no harm, and a later one did: its place is not judged."""
     found = ran.error.decode().strip()
+    if found == f"flac: {ran.out}: cannot be created":
+        return found
     if not found.startswith(f"flac: {ran.source}: ") or not found.endswith("2 Memory"):
         raise Wrong(f"answers {found}")
     return found
@@ -256,13 +259,13 @@ def failures_of(job, due, counts, runner):
     for number in range(1, counts["write"] + 1):
         yield f"write {number}, no byte", lambda n=number: failure_case(job, due, runner, "write", n, "none")
         yield f"write from {number} on", lambda n=number: failure_case(job, due, runner, "write", n, "EIO", on=1)
-    for call in ("open", "statx", "realpath", "ftruncate"):
+    for call in ("open", "statx", "realpath", "fchmod", "fsync", "rename"):
         for number in range(1, counts[call] + 1):
             yield f"{call} {number}", lambda c=call, n=number: failure_case(job, due, runner, c, n, "EIO")
 
 
 def linked_of(job, counts, runner):
-    for call in ("memory", "open", "statx", "realpath", "ftruncate", "read", "write"):
+    for call in ("memory", "open", "statx", "realpath", "read", "write"):
         for number in range(1, counts[call] + 1):
             yield f"{call} {number}, OUT is IN", lambda c=call, n=number: linked_case(job, runner, c, n)
 

@@ -122,7 +122,8 @@ fn create_beside(
         let part = part_name(rt, path.as_str(), n)?;
         match File::create_new(rt, part.as_str()) {
             Ok(file) => {
-                file.set_permissions(found.permissions())?;
+                // not every file system has them
+                let _ = file.set_permissions(found.permissions());
                 return Ok((file, Replacement { part, path }));
             }
             Err(error) if error.kind() == ErrorKind::AlreadyExists => {}
