@@ -1,6 +1,6 @@
 use crate::rows::bytes_of;
 use flac_bits::{
-    BitReader, Counted, Memory, Pieces, Source, Why, crc8, crc16, page_sum, read_bytes,
+    BitReader, Counted, FailAt, Memory, Pieces, Source, Why, crc8, crc16, page_sum, read_bytes,
     read_little_32, read_little_64, read_number, read_unchecked,
 };
 use std::alloc::Global;
@@ -252,5 +252,36 @@ fn sources_are_given_back(rt: HostRuntime) -> Result<(), Fail> {
     assert!(rt; room == [b'b', b'c', 0]);
     let counted = Counted::new(b"xyz".as_slice());
     assert!(rt; counted.into_inner() == b"xyz".as_slice());
+    Ok(())
+}
+
+/// The error of a reader is kept, also where another is given behind it.
+#[test]
+fn the_last_error_of_a_reader(rt: HostRuntime) -> Result<(), Fail> {
+    let mut source = Counted::new(Once { given: false });
+    let mut place = [0];
+    assert!(rt; source.pull(&mut place)? == 1);
+    assert!(rt; source.last_error().is_none());
+    assert!(rt; source.pull(&mut place).is_err());
+    let error = source.last_error().ok_or(Why::Read)?;
+    assert!(rt; error.kind() == ErrorKind::Other);
+    assert!(rt; error.raw_os_error().is_none());
+    Ok(())
+}
+
+/// The second call fails, and the byte that it was asked for comes in the third.
+#[test]
+fn a_source_that_fails_once(rt: HostRuntime) -> Result<(), Fail> {
+    let mut source = FailAt::new(Memory::new(b"abc"), 1);
+    let mut place = [0];
+    assert!(rt; source.pull(&mut place)? == 1);
+    assert!(rt; source.pull(&mut place).is_err());
+    assert!(rt; place == [b'a']);
+    assert!(rt; source.pull(&mut place)? == 1);
+    assert!(rt; place == [b'b']);
+    assert!(rt; source.calls() == 3);
+    let mut below = source.into_inner();
+    assert!(rt; below.pull(&mut place)? == 1);
+    assert!(rt; place == [b'c']);
     Ok(())
 }

@@ -1,5 +1,5 @@
 use crate::rows::bytes_of;
-use flac_bits::{BitWriter, Collected, Counted, Target, Why, put_little_32, write_number};
+use flac_bits::{BitWriter, Collected, Counted, FailAt, Target, Why, put_little_32, write_number};
 use std::alloc::Global;
 use std::io;
 use std::io::{ErrorKind, Write};
@@ -172,4 +172,51 @@ fn a_full_device(rt: HostRuntime) {
     let mut writer = BitWriter::new(Counted::new(Full));
     assert!(rt; writer.put(8, 1).is_ok());
     assert!(rt; writer.finish() == Err(Why::Write));
+}
+
+/// A writer on a device without room. 28 is the number that Linux gives this.
+#[derive(Drop)]
+struct NoRoom;
+
+impl Write for NoRoom {
+    fn write(&mut self, _buf: &[u8]) -> io::Result<usize> {
+        Err(io::Error::from_raw_os_error(28))
+    }
+
+    fn flush(&mut self) -> io::Result<()> {
+        Ok(())
+    }
+}
+
+/// The text of the error that a writer's target kept.
+fn last_text<T>(alloc: Global, target: &Counted<T>) -> Result<String, Fail> {
+    let error = target.last_error().ok_or(Why::Write)?;
+    Ok(format!(in alloc; "{error}")?)
+}
+
+#[test]
+fn the_last_error_of_a_writer(rt: HostRuntime) -> Result<(), Fail> {
+    let mut writer = BitWriter::new(Counted::new(NoRoom));
+    assert!(rt; writer.put(8, 1).is_ok());
+    assert!(rt; writer.finish() == Err(Why::Write));
+    let text = last_text(rt.alloc(), &writer.into_target())?;
+    assert!(rt; text.as_str() == "No space left on device (os error 28)");
+    let mut full = Counted::new(Full);
+    assert!(rt; full.last_error().is_none());
+    assert!(rt; full.send(&[1]).is_err());
+    let text = last_text(rt.alloc(), &full)?;
+    assert!(rt; text.as_str() == "write zero");
+    Ok(())
+}
+
+/// The second call fails, and sends nothing.
+#[test]
+fn a_target_that_fails_once(rt: HostRuntime) -> Result<(), Fail> {
+    let mut target = FailAt::new(Collected::new(rt.alloc()), 1);
+    assert!(rt; target.send(b"ab")? == 2);
+    assert!(rt; target.send(b"cd").is_err());
+    assert!(rt; target.send(b"ef")? == 2);
+    assert!(rt; target.calls() == 3);
+    assert!(rt; target.into_inner().bytes() == b"abef".as_slice());
+    Ok(())
 }
