@@ -333,7 +333,7 @@ def all_vectors():
 
 
 SWEPT = ("row-1", "row-2", "empty-audio", "ramp", "zeros", "alternating", "left-side", "row-1-retagged", "every-block")
-SWEPT_OGG = ("ogg", "ogg-one-page")
+SWEPT_OGG = ("ogg-encoded", "ogg-one-page")
 """The streams that `sweep` changes."""
 
 

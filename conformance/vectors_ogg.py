@@ -1,4 +1,6 @@
 """Small Ogg streams built by hand, each with the answer that the format and the profile give it."""
+import hashlib
+
 import model
 import vectors
 from vectors import block, hexed, stream_info
@@ -42,6 +44,8 @@ SILENT = [vectors.frame(vectors.SILENCE * 2, 16, number, channel_code=1) for num
 def good_vectors():
     head, comment = mapping(INFO), EMPTY_COMMENT
     yield "ogg", b"".join(paged(head, comment, FRAME)), "frames 1 samples 1"
+    known = stream_info(channels=2, total=1, digest=hashlib.md5(hexed("F463B028")).digest(), frames=(15, 15))
+    yield "ogg-encoded", page(0, mapping(known), flags=2) + page(1, comment) + page(2, FRAME, flags=4, granule=1), "frames 1 samples 1"
     yield "ogg-no-frame", b"".join(paged(head, comment)), "frames 0 samples 0"
     yield "ogg-info-alone", page(0, mapping(INFO, 0, True), flags=6), "frames 0 samples 0"
     yield "ogg-from-the-greatest-number", b"".join(paged(head, comment, FRAME, first=2**32 - 1)), "frames 1 samples 1"

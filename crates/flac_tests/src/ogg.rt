@@ -27,12 +27,12 @@ pub(crate) const NO_FRAME: &str =
     1d8cd98f00b204e9800998ecf8427e4f67675300040000000000000000010000000100000099fee768010c840000080000000000000000";
 
 /// One sample of two channels.
-fn sample(alloc: Global) -> Result<Audio, Fail> {
+pub(crate) fn sample(alloc: Global) -> Result<Audio, Fail> {
     Ok(Audio::new(44100, 16, channels_of(alloc, ";25588;10416")?)?)
 }
 
 /// A block of no vendor and no comments, behind this many paddings.
-fn comments(alloc: Global, paddings: usize) -> Result<BlockList, Fail> {
+pub(crate) fn comments(alloc: Global, paddings: usize) -> Result<BlockList, Fail> {
     let mut blocks = Vec::new(alloc);
     for _ in 0..paddings {
         blocks.push(Block::Padding(0))?;

@@ -33,7 +33,7 @@ const NOTHING: Tally = Tally {
 };
 
 /// A sum with the samples of one channel.
-fn sum_of(before: u32, samples: &[i32]) -> u32 {
+pub(crate) fn sum_of(before: u32, samples: &[i32]) -> u32 {
     let mut sum = before;
     for sample in samples {
         sum = sum

@@ -35,7 +35,7 @@ pub(crate) const CUT: &str =
     "664c6143000000221000100000000f00000f0ac442f00000000100000000000000000000000000000000840000210e000000666c61632070726f66696c65203101000000070000005449544c453d";
 
 /// Comments of one text.
-fn comments(alloc: Global, text: &[u8]) -> Result<Comments, Why> {
+pub(crate) fn comments(alloc: Global, text: &[u8]) -> Result<Comments, Why> {
     let mut list = Vec::new(alloc);
     list.push(Bytes::from_vec(Vec::from_slice(alloc, text)?))?;
     Ok(Comments {
