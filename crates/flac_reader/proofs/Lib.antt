@@ -3,3 +3,7 @@ pub mod Heads
 pub mod Firsts
 pub mod Gives
 pub mod Openings
+pub mod Places
+pub mod Sampling
+pub mod Refusals
+pub mod Searches

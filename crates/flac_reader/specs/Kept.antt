@@ -4,6 +4,7 @@ use Rattle.flac_meta.specs.Info.{Info}
 use Rattle.flac_meta.specs.declared.block.Block.{Block}
 use Rattle.flac_meta.specs.declared.block.Block.TheVariants as blocks
 use Rattle.flac_meta.specs.declared.comments.Comments.{Comments}
+use Rattle.flac_meta.specs.declared.seek_table.SeekPoint.{SeekPoint}
 use Rattle.flac_reader.specs.declared.keep.Keep.{Keep}
 use Rattle.flac_reader.specs.declared.keep.Keep.TheVariants.{All, Tags}
 
@@ -17,7 +18,7 @@ abbrev pub keeps : Keep → Block → Bool
 keeps All b = true
 keeps Tags b = is_tag b
 
--- the first STREAMINFO and the first comments among some blocks
+-- the first STREAMINFO, the first comments and the first seek table among some blocks
 abbrev pub or_info : Block → Option Info → Option Info
 or_info (blocks.StreamInfo info) later = Some info
 or_info other later = later
@@ -33,3 +34,12 @@ or_comments other later = later
 unfoldable pub first_comments : List Block → Option Comments
 first_comments [] = None
 first_comments (b ∷ bs) = or_comments b (first_comments bs)
+
+-- the points of the first seek table, none where there is no table
+abbrev pub or_points : Block → List SeekPoint → List SeekPoint
+or_points (blocks.SeekTable points) later = points
+or_points other later = later
+
+unfoldable pub first_points : List Block → List SeekPoint
+first_points [] = []
+first_points (b ∷ bs) = or_points b (first_points bs)

@@ -4,3 +4,8 @@ pub mod Taking
 pub mod Giving
 pub mod Opening
 pub mod Either
+pub mod Places
+pub mod Sampling
+pub mod Stepping
+pub mod Refusing
+pub mod Seeking

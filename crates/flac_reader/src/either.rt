@@ -1,12 +1,13 @@
 //! A reader of a stream in either container.
 
-ghost use Rattle.std.specs.Prelude.{◌≡◌, ◌<◌, ◌++◌, true, [], OnOk, IfOk, IfErr, None, Ok};
+ghost use Rattle.std.specs.Prelude.{◌≡◌, ◌≢◌, ◌<◌, ◌≤◌, ◌++◌, true, false, [], OnOk, OnErr, IfOk, IfErr, None, Ok};
 ghost use Rattle.flac_bits.specs.Bits.{bits_of};
 ghost use Rattle.flac_bits.specs.State.{Rises, short_of};
 ghost use Rattle.flac_native.specs.Decoding.{beginning};
 ghost use Rattle.flac_ogg.specs.Fronts.{front_bytes};
 ghost use Rattle.flac_ogg.specs.Either.{begins_page, read_either};
 ghost use Rattle.flac_reader.specs.Either.{OpensEither};
+ghost use Rattle.flac_reader.specs.Refusing.{RefusesInput};
 
 use crate::fronted::Fronted;
 use crate::keep::Keep;
@@ -45,6 +46,8 @@ fn pull_front<R: Source>(source: &mut R) -> Result<Option<u8>, Fault>
     ensures behind { R.known source.old ≡ true → R.errors source.new ≡ R.errors source.old → R.behind source.new ≡ R.behind source.old }
     ensures why { IfErr result (λ f. f.why ≡ Why.Read) }
     ensures risen { IfErr result (λ f. Rises (R.raised source.old) (R.raised source.new)) }
+    ensures kept { R.errors source.old ≤ R.errors source.new }
+    ensures rises { OnErr result (R.known source.old ≡ true → R.raised source.old < R.raised source.new) }
 {
     let mut first = [0];
     match source.pull(&mut first) {
@@ -66,6 +69,7 @@ fn open_as<R: Source + Drop>(
     keep: Keep,
 ) -> Result<Opened<Reader<BitReader<Fronted<R>>>, Reader<OggPackets<Fronted<R>>>>, Fault>
     ensures opens { IfOk result (λ o. R.known source.source ≡ true → OpensEither (read_either is_ogg (beginning (short_of ((R.behind source.source).fails))) (bits_of (front_bytes source.front ++ R.coming source.source))) keep o) }
+    ensures refused { is_ogg ≡ false → IfErr result (λ f. f.why ≢ Why.Memory → (left : R) × RefusesInput (read_either false (beginning (short_of ((R.behind source.source).fails))) (bits_of (front_bytes source.front ++ R.coming source.source))) (R.known source.source) (R.errors source.source) (R.raised source.source) (R.errors left) (R.raised left) f) }
 {
     if is_ogg {
         match open_ogg(alloc, source, profile, keep) {
@@ -101,6 +105,9 @@ pub fn open<R: Source + Drop>(
 ) -> Result<Opened<Reader<BitReader<Fronted<R>>>, Reader<OggPackets<Fronted<R>>>>, Fault>
     // The blocks that are kept, and the frames to come, are those of the stream that the bytes are in the container that the first of them tells.
     ensures opens { IfOk result (λ o. R.known source ≡ true → OpensEither (read_either (begins_page (R.coming source)) (beginning (short_of ((R.behind source).fails))) (bits_of (R.coming source))) keep o) }
+    // A native stream is refused only as the input is, before its first frame, for want of memory, or for an error of the source, which was left with its counts
+    // raised.
+    ensures refused { R.known source ≡ true → begins_page (R.coming source) ≡ false → IfErr result (λ f. f.why ≢ Why.Memory → (left : R) × RefusesInput (read_either false (beginning (short_of ((R.behind source).fails))) (bits_of (R.coming source))) (R.known source) (R.errors source) (R.raised source) (R.errors left) (R.raised left) f) }
 {
     let mut source = source;
     match pull_front(&mut source) {

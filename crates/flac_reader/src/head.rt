@@ -1,11 +1,12 @@
 //! The metadata of a stream.
 
-ghost use Rattle.std.specs.Prelude.{◌≡◌, ◌++◌, [], ◌∷◌, List, Option, Some, true, false, IfOk};
+ghost use Rattle.std.specs.Prelude.{◌≡◌, ◌++◌, [], ◌∷◌, List, Option, Some, true, false, IfOk, IfErr};
 ghost use Rattle.flac_meta.specs.declared.block.Block.{Block as ABlock};
 ghost use Rattle.flac_frame.specs.Frame.{Frame};
 ghost use Rattle.flac_native.specs.Giving.{stage_of, held};
 ghost use Rattle.flac_reader.specs.Kept.{first_info};
 ghost use Rattle.flac_reader.specs.Coming.{Comes, IsCalm, HadRoom, Counted, HeadIs, HeadOf, GivesFrame, stream_items};
+ghost use Rattle.flac_reader.specs.Refusing.{RefusedHead};
 ghost use Rattle.flac_reader.specs.Taking.{Took};
 
 use crate::keep::{Keep, keep_block};
@@ -93,6 +94,7 @@ pub(crate) fn read_head<C: Container>(
     requires { kept.old.items ≡ [] }
     ensures info { IfOk result (λ i. first_info kept.new.items ≡ Some i) }
     ensures head { IfOk result (λ _. HeadOf C.Container (stage_of decoder.old) (stage_of decoder.new) keep kept.new.items true) }
+    ensures refused { IfErr result (λ f. RefusedHead C.Container (stage_of decoder.old) (stage_of decoder.new) f) }
 {
     match read_blocks(decoder, keep, kept) {
         Ok(()) => {}

@@ -7,6 +7,11 @@ mod head;
 mod keep;
 mod opening;
 mod reader;
+mod samples;
+mod seeking;
+mod spot;
+mod stereo;
+mod time;
 
 pub use either::{Opened, open};
 pub use flac_native::{
@@ -18,3 +23,5 @@ pub use head::read_blocks;
 pub use keep::Keep;
 pub use opening::{open_native, open_ogg};
 pub use reader::Reader;
+pub use samples::Samples;
+pub use stereo::{StereoSamples, stereo_samples};

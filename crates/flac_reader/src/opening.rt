@@ -1,6 +1,6 @@
 //! Readers of native and of Ogg streams.
 
-ghost use Rattle.std.specs.Prelude.{◌≡◌, IfOk, true};
+ghost use Rattle.std.specs.Prelude.{◌≡◌, ◌≢◌, IfOk, IfErr, true};
 ghost use Rattle.flac_bits.specs.Bits.{bits_of};
 ghost use Rattle.flac_bits.specs.State.{short_of};
 ghost use Rattle.flac_bits.specs.Handing.{by_grammar};
@@ -8,11 +8,12 @@ ghost use Rattle.flac_native.specs.Stream.{grammar, opening};
 ghost use Rattle.flac_native.specs.Decoding.{beginning};
 ghost use Rattle.flac_ogg.specs.Decoding.{ogg_reading};
 ghost use Rattle.flac_reader.specs.Opening.{Opens};
+ghost use Rattle.flac_reader.specs.Refusing.{RefusesInput};
 
 use crate::keep::Keep;
 use crate::reader::Reader;
 use flac_bits::BitReader;
-use flac_native::{Decoder, Fault, Profile, Source};
+use flac_native::{Decoder, Fault, Profile, Source, Why};
 use flac_ogg::{OggPackets, ogg_decoder};
 use std::alloc::Global;
 
@@ -33,8 +34,17 @@ pub fn open_native<R: Source + Drop>(
 ) -> Result<Reader<BitReader<R>>, Fault>
     // The blocks that are kept, and the frames to come, are those of the stream that the bytes are.
     ensures opens { IfOk result (λ r. R.known source ≡ true → Opens (by_grammar grammar opening (beginning (short_of ((R.behind source).fails))) (bits_of (R.coming source))) keep r) }
+    // Refused only as the input is, before its first frame, for want of memory, or for an error of the source, which was left with its counts raised.
+    ensures refused { IfErr result (λ f. f.why ≢ Why.Memory → (left : R) × RefusesInput (by_grammar grammar opening (beginning (short_of ((R.behind source).fails))) (bits_of (R.coming source))) (R.known source) (R.errors source) (R.raised source) (R.errors left) (R.raised left) f) }
 {
-    Reader::over(alloc, Decoder::new(alloc, source, profile), keep)
+    match Reader::begin(alloc, Decoder::new(alloc, source, profile), keep) {
+        Ok(reader) => Ok(reader),
+        Err(refused) => {
+            let fault = refused.fault;
+            let _source = refused.into_decoder().into_source();
+            Err(fault)
+        }
+    }
 }
 
 /// Opens an Ogg stream (RFC 9639, section 10.1): reads its metadata, and the first frame, which [`Reader::next`] lends then.

@@ -1,16 +1,36 @@
 //! A reader.
 
-ghost use Rattle.std.specs.Prelude.{◌≡◌, ⊤, IfOk, MatchOption, None, Some};
+ghost use Rattle.std.specs.Prelude.{◌≡◌, ◌≢◌, ◌*◌, ◌/◌, ⊤, IfOk, IfErr, List, MatchOption, None, Option, Some, drop, true};
+ghost use Rattle.std.specs.Duration.{as_nanos};
+ghost use Rattle.flac_bits.specs.Bits.{bits_of};
+ghost use Rattle.flac_bits.specs.Handing.{by_grammar};
+ghost use Rattle.flac_bits.specs.declared.why.Why.{Why};
+ghost use Rattle.flac_bits.specs.declared.why.Why.TheVariants.{Truncated};
+ghost use Rattle.flac_frame.specs.Frame.{Frame};
+ghost use Rattle.flac_native.specs.declared.fault.Place.{Place};
 ghost use Rattle.std.specs.Borrow.{sem, follows_so};
 ghost use mathlib.Core.Option.{none};
+ghost use Rattle.flac_native.specs.Stream.{grammar};
+ghost use Rattle.flac_native.specs.Decoding.{beginning};
+ghost use Rattle.flac_native.specs.Resuming.{resumed};
 ghost use Rattle.flac_native.specs.Giving.{stage_of, held};
-ghost use Rattle.flac_reader.specs.Kept.{first_info, first_comments};
-ghost use Rattle.flac_reader.specs.Coming.{lent, only_frame, size_of, HeadOf};
+ghost use Rattle.flac_reader.specs.Kept.{first_info, first_comments, first_points};
+ghost use Rattle.flac_reader.specs.Seeking.{offset_before, number_of, SeeksTo};
+ghost use Rattle.flac_reader.specs.Refusing.{RefusedHead, IsRefusedHead};
+ghost use Rattle.flac_reader.specs.Coming.{lent, only_frame, size_of, FramesCome, HeadOf};
 
 use crate::head::{forward, read_head};
 use crate::keep::Keep;
-use flac_native::{Block, Comments, Container, Decoder, Fault, FrameView, Item, StreamInfo};
+use crate::samples::Samples;
+use crate::seeking::{bytes_from, find_frame, offset_before};
+use crate::time::time_of;
+use flac_bits::BitReader;
+use flac_native::{
+    Block, Comments, Container, Decoder, Fault, FrameView, Item, Memory, Profile, SeekPoint,
+    StreamInfo,
+};
 use std::alloc::Global;
+use std::time::Duration;
 
 /// A reader of a stream: its metadata was read, and its frames come one after another.
 #[derive(Drop)]
@@ -23,7 +43,43 @@ pub struct Reader<C: Container> {
     behind: u64,
 }
 
+/// A decoder whose metadata was refused, and the fault.
+#[derive(Drop)]
+pub(crate) struct Refused<C: Container> {
+    pub(crate) fault: Fault,
+    pub(crate) decoder: Decoder<C>,
+}
+
+impl<C: Container> Refused<C> {
+    /// The decoder.
+    pub(crate) fn into_decoder(self) -> Decoder<C>
+        ensures { result ≡ self.decoder }
+    {
+        let Refused { fault: _, decoder } = self;
+        decoder
+    }
+}
+
 impl<C: Container + Drop> Reader<C> {
+    /// Reads the metadata and the first frame, as [`Reader::over`] does, and gives the decoder back where it is refused.
+    pub(crate) fn begin(
+        alloc: Global,
+        decoder: Decoder<C>,
+        keep: Keep,
+    ) -> Result<Reader<C>, Refused<C>>
+        ensures info { IfOk result (λ r. first_info r.blocks.items ≡ Some r.info) }
+        ensures start { IfOk result (λ r. (r.first ≡ 0) × (r.behind ≡ 0)) }
+        ensures head { IfOk result (λ r. HeadOf C.Container (stage_of decoder) (stage_of r.decoder) keep r.blocks.items r.ahead) }
+        ensures refused { IfErr result (λ x. RefusedHead C.Container (stage_of decoder) (stage_of x.decoder) x.fault) }
+    {
+        let mut decoder = decoder;
+        let mut blocks = Vec::new(alloc);
+        match read_head(&mut decoder, keep, &mut blocks) {
+            Ok(info) => Ok(Reader::before_frame(decoder, info, blocks, 0)),
+            Err(fault) => Err(Refused { fault, decoder }),
+        }
+    }
+
     /// Reads the metadata of a stream, which a decoder is to begin, and keeps the wanted blocks. It reads the first frame too, which [`Reader::next`] lends then.
     ///
     /// # Errors
@@ -34,19 +90,59 @@ impl<C: Container + Drop> Reader<C> {
         ensures start { IfOk result (λ r. (r.first ≡ 0) × (r.behind ≡ 0)) }
         // All wanted blocks are kept, and the frames come next: those of the stream that the decoder was to give.
         ensures head { IfOk result (λ r. HeadOf C.Container (stage_of decoder) (stage_of r.decoder) keep r.blocks.items r.ahead) }
+        // Refused only as the stream is that the decoder was to give, before its first frame, or for want of memory.
+        ensures refused { IfErr result (λ f. IsRefusedHead C.Container (stage_of decoder) f) }
     {
-        let mut decoder = decoder;
-        let mut blocks = Vec::new(alloc);
-        match read_head(&mut decoder, keep, &mut blocks) {
-            Ok(info) => Ok(Reader {
-                decoder,
-                info,
-                blocks,
-                ahead: true,
-                first: 0,
-                behind: 0,
-            }),
-            Err(fault) => Err(fault),
+        match Reader::begin(alloc, decoder, keep) {
+            Ok(reader) => Ok(reader),
+            Err(refused) => Err(refused.fault),
+        }
+    }
+
+    /// A reader of the same stream, of which these are the bytes from the first frame on, that lends next the frame that holds a sample: the first such frame from
+    /// the last point on of the seek table at or before that sample, or from the first frame on if there is no such point (RFC 9639, section 8.5). A frame holds
+    /// the samples from the number in its header on; if the header has the number of the frame, each frame before it has as many samples as the greatest block.
+    /// If no frame holds the sample, the reader is at the end.
+    ///
+    /// # Errors
+    ///
+    /// Those of [`Decoder::resume`] and [`Decoder::next`], with frames counted from the point on.
+    ///
+    /// ```
+    /// let mut reader = reader.seek(rt.alloc(), &stream[first_frame..], Profile::Subset, 44100)?;
+    /// ```
+    pub fn seek<'a>(
+        self,
+        alloc: Global,
+        frames: &'a [u8],
+        profile: Profile,
+        sample: u64,
+    ) -> Result<Reader<BitReader<Memory<'a>>>, Fault>
+        ensures blocks { IfOk result (λ r. (r.blocks ≡ self.blocks) × (r.info ≡ self.info)) }
+        ensures first { IfOk result (λ r. r.behind ≡ number_of self.info (held (stage_of r.decoder).course (stage_of r.decoder).track)) }
+        // Of the frames from that point on, the first that holds the sample comes next, and then all others; refused only as the bytes are, with no such frame before.
+        ensures found { SeeksTo self.info sample (by_grammar grammar (resumed self.info) (beginning Truncated) (bits_of (drop (offset_before sample (first_points self.blocks.items)) frames.now))) result }
+    {
+        let offset = offset_before(self.seek_points(), sample);
+        let Reader {
+            decoder: _,
+            info,
+            blocks,
+            ahead: _,
+            first: _,
+            behind: _,
+        } = self;
+        let source = Memory::new(bytes_from(frames, offset));
+        let mut decoder = match Decoder::resume(alloc, source, &info, profile) {
+            Ok(decoder) => decoder,
+            Err(fault) => return Err(fault),
+        };
+        match find_frame(&mut decoder, &info, sample) {
+            Ok(first) => Ok(Reader::before_frame(decoder, info, blocks, first)),
+            Err(fault) => {
+                let _source = decoder.into_source();
+                Err(fault)
+            }
         }
     }
 }
@@ -54,6 +150,31 @@ impl<C: Container + Drop> Reader<C> {
 impl<C: Container> Reader<C> {
     ghost use Rattle.flac_reader.specs.contracts.reader.Reader.{the_row};
     ghost use Rattle.flac_reader.specs.Giving.{Gives};
+    ghost use Rattle.flac_reader.specs.Places.{all_samples};
+    ghost use Rattle.flac_reader.specs.Sampling.{SamplesCome};
+
+    /// A reader whose next frame, or the end, was read ahead; that frame's first sample has this number.
+    fn before_frame(
+        decoder: Decoder<C>,
+        info: StreamInfo,
+        blocks: Vec<Block>,
+        first: u64,
+    ) -> Reader<C>
+        ensures decoder { result.decoder ≡ decoder }
+        ensures info { result.info ≡ info }
+        ensures blocks { result.blocks ≡ blocks }
+        ensures ahead { result.ahead ≡ true }
+        ensures first { (result.first ≡ first) × (result.behind ≡ first) }
+    {
+        Reader {
+            decoder,
+            info,
+            blocks,
+            ahead: true,
+            first,
+            behind: first,
+        }
+    }
 
     /// What the stream says of itself: its rate, channels, bits per sample and length (RFC 9639, section 8.2).
     pub fn info(&self) -> &StreamInfo
@@ -83,12 +204,64 @@ impl<C: Container> Reader<C> {
         None
     }
 
+    /// The points of the seek table, if there is one among the blocks that are kept (RFC 9639, section 8.5).
+    #[tactic(auto, unfolding(crate::specs::Kept::first_points), using(crate::proofs::Firsts::points_more))]
+    fn seek_points(&self) -> &[SeekPoint]
+        ensures { result.now ≡ first_points self.now.blocks.items }
+    {
+        for block in self.blocks.iter() {
+            match block {
+                Block::SeekTable(table) => return table.points(),
+                _ => {}
+            }
+        }
+        &[]
+    }
+
     /// The number of the first sample of the frame that was lent last, counted from 0 in each channel. At the end of the stream it is how many samples each channel
     /// has. It stops at 2^64 - 1.
     pub fn first_sample(&self) -> u64
         ensures { result ≡ self.now.first }
     {
         self.first
+    }
+
+    /// The time at which the frame begins that was lent last: that of its first sample, from the start of the stream, rounded down to a nanosecond. At the end of
+    /// the stream it is the time that all samples take.
+    ///
+    /// ```
+    /// let at = reader.time().as_secs();
+    /// ```
+    pub fn time(&self) -> Duration
+        ensures { as_nanos result ≡ self.now.first * 1000000000 / self.now.info.rate }
+    {
+        time_of(self.first, &self.info)
+    }
+
+    /// The time that all samples take, as STREAMINFO states it (RFC 9639, section 8.2), rounded down to a nanosecond; `None` if it does not state their number.
+    pub fn duration(&self) -> Option<Duration>
+        ensures { MatchOption result (self.now.info.total ≡ 0) (λ d. (self.now.info.total ≢ 0) × (as_nanos d ≡ self.now.info.total * 1000000000 / self.now.info.rate)) }
+    {
+        match self.info.total() {
+            0 => None,
+            total => Some(time_of(total, &self.info)),
+        }
+    }
+
+    /// All samples of the frames that [`Reader::next`] has not lent yet, one by one, interleaved.
+    ///
+    /// ```
+    /// let mut peak = 0;
+    /// for sample in reader.into_samples() {
+    ///     peak = sample?.unsigned_abs().max(peak);
+    /// }
+    /// ```
+    pub fn into_samples(self) -> Samples<C>
+        ensures reader { result.reader ≡ self }
+        // Of the frames that are to come all samples come, and then the same end.
+        ensures come { (frames : List Frame) (end : Option (Place × Why)) → FramesCome C.Container self.ahead (stage_of self.decoder) frames end → SamplesCome result (all_samples frames) end }
+    {
+        Samples::over(self)
     }
 
     /// The frame that was read last.

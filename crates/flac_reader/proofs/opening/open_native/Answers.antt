@@ -1,5 +1,4 @@
 use Rattle.std.proofs.Common.{sym, subst, ◌∙◌}
-use Rattle.std.proofs.lemmas.Result.{IfOk-weaker}
 use Rattle.flac_bits.specs.Bits.{bits_of}
 use Rattle.flac_bits.specs.State.{short_of}
 use Rattle.flac_bits.specs.Handing.{by_grammar}
@@ -8,14 +7,25 @@ use Rattle.flac_native.specs.Coming.{PartsCome}
 use Rattle.flac_native.specs.Decoding.{beginning}
 use Rattle.flac_native.specs.Giving.{stage_of}
 use Rattle.flac_reader.proofs.Openings.{opens_over}
+use Rattle.flac_reader.proofs.Refusals.{refuses_input}
 use Rattle.flac_reader.proofs.opening.open_native.Goals as goal
 
-pub returns : goal.returns
-returns g c =
+pub returns-in-Ok-clause-opens : goal.returns-in-Ok-clause-opens
+returns-in-Ok-clause-opens g c = λ known.
     let R = g.R.Source in
     let source = c.args.source in
-    record {
-      opens = IfOk-weaker c.over.result _ _ (λ r head known.
-          opens_over (by_grammar grammar opening (beginning (short_of ((R.behind source).fails))) (bits_of (R.coming source))) c.args.keep r (stage_of c.new.result) opening c.new.ensures.course c.new.ensures.track
-          (λ parts end read. subst (λ k. PartsCome opening k parts end) (sym c.new.ensures.cursor) read) (c.new.ensures.known ∙ known) head) c.over.ensures.head;
-    }
+    opens_over (by_grammar grammar opening (beginning (short_of ((R.behind source).fails))) (bits_of (R.coming source))) c.args.keep c.in-Ok.reader (stage_of c.new.result) opening c.new.ensures.course c.new.ensures.track
+    (λ parts end read. subst (λ k. PartsCome opening k parts end) (sym c.new.ensures.cursor) read) (c.new.ensures.known ∙ known) c.in-Ok.ensures.head
+
+pub returns-in-Err-clause-refused : goal.returns-in-Err-clause-refused
+returns-in-Err-clause-refused g c = λ other.
+    let R = g.R.Source in
+    let source = c.args.source in (
+      c.into_source-source.result,
+      refuses_input (by_grammar grammar opening (beginning (short_of ((R.behind source).fails))) (bits_of (R.coming source))) (stage_of c.new.result) (stage_of c.in-Err.refused.decoder) opening c.in-Err.refused.fault (R.known source) (R.errors source) (R.raised source) (R.errors c.into_source-source.result) (R.raised c.into_source-source.result)
+          c.new.ensures.course c.new.ensures.track
+          (λ parts end read. subst (λ k. PartsCome opening k parts end) (sym c.new.ensures.cursor) read)
+          c.new.ensures.known c.new.ensures.errors.0 c.new.ensures.errors.1 c.new.ensures.errors.1
+          (rw (← c.into_decoder.ensures) (sym c.into_source-source.ensures.errors.0)) (rw (← c.into_decoder.ensures) (sym c.into_source-source.ensures.errors.1)) (rw (← c.into_decoder.ensures) (sym c.into_source-source.ensures.errors.1))
+          c.in-Err.ensures.refused other,
+    )

@@ -1,0 +1,39 @@
+-- Why a stream is not opened.
+use Rattle.std.specs.Prelude.{◌≡◌, ◌≢◌, ◌≤◌, ◌⊎◌, ℕ, Bool, true, List, [], Option, Some, None}
+use Rattle.flac_bits.specs.State.{Rises}
+use Rattle.flac_bits.specs.Handing.{Reading}
+use Rattle.flac_bits.specs.declared.why.Why.{Why}
+use Rattle.flac_bits.specs.declared.why.Why.TheVariants.{Memory, Read, NotStreamInfoFirst}
+use Rattle.flac_meta.specs.declared.block.Block.{Block}
+use Rattle.flac_frame.specs.Frame.{Frame}
+use Rattle.flac_native.specs.Stream.{Piece}
+use Rattle.flac_native.specs.Item.{told}
+use Rattle.flac_native.specs.Giving.{Stage}
+use Rattle.flac_native.specs.declared.fault.Place.{Place}
+use Rattle.flac_native.specs.declared.fault.Place.TheVariants as place
+use Rattle.flac_native.specs.declared.fault.Fault.{Fault}
+use Rattle.flac_native.specs.declared.container.Container as container
+use Rattle.flac_reader.specs.Kept.{first_info}
+use Rattle.flac_reader.specs.Coming.{Comes, IsCalm, stream_items}
+use Rattle.flac_reader.specs.Opening.{IsReadAs}
+
+-- The fault is that of the stream, which is refused there before its first frame; or the metadata is whole and has no STREAMINFO (RFC 9639, section 8.2).
+abbrev pub IsRefusal : List Block → List Frame → Option (Place × Why) → Fault → Type 0
+IsRefusal blocks frames end f = ((frames ≡ []) × (end ≡ Some (told f))) ⊎ ((f ≡ record { at = place.Block 0; why = NotStreamInfoFirst }) × (first_info blocks ≡ None))
+
+-- The metadata was refused from old on, and the decoder stands at last: an error of the device raised the count, and without one, and with memory, what was to
+-- come is refused so.
+pub record RefusedHead {C : Type 0} (g : container.Ghosts C) (old last : Stage C) (f : Fault) : Type 0 where
+  pub kept : g.errors old.container ≤ g.errors last.container
+  pub risen : f.why ≡ Read → Rises (g.met old.container) (g.met last.container)
+  pub refused : IsCalm g old last → f.why ≢ Memory → (blocks : List Block) (frames : List Frame) (end : Option (Place × Why)) → Comes g old (stream_items blocks frames) end → IsRefusal blocks frames end f
+
+-- some decoder was left so, unless memory ran out
+abbrev pub IsRefusedHead : {C : Type 0} → container.Ghosts C → Stage C → Fault → Type 0
+IsRefusedHead {C} g old f = f.why ≢ Memory → (last : Stage C) × RefusedHead g old last f
+
+-- The input, which is known, was not opened for this reason. An error of the source raised its counts; without one, the input is refused so.
+pub record RefusesInput (r : Reading Piece Place) (known : Bool) (errors raised errors_left raised_left : ℕ) (f : Fault) : Type 0 where
+  pub kept : errors ≤ errors_left
+  pub risen : f.why ≡ Read → Rises raised raised_left
+  pub refused : known ≡ true → errors_left ≡ errors → raised_left ≡ raised → (blocks : List Block) (frames : List Frame) (end : Option (Place × Why)) → IsReadAs r blocks frames end → IsRefusal blocks frames end f

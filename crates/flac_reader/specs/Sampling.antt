@@ -1,0 +1,62 @@
+-- What an iterator over samples has still to give, and what one call of it gives.
+use Rattle.std.specs.Prelude.{◌≡◌, ◌<◌, ℕ, ◌+◌, cond, ℤ, List, [], ◌∷◌, ◌++◌, Option, Some, None, Result, Ok, Err, IfErr, MatchResult, IfSome}
+use Rattle.flac_bits.specs.declared.why.Why.{Why}
+use Rattle.flac_frame.specs.Frame.{Frame}
+use Rattle.flac_native.specs.Giving.{stage_of, held}
+use Rattle.flac_native.specs.declared.fault.Place.{Place}
+use Rattle.flac_native.specs.declared.fault.Fault.{Fault}
+use Rattle.flac_native.specs.declared.container.Container as container
+use Rattle.flac_reader.specs.Coming.{FramesCome, IsCalm, HadRoom, Counted, only_frame}
+use Rattle.flac_reader.specs.Places.{all_samples, left_at, is_over}
+use Rattle.flac_reader.specs.declared.reader.Reader.{Reader}
+use Rattle.flac_reader.specs.declared.samples.Samples.{Samples}
+use Rattle.flac_reader.specs.declared.spot.Spot.{Spot}
+use Rattle.flac_reader.specs.declared.spot.Spot.TheVariants as spot
+
+-- ---- what is still to come
+
+-- these samples come: those that are left of one frame, and those of the frames that a reader has still to give, and then this end
+pub record SamplesLeft {C : Type 0} {g : container.Ghosts C} (reader : Reader C g) (first : List ℤ) (samples : List ℤ) (end : Option (Place × Why)) : Type 0 where
+  pub frames : List Frame
+  pub split : samples ≡ first ++ all_samples frames
+  pub come : FramesCome g reader.ahead (stage_of reader.decoder) frames end
+
+-- behind the end, and behind a refusal, nothing is left, and no further refusal
+abbrev pub ComeBehind : {C : Type 0} {g : container.Ghosts C} → Spot → Reader C g → List ℤ → Option (Place × Why) → Type 0
+ComeBehind spot.Over reader samples end = (samples ≡ []) × (end ≡ None)
+ComeBehind spot.Next reader samples end = SamplesLeft reader [] samples end
+ComeBehind (spot.Inside channel index) reader samples end = SamplesLeft reader (left_at (spot.Inside channel index) (only_frame (held (stage_of reader.decoder).course (stage_of reader.decoder).track))) samples end
+
+abbrev pub SamplesCome : {C : Type 0} {g : container.Ghosts C} → Samples C g → List ℤ → Option (Place × Why) → Type 0
+SamplesCome s samples end = ComeBehind s.spot s.reader samples end
+
+-- ---- what a call gives
+
+-- the answer is the first of these samples, or else the end or the refusal, which is told once
+abbrev pub IsFirstSample : {C : Type 0} {g : container.Ghosts C} → List ℤ → Option (Place × Why) → Result (Option ℤ) Fault → Samples C g → Type 0
+IsFirstSample [] None answer s = (answer ≡ Ok None) × SamplesCome s [] None
+IsFirstSample [] (Some f) answer s = (answer ≡ Err (record { at = f.0; why = f.1 })) × SamplesCome s [] None
+IsFirstSample (x ∷ xs) end answer s = (answer ≡ Ok (Some x)) × SamplesCome s xs end
+
+-- how many calls may still give something, at most
+abbrev pub calls_left : Spot → ℕ → ℕ
+calls_left at left = cond (is_over at) 0 (left + 1)
+
+-- The call gave the first sample of those that were to come, and left the others. The metadata stays.
+pub record GivesSample {C : Type 0} {g : container.Ghosts C} (old new : Samples C g) (answer : Result (Option ℤ) Fault) : Type 0 where
+  pub sample : IsCalm g (stage_of old.reader.decoder) (stage_of new.reader.decoder) → HadRoom answer → (samples : List ℤ) (end : Option (Place × Why)) → SamplesCome old samples end → IsFirstSample samples end answer new
+  pub counts : Counted g (stage_of old.reader.decoder) (stage_of new.reader.decoder) answer
+  -- behind the end, and behind any error, it answers that nothing is left, and stays so
+  pub ended : answer ≡ Ok None → new.spot ≡ spot.Over
+  pub spent : IfErr answer (λ _. new.spot ≡ spot.Over)
+  pub over : old.spot ≡ spot.Over → (answer ≡ Ok None) × (new ≡ old)
+  -- with each answer that is something it comes nearer to the end
+  pub nearer : MatchResult answer (λ o. IfSome o (λ _. calls_left new.spot new.left < calls_left old.spot old.left)) (λ _. calls_left new.spot new.left < calls_left old.spot old.left)
+  pub blocks : new.reader.blocks ≡ old.reader.blocks
+  pub info : new.reader.info ≡ old.reader.info
+
+-- an item of an iterator as the answer of a call
+abbrev pub turned : Option (Result ℤ Fault) → Result (Option ℤ) Fault
+turned None = Ok None
+turned (Some (Ok x)) = Ok (Some x)
+turned (Some (Err f)) = Err f

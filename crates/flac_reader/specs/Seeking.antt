@@ -1,0 +1,83 @@
+-- Where a sample is sought in a stream (RFC 9639, sections 8.5 and 9.1.5).
+use Rattle.std.specs.Prelude.{◌≡◌, ◌≢◌, ℕ, ◌+◌, ◌*◌, Bool, not, ◌&&◌, cond, nat_eq, nat_le, nat_lt, List, [], ◌∷◌, ◌++◌, true, false, map, Option, Some, None, Result, Ok, Err, ⊤}
+use Rattle.std.specs.List.{fold, list_any}
+use Rattle.flac_bits.specs.Handing.{Reading}
+use Rattle.flac_bits.specs.declared.why.Why.{Why}
+use Rattle.flac_bits.specs.declared.why.Why.TheVariants.{Memory}
+use Rattle.flac_meta.specs.Info.{Info}
+use Rattle.flac_meta.specs.declared.seek_table.SeekPoint.{SeekPoint}
+use Rattle.flac_frame.specs.Frame.{Frame}
+use Rattle.flac_native.specs.Stream.{Piece}
+use Rattle.flac_native.specs.Item.{Item, metadata, frame, told}
+use Rattle.flac_native.specs.Giving.{Stage, stage_of}
+use Rattle.flac_native.specs.declared.fault.Place.{Place}
+use Rattle.flac_native.specs.declared.fault.Fault.{Fault}
+use Rattle.flac_native.specs.declared.container.Container as container
+use Rattle.flac_reader.specs.Coming.{Comes, FramesCome}
+use Rattle.flac_reader.specs.Opening.{IsReadAs}
+use Rattle.flac_reader.specs.declared.reader.Reader.{Reader}
+
+-- ---- a seek table
+
+-- the point names a frame at or before the sample of this number: all ones stand for no frame (section 8.5.1)
+abbrev pub is_before : ℕ → SeekPoint → Bool
+is_before sample p = nat_le p.sample sample && not (nat_eq p.sample 18446744073709551615)
+
+-- the offset of the last point at or before a sample, from the first frame; that of the first frame where there is none
+abbrev pub offset_before : ℕ → List SeekPoint → ℕ
+offset_before sample points = fold (λ offset p. cond (is_before sample p) p.offset offset) 0 points
+
+-- ---- a frame
+
+-- the number of the first sample of a frame, by its header: coded there, or as many blocks before it as the number of the frame (section 9.1.5)
+abbrev pub first_of : Info → Frame → ℕ
+first_of info f = cond f.variable f.number (f.number * info.greatest_block)
+
+-- the frame holds the sample of this number
+abbrev pub holds : Info → ℕ → Frame → Bool
+holds info sample f = nat_le (first_of info f) sample && nat_lt sample (first_of info f + f.size)
+
+-- the number of the first sample of a frame that is held, 0 where none is
+abbrev pub number_of : Info → Option Item → ℕ
+number_of info None = 0
+number_of info (Some (metadata b)) = 0
+number_of info (Some (frame f)) = first_of info f
+
+-- the number of its first sample, if it holds the sample
+abbrev pub FirstIfHeld : Info → ℕ → Frame → Option ℕ → Type 0
+FirstIfHeld info sample f None = holds info sample f ≡ false
+FirstIfHeld info sample f (Some n) = (holds info sample f ≡ true) × (n ≡ first_of info f)
+
+-- none of these frames holds it
+abbrev pub PassedBy : Info → ℕ → List Frame → Type 0
+PassedBy info sample frames = list_any (holds info sample) frames ≡ false
+
+-- the first of these frames holds it, or there is none
+abbrev pub HoldsFirst : Info → ℕ → List Frame → Type 0
+HoldsFirst info sample [] = ⊤
+HoldsFirst info sample (f ∷ frames) = holds info sample f ≡ true
+
+-- Of these frames, which were to come, the ones before the first that holds the sample were passed by, and that one comes next; where none holds it, all were passed by.
+pub record Finds {C : Type 0} (g : container.Ghosts C) (info : Info) (sample : ℕ) (frames : List Frame) (end : Option (Place × Why)) (ahead : Bool) (s : Stage C) : Type 0 where
+  pub passed : List Frame
+  pub left : List Frame
+  pub split : frames ≡ passed ++ left
+  pub by : PassedBy info sample passed
+  pub holds : HoldsFirst info sample left
+  pub come : FramesCome g ahead s left end
+
+-- a search ended so; or the stream was refused behind frames that do not hold the sample
+abbrev pub Searches : {C X : Type 0} → container.Ghosts C → Info → ℕ → List Frame → Option (Place × Why) → Bool → Result X Fault → Stage C → Type 0
+Searches g info sample frames end ahead (Ok x) s = Finds g info sample frames end ahead s
+Searches g info sample frames end ahead (Err f) s = PassedBy info sample frames × (end ≡ Some (told f))
+
+-- one frame was passed by; or the first that is to come holds the sample, or there is none, and it comes next
+abbrev pub Passes : {C : Type 0} → container.Ghosts C → Info → ℕ → List Frame → Option (Place × Why) → Result (Option ℕ) Fault → Stage C → Type 0
+Passes g info sample frames end (Ok None) s = (f : Frame) × (rest : List Frame) × (frames ≡ f ∷ rest) × (holds info sample f ≡ false) × Comes g s (map frame rest) end
+Passes g info sample frames end (Ok (Some n)) s = HoldsFirst info sample frames × FramesCome g true s frames end
+Passes g info sample frames end (Err f) s = (frames ≡ []) × (end ≡ Some (told f))
+
+-- So a reader was made over this input: it finds the frame; or the input is refused behind frames that do not hold the sample, unless memory ran out.
+abbrev pub SeeksTo : {C : Type 0} {g : container.Ghosts C} → Info → ℕ → Reading Piece Place → Result (Reader C g) Fault → Type 0
+SeeksTo {g = g} info sample r (Ok reader) = (frames : List Frame) (end : Option (Place × Why)) → IsReadAs r [] frames end → Finds g info sample frames end reader.ahead (stage_of reader.decoder)
+SeeksTo info sample r (Err f) = f.why ≢ Memory → (frames : List Frame) (end : Option (Place × Why)) → IsReadAs r [] frames end → PassedBy info sample frames × (end ≡ Some (told f))

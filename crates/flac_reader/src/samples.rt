@@ -1,0 +1,134 @@
+//! The samples of a stream, one by one.
+
+ghost use Rattle.std.specs.Prelude.{◌≡◌};
+ghost use Rattle.std.specs.Iterator.{at_most};
+ghost use Rattle.flac_native.specs.Giving.{stage_of, held};
+ghost use Rattle.flac_reader.specs.Coming.{only_frame};
+ghost use Rattle.flac_reader.specs.Sampling.{GivesSample, calls_left, turned};
+
+use crate::reader::Reader;
+use crate::spot::{Spot, sample_at};
+use flac_native::{Container, Fault, Place, Why};
+
+/// The samples of the frames that a reader has still to give, interleaved: those of all channels at one index, channel by channel, then those at the next
+/// (RFC 9639, section 9.2). A sample takes as many bits as STREAMINFO states, at most 32. See [`Reader::into_samples`].
+///
+/// An item is a fault where the stream is refused; that is the last one.
+#[derive(Drop)]
+pub struct Samples<C: Container> {
+    reader: Reader<C>,
+    spot: Spot,
+    left: u64,
+}
+
+impl<C: Container> Samples<C> {
+    ghost use Rattle.flac_reader.specs.Giving.{Gives};
+    ghost use Rattle.flac_reader.specs.Stepping.{TakesSample, EntersFrame};
+
+    /// The samples of the frames that a reader has still to give.
+    pub(crate) fn over(reader: Reader<C>) -> Samples<C>
+        ensures reader { result.reader ≡ reader }
+        ensures spot { result.spot ≡ Spot.Next }
+    {
+        Samples {
+            reader,
+            spot: Spot::Next,
+            left: u64::MAX,
+        }
+    }
+
+    /// The reader, with what the stream says of itself.
+    pub fn reader(&self) -> &Reader<C>
+        ensures { result.now ≡ self.now.reader }
+    {
+        &self.reader
+    }
+
+    /// The reader again: it lends the frames behind the one of which a sample was given last.
+    pub fn into_reader(self) -> Reader<C>
+        ensures { result ≡ self.reader }
+    {
+        let Samples {
+            reader,
+            spot: _,
+            left: _,
+        } = self;
+        reader
+    }
+
+    /// The next sample of the frame that was read last.
+    fn take(&mut self) -> Option<i32>
+        ensures reader { self.new.reader ≡ self.old.reader }
+        ensures left { self.new.left ≡ self.old.left }
+        ensures sample { TakesSample self.old.spot self.new.spot (only_frame (held (stage_of self.old.reader.decoder).course (stage_of self.old.reader.decoder).track)) result }
+    {
+        let Spot::Inside(channel, index) = self.spot else {
+            return None;
+        };
+        let frame = self.reader.frame()?;
+        let (sample, channel, index) = sample_at(&frame, channel, index)?;
+        self.spot = Spot::Inside(channel, index);
+        Some(sample)
+    }
+
+    /// Goes on to the next frame; `false` at the end.
+    fn enter(&mut self) -> Result<bool, Fault>
+        ensures gives { Gives self.old.reader self.new.reader (λ _. only_frame (held (stage_of self.new.reader.decoder).course (stage_of self.new.reader.decoder).track)) result }
+        ensures left { self.new.left ≡ self.old.left }
+        ensures spot { EntersFrame (only_frame (held (stage_of self.new.reader.decoder).course (stage_of self.new.reader.decoder).track)) self.new.spot result }
+    {
+        self.spot = Spot::Over;
+        match self.reader.step() {
+            Ok(()) => {}
+            Err(fault) => return Err(fault),
+        }
+        if self.reader.frame().is_some() {
+            self.spot = Spot::Inside(0, 0);
+            return Ok(true);
+        }
+        Ok(false)
+    }
+
+    /// The next sample; `None` behind the last, and behind a refusal.
+    fn give(&mut self) -> Result<Option<i32>, Fault>
+        ensures { GivesSample self.old self.new result }
+    {
+        if self.spot.is_over() {
+            return Ok(None);
+        }
+        while self.left > 0 {
+            self.left -= 1;
+            match self.take() {
+                Some(sample) => return Ok(Some(sample)),
+                None => {}
+            }
+            match self.enter() {
+                Ok(true) => {}
+                Ok(false) => return Ok(None),
+                Err(fault) => return Err(fault),
+            }
+        }
+        self.spot = Spot::Over;
+        Err(Fault {
+            at: Place::Frame(u64::MAX),
+            why: Why::Memory,
+        })
+    }
+}
+
+impl<C: Container + Drop> Iterator for Samples<C> {
+    type Item = Result<i32, Fault>;
+
+    ghost next_gives = { λ old item new. GivesSample old new (turned item) };
+
+    ghost remaining = { λ s. at_most (calls_left s.spot s.left) };
+
+    /// The next sample. Behind the last, and behind a fault, there is none.
+    fn next(&mut self) -> Option<Result<i32, Fault>> {
+        match self.give() {
+            Ok(Some(sample)) => Some(Ok(sample)),
+            Ok(None) => None,
+            Err(fault) => Some(Err(fault)),
+        }
+    }
+}

@@ -1,0 +1,107 @@
+//! Seeks a sample.
+
+ghost use Rattle.std.specs.Prelude.{◌≡◌, List, Option, IfOk, IfSome, drop, map, true};
+ghost use Rattle.flac_frame.specs.Frame.{Frame};
+ghost use Rattle.flac_frame.specs.Lent.{frame_of};
+ghost use Rattle.flac_native.specs.Item.{frame as framed};
+ghost use Rattle.flac_native.specs.Giving.{stage_of, held};
+ghost use Rattle.flac_reader.specs.Coming.{Comes, IsCalm, HadRoom, Counted};
+ghost use Rattle.flac_reader.specs.Seeking.{offset_before, first_of, FirstIfHeld, number_of, Passes, Searches};
+
+use flac_meta::SeekPoint;
+use flac_native::{Container, Decoder, Fault, FrameView, Item, Place, StreamInfo, Why};
+
+/// The offset, in bytes from the first frame, of the last point at or before a sample; 0 if there is none.
+pub(crate) fn offset_before(points: &[SeekPoint], sample: u64) -> u64
+    ensures { result ≡ offset_before sample points.now }
+{
+    let mut offset = 0;
+    for point in points {
+        if point.sample <= sample && point.sample != u64::MAX {
+            offset = point.offset;
+        }
+    }
+    offset
+}
+
+/// The bytes from an offset on; none behind their end.
+pub(crate) fn bytes_from(bytes: &[u8], offset: u64) -> &[u8]
+    ensures { result.now ≡ drop offset bytes.now }
+{
+    if offset < bytes.len() as u64 {
+        &bytes[offset as usize..]
+    } else {
+        &bytes[bytes.len()..]
+    }
+}
+
+/// The number of the first sample of a frame, by its header.
+fn first_of(info: &StreamInfo, frame: &FrameView<'_>) -> u128
+    ensures { result ≡ first_of info.now (frame_of frame.now) }
+{
+    let number = u128::from(frame.number());
+    if frame.variable() {
+        number
+    } else {
+        number * u128::from(info.greatest_block())
+    }
+}
+
+/// The number of the first sample of a frame, if it holds a sample.
+fn first_if_held(info: &StreamInfo, frame: &FrameView<'_>, sample: u64) -> Option<u64>
+    ensures { FirstIfHeld info.now sample (frame_of frame.now) result }
+{
+    let first = first_of(info, frame);
+    let sample = u128::from(sample);
+    if first <= sample && sample < first + frame.len() as u128 {
+        Some(first as u64)
+    } else {
+        None
+    }
+}
+
+/// Reads the next frame: the number of its first sample if it holds the sample; 0 at the end.
+fn pass_frame<C: Container>(
+    decoder: &mut Decoder<C>,
+    info: &StreamInfo,
+    sample: u64,
+) -> Result<Option<u64>, Fault>
+    ensures counts { Counted C.Container (stage_of decoder.old) (stage_of decoder.new) result }
+    ensures first { IfOk result (λ o. IfSome o (λ n. n ≡ number_of info.now (held (stage_of decoder.new).course (stage_of decoder.new).track))) }
+    ensures passes { IsCalm C.Container (stage_of decoder.old) (stage_of decoder.new) → HadRoom result → (frames : List Frame) (end : Option (Place × Why)) → Comes C.Container (stage_of decoder.old) (map framed frames) end →
+        Passes C.Container info.now sample frames end result (stage_of decoder.new) }
+{
+    match decoder.step() {
+        Ok(()) => {}
+        Err(fault) => return Err(fault),
+    }
+    match decoder.view() {
+        Item::Frame(frame) => Ok(first_if_held(info, &frame, sample)),
+        Item::Block(_) => Ok(Some(0)),
+        Item::End => Ok(Some(0)),
+    }
+}
+
+/// Reads frames up to the first that holds a sample, and returns the number of its first sample; or up to the end.
+pub(crate) fn find_frame<C: Container>(
+    decoder: &mut Decoder<C>,
+    info: &StreamInfo,
+    sample: u64,
+) -> Result<u64, Fault>
+    ensures counts { Counted C.Container (stage_of decoder.old) (stage_of decoder.new) result }
+    ensures first { IfOk result (λ n. n ≡ number_of info.now (held (stage_of decoder.new).course (stage_of decoder.new).track)) }
+    ensures finds { IsCalm C.Container (stage_of decoder.old) (stage_of decoder.new) → HadRoom result → (frames : List Frame) (end : Option (Place × Why)) → Comes C.Container (stage_of decoder.old) (map framed frames) end →
+        Searches C.Container info.now sample frames end true result (stage_of decoder.new) }
+{
+    for _ in 0..u64::MAX {
+        match pass_frame(decoder, info, sample) {
+            Ok(None) => {}
+            Ok(Some(first)) => return Ok(first),
+            Err(fault) => return Err(fault),
+        }
+    }
+    Err(Fault {
+        at: Place::Frame(u64::MAX),
+        why: Why::Memory,
+    })
+}

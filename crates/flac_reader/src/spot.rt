@@ -1,0 +1,53 @@
+//! Where the next sample stands.
+
+ghost use Rattle.std.specs.Prelude.{◌≡◌, ◌∷◌, [], MatchOption};
+ghost use Rattle.flac_frame.specs.Lent.{frame_of};
+ghost use Rattle.flac_reader.specs.Places.{samples_from};
+
+use flac_native::FrameView;
+
+/// Where the next sample of a stream stands.
+#[derive(Clone, Copy, Debug, PartialEq, Eq)]
+pub(crate) enum Spot {
+    /// In the next frame.
+    Next,
+    /// In the frame that was read last: in this channel, at this index.
+    Inside(usize, usize),
+    /// Nowhere: the stream is over, or was refused.
+    Over,
+}
+
+impl Spot {
+    ghost use Rattle.flac_reader.specs.Places.{is_over};
+
+    /// Whether nothing more is given.
+    pub(crate) fn is_over(&self) -> bool
+        ensures { result ≡ is_over self.now }
+    {
+        match self {
+            Spot::Next => false,
+            Spot::Inside(_, _) => false,
+            Spot::Over => true,
+        }
+    }
+}
+
+/// The sample of a frame that stands in a channel at an index, and the channel and the index of the one behind it.
+#[tactic(auto, using(crate::proofs::Places::from_no_channel, crate::proofs::Places::from_no_index, crate::proofs::Places::from_channel, crate::proofs::Places::from_last_channel))]
+pub(crate) fn sample_at(
+    frame: &FrameView<'_>,
+    channel: usize,
+    index: usize,
+) -> Option<(i32, usize, usize)>
+    ensures { MatchOption result (samples_from (frame_of frame.now) channel index ≡ []) (λ p. samples_from (frame_of frame.now) channel index ≡ p.0 ∷ samples_from (frame_of frame.now) p.1 p.2) }
+{
+    if channel >= frame.channels() || index >= frame.len() {
+        return None;
+    }
+    let sample = frame.sample(channel, index);
+    if channel + 1 < frame.channels() {
+        Some((sample, channel + 1, index))
+    } else {
+        Some((sample, 0, index + 1))
+    }
+}

@@ -1,0 +1,52 @@
+//! The samples of a frame of two channels, in pairs.
+
+ghost use Rattle.std.specs.Prelude.{◌≡◌, ◌≢◌, [], MatchOption, length, slice_index_or};
+ghost use Rattle.std.specs.List.{zip};
+ghost use Rattle.std.specs.Iterator.{YieldsFirst, item_count};
+ghost use Rattle.flac_frame.specs.Lent.{frame_of};
+
+use flac_native::FrameView;
+
+/// The samples of a frame of two channels, in pairs: see [`stereo_samples`].
+#[derive(Clone, Copy, Debug, Drop)]
+pub struct StereoSamples<'a> {
+    left: &'a [i32],
+    right: &'a [i32],
+}
+
+impl<'a> Iterator for StereoSamples<'a> {
+    type Item = (i32, i32);
+
+    ghost next_gives = { YieldsFirst (λ s. zip s.left.now s.right.now) };
+
+    ghost remaining = { item_count (λ s. zip s.left.now s.right.now) };
+
+    fn next(&mut self) -> Option<(i32, i32)> {
+        let (left, lefts) = self.left.split_first()?;
+        let (right, rights) = self.right.split_first()?;
+        self.left = lefts;
+        self.right = rights;
+        Some((*left, *right))
+    }
+}
+
+/// The samples of a frame of two channels, left and right (RFC 9639, section 9.1.3), index by index; `None` if it has more channels or one.
+///
+/// ```
+/// if let Some(pairs) = stereo_samples(&frame) {
+///     for (left, right) in pairs {
+///         play(left, right);
+///     }
+/// }
+/// ```
+pub fn stereo_samples<'a>(frame: &FrameView<'a>) -> Option<StereoSamples<'a>>
+    ensures { MatchOption result (length (frame_of frame.now).channels ≢ 2) (λ s. (length (frame_of frame.now).channels ≡ 2) × (s.left.now ≡ slice_index_or (frame_of frame.now).channels 0 []) × (s.right.now ≡ slice_index_or (frame_of frame.now).channels 1 [])) }
+{
+    if frame.channels() != 2 {
+        return None;
+    }
+    Some(StereoSamples {
+        left: frame.channel(0),
+        right: frame.channel(1),
+    })
+}

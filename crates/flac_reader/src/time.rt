@@ -1,0 +1,15 @@
+//! The time of samples.
+
+ghost use Rattle.std.specs.Prelude.{◌≡◌, ◌*◌, ◌/◌};
+ghost use Rattle.std.specs.Duration.{as_nanos};
+
+use flac_native::StreamInfo;
+use std::time::Duration;
+
+/// The time that so many samples of each channel take, rounded down to a nanosecond.
+pub(crate) fn time_of(samples: u64, info: &StreamInfo) -> Duration
+    ensures { as_nanos result ≡ samples * 1000000000 / info.now.rate }
+{
+    let nanos = u128::from(samples) * 1_000_000_000 / u128::from(info.rate());
+    Duration::from_nanos_u128(nanos)
+}
