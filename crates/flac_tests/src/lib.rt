@@ -23,6 +23,8 @@ mod pushing;
 #[cfg(test)]
 mod reading_files;
 #[cfg(test)]
+mod reading_samples;
+#[cfg(test)]
 mod retagging;
 #[cfg(test)]
 mod rows;

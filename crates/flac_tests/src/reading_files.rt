@@ -16,7 +16,7 @@ use std::process::Abort;
 use std::test::Fail;
 
 /// The stream.
-const TAGGED: &str =
+pub(crate) const TAGGED: &str =
     "664c6143000000221000100000000f00000f0ac442f00000000100000000000000000000000000000000840000210e000000666c61632070726f66696c65203101000000070000005449544c453d78fff869180000bf0358fd03128baa9a";
 
 /// The greatest absolute value of a frame's samples, or a greater one so far.
