@@ -1,5 +1,5 @@
 -- How many bits a signed value takes, by its folded number.
-use Rattle.std.proofs.Common.{◌≡◌, ◌↔◌, ℕ, zero, suc, ◌+◌, ◌-◌, ◌*◌, ◌^◌, ◌≤◌, ◌<◌, arith, ℤ, pos, negsuc, List, length, All, get_or, take, inl, inr, sym, ap, ◌∙◌, to_z, of_z, w64}
+use Rattle.std.proofs.Common.{◌≡◌, ◌↔◌, ℕ, zero, suc, ◌+◌, ◌-◌, ◌*◌, ◌^◌, ◌≤◌, ◌<◌, arith, ℤ, pos, negsuc, List, length, All, get_or, take, inl, inr, sym, ap, ◌∙◌, to_z, of_z, w32, w64}
 use Rattle.std.proofs.lemmas.Bool.{cases_lt}
 use Rattle.std.specs.Int.Count.{count_leading_zeros}
 use Rattle.std.proofs.lemmas.Int.{ints}
@@ -57,3 +57,7 @@ All_step P xs i d within = (
 -- what a cast to 64 bits and back leaves of a residual value
 pub back : (z : ℤ) → IsResidual z → to_z w64 (of_z w64 z) ≡ z
 back z r = omega (arith, ints, r.low, r.high)
+
+-- what casts to 64 bits, to 32 and back leave of a residual value
+pub back_narrow : (z : ℤ) → IsResidual z → to_z w32 (of_z w32 (to_z w64 (of_z w64 z))) ≡ z
+back_narrow z r = omega (arith, ints, r.low, r.high)

@@ -1,6 +1,7 @@
 -- What the fixed predictors leave of samples of few bits is in the range of a residual.
-use Rattle.std.proofs.Common.{inl, inr, refl, ℕ, zero, suc, ◌+◌, ◌-◌, ◌≤◌, arith, ℤ, pos, ◌-ℤ◌, List, [], ◌∷◌, length, All}
+use Rattle.std.proofs.Common.{inl, inr, refl, ℕ, zero, suc, ◌+◌, ◌-◌, ◌^◌, ◌≤◌, arith, ℤ, pos, ◌≡◌, ◌-ℤ◌, List, [], ◌∷◌, length, All, to_z, of_z, w32, w64}
 use Rattle.std.specs.List.{range_with_len}
+use Rattle.std.specs.Int.RustNames.{unsigned_abs}
 use Rattle.std.proofs.lemmas.Int.{ints}
 use Rattle.std.proofs.lemmas.Bool.{cases_lt}
 use Rattle.std.proofs.lemmas.List.Elements.{All-map}
@@ -48,3 +49,20 @@ narrow_differences o s few all =
     let zero_fits : FitsBits 27 (pos 0) = record { low = omega (arith, ints); high = omega (arith, ints) } in
     let fits : (k : ℕ) → FitsBits 27 (sample_at s k) = λ k. elim (cases_lt k (length s)) [ inl b ↦ all k (pos 0) b | inr b ↦ rw (get_or-eq_default s (pos 0) {n = k} b) zero_fits ] in
     All-map IsResidual (difference (fixed_coefficients o) 0 s) (range_with_len 0 (length s - length (fixed_coefficients o))) (λ k d h. one_narrow o s few fits _)
+
+-- what casts to 32 bits and back leave of a narrow sample
+pub narrow_is : (x : ℤ) → FitsBits 27 x → to_z w32 (of_z w32 (to_z w64 (of_z w64 x))) ≡ x
+narrow_is x fit = omega (arith, ints, fit.low, fit.high)
+
+pub same_narrow : (x : ℤ) → FitsBits 27 x → to_z w32 (of_z w32 x) ≡ x
+same_narrow x fit = omega (arith, ints, fit.low, fit.high)
+
+-- the difference of narrow samples as the code has it
+pub narrow_at : (order : ℕ) (s : List ℤ) (j : ℕ) (p : ℤ) → order ≤ 4 → FitsBits 27 (sample_at s (order + j)) → p ≡ prediction (fixed_coefficients order) 0 s (order + j) → unsigned_abs p ≤ 2 ^ 30 →
+    to_z w32 (of_z w32 (to_z w32 (of_z w32 (sample_at s (order + j))) -ℤ to_z w32 (of_z w32 p))) ≡ difference (fixed_coefficients order) 0 s j
+unfolding difference
+narrow_at order s j p few fit is small =
+    rw (length-fixed order few, ← is) (omega (arith, ints, fit.low, fit.high))
+
+pub narrow_residual : (x p : ℤ) → FitsBits 27 x → unsigned_abs p ≤ 2 ^ 30 → IsResidual (to_z w32 (of_z w32 (to_z w32 (of_z w32 x) -ℤ to_z w32 (of_z w32 p))))
+narrow_residual x p fit small = record { low = omega (arith, ints, fit.low, fit.high, small); high = omega (arith, ints, fit.low, fit.high, small) }

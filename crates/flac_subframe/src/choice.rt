@@ -1,15 +1,19 @@
 //! The content of the fewest bits for the samples of a subframe.
-ghost use Rattle.std.specs.Prelude.{◌≡◌, ◌<◌, ◌≤◌, ◌^◌, ◌+◌, ◌++◌, ◌∷◌, [], ◌*◌, List, ℕ, length, All, IsTrue, ◌↔◌, replicate};
+ghost use Rattle.std.specs.Prelude.{◌≡◌, ◌<◌, ◌≤◌, ◌^◌, ◌+◌, ◌++◌, ◌∷◌, [], ◌*◌, List, ℕ, length, All, IsTrue, ◌↔◌, replicate, map};
 ghost use Rattle.flac_bits.specs.Signed.{FitsBits};
 ghost use Rattle.flac_subframe.specs.Numbers.{sample_at};
+ghost use Rattle.flac_subframe.specs.Prediction.{fixed_coefficients};
+ghost use Rattle.flac_subframe.specs.Spelling.{folded};
 ghost use Rattle.flac_subframe.specs.Least.{IsLeast};
 ghost use Rattle.flac_bits.specs.Rice.{IsResidual};
 ghost use Rattle.flac_subframe.specs.Bodies.{Chooses, fixed, differences, StandsFor, spelled};
 ghost use Rattle.flac_subframe.specs.Chosen.{body_of, IsBest, fixed_below, priced_as};
 
+use crate::chosen::MOST_SAMPLES;
 use crate::folding::fold_each;
 use crate::halving::ResidualChoice;
-use crate::leaving::{are_narrow, take_differences};
+use crate::leaving::take_differences;
+use crate::narrowed::{narrow, take_narrow};
 use crate::survey::{Tables, greatest_halvings, least_residual_into};
 use crate::view::{ResidualView, SampleView};
 use arrayvec::ArrayVec;
@@ -110,16 +114,48 @@ fn likely_order(samples: &[i64]) -> usize
     likely
 }
 
+/// What the fixed predictor of an order leaves of the samples, and the same as unsigned numbers, if a residual may have it all.
+fn take_residual(
+    subject: &SampleView<'_>,
+    order: usize,
+    wide: &mut [i64],
+    values: &mut [i32],
+    folds: &mut [u32],
+) -> bool
+    requires order { order ≤ 4 }
+    requires places { length values.old + order ≡ length subject.now.samples.now }
+    requires wide { length subject.now.samples.now ≤ length wide.old }
+    requires folds { length folds.old ≡ length values.old }
+    ensures values { IsTrue result → values.new ≡ differences (fixed_coefficients order) 0 subject.now.samples.now }
+    ensures range { IsTrue result → All IsResidual values.new }
+    ensures unsigned { IsTrue result → folds.new ≡ map folded values.new }
+    ensures small { IsTrue result → All (λ n. n < 2 ^ 32) folds.new }
+    ensures all { All IsResidual (differences (fixed_coefficients order) 0 subject.now.samples.now) → IsTrue result }
+{
+    if subject.narrow {
+        take_narrow(order, subject.narrowed, values, folds);
+        return true;
+    }
+    let wide = &mut wide[..values.len()];
+    if !take_differences(order, subject.samples, wide) {
+        return false;
+    }
+    fold_each(wide, values, folds);
+    true
+}
+
 /// Replaces the best so far by the fixed predictor of an order, if that takes fewer bits.
 fn better_fixed(
     subject: &SampleView<'_>,
     order: usize,
-    values: &mut [i64],
+    wide: &mut [i64],
+    values: &mut [i32],
     folds: &mut [u32],
     tables: &mut Tables,
     best: &mut Held,
 )
     requires order { order ≤ 4 }
+    requires wide { length subject.now.samples.now ≤ length wide.old }
     requires places { length subject.now.samples.now ≤ length values.old }
     requires folds { length subject.now.samples.now ≤ length folds.old }
     requires small { best.old.bits ≤ 2 ^ 60 }
@@ -130,7 +166,8 @@ fn better_fixed(
         return;
     }
     let places = &mut values[..samples.len() - order];
-    if !take_differences(order, samples, subject.narrow, places) {
+    let folds = &mut folds[..places.len()];
+    if !take_residual(subject, order, wide, places, folds) {
         return;
     }
     let limit = limit(best, order);
@@ -139,8 +176,6 @@ fn better_fixed(
         return;
     }
     let halvings = greatest_halvings(places, order, subject.most);
-    let folds = &mut folds[..places.len()];
-    fold_each(places, folds);
     let residual = ResidualView {
         values: places,
         folds,
@@ -208,6 +243,103 @@ fn plain(kind: Kind, _residual: ResidualChoice, bits: u64) -> PricedChoice
     PricedChoice { kind, bits }
 }
 
+/// The content of the fewest bits: constant, verbatim, or a fixed predictor with a partition order up to the greatest, worked out in
+/// arrays that are each at least as long as the samples.
+fn choose_among(
+    samples: &[i64],
+    bits: u32,
+    most: u8,
+    narrowed: &mut [i32],
+    wide: &mut [i64],
+    values: &mut [i32],
+    folds: &mut [u32],
+) -> PricedChoice
+    requires some { 0 < length samples.now }
+    requires few { length samples.now ≤ 65535 }
+    requires most { most ≤ 8 }
+    requires bits { bits ≤ 33 }
+    requires fits { All (FitsBits 33) samples.now }
+    requires narrowed { length samples.now ≤ length narrowed.old }
+    requires wide { length samples.now ≤ length wide.old }
+    requires places { length samples.now ≤ length values.old }
+    requires folds { length samples.now ≤ length folds.old }
+    ensures { IsBest most bits samples.now (fixed_below 5) result }
+{
+    let mut tables = Tables {
+        sums: [0; 256],
+        four: [0; 512],
+        five: [0; 512],
+        widths: [0; 512],
+    };
+    let mut best = begin(samples, bits);
+    let first = likely_order(samples);
+    let narrowed = &mut narrowed[..samples.len()];
+    let narrow = narrow(samples, narrowed);
+    let subject = SampleView {
+        samples,
+        narrowed,
+        bits,
+        most,
+        narrow,
+    };
+    better_fixed(&subject, first, wide, values, folds, &mut tables, &mut best);
+    for order in 0..5 {
+        if order != first {
+            better_fixed(&subject, order, wide, values, folds, &mut tables, &mut best);
+        }
+    }
+    release(best)
+}
+
+/// The most samples of a block in the subset at up to 48 kHz.
+const FEW_SAMPLES: usize = 4608;
+
+/// The same for few samples, by arrays on the stack that are soon made ready.
+#[inline(never)]
+fn choose_of_few(
+    samples: &[i64],
+    bits: u32,
+    most: u8,
+    wide: &mut [i64],
+    folds: &mut [u32],
+) -> PricedChoice
+    requires some { 0 < length samples.now }
+    requires few { length samples.now ≤ 4608 }
+    requires most { most ≤ 8 }
+    requires bits { bits ≤ 33 }
+    requires fits { All (FitsBits 33) samples.now }
+    requires wide { length samples.now ≤ length wide.old }
+    requires folds { length samples.now ≤ length folds.old }
+    ensures { IsBest most bits samples.now (fixed_below 5) result }
+{
+    let mut narrowed = [0; FEW_SAMPLES];
+    let mut values = [0; FEW_SAMPLES];
+    choose_among(samples, bits, most, &mut narrowed, wide, &mut values, folds)
+}
+
+/// The same for many samples.
+#[inline(never)]
+fn choose_of_many(
+    samples: &[i64],
+    bits: u32,
+    most: u8,
+    wide: &mut [i64],
+    folds: &mut [u32],
+) -> PricedChoice
+    requires some { 0 < length samples.now }
+    requires few { length samples.now ≤ 65535 }
+    requires most { most ≤ 8 }
+    requires bits { bits ≤ 33 }
+    requires fits { All (FitsBits 33) samples.now }
+    requires wide { length samples.now ≤ length wide.old }
+    requires folds { length samples.now ≤ length folds.old }
+    ensures { IsBest most bits samples.now (fixed_below 5) result }
+{
+    let mut narrowed = [0; MOST_SAMPLES];
+    let mut values = [0; MOST_SAMPLES];
+    choose_among(samples, bits, most, &mut narrowed, wide, &mut values, folds)
+}
+
 /// The content of the fewest bits: constant, verbatim, or a fixed predictor with a partition order up to the greatest.
 pub(crate) fn choose_body(
     samples: &[i64],
@@ -225,26 +357,9 @@ pub(crate) fn choose_body(
     requires folds { length samples.now ≤ length folds.old }
     ensures { IsBest most bits samples.now (fixed_below 5) result }
 {
-    let mut tables = Tables {
-        sums: [0; 256],
-        four: [0; 512],
-        five: [0; 512],
-        widths: [0; 512],
-    };
-    let mut best = begin(samples, bits);
-    let first = likely_order(samples);
-    let narrow = are_narrow(samples);
-    let subject = SampleView {
-        samples,
-        bits,
-        most,
-        narrow,
-    };
-    better_fixed(&subject, first, values, folds, &mut tables, &mut best);
-    for order in 0..5 {
-        if order != first {
-            better_fixed(&subject, order, values, folds, &mut tables, &mut best);
-        }
+    if samples.len() <= FEW_SAMPLES {
+        choose_of_few(samples, bits, most, values, folds)
+    } else {
+        choose_of_many(samples, bits, most, values, folds)
     }
-    release(best)
 }

@@ -62,33 +62,33 @@ pub(crate) fn rice_bits(folds: &[u32], parameter: u8, width: u8) -> u64
     quotients(folds, parameter, width) + folds.len() as u64 * (1 + u64::from(parameter))
 }
 
-/// The greatest of sixteen numbers, by a loop of fixed length.
+/// A number that has each bit that one of sixteen numbers has, by a loop of fixed length.
 #[inline(always)]
-fn greatest_of_sixteen(folds: &[u32]) -> u32
+fn bits_of_sixteen(folds: &[u32]) -> u32
     requires long { length folds.now ≡ 16 }
     ensures { (n : ℕ) → All (λ k. k < 2 ^ n) folds.now ↔ (result < 2 ^ n) }
 {
-    let mut greatest: u32 = 0;
+    let mut bits: u32 = 0;
     for i in 0..16 {
-        greatest = greatest.max(folds[i]);
+        bits |= folds[i];
     }
-    greatest
+    bits
 }
 
-/// The greatest of some numbers, 0 where there are none.
+/// A number that has each bit that one of some numbers has: it takes as many digits as the greatest of them.
 #[inline(always)]
-fn greatest(folds: &[u32]) -> u32
+fn bits_of(folds: &[u32]) -> u32
     requires small { All (λ n. n < 2 ^ 32) folds.now }
     ensures { (n : ℕ) → All (λ k. k < 2 ^ n) folds.now ↔ (result < 2 ^ n) }
 {
     if folds.len() == 16 {
-        return greatest_of_sixteen(folds);
+        return bits_of_sixteen(folds);
     }
-    let mut greatest: u32 = 0;
+    let mut bits: u32 = 0;
     for number in folds {
-        greatest = greatest.max(*number);
+        bits |= *number;
     }
-    greatest
+    bits
 }
 
 /// The fewest bits that hold each value as a signed number, by their folded numbers; 0 where all are 0.
@@ -98,5 +98,5 @@ pub(crate) fn width(folds: &[u32]) -> u8
     ensures small { result ≤ 32 }
     ensures least { (n : ℕ) → All (λ k. k < 2 ^ n) folds.now ↔ (result ≤ n) }
 {
-    (32 - greatest(folds).leading_zeros()) as u8
+    (32 - bits_of(folds).leading_zeros()) as u8
 }

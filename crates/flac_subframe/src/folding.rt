@@ -17,29 +17,29 @@ pub(crate) fn fold(value: i64) -> u64
     }
 }
 
-/// The same in 32 bits.
+/// The same in 32 bits: the double, and where the value is negative its complement, which the compiler makes three operations of.
 #[inline(always)]
-fn fold_narrow(value: i64) -> u32
+pub(crate) fn fold_narrow(value: i32) -> u32
     requires { IsResidual value }
     ensures value { result ≡ folded value }
     ensures small { result < 2 ^ 32 }
 {
-    let narrow = value as i32;
-    if narrow >= 0 {
-        narrow as u32 * 2
-    } else {
-        (-(narrow + 1)) as u32 * 2 + 1
-    }
+    let bits = value.cast_unsigned();
+    let twice = bits.wrapping_add(bits);
+    if value < 0 { u32::MAX - twice } else { twice }
 }
 
-/// Each value as an unsigned number.
-pub(crate) fn fold_each(values: &[i64], folds: &mut [u32])
-    requires range { All IsResidual values.now }
-    requires places { length folds.old ≡ length values.now }
-    ensures folded { folds.new ≡ map folded values.now }
-    ensures small { All (λ n. n < 2 ^ 32) folds.new }
+/// Each value in 32 bits, and as an unsigned number.
+pub(crate) fn fold_each(wide: &[i64], values: &mut [i32], folds: &mut [u32])
+    requires range { All IsResidual wide.now }
+    requires places { length values.old ≡ length wide.now }
+    requires folds { length folds.old ≡ length wide.now }
+    ensures values { values.new ≡ wide.now }
+    ensures folds { folds.new ≡ map folded wide.now }
 {
-    for i in 0..values.len() {
-        folds[i] = fold_narrow(values[i]);
+    for i in 0..wide.len() {
+        let value = wide[i] as i32;
+        values[i] = value;
+        folds[i] = fold_narrow(value);
     }
 }

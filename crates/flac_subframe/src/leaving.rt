@@ -7,7 +7,6 @@ ghost use Rattle.flac_subframe.specs.Numbers.{sample_at};
 ghost use Rattle.flac_subframe.specs.Prediction.{fixed_coefficients};
 ghost use Rattle.flac_subframe.specs.Bodies.{differences};
 
-use crate::numbers::fits_bits;
 use crate::restoration::predict_after;
 
 /// The sample `back` places before an index, 0 where a predictor of the order does not read it.
@@ -61,7 +60,7 @@ fn are_residual(values: &[i64]) -> bool
 }
 
 /// What the fixed predictor of an order leaves of the samples, by a loop for each order.
-fn take_fixed(order: usize, samples: &[i64], values: &mut [i64])
+pub(crate) fn take_fixed(order: usize, samples: &[i64], values: &mut [i64])
     requires order { order ≤ 4 }
     requires fits { All (FitsBits 33) samples.now }
     requires places { length values.old + order ≡ length samples.now }
@@ -78,35 +77,14 @@ fn take_fixed(order: usize, samples: &[i64], values: &mut [i64])
     }
 }
 
-/// Whether each sample has so few bits that what a fixed predictor leaves is in the range of a residual.
-pub(crate) fn are_narrow(samples: &[i64]) -> bool
-    ensures { IsTrue result → All (FitsBits 27) samples.now }
-{
-    let mut all = true;
-    for sample in samples {
-        all &= fits_bits(*sample, 27);
-    }
-    all
-}
-
-/// What the fixed predictor of an order leaves of the samples (RFC 9639, section 9.2.5), and whether a residual may have it all, which is known where
-/// the samples are narrow.
-pub(crate) fn take_differences(
-    order: usize,
-    samples: &[i64],
-    narrow: bool,
-    values: &mut [i64],
-) -> bool
+/// What the fixed predictor of an order leaves of the samples (RFC 9639, section 9.2.5), and whether a residual may have it all.
+pub(crate) fn take_differences(order: usize, samples: &[i64], values: &mut [i64]) -> bool
     requires order { order ≤ 4 }
     requires fits { All (FitsBits 33) samples.now }
-    requires narrow { IsTrue narrow → All (FitsBits 27) samples.now }
     requires places { length values.old + order ≡ length samples.now }
     ensures all { values.new ≡ differences (fixed_coefficients order) 0 samples.now }
     ensures range { IsTrue result ↔ All IsResidual (differences (fixed_coefficients order) 0 samples.now) }
 {
     take_fixed(order, samples, values);
-    if narrow {
-        return true;
-    }
     are_residual(values)
 }

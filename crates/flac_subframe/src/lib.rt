@@ -10,6 +10,7 @@ mod halves;
 mod halving;
 mod leaving;
 mod limits;
+mod narrowed;
 mod numbers;
 mod predictors;
 mod promises;

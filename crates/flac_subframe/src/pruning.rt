@@ -27,7 +27,7 @@ fn shift_to(count: u64, bits: u64) -> u32
 }
 
 /// What the values of a partition take at least under any coding, by the bits that they take under parameter 0 and by their width.
-fn bound_part(values: &[i64], bits: u64, width: u8) -> u64
+fn bound_part(values: &[i32], bits: u64, width: u8) -> u64
     requires few { length values.now ≤ 65535 }
     requires bits { bits ≡ sum_by (value_cost 0) values.now }
     requires small_width { width ≤ 32 }
@@ -47,7 +47,7 @@ fn bound_part(values: &[i64], bits: u64, width: u8) -> u64
 }
 
 /// The same by the values' exact cost under two parameters, the least of all where the quotients' sum falls between them below the count.
-fn bound_closely(values: &[i64], folds: &[u32], bits: u64, width: u8) -> u64
+fn bound_closely(values: &[i32], folds: &[u32], bits: u64, width: u8) -> u64
     requires few { length values.now ≤ 65535 }
     requires folded { folds.now ≡ map folded values.now }
     requires long { length folds.now ≡ length values.now }
@@ -74,7 +74,7 @@ fn bound_closely(values: &[i64], folds: &[u32], bits: u64, width: u8) -> u64
 
 /// What the values of a partition take at least, closely or roughly.
 #[inline(always)]
-fn bound_values(values: &[i64], folds: &[u32], bits: u64, width: u8, closely: bool) -> u64
+fn bound_values(values: &[i32], folds: &[u32], bits: u64, width: u8, closely: bool) -> u64
     requires few { length values.now ≤ 65535 }
     requires folded { folds.now ≡ map folded values.now }
     requires long { length folds.now ≡ length values.now }

@@ -34,7 +34,7 @@ pub(crate) struct Tables {
 }
 
 /// How often the block can be halved.
-pub(crate) fn greatest_halvings(values: &[i64], order: usize, most: u8) -> u8
+pub(crate) fn greatest_halvings(values: &[i32], order: usize, most: u8) -> u8
     requires few { length values.now + order ≤ 65535 }
     requires room { 0 < length values.now }
     requires most { most ≤ 8 }
@@ -52,7 +52,7 @@ pub(crate) fn greatest_halvings(values: &[i64], order: usize, most: u8) -> u8
 }
 
 /// The least coding of a partition, from its entry in the table and its width.
-fn finish(values: &[i64], parameter_bits: u8, best: u64, width: u8) -> Priced
+fn finish(values: &[i32], parameter_bits: u8, best: u64, width: u8) -> Priced
     requires few { length values.now ≤ 65535 }
     requires range { All IsResidual values.now }
     requires method { (parameter_bits ≡ 4) ⊎ (parameter_bits ≡ 5) }

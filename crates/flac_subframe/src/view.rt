@@ -10,7 +10,7 @@ ghost use Rattle.flac_subframe.specs.Halves.{Halves};
 /// can be halved.
 #[derive(Drop)]
 pub(crate) struct ResidualView<'a> {
-    pub(crate) values: &'a [i64],
+    pub(crate) values: &'a [i32],
     pub(crate) folds: &'a [u32],
     pub(crate) order: usize,
     pub(crate) halvings: u8,
@@ -24,10 +24,11 @@ pub(crate) struct ResidualView<'a> {
 }
 
 /// The samples of a subframe without its wasted bits: how many bits each has, the greatest partition order that is tried, and whether
-/// each has so few bits that what a fixed predictor leaves is in the range of a residual.
+/// each has so few bits that what a fixed predictor leaves is in the range of a residual; if so, also the samples in 32 bits each.
 #[derive(Drop)]
 pub(crate) struct SampleView<'a> {
     pub(crate) samples: &'a [i64],
+    pub(crate) narrowed: &'a [i32],
     pub(crate) bits: u32,
     pub(crate) most: u8,
     pub(crate) narrow: bool,
@@ -36,4 +37,5 @@ pub(crate) struct SampleView<'a> {
     ghost halved: { most ≤ 8 },
     ghost fits: { All (FitsBits 33) samples.now },
     ghost leaves: { IsTrue narrow → All (FitsBits 27) samples.now },
+    ghost same: { IsTrue narrow → narrowed.now ≡ samples.now },
 }

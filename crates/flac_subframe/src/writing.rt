@@ -15,7 +15,7 @@ use crate::chosen::{Choice, MOST_SAMPLES};
 use crate::coding::Coding;
 use crate::folding::fold;
 use crate::halving::{ResidualChoice, power};
-use crate::leaving::take_differences;
+use crate::leaving::take_fixed;
 use crate::predictors::fixed_coefficients;
 use crate::wasted::drop_wasted;
 use flac_bits::{BitWriter, Target, Why};
@@ -156,7 +156,7 @@ fn write_fixed<W: Target>(
     let coefficients = fixed_coefficients(order as u32);
     let count = coefficients.len();
     let places = &mut values[..samples.len() - count];
-    let _all = take_differences(order, samples, false, places);
+    take_fixed(order, samples, places);
     write_signed(writer, depth, &samples[..count])?;
     write_residual(writer, residual, count, places)
 }

@@ -19,11 +19,11 @@ returns-then-order-samples c = λ tried so.
     too_long c.args.subject.now.most c.args.subject.now.bits c.args.subject.now.samples.now tried (tried ++ fixed o ∷ []) (fixed o) refl (fixed_coefficients o) 0 o (c.args.subject.now.bits * o) refl refl (order_is o c.requires.order) (before_is c.args.subject.now.bits o c.args.subject.now.bits c.requires.order refl)
     (priced_as c.args.best.now) so c.if-order-samples.true
 
-pub returns-then-not-take_differences : goal.returns-then-not-take_differences
-returns-then-not-take_differences c = λ tried so.
+pub returns-then-not-take_residual : goal.returns-then-not-take_residual
+returns-then-not-take_residual c = λ tried so.
     let o = c.args.order in
     out_of_range c.args.subject.now.most c.args.subject.now.bits c.args.subject.now.samples.now tried (tried ++ fixed o ∷ []) (fixed o) refl (fixed_coefficients o) 0 o (c.args.subject.now.bits * o) refl refl (order_is o c.requires.order) (before_is c.args.subject.now.bits o c.args.subject.now.bits c.requires.order refl)
-    (priced_as c.args.best.now) so (λ all. cc (c.take_differences.ensures.range.1 all, c.if-not-take_differences.true))
+    (priced_as c.args.best.now) so (λ all. cc (c.take_residual.ensures.all all, c.if-not-take_residual.true))
 
 pub returns-then-limit-before : goal.returns-then-limit-before
 returns-then-limit-before c = λ tried so.
@@ -34,8 +34,8 @@ returns-then-limit-before c = λ tried so.
 pub returns-then-least_residual_into : goal.returns-then-least_residual_into
 returns-then-least_residual_into c = λ tried so.
     let o = c.args.order in
-    let is = c.take_differences.ensures.all in
-    let range = c.take_differences.ensures.range.0 c.if-not-take_differences.false in
+    let is = c.take_residual.ensures.values c.if-not-take_residual.false in
+    let range = rw is at (c.take_residual.ensures.range c.if-not-take_residual.false) in
     let r = c.least_residual_into.new.into in
     let found = c.greatest_halvings-halvings.ensures in
     let least = rw is at (least_of_all o c.greatest_halvings-halvings.result c.args.subject.now.most _ found.within found.greatest _ (c.least_residual_into.ensures.least c.if-least_residual_into.true)) in
@@ -48,7 +48,7 @@ returns-then-least_residual_into c = λ tried so.
 pub returns-else-least_residual_into : goal.returns-else-least_residual_into
 returns-else-least_residual_into c = λ tried so.
     let o = c.args.order in
-    let is = c.take_differences.ensures.all in
+    let is = c.take_residual.ensures.values c.if-not-take_residual.false in
     let kept = c.if-least_residual_into.ensures.kept (λ t. cc) in
     let found = c.greatest_halvings-halvings.ensures in
     let none = rw is at (none_of_all o c.greatest_halvings-halvings.result c.args.subject.now.most _ found.within found.greatest _ (c.if-least_residual_into.ensures.none (λ t. cc))) in

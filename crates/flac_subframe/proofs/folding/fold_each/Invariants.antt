@@ -3,4 +3,7 @@ use Rattle.flac_subframe.specs.Spelling.{folded}
 use Rattle.flac_subframe.proofs.folding.fold_each.Given as goal
 
 abbrev pub invariant-loop-i : goal.invariant-loop-i
-invariant-loop-i l = take l.i l.folds ≡ map folded (take l.i l.values)
+invariant-loop-i l = record {
+  values : take l.i l.values ≡ take l.i l.wide;
+  folds : take l.i l.folds ≡ map folded (take l.i l.wide);
+}

@@ -11,8 +11,8 @@ use Rattle.flac_subframe.proofs.Differences.{length-fixed}
 use Rattle.flac_subframe.proofs.WriteSteps.{fixed_text}
 use Rattle.flac_subframe.proofs.writing.write_fixed.Goals as goal
 
-pub take_differences-all-requires-clause-places : goal.take_differences-all-requires-clause-places
-take_differences-all-requires-clause-places g c =
+pub take_fixed-requires-clause-places : goal.take_fixed-requires-clause-places
+take_fixed-requires-clause-places g c =
     omega (arith, length-fixed c.args.order c.requires.order, ap (λ (x : List ℤ). length x) c.fixed_coefficients-coefficients.ensures, c.requires.predicts.room, length-take (length c.args.samples.now - length c.fixed_coefficients-coefficients.result.now) c.args.values.now)
 
 pub returns-in_err-write_signed : goal.returns-in_err-write_signed
@@ -30,7 +30,7 @@ returns g c =
     let s = c.args.samples.now in
     let r = residual_of (length cs) (differences cs 0 s) (codings_of c.args.residual.now) in
     let same = c.fixed_coefficients-coefficients.ensures in
-    let all = c.take_differences-all.ensures.all in
+    let all = c.take_fixed.ensures.all in
     let warm = rw same at c.in_ok-write_signed.ensures in
     let rest = rw (same, all) at c.write_residual.ensures in
     rw (fixed_text c.args.depth (take (length cs) s) r) (writes_then (residual_spelling r) c.write_residual.new.writer c.write_residual.result warm rest)

@@ -2,8 +2,8 @@ use Rattle.std.proofs.Common.{arith, ◌∷◌, ◌≡◌, ◌∙◌}
 use Rattle.flac_subframe.specs.Bodies.{fixed}
 use Rattle.flac_subframe.specs.Chosen.{IsBest, fixed_below, priced_as}
 use Rattle.flac_subframe.proofs.Best.{next_tried, first_tried}
-use Rattle.flac_subframe.proofs.choice.choose_body.Goals as goal
-use Rattle.flac_subframe.proofs.choice.choose_body.Goals.{then-order-first, else-order-first}
+use Rattle.flac_subframe.proofs.choice.choose_among.Goals as goal
+use Rattle.flac_subframe.proofs.choice.choose_among.Goals.{then-order-first, else-order-first}
 
 pub better_fixed-requires-clause-small : goal.better_fixed-requires-clause-small
 better_fixed-requires-clause-small c = (c.begin-best.ensures c.args.most).small
@@ -11,6 +11,7 @@ better_fixed-requires-clause-small c = (c.begin-best.ensures c.args.most).small
 pub loop-order-init : goal.loop-order-init
 loop-order-init c = record {
   best = c.better_fixed.ensures (fixed_below 0) (c.begin-best.ensures c.args.most);
+  wide = c.better_fixed.auto.wide;
   values = c.better_fixed.auto.values;
   folds = c.better_fixed.auto.folds;
 }
@@ -25,6 +26,7 @@ loop-order-preserved c =
           let new = w.better_fixed-then-order-first in
           record {
             best = rw w.best-is (next_tried most bits s _ first order (new.ensures (fixed first ∷ fixed_below order) so.best));
+            wide = rw w.wide-is (new.auto.wide ∙ so.wide);
             values = rw w.values-is (new.auto.values ∙ so.values);
             folds = rw w.folds-is (new.auto.folds ∙ so.folds);
           }
@@ -33,6 +35,7 @@ loop-order-preserved c =
           let tried : IsBest most bits s (fixed order ∷ fixed_below order) (priced_as c.loop-order.best) = rw (← e) at so.best in
           record {
             best = rw (w.best-is, ← e) (first_tried most bits s (priced_as c.loop-order.best) order tried);
+            wide = rw w.wide-is so.wide;
             values = rw w.values-is so.values;
             folds = rw w.folds-is so.folds;
           }

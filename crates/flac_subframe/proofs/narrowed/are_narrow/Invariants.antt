@@ -1,7 +1,7 @@
 use Rattle.std.proofs.Common.{take, All}
 use Rattle.std.specs.Prelude.{IsTrue}
 use Rattle.flac_bits.specs.Signed.{FitsBits}
-use Rattle.flac_subframe.proofs.leaving.are_narrow.Given as goal
+use Rattle.flac_subframe.proofs.narrowed.are_narrow.Given as goal
 
 abbrev pub invariant-loop-sample : goal.invariant-loop-sample
 invariant-loop-sample l = IsTrue l.all → All (FitsBits 27) (take l.sample-index l.samples)

@@ -3,7 +3,7 @@ use Rattle.std.proofs.lemmas.Int.{ints}
 use Rattle.std.proofs.lemmas.List.{take_all}
 use Rattle.flac_bits.specs.Signed.{FitsBits}
 use Rattle.flac_subframe.proofs.Digits.{All_step}
-use Rattle.flac_subframe.proofs.leaving.are_narrow.Goals as goal
+use Rattle.flac_subframe.proofs.narrowed.are_narrow.Goals as goal
 
 both : (a b : Bool) → (IsTrue (a && b) ↔ (IsTrue a × IsTrue b))
 both true true = (λ h. (h, h), λ h. h.0)
