@@ -78,3 +78,20 @@ module _ (rs : List ℤ) where
       let one : m + 1 + (k - m - 1) ≡ k = omega arith in
       let first : sum_by (value_cost (m + 1)) rs < sum_by (value_cost m) rs = falls (k - m) m (rw e next) in
       omega (arith, first, rw one at (dearer (k - m - 1) (m + 1) (rw one next)))
+
+  -- a parameter that costs no less than a lower one costs no less than the one before it
+  pub last_no_more : (n k : ℕ) → n < k → sum_by (value_cost n) rs ≤ sum_by (value_cost k) rs → sum_by (value_cost (k - 1)) rs ≤ sum_by (value_cost k) rs
+  last_no_more n k lt le = elim (cases_lt (sum_by (value_cost k) rs) (sum_by (value_cost (k - 1)) rs)) [
+    | inl less ↦
+        let e : n + (k - 1 - n) ≡ k - 1 = omega arith in
+        let one : n + (k - 1 - n) + 1 ≡ k = omega arith in
+        absurd (omega (arith, le, less, rw e at (dearer (k - 1 - n) n (rw (one, e) less))))
+    | inr not ↦ not
+  ]
+
+  -- a parameter that costs more than a higher one costs more than the next
+  pub next_less : (k n : ℕ) → k < n → sum_by (value_cost n) rs < sum_by (value_cost k) rs → sum_by (value_cost (k + 1)) rs < sum_by (value_cost k) rs
+  next_less k n lt less = elim (cases_lt (sum_by (value_cost (k + 1)) rs) (sum_by (value_cost k) rs)) [
+    | inl is ↦ is
+    | inr not ↦ let above : k + (n - k) ≡ n = omega arith in absurd (omega (arith, less, rw above at (no_less_above k (n - k) not)))
+  ]

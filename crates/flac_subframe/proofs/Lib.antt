@@ -20,6 +20,7 @@ pub mod Folds
 pub mod Least
 pub mod CodingLeast
 pub mod Pricing
+pub mod Sixteen
 pub mod Splits
 pub mod Entries
 pub mod Orders
@@ -33,6 +34,7 @@ pub mod Close
 pub mod Searching
 pub mod Lengths
 pub mod Differences
+pub mod Moved
 pub mod Narrow
 pub mod Bodies
 pub mod Best

@@ -3,10 +3,11 @@ use Rattle.std.proofs.Common.{◌≡◌, inl, inr, refl, ℕ, zero, suc, ◌+◌
 use Rattle.std.specs.List.{sum_by}
 use Rattle.std.proofs.lemmas.Bool.{cases_lt}
 use Rattle.std.proofs.lemmas.List.Sums.{sum_by-append}
+use Rattle.std.proofs.lemmas.Nat.{pow_pos}
 use Rattle.flac_bits.specs.Rice.{IsResidual}
 use Rattle.flac_subframe.specs.Cost.{value_cost}
 use Rattle.flac_subframe.specs.Halves.{part, Halves, entry, priced, LeastBelow}
-use Rattle.flac_subframe.proofs.Convex.{no_less_after, more_before}
+use Rattle.flac_subframe.proofs.Convex.{no_less_after, more_before, last_no_more, next_less}
 use Rattle.flac_subframe.proofs.Splits.{part_splits, coarser, part_small, power_more}
 
 -- the number is the least of the Rice parameters from low on and below high; where there are none it is the greatest
@@ -97,6 +98,32 @@ module _ (order h k : ℕ) (rs : List ℤ) (half : Halves order rs h) (few : len
       ];
     }
 
+    leaf_before : (j : ℕ) → j < 2 ^ h → sum_by (value_cost (k - 1)) (part order rs h j) ≤ sum_by (value_cost k) (part order rs h j)
+    leaf_before j b =
+        let so = leaves j b in
+        let some : 0 < k = elim (cases_lt 0 k) [ inl c ↦ c | inr c ↦ absurd (omega (arith, kept j b, below h j, small, so.none (omega arith))) ] in
+        let was = so.some some in
+        last_no_more (part order rs h j) was.0 k was.1 (omega (arith, kept j b, was.1, was.2, small))
+
+    before : (p j : ℕ) → p ≤ h → j < 2 ^ p → sum_by (value_cost (k - 1)) (part order rs p j) ≤ sum_by (value_cost k) (part order rs p j)
+    before p j le b = of_all order rs (λ xs. sum_by (value_cost (k - 1)) xs ≤ sum_by (value_cost k) xs) (λ xs ys a c. omega (arith, a, c, sum_by-append (value_cost (k - 1)) xs ys, sum_by-append (value_cost k) xs ys)) h p le half leaf_before j b
+
+    some_before : 0 < k
+    some_before =
+        let so = leaves 0 (pow_pos h) in
+        elim (cases_lt 0 k) [ inl c ↦ c | inr c ↦ absurd (omega (arith, kept 0 (pow_pos h), below h 0, small, so.none (omega arith))) ]
+
+    -- nor does it gain anything for a coarser one
+    pub kept_by : (p j : ℕ) → p ≤ h → j < 2 ^ p → LeastBelow k (part order rs p j) (entry old p j) → LeastBelow (k + 1) (part order rs p j) (entry old p j)
+    kept_by p j le b so = record {
+      none = λ z. absurd (omega arith);
+      some = λ z. let was = so.some some_before in (was.0, omega (arith, was.1), was.2);
+      least = λ n c. elim (cases_lt n k) [
+        | inl d ↦ so.least n d
+        | inr d ↦ let e : n ≡ k = omega arith in rw e (omega (arith, so.least (k - 1) (omega (arith, some_before)), before p j le b))
+      ];
+    }
+
   -- downwards: the parameter k gains nothing for the finest partitions, so no lower one gains anything
   module _ (high : ℕ) (leaves : (j : ℕ) → j < 2 ^ h → LeastWithin (k + 1) high (part order rs h j) (entry old h j)) where
     leaf_falls : (m : ℕ) → m < k → (j : ℕ) → j < 2 ^ h → sum_by (value_cost k) (part order rs h j) < sum_by (value_cost m) (part order rs h j)
@@ -116,5 +143,31 @@ module _ (order h k : ℕ) (rs : List ℤ) (half : Halves order rs h) (few : len
       least = λ n c. elim (cases_lt n k) [
         | inl d ↦ omega (arith, so.least k (omega arith) lt, falls n d p j le b, small)
         | inr d ↦ so.least n d c
+      ];
+    }
+
+    leaf_next : (j : ℕ) → j < 2 ^ h → sum_by (value_cost (k + 1)) (part order rs h j) < sum_by (value_cost k) (part order rs h j)
+    leaf_next j b =
+        let so = leaves j b in
+        let some : k + 1 < high = elim (cases_lt (k + 1) high) [ inl c ↦ c | inr c ↦ absurd (omega (arith, kept j b, below h j, small, so.none c)) ] in
+        let was = so.some some in
+        next_less (part order rs h j) k was.0 (omega (arith, was.1)) (omega (arith, kept j b, was.1, was.3))
+
+    next : (p j : ℕ) → p ≤ h → j < 2 ^ p → sum_by (value_cost (k + 1)) (part order rs p j) < sum_by (value_cost k) (part order rs p j)
+    next p j le b = of_all order rs (λ xs. sum_by (value_cost (k + 1)) xs < sum_by (value_cost k) xs) (λ xs ys a c. omega (arith, a, c, sum_by-append (value_cost (k + 1)) xs ys, sum_by-append (value_cost k) xs ys)) h p le half leaf_next j b
+
+    some_next : k + 1 < high
+    some_next =
+        let so = leaves 0 (pow_pos h) in
+        elim (cases_lt (k + 1) high) [ inl c ↦ c | inr c ↦ absurd (omega (arith, kept 0 (pow_pos h), below h 0, small, so.none c)) ]
+
+    -- nor does it gain anything for a coarser one
+    pub kept_down : (p j : ℕ) → p ≤ h → j < 2 ^ p → LeastWithin (k + 1) high (part order rs p j) (entry old p j) → LeastWithin k high (part order rs p j) (entry old p j)
+    kept_down p j le b so = record {
+      none = λ z. absurd (omega (arith, some_next));
+      some = λ z. let was = so.some some_next in (was.0, omega (arith, was.1), was.2, was.3);
+      least = λ n g c. elim (cases_lt k n) [
+        | inl d ↦ so.least n (omega arith) c
+        | inr d ↦ let e : n ≡ k = omega arith in rw e (omega (arith, so.least (k + 1) (omega arith) some_next, next p j le b))
       ];
     }

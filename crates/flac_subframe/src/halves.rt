@@ -1,7 +1,7 @@
 //! The cost of each partition at each partition order, where each value's cost is worked out once for each parameter: a partition costs as much
 //! as its two halves.
 
-ghost use Rattle.std.specs.Prelude.{◌≡◌, ◌<◌, ◌≤◌, ◌^◌, ◌+◌, ◌-◌, ◌*◌, ◌/◌, ℕ, true, false, length, map, min, All, slice_index, ◌⊎◌};
+ghost use Rattle.std.specs.Prelude.{◌≡◌, ◌<◌, ◌≤◌, ◌^◌, ◌+◌, ◌-◌, ◌*◌, ◌/◌, ℕ, true, false, length, map, min, All, IsTrue, slice_index, ◌⊎◌};
 ghost use Rattle.std.specs.List.{sum_by};
 ghost use Rattle.flac_subframe.specs.Cost.{value_cost};
 ghost use Rattle.flac_subframe.specs.Halves.{part, priced, entry, HasEntries};
@@ -79,7 +79,7 @@ fn gains(sums: &[u64], best: &[u64], parameter: u8) -> bool
     false
 }
 
-/// Compares, at each partition order, each partition's cost under a parameter with the best so far: whether it lowers that of one of the finest.
+/// Compares, at each partition order, each partition's cost under a parameter with the best so far, if it lowers that of one of the finest.
 fn pass(
     residual: &ResidualView<'_>,
     width: u8,
@@ -92,12 +92,15 @@ fn pass(
     requires sums { length sums.old ≡ 2 ^ residual.now.halvings }
     requires table { 2 * 2 ^ residual.now.halvings ≤ length table.old }
     ensures kept { length table.new ≡ length table.old }
-    ensures entries { (p j : ℕ) → p ≤ residual.now.halvings → j < 2 ^ p → entry table.new p j ≡ min (entry table.old p j) (priced parameter (sum_by (value_cost parameter) (part residual.now.order residual.now.values.now p j))) }
+    ensures entries { IsTrue result → (p j : ℕ) → p ≤ residual.now.halvings → j < 2 ^ p → entry table.new p j ≡ min (entry table.old p j) (priced parameter (sum_by (value_cost parameter) (part residual.now.order residual.now.values.now p j))) }
+    ensures same { result ≡ false → table.new ≡ table.old }
     ensures none { result ≡ false → (j : ℕ) → j < 2 ^ residual.now.halvings → entry table.old residual.now.halvings j ≤ priced parameter (sum_by (value_cost parameter) (part residual.now.order residual.now.values.now residual.now.halvings j)) }
 {
     price(residual, width, parameter, sums);
     let first = power(residual.halvings);
-    let gained = gains(sums, &table[first..2 * first], parameter);
+    if !gains(sums, &table[first..2 * first], parameter) {
+        return false;
+    }
     note_level(sums, table, residual.halvings, parameter);
     let mut level = residual.halvings;
     while level > 0 {
@@ -105,7 +108,7 @@ fn pass(
         pair(sums, power(level));
         note_level(sums, table, level, parameter);
     }
-    gained
+    true
 }
 
 /// Fills an empty table with the least of the parameters below one: tries them downwards, as long as one of the finest partitions gains by it.

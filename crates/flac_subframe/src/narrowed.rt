@@ -1,6 +1,6 @@
 //! Samples of few bits in 32 bits each, and what the fixed predictors leave of them.
 
-ghost use Rattle.std.specs.Prelude.{◌∷◌, [], ◌≡◌, ◌≤◌, ◌^◌, ◌-◌, ◌+◌, length, map, All, IsTrue};
+ghost use Rattle.std.specs.Prelude.{◌∷◌, [], ◌≡◌, ◌<◌, ◌≤◌, ◌^◌, ◌-◌, ◌+◌, length, map, All, IsTrue, ◌↔◌};
 ghost use Rattle.std.specs.Int.RustNames.{unsigned_abs};
 ghost use Rattle.flac_bits.specs.Signed.{FitsBits};
 ghost use Rattle.flac_subframe.specs.Numbers.{sample_at};
@@ -9,17 +9,24 @@ ghost use Rattle.flac_subframe.specs.Prediction.{prediction, fixed_coefficients}
 ghost use Rattle.flac_subframe.specs.Bodies.{differences};
 
 use crate::folding::fold_narrow;
-use crate::numbers::fits_bits;
+
+/// A sample moved up by half the range of 27 bits, below 2^27 just if it has no more bits.
+#[inline(always)]
+fn moved(sample: i64) -> u64
+    ensures { (result < 2 ^ 27) ↔ FitsBits 27 sample }
+{
+    sample.wrapping_add(0x400_0000).cast_unsigned()
+}
 
 /// Whether each sample has so few bits that what a fixed predictor leaves is in the range of a residual.
 fn are_narrow(samples: &[i64]) -> bool
     ensures { IsTrue result → All (FitsBits 27) samples.now }
 {
-    let mut all = true;
+    let mut all: u64 = 0;
     for sample in samples {
-        all &= fits_bits(*sample, 27);
+        all |= moved(*sample);
     }
-    all
+    all < 0x800_0000
 }
 
 /// The same samples in 32 bits each.

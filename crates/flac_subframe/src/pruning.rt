@@ -26,6 +26,22 @@ fn shift_to(count: u64, bits: u64) -> u32
     }
 }
 
+/// What sixteen values take at least under any coding, by the bits that they take under parameter 0 and by their width: with no branch.
+#[inline(always)]
+fn bound_sixteen(values: &[i32], bits: u64, width: u8) -> u64
+    requires long { length values.now ≡ 16 }
+    requires bits { bits ≡ sum_by (value_cost 0) values.now }
+    requires small_width { width ≤ 32 }
+    requires width { IsWidth values.now width }
+    ensures rice { (k : ℕ) → result ≤ sum_by (value_cost k) values.now }
+    ensures escape { (n : ℕ) → All (FitsWidth n) values.now → result ≤ n * length values.now }
+    ensures small { result ≤ 2 ^ 21 }
+{
+    let shift = 59 - bits.leading_zeros();
+    let rice = 16 * u64::from(shift) + (bits >> shift);
+    rice.min(16 * u64::from(width))
+}
+
 /// What the values of a partition take at least under any coding, by the bits that they take under parameter 0 and by their width.
 fn bound_part(values: &[i32], bits: u64, width: u8) -> u64
     requires few { length values.now ≤ 65535 }
@@ -36,6 +52,9 @@ fn bound_part(values: &[i32], bits: u64, width: u8) -> u64
     ensures escape { (n : ℕ) → All (FitsWidth n) values.now → result ≤ n * length values.now }
     ensures small { result ≤ 2 ^ 21 }
 {
+    if values.len() == 16 {
+        return bound_sixteen(values, bits, width);
+    }
     let count = values.len() as u64;
     let shift = shift_to(count, bits);
     let quotient = bits >> shift;

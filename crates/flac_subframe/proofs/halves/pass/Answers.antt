@@ -22,8 +22,8 @@ note_level-requires-in-loop-level-clause-sums c = omega (arith, room c.loop-leve
 pub note_level-requires-in-loop-level-clause-table : goal.note_level-requires-in-loop-level-clause-table
 note_level-requires-in-loop-level-clause-table c = omega (arith, room c.loop-level.level c.args.residual.now.halvings c.loop-level-test.true c.loop-level.invariant.within)
 
-pub gains-gained-requires-clause-small : goal.gains-gained-requires-clause-small
-gains-gained-requires-clause-small c = λ j h.
+pub gains-requires-clause-small : goal.gains-requires-clause-small
+gains-requires-clause-small c = λ j h.
     let n : ℕ = c.power-first.result in
     let b : j < 2 ^ c.args.residual.now.halvings = omega (arith, h, length-take (2 * n - n) (drop n c.args.table.now), c.power-first.ensures) in
     rw (c.price.ensures.costs j b) (part_small c.args.residual.now.order c.args.parameter c.args.residual.now.values.now c.args.residual.now.halvings j c.requires.parameter (omega arith) c.args.residual.now.range)

@@ -1,23 +1,15 @@
-use Rattle.std.proofs.Common.{arith, ◌≡◌, ◌∙◌, ℕ, zero, suc, ◌+◌, ◌-◌, ◌*◌, ◌%◌, ◌^◌, ◌<◌, ◌≤◌, pos, negsuc, ℤ, FitsSigned, of_z, w64, refl}
-use Rattle.std.proofs.lemmas.Int.{ints, of_z-to_z}
+use Rattle.std.proofs.Common.{arith, ◌≡◌, ◌∙◌, ℕ, zero, suc, ◌+◌, ◌-◌, ◌*◌, ◌%◌, ◌^◌, ◌<◌, ◌≤◌, of_z, w64, refl}
+use Rattle.std.proofs.lemmas.Int.{of_z-to_z}
 use Rattle.std.proofs.lemmas.Nat.{one_shl, pow_pos}
 use Rattle.std.proofs.lemmas.Bool.{le-leb, leb-true}
 use Rattle.std.proofs.Math.Nat.{pow-suc, pow-le-pow_right}
-use Rattle.flac_bits.specs.Signed.{FitsBits}
 use Rattle.flac_bits.proofs.Signs.{all_ones}
+use Rattle.flac_subframe.proofs.Moved.{fits_when, when_fits}
 use Rattle.flac_subframe.proofs.numbers.fits_bits.Goals as goal
 
 twice : (n : ℕ) → 1 ≤ n → 2 ^ n ≡ 2 * 2 ^ (n - 1)
 twice zero some = absurd (omega arith)
 twice (suc n) some = let e : suc n - 1 ≡ n = omega arith in rw (e, pow-suc) (omega arith)
-
-fits_when : (number : ℤ) (bits half moved : ℕ) → half ≡ 2 ^ (bits - 1) → half ≤ 2 ^ 62 → FitsSigned w64 number → moved ≡ (of_z w64 number + half) % 2 ^ 64 → moved < 2 * half → FitsBits bits number
-fits_when (pos a) bits half moved e small range is h = record { low = omega (arith, ints, e); high = omega (arith, ints, e, range, is) }
-fits_when (negsuc a) bits half moved e small range is h = record { low = omega (arith, ints, e, range, is); high = omega (arith, ints, e) }
-
-when_fits : (number : ℤ) (bits half moved : ℕ) → half ≡ 2 ^ (bits - 1) → half ≤ 2 ^ 62 → FitsSigned w64 number → moved ≡ (of_z w64 number + half) % 2 ^ 64 → FitsBits bits number → moved < 2 * half
-when_fits (pos a) bits half moved e small range is f = omega (arith, ints, e, range, is, f.high)
-when_fits (negsuc a) bits half moved e small range is f = omega (arith, ints, e, range, is, f.low)
 
 pub returns : goal.returns
 returns c =
