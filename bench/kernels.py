@@ -1,6 +1,6 @@
 #!/usr/bin/env python3
-"""Prints how many nanoseconds a sample each part of the decoder takes when it verifies a file, beside the reference, as a table in Markdown.
-`kernels` starts it.
+"""Prints how many nanoseconds a sample each part of the program takes when it verifies a file and when it encodes one, beside the reference, as
+tables in Markdown. `kernels` starts it.
 
 The program and the reference run in turn. A run of the program under Linux's perf tells the share of each function; the shares are of the seconds of the
 runs without it. A sample is one of one channel. What the compiler made one function counts as its part.
@@ -18,50 +18,74 @@ import measure
 
 # the program itself, without the script that builds it
 PROGRAM = os.path.abspath(os.environ.get("FLAC") or os.path.join(os.path.dirname(measure.HERE), "crates", "flac", "out", "flac"))
-# the functions of the compiled program that each part became; what is written inside of another counts as its part
-PARTS = {
+# the functions of the compiled program that each part became, the first that fits; what is written inside of another counts as its part
+DECODING = {
     "residual values": r"Held::values|rice|residual",
     "restoration": r"restoration::",
     "digest": r"^md5::",
     "joining, range, rows for the digest": r"advance::read_part",
     "pulls and checks": r"Held::pull|BitReader::|sums::",
 }
+ENCODING = {
+    "differences, widths, bounds, totals": r"better_fixed|(narrowed|leaving|folding|pruning|survey|widths|cost)::",
+    "costs under a parameter": r"halves::",
+    "first guess, range, copies": r"(choice|chosen|wasted)::|memmove|memset",
+    "writing": r"writing::|put_more|unsent::|BitWriter",
+    "joining": r"flac_frame::",
+    "raw input": r"flac_cli::",
+    "digest": r"^md5::",
+}
 
 
-def part_of(name):
-    for part, pattern in PARTS.items():
+def part_of(name, parts):
+    for part, pattern in parts.items():
         if re.search(pattern, name):
             return part
     return "the rest"
 
 
-def watched(path, folder):
-    """How often each function of the program was met while it verified a file."""
+def watched(words, folder):
+    """How often each function of the program was met while it ran."""
     data = os.path.join(folder, "perf.data")
-    subprocess.run(["perf", "record", "-q", "-e", "task-clock", "-F", "9000", "-o", data, PROGRAM, "test", path],
+    subprocess.run(["perf", "record", "-q", "-e", "task-clock", "-F", "9000", "-o", data, *words],
                    stdout=subprocess.DEVNULL, stderr=subprocess.DEVNULL, check=True)
     text = subprocess.run(["perf", "script", "-i", data, "-F", "ip,sym"], stdout=subprocess.PIPE, stderr=subprocess.DEVNULL, check=True).stdout.decode()
     return collections.Counter(line.split(None, 1)[1] for line in text.splitlines() if len(line.split(None, 1)) == 2)
 
 
-def kernels(form, level, seconds, runs, folder, every):
-    rate, bits = measure.FORMS[form]
-    path = measure.encoded(measure.audio(rate, bits, seconds), rate, bits, level)
-    samples = 2 * rate * seconds
+def kernels(label, commands, samples, parts, runs, folder, every):
+    """A row of the table for the program's words and the reference's."""
+    words, reference = commands
     ours, theirs, met = [], [], collections.Counter()
     for _ in range(runs):
-        ours.append(measure.once([PROGRAM, "test", path]))
-        theirs.append(measure.once([measure.REFERENCE, "-t", "-s", path]))
-        met += watched(path, folder)
+        ours.append(measure.once(words))
+        theirs.append(measure.once(reference))
+        met += watched(words, folder)
     nanoseconds = statistics.median(ours) * 1e9 / samples
     if every:
         for name, count in met.most_common(25):
-            print(f"{nanoseconds * count / met.total():6.2f} {part_of(name):24} {name}")
-    parts = collections.Counter()
+            print(f"{nanoseconds * count / met.total():6.2f} {part_of(name, parts):24} {name}")
+    shares = collections.Counter()
     for name, count in met.items():
-        parts[part_of(name)] += count
-    cells = [f"{nanoseconds * parts[part] / met.total():.1f}" for part in [*PARTS, "the rest"]]
-    measure.row(f"{form}, level {level}", f"{nanoseconds:.1f}", *cells, f"{statistics.median(theirs) * 1e9 / samples:.1f}")
+        shares[part_of(name, parts)] += count
+    cells = [f"{nanoseconds * shares[part] / met.total():.1f}" for part in [*parts, "the rest"]]
+    measure.row(label, f"{nanoseconds:.1f}", *cells, f"{statistics.median(theirs) * 1e9 / samples:.1f}")
+
+
+def decoding(seconds, runs, folder, every):
+    measure.head("`flac test`", "program", *DECODING, "the rest", "`flac -t`")
+    for form, (rate, bits) in measure.FORMS.items():
+        for level in measure.LEVELS:
+            path = measure.encoded(measure.audio(rate, bits, seconds), rate, bits, level)
+            commands = [PROGRAM, "test", path], [measure.REFERENCE, "-t", "-s", path]
+            kernels(f"{form}, level {level}", commands, 2 * rate * seconds, DECODING, runs, folder, every)
+
+
+def encoding(seconds, runs, folder, every):
+    measure.head("`flac encode`", "program", *ENCODING, "the rest", "`flac`")
+    for form, (rate, bits) in measure.FORMS.items():
+        words, reference = measure.encode_commands(measure.audio(rate, bits, seconds), rate, bits, folder)[2].values()
+        kernels(form, ([PROGRAM, *words[1:]], reference), 2 * rate * seconds, ENCODING, runs, folder, every)
 
 
 def main():
@@ -69,16 +93,16 @@ def main():
     parser.add_argument("--quick", action="store_true", help="20 seconds of audio and 3 runs instead of 180 and 7")
     parser.add_argument("--runs", type=int, default=None)
     parser.add_argument("--functions", action="store_true", help="the functions too, each with the part that it counts to")
+    parser.add_argument("--encoding", action="store_true", help="the table of encoding alone")
     words = parser.parse_args()
     subprocess.run([measure.PROGRAM, "--help"], stdout=subprocess.DEVNULL, check=True)
     os.makedirs(measure.FOLDER, exist_ok=True)
     seconds, runs = (20, words.runs or 3) if words.quick else (180, words.runs or 7)
     print(f"Nanoseconds a sample; {measure.machine()}; {seconds} seconds of audio a row, {runs} runs in turn, load {os.getloadavg()[0]:.1f}")
-    measure.head("`flac test`", "program", *PARTS, "the rest", "`flac -t`")
     with tempfile.TemporaryDirectory() as folder:
-        for form in measure.FORMS:
-            for level in measure.LEVELS:
-                kernels(form, level, seconds, runs, folder, words.functions)
+        if not words.encoding:
+            decoding(seconds, runs, folder, words.functions)
+        encoding(seconds, runs, folder, words.functions)
     return 0
 
 
