@@ -37,7 +37,7 @@ pub(crate) const MOST_SAMPLES: usize = 65535;
 
 /// The subframe of the fewest bits for 1 to 65535 samples of a depth of 1 to 33 bits (RFC 9639, section 9.2).
 ///
-/// The work is done in arrays of 1.3 MB on the stack. For many blocks [`choose_into`] takes arrays that are used again; it says what is chosen.
+/// The work is done in arrays of 1.9 MB on the stack. For many blocks [`choose_into`] takes arrays that are used again; it says what is chosen.
 pub fn choose(samples: &[i64], depth: u32) -> Choice
     requires some { 0 < length samples.now }
     requires few { length samples.now ≤ 65535 }
@@ -57,7 +57,7 @@ pub fn choose(samples: &[i64], depth: u32) -> Choice
 }
 
 /// The subframe of the fewest bits for 1 to 65535 samples of a depth of 1 to 33 bits, worked out in the caller's arrays, each at least as
-/// long as the samples, which are overwritten.
+/// long as the samples, which are overwritten, and in arrays on the stack: of 48 kB for up to 4608 samples, of 0.6 MB for more.
 ///
 /// The family is constant, verbatim, and the fixed predictors of order 0 to 4 with either coding method, partition orders up to 8 and every
 /// parameter and escape; the wasted bits are as many as all samples lack. Among equals the first of this order is chosen.

@@ -7,7 +7,6 @@ ghost use Rattle.flac_subframe.specs.Spelling.{folded, FitsWidth};
 ghost use Rattle.flac_subframe.specs.Halves.{part, IsWidth, HasWidths};
 
 use crate::cost::quotients;
-use crate::halves::price;
 use crate::halving::power;
 use crate::view::ResidualView;
 
@@ -137,19 +136,6 @@ fn bound_parts(residual: &ResidualView<'_>, sums: &[u64], widths: &[u8], closely
     bits
 }
 
-/// What a residual takes at least in any form.
-fn lower_bound(residual: &ResidualView<'_>, sums: &mut [u64], widths: &[u8]) -> u64
-    requires sums { 2 ^ residual.now.halvings ≤ length sums.old }
-    requires widths { HasWidths residual.now.order residual.now.values.now 0 residual.now.halvings widths.now }
-    requires places { 2 * 2 ^ residual.now.halvings ≤ length widths.now }
-    ensures bound { (f : Codings) → MayWrite residual.now.halvings residual.now.order residual.now.values.now f → result ≤ residual_cost residual.now.order residual.now.values.now f }
-    ensures costs { (j : ℕ) → j < 2 ^ residual.now.halvings → slice_index sums.new j ≡ sum_by (value_cost 0) (part residual.now.order residual.now.values.now residual.now.halvings j) }
-{
-    let row = &mut sums[..power(residual.halvings)];
-    price(residual, widths[1], 0, row);
-    bound_parts(residual, row, widths, false)
-}
-
 /// Whether the close bound shows that the residual takes `below` bits or more. It is worked out only if the rough bound is near that.
 fn reaches(residual: &ResidualView<'_>, sums: &[u64], widths: &[u8], bound: u64, below: u64) -> bool
     requires sums { 2 ^ residual.now.halvings ≤ length sums.now }
@@ -164,19 +150,21 @@ fn reaches(residual: &ResidualView<'_>, sums: &[u64], widths: &[u8], bound: u64,
     bound_parts(residual, sums, widths, true) >= below
 }
 
-/// Whether lower bounds show that the residual takes `below` bits or more in any form.
+/// Whether lower bounds show that the residual takes `below` bits or more in any form, by what the finest partitions cost under
+/// parameter 0.
 pub(crate) fn is_too_dear(
     residual: &ResidualView<'_>,
-    sums: &mut [u64],
+    sums: &[u64],
     widths: &[u8],
     below: u64,
 ) -> bool
-    requires sums { 2 ^ residual.now.halvings ≤ length sums.old }
+    requires sums { 2 ^ residual.now.halvings ≤ length sums.now }
+    requires costs { (j : ℕ) → j < 2 ^ residual.now.halvings → slice_index sums.now j ≡ sum_by (value_cost 0) (part residual.now.order residual.now.values.now residual.now.halvings j) }
     requires widths { HasWidths residual.now.order residual.now.values.now 0 residual.now.halvings widths.now }
     requires places { 2 * 2 ^ residual.now.halvings ≤ length widths.now }
     ensures { IsTrue result → (f : Codings) → MayWrite residual.now.halvings residual.now.order residual.now.values.now f → below ≤ residual_cost residual.now.order residual.now.values.now f }
 {
-    let bound = lower_bound(residual, sums, widths);
+    let bound = bound_parts(residual, sums, widths, false);
     if bound >= below {
         return true;
     }

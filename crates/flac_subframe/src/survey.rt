@@ -330,8 +330,8 @@ pub(crate) fn least_residual_into(
     ensures kept { (IsTrue result → ⊥) → into.new ≡ into.old }
     ensures none { (IsTrue result → ⊥) → (f : Codings) → MayWrite residual.now.halvings residual.now.order residual.now.values.now f → below ≤ residual_cost residual.now.order residual.now.values.now f }
 {
-    measure(residual, &mut tables.widths);
-    if is_too_dear(residual, &mut tables.sums, &tables.widths, below) {
+    measure(residual, &mut tables.widths, &mut tables.sums);
+    if is_too_dear(residual, &tables.sums, &tables.widths, below) {
         return false;
     }
     let found = survey(

@@ -1,45 +1,57 @@
-//! The width of each partition at each partition order.
+//! The width of each partition at each partition order, and what the finest cost under parameter 0.
 
 ghost use Rattle.std.specs.Prelude.{◌≡◌, ◌<◌, ◌≤◌, ◌^◌, ◌+◌, ◌*◌, ℕ, length, map, All, slice_index};
+ghost use Rattle.std.specs.List.{sum_by};
+ghost use Rattle.flac_subframe.specs.Cost.{value_cost};
 ghost use Rattle.flac_subframe.specs.Halves.{part, IsWidth, HasWidths};
 
-use crate::cost::width;
+use crate::cost::{rice_bits, width};
 use crate::halving::power;
 use crate::view::ResidualView;
 
-/// The width of each partition at the finest partition order.
-fn leaves(residual: &ResidualView<'_>, widths: &mut [u8])
+/// The width of each partition at the finest partition order, and what it costs under parameter 0.
+fn leaves(residual: &ResidualView<'_>, widths: &mut [u8], sums: &mut [u64])
     requires places { length widths.old ≡ 2 ^ residual.now.halvings }
+    requires sums { length sums.old ≡ 2 ^ residual.now.halvings }
     ensures widths { (j : ℕ) → j < 2 ^ residual.now.halvings → IsWidth (part residual.now.order residual.now.values.now residual.now.halvings j) (slice_index widths.new j) }
     ensures small { (j : ℕ) → j < 2 ^ residual.now.halvings → slice_index widths.new j ≤ 32 }
+    ensures costs { (j : ℕ) → j < 2 ^ residual.now.halvings → slice_index sums.new j ≡ sum_by (value_cost 0) (part residual.now.order residual.now.values.now residual.now.halvings j) }
 {
     let size = (residual.values.len() + residual.order) >> residual.halvings;
     let mut from = 0;
     let mut to = size - residual.order;
-    for bits in widths.iter_mut() {
-        *bits = width(&residual.folds[from..to]);
+    for j in 0..widths.len() {
+        let folds = &residual.folds[from..to];
+        let bits = width(folds);
+        widths[j] = bits;
+        sums[j] = rice_bits(folds, 0, bits);
         from = to;
         to += size;
     }
 }
 
-/// The same, each at its place after the coarser ones.
-fn lowest(residual: &ResidualView<'_>, widths: &mut [u8])
+/// The same, each width at its place after the coarser ones.
+fn lowest(residual: &ResidualView<'_>, widths: &mut [u8], sums: &mut [u64])
     requires places { 2 * 2 ^ residual.now.halvings ≤ length widths.old }
+    requires sums { 2 ^ residual.now.halvings ≤ length sums.old }
     ensures widths { HasWidths residual.now.order residual.now.values.now residual.now.halvings residual.now.halvings widths.new }
     ensures long { length widths.new ≡ length widths.old }
+    ensures costs { (j : ℕ) → j < 2 ^ residual.now.halvings → slice_index sums.new j ≡ sum_by (value_cost 0) (part residual.now.order residual.now.values.now residual.now.halvings j) }
 {
     let first = power(residual.halvings);
-    leaves(residual, &mut widths[first..2 * first]);
+    let row = &mut sums[..first];
+    leaves(residual, &mut widths[first..2 * first], row);
 }
 
-/// The width of each partition at each partition order: the greater of its two halves'.
-pub(crate) fn measure(residual: &ResidualView<'_>, widths: &mut [u8])
+/// The width of each partition at each partition order, the greater of its two halves', and what each of the finest costs under parameter 0.
+pub(crate) fn measure(residual: &ResidualView<'_>, widths: &mut [u8], sums: &mut [u64])
     requires places { 2 * 2 ^ residual.now.halvings ≤ length widths.old }
+    requires sums { 2 ^ residual.now.halvings ≤ length sums.old }
     ensures widths { HasWidths residual.now.order residual.now.values.now 0 residual.now.halvings widths.new }
     ensures long { length widths.new ≡ length widths.old }
+    ensures costs { (j : ℕ) → j < 2 ^ residual.now.halvings → slice_index sums.new j ≡ sum_by (value_cost 0) (part residual.now.order residual.now.values.now residual.now.halvings j) }
 {
-    lowest(residual, widths);
+    lowest(residual, widths, sums);
     let mut at = power(residual.halvings);
     while at > 1 {
         at -= 1;
