@@ -1,12 +1,17 @@
-/* Streams through the calls of flac_proved.h, for conformance/c_door.py, which links it with --wrap for malloc, realloc and free.
+/* Streams and samples through the calls of flac_proved.h, for conformance/c_door.py, which links it with --wrap for malloc, realloc and free.
  *
- * usage: door lines FILE..     two lines for each file: its path, and what verifying it answers
- *        door refuse FILE..    refuses the first allocation of a call, then the second, and so on */
+ * usage: door lines FILE..     lines for each file: its path; what verifying it answers; its information, vendor and comments, or why there
+ *                              are none; the number and the CRC-32 of its samples as bytes and as numbers, or why they are refused
+ *        door refuse FILE..    refuses the first allocation of each call, then the second, and so on
+ *        door encode RAW OUT RATE CHANNELS BITS BLOCK SEEK OGG SERIAL VENDOR COMMENT..
+ *                              encodes raw samples, each of whole bytes, the lowest first, and writes the stream
+ *        door time CALL N FILE the seconds of N calls: verify, decode or samples */
 #include "flac_proved.h"
 
 #include <stdio.h>
 #include <stdlib.h>
 #include <string.h>
+#include <time.h>
 
 void *__real_malloc(size_t size);
 void *__real_realloc(void *block, size_t size);
@@ -14,6 +19,10 @@ void __real_free(void *block);
 void *__wrap_malloc(size_t size);
 void *__wrap_realloc(void *block, size_t size);
 void __wrap_free(void *block);
+
+/* Stands for a buffer without room. */
+static uint8_t nothing[1];
+static int32_t no_numbers[1];
 
 /* The request of this number is refused, none if it is 0. `live` is how many blocks are allocated. */
 static unsigned long refused, asked;
@@ -37,6 +46,21 @@ void __wrap_free(void *block) {
     __real_free(block);
 }
 
+/* Ends the program if something does not hold; the status tells where. */
+static void must(int holds, int status) {
+    if (!holds) {
+        exit(status);
+    }
+}
+
+/* Memory just as large as is asked for, so that a byte written or read behind it is found. */
+static void *room_for(size_t count, size_t size) {
+    void *block = __real_malloc(count > 0 ? count * size : 1);
+    must(block != NULL, 3);
+    memset(block, 0xA5, count > 0 ? count * size : 1);
+    return block;
+}
+
 struct file {
     uint8_t *bytes;
     size_t len;
@@ -46,77 +70,283 @@ static struct file read_file(const char *path) {
     struct file file = {NULL, 0};
     FILE *in = fopen(path, "rb");
     long end;
-    if (in == NULL || fseek(in, 0, SEEK_END) != 0 || (end = ftell(in)) < 0 || fseek(in, 0, SEEK_SET) != 0) {
-        fprintf(stderr, "%s: cannot be read\n", path);
-        exit(3);
-    }
-    /* just as long as the file, so that a byte read behind it is found */
-    file.bytes = __real_malloc(end > 0 ? (size_t)end : 1);
+    must(in != NULL && fseek(in, 0, SEEK_END) == 0 && (end = ftell(in)) >= 0 && fseek(in, 0, SEEK_SET) == 0, 3);
+    file.bytes = room_for((size_t)end, 1);
     file.len = (size_t)end;
-    if (file.bytes == NULL || fread(file.bytes, 1, file.len, in) != file.len) {
-        exit(3);
-    }
+    must(fread(file.bytes, 1, file.len, in) == file.len, 3);
     fclose(in);
     return file;
+}
+
+/* ---- lines */
+
+static uint32_t crc(const uint8_t *bytes, size_t len) {
+    uint32_t table[256], sum = 0xFFFFFFFFU, value;
+    size_t i;
+    int k;
+    for (value = 0; value < 256; value++) {
+        table[value] = value;
+        for (k = 0; k < 8; k++) {
+            table[value] = table[value] & 1 ? table[value] >> 1 ^ 0xEDB88320U : table[value] >> 1;
+        }
+    }
+    for (i = 0; i < len; i++) {
+        sum = table[(sum ^ bytes[i]) & 255] ^ sum >> 8;
+    }
+    return ~sum;
 }
 
 static void put_fault(const struct flac_proved_fault *fault) {
     uint8_t place[16] = {0}, reason[64] = {0};
     size_t a = flac_proved_place(fault->place, place, sizeof place);
     size_t b = flac_proved_strerror(fault->number, reason, sizeof reason);
-    if (a != strlen((char *)place) || b != strlen((char *)reason)) {
-        exit(4);
-    }
+    must(a == strlen((char *)place) && b == strlen((char *)reason), 4);
     printf("%s", (char *)place);
     if (fault->place >= 2 && fault->place <= 4) {
         printf(" %llu", (unsigned long long)fault->index);
     }
-    printf(": %s", (char *)reason);
+    printf(": %s\n", (char *)reason);
 }
 
-static void put_line(const char *path) {
+/* A text as `flac list` prints it. */
+static void put_text(const char *word, const uint8_t *text, size_t len) {
+    size_t i;
+    printf(" %s ", word);
+    for (i = 0; i < len; i++) {
+        printf(text[i] < 0x20 || text[i] > 0x7E || text[i] == '\\' ? "\\x%02x" : "%c", text[i]);
+    }
+    printf("\n");
+}
+
+static void put_info(struct file file) {
+    struct flac_proved_stream_info info;
+    struct flac_proved_fault fault;
+    uint8_t *text;
+    size_t i, len, again;
+    uint32_t number = flac_proved_info(file.bytes, file.len, &info, &fault);
+    must(number == fault.number, 7);
+    if (number != 0) {
+        printf(" info ");
+        put_fault(&fault);
+        len = 99;
+        must(flac_proved_comment(file.bytes, file.len, 0, nothing, 0, &len, &fault) == number && len == 99, 7);
+        must(flac_proved_vendor(file.bytes, file.len, nothing, 0, &len, &fault) == number && len == 99, 7);
+        return;
+    }
+    printf(" blocks %u %u frames %u %u rate %u channels %u depth %u samples %llu\n md5 ", info.least_block, info.greatest_block, info.least_frame,
+           info.greatest_frame, info.rate, info.channels, info.bits, (unsigned long long)info.total);
+    for (i = 0; i < 16; i++) {
+        printf("%02x", info.digest[i]);
+    }
+    printf("\n");
+    must(flac_proved_vendor(file.bytes, file.len, nothing, 0, &again, &fault) == 0, 7);
+    text = room_for(again, 1);
+    must(flac_proved_vendor(file.bytes, file.len, text, again, &len, &fault) == 0 && len == again, 7);
+    put_text("vendor", text, len);
+    __real_free(text);
+    for (i = 0; i <= info.comments; i++) {
+        must(flac_proved_comment(file.bytes, file.len, i, nothing, 0, &again, &fault) == 0, 7);
+        text = room_for(again, 1);
+        must(flac_proved_comment(file.bytes, file.len, i, text, again, &len, &fault) == 0 && len == again, 7);
+        /* behind the last one there is none */
+        i < info.comments ? put_text("comment", text, len) : must(len == 0, 7);
+        __real_free(text);
+    }
+}
+
+/* The samples as bytes of this width: 0, or 4 to be compared with the numbers. */
+static struct file decoded(struct file file, uint32_t width, uint32_t due) {
+    struct flac_proved_fault fault;
+    struct file half, all = {NULL, 0};
+    size_t len = 99;
+    uint32_t number = flac_proved_decode(file.bytes, file.len, width, nothing, 0, &len, &fault);
+    must(number == fault.number && number == due && (number == 0 || len == 99), 8);
+    if (number != 0) {
+        return all;
+    }
+    all.bytes = room_for(len, 1);
+    must(flac_proved_decode(file.bytes, file.len, width, all.bytes, len, &all.len, &fault) == 0 && all.len == len, 8);
+    /* half the room: nothing is written behind it, and what is written is the same */
+    half.bytes = room_for(len / 2, 1);
+    must(flac_proved_decode(file.bytes, file.len, width, half.bytes, len / 2, &half.len, &fault) == 0 && half.len == len, 8);
+    must(memcmp(half.bytes, all.bytes, len / 2) == 0, 8);
+    __real_free(half.bytes);
+    return all;
+}
+
+static void put_samples(struct file file, uint32_t due) {
+    struct flac_proved_fault fault;
+    int32_t *samples;
+    struct file bytes = decoded(file, 0, due), wide = decoded(file, 4, due);
+    size_t len = 99;
+    uint32_t number = flac_proved_samples(file.bytes, file.len, no_numbers, 0, &len, &fault);
+    must(number == fault.number && number == due && (number == 0 || len == 99), 8);
+    if (number != 0) {
+        printf(" decode ");
+        put_fault(&fault);
+        return;
+    }
+    samples = room_for(len + 1, sizeof *samples);
+    must(4 * len == wide.len && flac_proved_samples(file.bytes, file.len, samples, len + 1, &len, &fault) == 0, 8);
+    /* with more room than is needed the rest stays as it is */
+    must(memcmp(samples, wide.bytes, wide.len) == 0 && (uint32_t)samples[len] == 0xA5A5A5A5U, 8);
+    printf(" decode %llu %08x\n", (unsigned long long)bytes.len, crc(bytes.bytes, bytes.len));
+    __real_free(samples);
+    __real_free(wide.bytes);
+    __real_free(bytes.bytes);
+}
+
+static void put_lines(const char *path) {
     struct file file = read_file(path);
     struct flac_proved_fault fault;
     uint32_t number = flac_proved_verify(file.bytes, file.len, &fault);
-    if (number != fault.number || live != 0) {
-        exit(7);
-    }
+    must(number == fault.number && live == 0, 7);
     printf("%s\n verify ", path);
-    number == 0 ? (void)printf("ok") : put_fault(&fault);
+    number == 0 ? (void)printf("ok\n") : put_fault(&fault);
+    put_info(file);
+    put_samples(file, number);
+    must(live == 0, 7);
+    __real_free(file.bytes);
+}
+
+/* ---- refuse */
+
+static const char *const names[] = {"verify", "info", "comment", "vendor", "decode", "samples", "encode", "encode_ogg"};
+
+/* One of the calls. Its length is 99 if the call has not changed it. */
+static uint32_t call(size_t which, struct file file, size_t *len) {
+    static uint8_t text[100000];
+    static int32_t numbers[25000];
+    static const struct flac_proved_text list[2] = {{(const uint8_t *)"TITLE=a", 7}, {(const uint8_t *)"ARTIST=b", 8}};
+    const struct flac_proved_tags tags = {{(const uint8_t *)"door", 4}, list, 2};
+    struct flac_proved_settings settings = {44100, 2, 16, 64, 100, 0, 0};
+    struct flac_proved_stream_info info;
+    struct flac_proved_fault fault;
+    int32_t samples[200];
+    int i;
+    *len = 99;
+    switch (which) {
+    case 0: return flac_proved_verify(file.bytes, file.len, &fault);
+    case 1: return flac_proved_info(file.bytes, file.len, &info, &fault);
+    case 2: return flac_proved_comment(file.bytes, file.len, 0, text, sizeof text, len, &fault);
+    case 3: return flac_proved_vendor(file.bytes, file.len, text, sizeof text, len, &fault);
+    case 4: return flac_proved_decode(file.bytes, file.len, 0, text, sizeof text, len, &fault);
+    case 5: return flac_proved_samples(file.bytes, file.len, numbers, 25000, len, &fault);
+    }
+    for (i = 0; i < 200; i++) {
+        samples[i] = i * i % 1000 - 17 * i;
+    }
+    settings.ogg = which == 7;
+    settings.seek_every = which == 7 ? 0 : 100;
+    return flac_proved_encode(&settings, samples, 200, &tags, text, sizeof text, len);
+}
+
+/* Refuses each request of each call: the call answers 2 and frees all, or what it answers without a refusal. */
+static void refuse_each(const char *path) {
+    struct file file = read_file(path);
+    size_t which, len;
+    printf("%s refused", path);
+    for (which = 0; which < 8; which++) {
+        unsigned long cases = 0, memory = 0;
+        uint32_t due, found;
+        refused = 0;
+        due = call(which, file, &len);
+        must(due != 2, 9);
+        for (refused = 1;; refused++) {
+            asked = 0;
+            found = call(which, file, &len);
+            must(live == 0 && (found == due || (found == 2 && len == 99)), 9);
+            if (asked < refused) {
+                break;
+            }
+            cases++;
+            memory += found == 2;
+        }
+        refused = 0;
+        printf(" %s %lu/%lu", names[which], memory, cases);
+    }
     printf("\n");
     __real_free(file.bytes);
 }
 
-/* Refuses each request: the call answers 2 and frees all, or what it answers without a refusal. */
-static void refuse_each(const char *path) {
+/* ---- encode */
+
+static void encode(int count, char **words) {
+    struct file raw = read_file(words[2]), stream = {NULL, 0};
+    struct flac_proved_settings settings = {(uint32_t)atol(words[4]), (uint32_t)atol(words[5]), (uint32_t)atol(words[6]), (uint32_t)atol(words[7]),
+                                            (uint32_t)atol(words[8]), (uint32_t)atol(words[9]), (uint32_t)atol(words[10])};
+    size_t width = (settings.bits + 7) / 8, samples = raw.len / width, i, k, len = 99;
+    int32_t *list = room_for(samples, sizeof *list);
+    struct flac_proved_text *texts = room_for((size_t)count - 12, sizeof *texts);
+    struct flac_proved_tags tags = {{(const uint8_t *)words[11], strlen(words[11])}, texts, (size_t)count - 12};
+    FILE *out;
+    uint32_t number;
+    for (i = 0; i < samples; i++) {
+        uint32_t value = 0;
+        for (k = width; k-- > 0;) {
+            value = value << 8 | raw.bytes[i * width + k];
+        }
+        /* to the upper bytes, and back with the sign */
+        value <<= 8 * (4 - width);
+        memcpy(&list[i], &value, sizeof value);
+        list[i] /= 1 << 8 * (4 - width);
+    }
+    for (i = 0; i < tags.count; i++) {
+        texts[i].bytes = (const uint8_t *)words[12 + i];
+        texts[i].len = strlen(words[12 + i]);
+    }
+    number = flac_proved_encode(&settings, list, samples, &tags, nothing, 0, &len);
+    must(live == 0 && (number == 0 || len == 99), 10);
+    if (number != 0) {
+        uint8_t reason[64] = {0};
+        flac_proved_strerror(number, reason, sizeof reason);
+        printf("%s\n", (char *)reason);
+    } else {
+        stream.bytes = room_for(len, 1);
+        must(flac_proved_encode(&settings, list, samples, &tags, stream.bytes, len, &stream.len) == 0 && stream.len == len, 10);
+        out = fopen(words[3], "wb");
+        must(out != NULL && fwrite(stream.bytes, 1, len, out) == len && fclose(out) == 0, 3);
+        __real_free(stream.bytes);
+    }
+    __real_free(texts);
+    __real_free(list);
+    __real_free(raw.bytes);
+}
+
+/* ---- time */
+
+static void time_calls(const char *which, long n, const char *path) {
     struct file file = read_file(path);
     struct flac_proved_fault fault;
-    unsigned long cases = 0, memory = 0;
-    uint32_t due, found;
-    refused = 0;
-    due = flac_proved_verify(file.bytes, file.len, &fault);
-    for (refused = 1;; refused++) {
-        asked = 0;
-        found = flac_proved_verify(file.bytes, file.len, &fault);
-        if (live != 0 || found != fault.number || (found != due && found != 2)) {
-            printf("%s: request %lu: %u\n", path, refused, found);
-            exit(9);
-        }
-        if (asked < refused) {
-            break;
-        }
-        cases++;
-        memory += found == 2;
+    size_t len = 0, room;
+    uint8_t *out;
+    clock_t start;
+    long i;
+    must(flac_proved_decode(file.bytes, file.len, 4, nothing, 0, &room, &fault) == 0, 11);
+    out = room_for(room, 1);
+    start = clock();
+    for (i = 0; i < n; i++) {
+        must((*which == 'v'   ? flac_proved_verify(file.bytes, file.len, &fault)
+              : *which == 'd' ? flac_proved_decode(file.bytes, file.len, 0, out, room, &len, &fault)
+                              : flac_proved_samples(file.bytes, file.len, (int32_t *)(void *)out, room / 4, &len, &fault)) == 0, 11);
     }
-    refused = 0;
-    printf("%s refused %lu answered %lu\n", path, cases, memory);
+    printf("%.4f\n", (double)(clock() - start) / CLOCKS_PER_SEC / (double)n);
+    __real_free(out);
     __real_free(file.bytes);
 }
 
 int main(int count, char **words) {
     int i;
+    if (count >= 12 && strcmp(words[1], "encode") == 0) {
+        encode(count, words);
+        return 0;
+    }
+    if (count == 5 && strcmp(words[1], "time") == 0) {
+        time_calls(words[2], atol(words[3]), words[4]);
+        return 0;
+    }
     for (i = 2; i < count; i++) {
-        strcmp(words[1], "lines") == 0 ? put_line(words[i]) : refuse_each(words[i]);
+        strcmp(words[1], "lines") == 0 ? put_lines(words[i]) : refuse_each(words[i]);
     }
     return 0;
 }

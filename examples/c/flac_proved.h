@@ -1,27 +1,35 @@
-/* FLAC streams in memory: verified by code that is proved.
+/* FLAC streams in memory: verified, described, decoded and encoded by code that is proved.
  *
- * The calls of version 0.2, for C99 on x86-64.
+ * The calls of version 0.3, for C99 and C++ on x86-64. docs/c.md has a worked example.
  *
  * Link with libflac_c.a, which `rt lib` builds in crates/flac_c/out, and with liblibc_c.a of the toolchain, which passes allocations on
  * to malloc, realloc and free. The Makefile beside this file has the lines.
  *
  * What is proved holds if the caller keeps to these rules, which nothing checks:
- * - No pointer is null, also where its length is 0.
+ * - No pointer is null, also if its length is 0.
  * - A pointer and its length are memory of the caller's that stays in place for the call: readable, and writable if it is not const.
  *   No two pointers of a call name overlapping memory that the call writes.
- * - A length is at most 2^63 - 1.
+ * - The length of a buffer in bytes is at most 2^63 - 1.
  * - malloc, realloc and free are of one allocator, and malloc aligns as C wants it. No call is made in a signal handler.
  *
  * Memory: each call frees what it allocates before it returns, and keeps no pointer. If an allocation fails, the call returns 2.
  * Threads: there is no state but the caller's memory, so that calls may run at once in several threads.
  *
  * Numbers: each call returns 0, or the number of a reason (docs/errors.md); flac_proved_strerror has its text.
+ *
+ * Buffers: a call that fills a buffer of `room` elements stores in *len how many elements there are in all. It writes them to the front of
+ * the buffer, as far as there is room, and nothing behind that; the rest of the buffer stays as it is. So *len > room means that the buffer
+ * was too small. If the call returns another number than 0, the buffer and *len are as they were.
  */
 #ifndef FLAC_PROVED_H
 #define FLAC_PROVED_H
 
 #include <stddef.h>
 #include <stdint.h>
+
+#ifdef __cplusplus
+extern "C" {
+#endif
 
 /* Where and why a stream was refused; all 0 if it was not. */
 struct flac_proved_fault {
@@ -30,15 +38,99 @@ struct flac_proved_fault {
     uint64_t index;  /* which block, frame or page, counted from 0 */
 };
 
-/* Verifies that bytes are one whole stream, native or Ogg: its layout, its checks, and the number and the MD5 of its samples.
- * Returns 0, or the number of the first fault, and fills in the fault. */
-uint32_t flac_proved_verify(const uint8_t *bytes, size_t len, struct flac_proved_fault *fault);
-
 /* Copies number and name of a reason, as `26 FrameCheck`, to the front of a buffer, as far as there is room, and returns the length
  * of this text. No byte 0 is added; the rest of the buffer stays as it is. A number that is no reason has the empty text. */
 size_t flac_proved_strerror(uint32_t number, uint8_t *out, size_t room);
 
 /* The same of a kind of place: `marker`, `block`, `frame`, `page` or `end`. */
 size_t flac_proved_place(uint32_t place, uint8_t *out, size_t room);
+
+/* ---- Reading a stream: `bytes` and `size` are all of it, native or Ogg (RFC 9639, sections 6 and 10.1). */
+
+/* Verifies that bytes are one whole stream: its layout, its checks, and the number and the MD5 of its samples.
+ * Returns 0, or the number of the first fault, and fills in the fault. */
+uint32_t flac_proved_verify(const uint8_t *bytes, size_t size, struct flac_proved_fault *fault);
+
+/* What a stream says of itself: STREAMINFO (RFC 9639, section 8.2), and how many comments it has (section 8.6). */
+struct flac_proved_stream_info {
+    uint64_t total;          /* samples of each channel, 0 if unknown */
+    uint64_t comments;       /* how many comments there are */
+    uint32_t rate;           /* samples a second */
+    uint32_t channels;       /* how many channels there are, 1 to 8 */
+    uint32_t bits;           /* bits a sample, 4 to 32 */
+    uint32_t least_block;    /* the smallest block size in samples */
+    uint32_t greatest_block; /* the greatest block size in samples */
+    uint32_t least_frame;    /* the smallest frame size in bytes, 0 if unknown */
+    uint32_t greatest_frame; /* the greatest frame size in bytes, 0 if unknown */
+    uint8_t digest[16];      /* the MD5 of all samples, zeros if unknown */
+};
+
+/* Reads the metadata at the beginning of a stream. Frames are not verified, and `bytes` may be a prefix of the stream.
+ * Returns 0, or the number of the fault for which there is no STREAMINFO; `info` is then as it was. */
+uint32_t flac_proved_info(const uint8_t *bytes, size_t size, struct flac_proved_stream_info *info, struct flac_proved_fault *fault);
+
+/* Copies the comment of an index, counted from 0, to a buffer: `NAME=VALUE` in UTF-8 without a byte 0 at its end. It is empty if there is
+ * no such comment. Returns 0, or the number of the fault for which there is no STREAMINFO. Nothing judges whether it is UTF-8. */
+uint32_t flac_proved_comment(const uint8_t *bytes, size_t size, size_t index, uint8_t *out, size_t room, size_t *len,
+                             struct flac_proved_fault *fault);
+
+/* Copies the name of the program that wrote a stream, in the same way; it is empty if the stream has no comments. */
+uint32_t flac_proved_vendor(const uint8_t *bytes, size_t size, uint8_t *out, size_t room, size_t *len, struct flac_proved_fault *fault);
+
+/* Decodes a stream, and copies its samples to a buffer: those of each channel at the first index, then those at the next, and so on.
+ * Returns 0 only if the bytes are one whole stream, as flac_proved_verify does; otherwise the number of the first fault.
+ * flac_proved_info tells before how many samples there are: total * channels, unless total is 0. */
+uint32_t flac_proved_samples(const uint8_t *bytes, size_t size, int32_t *out, size_t room, size_t *len, struct flac_proved_fault *fault);
+
+/* The same as bytes: each sample has `width` bytes, 1 to 4, the lowest first, in two's complement. If width is 0 it has the fewest bytes
+ * that hold its bits; these are the bytes that `flac decode` writes. If width is smaller than that, the higher bytes are left out. A width
+ * above 4 stands for 4. */
+uint32_t flac_proved_decode(const uint8_t *bytes, size_t size, uint32_t width, uint8_t *out, size_t room, size_t *len,
+                            struct flac_proved_fault *fault);
+
+/* ---- Writing a stream. */
+
+/* What samples are, and how they are encoded. */
+struct flac_proved_settings {
+    uint32_t rate;       /* samples a second: 1 to 65535, or a multiple of 10 up to 655350 */
+    uint32_t channels;   /* how many channels there are, 1 to 8 */
+    uint32_t bits;       /* bits a sample: 8, 12, 16, 20, 24 or 32 */
+    uint32_t block_size; /* samples of each channel in a frame: 16 to 4608, or to 16384 above 48000 Hz */
+    uint32_t seek_every; /* samples from one point of the seek table to the next; 0: no seek table */
+    uint32_t ogg;        /* 0: a native stream; otherwise an Ogg stream, which has no seek table */
+    uint32_t serial;     /* the serial number of an Ogg stream */
+};
+
+/* A text: bytes of UTF-8, without a byte 0 at its end. Nothing judges whether it is UTF-8. */
+struct flac_proved_text {
+    const uint8_t *bytes;
+    size_t len;
+};
+
+/* The comments that a stream gets (RFC 9639, section 8.6). */
+struct flac_proved_tags {
+    struct flac_proved_text vendor;      /* the name of the program that writes the stream */
+    const struct flac_proved_text *list; /* the comments, each NAME=VALUE */
+    size_t count;                        /* how many comments there are */
+};
+
+/* Encodes `count` samples, which stand in the order of flac_proved_samples, and copies the stream to a buffer: STREAMINFO, the comments,
+ * the seek table if one is asked for, and the frames, each the shortest of the forms that the encoder knows. Before it is copied the stream
+ * is decoded again.
+ * If *len > room, call again with a buffer of *len bytes: the stream is the same each time.
+ * Returns 0, or the number of the first reason of these:
+ *   42 channels is 0 or above 8               43 count is no multiple of channels
+ *   40 no frame header has a code for rate    41 bits is none of the above
+ *   44 a sample does not fit its bits         45 2^36 samples of each channel, or more than 2^31 frames
+ *   46 block_size is out of its range         47 more than 932067 points in the seek table
+ *   7  the comments have more than 2^24 - 1 bytes
+ *   37 seek_every and ogg are both not 0
+ * or 2 if an allocation fails. */
+uint32_t flac_proved_encode(const struct flac_proved_settings *settings, const int32_t *samples, size_t count,
+                            const struct flac_proved_tags *tags, uint8_t *out, size_t room, size_t *len);
+
+#ifdef __cplusplus
+}
+#endif
 
 #endif

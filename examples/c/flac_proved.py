@@ -1,16 +1,45 @@
-"""The calls of flac_proved.h for Python: FLAC streams in memory are verified by proved code.
+"""The calls of flac_proved.h for Python: FLAC streams in memory are verified, described, decoded and encoded by proved code.
 
-Load the shared library that the Makefile builds: flac_proved.load("libflac_proved.so"). This module itself is not proved.
+    library = flac_proved.load("libflac_proved.so")     # the shared library that the Makefile builds
+    stream = library.encode(array.array("i", [1, -1, 2, -2]), rate=44100, channels=2, bits=16, comments=["TITLE=x"])
+    library.verify(stream)
+    assert library.info(stream).total == 2
+    samples = library.samples(stream)
+
+This module itself is not proved.
 """
+import array
 import ctypes
 
 PLACES = {1: "marker", 2: "block", 3: "frame", 4: "page", 5: "end"}
+BYTES, INTS, SIZE, WORD = ctypes.POINTER(ctypes.c_uint8), ctypes.POINTER(ctypes.c_int32), ctypes.c_size_t, ctypes.c_uint32
 
 
 class Fault(ctypes.Structure):
     """Where and why a stream was refused."""
 
-    _fields_ = [("number", ctypes.c_uint32), ("place", ctypes.c_uint32), ("index", ctypes.c_uint64)]
+    _fields_ = [("number", WORD), ("place", WORD), ("index", ctypes.c_uint64)]
+
+
+class StreamInfo(ctypes.Structure):
+    """What a stream says of itself: STREAMINFO, and how many comments it has."""
+
+    _fields_ = [("total", ctypes.c_uint64), ("comments", ctypes.c_uint64), ("rate", WORD), ("channels", WORD), ("bits", WORD), ("least_block", WORD),
+                ("greatest_block", WORD), ("least_frame", WORD), ("greatest_frame", WORD), ("digest", ctypes.c_uint8 * 16)]
+
+
+class Settings(ctypes.Structure):
+    """What samples are, and how they are encoded."""
+
+    _fields_ = [(name, WORD) for name in ("rate", "channels", "bits", "block_size", "seek_every", "ogg", "serial")]
+
+
+class Text(ctypes.Structure):
+    _fields_ = [("bytes", ctypes.c_char_p), ("len", SIZE)]
+
+
+class Tags(ctypes.Structure):
+    _fields_ = [("vendor", Text), ("list", ctypes.POINTER(Text)), ("count", SIZE)]
 
 
 class Refused(Exception):
@@ -22,46 +51,108 @@ class Refused(Exception):
         super().__init__(f"{self.place}{index}: {library.strerror(fault.number)}")
 
 
-def buffer(size):
-    return (ctypes.c_uint8 * max(size, 1))()
+class NotEncoded(Exception):
+    """Samples were not encoded; `number` is that of the reason."""
+
+    def __init__(self, library, number):
+        self.number = number
+        super().__init__(library.strerror(number))
+
+
+def text(value):
+    data = value if isinstance(value, bytes) else value.encode()
+    return Text(data, len(data))
 
 
 class Library:
-    """The library's calls over `bytes`."""
+    """The library's calls. A stream is given as `bytes`."""
 
     def __init__(self, path):
         self.c = ctypes.CDLL(path)
-        data, size, fault = ctypes.c_char_p, ctypes.c_size_t, ctypes.POINTER(Fault)
-        out = ctypes.POINTER(ctypes.c_uint8)
+        stream, fault, buffer = [ctypes.c_char_p, SIZE], [ctypes.POINTER(Fault)], [BYTES, SIZE, ctypes.POINTER(SIZE)]
         for name, result, arguments in (
-                ("verify", ctypes.c_uint32, [data, size, fault]),
-                ("strerror", size, [ctypes.c_uint32, out, size]),
-                ("place", size, [ctypes.c_uint32, out, size])):
+                ("verify", WORD, stream + fault),
+                ("info", WORD, stream + [ctypes.POINTER(StreamInfo)] + fault),
+                ("comment", WORD, stream + [SIZE] + buffer + fault),
+                ("vendor", WORD, stream + buffer + fault),
+                ("decode", WORD, stream + [WORD] + buffer + fault),
+                ("samples", WORD, stream + [INTS] + buffer[1:] + fault),
+                ("encode", WORD, [ctypes.POINTER(Settings), INTS, SIZE, ctypes.POINTER(Tags)] + buffer),
+                ("strerror", SIZE, [WORD, BYTES, SIZE]),
+                ("place", SIZE, [WORD, BYTES, SIZE])):
             call = getattr(self.c, "flac_proved_" + name)
             call.restype, call.argtypes = result, arguments
 
-    def asked(self, name, *arguments):
-        """Calls what returns the number of a fault, and raises it."""
+    def asked(self, name, stream, *arguments):
+        """A call that fills in a fault; a fault is raised."""
         fault = Fault()
-        if getattr(self.c, "flac_proved_" + name)(*arguments, ctypes.byref(fault)):
+        if getattr(self.c, "flac_proved_" + name)(stream, len(stream), *arguments, ctypes.byref(fault)):
             raise Refused(self, fault)
 
-    def text(self, name, number):
-        out = buffer(64)
-        length = getattr(self.c, "flac_proved_" + name)(number, out, 64)
-        return bytes(out)[:length].decode("ascii")
+    def filled(self, name, stream, *arguments, room=0, unit=ctypes.c_uint8):
+        """What a call writes into a buffer, which is as long as it has to be at the second call at the latest."""
+        length = SIZE(room)
+        while True:
+            room = length.value
+            out = (unit * max(room, 1))()
+            self.asked(name, stream, *arguments, out, room, ctypes.byref(length))
+            if length.value <= room:
+                return memoryview(out).cast("B")[:length.value * ctypes.sizeof(unit)]
+
+    def name(self, call, number):
+        out = (ctypes.c_uint8 * 64)()
+        return bytes(out[:getattr(self.c, "flac_proved_" + call)(number, out, 64)]).decode("ascii")
 
     def strerror(self, number):
         """Number and name of a reason."""
-        return self.text("strerror", number)
+        return self.name("strerror", number)
 
     def place(self, kind):
         """The name of a kind of place."""
-        return self.text("place", kind)
+        return self.name("place", kind)
 
     def verify(self, stream):
         """Raises Refused if bytes are no whole stream."""
-        self.asked("verify", stream, len(stream))
+        self.asked("verify", stream)
+
+    def info(self, stream):
+        """The StreamInfo of a stream."""
+        info = StreamInfo()
+        self.asked("info", stream, ctypes.byref(info))
+        return info
+
+    def vendor(self, stream):
+        """The name of the program that wrote a stream, as bytes."""
+        return bytes(self.filled("vendor", stream, room=256))
+
+    def comments(self, stream):
+        """The comments of a stream, as bytes."""
+        return [bytes(self.filled("comment", stream, index, room=256)) for index in range(self.info(stream).comments)]
+
+    def decode(self, stream, width=0):
+        """The samples of a stream as bytes, `width` each; if it is 0, those that `flac decode` writes."""
+        info = self.info(stream)
+        return bytes(self.filled("decode", stream, width, room=info.total * info.channels * (width or (info.bits + 7) // 8)))
+
+    def samples(self, stream):
+        """The samples of a stream, channel by channel at each index, as an array of numbers."""
+        info, numbers = self.info(stream), array.array("i")
+        numbers.frombytes(self.filled("samples", stream, room=info.total * info.channels, unit=ctypes.c_int32))
+        return numbers
+
+    def encode(self, samples, rate, channels, bits, block_size=4096, seek_every=0, serial=None, vendor="flac_proved.py", comments=()):
+        """The stream of an array of numbers; an Ogg stream if it gets a serial number."""
+        settings = Settings(rate, channels, bits, block_size, seek_every, serial is not None, serial or 0)
+        numbers = (ctypes.c_int32 * max(len(samples), 1))(*samples)
+        tags = Tags(text(vendor), (Text * max(len(comments), 1))(*map(text, comments)), len(comments))
+        length = SIZE(len(samples) * ((bits + 7) // 8) + 65536)
+        while True:
+            out = (ctypes.c_uint8 * length.value)()
+            number = self.c.flac_proved_encode(ctypes.byref(settings), numbers, len(samples), ctypes.byref(tags), out, len(out), ctypes.byref(length))
+            if number:
+                raise NotEncoded(self, number)
+            if length.value <= len(out):
+                return bytes(memoryview(out)[:length.value])
 
 
 def load(path):

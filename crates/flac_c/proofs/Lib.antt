@@ -1,3 +1,4 @@
 pub mod Collecting
+pub mod Encodings
 pub mod Kept
 pub mod Numbered

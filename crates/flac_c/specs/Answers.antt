@@ -31,12 +31,12 @@ in_c (Some f) = record { number = number_of f.1; place = kind_of f.0; index = in
 abbrev pub IsAnswered : (Option (Place × Why) → Type 0) → FlacProvedFault → Type 0
 IsAnswered holds fault = (outcome : Option (Place × Why)) × holds outcome × (fault ≡ in_c outcome)
 
--- as much of a text as there is room for, and the rest of the buffer as it was
-abbrev pub copied : (text out : List ℕ) → List ℕ
-copied text out = take (min (length text) (length out)) text ++ drop (min (length text) (length out)) out
+-- as much of a list as there is room for, and the rest of the buffer as it was
+abbrev pub copied : {X : Type 0} → (list out : List X) → List X
+copied list out = take (min (length list) (length out)) list ++ drop (min (length list) (length out)) out
 
 -- so it was written, and its length is told
-abbrev pub IsCopied : (text old new : List ℕ) → ℕ → Type 0
+abbrev pub IsCopied : {X : Type 0} → (text old new : List X) → ℕ → Type 0
 IsCopied text old new told = (new ≡ copied text old) × (told ≡ length text)
 
 -- the names of the kinds of places, in the order of their numbers

@@ -1,11 +1,14 @@
--- The samples of a stream as bytes: interleaved channel by channel, signed little-endian, each sign-extended to as many bytes as are asked for.
-use Rattle.std.specs.Prelude.{ℕ, cond, nat_eq, List, [], ◌∷◌, ◌++◌}
+-- The samples of a stream, interleaved channel by channel: as numbers, or as bytes, signed little-endian, each sign-extended to as many bytes as are asked for.
+use Rattle.std.specs.Prelude.{ℕ, ℤ, cond, nat_eq, List, [], ◌∷◌, ◌++◌}
 use Rattle.flac_meta.specs.declared.block.Block.{Block}
 use Rattle.flac_meta.specs.declared.block.Block.TheVariants.{StreamInfo}
 use Rattle.flac_frame.specs.Frame.{Frame}
+use Rattle.flac_frame.specs.Interleaved.{interleaved}
 use Rattle.flac_native.specs.Item.{Item, metadata, frame}
 use Rattle.flac_native.specs.Message.{sample_width, rows_bytes}
 use Rattle.flac_native.specs.Stream.{Piece, marked, block, framed}
+
+-- ---- as bytes
 
 -- how many bytes a sample has: as many as are asked for; if none are, the fewest that hold its bits
 abbrev pub width_of : (asked depth : ℕ) → ℕ
@@ -35,3 +38,17 @@ depth_behind depth (frame f) = depth
 abbrev pub samples_in : (asked depth : ℕ) → Item → List ℕ
 samples_in asked depth (metadata b) = []
 samples_in asked depth (frame f) = frame_bytes asked depth f
+
+-- ---- as numbers
+
+-- the samples of all frames, interleaved channel by channel
+abbrev pub numbers_from : List Piece → List ℤ
+numbers_from [] = []
+numbers_from (marked ∷ xs) = numbers_from xs
+numbers_from (block last b ∷ xs) = numbers_from xs
+numbers_from (framed f ∷ xs) = interleaved f ++ numbers_from xs
+
+-- and what one item adds
+abbrev pub numbers_in : Item → List ℤ
+numbers_in (metadata b) = []
+numbers_in (frame f) = interleaved f

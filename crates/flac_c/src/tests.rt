@@ -1,8 +1,14 @@
 //! Each call as a program in C makes it.
 
+use crate::decoding::flac_proved_decode;
+use crate::encoding::{FlacProvedSettings, flac_proved_encode};
 use crate::fault::FlacProvedFault;
+use crate::info::{FlacProvedInfo, flac_proved_comment, flac_proved_info, flac_proved_vendor};
+use crate::samples::flac_proved_samples;
+use crate::tags::{FlacProvedTags, FlacProvedText};
 use crate::texts::{flac_proved_place, flac_proved_strerror};
 use crate::verifying::flac_proved_verify;
+use std::alloc::Global;
 use std::test::Fail;
 
 /// A native stream of one frame, of one sample of each of two channels (RFC 9639, appendix D.1).
@@ -11,6 +17,21 @@ const STREAM: [u8; 57] = [
     0x00, 0x0f, 0x0a, 0xc4, 0x42, 0xf0, 0x00, 0x00, 0x00, 0x01, 0x3e, 0x84, 0xb4, 0x18, 0x07, 0xdc,
     0x69, 0x03, 0x07, 0x58, 0x6a, 0x3d, 0xad, 0x1a, 0x2e, 0x0f, 0xff, 0xf8, 0x69, 0x18, 0x00, 0x00,
     0xbf, 0x01, 0x58, 0xfd, 0x01, 0x12, 0x8b, 0x5a, 0xb2,
+];
+
+/// The same with a block of comments behind STREAMINFO (RFC 9639, section 8.6): of the program `abc`, `A=1` and `BC=23`.
+const TAGGED: [u8; 88] = [
+    0x66, 0x4c, 0x61, 0x43, 0x00, 0x00, 0x00, 0x22, 0x10, 0x00, 0x10, 0x00, 0x00, 0x00, 0x0f, 0x00,
+    0x00, 0x0f, 0x0a, 0xc4, 0x42, 0xf0, 0x00, 0x00, 0x00, 0x01, 0x3e, 0x84, 0xb4, 0x18, 0x07, 0xdc,
+    0x69, 0x03, 0x07, 0x58, 0x6a, 0x3d, 0xad, 0x1a, 0x2e, 0x0f, 0x84, 0x00, 0x00, 0x1b, 0x03, 0x00,
+    0x00, 0x00, 0x61, 0x62, 0x63, 0x02, 0x00, 0x00, 0x00, 0x03, 0x00, 0x00, 0x00, 0x41, 0x3d, 0x31,
+    0x05, 0x00, 0x00, 0x00, 0x42, 0x43, 0x3d, 0x32, 0x33, 0xff, 0xf8, 0x69, 0x18, 0x00, 0x00, 0xbf,
+    0x01, 0x58, 0xfd, 0x01, 0x12, 0x8b, 0x5a, 0xb2,
+];
+
+/// The digest of the one sample of each channel, 25588 and 10416.
+const DIGEST: [u8; 16] = [
+    0x3e, 0x84, 0xb4, 0x18, 0x07, 0xdc, 0x69, 0x03, 0x07, 0x58, 0x6a, 0x3d, 0xad, 0x1a, 0x2e, 0x0f,
 ];
 
 /// A fault of other fields than any call tells.
@@ -47,5 +68,226 @@ fn texts_are_copied(rt: HostRuntime) -> Result<(), Fail> {
     assert!(rt; flac_proved_place(3, &mut text) == 5);
     assert!(rt; text == *b"frameameCheck...");
     assert!(rt; flac_proved_place(6, &mut text) == 0);
+    Ok(())
+}
+
+/// What no stream says.
+fn unknown() -> FlacProvedInfo {
+    FlacProvedInfo {
+        total: 99,
+        comments: 99,
+        rate: 99,
+        channels: 99,
+        bits: 99,
+        least_block: 99,
+        greatest_block: 99,
+        least_frame: 99,
+        greatest_frame: 99,
+        digest: [99; 16],
+    }
+}
+
+#[test]
+fn described(rt: HostRuntime) -> Result<(), Fail> {
+    let (mut info, mut fault) = (unknown(), unset());
+    assert!(rt; flac_proved_info(rt.alloc(), &TAGGED, &mut info, &mut fault) == 0);
+    assert!(rt; (fault.number, fault.place, fault.index) == (0, 0, 0));
+    assert!(rt;
+        (
+            info.total,
+            info.comments,
+            info.rate,
+            info.channels,
+            info.bits
+        ) == (1, 2, 44100, 2, 16)
+    );
+    assert!(rt; (info.least_block, info.greatest_block) == (4096, 4096));
+    assert!(rt; (info.least_frame, info.greatest_frame) == (15, 15));
+    assert!(rt; info.digest == DIGEST);
+    assert!(rt; flac_proved_info(rt.alloc(), &STREAM[..60 - 20], &mut info, &mut fault) == 3);
+    assert!(rt; (fault.number, fault.place, fault.index, info.comments) == (3, 2, 0, 2));
+    Ok(())
+}
+
+#[test]
+fn comments_are_copied(rt: HostRuntime) -> Result<(), Fail> {
+    let (mut text, mut len, mut fault) = (*b".......", 99, unset());
+    let number = flac_proved_comment(rt.alloc(), &TAGGED, 1, &mut text, &mut len, &mut fault);
+    assert!(rt; (number, len, fault.number) == (0, 5, 0));
+    assert!(rt; text == *b"BC=23..");
+    let number = flac_proved_comment(rt.alloc(), &TAGGED, 0, &mut text[..2], &mut len, &mut fault);
+    assert!(rt; (number, len) == (0, 3));
+    assert!(rt; text == *b"A==23..");
+    let number = flac_proved_comment(rt.alloc(), &TAGGED, 2, &mut text, &mut len, &mut fault);
+    assert!(rt; (number, len) == (0, 0));
+    let number = flac_proved_vendor(rt.alloc(), &TAGGED, &mut text, &mut len, &mut fault);
+    assert!(rt; (number, len) == (0, 3));
+    assert!(rt; text == *b"abc23..");
+    let number = flac_proved_vendor(rt.alloc(), &STREAM, &mut text, &mut len, &mut fault);
+    assert!(rt; (number, len) == (0, 0));
+    let number = flac_proved_vendor(rt.alloc(), b"fLa", &mut text, &mut len, &mut fault);
+    assert!(rt; (number, fault.number, fault.place, len) == (3, 3, 1, 0));
+    Ok(())
+}
+
+#[test]
+fn decoded(rt: HostRuntime) -> Result<(), Fail> {
+    let (mut bytes, mut len, mut fault) = ([9u8; 9], 99, unset());
+    let number = flac_proved_decode(rt.alloc(), &STREAM, 0, &mut bytes, &mut len, &mut fault);
+    assert!(rt; (number, len, fault.number) == (0, 4, 0));
+    assert!(rt; bytes == [0xf4, 0x63, 0xb0, 0x28, 9, 9, 9, 9, 9]);
+    let number = flac_proved_decode(rt.alloc(), &STREAM, 4, &mut bytes, &mut len, &mut fault);
+    assert!(rt; (number, len) == (0, 8));
+    assert!(rt; bytes == [0xf4, 0x63, 0, 0, 0xb0, 0x28, 0, 0, 9]);
+    let cut = &STREAM[..STREAM.len() - 1];
+    let number = flac_proved_decode(rt.alloc(), cut, 1, &mut bytes, &mut len, &mut fault);
+    assert!(rt; (number, fault.number, fault.place, fault.index, len) == (3, 3, 3, 0, 8));
+    assert!(rt; bytes == [0xf4, 0x63, 0, 0, 0xb0, 0x28, 0, 0, 9]);
+    Ok(())
+}
+
+#[test]
+fn numbers(rt: HostRuntime) -> Result<(), Fail> {
+    let (mut samples, mut len, mut fault) = ([9i32; 3], 99, unset());
+    let number = flac_proved_samples(rt.alloc(), &STREAM, &mut samples[..1], &mut len, &mut fault);
+    assert!(rt; (number, len, fault.number) == (0, 2, 0));
+    assert!(rt; samples == [25588, 9, 9]);
+    let number = flac_proved_samples(rt.alloc(), &TAGGED, &mut samples, &mut len, &mut fault);
+    assert!(rt; (number, len) == (0, 2));
+    assert!(rt; samples == [25588, 10416, 9]);
+    let number = flac_proved_samples(rt.alloc(), &[], &mut samples, &mut len, &mut fault);
+    assert!(rt; (number, fault.number, fault.place, len) == (3, 3, 1, 2));
+    Ok(())
+}
+
+/// Settings of a native stream.
+const SETTINGS: FlacProvedSettings = FlacProvedSettings {
+    rate: 44100,
+    channels: 2,
+    bits: 16,
+    block_size: 4096,
+    seek_every: 0,
+    ogg: 0,
+    serial: 0,
+};
+
+/// What encoding returns, the length that it tells, and the first bytes.
+fn encode(
+    alloc: Global,
+    settings: &FlacProvedSettings,
+    samples: &[i32],
+) -> (u32, usize, [u8; 200]) {
+    let list = [
+        FlacProvedText { bytes: b"A=1" },
+        FlacProvedText { bytes: b"BC=23" },
+    ];
+    let tags = FlacProvedTags {
+        vendor: FlacProvedText { bytes: b"abc" },
+        list: &list,
+    };
+    let (mut out, mut len) = ([9u8; 200], 99);
+    let number = flac_proved_encode(alloc, settings, samples, &tags, &mut out, &mut len);
+    (number, len, out)
+}
+
+#[test]
+fn encoded(rt: HostRuntime) -> Result<(), Fail> {
+    let (number, len, stream) = encode(rt.alloc(), &SETTINGS, &[25588, 10416]);
+    assert!(rt; (number, len) == (0, 88));
+    assert!(rt; stream.starts_with(&TAGGED));
+    assert!(rt; stream[88] == 9 && stream[199] == 9);
+    Ok(())
+}
+
+#[test]
+fn encoded_in_ogg(rt: HostRuntime) -> Result<(), Fail> {
+    let settings = FlacProvedSettings {
+        ogg: 1,
+        serial: 7,
+        ..SETTINGS
+    };
+    let (number, len, stream) = encode(rt.alloc(), &settings, &[25588, 10416]);
+    // Three pages (RFC 3533, section 6): of the first packet, 13 bytes and STREAMINFO; of the comments; of the frame.
+    assert!(rt; (number, len) == (0, 28 + 13 + 4 + 34 + 28 + 31 + 28 + 15));
+    assert!(rt; stream[14] == 7 && stream[15] == 0);
+    let (mut samples, mut count, mut fault) = ([9i32; 3], 99, unset());
+    let number = flac_proved_samples(
+        rt.alloc(),
+        &stream[..len],
+        &mut samples,
+        &mut count,
+        &mut fault,
+    );
+    assert!(rt; (number, count) == (0, 2));
+    assert!(rt; samples == [25588, 10416, 9]);
+    Ok(())
+}
+
+#[test]
+fn not_encoded(rt: HostRuntime) -> Result<(), Fail> {
+    let rows = [
+        (
+            FlacProvedSettings {
+                rate: 0,
+                ..SETTINGS
+            },
+            40,
+        ),
+        (
+            FlacProvedSettings {
+                bits: 17,
+                ..SETTINGS
+            },
+            41,
+        ),
+        (
+            FlacProvedSettings {
+                channels: 0,
+                ..SETTINGS
+            },
+            42,
+        ),
+        (
+            FlacProvedSettings {
+                channels: 9,
+                ..SETTINGS
+            },
+            42,
+        ),
+        (
+            FlacProvedSettings {
+                channels: 3,
+                ..SETTINGS
+            },
+            43,
+        ),
+        (
+            FlacProvedSettings {
+                bits: 8,
+                ..SETTINGS
+            },
+            44,
+        ),
+        (
+            FlacProvedSettings {
+                block_size: 15,
+                ..SETTINGS
+            },
+            46,
+        ),
+        (
+            FlacProvedSettings {
+                seek_every: 1,
+                ogg: 1,
+                ..SETTINGS
+            },
+            37,
+        ),
+    ];
+    for (settings, due) in rows {
+        let (number, len, stream) = encode(rt.alloc(), &settings, &[25588, 10416]);
+        assert!(rt; (number, len) == (due, 99));
+        assert!(rt; stream == [9; 200]);
+    }
     Ok(())
 }

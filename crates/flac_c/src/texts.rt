@@ -17,6 +17,15 @@ pub(crate) fn copy(text: &[u8], out: &mut [u8]) -> usize
     text.len()
 }
 
+/// Copies numbers to the front of a buffer, as far as there is room, and returns how many there are.
+pub(crate) fn copy_numbers(numbers: &[i32], out: &mut [i32]) -> usize
+    ensures { IsCopied numbers.now out.old out.new result }
+{
+    let n = numbers.len().min(out.len());
+    out[..n].copy_from_slice(&numbers[..n]);
+    numbers.len()
+}
+
 /// The reason of a number, 1 to 39.
 fn reason_of(number: u32) -> Option<Why>
     ensures each { (why : Why) → number_of why ≡ number → result ≡ Some why }

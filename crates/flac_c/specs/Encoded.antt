@@ -1,0 +1,75 @@
+-- What C gives to be encoded, and what is made of it.
+use Rattle.std.specs.Prelude.{◌≡◌, ◌⊎◌, ℕ, ◌/◌, ◌%◌, cond, ◌||◌, nat_eq, nat_lt, ℤ, List, [], ◌∷◌, length, map, Option, Some, None, option_map}
+use Rattle.std.specs.Option.{option_or}
+use Rattle.flac_bits.specs.Reasons as reasons
+use Rattle.flac_meta.specs.Listed.{list_fault, info_seen}
+use Rattle.flac_meta.specs.declared.block.Block.{Block}
+use Rattle.flac_meta.specs.declared.block.Block.TheVariants.{VorbisComment}
+use Rattle.flac_meta.specs.declared.comments.Comments.{Comments}
+use Rattle.flac_frame.specs.Audio.{Sound, IsSound, audio_fault}
+use Rattle.flac_frame.specs.Setup as setup
+use Rattle.flac_frame.specs.declared.setup.SetupFault.{SetupFault}
+use Rattle.flac_frame.specs.declared.setup.SetupFault.TheVariants.{BadChannels, LengthsDiffer}
+use Rattle.flac_native.specs.Given.{Cut, cut_of, plan_fault}
+use Rattle.flac_ogg.specs.RoundTrip.{EncodedBytes, is_no_ogg}
+use Rattle.flac_c.specs.Interleaved.{channels_at}
+use Rattle.flac_c.specs.declared.tags.FlacProvedText.{FlacProvedText}
+use Rattle.flac_c.specs.declared.tags.FlacProvedTags.{FlacProvedTags}
+use Rattle.flac_c.specs.declared.encoding.FlacProvedSettings.{FlacProvedSettings}
+
+-- ---- what is given
+
+-- the samples as channels of as many samples each
+abbrev pub sound_of : FlacProvedSettings → List ℤ → Sound
+sound_of s samples = record { rate = s.rate; bits = s.bits; channels = channels_at samples s.channels (length samples / s.channels) s.channels }
+
+abbrev pub plan_of : FlacProvedSettings → Sound → Cut
+plan_of s a = cut_of s.block_size a s.seek_every
+
+-- a native stream has no number
+abbrev pub serial_of : FlacProvedSettings → Option ℕ
+serial_of s = cond (nat_eq s.ogg 0) None (Some s.serial)
+
+abbrev pub texts_of : List FlacProvedText → List (List ℕ)
+texts_of texts = map (λ t. t.bytes.now) texts
+
+abbrev pub comments_of : FlacProvedTags → Comments
+comments_of t = record { vendor = t.vendor.bytes.now; list = texts_of t.list.now }
+
+-- the one block behind STREAMINFO (RFC 9639, section 8.6)
+abbrev pub blocks_of : FlacProvedTags → List Block
+blocks_of t = VorbisComment (comments_of t) ∷ []
+
+-- ---- why it is not encoded
+
+-- Why these are no samples of 1 to 8 channels: not as many of each, or what no stream of the streamable subset tells.
+unfoldable pub samples_fault : FlacProvedSettings → List ℤ → Option SetupFault
+samples_fault s samples =
+    cond (nat_eq s.channels 0 || nat_lt 8 s.channels) (Some BadChannels)
+    (cond (nat_eq (length samples % s.channels) 0) (audio_fault s.rate s.bits (sound_of s samples).channels) (Some LengthsDiffer))
+
+-- The number of the first reason why samples are not encoded so: how they are cut into blocks, the comments, or the container.
+unfoldable pub stream_fault : FlacProvedSettings → FlacProvedTags → Sound → Option ℕ
+stream_fault s t a =
+    option_or (option_map setup.number_of (plan_fault (plan_of s a)))
+    (option_or (option_map reasons.number_of (list_fault info_seen (blocks_of t)))
+    (cond (is_no_ogg (serial_of s) (plan_of s a) (blocks_of t)) (Some 37) None))
+
+-- ---- what is made of it
+
+-- they are samples that can be encoded, as many of each channel
+pub record CanBeEncoded (s : FlacProvedSettings) (samples : List ℤ) : Type 0 where
+  pub whole : length samples % s.channels ≡ 0
+  pub sound : IsSound (sound_of s samples)
+
+-- the bytes are a stream of just these samples and comments, native or Ogg
+pub record IsEncoded (s : FlacProvedSettings) (samples : List ℤ) (t : FlacProvedTags) (stream : List ℕ) : Type 0 where
+  pub can : CanBeEncoded s samples
+  pub none : stream_fault s t (sound_of s samples) ≡ None
+  pub bytes : EncodedBytes (serial_of s) (plan_of s (sound_of s samples)) (blocks_of t) (sound_of s samples) stream
+
+-- memory ran out, or this is the number of the first reason
+abbrev pub IsRefused : FlacProvedSettings → List ℤ → FlacProvedTags → ℕ → Type 0
+IsRefused s samples t n =
+    (n ≡ 2) ⊎ ((option_map setup.number_of (samples_fault s samples) ≡ Some n)
+    ⊎ (CanBeEncoded s samples × (stream_fault s t (sound_of s samples) ≡ Some n)))

@@ -1,0 +1,150 @@
+//! Encodes samples.
+
+ghost use Rattle.std.specs.Prelude.{◌≡◌, ◌≢◌, ◌⊎◌, ◌%◌, ℕ, length, IfOk, IfErr, OnOk, Some, None, List, option_map};
+ghost use Rattle.flac_frame.specs.Setup.{number_of};
+ghost use Rattle.flac_ogg.specs.RoundTrip.{EncodedBytes};
+ghost use Rattle.flac_c.specs.Answers.{IsCopied};
+ghost use Rattle.flac_c.specs.Encoded.{sound_of, plan_of, blocks_of, serial_of, samples_fault, stream_fault, CanBeEncoded, IsEncoded, IsRefused};
+
+use crate::channels::channels_of;
+use crate::tags::{FlacProvedTags, blocks_of};
+use crate::texts::copy;
+use flac_bits::Why;
+use flac_frame::{Audio, SetupFault};
+use flac_native::{EncodeFault, Plan};
+use flac_ogg::encode_and_decode;
+use std::alloc::Global;
+
+/// What samples are, and how they are encoded.
+#[repr(C)]
+#[derive(Clone, Copy, Drop)]
+pub struct FlacProvedSettings {
+    /// Samples a second, 1 to 655350.
+    pub rate: u32,
+    /// How many channels there are, 1 to 8.
+    pub channels: u32,
+    /// Bits a sample: 8, 12, 16, 20, 24 or 32.
+    pub bits: u32,
+    /// How many samples of each channel a frame has: 16 to 4608, or to 16384 above 48000 Hz.
+    pub block_size: u32,
+    /// How many samples of each channel stand from one point of the seek table to the next; 0: there is no seek table.
+    pub seek_every: u32,
+    /// 0: a native stream; any other number: an Ogg stream.
+    pub ogg: u32,
+    /// The serial number of an Ogg stream (RFC 3533, section 6).
+    pub serial: u32,
+}
+
+/// The number of an Ogg stream, none of a native one.
+fn serial_of(settings: &FlacProvedSettings) -> Option<u32>
+    ensures { result ≡ serial_of settings.now }
+{
+    if settings.ogg == 0 {
+        return None;
+    }
+    Some(settings.serial)
+}
+
+/// The channels of interleaved samples.
+///
+/// # Errors
+/// The number of the reason: 2, or why they are no samples of these settings.
+#[tactic(auto, using(crate::proofs::Encodings::some_setup))]
+fn audio_of(alloc: Global, settings: &FlacProvedSettings, samples: &[i32]) -> Result<Audio, u32>
+    ensures sound { IfOk result (λ a. a ≡ sound_of settings.now samples.now) }
+    ensures good { OnOk result (CanBeEncoded settings.now samples.now) }
+    ensures refused { IfErr result (λ n. (n ≡ 2) ⊎ (option_map number_of (samples_fault settings.now samples.now) ≡ Some n)) }
+    ensures some { IfErr result (λ n. n ≢ 0) }
+{
+    let count = settings.channels as usize;
+    if count < 1 || count > 8 {
+        return Err(u32::from(SetupFault::BadChannels.number()));
+    }
+    if samples.len() % count != 0 {
+        return Err(u32::from(SetupFault::LengthsDiffer.number()));
+    }
+    let Ok(channels) = channels_of(alloc, samples, count) else {
+        return Err(u32::from(Why::Memory.number()));
+    };
+    match Audio::new(settings.rate, settings.bits, channels) {
+        Ok(audio) => {
+            let _sound = audio.channels();
+            Ok(audio)
+        }
+        Err(fault) => Err(u32::from(fault.number())),
+    }
+}
+
+/// Encodes channels.
+///
+/// # Errors
+/// The number of the reason: 2, or why they are not encoded by these settings.
+#[tactic(auto, using(crate::proofs::Encodings::some_setup, crate::proofs::Encodings::some_encode, crate::proofs::Numbered::some_number))]
+fn stream_of(
+    alloc: Global,
+    settings: &FlacProvedSettings,
+    tags: &FlacProvedTags<'_>,
+    audio: &Audio,
+) -> Result<Vec<u8>, u32>
+    ensures encoded { IfOk result (λ v. EncodedBytes (serial_of settings.now) (plan_of settings.now audio.now) (blocks_of tags.now) audio.now v.items) }
+    ensures accepted { OnOk result (stream_fault settings.now tags.now audio.now ≡ None) }
+    ensures refused { IfErr result (λ n. (n ≡ 2) ⊎ (stream_fault settings.now tags.now audio.now ≡ Some n)) }
+    ensures some { IfErr result (λ n. n ≢ 0) }
+{
+    let plan = match Plan::new(settings.block_size, audio, settings.seek_every) {
+        Ok(plan) => plan,
+        Err(fault) => return Err(u32::from(fault.number())),
+    };
+    let _good = plan.block_size();
+    let list = match blocks_of(alloc, tags) {
+        Ok(list) => list,
+        Err(why) => return Err(u32::from(why.number())),
+    };
+    match encode_and_decode(alloc, serial_of(settings), &plan, &list, audio) {
+        Ok(stream) => Ok(stream),
+        Err(fault) => Err(u32::from(fault.number())),
+    }
+}
+
+/// Encodes samples.
+///
+/// # Errors
+/// The number of the reason: 2, or the first for which they are not encoded so.
+fn encoded(
+    alloc: Global,
+    settings: &FlacProvedSettings,
+    samples: &[i32],
+    tags: &FlacProvedTags<'_>,
+) -> Result<Vec<u8>, u32>
+    ensures encoded { IfOk result (λ v. IsEncoded settings.now samples.now tags.now v.items) }
+    ensures refused { IfErr result (λ n. IsRefused settings.now samples.now tags.now n) }
+    ensures some { IfErr result (λ n. n ≢ 0) }
+{
+    let audio = audio_of(alloc, settings, samples)?;
+    stream_of(alloc, settings, tags, &audio)
+}
+
+/// Encodes samples, which are interleaved channel by channel, as a stream of these settings with these comments, and copies it to the front of a buffer, as far as there is
+/// room; tells how many bytes it has. It was decoded again. Returns 0, or the number of the first reason why it is not encoded; the buffer and the length are then as they
+/// were.
+#[unsafe(no_mangle)]
+pub extern "C" fn flac_proved_encode(
+    alloc: Global,
+    settings: &FlacProvedSettings,
+    samples: &[i32],
+    tags: &FlacProvedTags<'_>,
+    out: &mut [u8],
+    len: &mut usize,
+) -> u32
+    ensures encoded { result ≡ 0 → (stream : List ℕ) × IsEncoded settings.now samples.now tags.now stream × IsCopied stream out.old out.new len.new }
+    ensures refused { result ≢ 0 → IsRefused settings.now samples.now tags.now result }
+    ensures kept { result ≢ 0 → (out.new ≡ out.old) × (len.new ≡ len.old) }
+{
+    match encoded(alloc, settings, samples, tags) {
+        Ok(stream) => {
+            *len = copy(stream.as_slice(), out);
+            0
+        }
+        Err(number) => number,
+    }
+}

@@ -1,0 +1,125 @@
+//! The samples of a stream as numbers.
+
+ghost use Rattle.std.specs.Prelude.{◌≡◌, ◌≢◌, ◌<◌, ◌++◌, [], nat_lt, List, OnOk, IfErr, Some, None};
+ghost use Rattle.flac_native.specs.Item.{told};
+ghost use Rattle.flac_native.specs.Stream.{Piece};
+ghost use Rattle.flac_frame.specs.Lent.{frame_of};
+ghost use Rattle.flac_frame.specs.Interleaved.{interleaved, row};
+ghost use Rattle.flac_ogg.specs.Verifying.{Verifies, bytes_reading};
+ghost use Rattle.flac_c.specs.Answers.{IsAnswered, IsCopied};
+ghost use Rattle.flac_c.specs.Sampled.{numbers_in, numbers_from};
+
+use crate::failures::Failures;
+use crate::fault::{FlacProvedFault, in_c};
+use crate::texts::copy_numbers;
+use flac_bits::{Memory, Why};
+use flac_frame::FrameView;
+use flac_meta::Block;
+use flac_native::{Fault, Profile, Sink, SinkFault};
+use flac_ogg::decode_any;
+use std::alloc::{AllocError, Global};
+
+/// Collects the samples of each frame.
+#[derive(Drop)]
+struct Numbers {
+    list: Vec<i32>,
+    failures: Failures,
+}
+
+/// Adds the samples of all channels at an index.
+fn push_row(frame: &FrameView<'_>, i: usize, list: &mut Vec<i32>) -> Result<(), AllocError>
+    requires { i < (frame_of frame.now).size }
+    ensures { OnOk result (list.new.items ≡ list.old.items ++ row (frame_of frame.now).channels i) }
+{
+    for channel in 0..frame.channels() {
+        list.push(frame.sample(channel, i))?;
+    }
+    Ok(())
+}
+
+/// Adds the samples of a frame.
+fn push_frame(frame: &FrameView<'_>, list: &mut Vec<i32>) -> Result<(), AllocError>
+    ensures { OnOk result (list.new.items ≡ list.old.items ++ interleaved (frame_of frame.now)) }
+{
+    for i in 0..frame.len() {
+        push_row(frame, i, list)?;
+    }
+    Ok(())
+}
+
+impl Sink for Numbers {
+    ghost takes = { λ old item new. new.list.items ≡ old.list.items ++ numbers_in item };
+
+    ghost known = { λ s. nat_lt s.failures.count 18446744073709551615 };
+
+    ghost errors = { λ s. s.failures.count };
+
+    ghost names = { λ _. [] };
+
+    fn block(&mut self, _block: &Block) -> Result<(), SinkFault> {
+        Ok(())
+    }
+
+    fn frame(&mut self, frame: &FrameView<'_>) -> Result<(), SinkFault> {
+        match push_frame(frame, &mut self.list) {
+            Ok(()) => Ok(()),
+            Err(_) => self.failures.fail(),
+        }
+    }
+}
+
+/// Decodes a stream, and collects its samples.
+fn collect(alloc: Global, bytes: &[u8], sink: &mut Numbers) -> Result<(), Fault>
+    requires list { sink.old.list.items ≡ [] }
+    requires failures { sink.old.failures.count ≡ 0 }
+    ensures done { OnOk result ((items : List Piece) × (bytes_reading bytes.now).whole items × (sink.new.list.items ≡ numbers_from items)) }
+    ensures refused { sink.new.failures.count ≡ 0 → IfErr result (λ f. Verifies bytes.now (Some (told f))) }
+{
+    let mut source = Memory::new(bytes);
+    decode_any(alloc, &mut source, Profile::Subset, sink)
+}
+
+/// Decodes a stream, and collects its samples. A failed allocation is its error.
+fn collect_all(alloc: Global, bytes: &[u8], sink: &mut Numbers) -> Result<(), Fault>
+    requires list { sink.old.list.items ≡ [] }
+    requires failures { sink.old.failures.count ≡ 0 }
+    ensures done { OnOk result ((items : List Piece) × (bytes_reading bytes.now).whole items × (sink.new.list.items ≡ numbers_from items)) }
+    ensures refused { IfErr result (λ f. Verifies bytes.now (Some (told f))) }
+{
+    match collect(alloc, bytes, sink) {
+        Ok(()) => Ok(()),
+        Err(fault) if sink.failures.count == 0 => Err(fault),
+        Err(fault) => Err(Fault {
+            at: fault.at,
+            why: Why::Memory,
+        }),
+    }
+}
+
+/// Decodes a stream, native or Ogg, and copies its samples to the front of a buffer, as far as there is room: interleaved channel by channel. Tells how many they are in
+/// all. Returns 0, or the number of the fault; the buffer and the length are then as they were.
+#[unsafe(no_mangle)]
+pub extern "C" fn flac_proved_samples(
+    alloc: Global,
+    bytes: &[u8],
+    out: &mut [i32],
+    len: &mut usize,
+    fault: &mut FlacProvedFault,
+) -> u32
+    ensures decoded { result ≡ 0 → (items : List Piece) × (bytes_reading bytes.now).whole items × IsCopied (numbers_from items) out.old out.new len.new }
+    ensures refused { result ≢ 0 → IsAnswered (Verifies bytes.now) fault.new }
+    ensures kept { result ≢ 0 → (out.new ≡ out.old) × (len.new ≡ len.old) }
+    ensures number { result ≡ fault.new.number }
+{
+    let mut sink = Numbers {
+        list: Vec::new(alloc),
+        failures: Failures { count: 0 },
+    };
+    if let Err(told) = collect_all(alloc, bytes, &mut sink) {
+        *fault = in_c(Err(told));
+        return fault.number;
+    }
+    *fault = in_c(Ok(()));
+    *len = copy_numbers(sink.list.as_slice(), out);
+    0
+}
