@@ -69,7 +69,7 @@ struct file {
 static struct file read_file(const char *path) {
     struct file file = {NULL, 0};
     FILE *in = fopen(path, "rb");
-    long end;
+    long end = -1;
     must(in != NULL && fseek(in, 0, SEEK_END) == 0 && (end = ftell(in)) >= 0 && fseek(in, 0, SEEK_SET) == 0, 3);
     file.bytes = room_for((size_t)end, 1);
     file.len = (size_t)end;

@@ -26,7 +26,7 @@ void *room_for(const char *program, size_t count, size_t size) {
 struct bytes read_file(const char *program, const char *path) {
     struct bytes file = {NULL, 0};
     FILE *in = fopen(path, "rb");
-    long end;
+    long end = -1;
     if (in == NULL || fseek(in, 0, SEEK_END) != 0 || (end = ftell(in)) < 0 || fseek(in, 0, SEEK_SET) != 0) {
         fail(program, path, "cannot be read");
     }

@@ -82,7 +82,7 @@ int main(int count, char **words) {
         return 2;
     }
     const char *in = words[first], *path = words[first + 1];
-    struct bytes file = read_file(PROGRAM, in), none = {NULL, 0};
+    struct bytes file = read_file(PROGRAM, in);
     struct wav wav = read_wav(in, file);
     struct flac_proved_settings settings = {wav.rate, wav.channels, wav.bits, 4096, 0, (uint32_t)ogg, 1};
     size_t width = wav.container / 8, samples = wav.data.len / width, k;
@@ -108,6 +108,7 @@ int main(int count, char **words) {
             fail_with(PROGRAM, in, reason);
         }
     } while (stream.len > room);
+    struct bytes none = {stream.bytes, 0};
     write_file(PROGRAM, path, stream, none);
     free(stream.bytes);
     free(texts);
