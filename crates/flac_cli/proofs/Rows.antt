@@ -1,18 +1,19 @@
 -- Rows of raw samples.
-use Rattle.std.proofs.Common.{◌≡◌, ◌≤◌, ◌<◌, ◌+◌, ◌*◌, ◌/◌, ℕ, zero, suc, ℤ, pos, List, [], ◌∷◌, ◌++◌, length, map, take, drop, get_or, refl, ap, sym, ◌∙◌, subst, below_more, arith}
-use Rattle.std.proofs.lemmas.List.{length_push, get_or_push, map_push, get_or_append_left, drop-drop, take_all, length-take, length-drop}
+use Rattle.std.proofs.Common.{◌≡◌, ◌≢◌, ◌≤◌, ◌<◌, ◌+◌, ◌*◌, ◌/◌, ◌%◌, ℕ, zero, suc, ℤ, pos, List, [], ◌∷◌, ◌++◌, length, length-append, append_assoc, take, drop, get_or, set, refl, ap, sym, ◌∙◌, subst, below_more, inl, inr, arith}
+use Rattle.std.proofs.lemmas.List.{length_push, get_or_push, get_or_append_left, drop-drop, take_all, length-take, length-drop, append-nil, drop-append-le, take-append-le, take_more, length-set, get_or-set_same, get_or-set_other}
 use Rattle.std.proofs.lemmas.List.Elements.{All-from_get_or, All-push, All-nil}
-use Rattle.std.proofs.Math.Nat.{mul-le-mul_left}
-use Rattle.std.proofs.Math.Seq.{take-add}
+use Rattle.std.proofs.Math.Nat.{mod-add-div', mul-le-mul_left, mul-pos, mul-div_left, mul-mod_left, mul-add-mod_self_right}
+use Rattle.std.proofs.Math.Seq.{take-add, drop-append-add}
 use Rattle.std.specs.Prelude.{All, is_none, false}
 use Rattle.flac_bits.specs.Signed.{FitsBits}
 use Rattle.flac_native.specs.Message.{sample_bytes, sample_width, row_bytes, rows_bytes}
 use Rattle.flac_native.specs.Given.{sound_message}
+use Rattle.std.proofs.lemmas.Bool.{cases_lt}
 use Rattle.std.proofs.lemmas.Bool.Decides.{nat_tests}
 use Rattle.flac_header.specs.Choice.{depth_choice}
 use Rattle.flac_frame.specs.Audio.{Sound, IsSound, samples_each}
 use Rattle.flac_jobs.specs.declared.formats.Format.{Format}
-use Rattle.flac_cli.specs.Raw.{number_of, samples_at, channels_at, IsChannel, AreChannels, IsRaw}
+use Rattle.flac_cli.specs.Raw.{number_of, samples_at, channels_at, IsChannel, IsPart, AreParts, IsMore, AreChannels, IsRaw}
 
 -- the first so many channels
 pub record AreFirst (bytes : List ℕ) (rows row width count : ℕ) (channels : List (List ℤ)) : Type 0 where
@@ -60,29 +61,6 @@ rows_are width row bytes channels (suc n) i is =
 
 first_samples : (bytes : List ℕ) (rows row width count : ℕ) (channels : List (List ℤ)) → AreFirst bytes rows row width count channels → 1 ≤ count → samples_each channels ≡ rows
 first_samples bytes rows row width count channels are some = (are.each 0 (omega arith)).long
-
-pub no_channels : (bytes : List ℕ) (rows row width : ℕ) → AreFirst bytes rows row width 0 []
-unfolding channels_at
-no_channels bytes rows row width = record { many = refl; each = λ c lt. absurd (omega arith); numbers = refl }
-
-pub channel_more : (bytes : List ℕ) (rows row width count : ℕ) (channels : List (List ℤ)) (one : List ℤ)
-    → AreFirst bytes rows row width count channels → IsChannel bytes rows row (count * width) width one
-    → AreFirst bytes rows row width (count + 1) (channels ++ one ∷ [])
-unfolding channels_at
-channel_more bytes rows row width count channels one are is = record {
-  many = omega (arith, length_push channels one, are.many);
-  each = below_more (λ c. IsChannel bytes rows row (c * width) width (get_or (channels ++ one ∷ []) c [])) count
-      (λ c lt. subst (λ x. IsChannel bytes rows row (c * width) width x) (sym (get_or_append_left channels (one ∷ []) [] c (omega (arith, are.many)))) (are.each c lt))
-      (subst (λ x. IsChannel bytes rows row (count * width) width x) (sym (get_or_push channels one [] count are.many)) is);
-  numbers = let e : count + 1 ≡ suc count = omega arith in rw e (ap (λ l. l ++ one ∷ []) are.numbers ∙ ap (λ x. channels_at bytes rows row width count ++ x ∷ []) is.numbers);
-}
-
--- so of what holds them
-pub channel_pushed : {V : Type 0} (items : V → List ℤ) (bytes : List ℕ) (rows row width count : ℕ) (lists pushed : List V) (one : V)
-    → AreFirst bytes rows row width count (map items lists) → IsChannel bytes rows row (count * width) width (items one) → pushed ≡ lists ++ one ∷ []
-    → AreFirst bytes rows row width (count + 1) (map items pushed)
-channel_pushed items bytes rows row width count lists pushed one are is push =
-    subst (λ l. AreFirst bytes rows row width (count + 1) l) (sym (ap (map items) push ∙ map_push items lists one)) (channel_more bytes rows row width count (map items lists) (items one) are is)
 
 pub channels_are : (bytes : List ℕ) (rows row width count : ℕ) (channels : List (List ℤ)) → AreFirst bytes rows row width count channels → 1 ≤ count
     → row ≡ count * width → length bytes ≡ rows * row → rows ≡ length bytes / row → AreChannels bytes count width channels
@@ -133,6 +111,154 @@ sample_pushed bytes i rows row start width n samples pushed z y is lt within who
     let more : sample_bytes width z ≡ take width (drop at bytes) = ap (λ k. sample_bytes k z) (sym long) ∙ (spelled ∙ ap (λ k. take k (drop at bytes)) e) in
     let here : IsChannel bytes (i + 1) row start width (samples ++ z ∷ []) = sample_more bytes i row start width samples z is (number ∙ ap (λ k. number_of (take k (drop at bytes))) e) more (subst (λ k. FitsBits (8 * k) z) long fits) in
     subst (λ l. IsChannel bytes (i + 1) row start width l) (sym (push ∙ ap (λ x. samples ++ x ∷ []) same)) here
+
+-- ---- more rows
+
+pub take_front : (bytes piece : List ℕ) (at n : ℕ) → at + n ≤ length bytes → take n (drop at (bytes ++ piece)) ≡ take n (drop at bytes)
+take_front bytes piece at n few = ap (take n) (drop-append-le at bytes piece (omega (arith, few))) ∙ take-append-le n (drop at bytes) piece (let h = length-drop at bytes in omega arith)
+
+samples_front : (bytes piece : List ℕ) (row start width n : ℕ) → start + width ≤ row → n * row ≤ length bytes → samples_at (bytes ++ piece) row start width n ≡ samples_at bytes row start width n
+unfolding samples_at
+samples_front bytes piece row start width zero within few = refl
+samples_front bytes piece row start width (suc n) within few =
+    let e : suc n * row ≡ n * row + row = omega arith in
+    let at = n * row + start in
+    ap (λ l. l ++ number_of (take width (drop at (bytes ++ piece))) ∷ []) (samples_front bytes piece row start width n within (omega arith))
+    ∙ ap (λ t. samples_at bytes row start width n ++ number_of t ∷ []) (take_front bytes piece at width (omega arith))
+
+-- the samples of whole rows are so too where more bytes stand behind them
+pub channel_front : (bytes piece : List ℕ) (rows row start width : ℕ) (samples : List ℤ) → length bytes ≡ rows * row → start + width ≤ row → IsChannel bytes rows row start width samples
+    → IsChannel (bytes ++ piece) rows row start width samples
+channel_front bytes piece rows row start width samples whole within is = record {
+  long = is.long;
+  spelled = λ i lt.
+      let below : row * (i + 1) ≤ row * rows = mul-le-mul_left row (omega arith) in
+      is.spelled i lt ∙ sym (take_front bytes piece (i * row + start) width (omega arith));
+  fits = is.fits;
+  numbers = is.numbers ∙ sym (samples_front bytes piece row start width rows within (omega arith));
+}
+
+-- one sample more of the rows of a piece, behind whole rows
+pub sample_behind : (bytes piece : List ℕ) (before i rows row start width n : ℕ) (samples pushed : List ℤ) (z y : ℤ) → length bytes ≡ before * row → IsChannel (bytes ++ piece) (before + i) row start width samples
+    → i < rows → start + width ≤ row → length piece ≡ rows * row → n ≡ width → z ≡ number_of (take n (drop (i * row + start) piece))
+    → sample_bytes (length (take n (drop (i * row + start) piece))) z ≡ take n (drop (i * row + start) piece)
+    → FitsBits (8 * length (take n (drop (i * row + start) piece))) z → y ≡ z → pushed ≡ samples ++ y ∷ []
+    → IsChannel (bytes ++ piece) (before + (i + 1)) row start width pushed
+sample_behind bytes piece before i rows row start width n samples pushed z y long is lt within whole e number spelled fits same push =
+    let at : (before + i) * row + start ≡ length bytes + (i * row + start) = omega arith in
+    let here : drop ((before + i) * row + start) (bytes ++ piece) ≡ drop (i * row + start) piece = ap (λ k. drop k (bytes ++ piece)) at ∙ drop-append-add bytes piece (i * row + start) in
+    let all : length (bytes ++ piece) ≡ (before + rows) * row = omega (arith, length-append bytes piece, long, whole) in
+    let next : before + i + 1 ≡ before + (i + 1) = omega arith in
+    subst (λ k. IsChannel (bytes ++ piece) k row start width pushed) next
+    (sample_pushed (bytes ++ piece) (before + i) (before + rows) row start width n samples pushed z y is (omega arith) within all e (subst (λ t. z ≡ number_of (take n t)) (sym here) number)
+    (subst (λ t. sample_bytes (length (take n t)) z ≡ take n t) (sym here) spelled) (subst (λ t. FitsBits (8 * length (take n t)) z) (sym here) fits) same push)
+
+-- ---- more rows of each channel
+
+-- the first so many channels have the rows of a piece too
+pub record HalfMore (bytes piece : List ℕ) (before rows count width channel : ℕ) (lists : List (List ℤ)) : Type 0 where
+  pub many : length lists ≡ count
+  pub done : (c : ℕ) → c < channel → IsChannel (bytes ++ piece) (before + rows) (count * width) (c * width) width (get_or lists c [])
+  pub left : (c : ℕ) → channel ≤ c → c < count → IsChannel bytes before (count * width) (c * width) width (get_or lists c [])
+
+pub half_none : (bytes piece : List ℕ) (before rows count width : ℕ) (lists : List (List ℤ)) → AreParts count width bytes before lists → HalfMore bytes piece before rows count width 0 lists
+half_none bytes piece before rows count width lists are = record { many = are.many; done = λ c lt. absurd (omega arith); left = λ c over lt. are.each c lt }
+
+pub half_more : (bytes piece : List ℕ) (before rows count width channel : ℕ) (lists : List (List ℤ)) (old new : List ℤ) → length bytes ≡ before * (count * width) → HalfMore bytes piece before rows count width channel lists → channel < count
+    → old ≡ get_or lists channel [] → IsMore (IsPart (count * width) (channel * width) width) piece (count * width) rows old new → HalfMore bytes piece before rows count width (channel + 1) (set lists channel new)
+half_more bytes piece before rows count width channel lists old new long half lt is more = record {
+  many = length-set lists channel new ∙ half.many;
+  done = below_more (λ c. IsChannel (bytes ++ piece) (before + rows) (count * width) (c * width) width (get_or (set lists channel new) c [])) channel
+      (λ c low. subst (λ l. IsChannel (bytes ++ piece) (before + rows) (count * width) (c * width) width l) (sym (get_or-set_other lists channel c new [] (λ e. absurd (omega (arith, e, low))))) (half.done c low))
+      (subst (λ l. IsChannel (bytes ++ piece) (before + rows) (count * width) (channel * width) width l) (sym (get_or-set_same lists channel new [] (omega (arith, lt, half.many))))
+      (more bytes before long (subst (λ l. IsChannel bytes before (count * width) (channel * width) width l) (sym is) (half.left channel (omega arith) lt))));
+  left = λ c over below. subst (λ l. IsChannel bytes before (count * width) (c * width) width l) (sym (get_or-set_other lists channel c new [] (λ e. absurd (omega (arith, e, over))))) (half.left c (omega (arith, over)) below);
+}
+
+pub half_all : (bytes piece : List ℕ) (before rows count width channel : ℕ) (lists : List (List ℤ)) → HalfMore bytes piece before rows count width channel lists → count ≤ channel → AreParts count width (bytes ++ piece) (before + rows) lists
+half_all bytes piece before rows count width channel lists half all = record { many = half.many; each = λ c lt. half.done c (omega (arith, lt, all)) }
+
+-- ---- all that was read
+
+numbers_are : (bytes : List ℕ) (rows row width n : ℕ) (channels : List (List ℤ)) → n ≤ length channels → ((c : ℕ) → c < n → get_or channels c [] ≡ samples_at bytes row (c * width) width rows) → take n channels ≡ channels_at bytes rows row width n
+unfolding channels_at
+numbers_are bytes rows row width zero channels few is = refl
+numbers_are bytes rows row width (suc n) channels few is =
+    let e : n + 1 ≡ suc n = omega arith in
+    ap (λ k. take k channels) (sym e) ∙ take_more channels n [] (omega arith)
+    ∙ ap (λ l. l ++ get_or channels n [] ∷ []) (numbers_are bytes rows row width n channels (omega arith) (λ c lt. is c (omega arith)))
+    ∙ ap (λ x. channels_at bytes rows row width n ++ x ∷ []) (is n (omega arith))
+
+-- whole rows of a source's bytes were read, and the rest is still to come
+pub record ReadSoFar (all coming : List ℕ) (count width : ℕ) (channels : List (List ℤ)) : Type 0 where
+  pub bytes : List ℕ
+  pub rows : ℕ
+  pub whole : length bytes ≡ rows * (count * width)
+  pub are : AreParts count width bytes rows channels
+  pub rest : all ≡ bytes ++ coming
+
+pub none_read : (all : List ℕ) (count width : ℕ) (channels : List (List ℤ)) → length channels ≡ count → ((c : ℕ) → get_or channels c [] ≡ []) → ReadSoFar all all count width channels
+none_read all count width channels many none = record {
+  bytes = [];
+  rows = 0;
+  whole = omega arith;
+  are = record { many = many; each = λ c lt. subst (λ l. IsChannel [] 0 (count * width) (c * width) width l) (sym (none c)) (no_samples [] (count * width) (c * width) width) };
+  rest = refl;
+}
+
+pub more_read : (all coming later piece : List ℕ) (count width rows : ℕ) (old new : List (List ℤ)) → ReadSoFar all coming count width old → coming ≡ piece ++ later → length piece ≡ rows * (count * width)
+    → IsMore (AreParts count width) piece (count * width) rows old new → ReadSoFar all later count width new
+more_read all coming later piece count width rows old new so is whole more = record {
+  bytes = so.bytes ++ piece;
+  rows = so.rows + rows;
+  whole = omega (arith, length-append so.bytes piece, so.whole, whole);
+  are = more so.bytes so.rows so.whole so.are;
+  rest = so.rest ∙ ap (λ k. so.bytes ++ k) is ∙ sym (append_assoc so.bytes piece later);
+}
+
+pub all_read : (all coming : List ℕ) (count width : ℕ) (channels : List (List ℤ)) → ReadSoFar all coming count width channels → coming ≡ [] → 1 ≤ count → 1 ≤ width → (length all % (count * width) ≡ 0) × AreChannels all count width channels
+all_read all coming count width channels so end some wide =
+    let row = count * width in
+    let is : all ≡ so.bytes = so.rest ∙ ap (λ k. so.bytes ++ k) end ∙ append-nil so.bytes in
+    let long : length all ≡ so.rows * row = ap length is ∙ so.whole in
+    let one : 0 < row = mul-pos some wide in
+    let rows : so.rows ≡ length all / row = sym (ap (λ n. n / row) long ∙ mul-div_left so.rows one) in
+    let first : AreFirst all so.rows row width count channels = record {
+      many = so.are.many;
+      each = λ c lt. subst (λ b. IsChannel b so.rows row (c * width) width (get_or channels c [])) (sym is) (so.are.each c lt);
+      numbers = sym (take_all count channels (omega (arith, so.are.many))) ∙ numbers_are all so.rows row width count channels (omega (arith, so.are.many)) (λ c lt. (so.are.each c lt).numbers ∙ ap (λ b. samples_at b row (c * width) width so.rows) (sym is));
+    } in
+    (ap (λ n. n % row) long ∙ mul-mod_left so.rows row, channels_are all so.rows row width count channels first some refl long rows)
+
+-- the last row is not whole
+pub part_read : (all coming piece later : List ℕ) (count width n : ℕ) (channels : List (List ℤ)) → ReadSoFar all coming count width channels → coming ≡ piece ++ later → later ≡ [] → length piece ≡ n → n % (count * width) ≢ 0 → length all % (count * width) ≢ 0
+part_read all coming piece later count width n channels so is end long part =
+    let row = count * width in
+    let rest : length coming ≡ n = ap length (is ∙ ap (λ k. piece ++ k) end ∙ append-nil piece) ∙ long in
+    let whole : length all ≡ so.rows * row + n = ap length so.rest ∙ length-append so.bytes coming ∙ omega (arith, so.whole, rest) in
+    λ none. part (sym (mul-add-mod_self_right so.rows row n) ∙ ap (λ k. k % row) (sym whole) ∙ none)
+
+-- a piece that is not of whole rows does not fill the places, which are
+pub not_full : (count row rows : ℕ) → count ≤ rows * row → count % row ≢ 0 → count < rows * row
+not_full count row rows few part = elim (cases_lt count (rows * row)) [
+  | inl lt ↦ lt
+  | inr over ↦ let same : rows * row ≡ count = omega (arith, few, over) in absurd (part (ap (λ n. n % row) (sym same) ∙ mul-mod_left rows row))
+]
+
+pub whole_rows : (count row : ℕ) → count % row ≡ 0 → count ≡ count / row * row
+whole_rows count row whole = let parts = mod-add-div' count row in omega (arith, parts, whole)
+
+-- a vector whose places were lent has just what they hold
+pub whole_back : {X : Type 0} (n : ℕ) (new old : List X) → length new ≡ length old → n ≡ length old → take n (new ++ drop (length new) old) ≡ new
+whole_back n new old same is =
+    let none : drop (length new) old ≡ [] = drop_none old (length new) (omega (arith, same)) in
+    ap (λ l. take n (new ++ l)) none ∙ ap (take n) (append-nil new) ∙ take_all n new (omega (arith, same, is))
+  where
+    drop_none : {X : Type 0} (xs : List X) (n : ℕ) → length xs ≤ n → drop n xs ≡ []
+    drop_none [] zero h = refl
+    drop_none [] (suc n) h = refl
+    drop_none (x ∷ xs) zero h = absurd (omega (arith, h))
+    drop_none (x ∷ xs) (suc n) h = drop_none xs n (omega (arith, h))
 
 -- ---- samples of a format
 

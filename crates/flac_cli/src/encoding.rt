@@ -9,7 +9,7 @@ ghost use Rattle.flac_cli.specs.Raw.{IsRaw, raw_sound};
 ghost use Rattle.flac_cli.specs.Refusals.{format_fault, raw_fault, stream_fault, refusal, text_of, IsOutside};
 ghost use Rattle.flac_cli.specs.declared.encoding.Refusal.TheVariants.{Input, Setup, Output};
 
-use crate::raw::{channels_of, read_all};
+use crate::raw::read_channels;
 use flac_bits::{Source, Target, Why};
 use flac_frame::{Audio, SetupFault};
 use flac_header::{depth_code, rate_code};
@@ -107,13 +107,11 @@ fn audio_of<R: Source>(alloc: Global, source: &mut R, format: Format) -> Result<
     if let Some(fault) = format_fault(format) {
         return Err(Refusal::Setup(fault));
     }
-    let bytes = read_all(alloc, source)?;
     let channels = format.channels as usize;
     let width = (format.bits as usize + 7) / 8;
-    if bytes.len() % (channels * width) != 0 {
+    let Some(lists) = read_channels(alloc, source, channels, width)? else {
         return Err(Refusal::RawLength);
-    }
-    let lists = channels_of(alloc, &bytes, channels, width)?;
+    };
     let audio = Audio::new(format.rate, format.bits, lists)?;
     let _channels = audio.channels();
     Ok(audio)

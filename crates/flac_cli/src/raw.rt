@@ -1,9 +1,9 @@
 //! Raw samples, read from a source.
 
-ghost use Rattle.std.specs.Prelude.{◌≡◌, ◌≤◌, ◌+◌, ◌*◌, ◌%◌, true, length, map, IfOk, IfErr};
+ghost use Rattle.std.specs.Prelude.{◌≡◌, ◌≢◌, ◌≤◌, ◌<◌, ◌+◌, ◌*◌, ◌%◌, ◌++◌, [], true, length, map, take, slice_index_or, ℕ, IfOk, IfErr, IfSome, OnOk, OnErr, None};
 ghost use Rattle.flac_bits.specs.Signed.{FitsBits};
 ghost use Rattle.flac_native.specs.Message.{sample_bytes};
-ghost use Rattle.flac_cli.specs.Raw.{number_of, IsChannel, AreChannels};
+ghost use Rattle.flac_cli.specs.Raw.{number_of, IsPart, AreParts, IsMore, AreChannels};
 
 use byteorder::{ByteOrder, LittleEndian};
 use flac_bits::{Source, Why};
@@ -12,25 +12,31 @@ use std::alloc::Global;
 /// How many bytes are asked for at once.
 const PIECE: usize = 16384;
 
-/// All bytes of a source.
+/// Fills the first so many places with the next bytes of a source, and answers how many there were: fewer where the source ends.
 ///
 /// # Errors
-/// [`Why::Read`] where the source answers an error, [`Why::Memory`] where a growth is refused.
-pub(crate) fn read_all<R: Source>(alloc: Global, source: &mut R) -> Result<Vec<u8>, Why>
-    ensures bytes { IfOk result (λ bytes. R.known source.old ≡ true → bytes.items ≡ R.coming source.old) }
-    ensures memory { IfErr result (λ e. R.known source.old ≡ true → R.raised source.new ≡ R.raised source.old → e ≡ Why.Memory) }
+/// [`Why::Read`] where the source answers an error.
+fn fill<R: Source>(source: &mut R, places: &mut [u8], most: usize) -> Result<usize, Why>
+    requires { most ≤ length places.old }
+    ensures few { IfOk result (λ n. n ≤ most) }
+    ensures bytes { IfOk result (λ n. R.known source.old ≡ true → R.coming source.old ≡ take n places.new ++ R.coming source.new) }
+    ensures end { IfOk result (λ n. n < most → R.known source.old ≡ true → R.coming source.new ≡ []) }
+    ensures known { OnOk result (R.known source.old ≡ true → R.known source.new ≡ true) }
+    ensures counted { OnOk result (R.raised source.new ≡ R.raised source.old) }
+    ensures most { IfOk result (λ n. R.most source.new + n ≤ R.most source.old) }
+    ensures failed { OnErr result (R.known source.old ≡ true → R.raised source.old < R.raised source.new) }
 {
-    let mut bytes = Vec::new(alloc);
-    let mut piece = [0u8; PIECE];
-    'pulls: loop {
-        let Ok(count) = source.pull(&mut piece) else {
+    let mut count = 0;
+    while count < most {
+        let Ok(more) = source.pull(&mut places[count..most]) else {
             return Err(Why::Read);
         };
-        if count == 0 {
-            return Ok(bytes);
+        if more == 0 {
+            return Ok(count);
         }
-        bytes.extend_from_slice(&piece[..count])?;
+        count += more;
     }
+    Ok(count)
 }
 
 /// The number of 1 to 4 bytes in two's complement, the lowest byte first.
@@ -44,74 +50,119 @@ fn sample(bytes: &[u8]) -> i32
     LittleEndian::read_int(bytes, bytes.len()) as i32
 }
 
-/// What [`channel_of`] does, for a width that its caller fixes: it is made anew for each of them.
+/// What [`push_samples`] does, for a width that its caller fixes: it is made anew for each of them.
 #[inline(always)]
-fn channel_in(
-    alloc: Global,
-    bytes: &[u8],
+fn push_samples_of(
+    piece: &[u8],
     rows: usize,
     row: usize,
     start: usize,
     width: usize,
-) -> Result<Vec<i32>, Why>
-    requires whole { length bytes.now ≡ rows * row }
+    samples: &mut Vec<i32>,
+) -> Result<(), Why>
+    requires whole { length piece.now ≡ rows * row }
     requires width { (1 ≤ width) × (width ≤ 4) }
     requires within { start + width ≤ row }
-    ensures channel { IfOk result (λ c. IsChannel bytes.now rows row start width c.items) }
+    ensures more { OnOk result (IsMore (IsPart row start width) piece.now row rows samples.old.items samples.new.items) }
     ensures memory { IfErr result (λ e. e ≡ Why.Memory) }
 {
-    let mut samples = Vec::with_capacity(alloc, rows)?;
     for i in 0..rows {
         let at = i * row + start;
-        samples.push(sample(&bytes[at..at + width]))?;
+        samples.push(sample(&piece[at..at + width]))?;
     }
-    Ok(samples)
+    Ok(())
 }
 
-/// The samples of one channel of rows of samples, which begin at this byte of each row and have so many bytes.
-fn channel_of(
-    alloc: Global,
-    bytes: &[u8],
+/// Appends the samples of one channel of rows of samples, which begin at this byte of each row and have so many bytes.
+fn push_samples(
+    piece: &[u8],
     rows: usize,
     row: usize,
     start: usize,
     width: usize,
-) -> Result<Vec<i32>, Why>
-    requires whole { length bytes.now ≡ rows * row }
+    samples: &mut Vec<i32>,
+) -> Result<(), Why>
+    requires whole { length piece.now ≡ rows * row }
     requires width { (1 ≤ width) × (width ≤ 4) }
     requires within { start + width ≤ row }
-    ensures channel { IfOk result (λ c. IsChannel bytes.now rows row start width c.items) }
+    ensures more { OnOk result (IsMore (IsPart row start width) piece.now row rows samples.old.items samples.new.items) }
     ensures memory { IfErr result (λ e. e ≡ Why.Memory) }
 {
     match width {
-        1 => channel_in(alloc, bytes, rows, row, start, 1),
-        2 => channel_in(alloc, bytes, rows, row, start, 2),
-        3 => channel_in(alloc, bytes, rows, row, start, 3),
-        _ => channel_in(alloc, bytes, rows, row, start, 4),
+        1 => push_samples_of(piece, rows, row, start, 1, samples),
+        2 => push_samples_of(piece, rows, row, start, 2, samples),
+        3 => push_samples_of(piece, rows, row, start, 3, samples),
+        _ => push_samples_of(piece, rows, row, start, 4, samples),
     }
 }
 
-/// The samples of each of 1 to 8 channels, which are interleaved and have 1 to 4 bytes each, the lowest first.
-///
-/// # Errors
-/// [`Why::Memory`] where a growth is refused.
-pub(crate) fn channels_of(
-    alloc: Global,
-    bytes: &[u8],
-    channels: usize,
-    width: usize,
-) -> Result<Vec<Vec<i32>>, Why>
-    requires channels { (1 ≤ channels) × (channels ≤ 8) }
+/// Appends the samples of so many rows to those of their channels.
+fn push_rows(piece: &[u8], rows: usize, width: usize, lists: &mut [Vec<i32>]) -> Result<(), Why>
+    requires channels { (1 ≤ length lists.old) × (length lists.old ≤ 8) }
     requires width { (1 ≤ width) × (width ≤ 4) }
-    requires whole { length bytes.now % (channels * width) ≡ 0 }
-    ensures channels { IfOk result (λ lists. AreChannels bytes.now channels width (map (λ c. c.items) lists.items)) }
+    requires whole { length piece.now ≡ rows * (length lists.old * width) }
+    ensures more { OnOk result (IsMore (AreParts (length lists.old) width) piece.now (length lists.old * width) rows (map (λ c. c.items) lists.old) (map (λ c. c.items) lists.new)) }
     ensures memory { IfErr result (λ e. e ≡ Why.Memory) }
 {
+    let channels = lists.len();
     let row = channels * width;
-    let rows = bytes.len() / row;
+    for channel in 0..channels {
+        push_samples(
+            piece,
+            rows,
+            row,
+            channel * width,
+            width,
+            &mut lists[channel],
+        )?;
+    }
+    Ok(())
+}
+
+/// So many channels of no samples.
+fn no_samples(alloc: Global, channels: usize) -> Result<Vec<Vec<i32>>, Why>
+    ensures many { IfOk result (λ lists. length lists.items ≡ channels) }
+    ensures none { IfOk result (λ lists. (c : ℕ) → slice_index_or (map (λ v. v.items) lists.items) c [] ≡ []) }
+    ensures memory { IfErr result (λ e. e ≡ Why.Memory) }
+{
     let mut lists = Vec::with_capacity(alloc, channels)?;
     for channel in 0..channels {
-        lists.push(channel_of(alloc, bytes, rows, row, channel * width, width)?)?;
+        let _channel = channel;
+        lists.push(Vec::new(alloc))?;
     }
     Ok(lists)
+}
+
+/// The samples of each of 1 to 8 channels, which are all bytes of a source: interleaved, 1 to 4 bytes each, the lowest first. `None` where the
+/// last row is not whole. At no time more than a piece of the bytes is held.
+///
+/// # Errors
+/// [`Why::Read`] where the source answers an error, [`Why::Memory`] where a growth is refused.
+pub(crate) fn read_channels<R: Source>(
+    alloc: Global,
+    source: &mut R,
+    channels: usize,
+    width: usize,
+) -> Result<Option<Vec<Vec<i32>>>, Why>
+    requires channels { (1 ≤ channels) × (channels ≤ 8) }
+    requires width { (1 ≤ width) × (width ≤ 4) }
+    ensures whole { IfOk result (λ o. IfSome o (λ lists. R.known source.old ≡ true → length (R.coming source.old) % (channels * width) ≡ 0)) }
+    ensures channels { IfOk result (λ o. IfSome o (λ lists. R.known source.old ≡ true → AreChannels (R.coming source.old) channels width (map (λ c. c.items) lists.items))) }
+    ensures part { IfOk result (λ o. o ≡ None → R.known source.old ≡ true → length (R.coming source.old) % (channels * width) ≢ 0) }
+    ensures memory { IfErr result (λ e. R.known source.old ≡ true → R.raised source.new ≡ R.raised source.old → e ≡ Why.Memory) }
+{
+    let row = channels * width;
+    let size = PIECE / row * row;
+    let mut lists = no_samples(alloc, channels)?;
+    let mut piece = [0u8; PIECE];
+    'pieces: loop {
+        let count = fill(source, &mut piece, size)?;
+        if count % row != 0 {
+            return Ok(None);
+        }
+        push_rows(&piece[..count], count / row, width, &mut lists)?;
+        if count < size {
+            return Ok(Some(lists));
+        }
+    }
 }
