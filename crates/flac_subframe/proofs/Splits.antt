@@ -146,6 +146,10 @@ paired order k l rs old new some half costs pairs j h =
 pub start_rises : (order block p j : ℕ) → start order block p j ≤ start order block p (j + 1)
 start_rises order block p j = let e : (j + 1) * (block / 2 ^ p) ≡ j * (block / 2 ^ p) + block / 2 ^ p = rw add-one (suc-mul j (block / 2 ^ p)) in omega arith
 
+-- the first begins with them
+pub start_none : (order block p : ℕ) (ns : List ℕ) → ns ≡ drop (start order block p 0) ns
+start_none order block p ns = let first : 0 ≡ start order block p 0 = omega arith in ap (λ (k : ℕ). drop k ns) first
+
 -- the last partition ends with the values
 pub start_last : (order : ℕ) (rs : List ℤ) (p : ℕ) → Halves order rs p → start order (length rs + order) p (2 ^ p) ≡ length rs
 start_last order rs p h =

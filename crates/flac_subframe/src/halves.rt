@@ -18,12 +18,13 @@ pub(crate) fn price(residual: &ResidualView<'_>, width: u8, parameter: u8, sums:
     ensures costs { (j : ℕ) → j < 2 ^ residual.now.halvings → slice_index sums.new j ≡ sum_by (value_cost parameter) (part residual.now.order residual.now.values.now residual.now.halvings j) }
 {
     let size = (residual.values.len() + residual.order) >> residual.halvings;
-    let mut from = 0;
-    let mut to = size - residual.order;
+    let mut rest = residual.folds;
+    let mut long = size - residual.order;
     for sum in sums.iter_mut() {
-        *sum = rice_bits(&residual.folds[from..to], parameter, width);
-        from = to;
-        to += size;
+        let (front, after) = rest.split_at(long);
+        *sum = rice_bits(front, parameter, width);
+        rest = after;
+        long = size;
     }
 }
 

@@ -18,15 +18,15 @@ fn leaves(residual: &ResidualView<'_>, widths: &mut [u8], sums: &mut [u64])
     ensures costs { (j : ℕ) → j < 2 ^ residual.now.halvings → slice_index sums.new j ≡ sum_by (value_cost 0) (part residual.now.order residual.now.values.now residual.now.halvings j) }
 {
     let size = (residual.values.len() + residual.order) >> residual.halvings;
-    let mut from = 0;
-    let mut to = size - residual.order;
+    let mut rest = residual.folds;
+    let mut long = size - residual.order;
     for j in 0..widths.len() {
-        let folds = &residual.folds[from..to];
-        let bits = width(folds);
+        let (front, after) = rest.split_at(long);
+        let bits = width(front);
         widths[j] = bits;
-        sums[j] = rice_bits(folds, 0, bits);
-        from = to;
-        to += size;
+        sums[j] = rice_bits(front, 0, bits);
+        rest = after;
+        long = size;
     }
 }
 

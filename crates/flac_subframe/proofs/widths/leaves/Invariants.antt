@@ -1,4 +1,4 @@
-use Rattle.std.proofs.Common.{◌≡◌, ◌+◌, ◌<◌, ◌≤◌, ℕ, get_or, length}
+use Rattle.std.proofs.Common.{◌≡◌, ◌+◌, ◌-◌, ◌<◌, ◌≤◌, ℕ, get_or, length, drop}
 use Rattle.std.specs.List.{sum_by}
 use Rattle.flac_subframe.specs.Cost.{value_cost}
 use Rattle.flac_subframe.specs.Halves.{part, start, IsWidth}
@@ -6,8 +6,8 @@ use Rattle.flac_subframe.proofs.widths.leaves.Given as goal
 
 abbrev pub invariant-loop-j : goal.invariant-loop-j
 invariant-loop-j l = record {
-  from : l.from ≡ start l.residual.order (length l.residual.values.now + l.residual.order) l.residual.halvings l.j;
-  to : l.to ≡ start l.residual.order (length l.residual.values.now + l.residual.order) l.residual.halvings (l.j + 1);
+  rest : l.rest ≡ drop (start l.residual.order (length l.residual.values.now + l.residual.order) l.residual.halvings l.j) l.residual.folds.now;
+  long : l.long ≡ start l.residual.order (length l.residual.values.now + l.residual.order) l.residual.halvings (l.j + 1) - start l.residual.order (length l.residual.values.now + l.residual.order) l.residual.halvings l.j;
   done : (j : ℕ) → j < l.j → IsWidth (part l.residual.order l.residual.values.now l.residual.halvings j) (get_or l.widths j 0);
   small : (j : ℕ) → j < l.j → get_or l.widths j 0 ≤ 32;
   costs : (j : ℕ) → j < l.j → get_or l.sums j 0 ≡ sum_by (value_cost 0) (part l.residual.order l.residual.values.now l.residual.halvings j);
