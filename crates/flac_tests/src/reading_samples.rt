@@ -66,11 +66,10 @@ fn channels_of<C: Container + Drop>(
         if let Some(channel) = channels.get_mut(next) {
             channel.push(sample)?;
         }
-        next = if next + 1 < channels.len() {
-            next + 1
-        } else {
-            0
-        };
+        next = next.saturating_add(1);
+        if next >= channels.len() {
+            next = 0;
+        }
     }
     Ok(channels)
 }
@@ -81,7 +80,9 @@ fn encoded(alloc: Global, rate: u32, depth: u32, channels: Vec<Vec<i32>>) -> Res
     let plan = Plan::new(4096, &audio, 0)?;
     let list = BlockList::new(Vec::new(alloc))?;
     let mut target = Collected::new(alloc);
-    encode(alloc, &plan, &list, &audio, &mut target)?;
+    let outcome = encode(alloc, &plan, &list, &audio, &mut target);
+    drop(list);
+    outcome?;
     Ok(target.into_bytes())
 }
 
@@ -122,7 +123,7 @@ fn count_rising<C: Container + Drop>(
     for i in first..10001 {
         match samples.next() {
             Some(Ok(sample)) if sample == i => {}
-            other => return (i - first, other),
+            other => return (i.saturating_sub(first), other),
         }
     }
     (10001, None)
@@ -168,12 +169,8 @@ type Sought = Option<(u64, i32, Duration)>;
 /// The frame that holds a sample, if there is one.
 fn sought(alloc: Global, stream: &[u8], keep: Keep, sample: u64) -> Result<Sought, Fault> {
     let reader = opened(alloc, stream, keep)?;
-    let mut found = reader.seek(
-        alloc,
-        &stream[100.min(stream.len())..],
-        Profile::Subset,
-        sample,
-    )?;
+    let frames = stream.get(100..).unwrap_or(&[]);
+    let mut found = reader.seek(alloc, frames, Profile::Subset, sample)?;
     let outcome = first_of(&mut found);
     drop(found);
     outcome
@@ -211,12 +208,8 @@ fn frames_sought(rt: HostRuntime) -> Result<(), Fail> {
 /// The samples from the frame that holds a sample on, and how many come.
 fn samples_behind(alloc: Global, stream: &[u8]) -> Result<i32, Fault> {
     let reader = opened(alloc, stream, Keep::All)?;
-    let sought = reader.seek(
-        alloc,
-        &stream[100.min(stream.len())..],
-        Profile::Subset,
-        5000,
-    )?;
+    let frames = stream.get(100..).unwrap_or(&[]);
+    let sought = reader.seek(alloc, frames, Profile::Subset, 5000)?;
     let mut samples = sought.into_samples();
     let (count, _) = count_rising(&mut samples, 4096);
     drop(samples);
