@@ -184,8 +184,13 @@ def wav_programs(door, made, listed, valgrind):
         for words in ((), ("--ogg",)):
             there_and_back(f"{sound.name} {words}", wav, [tools["wav2flac"]], [tools["flac2wav"]], *words)
     for entry in made.entries:
-        door.quiet(f"flac2wav {entry.path}", tools["flac2wav"], entry.path, back)
-        door.expect(f"reference's {entry.path}", program.read(back) == program.read(entry.raw[:-4] + ".wav"), True)
+        answer, result = program.answer(entry.path), ran(tools["flac2wav"], entry.path, back)
+        if answer.startswith("frames "):
+            door.expect(f"flac2wav {entry.path}", (result.returncode, result.stderr), (0, b""))
+            door.expect(f"reference's {entry.path}", program.read(back) == program.read(entry.raw[:-4] + ".wav"), True)
+        else:
+            reason = answer.split(": ")[-1]
+            door.expect(f"flac2wav {entry.path}", (result.returncode, result.stderr.decode()), (1, f"flac2wav: {entry.path}: {reason}\n"))
     for sound in sorted(listed, key=lambda sound: sound.length * sound.channels)[1:3]:
         wav = made.path(sound.name + ".wav")
         there_and_back(sound.name, wav, [tools["wav2flac_checked"]], [tools["flac2wav_checked"]])
