@@ -7,4 +7,6 @@ mod hostile;
 #[cfg(test)]
 mod program;
 #[cfg(test)]
+mod strange;
+#[cfg(test)]
 mod tables;

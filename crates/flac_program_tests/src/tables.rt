@@ -224,6 +224,22 @@ MONO RAMP
 MONO ALTERNATING
 STEREO LEFT_SIDE";
 
+/// Streams of which each prefix is read, and each stream with the lowest bit, the highest bit or all bits of one byte changed; and how many of both are
+/// accepted, as a model of the format answers that shares no code with this project (`conformance/model.py`).
+pub(crate) const STRANGE: &str =
+    "# The example, the same as this project writes it, no samples, four frames behind a STREAMINFO of their format, the example with a comment.
+ROW | 0 25
+664c6143800000221000100000000f00000f0ac442f0000000013e84b41807dc690307586a3dad1a2e0f ONE_FRAME | 0 25
+664c614380000022100010000000000000000ac442f000000000d41d8cd98f00b204e9800998ecf8427e | 0 34
+MONO RAMP | 1 28
+MONO ZEROS | 1 28
+MONO ALTERNATING | 1 28
+STEREO LEFT_SIDE | 1 28
+664c6143000000221000100000000f00000f0ac442f000000001 00*16 TITLE_X ROW_FRAME | 0 88
+# A block of every kind, and a stream in pages.
+MORE 02000006616243ff0102 03000036 00*16 1000000000000000100000000000000001020010ffffffffffffffff00000000000000070001 0400001c03000000615c620200000009000000583d7f7e20c3a90a5b00000000 0600002e0000000300000009696d6167652f706e6700000003610a62000000020000000500000018000000000000000200ff 7e000003616263 010000020007 850001e031005c 00*130 01588880 00*258 0200000000000000000141420000000000000000000040 00*13 01000000000000024c010000000000000000000930aa 00*12 80 00*14 | 0 917
+MAPPING COMMENT FRAME | 0 0";
+
 /// The lines of `list`, in rows as those of native streams.
 pub(crate) const LISTS: &str =
     r#"# An identifier that is no text; a table whose last point is a placeholder; texts with a backslash, a delete, a letter of two bytes and the end of a

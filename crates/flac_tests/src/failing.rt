@@ -532,47 +532,38 @@ fn number_of(outcome: Result<(), EncodeFault>) -> u8 {
 /// What is answered by the making of an encoder, by each of three pushes, and by its end; 0 is no fault, and 255 that it was not asked.
 type Answers = [u8; 5];
 
-/// Pushes samples in blocks of 4096.
-fn push_all<W: Target + Drop>(
-    encoder: &mut StreamEncoder<W>,
-    samples: &[i32],
-    answers: &mut Answers,
-) {
-    let mut rest = samples;
-    for i in 1..4 {
-        let (block, behind) = rest.split_at(rest.len().min(4096));
-        answers[i] = number_of(encoder.push(&[block]));
-        rest = behind;
-    }
+/// Pushes the samples from a place on, 4096 at most.
+fn push_from<W: Target + Drop>(encoder: &mut StreamEncoder<W>, samples: &[i32], from: usize) -> u8 {
+    let rest = samples.get(from..).unwrap_or(&[]);
+    let block = rest.get(..4096).unwrap_or(rest);
+    number_of(encoder.push(&[block]))
 }
 
-/// Ends an encoder.
-fn end<W: Target + Drop>(encoder: StreamEncoder<W>) -> u8 {
-    match encoder.finish() {
+/// Pushes samples in blocks of 4096, and ends.
+fn push_and_end<W: Target + Drop>(encoder: StreamEncoder<W>, samples: &[i32]) -> Answers {
+    let mut encoder = encoder;
+    let first = push_from(&mut encoder, samples, 0);
+    let second = push_from(&mut encoder, samples, 4096);
+    let third = push_from(&mut encoder, samples, 8192);
+    let end = match encoder.finish() {
         Ok(target) => {
             drop(target);
             0
         }
         Err(fault) => fault.number(),
-    }
+    };
+    [0, first, second, third, end]
 }
 
 /// Makes an encoder of one channel, pushes samples, and ends it.
 fn pushed<W: Target + Drop>(alloc: Global, samples: &[i32], target: W) -> Result<Answers, Fail> {
-    let mut answers = [255; 5];
     let list = BlockList::new(Vec::new(alloc))?;
     let made = StreamEncoder::new(alloc, 44100, 16, 1, 4096, &list, target);
     drop(list);
     match made {
-        Ok(encoder) => {
-            let mut encoder = encoder;
-            answers[0] = 0;
-            push_all(&mut encoder, samples, &mut answers);
-            answers[4] = end(encoder);
-        }
-        Err(fault) => answers[0] = fault.number(),
+        Ok(encoder) => Ok(push_and_end(encoder, samples)),
+        Err(fault) => Ok([fault.number(), 255, 255, 255, 255]),
     }
-    Ok(answers)
 }
 
 /// Pushes samples to a target that takes a byte at a time, of which a call fails: the answers, and the bytes that were written.

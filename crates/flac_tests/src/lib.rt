@@ -31,4 +31,6 @@ mod rows;
 #[cfg(test)]
 mod seeking;
 #[cfg(test)]
+mod strange;
+#[cfg(test)]
 mod subframes;

@@ -19,7 +19,7 @@ use std::test::Fail;
 
 /// How many blocks and frames there are, and a sum of all samples in their order.
 #[derive(Clone, Copy, PartialEq, Eq)]
-struct Tally {
+pub(crate) struct Tally {
     blocks: u32,
     frames: u32,
     sum: u32,
@@ -82,7 +82,7 @@ impl Sink for Tally {
 }
 
 /// What a stream comes to: its items, and its end.
-type Told = (Tally, Result<(), Fault>);
+pub(crate) type Told = (Tally, Result<(), Fault>);
 
 /// Notes what a decoder gives, up to the end.
 fn note_all<C: Container>(decoder: &mut Decoder<C>, tally: &mut Tally) -> Result<(), Fault> {
@@ -97,7 +97,7 @@ fn note_all<C: Container>(decoder: &mut Decoder<C>, tally: &mut Tally) -> Result
 }
 
 /// What a native stream comes to, item by item.
-fn native_items(alloc: Global, stream: &[u8], most: usize) -> Told {
+pub(crate) fn native_items(alloc: Global, stream: &[u8], most: usize) -> Told {
     let source = Pieces::new(Memory::new(stream), most.max(1));
     let mut decoder = Decoder::new(alloc, source, Profile::Subset);
     let mut tally = NOTHING;
@@ -107,7 +107,7 @@ fn native_items(alloc: Global, stream: &[u8], most: usize) -> Told {
 }
 
 /// What an Ogg stream comes to, item by item.
-fn ogg_items(alloc: Global, stream: &[u8], most: usize) -> Told {
+pub(crate) fn ogg_items(alloc: Global, stream: &[u8], most: usize) -> Told {
     let source = Pieces::new(Memory::new(stream), most.max(1));
     match ogg_decoder(alloc, source, Profile::Subset) {
         Ok(mut decoder) => {
@@ -121,7 +121,7 @@ fn ogg_items(alloc: Global, stream: &[u8], most: usize) -> Told {
 }
 
 /// What a stream comes to, by a sink.
-fn sunk(alloc: Global, stream: &[u8], ogg: bool, most: usize) -> Told {
+pub(crate) fn sunk(alloc: Global, stream: &[u8], ogg: bool, most: usize) -> Told {
     let mut source = Pieces::new(Memory::new(stream), most.max(1));
     let mut tally = NOTHING;
     let end = if ogg {
