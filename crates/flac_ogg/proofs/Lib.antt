@@ -17,3 +17,7 @@ pub mod Packing
 pub mod Whole
 pub mod FirstByte
 pub mod RoundTrips
+pub mod OpenPages
+pub mod Headed
+pub mod PushedOgg
+pub mod Judged

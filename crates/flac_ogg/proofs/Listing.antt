@@ -1,6 +1,6 @@
 -- Packets that lie one after another in memory.
-use Rattle.std.proofs.Common.{◌≡◌, ℕ, zero, suc, ◌-◌, ◌^◌, ◌<◌, ◌≤◌, Bool, true, List, [], ◌∷◌, ◌++◌, length, take, drop, get_or, map, refl, sym, ap, subst, ◌∙◌, arith, length-append, append_assoc, Result, Ok, Err, Vec, Global, IfOk}
-use Rattle.std.specs.List.{All, flat_map}
+use Rattle.std.proofs.Common.{◌≡◌, ℕ, zero, suc, ◌+◌, ◌/◌, ◌-◌, ◌^◌, ◌<◌, ◌≤◌, Bool, true, List, [], ◌∷◌, ◌++◌, length, take, drop, get_or, map, refl, sym, ap, subst, ◌∙◌, arith, length-append, append_assoc, Result, Ok, Err, Vec, Global, IfOk}
+use Rattle.std.specs.List.{All, flat_map, range_with_len}
 use Rattle.std.specs.Int.{to_le_bytes, w32, w64}
 use Rattle.std.proofs.Math.Seq.{take-append_seam}
 use Rattle.std.proofs.lemmas.List.{append-nil, length-take, length-drop}
@@ -14,7 +14,8 @@ use Rattle.flac_pages.specs.declared.writing.PacketAt.{PacketAt}
 use Rattle.flac_pages.specs.declared.writing.PacketKind.{PacketKind}
 use Rattle.flac_pages.specs.Page.{Page, page_spelling}
 use Rattle.flac_pages.specs.Placed.{Placed, IsPlaced, AreInOrder, placed_in, end_of, stream_pages, stream_spelling}
-use Rattle.flac_pages.specs.Written.{granule_at}
+use Rattle.flac_pages.specs.declared.writing.PacketMarks.{PacketMarks}
+use Rattle.flac_pages.specs.Written.{granule_at, page_at, packet_spelling}
 use Rattle.flac_pages.proofs.PlacedMore.{packets_placed}
 use Rattle.flac_ogg.specs.Listed.{Holds, Puts, texts_of, kinds_in}
 use Rattle.flac_ogg.specs.declared.packet_list.PacketList.{PacketList}
@@ -144,6 +145,14 @@ pages_whole (p ∷ ps) = subst (λ t. Whole t) (sym (flat_map-cons page_spelling
 pub stream_whole : (serial : ℕ) (ps : List Placed) → Whole (stream_spelling serial ps)
 unfolding stream_spelling
 stream_whole serial ps = pages_whole (stream_pages serial ps)
+
+flat_whole : (f : ℕ → List Bool) → ((k : ℕ) → Whole (f k)) → (ks : List ℕ) → Whole (flat_map f ks)
+flat_whole f all [] = whole_nil
+flat_whole f all (k ∷ ks) = subst (λ t. Whole t) (sym (flat_map-cons f k ks)) (whole_append (f k) (flat_map f ks) (all k) (flat_whole f all ks))
+
+pub packet_whole : (m : PacketMarks) (packet : List ℕ) → Whole (packet_spelling m packet)
+unfolding packet_spelling
+packet_whole m packet = flat_whole (λ k. page_spelling (page_at m packet k)) (λ k. page_whole (page_at m packet k)) (range_with_len 0 (length packet / 65025 + 1))
 
 -- and so it is of the packets that a list holds, where the pages were collected
 pub pages_collected : (serial : ℕ) (l : PacketList) (ps : List Placed) (r : Result (Vec ℕ Global) Why) → ps ≡ placed_in l.bytes.items 0 l.ends.items → IfOk r (λ v. bits_of v.items ≡ stream_spelling serial ps)

@@ -145,7 +145,7 @@ mapping_long m text (name, a, p, cut_a, (lt_a, is_a), (version, b, q, cut_b, (lt
     )
 
 -- the bits behind 13 bytes are those of the further bytes
-behind_mapping : (packet : List ℕ) (front rest : List Bool) → bits_of packet ≡ front ++ rest → length front ≡ 104 → rest ≡ bits_of (drop 13 packet)
+pub behind_mapping : (packet : List ℕ) (front rest : List Bool) → bits_of packet ≡ front ++ rest → length front ≡ 104 → rest ≡ bits_of (drop 13 packet)
 behind_mapping packet front rest split long =
     let parts : front ++ rest ≡ bits_of (take 13 packet) ++ bits_of (drop 13 packet) = sym split ∙ ap bits_of (sym (take-append-drop 13 packet)) ∙ bits_of-append (take 13 packet) (drop 13 packet) in
     let many : 13 ≤ length packet = omega (arith, length-bits_of packet, ap (λ (k : List Bool). length k) split, length-append front rest, long) in

@@ -40,7 +40,7 @@ info_faultless info = refl
 
 -- ---- the blocks
 
-count_blocks : (bs : List Block) → length (block_spellings bs) ≡ length bs
+pub count_blocks : (bs : List Block) → length (block_spellings bs) ≡ length bs
 count_blocks [] = refl
 count_blocks (b ∷ bs) = omega (arith, count_blocks bs)
 

@@ -60,7 +60,7 @@ info_long i is =
       is.many,
     )
 
-block_long : (last : Bool) (i : Info) → IsBytes 16 i.digest → length (s.block_spelling last (block_of.StreamInfo i)) ≡ 304
+pub block_long : (last : Bool) (i : Info) → IsBytes 16 i.digest → length (s.block_spelling last (block_of.StreamInfo i)) ≡ 304
 unfolding s.block_spelling s.content_spelling
 block_long last i is = omega (arith, length-joined (s.header_spelling last 0 (s.length_of (block_of.StreamInfo i)) ∷ s.info_spelling i ∷ []), header_long last 0 (s.length_of (block_of.StreamInfo i)), info_long i is)
 
@@ -141,7 +141,7 @@ ends_well : (m : Mark) → m.short ≡ Truncated → end_fault (record { left = 
 unfolding end_fault
 ends_well m is = ap unless_over is
 
-ogg_stream : (serial : ℕ) (q : Placed) (qs : List Placed) (items : List Piece) → serial < 2 ^ 32 → length q.packet ≡ 51 → All IsPlaced (q ∷ qs) → AreStream (map (λ x. x.packet) (q ∷ qs)) items
+pub ogg_stream : (serial : ℕ) (q : Placed) (qs : List Placed) (items : List Piece) → serial < 2 ^ 32 → length q.packet ≡ 51 → All IsPlaced (q ∷ qs) → AreStream (map (λ x. x.packet) (q ∷ qs)) items
     → OggStream (beginning Truncated) items (stream_spelling serial (q ∷ qs))
 ogg_stream serial q qs items small long good are =
     let m = beginning Truncated in
@@ -162,7 +162,7 @@ ogg_stream serial q qs items small long good are =
       kept = are.kept;
     }
 
-count_small : (n : ℕ) → header_count n < 2 ^ 16
+pub count_small : (n : ℕ) → header_count n < 2 ^ 16
 count_small n = grind (arith, nat_tests)
 
 pub encodes_ogg : (serial : ℕ) (p : Cut) (list : List Block) (a : Sound) (l : PacketList) (packets : List Placed) (before : List Bool) → serial < 2 ^ 32 → plan_fault p ≡ None → fits_plan p a ≡ true

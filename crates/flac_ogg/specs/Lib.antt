@@ -12,3 +12,6 @@ pub mod Laws
 pub mod Listed
 pub mod Writing
 pub mod RoundTrip
+pub mod Pushing
+pub mod Headers
+pub mod Judging

@@ -26,7 +26,7 @@ use flac_pages::PacketKind;
 use std::alloc::Global;
 
 /// Whether the first block is a Vorbis comment.
-fn begins_with_comment(blocks: &[Block]) -> bool
+pub(crate) fn begins_with_comment(blocks: &[Block]) -> bool
     ensures { result ≡ begins_with_comment blocks.now }
 {
     match blocks.first() {
@@ -43,7 +43,7 @@ fn may_be_ogg(plan: &Plan, list: &BlockList) -> bool
 }
 
 /// How many header packets follow the first one, 0 where 16 bits cannot tell it.
-fn header_count(blocks: usize) -> u64
+pub(crate) fn header_count(blocks: usize) -> u64
     ensures value { result ≡ header_count blocks }
     ensures small { result < 2 ^ 16 }
 {
@@ -87,7 +87,7 @@ fn first_packet(alloc: Global, info: StreamInfo, blocks: usize) -> Result<Vec<u8
 }
 
 /// A block as a packet. Its only error is `Memory`: an allocation failed.
-fn block_packet(alloc: Global, block: &Block, last: bool) -> Result<Vec<u8>, Why>
+pub(crate) fn block_packet(alloc: Global, block: &Block, last: bool) -> Result<Vec<u8>, Why>
     requires { block_fault block.now ≡ None }
     ensures packet { IfOk result (λ packet. bits_of packet.items ≡ block_spelling last block.now) }
     ensures memory { IfErr result (λ e. e ≡ Why.Memory) }
@@ -114,7 +114,7 @@ fn push_blocks(alloc: Global, list: &BlockList, packets: &mut PacketList) -> Res
 }
 
 /// The samples from one place to another as the frame of a number, in memory. Its only error is `Memory`: an allocation failed.
-fn frame_packet(
+pub(crate) fn frame_packet(
     alloc: Global,
     audio: &Audio,
     start: usize,

@@ -7,14 +7,19 @@ mod decoding;
 mod either;
 mod encoding;
 mod fronted;
+mod headers;
+mod held_packet;
 mod items;
+mod judge;
 mod laws;
 mod mapping;
 mod memory;
+mod ogg_encoder;
 mod packet_list;
 mod packets;
 mod parts;
 mod places;
+mod pushed_block;
 mod round_trip;
 mod verifying;
 
@@ -33,6 +38,7 @@ pub use flac_native::{
 };
 pub use flac_pages::{PacketBytes, Pages};
 pub use laws::{encoded_are_read, encoded_items, only_one_way, same_items, some_way};
+pub use ogg_encoder::OggEncoder;
 pub use packets::OggPackets;
 pub use round_trip::encode_and_decode;
 pub use verifying::verify;

@@ -19,7 +19,7 @@ use flac_native::{EncodeFault, Plan, Profile, encode};
 use std::alloc::Global;
 
 /// Why encoding into memory was refused: an error of this target is a failed allocation.
-fn in_memory(fault: EncodeFault) -> EncodeFault
+pub(crate) fn in_memory(fault: EncodeFault) -> EncodeFault
     ensures write { fault ≡ EncodeFault.Write → result ≡ EncodeFault.Memory }
     ensures others { fault ≢ EncodeFault.Write → result ≡ fault }
     ensures whole { is_of_whole fault ≡ true → is_of_whole result ≡ true }

@@ -21,6 +21,8 @@ mod pieces;
 #[cfg(test)]
 mod pushing;
 #[cfg(test)]
+mod pushing_ogg;
+#[cfg(test)]
 mod reading_files;
 #[cfg(test)]
 mod reading_samples;
