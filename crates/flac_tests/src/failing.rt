@@ -8,6 +8,7 @@ use crate::decoding::ROW;
 use crate::encoding::{ONE, ramp};
 use crate::ogg::{PAGES, comments, sample};
 use crate::pieces::sum_of;
+use crate::pushing_ogg::ONE as PUSHED;
 use crate::retagging::{TAGGED, comments as texts};
 use crate::seeking::TEN_THOUSAND;
 use flac_bits::{Collected, Counted, FailAt, Memory, Pieces, Source, Target};
@@ -17,7 +18,7 @@ use flac_native::{
     Container, Decoder, EncodeFault, Fault, Item, Place, Plan, Profile, RetagFault, Sink,
     SinkFault, StreamEncoder, Why, decode, encode, retag,
 };
-use flac_ogg::{decode_ogg, encode_ogg, ogg_decoder};
+use flac_ogg::{OggEncoder, decode_ogg, encode_ogg, ogg_decoder};
 use std::alloc::Global;
 use std::io;
 use std::io::Write;
@@ -613,6 +614,76 @@ fn pushes_fail(rt: HostRuntime) -> Result<(), Fail> {
         assert!(rt; answers == wanted_answers(n), "byte {n}");
         assert!(rt;
             bytes.as_slice() == wanted.get(..n.min(89)).unwrap_or(&[]),
+            "byte {n}"
+        );
+    }
+    Ok(())
+}
+
+/// What is answered by the making of an Ogg encoder, by one push, and by its end; 0 is no fault, and 255 that it was not asked.
+type PageAnswers = [u8; 3];
+
+/// Pushes one sample of two channels, and ends.
+fn push_page_and_end<W: Target + Drop>(encoder: OggEncoder<W>) -> PageAnswers {
+    let mut encoder = encoder;
+    let (left, right) = ([25588], [10416]);
+    let pushed = number_of(encoder.push(&[left.as_slice(), right.as_slice()]));
+    let end = match encoder.finish() {
+        Ok(target) => {
+            drop(target);
+            0
+        }
+        Err(fault) => fault.number(),
+    };
+    [0, pushed, end]
+}
+
+/// Makes an Ogg encoder of two channels with a comment block, pushes one sample, and ends it.
+fn pushed_pages<W: Target + Drop>(alloc: Global, target: W) -> Result<PageAnswers, Fail> {
+    let list = comments(alloc, 0)?;
+    let made = OggEncoder::new(alloc, 1, 44100, 16, 2, 4096, &list, target);
+    drop(list);
+    match made {
+        Ok(encoder) => Ok(push_page_and_end(encoder)),
+        Err(fault) => Ok([fault.number(), 255, 255]),
+    }
+}
+
+/// Pushes to a target that takes a byte at a time, of which a call fails: the answers, and the bytes that were written.
+fn pages_trickled(alloc: Global, at: u64) -> Result<(PageAnswers, Vec<u8>), Fail> {
+    let trickle = Trickle {
+        bytes: Vec::new(alloc),
+    };
+    let mut target = FailAt::new(Counted::new(trickle), at);
+    let answers = pushed_pages(alloc, &mut target)?;
+    Ok((answers, target.into_inner().into_inner().bytes))
+}
+
+/// What an Ogg encoder answers where the byte of this number is not written. Of the pages of 79, 40 and 43 bytes the one that was made last is held back, so that a push
+/// writes the page before it, and the end the last one.
+fn wanted_page_answers(byte: usize) -> PageAnswers {
+    if byte < 79 {
+        [39, 255, 255]
+    } else if byte < 119 {
+        [0, 39, 38]
+    } else if byte < 162 {
+        [0, 0, 39]
+    } else {
+        [0; 3]
+    }
+}
+
+/// Each byte that an Ogg encoder writes of what is pushed fails in turn. Then it is spent.
+#[test]
+fn pushed_pages_fail(rt: HostRuntime) -> Result<(), Fail> {
+    let alloc = rt.alloc();
+    let wanted = hex::decode(alloc, PUSHED)?;
+    assert!(rt; wanted.len() == 162);
+    for n in 0..163 {
+        let (answers, bytes) = pages_trickled(alloc, n as u64)?;
+        assert!(rt; answers == wanted_page_answers(n), "byte {n}");
+        assert!(rt;
+            bytes.as_slice() == wanted.get(..n.min(162)).unwrap_or(&[]),
             "byte {n}"
         );
     }
