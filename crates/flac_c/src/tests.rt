@@ -213,7 +213,7 @@ fn encoded_in_ogg(rt: HostRuntime) -> Result<(), Fail> {
     let (mut samples, mut count, mut fault) = ([9i32; 3], 99, unset());
     let number = flac_proved_samples(
         rt.alloc(),
-        &stream[..181],
+        stream.get(..181).unwrap_or(&[]),
         &mut samples,
         &mut count,
         &mut fault,
