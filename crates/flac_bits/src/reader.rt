@@ -40,7 +40,7 @@ impl<R: Source> Model for BitReader<R> {
     ghost view = { λ r. state_of (R.known r.source) (R.errors r.source) (R.raised r.source) (R.most r.source) (R.behind r.source) (R.names r.source) (R.coming r.source) r.held };
 }
 
-/// Makes sure that the word has a bit at least; false if none is left.
+/// Makes sure that the word has at least one bit; false if none is left.
 fn fill<R: Source>(held: &mut Held, source: &mut R) -> Result<bool, Why>
     ensures names { R.names source.new ≡ R.names source.old }
     ensures mark { held.new.mark ≡ held.old.mark }
@@ -74,7 +74,7 @@ fn fill<R: Source>(held: &mut Held, source: &mut R) -> Result<bool, Why>
     }
 }
 
-/// Makes sure that the array has a whole byte at least and the word is empty, at a whole byte; false if none is left.
+/// Makes sure that the array has at least one whole byte, and the word none, at a whole byte; false if none is left.
 fn refill<R: Source>(held: &mut Held, source: &mut R) -> Result<bool, Why>
     requires { held.old.mark.unread ≡ 0 }
     ensures names { R.names source.new ≡ R.names source.old }
@@ -456,7 +456,7 @@ impl<R: Source> BitReader<R> {
         Ok(())
     }
 
-    /// Reads some of the next bytes: one at least if `out` has room, none if none is left.
+    /// Reads some of the next bytes: at least one if `out` has room, none if none is left.
     fn some_bytes(&mut self, out: &mut [u8]) -> Result<usize, Why>
         requires { self.old.cursor.mark.unread ≡ 0 }
         ensures bound { IfOk result (λ n. n ≤ length out.new) }
