@@ -1,4 +1,4 @@
-//! Reads the words of the command line.
+//! Reading of the command line.
 
 ghost use Rattle.std.specs.Prelude.{◌≤◌, IfErr};
 
@@ -65,11 +65,11 @@ const LIST_EXAMPLE: &str = "Example:
 
 Bytes of a text outside 20 to 7E, and the backslash, are shown as \\x and two digits.";
 
-/// Reads the words of the command line, of which the first is the program's name.
+/// Reads the command line as a job. `words` are its words, the program's name first.
 ///
 /// # Errors
-/// What to print in place of a job: the help that was asked for (status 0), that memory ran out (1), or why the words
-/// are refused (2).
+/// What to print in place of a job: the help that was asked for (status 0), that memory ran out (1), or why the command
+/// line is refused (2).
 pub fn job<'a>(alloc: Global, words: &'a [String]) -> Result<Job<'a>, LineFault>
     ensures { IfErr result (λ fault. fault.status ≤ 2) }
 {
@@ -95,7 +95,7 @@ fn lacks_equals(job: &Job<'_>) -> bool {
     }
 }
 
-/// Whether the job asks for a seek table in Ogg.
+/// Whether the job asks for a seek table in an Ogg stream.
 fn has_table_in_ogg(job: &Job<'_>) -> bool {
     match job {
         Job::Encode {
@@ -107,7 +107,7 @@ fn has_table_in_ogg(job: &Job<'_>) -> bool {
     }
 }
 
-/// What to print for a refusal of `clap`: help is one of them.
+/// What to print for an error of `clap`: help is one of them.
 fn refused(alloc: Global, error: &clap::Error) -> LineFault
     ensures { result.status ≤ 2 }
 {
@@ -122,7 +122,7 @@ fn refused(alloc: Global, error: &clap::Error) -> LineFault
     LineFault::no_memory()
 }
 
-/// The job of the words, or `None` if a word is missing.
+/// The job of the command line, or `None` if a word is missing.
 fn parsed<'a>(alloc: Global, words: &'a [String]) -> Result<Option<Job<'a>>, clap::Error> {
     let matches = command(alloc)?.try_get_matches_from(words)?;
     match matches.subcommand() {
@@ -131,7 +131,7 @@ fn parsed<'a>(alloc: Global, words: &'a [String]) -> Result<Option<Job<'a>>, cla
     }
 }
 
-/// The job of a command and what was given with it, or `None` if a word is missing.
+/// The job of a command and its arguments, or `None` if one is missing.
 fn job_of<'a>(
     alloc: Global,
     name: &str,
@@ -175,7 +175,7 @@ fn job_of<'a>(
     }))
 }
 
-/// The format of raw samples by the options.
+/// The format of raw samples that the options give.
 fn format_of(given: &ArgMatches<'_>) -> Option<Format> {
     Some(Format {
         rate: given.get_one("rate")?,
@@ -186,7 +186,7 @@ fn format_of(given: &ArgMatches<'_>) -> Option<Format> {
     })
 }
 
-/// The container of the stream by the options.
+/// The container that the options give.
 fn container_of(given: &ArgMatches<'_>) -> Option<Container> {
     if !given.get_flag("ogg") {
         return Some(Container::Native);
@@ -195,7 +195,7 @@ fn container_of(given: &ArgMatches<'_>) -> Option<Container> {
     Some(Container::Ogg { serial })
 }
 
-/// The program's command line.
+/// The command line of the program.
 fn command<'a>(alloc: Global) -> Result<Command<'a>, AllocError> {
     let command = Command::new(alloc, "flac")
         .about("Tests, decodes, lists, encodes and retags FLAC streams (RFC 9639)")
@@ -208,6 +208,7 @@ fn command<'a>(alloc: Global) -> Result<Command<'a>, AllocError> {
     with(command, retag_command(alloc))
 }
 
+/// The command with one more subcommand.
 fn with<'a>(
     command: Command<'a>,
     subcommand: Result<Command<'a>, AllocError>,
@@ -215,6 +216,7 @@ fn with<'a>(
     command.subcommand(subcommand?)
 }
 
+/// The command `test`.
 fn test_command<'a>(alloc: Global) -> Result<Command<'a>, AllocError> {
     Command::new(alloc, "test")
         .about("Decodes a stream, and prints how many frames and samples it has")
@@ -222,6 +224,7 @@ fn test_command<'a>(alloc: Global) -> Result<Command<'a>, AllocError> {
         .arg(file(alloc, "IN", "The stream"))
 }
 
+/// The command `decode`.
 fn decode_command<'a>(alloc: Global) -> Result<Command<'a>, AllocError> {
     let words = vec![in alloc;
         file(alloc, "IN", "The stream"),
@@ -235,6 +238,7 @@ fn decode_command<'a>(alloc: Global) -> Result<Command<'a>, AllocError> {
         .args(words)
 }
 
+/// The command `list`.
 fn list_command<'a>(alloc: Global) -> Result<Command<'a>, AllocError> {
     Command::new(alloc, "list")
         .about("Decodes a stream, and lists its metadata blocks")
@@ -242,6 +246,7 @@ fn list_command<'a>(alloc: Global) -> Result<Command<'a>, AllocError> {
         .arg(file(alloc, "IN", "The stream"))
 }
 
+/// The command `encode`.
 fn encode_command<'a>(alloc: Global) -> Result<Command<'a>, AllocError> {
     let words = words_of_encode(alloc)?;
     Command::new(alloc, "encode")
@@ -250,6 +255,7 @@ fn encode_command<'a>(alloc: Global) -> Result<Command<'a>, AllocError> {
         .args(words)
 }
 
+/// The arguments of `encode`.
 fn words_of_encode<'a>(alloc: Global) -> Result<Vec<Arg<'a>>, AllocError> {
     Ok(vec![in alloc;
         file(alloc, "IN", "The raw samples"),
@@ -275,6 +281,7 @@ fn words_of_encode<'a>(alloc: Global) -> Result<Vec<Arg<'a>>, AllocError> {
     ]?)
 }
 
+/// The command `retag`.
 fn retag_command<'a>(alloc: Global) -> Result<Command<'a>, AllocError> {
     let words = vec![in alloc;
         file(alloc, "IN", "The stream"),
@@ -287,6 +294,7 @@ fn retag_command<'a>(alloc: Global) -> Result<Command<'a>, AllocError> {
         .args(words)
 }
 
+/// The option `--ogg`.
 fn ogg<'a>(alloc: Global) -> Arg<'a> {
     Arg::new(alloc, "ogg")
         .long("ogg")
@@ -294,27 +302,29 @@ fn ogg<'a>(alloc: Global) -> Arg<'a> {
         .help("Writes an Ogg stream, which has no seek table")
 }
 
-/// The path of a file.
+/// A required argument: the path of a file.
 fn file<'a>(alloc: Global, name: &'a str, help: &'a str) -> Arg<'a> {
     Arg::new(alloc, name).required(true).help(help)
 }
 
+/// The arguments that are comments.
 fn comments<'a>(alloc: Global) -> Arg<'a> {
     Arg::new(alloc, "COMMENT")
         .num_args(0..)
         .help("Comments, each NAME=VALUE")
 }
 
-/// An option that has to be given, whose value is a whole number.
+/// A required option, whose value is a whole number.
 fn needed<'a>(alloc: Global, name: &'a str, help: &'a str) -> Arg<'a> {
     option(alloc, name).required(true).help(help)
 }
 
-/// An option whose value is a whole number.
+/// An option with a default, whose value is a whole number.
 fn number<'a>(alloc: Global, name: &'a str, default: &'a str, help: &'a str) -> Arg<'a> {
     option(alloc, name).default_value(default).help(help)
 }
 
+/// An option whose value is a whole number below 2^32.
 fn option<'a>(alloc: Global, name: &'a str) -> Arg<'a> {
     Arg::new(alloc, name)
         .long(name)
