@@ -17,16 +17,16 @@ const EXAMPLES: &str = "Examples:
   flac encode song.raw song.oga --ogg --rate 44100 --channels 2 --bits 16
   flac retag song.flac other.flac TITLE=Song
 
-The status is 0 if all is done. It is 1 if a stream is refused, and a line says where and
-why:
+The exit status is 0 if the job is done. It is 1 if a stream is refused, and a line says
+where and why:
   flac: song.flac: frame 3: 26 FrameCheck";
 
 const TEST_EXAMPLE: &str = "Example:
   $ flac test song.flac
   frames 2584 samples 10584000
 
-The samples are those of each channel. If the stream states their number and their MD5,
-both were compared. A file that was cut:
+Samples are counted per channel. If the stream states their number and their MD5 digest,
+both were verified. A file that was cut off:
   $ flac test cut.flac
   flac: cut.flac: frame 1291: 3 Truncated";
 
@@ -34,25 +34,31 @@ const DECODE_EXAMPLE: &str = "Example, of a stream of 44100 Hz with two channels
   $ flac decode song.flac song.raw
   $ sox -t raw -r 44100 -c 2 -b 16 -e signed -L song.raw song.wav
 
-OUT has to be another file than IN: else it cannot be created, and IN stays as it is. What
-was written before a fault stays in OUT.";
+OUT has to be another file than IN: else it cannot be created, and IN stays as it is. If
+decoding fails, the samples written before stay in OUT. But if OUT was a file with
+bytes, it stays as it was, and these samples are in OUT.part beside it.";
 
 const ENCODE_EXAMPLE: &str =
-    "Example, of raw samples of 44100 Hz with two channels of 16 bits, interleaved, little-endian:
+    "Example, of raw samples of 44100 Hz, two interleaved channels, 16 bits, little-endian:
   $ flac encode song.raw song.flac --rate 44100 --channels 2 --bits 16 TITLE=Song
 
-A sample has whole bytes: of 12 bits two, of 20 bits three. With --seek-every 441000 a seek
-table has a point for each frame that holds the begin of ten seconds. With --ogg the stream
-is an Ogg stream. OUT has to be another file than IN: else it cannot be created, and IN
-stays as it is. What was written before a fault stays in OUT.";
+A sample takes whole bytes: two for 12 bits, three for 20 bits. With --seek-every 441000
+the stream has a seek table with a point every ten seconds. With --ogg it is an Ogg
+stream.
+
+OUT has to be another file than IN: else it cannot be created, and IN stays as it is. If
+encoding fails, what was written before stays in OUT. But if OUT was a file with bytes,
+it stays as it was, and what was written is in OUT.part beside it.";
 
 const RETAG_EXAMPLE: &str = "Example:
   $ flac retag song.flac other.flac TITLE=Song ARTIST=Someone
 
-STREAMINFO, the other blocks and the frames stay as they are; the frames are not read. A
-stream whose metadata is refused writes nothing. OUT has to be another file than IN: else it
-cannot be created, and IN stays as it is. What was written before another fault stays in
-OUT.";
+STREAMINFO, the other blocks and the frames stay as they are, but padding is written as
+zeros. The frames are not read. If the metadata is refused, nothing is written.
+
+OUT has to be another file than IN: else it cannot be created, and IN stays as it is. If
+the job fails later, what was written before stays in OUT. But if OUT was a file with
+bytes, it stays as it was, and what was written is in OUT.part beside it.";
 
 const LIST_EXAMPLE: &str = "Example:
   $ flac list song.flac
@@ -63,7 +69,8 @@ const LIST_EXAMPLE: &str = "Example:
     vendor reference libFLAC 1.4.2 20221022
     comment TITLE=x
 
-Bytes of a text outside 20 to 7E, and the backslash, are shown as \\x and two digits.";
+Bytes of a text outside 20 to 7E (hexadecimal), and the backslash, are shown as \\x and
+two digits.";
 
 /// Reads the command line as a job. `words` are its words, the program's name first.
 ///
