@@ -13,7 +13,7 @@ use std::io::{Read, Write};
 /// errors and keeps the last one.
 ///
 /// At most 2^64 - 1 bytes are read from a reader. If a writer takes none of the bytes that it is given, this is an
-/// error too, of the kind `WriteZero`. A writer's own buffer is not flushed.
+/// error too. A writer's own buffer is not flushed.
 #[derive(Drop)]
 pub struct Counted<T> {
     device: T,
@@ -24,7 +24,7 @@ pub struct Counted<T> {
 }
 
 impl<T> Counted<T> {
-    /// A source or a target over the device, with no error so far.
+    /// Makes a source or a target of the device, with no error so far.
     ///
     /// ```
     /// let file = File::open(&rt, "song.flac")?;

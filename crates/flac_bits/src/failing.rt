@@ -24,7 +24,8 @@ pub struct FailAt<T> {
 }
 
 impl<T> FailAt<T> {
-    /// The device, whose call number `at` fails, counted from 0. With `u64::MAX` none fails.
+    /// Makes a source or a target of the device, whose call number `at` fails, counted from 0. With `u64::MAX` none
+    /// fails.
     pub fn new(device: T, at: u64) -> FailAt<T>
         ensures { (result.device ≡ device) × (result.at ≡ at) × (result.calls ≡ 0) }
     {
@@ -85,8 +86,7 @@ impl<S: Source> Source for FailAt<S> {
 
     ghost names = { λ s. S.names s.device };
 
-    /// Pulls some bytes from the device. In the call that fails the device is not asked, and the error is of the kind
-    /// `Other`.
+    /// Pulls some bytes from the device. In the call that fails the device is not asked.
     fn pull(&mut self, buf: &mut [u8]) -> io::Result<usize>
         ensures names { S.names self.new.device ≡ S.names self.old.device }
         ensures bound { ReadsAtMost result buf.new }
@@ -119,8 +119,7 @@ impl<W: Target> Target for FailAt<W> {
 
     ghost names = { λ w. W.names w.device };
 
-    /// Sends some of the bytes to the device. In the call that fails the device gets none, and the error is of the kind
-    /// `Other`.
+    /// Sends some of the bytes to the device. In the call that fails the device gets none.
     fn send(&mut self, bytes: &[u8]) -> io::Result<usize>
         ensures names { W.names self.new.device ≡ W.names self.old.device }
         ensures count { IfOk result (λ n. n ≤ length bytes.now) }

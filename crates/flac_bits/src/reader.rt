@@ -103,7 +103,8 @@ fn refill<R: Source>(held: &mut Held, source: &mut R) -> Result<bool, Why>
 }
 
 impl<R: Source> BitReader<R> {
-    /// A reader at the first bit of the source, without a fence. Both checks begin here, and no byte is counted yet.
+    /// Makes a reader that begins at the first bit of the source, without a fence. Both checks begin there, and no byte
+    /// is counted yet.
     ///
     /// ```
     /// let bytes = [0x4C, 0xF0];
@@ -560,8 +561,8 @@ impl<R: Source> BitReader<R> {
         }
     }
 
-    /// Sets a fence: after the current byte, if it is not read to its end, only the next `bytes` bytes are read. It
-    /// replaces a fence that was set before.
+    /// Sets a fence: only the rest of the current byte and the `bytes` bytes after it can be read, until
+    /// [`BitReader::lift`]. It replaces an earlier fence.
     ///
     /// If all these bytes are there, a field that needs a bit after them is refused with [`Why::FrameTooLong`]. If the
     /// input ends before, errors are those without a fence.

@@ -88,7 +88,7 @@ pub struct Memory<'a> {
 }
 
 impl<'a> Memory<'a> {
-    /// A source of these bytes, the first of them first.
+    /// Makes a source of these bytes, the first of them first.
     pub fn new(bytes: &'a [u8]) -> Memory<'a>
         ensures { result.bytes.now ≡ bytes.now }
     {
@@ -130,7 +130,7 @@ pub struct Pieces<S: Source> {
 }
 
 impl<S: Source> Pieces<S> {
-    /// The same source, asked for at most `most` bytes at once, one or more.
+    /// Makes a source that asks this one for at most `most` bytes at once. `most` is at least 1.
     pub fn new(source: S, most: usize) -> Pieces<S>
         requires { 1 ≤ most }
         ensures { result.source ≡ source }

@@ -210,7 +210,7 @@ fn each_checked32(check: u32, bytes: &[u8]) -> u32
     check
 }
 
-/// The checksum of an Ogg page after more bytes, of `check` before them (RFC 3533, section 6): generator 04C11DB7, no
+/// Continues the checksum of an Ogg page, `check` so far, over more bytes (RFC 3533, section 6): generator 04C11DB7, no
 /// reflection. It starts from 0.
 #[tactic(auto, unfolding(crate::specs::Check::fed))]
 pub fn crc32_sum(check: u32, bytes: &[u8]) -> u32

@@ -72,7 +72,7 @@ pub struct Collected {
 }
 
 impl Collected {
-    /// A target without bytes, which allocates by `alloc`.
+    /// Makes a target without bytes, which allocates by `alloc`.
     pub fn new(alloc: Global) -> Collected
         ensures sent { result.bytes.items ≡ [] }
         ensures errors { result.errors ≡ 0 }

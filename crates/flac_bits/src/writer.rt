@@ -90,7 +90,7 @@ fn lowest_bits(n: u32, value: i64) -> u64
 }
 
 impl<W: Target> BitWriter<W> {
-    /// A writer that adds to what the target was sent. Both checks begin here, and no byte is counted yet.
+    /// Makes a writer that adds to what the target was sent. Both checks begin here, and no byte is counted yet.
     ///
     /// ```
     /// let mut writer = BitWriter::new(Collected::new(rt.alloc()));

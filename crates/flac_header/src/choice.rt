@@ -81,7 +81,7 @@ pub fn depth_code(depth: u32) -> Option<u8>
 }
 
 impl FrameHeader {
-    /// The header of a frame with a frame number: block size in samples, rate in Hz, channel code 0 to 10
+    /// Makes the header of a frame with a frame number: block size in samples, rate in Hz, channel code 0 to 10
     /// ([`FrameHeader::channel_code`]), bits per sample, and number below 2^31. A code that names a value is preferred
     /// to one that asks for a field, see [`rate_code`]. `None` if a value has no code or is out of its range.
     ///

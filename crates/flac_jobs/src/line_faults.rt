@@ -12,7 +12,9 @@ use std::io::ErrorKind;
 /// is refused): the text goes to standard error.
 #[derive(Drop)]
 pub struct LineFault {
+    /// What is printed.
     pub text: CowStr<'static, Global>,
+    /// The exit status.
     pub status: u8,
 }
 

@@ -61,7 +61,7 @@ impl Eq for CueIndices {
 }
 
 impl CueIndices {
-    /// The index points of a vector.
+    /// Makes index points of a vector.
     pub fn from_vec(items: Vec<CueIndex>) -> CueIndices
         ensures { result ≡ items.items }
     {
@@ -145,7 +145,7 @@ impl Eq for CueTracks {
 }
 
 impl CueTracks {
-    /// The tracks of a vector.
+    /// Makes tracks of a vector.
     pub fn from_vec(tracks: Vec<CueTrack>) -> CueTracks
         ensures { result ≡ tracks.items }
     {

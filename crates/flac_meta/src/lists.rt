@@ -44,7 +44,7 @@ impl Eq for Bytes {
 }
 
 impl Bytes {
-    /// The bytes of a vector.
+    /// Makes bytes of a vector.
     pub fn from_vec(items: Vec<u8>) -> Bytes
         ensures { result ≡ items.items }
     {
@@ -110,7 +110,7 @@ impl Eq for Texts {
 }
 
 impl Texts {
-    /// The texts of a vector.
+    /// Makes texts of a vector.
     pub fn from_vec(texts: Vec<Bytes>) -> Texts
         ensures { result ≡ texts.items }
     {

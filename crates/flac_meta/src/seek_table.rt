@@ -64,7 +64,7 @@ impl Eq for SeekTable {
 }
 
 impl SeekTable {
-    /// The table of these points.
+    /// Makes a seek table of these points. Their order is not checked here, but when the table is written.
     pub fn from_vec(points: Vec<SeekPoint>) -> SeekTable
         ensures { result ≡ points.items }
     {

@@ -15,7 +15,7 @@ pub struct Seen {
 }
 
 impl Seen {
-    /// No block was read: the next one must be STREAMINFO.
+    /// Begins with no block read: the next one must be STREAMINFO.
     pub fn new() -> Seen
         ensures { result ≡ nothing_seen }
     {

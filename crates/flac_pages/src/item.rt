@@ -12,7 +12,7 @@ use crate::packet_bytes::PacketBytes;
 use crate::pages::Pages;
 use flac_bits::{BitReader, Source, Why, read_bytes};
 
-/// A reader of the bits of a packet, to read an item from. [`end_item`] returns the pages.
+/// Makes a reader of the bits of a packet, to read an item from. [`end_item`] returns the pages.
 pub fn packet_bits<R: Source>(packet: PacketBytes<'_, R>) -> BitReader<PacketBytes<'_, R>>
     ensures at { packet.entry.fault ≡ None → packet.entry.errors ≡ 0 → IsAtPacket packet.entry.pages.ghost_name packet.entry.pages.now result }
     ensures names { result.names ≡ packet.entry.pages.ghost_name ∷ packet.entry.lent.value.raised ∷ packet.entry.pages.now.names }

@@ -27,7 +27,7 @@ pub struct PacketBytes<'a, R: Source> {
 }
 
 impl<'a, R: Source> PacketBytes<'a, R> {
-    /// The bytes that are left of the packet that was begun.
+    /// Makes a source of the bytes that are left of the packet that was begun.
     pub fn over(pages: &'a mut Pages<R>) -> PacketBytes<'a, R>
         ensures same { result.pages.ghost_name ≡ pages.entry.ghost_name }
         ensures pages { result.pages.now ≡ pages.old }

@@ -65,7 +65,8 @@ impl<R: Source> Model for Pages<R> {
 }
 
 impl<R: Source + Drop> Pages<R> {
-    /// The pages of a source, from its first byte on. It allocates 65025 bytes, the most that a page can have.
+    /// Makes a reader of the pages of a source, from its first byte on. It allocates 65025 bytes, the most that a page
+    /// can have.
     ///
     /// ```
     /// let mut pages = Pages::new(rt.alloc(), Memory::new(&stream))?;
@@ -89,7 +90,8 @@ impl<R: Source + Drop> Pages<R> {
 }
 
 impl<R: Source> Pages<R> {
-    /// The pages of a source, from its first byte on, with this room for one page, which must be empty.
+    /// Makes a reader of the pages of a source, from its first byte on, with this room for one page, which must be
+    /// empty.
     pub fn over(page: PageRoom, source: R) -> Pages<R>
         requires { (page.lacing ≡ []) × (page.body ≡ []) }
         ensures { result ≡ at_front (R.known source) (R.errors source) (R.raised source) (8 * R.most source) (R.names source) (bits_of (R.coming source)) (short_of ((R.behind source).fails)) }

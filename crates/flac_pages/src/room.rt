@@ -39,7 +39,7 @@ impl Model for PageRoom {
 }
 
 impl PageRoom {
-    /// Room that holds an empty page. It allocates 65025 bytes.
+    /// Makes room that holds an empty page. It allocates 65025 bytes.
     ///
     /// # Errors
     /// [`Why::Memory`] if the allocation fails.
