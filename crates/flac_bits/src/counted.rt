@@ -48,7 +48,7 @@ impl<T> Counted<T> {
     /// let mut file = Counted::new(file);
     /// let outcome = encode(rt.alloc(), &plan, &blocks, &audio, &mut file);
     /// if let Some(error) = file.last_error() {
-    ///     eprintln!("{error}");
+    ///     let _ = eprintln!(rt; "{error}");
     /// }
     /// ```
     pub fn last_error(&self) -> Option<&io::Error>

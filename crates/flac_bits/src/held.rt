@@ -328,7 +328,7 @@ impl Held {
         self.close(bytes);
     }
 
-    /// Sets a fence after the next `bytes` bytes of the array, or of the source if the array has fewer.
+    /// Sets a fence after the next `bytes` bytes, those of the array first and then those of the source.
     fn close(&mut self, bytes: u64)
         requires { self.old.fence ≡ record { room = None; hidden = [] } }
         ensures { (self.new.word ≡ self.old.word) × (self.new.mark ≡ self.old.mark) × (self.new.bytes ≡ take bytes self.old.bytes)

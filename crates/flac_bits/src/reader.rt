@@ -74,7 +74,8 @@ fn fill<R: Source>(held: &mut Held, source: &mut R) -> Result<bool, Why>
     }
 }
 
-/// Makes sure that the array has at least one whole byte, and the word none, at a whole byte; false if none is left.
+/// Empties the word into the array, and makes sure that the array has a byte; false if none is left. The reader is at a
+/// whole byte.
 fn refill<R: Source>(held: &mut Held, source: &mut R) -> Result<bool, Why>
     requires { held.old.mark.unread ≡ 0 }
     ensures names { R.names source.new ≡ R.names source.old }

@@ -140,7 +140,7 @@ impl Unsent {
         self.rest.checked16(check)
     }
 
-    /// Moves the first byte of the bits after the whole bytes to these.
+    /// Moves the first eight bits after the whole bytes into the array.
     fn settle_byte(&mut self)
         requires room { length self.old.bytes < 4096 }
         requires enough { 8 ≤ length self.old.rest }
