@@ -19,6 +19,8 @@ mod parts;
 #[cfg(test)]
 mod pieces;
 #[cfg(test)]
+mod predictors;
+#[cfg(test)]
 mod pushing;
 #[cfg(test)]
 mod pushing_ogg;
