@@ -77,7 +77,7 @@ module _ {S : Type 0} (g : target.Ghosts S) where
     risen = s.risen;
   }
 
-  bits_none : (w : S) → SendsBits g [] w w came_out
+  pub bits_none : (w : S) → SendsBits g [] w w came_out
   bits_none w = record { known = λ k. k; sent = λ _. sym (append-nil (bits_of (g.sent w))); begun = tt; names = refl; counted = refl; kept = omega arith; rises = tt; risen = tt }
 
   -- a sending that came out, and what came of the next

@@ -142,9 +142,9 @@ fn send_stream<W: Target>(
 /// Writes samples as a native stream: STREAMINFO with the number of samples, the sizes of the frames and the digest, the blocks of the list, the seek table
 /// where the plan asks for one and there is a sample, and a frame for each block of the plan (RFC 9639, section 6).
 ///
-/// It goes over the samples twice: first it is chosen how each frame is written, which gives its length, and then one frame after another is written. Of the
-/// stream no more is held than the bytes before the frames and one frame. What was chosen is kept for as many frames as take a seventh of the memory of the samples,
-/// which are all frames of 1000 samples or more; for the others it is chosen again.
+/// It goes over the samples twice: first it chooses how each frame is written, which tells its length, and then it writes one frame after another. Beside the samples it
+/// holds the bytes before the frames, one frame, and for each frame how it is written, some 560 bytes for each channel. Where blocks have fewer than 1000 samples, that
+/// would take more than a seventh of the memory of the samples: then it keeps what was chosen of the first frames, and chooses the others again.
 ///
 /// The plan fits the samples: see [`Plan::fits`].
 ///
