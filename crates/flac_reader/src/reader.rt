@@ -221,6 +221,26 @@ impl<C: Container> Reader<C> {
         Samples::over(self)
     }
 
+    /// The decoder again, from which the source can be had. What [`Reader::next`] has not lent yet may have been read by it: see [`Reader::over`].
+    ///
+    /// ```
+    /// let source = reader.into_decoder().into_source();
+    /// ```
+    pub fn into_decoder(self) -> Decoder<C>
+        ensures { result ≡ self.decoder }
+    {
+        let Reader {
+            decoder,
+            info: _,
+            blocks: _,
+            ahead: _,
+            start: _,
+            first: _,
+            behind: _,
+        } = self;
+        decoder
+    }
+
     /// The frame that was read last.
     pub(crate) fn frame(&self) -> Option<FrameView<'_>>
         ensures { lent result ≡ only_frame (held (stage_of self.now.decoder).course (stage_of self.now.decoder).track) }
