@@ -1,26 +1,24 @@
 -- A stream that is cut at a frame, and the bytes from there on.
-use Rattle.std.proofs.Common.{◌≡◌, ℕ, Bool, List, [], ◌∷◌, ◌++◌, map, take, drop, Option, Some, None, Result, Ok, Err, refl, sym, ap, subst, ◌∙◌}
-use Rattle.std.specs.Prelude.{◌≢◌}
+use Rattle.std.proofs.Common.{◌≡◌, ℕ, List, [], ◌∷◌, ◌++◌, map, take, drop, Option, Some, None, Result, Ok, Err, refl, sym, ap, subst, ◌∙◌}
 use Rattle.std.proofs.lemmas.List.{append-nil, take-append-drop}
 use Rattle.flac_bits.specs.Bits.{bits_of}
 use Rattle.flac_bits.specs.State.{Mark}
 use Rattle.flac_bits.specs.Handing.{by_grammar}
 use Rattle.flac_bits.specs.Items.{Joined, Stream, after}
 use Rattle.flac_bits.specs.declared.why.Why.{Why}
-use Rattle.flac_bits.specs.declared.why.Why.TheVariants.{Memory, Truncated}
+use Rattle.flac_bits.specs.declared.why.Why.TheVariants.{Truncated}
 use Rattle.flac_bits.proofs.Holding.{bits_of-append}
 use Rattle.flac_meta.specs.Info.{Info}
 use Rattle.flac_frame.specs.Frame.{Frame}
 use Rattle.flac_native.specs.Decoding.{beginning}
-use Rattle.flac_native.specs.Item.{Item, frame, told}
+use Rattle.flac_native.specs.Item.{frame, told}
 use Rattle.flac_native.specs.Giving.{items_of}
-use Rattle.flac_native.specs.Stream.{Piece, framed, grammar, opening}
+use Rattle.flac_native.specs.Stream.{framed, grammar, opening}
 use Rattle.flac_native.specs.Resuming.{untold, resumed}
 use Rattle.flac_native.specs.declared.fault.Place.{Place}
 use Rattle.flac_native.specs.declared.fault.Fault.{Fault}
 use Rattle.flac_native.specs.declared.container.Container as container
 use Rattle.flac_native.proofs.Onwards.{same_info, one_place, ends_well, frames_are_resumed}
-use Rattle.flac_reader.specs.Coming.{stream_items}
 use Rattle.flac_reader.specs.Opening.{IsReadAs}
 use Rattle.flac_reader.specs.Seeking.{Cuts, SeeksTo, SeeksFrames}
 use Rattle.flac_reader.specs.declared.reader.Reader.{Reader}

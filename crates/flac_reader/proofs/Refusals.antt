@@ -1,5 +1,5 @@
 -- Why a stream is not opened.
-use Rattle.std.proofs.Common.{◌≡◌, ◌<◌, ◌≤◌, ◌⊎◌, ℕ, Bool, true, false, cond, List, [], ◌∷◌, ◌++◌, filter, Option, Some, None, Result, Ok, Err, refl, sym, ap, subst, ◌∙◌, arith}
+use Rattle.std.proofs.Common.{◌≡◌, ◌<◌, ◌≤◌, ℕ, Bool, true, List, [], ◌∷◌, ◌++◌, filter, Option, Some, None, Result, Ok, Err, refl, sym, ap, subst, ◌∙◌, arith}
 use Rattle.std.specs.Prelude.{◌≢◌, ⊤}
 use Rattle.std.proofs.Common.{inl, inr}
 use Rattle.flac_bits.specs.Bits.{bits_of}
@@ -25,7 +25,7 @@ use Rattle.flac_ogg.specs.Either.{begins_page, read_either}
 use Rattle.flac_reader.specs.Kept.{keeps, first_info, or_info}
 use Rattle.flac_reader.specs.Coming.{Comes, IsCalm, HadRoom, Counted, HeadIs, stream_items}
 use Rattle.flac_reader.specs.Opening.{IsReadAs}
-use Rattle.flac_reader.specs.Refusing.{IsRefusal, RefusedHead, RefusesInput}
+use Rattle.flac_reader.specs.Refusing.{RefusedHead, RefusesInput}
 use Rattle.flac_reader.specs.declared.keep.Keep.{Keep}
 use Rattle.flac_reader.specs.declared.keep.Keep.TheVariants.{All, Tags}
 use Rattle.flac_reader.proofs.Heads.{room}

@@ -5,12 +5,12 @@ use Rattle.flac_bits.specs.State.{Rises}
 use Rattle.flac_bits.specs.declared.why.Why.TheVariants.{Memory, Read}
 use Rattle.flac_frame.specs.Frame.{Frame}
 use Rattle.flac_frame.specs.Interleaved.{interleaved}
-use Rattle.flac_native.specs.Item.{Item, frame, told}
+use Rattle.flac_native.specs.Item.{Item, frame}
 use Rattle.flac_native.specs.Giving.{stage_of, held, Stage}
 use Rattle.flac_native.specs.declared.fault.Place.{Place}
 use Rattle.flac_native.specs.declared.fault.Fault.{Fault}
 use Rattle.flac_native.specs.declared.container.Container as container
-use Rattle.flac_reader.specs.Coming.{FramesCome, IsFirst, IsCalm, HadRoom, Counted, only_frame}
+use Rattle.flac_reader.specs.Coming.{FramesCome, IsFirst, IsCalm, Counted, only_frame}
 use Rattle.flac_reader.specs.Giving.{Gives}
 use Rattle.flac_reader.specs.Places.{all_samples, left_at, is_over}
 use Rattle.flac_reader.specs.Sampling.{SamplesLeft, ComeBehind, SamplesCome, IsFirstSample, calls_left, GivesSample}

@@ -1,5 +1,5 @@
 -- A search for the frame that holds a sample.
-use Rattle.std.proofs.Common.{◌≡◌, ◌≤◌, ℕ, Bool, true, false, IfOk, IfErr, ◌||◌, List, [], ◌∷◌, ◌++◌, append_assoc, map, Option, Some, None, Result, Ok, Err, refl, sym, ap, subst, ◌∙◌, arith}
+use Rattle.std.proofs.Common.{◌≡◌, ℕ, Bool, true, IfOk, IfErr, List, [], ◌∷◌, ◌++◌, append_assoc, map, Option, Some, None, Result, Ok, Err, refl, sym, ap, subst, ◌∙◌, arith}
 use Rattle.std.specs.Prelude.{◌≢◌}
 use Rattle.std.specs.List.{list_any}
 use Rattle.std.proofs.lemmas.List.{append-nil}
@@ -15,16 +15,16 @@ use Rattle.flac_native.specs.Stream.{Piece, Progress}
 use Rattle.flac_native.specs.Track.{IsAt}
 use Rattle.flac_native.specs.Coming.{ReadAs}
 use Rattle.flac_native.specs.declared.course.Course.TheVariants as course
-use Rattle.flac_native.specs.Item.{Item, metadata, frame, told}
+use Rattle.flac_native.specs.Item.{Item, frame, told}
 use Rattle.flac_native.specs.Giving.{Stage, stage_of, held}
 use Rattle.flac_native.specs.Decoding.{beginning}
 use Rattle.flac_native.specs.declared.decoder.Decoder.{Decoder}
 use Rattle.flac_native.specs.declared.fault.Place.{Place}
 use Rattle.flac_native.specs.declared.fault.Fault.{Fault}
 use Rattle.flac_native.specs.declared.container.Container as container
-use Rattle.flac_reader.specs.Coming.{Comes, FramesCome, IsFirst, IsCalm, HadRoom, Counted, only_frame}
+use Rattle.flac_reader.specs.Coming.{Comes, IsFirst, IsCalm, HadRoom, Counted, only_frame}
 use Rattle.flac_reader.specs.Opening.{IsReadAs}
-use Rattle.flac_reader.specs.Seeking.{holds, FirstIfHeld, PassedBy, HoldsFirst, Finds, Searches, Passes, Sought, SeeksTo, RefusesSeek}
+use Rattle.flac_reader.specs.Seeking.{holds, FirstIfHeld, PassedBy, HoldsFirst, Finds, Passes, Sought, SeeksTo, RefusesSeek}
 use Rattle.flac_reader.specs.declared.reader.Reader.{Reader}
 use Rattle.flac_reader.proofs.Heads.{room, same_room}
 use Rattle.flac_reader.proofs.Openings.{begun_comes}

@@ -1,13 +1,11 @@
 -- Where the frames of a native stream start.
-use Rattle.std.proofs.Common.{◌≡◌, ℕ, ◌+◌, ◌-◌, ◌*◌, ◌/◌, ◌%◌, ◌^◌, ◌<◌, ◌≤◌, min, not, Bool, true, false, List, [], ◌∷◌, ◌++◌, length, length-append, map, take, drop, Option, Some, None, refl, sym, ap, subst, ◌∙◌, arith}
+use Rattle.std.proofs.Common.{◌≡◌, ℕ, ◌+◌, ◌-◌, ◌*◌, ◌/◌, ◌%◌, ◌^◌, ◌<◌, ◌≤◌, not, Bool, false, List, [], ◌∷◌, ◌++◌, length, length-append, map, take, drop, refl, sym, ap, subst, ◌∙◌, arith}
 use Rattle.std.specs.Prelude.{All}
 use Rattle.std.proofs.Math.Seq.{take-append_seam}
 use Rattle.std.proofs.lemmas.List.{length-replicate, length-take, take-append-drop}
 use Rattle.std.proofs.lemmas.List.Elements.{All-head, All-tail}
 use Rattle.flac_bits.specs.Bits.{unsigned, bits_of, bit_value}
 use Rattle.flac_bits.specs.LittleEndian.{little_bits}
-use Rattle.flac_bits.specs.Forms.{joined, IsBytes}
-use Rattle.flac_bits.specs.Handing.{by_grammar}
 use Rattle.flac_bits.specs.State.{Mark, past, fresh}
 use Rattle.flac_bits.specs.Items.{Joined, Stream, after}
 use Rattle.flac_bits.specs.declared.why.Why.TheVariants.{Truncated}
@@ -15,7 +13,6 @@ use Rattle.flac_bits.proofs.Words.{length-unsigned}
 use Rattle.flac_bits.proofs.Holding.{length-bits_of, bits_of-append}
 use Rattle.flac_meta.specs.Spelling as s
 use Rattle.flac_meta.specs.Info.{Info}
-use Rattle.flac_meta.specs.Listed.{block_fault}
 use Rattle.flac_meta.specs.Valid.{AllAre, IsTrack, FitsFields, ContentSpelled, BlockSpelled}
 use Rattle.flac_meta.specs.declared.seek_table.SeekPoint.{SeekPoint}
 use Rattle.flac_meta.specs.declared.comments.Comments.{Comments}
@@ -31,20 +28,19 @@ use Rattle.flac_native.specs.Decoding.{beginning}
 use Rattle.flac_native.specs.Given.{closing}
 use Rattle.flac_native.specs.Item.{Item, metadata, frame}
 use Rattle.flac_native.specs.Giving.{items_of}
-use Rattle.flac_native.specs.Stream.{Piece, marked, framed, grammar, opening, next}
-use Rattle.flac_native.specs.Whole.{head_parts, IsWhole}
-use Rattle.flac_native.specs.BlockOrder.{MarkedBlock, AreSpelled, AreOrdered, without_marks, part_of, IsValid}
+use Rattle.flac_native.specs.Stream.{marked, framed, grammar, opening, next}
+use Rattle.flac_native.specs.Whole.{head_parts}
+use Rattle.flac_native.specs.BlockOrder.{MarkedBlock, AreSpelled, without_marks, IsValid}
 use Rattle.flac_native.proofs.WholeBytes.{length-joined, header_long}
 use Rattle.flac_native.proofs.Blocks.{marker_there}
 use Rattle.flac_native.proofs.OneHead.{closing_ends}
 use Rattle.flac_native.proofs.NewHead.{valid_after}
-use Rattle.flac_native.proofs.BlockOrder.{Closed, closed, are_ordered}
+use Rattle.flac_native.proofs.BlockOrder.{closed, are_ordered}
 use Rattle.flac_native.proofs.Whole.{head_leaves, streams_are_whole}
 use Rattle.flac_reader.specs.Kept.{first_info}
 use Rattle.flac_reader.specs.Coming.{stream_items}
-use Rattle.flac_reader.specs.Opening.{IsReadAs}
 use Rattle.flac_reader.specs.Starting.{block_bytes, and_block, and_blocks, frames_start}
-use Rattle.flac_reader.specs.Seeking.{Cuts, FramesStart}
+use Rattle.flac_reader.specs.Seeking.{FramesStart}
 
 -- ---- how long a block's content is
 

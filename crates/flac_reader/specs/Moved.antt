@@ -1,5 +1,5 @@
 -- A device that is moved, and what a reader over it finds.
-use Rattle.std.specs.Prelude.{◌≡◌, ◌≢◌, ◌⊎◌, ℕ, ◌+◌, Bool, true, List, [], take, Option, Some, IfSome, is_some, unwrap_or, Result, Ok, Err}
+use Rattle.std.specs.Prelude.{◌≡◌, ℕ, List, [], take, Option, Some, IfSome, unwrap_or}
 use Rattle.std.specs.Io.KnownBytes.{Keeps}
 use Rattle.flac_bits.specs.Bits.{bits_of}
 use Rattle.flac_bits.specs.Handing.{Reading, by_grammar}

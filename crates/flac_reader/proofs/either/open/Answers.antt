@@ -1,4 +1,4 @@
-use Rattle.std.proofs.Common.{◌≡◌, ◌++◌, ℕ, true, Option, None, Result, Ok, ap, sym}
+use Rattle.std.proofs.Common.{◌++◌, ℕ, Option, Result, Ok, ap, sym}
 use Rattle.std.proofs.lemmas.Result.{IfErr-weaker}
 use Rattle.flac_bits.specs.Bits.{bits_of}
 use Rattle.flac_bits.specs.State.{Behind, short_of}
