@@ -27,6 +27,8 @@ mod pushing_ogg;
 #[cfg(test)]
 mod reading_files;
 #[cfg(test)]
+mod reading_more;
+#[cfg(test)]
 mod reading_samples;
 #[cfg(test)]
 mod retagging;
