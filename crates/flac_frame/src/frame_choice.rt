@@ -8,7 +8,7 @@ ghost use Rattle.flac_frame.specs.Spelling.{frame_spelling};
 use crate::audio::Audio;
 use flac_bits::{BitWriter, Collected, Why};
 use flac_header::{FrameHeader, write_header};
-use flac_subframe::{Choice, choose_into};
+use flac_subframe::Choice;
 use std::alloc::Global;
 
 /// How a block of samples is written as a frame (RFC 9639, section 9), as [`crate::choose_frame`] chooses it: the channel code, and the subframe of each channel. It
@@ -18,11 +18,6 @@ pub struct FrameChoice {
     pub(crate) code: u8,
     pub(crate) bits: u64,
     pub(crate) subframes: Vec<Choice>,
-}
-
-/// What stands in a place before a subframe is chosen: that of one sample, which is 0.
-fn blank() -> Choice {
-    choose_into(&[0], 1, &mut [0], &mut [0], &mut [0])
 }
 
 impl FrameChoice {
@@ -37,7 +32,7 @@ impl FrameChoice {
         let mut subframes = Vec::with_capacity(alloc, channels)?;
         for channel in 0..channels {
             let _channel = channel;
-            subframes.push(blank())?;
+            subframes.push(Choice::silence())?;
         }
         Ok(FrameChoice {
             code: 0,

@@ -8,6 +8,7 @@ ghost use Rattle.flac_subframe.specs.Family.{Stands, IsMadeOf, form_of};
 ghost use Rattle.flac_subframe.specs.Spelling.{subframe_spelling, IsSubframe};
 ghost use Rattle.flac_subframe.specs.Subframe.{samples_of};
 ghost use Rattle.flac_subframe.specs.declared.limits.Limits.{Limits};
+ghost use Rattle.flac_subframe.specs.declared.choice.Kind.TheVariants.{Constant};
 
 use crate::choice::{Kind, choose_body};
 use crate::wasted::drop_wasted;
@@ -21,6 +22,17 @@ pub struct Choice {
 }
 
 impl Choice {
+    /// The constant subframe of samples that are all 0, of a depth of one bit: what a place for a choice has before one is made.
+    pub fn silence() -> Choice
+        ensures { result ≡ record { wasted = 0; kind = Constant; bits = 9 } }
+    {
+        Choice {
+            wasted: 0,
+            kind: Kind::Constant,
+            bits: 9,
+        }
+    }
+
     /// How many bits the subframe takes.
     pub fn bits(&self) -> u64
         ensures { result ≡ self.now.bits }
