@@ -1,13 +1,11 @@
 //! Tests of subframes, frames and whole streams, through the public calls of the libraries and by vectors from outside. They stand apart, so that a library
-//! is proved once and not again with its tests.
+//! is proved once and not again with its tests. What fails, or comes in pieces, is tested in `flac_failure_tests`.
 #![tactic(auto)]
 
 #[cfg(test)]
 mod decoding;
 #[cfg(test)]
 mod encoding;
-#[cfg(test)]
-mod failing;
 #[cfg(test)]
 mod frames;
 #[cfg(test)]
@@ -16,8 +14,6 @@ mod ogg;
 mod ogg_decoding;
 #[cfg(test)]
 mod parts;
-#[cfg(test)]
-mod pieces;
 #[cfg(test)]
 mod pushing;
 #[cfg(test)]
@@ -32,7 +28,5 @@ mod retagging;
 mod rows;
 #[cfg(test)]
 mod seeking;
-#[cfg(test)]
-mod strange;
 #[cfg(test)]
 mod subframes;
