@@ -7,6 +7,8 @@ mod decoding;
 #[cfg(test)]
 mod encoding;
 #[cfg(test)]
+mod equals;
+#[cfg(test)]
 mod frames;
 #[cfg(test)]
 mod ogg;
