@@ -74,18 +74,18 @@ def kernels(label, commands, samples, parts, runs, folder, every):
 
 def decoding(seconds, runs, folder, every):
     measure.head("`flac test`", "program", *DECODING, "the rest", "`flac -t`")
-    for form, (rate, bits) in measure.FORMS.items():
+    for form in measure.FORMS:
         for level in measure.LEVELS:
-            path = measure.encoded(measure.audio(rate, bits, seconds), rate, bits, level)
+            path = measure.encoded(form, seconds, level)
             commands = [PROGRAM, "test", path], [measure.REFERENCE, "-t", "-s", path]
-            kernels(f"{form}, level {level}", commands, 2 * rate * seconds, DECODING, runs, folder, every)
+            kernels(f"{form.label}, level {level}", commands, form.channels * form.rate * seconds, DECODING, runs, folder, every)
 
 
 def encoding(seconds, runs, folder, every):
     measure.head("`flac encode`", "program", *ENCODING, "the rest", "`flac`")
-    for form, (rate, bits) in measure.FORMS.items():
-        words, reference = measure.encode_commands(measure.audio(rate, bits, seconds), rate, bits, folder)[2].values()
-        kernels(form, ([PROGRAM, *words[1:]], reference), 2 * rate * seconds, ENCODING, runs, folder, every)
+    for form in measure.FORMS:
+        words, reference = measure.encode_commands(form, seconds, folder)[2].values()
+        kernels(form.label, ([PROGRAM, *words[1:]], reference), form.channels * form.rate * seconds, ENCODING, runs, folder, every)
 
 
 def main():

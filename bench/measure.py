@@ -6,6 +6,7 @@ falls on all of them alike. Seconds are those of the processor (user and system)
 exact. The audio is made by a fixed seed, ten seconds at a time.
 """
 import argparse
+import collections
 import datetime
 import os
 import platform
@@ -23,36 +24,60 @@ import sounds
 
 REFERENCE = "/usr/bin/flac"
 PROGRAM = os.path.abspath(os.environ.get("FLAC") or os.path.join(os.path.dirname(HERE), "flac"))
+# the program's build for newer processors, if it stands beside the default one (FLAC_CPU=x86-64-v3 ./flac makes it)
+NEWER = next((it for it in [os.environ.get("FLAC_NEWER") or f"{PROGRAM}.x86-64-v3"] if os.path.exists(it)), None)
+NEWER_HEAD = ["program, x86-64-v3 s"] if NEWER else []
+NEWER_RATIO = ["x86-64-v3 : flac"] if NEWER else []
 FOLDER = os.environ.get("SOUNDS", "/tmp/flac-bench")
 RAW = ["--force-raw-format", "--endian=little", "--sign=signed"]
-LEAST = ["-l", "0", "-b", "4096", "-m", "-r", "8", "-e"]
+LEAST = ["-l", "0", "-m", "-r", "8", "-e"]
 LEVELS = {"0": ["-0"], "5": ["-5"], "8": ["-8"], "fixed": LEAST}
-FORMS = {"16 bits 44.1 kHz stereo": (44100, 16), "24 bits 96 kHz stereo": (96000, 24)}
+
+# What is measured: the block size is the reference's own if it is None, and 4096 for fixed predictors alone.
+Form = collections.namedtuple("Form", "label rate bits channels sound block", defaults=[None])
+STEREO = Form("16 bits 44.1 kHz stereo", 44100, 16, 2, "music")
+FORMS = [STEREO, Form("24 bits 96 kHz stereo", 96000, 24, 2, "music")]
+OTHER_FORMS = [
+    Form("16 bits 48 kHz, 8 channels", 48000, 16, 8, "music"),
+    Form("16 bits 16 kHz, mono speech", 16000, 16, 1, "speech"),
+    STEREO._replace(label="16 bits 44.1 kHz stereo, blocks of 256", block=256),
+]
 
 
-def audio(rate, bits, seconds):
-    """A raw file of so many seconds of music-like stereo."""
-    path = os.path.join(FOLDER, f"music-{rate}-{bits}-{seconds}.raw")
+def audio(form, seconds):
+    """A raw file of so many seconds of sound."""
+    more = "" if form.channels == 2 else f"-{form.channels}"
+    path = os.path.join(FOLDER, f"{form.sound}-{form.rate}-{form.bits}{more}-{seconds}.raw")
     if not os.path.exists(path):
+        make = getattr(sounds, form.sound)
         with open(path + ".part", "wb") as file:
             for start in range(0, seconds, 10):
-                source = random.Random(f"bench {rate} {bits} {start}")
-                length = rate * min(10, seconds - start)
-                file.write(sounds.raw(sounds.music(source, rate, 2, (1 << (bits - 1)) - 1, length), bits))
+                source = random.Random(f"bench {form.rate} {form.bits} {start}")
+                length = form.rate * min(10, seconds - start)
+                file.write(sounds.raw(make(source, form.rate, form.channels, (1 << (form.bits - 1)) - 1, length), form.bits))
         os.rename(path + ".part", path)
     return path
 
 
-def raw_words(rate, bits):
-    return [*RAW, "--channels=2", f"--bps={bits}", f"--sample-rate={rate}"]
+def raw_words(form):
+    return [*RAW, f"--channels={form.channels}", f"--bps={form.bits}", f"--sample-rate={form.rate}"]
 
 
-def encoded(raw, rate, bits, level, ogg=False):
+def level_words(form, level):
+    """The reference's words for a level, with the block size of the form."""
+    block = form.block or (4096 if level == "fixed" else None)
+    stereo_only = ["-m"] if form.channels != 2 else []
+    return [*(it for it in LEVELS[level] if it not in stereo_only), *(["-b", str(block)] if block else [])]
+
+
+def encoded(form, seconds, level, ogg=False):
     """A stream by the reference, native or with the same frames in Ogg."""
-    path = raw.replace(".raw", f".{level}.oga" if ogg else f".{level}.flac")
+    raw = audio(form, seconds)
+    block = f".{form.block}" if form.block else ""
+    path = raw.replace(".raw", f"{block}.{level}.oga" if ogg else f"{block}.{level}.flac")
     if not os.path.exists(path):
         words = ["--ogg", "--serial-number=1"] if ogg else []
-        subprocess.run([REFERENCE, "-s", "-f", *words, *LEVELS[level], *raw_words(rate, bits), "-o", path + ".part", raw], check=True)
+        subprocess.run([REFERENCE, "-s", "-f", *words, *level_words(form, level), *raw_words(form), "-o", path + ".part", raw], check=True)
         os.rename(path + ".part", path)
     return path
 
@@ -114,59 +139,76 @@ def head(*cells):
     row(*["---"] * len(cells))
 
 
-def decoding(seconds, runs):
-    head("test", "program s", "flac -t s", "ffmpeg s", "program : flac", "program : ffmpeg", "times real time")
-    for form, (rate, bits) in FORMS.items():
-        for level in LEVELS:
-            path = encoded(audio(rate, bits, seconds), rate, bits, level)
-            found = medians({"program": [PROGRAM, "test", path], "flac": [REFERENCE, "-t", "-s", path],
-                             "ffmpeg": ["ffmpeg", "-v", "error", "-threads", "1", "-i", path, "-f", "null", "-"]}, runs)
-            ours = found["program"]
-            row(f"{form}, level {level}", *map(shown, found.values()), ratio(ours, found["flac"]), ratio(ours, found["ffmpeg"]),
-                "" if isinstance(ours, str) else f"{seconds / ours:.0f}")
+def per_sample(seconds, form, length):
+    """Nanoseconds for each sample of each channel."""
+    return seconds if isinstance(seconds, str) else f"{seconds * 1e9 / (form.rate * form.channels * length):.1f}"
+
+
+def with_newer(commands):
+    """The commands, with the program's build for newer processors behind the default one, if there is one."""
+    newer = {} if NEWER is None else {"newer": [NEWER, *commands["program"][1:]]}
+    return {"program": commands["program"], **newer, **commands}
+
+
+def decoding(forms, levels, seconds, runs):
+    head("test", "program s", *NEWER_HEAD, "flac -t s", "ffmpeg s", "program : flac", *NEWER_RATIO, "program : ffmpeg",
+         "program ns a sample", "flac ns a sample")
+    for form in forms:
+        for level in levels:
+            path = encoded(form, seconds, level)
+            found = medians(with_newer({
+                "program": [PROGRAM, "test", path], "flac": [REFERENCE, "-t", "-s", path],
+                "ffmpeg": ["ffmpeg", "-v", "error", "-threads", "1", "-i", path, "-f", "null", "-"]}), runs)
+            row(f"{form.label}, level {level}", *map(shown, found.values()), ratio(found["program"], found["flac"]),
+                *([ratio(found["newer"], found["flac"])] if NEWER else []), ratio(found["program"], found["ffmpeg"]),
+                per_sample(found["program"], form, seconds), per_sample(found["flac"], form, seconds))
 
 
 def containers(seconds, runs):
     """The same frames in pages and as a native stream."""
     head("test", "native s", "Ogg s", "Ogg : native", "flac -t, native s", "flac -t, Ogg s", "Ogg, program : flac")
-    for form, (rate, bits) in FORMS.items():
-        raw = audio(rate, bits, seconds)
-        native, ogg = encoded(raw, rate, bits, "5"), encoded(raw, rate, bits, "5", ogg=True)
+    for form in FORMS:
+        native, ogg = encoded(form, seconds, "5"), encoded(form, seconds, "5", ogg=True)
         found = medians({"native": [PROGRAM, "test", native], "ogg": [PROGRAM, "test", ogg],
                          "flac": [REFERENCE, "-t", "-s", native], "flac ogg": [REFERENCE, "-t", "-s", ogg]}, runs)
-        row(f"{form}, level 5", shown(found["native"]), shown(found["ogg"]), ratio(found["ogg"], found["native"]),
+        row(f"{form.label}, level 5", shown(found["native"]), shown(found["ogg"]), ratio(found["ogg"], found["native"]),
             shown(found["flac"]), shown(found["flac ogg"]), ratio(found["ogg"], found["flac ogg"]))
 
 
-def encode_commands(raw, rate, bits, folder):
-    ours, theirs = os.path.join(folder, "ours.flac"), os.path.join(folder, "theirs.flac")
+def encode_commands(form, seconds, folder, ogg=False):
+    """The files that the program and the reference write of a sound, and the commands."""
+    raw, block = audio(form, seconds), str(form.block or 4096)
+    ours, theirs = os.path.join(folder, "ours"), os.path.join(folder, "theirs")
+    numbers = ["--rate", str(form.rate), "--channels", str(form.channels), "--bits", str(form.bits), "--block", block]
+    words = [*level_words(form, "fixed"), "--no-padding", "--no-seektable", *raw_words(form)]
     return ours, theirs, {
-        "program": [PROGRAM, "encode", raw, ours, "--rate", str(rate), "--channels", "2", "--bits", str(bits), "--block", "4096"],
-        "flac": [REFERENCE, "-s", "-f", *LEAST, "--no-padding", "--no-seektable", *raw_words(rate, bits), "-o", theirs, raw]}
+        "program": [PROGRAM, "encode", raw, ours, *numbers, *(["--ogg"] if ogg else [])],
+        "flac": [REFERENCE, "-s", "-f", *words, *(["--ogg", "--serial-number=1"] if ogg else []), "-o", theirs, raw]}
 
 
 def encoding(seconds, runs):
-    head("encode", "program s", "flac s", "program : flac", "program bytes", "flac bytes", "bytes, program : flac", "times real time")
+    head("encode", "program s", *NEWER_HEAD, "flac s", "program : flac", *NEWER_RATIO, "program bytes", "flac bytes",
+         "bytes, program : flac", "program ns a sample", "flac ns a sample")
+    cases = [(form, False) for form in [*FORMS, *OTHER_FORMS]] + [(form, True) for form in FORMS]
     with tempfile.TemporaryDirectory() as folder:
-        for form, (rate, bits) in FORMS.items():
-            ours, theirs, commands = encode_commands(audio(rate, bits, seconds), rate, bits, folder)
-            found = medians(commands, runs)
-            sizes = ["" if isinstance(value, str) else os.path.getsize(path) for value, path in zip(found.values(), (ours, theirs))]
+        for form, ogg in cases:
+            ours, theirs, commands = encode_commands(form, seconds, folder, ogg)
+            found = medians(with_newer(commands), runs)
+            sizes = ["" if isinstance(found[name], str) else os.path.getsize(path) for name, path in (("program", ours), ("flac", theirs))]
             share = f"{sizes[0] / sizes[1]:.4f}" if all(sizes) else ""
-            speed = "" if isinstance(found["program"], str) else f"{seconds / found['program']:.0f}"
-            row(form, *map(shown, found.values()), ratio(*found.values()), *sizes, share, speed)
+            row(f"{form.label}{', Ogg' if ogg else ''}", *map(shown, found.values()), ratio(found["program"], found["flac"]),
+                *([ratio(found["newer"], found["flac"])] if NEWER else []), *sizes, share,
+                per_sample(found["program"], form, seconds), per_sample(found["flac"], form, seconds))
 
 
 def growth(base, folds, runs):
     """How time and memory grow with length, at 16 bits and 44.1 kHz."""
-    rate, bits = FORMS["16 bits 44.1 kHz stereo"]
     head("length", "test s", "test KiB", "flac -t s", "flac -t KiB", "encode s", "encode KiB", "flac encode s", "flac encode KiB")
     with tempfile.TemporaryDirectory() as folder:
         for fold in folds:
-            raw = audio(rate, bits, base * fold)
-            path = encoded(raw, rate, bits, "5")
+            path = encoded(STEREO, base * fold, "5")
             commands = {"a": [PROGRAM, "test", path], "b": [REFERENCE, "-t", "-s", path]}
-            commands.update(encode_commands(raw, rate, bits, folder)[2])
+            commands.update(encode_commands(STEREO, base * fold, folder)[2])
             found = medians(commands, runs)
             cells = [cell for name, words in commands.items() for cell in (shown(found[name]), memory(words) or "")]
             row(f"{base * fold} s of audio", *cells)
@@ -189,7 +231,8 @@ def main():
     seconds, runs = (20, words.runs or 3) if words.quick else (180, words.runs or 5)
     version = subprocess.run([REFERENCE, "--version"], stdout=subprocess.PIPE, check=True).stdout.decode().strip()
     print(f"{datetime.date.today()}, {machine()}; {version}; {seconds} seconds of audio a row, medians of {runs} runs, load {os.getloadavg()[0]:.1f}")
-    decoding(seconds, runs)
+    decoding(FORMS, LEVELS, seconds, runs)
+    decoding(OTHER_FORMS, ["5"], seconds, runs)
     containers(seconds, runs)
     encoding(seconds, runs)
     growth(2, (1, 10) if words.quick else (1, 10, 100), runs)

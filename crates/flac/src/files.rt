@@ -6,22 +6,22 @@ use std::io::{ErrorKind, Stdout, Write};
 use std::os::unix::fs::MetadataExt;
 use std::path::PathBuf;
 
-/// Where the bytes go that a job writes.
+/// What a job writes to.
 #[derive(Drop)]
 pub(crate) enum Output {
     /// A file or a device, opened for the job.
     File(File),
-    /// Standard output, at the place that the caller left it at.
+    /// Standard output, from its current position on.
     Standard(Stdout),
     /// The job writes nothing.
     None,
 }
 
 impl Output {
-    /// Has the system store what was written to a file.
+    /// Makes the system store what was written to a file.
     ///
     /// # Errors
-    /// It cannot be stored, for which a file system may have waited until now.
+    /// That of the system; some file systems report only now that a write failed.
     fn store(&self) -> io::Result<()> {
         match self {
             Output::File(file) => file.sync_all(),
@@ -48,7 +48,7 @@ impl Write for Output {
     }
 }
 
-/// A new file beside one that has bytes. It takes the place of that one when the job is done; until then, and if the
+/// A new file beside one that has bytes. It takes the place of the old one when the job is done. Until then, and if the
 /// job fails, the old file stays as it was.
 #[derive(Drop)]
 pub(crate) struct Replacement {
@@ -57,11 +57,12 @@ pub(crate) struct Replacement {
 }
 
 impl Replacement {
-    /// Ends the job with its status: if the job was done, has the new file stored and puts it in the place of the old
-    /// one. Otherwise the new file keeps what was written; it is removed if that is nothing.
+    /// Ends the job. If its status is 0, the new file is stored and takes the place of the old one. Otherwise it keeps
+    /// what was written; it is removed if that is nothing.
     ///
     /// # Errors
-    /// The file cannot take the old one's place; it stays beside it.
+    /// The new file cannot be stored, or cannot take the place of the old one: it stays beside it. After a job that
+    /// failed: an empty new file cannot be removed.
     pub(crate) fn end(self, rt: &HostRuntime, output: Output, status: u8) -> io::Result<()> {
         let Replacement { part, path } = self;
         if status == 0 {
@@ -75,12 +76,12 @@ impl Replacement {
     }
 }
 
-/// Opens what a job writes to. A file that is there and has bytes is not touched: a new one is opened beside it.
+/// Opens what a job writes to. A file that has bytes is not touched: a new one is opened beside it.
 ///
 /// The job's input is refused. First the two paths are compared, with `.`, `..` and symbolic links resolved. Then the
-/// file is opened as it is, and its device and inode are compared with those of the input, so that a hard link is seen
-/// too. `/dev/stdout` is standard output itself and not its file opened anew, so that the bytes are added to a file that
-/// the caller appends to.
+/// file is opened, and its device and inode are compared with those of the input, so that a hard link is seen too.
+/// `/dev/stdout` is standard output itself and not its file opened anew, so that bytes are added to a file that the
+/// caller appends to.
 ///
 /// # Errors
 /// The file cannot be created, or it is the input.
@@ -108,7 +109,8 @@ pub(crate) fn create(
     Ok((Output::File(file), Some(replacement)))
 }
 
-/// Opens a new file beside one that is there, with its permissions: its path and `.part`, or `.part2` to `.part99`.
+/// Creates a new file beside another, with the same permissions. Its path is that of the other followed by `.part`, or
+/// by `.part2` to `.part99` if that is taken.
 ///
 /// # Errors
 /// The file cannot be created.
@@ -122,7 +124,7 @@ fn create_beside(
         let part = part_name(rt, path.as_str(), n)?;
         match File::create_new(rt, part.as_str()) {
             Ok(file) => {
-                // not every file system has them
+                // not every file system has permissions
                 let _ = file.set_permissions(found.permissions());
                 return Ok((file, Replacement { part, path }));
             }
@@ -133,7 +135,7 @@ fn create_beside(
     Err(io::Error::from(ErrorKind::AlreadyExists))
 }
 
-/// The path of the nth file that may stand beside this one.
+/// The nth path for a new file beside this one.
 ///
 /// # Errors
 /// Out of memory.
@@ -144,7 +146,10 @@ fn part_name(rt: &HostRuntime, path: &str, n: u32) -> io::Result<String> {
     Ok(format!(in rt.alloc(); "{path}.part{n}")?)
 }
 
-/// Refuses two files that are one.
+/// Refuses two files that are the same.
+///
+/// # Errors
+/// `AlreadyExists` if they are.
 fn differ(one: &Metadata, other: &Metadata) -> io::Result<()> {
     if one.dev() == other.dev() && one.ino() == other.ino() {
         return Err(io::Error::from(ErrorKind::AlreadyExists));
@@ -152,7 +157,7 @@ fn differ(one: &Metadata, other: &Metadata) -> io::Result<()> {
     Ok(())
 }
 
-/// Whether both paths name one file that is there.
+/// Whether both paths lead to the same file, which exists.
 fn is_one_path(rt: &HostRuntime, path: &str, other: &str) -> bool {
     match (
         std::fs::canonicalize(rt, path),

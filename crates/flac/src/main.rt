@@ -11,6 +11,7 @@ use flac_words::job;
 use std::fs::File;
 use std::process::ExitCode;
 
+/// Reads the command line, does the job, and ends with its status.
 fn main(rt: HostRuntime) -> ExitCode {
     let given = match given_words(&rt) {
         Ok(given) => given,
@@ -25,7 +26,7 @@ fn main(rt: HostRuntime) -> ExitCode {
 /// The words of the command line, the program's name first.
 ///
 /// # Errors
-/// A word that is not text, or out of memory.
+/// A word is not UTF-8, or memory ran out.
 fn given_words(rt: &HostRuntime) -> Result<Vec<String>, LineFault> {
     let given = std::env::args(rt).map_err(|error| LineFault::reading(error.kind()))?;
     given
@@ -33,7 +34,7 @@ fn given_words(rt: &HostRuntime) -> Result<Vec<String>, LineFault> {
         .map_err(|_| LineFault::no_memory())
 }
 
-/// Prints what there is in place of a job: the help on standard output, a refusal on standard error. Returns the status.
+/// Prints what there is in place of a job: help on standard output, an error on standard error. Returns the status.
 fn tell(rt: &HostRuntime, fault: &LineFault) -> u8 {
     if fault.status == 0 {
         if rt.print(&fault.text).is_err() {
@@ -46,13 +47,13 @@ fn tell(rt: &HostRuntime, fault: &LineFault) -> u8 {
     fault.status
 }
 
-/// A file that takes the lowest number that is free. If a standard file was closed when the program began, this is its
-/// number, which a file of the job would get otherwise.
+/// A file that takes the lowest free file descriptor. If a standard file was closed when the program began, this is its
+/// descriptor, which a file of the job would get otherwise.
 fn stand_in(rt: &HostRuntime) -> Option<File> {
     File::open(rt, "/dev/null").ok()
 }
 
-/// Opens the job's files, and does it. Returns the status.
+/// Opens the job's files, and does the job. Returns the status.
 fn perform(rt: &HostRuntime, job: &Job<'_>) -> u8 {
     let _standard = (stand_in(rt), stand_in(rt), stand_in(rt));
     let Ok(input) = File::open(rt, job.input()) else {
@@ -74,13 +75,13 @@ fn perform(rt: &HostRuntime, job: &Job<'_>) -> u8 {
     }
 }
 
-/// Says on standard error what cannot be done with a file, and returns the status.
+/// Prints on standard error what cannot be done with a file, and returns the status 1.
 fn refuse(rt: &HostRuntime, path: &str, what: &str) -> u8 {
     let _ = eprintln!(rt; "flac: {path}: cannot be {what}");
     1
 }
 
-/// Does the job over its files. Returns the status, and what was written to.
+/// Does the job over its files. Returns the status, and the output.
 fn do_over(rt: &HostRuntime, job: &Job<'_>, input: File, output: Output) -> (u8, Output) {
     let mut source = Counted::new(input);
     let mut target = Counted::new(output);

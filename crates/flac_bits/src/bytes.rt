@@ -1,4 +1,4 @@
-//! Bytes, one after another.
+//! Reading of whole slices of bytes.
 
 ghost use Rattle.std.specs.Prelude.{◌≢◌, ◌≤◌, ◌+◌, ◌*◌, length, OnOk, IfErr};
 ghost use Rattle.flac_bits.specs.Layout.{bits as number, run};
@@ -10,11 +10,11 @@ use crate::reader::BitReader;
 use crate::source::Source;
 use crate::why::Why;
 
-/// Fills the places with the bytes that come next.
+/// Fills `out` with the next bytes. The reader need not be at a whole byte.
 ///
 /// # Errors
-///
-/// Where fewer are left, the reason of the reader's end: `Truncated`, or `Read` where the source answers an error.
+/// Those of [`BitReader`], if fewer bytes are left: [`Why::Truncated`] at the end of the input, [`Why::FrameTooLong`]
+/// at a fence, [`Why::Read`] if the source fails. What `out` has then is not specified.
 pub fn read_bytes<R: Source>(bits: &mut BitReader<R>, out: &mut [u8]) -> Result<(), Why>
     ensures spends { OnOk result (bits.new.most + 8 * length out.old ≤ bits.old.most) }
     ensures counts { Counts bits.old bits.new result }
@@ -35,7 +35,7 @@ pub fn read_bytes<R: Source>(bits: &mut BitReader<R>, out: &mut [u8]) -> Result<
     }
 }
 
-/// The same byte by byte, as it has to be within a byte.
+/// What [`read_bytes`] does, byte by byte: for a reader that is inside a byte.
 #[inline(never)]
 #[tactic(auto, using(crate::proofs::Lists::list_more, crate::proofs::Lists::list_end, crate::proofs::Lists::list_start))]
 fn read_each<R: Source>(bits: &mut BitReader<R>, out: &mut [u8]) -> Result<(), Why>
@@ -50,10 +50,10 @@ fn read_each<R: Source>(bits: &mut BitReader<R>, out: &mut [u8]) -> Result<(), W
     Ok(())
 }
 
-/// Fills the places with the bytes that come next, as [`read_bytes`] does, and begins the checks anew after them. No check of these bytes is computed.
+/// Fills `out` with the next bytes, as [`read_bytes`] does, and restarts the checks after them if the reader is at a
+/// whole byte. At a whole byte no check of these bytes is computed.
 ///
 /// # Errors
-///
 /// Those of [`read_bytes`].
 pub fn read_unchecked<R: Source>(bits: &mut BitReader<R>, out: &mut [u8]) -> Result<(), Why>
     ensures spends { OnOk result (bits.new.most + 8 * length out.old ≤ bits.old.most) }

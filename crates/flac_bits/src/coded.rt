@@ -1,4 +1,4 @@
-//! Writes the coded number.
+//! Writing of coded numbers.
 
 ghost use Rattle.std.specs.Prelude.{◌≡◌, ◌≤◌, ◌<◌, ◌+◌, ◌/◌, ◌^◌};
 ghost use Rattle.flac_bits.specs.Coded.{number_spelling, in_bytes, six_bits};
@@ -31,7 +31,7 @@ fn form_of(value: u64) -> (u64, u32)
     }
 }
 
-/// The number without its lowest groups of six bits.
+/// The number without its lowest `groups` groups of six bits.
 #[tactic(auto, using(crate::proofs::CodedTie::one_group_more, crate::proofs::CodedTie::no_groups))]
 fn without_groups(value: u64, groups: u32) -> u64
     requires { groups ≤ 6 }
@@ -45,6 +45,7 @@ fn without_groups(value: u64, groups: u32) -> u64
     high
 }
 
+/// Writes the lowest `count` groups of six bits, the highest first, each in a byte that begins with the bits 10.
 fn put_groups<W: Target>(writer: &mut BitWriter<W>, count: u32, value: u64) -> Result<(), Why>
     requires { count ≤ 6 }
     ensures { Writes (six_bits count value) writer.old writer.new result }
@@ -57,6 +58,11 @@ fn put_groups<W: Target>(writer: &mut BitWriter<W>, count: u32, value: u64) -> R
 }
 
 /// Writes a number below 2^36 as a coded number, in the shortest of its forms (RFC 9639, section 9.1.5): 1 to 7 bytes.
+///
+/// ```
+/// let mut writer = BitWriter::new(Collected::new(rt.alloc()));
+/// write_number(128, &mut writer)?; // C2 80
+/// ```
 ///
 /// # Errors
 /// [`Why::Write`] if the target fails.

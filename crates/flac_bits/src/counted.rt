@@ -1,4 +1,4 @@
-//! A source of any reader, and a target of any writer.
+//! A source over any reader, and a target over any writer.
 
 ghost use Rattle.std.specs.Prelude.{◌≡◌, ◌<◌, ◌≤◌, ◌+◌, ◌-◌, ℕ, Bool, true, List, [], ◌++◌, length, take, IfOk, OnOk, OnErr, MatchResult, Some, is_some, option_copied, unwrap_or, min, ◌&&◌, nat_lt, ◌^◌};
 ghost use Rattle.flac_bits.specs.State.{Rises, the_end};
@@ -9,10 +9,11 @@ use crate::target::Target;
 use std::io;
 use std::io::{Read, Write};
 
-/// A reader or a writer whose errors are counted, and the last of them kept. Of a reader 2^64 - 1 bytes are read at most.
+/// A source over any `std::io::Read`, or a target over any `std::io::Write`, such as a file. It counts the device's
+/// errors and keeps the last one.
 ///
-/// Where a writer takes no byte of a piece that has some, this is counted and answered as an error. What a writer
-/// holds itself is not flushed.
+/// At most 2^64 - 1 bytes are read from a reader. If a writer takes none of the bytes that it is given, this is an
+/// error too. A writer's own buffer is not flushed.
 #[derive(Drop)]
 pub struct Counted<T> {
     device: T,
@@ -23,7 +24,12 @@ pub struct Counted<T> {
 }
 
 impl<T> Counted<T> {
-    /// The device, with no error so far.
+    /// Makes a source or a target of the device, with no error so far.
+    ///
+    /// ```
+    /// let file = File::open(&rt, "song.flac")?;
+    /// let mut bits = BitReader::new(Counted::new(file));
+    /// ```
     pub fn new(device: T) -> Counted<T>
         ensures { (result.device ≡ device) × (result.errors ≡ 0) × (result.room ≡ 2 ^ 64 - 1) }
     {
@@ -35,14 +41,14 @@ impl<T> Counted<T> {
         }
     }
 
-    /// The device's last error, `None` as long as it had none. Where a decoder or an encoder answers `Why::Read` or
-    /// `Why::Write`, this tells what went wrong, as `No space left on device`.
+    /// The device's last error, or `None` if it had none. After `Why::Read` or `Why::Write` this says what went wrong,
+    /// such as `No space left on device`.
     ///
-    /// ```rust
+    /// ```
     /// let mut file = Counted::new(file);
     /// let outcome = encode(rt.alloc(), &plan, &blocks, &audio, &mut file);
     /// if let Some(error) = file.last_error() {
-    ///     eprintln!("{error}");
+    ///     let _ = eprintln!(rt; "{error}");
     /// }
     /// ```
     pub fn last_error(&self) -> Option<&io::Error>
@@ -52,7 +58,7 @@ impl<T> Counted<T> {
         self.last.as_ref()
     }
 
-    /// One error more, as far as the count goes.
+    /// Counts an error, up to 2^64 - 1, and keeps it.
     fn count(&mut self, error: io::Error)
         ensures device { self.new.device ≡ self.old.device }
         ensures room { self.new.room ≡ self.old.room }
@@ -64,7 +70,7 @@ impl<T> Counted<T> {
         self.last = Some(error);
     }
 
-    /// The device again.
+    /// Returns the device.
     pub fn into_inner(self) -> T
         ensures { result ≡ self.device }
     {
@@ -93,7 +99,7 @@ impl<T: Read> Source for Counted<T> {
 
     ghost names = { λ _. [] };
 
-    /// Asks the device for some of the bytes to come. An error of the device is counted and kept.
+    /// Reads some bytes from the device. An error of the device is counted, kept and returned.
     fn pull(&mut self, buf: &mut [u8]) -> io::Result<usize>
         ensures bound { ReadsAtMost result buf.new }
         ensures known { OnOk result (is_some (T.remaining self.old.device) ≡ true → is_some (T.remaining self.new.device) ≡ true) }
@@ -128,7 +134,7 @@ impl<T: Write> Target for Counted<T> {
 
     ghost names = { λ _. [] };
 
-    /// Sends some of the bytes to the device. An error, of the device or that it took none, is counted and kept.
+    /// Writes some of the bytes to the device. An error is counted, kept and returned, also if the device took no byte.
     fn send(&mut self, bytes: &[u8]) -> io::Result<usize>
         ensures count { IfOk result (λ n. n ≤ length bytes.now) }
         ensures some { IfOk result (λ n. 0 < length bytes.now → 0 < n) }

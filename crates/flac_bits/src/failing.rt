@@ -1,4 +1,4 @@
-//! A source or a target that fails once.
+//! A source or a target that fails once, for tests.
 
 ghost use Rattle.std.specs.Prelude.{◌≡◌, ◌<◌, ◌≤◌, ◌+◌, ◌-◌, ◌^◌, ℕ, Bool, true, List, [], ◌++◌, length, take, min, nat_lt, nat_eq, ◌&&◌, cond, IfOk, OnOk, OnErr, IsErr, is_some, None};
 ghost use Rattle.flac_bits.specs.State.{Rises};
@@ -9,10 +9,10 @@ use crate::source::Source;
 use crate::target::Target;
 use std::io;
 
-/// A source or a target of which one call fails, and which is otherwise the device below: for tests of what a reader or
-/// a writer does then.
+/// A source or a target of which one call fails, and which is otherwise the device below. It is for tests of what a
+/// reader or a writer does then.
 ///
-/// ```rust
+/// ```
 /// let mut source = FailAt::new(Memory::new(&stream), 2);
 /// let outcome = decode(rt.alloc(), &mut source, Profile::Subset, &mut sink);
 /// ```
@@ -24,7 +24,8 @@ pub struct FailAt<T> {
 }
 
 impl<T> FailAt<T> {
-    /// The device, whose call of this number fails, counted from 0; of `u64::MAX` none does.
+    /// Makes a source or a target of the device, whose call number `at` fails, counted from 0. With `u64::MAX` none
+    /// fails.
     pub fn new(device: T, at: u64) -> FailAt<T>
         ensures { (result.device ≡ device) × (result.at ≡ at) × (result.calls ≡ 0) }
     {
@@ -35,14 +36,14 @@ impl<T> FailAt<T> {
         }
     }
 
-    /// How many calls there were, the one that failed among them.
+    /// How many calls there were so far, with the one that failed; at most 2^64 - 1.
     pub fn calls(&self) -> u64
         ensures { result ≡ self.now.calls }
     {
         self.calls
     }
 
-    /// The device again.
+    /// Returns the device.
     pub fn into_inner(self) -> T
         ensures { result ≡ self.device }
     {
@@ -54,7 +55,7 @@ impl<T> FailAt<T> {
         device
     }
 
-    /// One call more: whether it is the one that fails.
+    /// Counts a call, and returns whether it is the one that fails.
     fn fails(&mut self) -> bool
         ensures answer { result ≡ nat_eq self.old.calls self.old.at && nat_lt self.old.calls (2 ^ 64 - 1) }
         ensures device { self.new.device ≡ self.old.device }
@@ -85,7 +86,7 @@ impl<S: Source> Source for FailAt<S> {
 
     ghost names = { λ s. S.names s.device };
 
-    /// Asks the device for some of the bytes to come. In the call that fails it is not asked.
+    /// Pulls some bytes from the device. In the call that fails the device is not asked.
     fn pull(&mut self, buf: &mut [u8]) -> io::Result<usize>
         ensures names { S.names self.new.device ≡ S.names self.old.device }
         ensures bound { ReadsAtMost result buf.new }
@@ -118,7 +119,7 @@ impl<W: Target> Target for FailAt<W> {
 
     ghost names = { λ w. W.names w.device };
 
-    /// Sends some of the bytes to the device. In the call that fails it is sent none.
+    /// Sends some of the bytes to the device. In the call that fails the device gets none.
     fn send(&mut self, bytes: &[u8]) -> io::Result<usize>
         ensures names { W.names self.new.device ≡ W.names self.old.device }
         ensures count { IfOk result (λ n. n ≤ length bytes.now) }

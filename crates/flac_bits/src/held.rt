@@ -1,4 +1,4 @@
-//! Bytes that were pulled, and the bits of them that are held in a word.
+//! The bytes that were pulled from a source, and the word that holds the first bits of them.
 
 ghost use Rattle.std.specs.Prelude.{◌≡◌, ◌≢◌, ◌<◌, ◌≤◌, ◌+◌, ◌-◌, ◌*◌, ◌/◌, ◌%◌, ◌^◌, ◌++◌, ◌∷◌, [], ℕ, List, Bool, true, false, length, take, drop, replicate, min, IfSome, IfOk, IfErr, OnOk, OnErr, Some, None, Ok, is_some, IsTrue, ◌↔◌, get_or, pos};
 ghost use Rattle.flac_bits.specs.declared.why.Why.TheVariants.{Truncated};
@@ -16,11 +16,11 @@ use crate::why::Why;
 use crate::word::Word;
 use std::marker::Model;
 
-/// How many bytes are pulled at once.
+/// How many bytes are pulled at once, at most.
 pub const HOLD: usize = 4096;
 
-/// An array of bytes, of which some are taken, and a word with the bits that come first. Bytes from `end` to `filled` stand past
-/// a fence; `room` says how many more may be pulled up to it.
+/// An array of bytes, of which some are taken, and a word with the bits that come first. Bytes from `end` to `filled`
+/// are past a fence; `room` is how many more may be pulled up to it, `None` if there is no fence.
 #[derive(Drop)]
 pub struct Held {
     word: Word,
@@ -56,7 +56,7 @@ impl Model for Held {
         × (length h.bytes ≡ 4096) × (h.end ≤ h.filled) × (h.filled ≤ 4096) × (hides_late h.room h.end h.filled ≡ true) };
 }
 
-/// How many of n bytes stand before a fence.
+/// How many of n bytes are before a fence.
 fn seen(room: Option<u64>, n: usize) -> usize
     ensures { result ≡ seen_bytes room n }
 {
@@ -66,7 +66,7 @@ fn seen(room: Option<u64>, n: usize) -> usize
     }
 }
 
-/// Where the fence stands behind n bytes before it.
+/// The room up to the fence after n more bytes.
 fn room_behind(room: Option<u64>, n: usize) -> Option<u64>
     ensures { result ≡ room_behind_bytes room n }
 {
@@ -77,6 +77,7 @@ fn room_behind(room: Option<u64>, n: usize) -> Option<u64>
 }
 
 impl Held {
+    /// Nothing is held, and there is no fence.
     pub(crate) fn new() -> Held
         ensures { result ≡ record { word = []; bytes = []; mark = record { unread = 0; bytes = 0; check8 = 0; check16 = 0; short = Truncated }; fence = record { room = None; hidden = [] } } }
     {
@@ -102,6 +103,7 @@ impl Held {
         self.word.count()
     }
 
+    /// Takes n bits off the word, which has them.
     #[inline(always)]
     pub(crate) fn take(&mut self, n: u32) -> u64
         requires { n ≤ length self.old.word }
@@ -110,7 +112,7 @@ impl Held {
         self.word.take(n)
     }
 
-    /// Zeros and a one, where the word has them and the zeros are within the limit.
+    /// Takes zeros and a one, if the word has them and there are at most `limit` zeros.
     #[inline(always)]
     pub(crate) fn unary(&mut self, limit: u64) -> Option<u64>
         ensures some { IfSome result (λ q. (q ≤ limit) × Takes (unary_bits q) self.old self.new) }
@@ -119,7 +121,7 @@ impl Held {
         self.word.unary(limit)
     }
 
-    /// Zeros, a one and k bits, where the word has them and the zeros are within the limit.
+    /// Takes zeros, a one and k bits, if the word has them and there are at most `limit` zeros.
     #[inline(always)]
     pub(crate) fn rice(&mut self, k: u32, limit: u64) -> Option<u64>
         requires k { k ≤ 30 }
@@ -130,8 +132,8 @@ impl Held {
         self.word.rice(k, limit)
     }
 
-    /// Fills the places from one on with residual values under the Rice parameter k, as far as the word and the bytes held have
-    /// them, and answers where it stopped.
+    /// Fills `values` from the index `from` on with residual values under the Rice parameter k, as far as the word and
+    /// the bytes held have them, and returns where it stopped.
     #[inline(never)]
     pub(crate) fn values(&mut self, k: u32, values: &mut [i64], from: usize) -> usize
         requires k { k ≤ 26 }
@@ -153,7 +155,7 @@ impl Held {
         next
     }
 
-    /// Four bytes more in the word, where it has room for them.
+    /// Moves four bytes into the word, if it has room for them.
     #[inline(always)]
     pub(crate) fn top_up(&mut self)
         ensures { HoldsSame self.old self.new }
@@ -165,7 +167,7 @@ impl Held {
         }
     }
 
-    /// A byte in the word, which is empty; false where no byte is held.
+    /// Moves a byte into the word, which is empty; false if no byte is held.
     #[inline(never)]
     pub(crate) fn begin_byte(&mut self) -> bool
         requires { self.old.word ≡ [] }
@@ -181,7 +183,7 @@ impl Held {
         true
     }
 
-    /// Gives the whole bytes of the word back to the array.
+    /// Moves the whole bytes of the word back into the array.
     #[inline(never)]
     pub(crate) fn put_back(&mut self)
         ensures same { HoldsSame self.old self.new }
@@ -192,7 +194,7 @@ impl Held {
         self.word.keep(count % 8);
     }
 
-    /// The reason where no byte is left, but for an error of the source: the fence, or the end.
+    /// The error if no byte is left and the source did not fail: that of a fence, or that of the end.
     pub(crate) fn short(&self) -> Why
         ensures fence { self.now.fence.room ≡ Some 0 → result ≡ Why.FrameTooLong }
         ensures over { (self.now.fence.room ≡ Some 0 → ⊥) → result ≡ Why.Truncated }
@@ -205,7 +207,7 @@ impl Held {
         }
     }
 
-    /// Whether no byte is held behind the word.
+    /// Whether no byte is held after the word.
     #[inline(always)]
     pub(crate) fn is_drained(&self) -> bool
         ensures { IsTrue result ↔ (self.now.bytes ≡ []) }
@@ -213,7 +215,7 @@ impl Held {
         self.place == self.end
     }
 
-    /// Copies the bytes that come next, as many as are held and have a place.
+    /// Copies the next bytes to the front of `out`, as many as are held and fit.
     pub(crate) fn copy(&mut self, out: &mut [u8]) -> usize
         requires { self.old.word ≡ [] }
         ensures bound { result ≤ length out.new }
@@ -227,7 +229,7 @@ impl Held {
         n
     }
 
-    /// Bytes of the source, where all that were held are taken; false at the end, and at a fence.
+    /// Pulls bytes from the source, if all that were held are taken; false at the end and at a fence.
     #[inline(never)]
     pub(crate) fn pull<R: Source>(&mut self, source: &mut R) -> Result<bool, Why>
         requires { (self.old.word ≡ []) × (self.old.bytes ≡ []) }
@@ -255,6 +257,7 @@ impl Held {
         }
     }
 
+    /// What [`Held::pull`] does if no fence is here.
     fn pull_more<R: Source>(&mut self, source: &mut R) -> Result<bool, Why>
         requires taken { (self.old.word ≡ []) × (self.old.bytes ≡ []) }
         requires room { self.old.fence.room ≡ Some 0 → ⊥ }
@@ -303,7 +306,7 @@ impl Held {
         }
     }
 
-    /// Takes the fence away.
+    /// Removes the fence.
     pub(crate) fn lift(&mut self)
         ensures held { (self.new.word ≡ self.old.word) × (self.new.bytes ≡ self.old.bytes ++ self.old.fence.hidden) × (self.new.mark ≡ self.old.mark) × (self.new.fence ≡ record { room = None; hidden = [] }) }
         ensures behind { (coming : List ℕ) → allowed self.old.fence.room coming ++ (self.old.fence.hidden ++ forbidden self.old.fence.room coming) ≡ self.old.fence.hidden ++ coming }
@@ -312,7 +315,7 @@ impl Held {
         self.room = None;
     }
 
-    /// Puts a fence so many bytes behind the byte that was begun, in place of one that stands.
+    /// Sets a fence `bytes` bytes after the current byte, in place of any other.
     pub(crate) fn fence(&mut self, bytes: u64)
         ensures mark { self.new.mark ≡ self.old.mark }
         ensures part { length self.new.word ≡ self.old.mark.unread }
@@ -325,7 +328,7 @@ impl Held {
         self.close(bytes);
     }
 
-    /// Lets only the next bytes of the array be read, and as many of the source that so many are read in all.
+    /// Sets a fence after the next `bytes` bytes, those of the array first and then those of the source.
     fn close(&mut self, bytes: u64)
         requires { self.old.fence ≡ record { room = None; hidden = [] } }
         ensures { (self.new.word ≡ self.old.word) × (self.new.mark ≡ self.old.mark) × (self.new.bytes ≡ take bytes self.old.bytes)
@@ -340,7 +343,7 @@ impl Held {
         }
     }
 
-    /// How many bits of the byte that was begun are still to come.
+    /// How many bits of the current byte are not read yet.
     #[inline(always)]
     pub(crate) fn unread(&self) -> u32
         ensures { (result ≡ self.now.mark.unread) × (result < 8) }
@@ -348,6 +351,7 @@ impl Held {
         self.word.count() % 8
     }
 
+    /// How many bytes were read, at most 2^64 - 1.
     pub(crate) fn bytes_taken(&self) -> u64
         ensures { result ≡ self.now.mark.bytes }
     {
@@ -355,6 +359,7 @@ impl Held {
             .saturating_add((self.place - self.word.count() as usize / 8) as u64)
     }
 
+    /// The CRC-8 of the bits since the checks began.
     pub(crate) fn check8(&self) -> u8
         ensures { result ≡ self.now.mark.check8 }
     {
@@ -368,6 +373,7 @@ impl Held {
         bits_checked8(check, self.bytes[whole] >> rest, 8 - rest)
     }
 
+    /// The CRC-16 of the bits since the checks began.
     pub(crate) fn check16(&self) -> u16
         ensures { result ≡ self.now.mark.check16 }
     {
@@ -381,6 +387,7 @@ impl Held {
         bits_checked16(check, self.bytes[whole] >> rest, 8 - rest)
     }
 
+    /// Restarts the checks at a whole byte.
     pub(crate) fn start_checks(&mut self)
         requires { self.old.mark.unread ≡ 0 }
         ensures { self.new ≡ record self.old { mark = record self.old.mark { check8 = 0; check16 = 0 } } }

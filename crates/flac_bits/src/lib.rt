@@ -1,4 +1,5 @@
-//! Bits of a stream of bytes.
+//! Reading and writing of bits, over sources and targets of bytes; checks, coded numbers, and [`Why`], the reason of an
+//! error.
 #![tactic(auto)]
 
 mod bytes;

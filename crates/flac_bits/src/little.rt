@@ -13,10 +13,10 @@ use crate::why::Why;
 use crate::writer::BitWriter;
 use byteorder::{ByteOrder, LittleEndian};
 
-/// A number of four bytes, the lowest first (RFC 9639, section 8.6; RFC 3533, section 6).
+/// Reads an unsigned number of four bytes, the lowest first (RFC 9639, section 8.6; RFC 3533, section 6).
 ///
 /// # Errors
-/// That of the reader's end: [`Why::Truncated`], [`Why::FrameTooLong`] at a fence, or [`Why::Read`] if the source fails.
+/// Those of [`BitReader`].
 #[tactic(auto, using(crate::proofs::LittleNumbers::bytes_are_little_32))]
 pub fn read_little_32<R: Source>(bits: &mut BitReader<R>) -> Result<u32, Why>
     ensures spends { OnOk result (bits.new.most + 32 ≤ bits.old.most) }
@@ -29,10 +29,10 @@ pub fn read_little_32<R: Source>(bits: &mut BitReader<R>) -> Result<u32, Why>
     Ok(LittleEndian::read_u32(&bytes))
 }
 
-/// A number of eight bytes, the lowest first (RFC 3533, section 6).
+/// Reads an unsigned number of eight bytes, the lowest first (RFC 3533, section 6).
 ///
 /// # Errors
-/// As [`read_little_32`].
+/// Those of [`BitReader`].
 #[tactic(auto, unfolding(crate::specs::LittleEndian::little_64))]
 pub fn read_little_64<R: Source>(bits: &mut BitReader<R>) -> Result<u64, Why>
     ensures spends { OnOk result (bits.new.most + 64 ≤ bits.old.most) }

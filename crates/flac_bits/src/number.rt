@@ -1,4 +1,4 @@
-//! The coded number.
+//! Reading of coded numbers.
 
 ghost use Rattle.std.specs.Prelude.{◌≡◌, ◌≢◌, ◌≤◌, ◌<◌, ◌^◌, ◌+◌, ◌*◌, cond, nat_lt, IfOk, IfErr, OnOk, IfSome};
 ghost use Rattle.flac_bits.specs.Coded.{IsNumber};
@@ -9,6 +9,8 @@ use crate::reader::BitReader;
 use crate::source::Source;
 use crate::why::Why;
 
+/// The bytes that follow a lead byte, the number's bits in the lead byte, and the smallest number of this form; `None`
+/// if the lead byte is not allowed.
 #[tactic(auto, unfolding(crate::specs::Number::lead_form))]
 fn lead_form(max_bits: u32, lead: u64) -> Option<(u32, u64, u64)>
     ensures form { result ≡ lead_form max_bits lead }
@@ -26,6 +28,7 @@ fn lead_form(max_bits: u32, lead: u64) -> Option<(u32, u64, u64)>
     }
 }
 
+/// Reads `count` more bytes of six bits each; `high` is the number's bits in the lead byte.
 #[tactic(auto, unfolding(crate::specs::Number::continued), using(crate::proofs::Numbers::continued_more, crate::proofs::Numbers::group_more))]
 fn continued<R: Source>(bits: &mut BitReader<R>, count: u32, high: u64) -> Result<u64, Why>
     requires few { count ≤ 6 }
@@ -47,7 +50,17 @@ fn continued<R: Source>(bits: &mut BitReader<R>, count: u32, high: u64) -> Resul
     Ok(value)
 }
 
-/// The coded number of at most so many bits that comes next.
+/// Reads a coded number of 1 to 7 bytes, as the frame and sample numbers of frame headers are (RFC 9639, section
+/// 9.1.5). The number is below 2^36 if `max_bits` is above 31, and else below 2^31.
+///
+/// ```
+/// let mut bits = BitReader::new(Memory::new(&[0xC2, 0x80]));
+/// let number = read_number(&mut bits, 36)?; // 128
+/// ```
+///
+/// # Errors
+/// [`Why::BadNumber`] if the bytes are no coded number, the number is too large, or its form is not the shortest; and
+/// the errors of [`BitReader`].
 pub fn read_number<R: Source>(bits: &mut BitReader<R>, max_bits: u32) -> Result<u64, Why>
     ensures fits { IfOk result (λ v. IsNumber max_bits v) }
     ensures spends { OnOk result (bits.new.most + 8 ≤ bits.old.most) }
@@ -59,6 +72,7 @@ pub fn read_number<R: Source>(bits: &mut BitReader<R>, max_bits: u32) -> Result<
     number_here(bits, max_bits)
 }
 
+/// What [`read_number`] does, proved by the reading of the layout alone.
 #[tactic(auto, unfolding(crate::specs::Number::number))]
 fn number_here<R: Source>(bits: &mut BitReader<R>, max_bits: u32) -> Result<u64, Why>
     ensures fits { IfOk result (λ v. IsNumber max_bits v) }

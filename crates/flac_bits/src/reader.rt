@@ -1,4 +1,4 @@
-//! Bits out of a source of bytes.
+//! Reading of bits from a source of bytes.
 
 ghost use Rattle.std.specs.Prelude.{◌≡◌, ◌≢◌, ◌<◌, ◌≤◌, ◌+◌, ◌^◌, ◌-◌, ◌++◌, ◌∷◌, [], ℕ, true, IfOk, IfErr, OnOk, OnErr, ◌*◌, length, take, IfSome, None, Some, Ok, ◌↔◌, false, is_some, get_or, pos};
 ghost use Rattle.flac_bits.specs.declared.why.Why.TheVariants.{Truncated};
@@ -22,7 +22,12 @@ use crate::stretch::MOST_READY;
 use crate::why::Why;
 use std::marker::Model;
 
-/// Reads a source bit by bit, the highest bit of a byte first.
+/// Reads a source bit by bit, the highest bit of a byte first. It pulls up to 4096 bytes at a time from the source.
+///
+/// # Errors
+/// A call that needs more bits than are left returns [`Why::Truncated`] if the input ends, [`Why::FrameTooLong`] if a
+/// fence is there ([`BitReader::fence`]), and [`Why::Read`] if the source returned an error. Which bits were read
+/// before the error is not specified.
 #[derive(Drop)]
 pub struct BitReader<R: Source> {
     source: R,
@@ -35,7 +40,7 @@ impl<R: Source> Model for BitReader<R> {
     ghost view = { λ r. state_of (R.known r.source) (R.errors r.source) (R.raised r.source) (R.most r.source) (R.behind r.source) (R.names r.source) (R.coming r.source) r.held };
 }
 
-/// A bit in the word at least; false where none is left.
+/// Makes sure that the word has at least one bit; false if none is left.
 fn fill<R: Source>(held: &mut Held, source: &mut R) -> Result<bool, Why>
     ensures names { R.names source.new ≡ R.names source.old }
     ensures mark { held.new.mark ≡ held.old.mark }
@@ -69,7 +74,8 @@ fn fill<R: Source>(held: &mut Held, source: &mut R) -> Result<bool, Why>
     }
 }
 
-/// Whole bytes in the array and none in the word, which stands at a whole byte; false where none is left.
+/// Empties the word into the array, and makes sure that the array has a byte; false if none is left. The reader is at a
+/// whole byte.
 fn refill<R: Source>(held: &mut Held, source: &mut R) -> Result<bool, Why>
     requires { held.old.mark.unread ≡ 0 }
     ensures names { R.names source.new ≡ R.names source.old }
@@ -98,6 +104,15 @@ fn refill<R: Source>(held: &mut Held, source: &mut R) -> Result<bool, Why>
 }
 
 impl<R: Source> BitReader<R> {
+    /// Makes a reader that begins at the first bit of the source, without a fence. Both checks begin there, and no byte
+    /// is counted yet.
+    ///
+    /// ```
+    /// let bytes = [0x4C, 0xF0];
+    /// let mut bits = BitReader::new(Memory::new(&bytes));
+    /// let first = bits.take(4)?; // 4
+    /// let second = bits.take_signed(4)?; // -4
+    /// ```
     pub fn new(source: R) -> BitReader<R>
         ensures { result ≡ record {
           known = R.known source;
@@ -115,7 +130,7 @@ impl<R: Source> BitReader<R> {
         }
     }
 
-    /// The next n bits, where the word has them.
+    /// The next n bits, if the word has them.
     #[inline(always)]
     fn ready(&mut self, n: u32) -> Option<u64>
         ensures some { IfSome result (λ v. (v < 2 ^ n) × (self.new.most + n ≡ self.old.most) × (self.new.known ≡ self.old.known) × (self.new.errors ≡ self.old.errors) × (self.new.raised ≡ self.old.raised) × (self.new.behind ≡ self.old.behind) × (self.new.names ≡ self.old.names)
@@ -129,6 +144,7 @@ impl<R: Source> BitReader<R> {
         }
     }
 
+    /// Moves four bytes into the word if it has room for them. Nothing changes for a caller.
     #[inline(always)]
     fn top_up(&mut self)
         ensures { self.new ≡ self.old }
@@ -136,6 +152,7 @@ impl<R: Source> BitReader<R> {
         self.held.top_up();
     }
 
+    /// Reads one bit.
     fn bit(&mut self) -> Result<bool, Why>
         ensures spends { OnOk result (self.new.most + 1 ≤ self.old.most) }
         ensures counts { Counts self.old self.new result }
@@ -149,7 +166,7 @@ impl<R: Source> BitReader<R> {
         }
     }
 
-    /// The next n bits, one by one.
+    /// Reads n bits one by one.
     #[inline(never)]
     #[tactic(auto, unfolding(crate::specs::Layout::number_at, crate::specs::Layout::number_from), using(crate::proofs::Loops::number_more))]
     fn take_slow(&mut self, n: u32) -> Result<u64, Why>
@@ -168,7 +185,10 @@ impl<R: Source> BitReader<R> {
         Ok(value)
     }
 
-    /// The next n bits as a number.
+    /// Reads n bits as an unsigned number, the highest bit first. n is at most 64; 0 bits are the number 0.
+    ///
+    /// # Errors
+    /// Those of [`BitReader`].
     #[inline(always)]
     pub fn take(&mut self, n: u32) -> Result<u64, Why>
         requires { n ≤ 64 }
@@ -184,7 +204,7 @@ impl<R: Source> BitReader<R> {
         self.take_more(n)
     }
 
-    /// The same where the word has not all of them: it is filled first, and above 32 bits twice.
+    /// What [`BitReader::take`] does if the word has too few bits: it is filled first, above 32 bits twice.
     #[inline(never)]
     #[tactic(auto, using(crate::proofs::Loops::number_halves))]
     fn take_more(&mut self, n: u32) -> Result<u64, Why>
@@ -203,7 +223,7 @@ impl<R: Source> BitReader<R> {
         Ok((high << 32) + low)
     }
 
-    /// The next n bits, at most 32.
+    /// Reads n bits, at most 32.
     fn take_few(&mut self, n: u32) -> Result<u64, Why>
         requires { n ≤ 32 }
         ensures small { IfOk result (λ v. v < 2 ^ n) }
@@ -219,7 +239,7 @@ impl<R: Source> BitReader<R> {
         self.take_slow(n)
     }
 
-    /// Zeros and a one, where the word has them.
+    /// Reads zeros and a one, if the word has them.
     #[inline(always)]
     fn ready_unary(&mut self, limit: u64) -> Option<u64>
         ensures some { IfSome result (λ q. (q ≤ limit) × (self.new.most ≤ self.old.most) × (self.new.known ≡ self.old.known) × (self.new.errors ≡ self.old.errors) × (self.new.raised ≡ self.old.raised) × (self.new.behind ≡ self.old.behind) × (self.new.names ≡ self.old.names)
@@ -229,6 +249,7 @@ impl<R: Source> BitReader<R> {
         self.held.unary(limit)
     }
 
+    /// What [`BitReader::unary`] does, bit by bit.
     #[inline(never)]
     #[tactic(auto, unfolding(crate::specs::Layout::zeros_at, crate::specs::Layout::zeros_from), using(crate::proofs::Loops::zeros_more, crate::proofs::Loops::zeros_last))]
     fn unary_slow(&mut self, limit: u64) -> Result<Option<u64>, Why>
@@ -249,7 +270,11 @@ impl<R: Source> BitReader<R> {
         Ok(None)
     }
 
-    /// How many zeros stand before the next one; `None` at a zero past the limit.
+    /// Reads zeros up to the next one, and the one, and returns the number of zeros. If there are more than `limit`
+    /// zeros, it reads `limit + 1` of them and returns `None`.
+    ///
+    /// # Errors
+    /// Those of [`BitReader`].
     #[inline(always)]
     pub fn unary(&mut self, limit: u64) -> Result<Option<u64>, Why>
         ensures within { IfOk result (λ o. IfSome o (λ q. q ≤ limit)) }
@@ -265,7 +290,7 @@ impl<R: Source> BitReader<R> {
         self.unary_slow(limit)
     }
 
-    /// One value of a Rice code, where the word has it.
+    /// Reads one value of a Rice code, if the word has it.
     #[inline(always)]
     fn ready_rice(&mut self, k: u32, limit: u64) -> Option<u64>
         requires k { k ≤ 30 }
@@ -277,6 +302,7 @@ impl<R: Source> BitReader<R> {
         self.held.rice(k, limit)
     }
 
+    /// What [`BitReader::folded_value`] does, part by part.
     #[inline(never)]
     #[cold]
     #[tactic(auto, unfolding(crate::specs::Rice::rice), using(crate::proofs::Rices::joined))]
@@ -295,7 +321,7 @@ impl<R: Source> BitReader<R> {
         Ok((zeros << k) + low)
     }
 
-    /// The same where the word has not the whole value: it is filled first.
+    /// What [`BitReader::folded_value`] does if the word does not have the whole value: it is filled first.
     #[inline(never)]
     fn folded_more(&mut self, k: u32, limit: u64) -> Result<u64, Why>
         requires k { k ≤ 30 }
@@ -312,7 +338,7 @@ impl<R: Source> BitReader<R> {
         self.rice_slow(k, limit)
     }
 
-    /// A folded value of a Rice code: zeros and a one, and the lowest k bits.
+    /// Reads a folded value of a Rice code: zeros and a one, and the lowest k bits. The zeros are at most `limit`.
     #[inline(always)]
     fn folded_value(&mut self, k: u32, limit: u64) -> Result<u64, Why>
         requires k { k ≤ 30 }
@@ -328,7 +354,7 @@ impl<R: Source> BitReader<R> {
         self.folded_more(k, limit)
     }
 
-    /// A residual value under the Rice parameter k (RFC 9639, section 9.2.7.3).
+    /// Reads a residual value under the Rice parameter k (RFC 9639, sections 9.2.7.2 and 9.2.7.3).
     #[inline(always)]
     #[tactic(auto, unfolding(crate::specs::Rice::rice_value))]
     fn rice_value(&mut self, k: u32) -> Result<i64, Why>
@@ -346,7 +372,8 @@ impl<R: Source> BitReader<R> {
         Ok(unfolded(folded))
     }
 
-    /// Fills the places from one on with residual values, as far as the bytes held have them, and answers where it stopped.
+    /// Fills `values` from the index `from` on with residual values, as far as the bytes held have them, and returns
+    /// where it stopped.
     #[inline(always)]
     fn ready_values(&mut self, k: u32, values: &mut [i64], from: usize) -> usize
         requires { from ≤ length values.old }
@@ -362,11 +389,12 @@ impl<R: Source> BitReader<R> {
         self.held.values(k, values, from)
     }
 
-    /// Fills the places with the residual values that come next under the Rice parameter k (RFC 9639, section 9.2.7.3).
+    /// Fills `values` with the next residual values under the Rice parameter k, at most 30 (RFC 9639, sections 9.2.7.2
+    /// and 9.2.7.3).
     ///
     /// # Errors
-    ///
-    /// `ResidualRange` where a value does not lie strictly between -2^31 and 2^31.
+    /// [`Why::ResidualRange`] if a value is not strictly between -2^31 and 2^31; and those of [`BitReader`]. What
+    /// `values` has then is not specified.
     #[tactic(auto, using(crate::proofs::Lists::list_more, crate::proofs::Lists::list_end, crate::proofs::Lists::list_start))]
     pub fn rice_partition(&mut self, k: u32, values: &mut [i64]) -> Result<(), Why>
         requires { k ≤ 30 }
@@ -390,7 +418,10 @@ impl<R: Source> BitReader<R> {
         Ok(())
     }
 
-    /// The next n bits as a signed number in two's complement, 1 to 64 of them.
+    /// Reads n bits as a signed number in two's complement. n is 1 to 64.
+    ///
+    /// # Errors
+    /// Those of [`BitReader`].
     #[inline(always)]
     #[tactic(auto, unfolding(crate::specs::Signed::signed_field))]
     pub fn take_signed(&mut self, n: u32) -> Result<i64, Why>
@@ -406,7 +437,11 @@ impl<R: Source> BitReader<R> {
         Ok(to_signed(value, n))
     }
 
-    /// Fills the places with the signed numbers of n bits that come next, 1 to 64 bits each.
+    /// Fills `values` with the next signed numbers of n bits each, in two's complement. n is 1 to 64. Escaped
+    /// partitions have this form (RFC 9639, section 9.2.7.1).
+    ///
+    /// # Errors
+    /// Those of [`BitReader`]. What `values` has then is not specified.
     #[tactic(auto, using(crate::proofs::Lists::list_more, crate::proofs::Lists::list_end, crate::proofs::Lists::list_start))]
     pub fn signed_partition(&mut self, n: u32, values: &mut [i64]) -> Result<(), Why>
         requires some { 1 ≤ n }
@@ -423,7 +458,7 @@ impl<R: Source> BitReader<R> {
         Ok(())
     }
 
-    /// Some of the bytes that come next: one at least where there is room for it, and none where none is left.
+    /// Reads some of the next bytes: at least one if `out` has room, none if none is left.
     fn some_bytes(&mut self, out: &mut [u8]) -> Result<usize, Why>
         requires { self.old.cursor.mark.unread ≡ 0 }
         ensures bound { IfOk result (λ n. n ≤ length out.new) }
@@ -441,12 +476,11 @@ impl<R: Source> BitReader<R> {
         }
     }
 
-    /// Fills the places with the bytes that come next, and answers how many: all of them, or fewer where the bits end before.
-    /// The reader stands at a whole byte (see [`BitReader::unread`]).
+    /// Fills the front of `out` with the next bytes and returns how many: all of `out`, or fewer if the input ends
+    /// before, or a fence is there. The reader must be at a whole byte (see [`BitReader::unread`]).
     ///
     /// # Errors
-    ///
-    /// `Read` where the source answers an error.
+    /// [`Why::Read`] if the source returned an error.
     pub fn take_bytes(&mut self, out: &mut [u8]) -> Result<usize, Why>
         requires { self.old.cursor.mark.unread ≡ 0 }
         ensures bound { IfOk result (λ n. n ≤ length out.new) }
@@ -468,7 +502,8 @@ impl<R: Source> BitReader<R> {
         Ok(done)
     }
 
-    /// The same as [`BitReader::take_bytes`], but the checks begin anew after each piece, so that none is computed of these bytes.
+    /// What [`BitReader::take_bytes`] does, but the checks restart after each piece, so that none is computed of these
+    /// bytes.
     pub(crate) fn take_unchecked(&mut self, out: &mut [u8]) -> Result<usize, Why>
         requires { self.old.cursor.mark.unread ≡ 0 }
         ensures bound { IfOk result (λ n. n ≤ length out.new) }
@@ -492,7 +527,8 @@ impl<R: Source> BitReader<R> {
         Ok(filled)
     }
 
-    /// The reason where a field needs more bits than are left, and no error of the source is the reason.
+    /// The error for a field that needs more bits than are left, if the source did not fail: [`Why::FrameTooLong`] at a
+    /// fence, else [`Why::Truncated`].
     pub fn short(&self) -> Why
         ensures short { self.now.known ≡ true → self.now.cursor.left ≡ [] → (self.now.cursor.mark.short ≡ Why.Read → ⊥) → result ≡ self.now.cursor.mark.short }
         ensures memory { result ≢ Why.Memory }
@@ -501,14 +537,17 @@ impl<R: Source> BitReader<R> {
         self.held.short()
     }
 
-    /// How many bits of the byte that was begun are still to come, 0 at a whole byte.
+    /// How many bits of the current byte are not read yet: 0 to 7, 0 at a whole byte.
     pub fn unread(&self) -> u32
         ensures { (result ≡ self.now.cursor.mark.unread) × (result < 8) }
     {
         self.held.unread()
     }
 
-    /// Whether no bit is left. An end at which the source is to answer an error is no end: it is refused by `Read`.
+    /// Whether no bit is left, up to the end of the input or a fence. The position does not change.
+    ///
+    /// # Errors
+    /// [`Why::Read`] if the source returns an error in place of the end.
     pub fn at_end(&mut self) -> Result<bool, Why>
         ensures spends { OnOk result (self.new.most ≤ self.old.most) }
         ensures counts { Counts self.old self.new result }
@@ -523,22 +562,25 @@ impl<R: Source> BitReader<R> {
         }
     }
 
-    /// Lets only so many bytes be read beyond the byte that was begun, in place of a fence that stands. A field that needs a byte past these
-    /// is refused by `FrameTooLong`, and the source is not asked for it; where the input ends before, the field is refused as without a fence.
+    /// Sets a fence: only the rest of the current byte and the `bytes` bytes after it can be read, until
+    /// [`BitReader::lift`]. It replaces an earlier fence.
+    ///
+    /// If all these bytes are there, a field that needs a bit after them is refused with [`Why::FrameTooLong`]. If the
+    /// input ends before, errors are those without a fence.
     pub fn fence(&mut self, bytes: u64)
         ensures { self.new ≡ fence_at bytes self.old }
     {
         self.held.fence(bytes);
     }
 
-    /// Takes the fence away.
+    /// Removes the fence: the bits after it can be read again.
     pub fn lift(&mut self)
         ensures { self.new ≡ lifted self.old }
     {
         self.held.lift();
     }
 
-    /// The source, without the bytes that were pulled and not read.
+    /// Returns the source. Bytes that were pulled from it and not read yet are lost.
     pub fn into_source(self) -> R
         ensures known { R.known result ≡ true → self.known ≡ true }
         ensures told { self.known ≡ true → R.known result ≡ true }
@@ -552,27 +594,30 @@ impl<R: Source> BitReader<R> {
         source
     }
 
-    /// How many bytes were begun.
+    /// How many bytes were read since the reader was made, at most 2^64 - 1. A byte counts from its first bit on.
     pub fn bytes_taken(&self) -> u64
         ensures { result ≡ self.now.cursor.mark.bytes }
     {
         self.held.bytes_taken()
     }
 
-    /// The remainder of the bits since the checks began.
+    /// The CRC-8 of the bits that were read since the checks began: generator x^8 + x^2 + x + 1, from 0 (RFC 9639,
+    /// section 9.1.8).
     pub fn check8(&self) -> u8
         ensures { result ≡ self.now.cursor.mark.check8 }
     {
         self.held.check8()
     }
 
+    /// The CRC-16 of the bits that were read since the checks began: generator x^16 + x^15 + x^2 + 1, from 0 (RFC 9639,
+    /// section 9.3).
     pub fn check16(&self) -> u16
         ensures { result ≡ self.now.cursor.mark.check16 }
     {
         self.held.check16()
     }
 
-    /// Begins the checks anew where the reader stands at a whole byte; elsewhere nothing changes.
+    /// Restarts both checks from 0 if the reader is at a whole byte; else nothing changes.
     pub fn start_checks(&mut self)
         ensures { self.new ≡ started self.old }
     {
@@ -581,7 +626,10 @@ impl<R: Source> BitReader<R> {
         }
     }
 
-    /// The bits up to the next whole byte, and whether they are zeros.
+    /// Reads the bits up to the next whole byte, 0 to 7 of them, and returns whether all are zeros.
+    ///
+    /// # Errors
+    /// Those of [`BitReader`].
     pub fn align(&mut self) -> Result<bool, Why>
         ensures spends { OnOk result (self.new.most ≤ self.old.most) }
         ensures counts { Counts self.old self.new result }

@@ -1,6 +1,6 @@
-//! Remainders of one byte with bytes of zeros behind it, at width 16.
+//! CRC-16 tables: the remainder of each byte, followed by 0 to 7 bytes of zeros.
 
-/// The remainders of each byte with 0 bytes behind it.
+/// The remainder of each byte alone.
 pub const BEHIND_0: [u16; 256] = [
     0, 32773, 32783, 10, 32795, 30, 20, 32785, 32819, 54, 60, 32825, 40, 32813, 32807, 34, 32867,
     102, 108, 32873, 120, 32893, 32887, 114, 80, 32853, 32863, 90, 32843, 78, 68, 32833, 32963,
@@ -21,7 +21,7 @@ pub const BEHIND_0: [u16; 256] = [
     33287, 514,
 ];
 
-/// The remainders of each byte with 1 bytes behind it.
+/// The remainder of each byte followed by 1 byte of zeros.
 pub const BEHIND_1: [u16; 256] = [
     0, 34307, 35843, 2560, 38915, 7680, 5120, 37379, 45059, 13824, 15360, 47619, 10240, 44547,
     41987, 8704, 57347, 26112, 27648, 59907, 30720, 65027, 62467, 29184, 20480, 54787, 56323,
@@ -44,7 +44,7 @@ pub const BEHIND_1: [u16; 256] = [
     11276, 43535, 14348, 48655, 46095, 12812, 4108, 38415, 39951, 6668, 34831, 3596, 1036, 33295,
 ];
 
-/// The remainders of each byte with 2 bytes behind it.
+/// The remainder of each byte followed by 2 bytes of zeros.
 pub const BEHIND_2: [u16; 256] = [
     0, 32791, 32811, 60, 32851, 68, 120, 32879, 32931, 180, 136, 32927, 240, 32999, 32987, 204,
     33091, 340, 360, 33151, 272, 33031, 33083, 300, 480, 33271, 33227, 476, 33203, 420, 408, 33167,
@@ -66,7 +66,7 @@ pub const BEHIND_2: [u16; 256] = [
     3256, 36015, 35939, 3188, 3144, 35935, 3120, 35879, 35867, 3084,
 ];
 
-/// The remainders of each byte with 3 bytes behind it.
+/// The remainder of each byte followed by 3 bytes of zeros.
 pub const BEHIND_3: [u16; 256] = [
     0, 37891, 43011, 15360, 53251, 17408, 30720, 60419, 8195, 46080, 34816, 7171, 61440, 25603,
     22531, 52224, 16390, 54277, 59397, 31750, 36869, 1030, 14342, 44037, 24581, 62470, 51206,
@@ -89,7 +89,7 @@ pub const BEHIND_3: [u16; 256] = [
     57387, 29736, 18472, 56363, 12328, 42027, 38955, 3112,
 ];
 
-/// The remainders of each byte with 4 bytes behind it.
+/// The remainder of each byte followed by 4 bytes of zeros.
 pub const BEHIND_4: [u16; 256] = [
     0, 32891, 33011, 136, 33251, 408, 272, 33131, 33731, 952, 816, 33611, 544, 33371, 33491, 680,
     34691, 2040, 1904, 34571, 1632, 34331, 34451, 1768, 1088, 33851, 33971, 1224, 34211, 1496,
@@ -112,7 +112,7 @@ pub const BEHIND_4: [u16; 256] = [
     44011, 43331, 10552, 10672, 43467, 10400, 43227, 43091, 10280,
 ];
 
-/// The remainders of each byte with 5 bytes behind it.
+/// The remainder of each byte followed by 5 bytes of zeros.
 pub const BEHIND_5: [u16; 256] = [
     0, 63491, 28675, 34816, 57350, 6149, 36869, 26630, 16393, 47114, 12298, 51209, 40975, 22540,
     53260, 10255, 32786, 30737, 61457, 2066, 24596, 38935, 4119, 59412, 49179, 14360, 45080, 18459,
@@ -135,7 +135,7 @@ pub const BEHIND_5: [u16; 256] = [
     16630, 47349, 12533, 51446, 41200, 22771, 53491, 10480,
 ];
 
-/// The remainders of each byte with 6 bytes behind it.
+/// The remainder of each byte followed by 6 bytes of zeros.
 pub const BEHIND_6: [u16; 256] = [
     0, 33043, 33315, 816, 33859, 1360, 1632, 34675, 34947, 2448, 2720, 35763, 3264, 36307, 36579,
     4080, 37123, 4112, 4896, 37427, 5440, 37971, 38755, 5744, 6528, 39059, 39843, 6832, 40387,
@@ -158,7 +158,7 @@ pub const BEHIND_6: [u16; 256] = [
     64560, 31555, 64080, 63840, 30835, 30595, 63120, 62880, 29875, 62400, 29395, 29155, 61680,
 ];
 
-/// The remainders of each byte with 7 bytes behind it.
+/// The remainder of each byte followed by 7 bytes of zeros.
 pub const BEHIND_7: [u16; 256] = [
     0, 4102, 8204, 12298, 16408, 20510, 24596, 28690, 32816, 36918, 41020, 45114, 49192, 53294,
     57380, 61474, 32869, 36963, 41065, 45167, 49277, 53371, 57457, 61559, 85, 4179, 8281, 12383,

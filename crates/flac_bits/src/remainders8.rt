@@ -1,6 +1,6 @@
-//! Remainders of one byte with bytes of zeros behind it, at width 8.
+//! CRC-8 tables: the remainder of each byte, followed by 0 to 7 bytes of zeros.
 
-/// The remainders of each byte with 0 bytes behind it.
+/// The remainder of each byte alone.
 pub const BEHIND_0: [u8; 256] = [
     0, 7, 14, 9, 28, 27, 18, 21, 56, 63, 54, 49, 36, 35, 42, 45, 112, 119, 126, 121, 108, 107, 98,
     101, 72, 79, 70, 65, 84, 83, 90, 93, 224, 231, 238, 233, 252, 251, 242, 245, 216, 223, 214,
@@ -17,7 +17,7 @@ pub const BEHIND_0: [u8; 256] = [
     225, 232, 239, 250, 253, 244, 243,
 ];
 
-/// The remainders of each byte with 1 bytes behind it.
+/// The remainder of each byte followed by 1 byte of zeros.
 pub const BEHIND_1: [u8; 256] = [
     0, 21, 42, 63, 84, 65, 126, 107, 168, 189, 130, 151, 252, 233, 214, 195, 87, 66, 125, 104, 3,
     22, 41, 60, 255, 234, 213, 192, 171, 190, 129, 148, 174, 187, 132, 145, 250, 239, 208, 197, 6,
@@ -34,7 +34,7 @@ pub const BEHIND_1: [u8; 256] = [
     188, 169, 150, 131, 232, 253, 194, 215,
 ];
 
-/// The remainders of each byte with 2 bytes behind it.
+/// The remainder of each byte followed by 2 bytes of zeros.
 pub const BEHIND_2: [u8; 256] = [
     0, 107, 214, 189, 171, 192, 125, 22, 81, 58, 135, 236, 250, 145, 44, 71, 162, 201, 116, 31, 9,
     98, 223, 180, 243, 152, 37, 78, 88, 51, 142, 229, 67, 40, 149, 254, 232, 131, 62, 85, 18, 121,
@@ -51,7 +51,7 @@ pub const BEHIND_2: [u8; 256] = [
     122, 61, 86, 235, 128, 150, 253, 64, 43,
 ];
 
-/// The remainders of each byte with 3 bytes behind it.
+/// The remainder of each byte followed by 3 bytes of zeros.
 pub const BEHIND_3: [u8; 256] = [
     0, 22, 44, 58, 88, 78, 116, 98, 176, 166, 156, 138, 232, 254, 196, 210, 103, 113, 75, 93, 63,
     41, 19, 5, 215, 193, 251, 237, 143, 153, 163, 181, 206, 216, 226, 244, 150, 128, 186, 172, 126,
@@ -68,7 +68,7 @@ pub const BEHIND_3: [u8; 256] = [
     179, 165, 159, 137, 235, 253, 199, 209,
 ];
 
-/// The remainders of each byte with 4 bytes behind it.
+/// The remainder of each byte followed by 4 bytes of zeros.
 pub const BEHIND_4: [u8; 256] = [
     0, 98, 196, 166, 143, 237, 75, 41, 25, 123, 221, 191, 150, 244, 82, 48, 50, 80, 246, 148, 189,
     223, 121, 27, 43, 73, 239, 141, 164, 198, 96, 2, 100, 6, 160, 194, 235, 137, 47, 77, 125, 31,
@@ -85,7 +85,7 @@ pub const BEHIND_4: [u8; 256] = [
     32, 16, 114, 212, 182, 159, 253, 91, 57,
 ];
 
-/// The remainders of each byte with 5 bytes behind it.
+/// The remainder of each byte followed by 5 bytes of zeros.
 pub const BEHIND_5: [u8; 256] = [
     0, 41, 82, 123, 164, 141, 246, 223, 79, 102, 29, 52, 235, 194, 185, 144, 158, 183, 204, 229,
     58, 19, 104, 65, 209, 248, 131, 170, 117, 92, 39, 14, 59, 18, 105, 64, 159, 182, 205, 228, 116,
@@ -102,7 +102,7 @@ pub const BEHIND_5: [u8; 256] = [
     201, 224, 112, 89, 34, 11, 212, 253, 134, 175,
 ];
 
-/// The remainders of each byte with 6 bytes behind it.
+/// The remainder of each byte followed by 6 bytes of zeros.
 pub const BEHIND_6: [u8; 256] = [
     0, 223, 185, 102, 117, 170, 204, 19, 234, 53, 83, 140, 159, 64, 38, 249, 211, 12, 106, 181,
     166, 121, 31, 192, 57, 230, 128, 95, 76, 147, 245, 42, 161, 126, 24, 199, 212, 11, 109, 178,
@@ -119,7 +119,7 @@ pub const BEHIND_6: [u8; 256] = [
     113, 174, 87, 136, 238, 49, 34, 253, 155, 68,
 ];
 
-/// The remainders of each byte with 7 bytes behind it.
+/// The remainder of each byte followed by 7 bytes of zeros.
 pub const BEHIND_7: [u8; 256] = [
     0, 19, 38, 53, 76, 95, 106, 121, 152, 139, 190, 173, 212, 199, 242, 225, 55, 36, 17, 2, 123,
     104, 93, 78, 175, 188, 137, 154, 227, 240, 197, 214, 110, 125, 72, 91, 34, 49, 4, 23, 246, 229,

@@ -22,7 +22,7 @@ impl Model for Rest {
     ghost invariant = { λ r. r.count ≤ 63 };
 }
 
-/// The remainder after the lowest bits of a word.
+/// The CRC-8 after the lowest `count` bits of a word.
 #[tactic(auto, using(crate::proofs::Appending::fed_rest))]
 fn word_checked8(check: u8, word: u64, count: u32) -> u8
     requires { count ≤ 63 }
@@ -35,7 +35,7 @@ fn word_checked8(check: u8, word: u64, count: u32) -> u8
     bits_checked8(check, (word % 256) as u8, count % 8)
 }
 
-/// The remainder after the lowest bits of a word.
+/// The CRC-16 after the lowest `count` bits of a word.
 #[tactic(auto, using(crate::proofs::Appending::fed_rest))]
 fn word_checked16(check: u16, word: u64, count: u32) -> u16
     requires { count ≤ 63 }
@@ -49,6 +49,7 @@ fn word_checked16(check: u16, word: u64, count: u32) -> u16
 }
 
 impl Rest {
+    /// No bits.
     pub(crate) fn empty() -> Rest
         ensures { result ≡ [] }
     {
@@ -63,7 +64,7 @@ impl Rest {
         self.count
     }
 
-    /// Puts the n bits of a number behind those held, where there is room for them.
+    /// Adds the n bits of a number to those held; there is room for them.
     #[inline(always)]
     pub(crate) fn put(&mut self, n: u32, value: u64)
         requires room { length self.old + n ≤ 63 }
@@ -74,7 +75,7 @@ impl Rest {
         self.count += n;
     }
 
-    /// Takes a whole word, where the n bits of a number make it full.
+    /// Adds the n bits of a number, which fill a word, and takes this word off.
     #[inline(always)]
     pub(crate) fn fill(&mut self, n: u32, value: u64) -> u64
         requires enough { 64 ≤ length self.old + n }
@@ -101,14 +102,14 @@ impl Rest {
         byte
     }
 
-    /// The remainder after the bits held.
+    /// The CRC-8 after the bits held.
     pub(crate) fn checked8(&self, check: u8) -> u8
         ensures { result ≡ fed 8 7 check self.now }
     {
         word_checked8(check, self.word, self.count)
     }
 
-    /// The remainder after the bits held.
+    /// The CRC-16 after the bits held.
     pub(crate) fn checked16(&self, check: u16) -> u16
         ensures { result ≡ fed 16 32773 check self.now }
     {

@@ -1,4 +1,4 @@
-//! Sends all of some bytes.
+//! Sending of all of some bytes.
 
 ghost use Rattle.std.specs.Prelude.{◌≡◌, IfErr};
 ghost use Rattle.flac_bits.specs.Sending.{Sends};
@@ -6,10 +6,10 @@ ghost use Rattle.flac_bits.specs.Sending.{Sends};
 use crate::target::Target;
 use crate::why::Why;
 
-/// Sends all the bytes. After an error a beginning of them was sent.
+/// Sends all the bytes. After an error, a prefix of them was sent.
 ///
 /// # Errors
-/// [`Why::Write`] where the target answered an error in this call.
+/// [`Why::Write`] if the target returned an error.
 pub fn send_all<W: Target>(target: &mut W, bytes: &[u8]) -> Result<(), Why>
     ensures sends { Sends W.Target bytes.now target.old target.new result }
     ensures write { IfErr result (λ e. e ≡ Why.Write) }

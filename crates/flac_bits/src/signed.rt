@@ -1,13 +1,13 @@
-//! Signed numbers out of unsigned ones.
+//! Signed numbers made of unsigned ones.
 
 ghost use Rattle.std.specs.Prelude.{◌≡◌, ◌<◌, ◌≤◌, ◌^◌, ◌-◌, ◌+◌, ◌*◌, ◌/◌};
 ghost use Rattle.flac_bits.specs.Rice.{unfolded as unfolded_value, IsResidual};
 ghost use Rattle.flac_bits.specs.Signed.{to_signed as signed_value, FitsBits};
 
-/// The greatest folded number of a residual value (RFC 9639, section 9.2.7.3).
+/// The largest folded number of a residual value: 2^32 - 2, of -2^31 + 1 (RFC 9639, section 9.2.7.3).
 pub const MOST_FOLDED: u64 = 0xFFFF_FFFE;
 
-/// The value that was folded: 2r stands for r, and 2r + 1 for -r - 1.
+/// Unfolds a residual value: 2r is r, and 2r + 1 is -r - 1 (RFC 9639, section 9.2.7.2).
 #[inline(always)]
 pub(crate) fn unfolded(folded: u64) -> i64
     requires { folded ≤ 0xFFFF_FFFE }

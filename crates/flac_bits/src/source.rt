@@ -1,4 +1,4 @@
-//! Where bytes come from.
+//! Sources of bytes.
 
 ghost use Rattle.std.specs.Prelude.{◌≡◌, ◌<◌, ◌≤◌, ◌+◌, ℕ, Bool, true, List, [], ◌∷◌, ◌++◌, length, take, IsTrue, IfOk, OnOk, OnErr, is_some, None};
 ghost use Rattle.flac_bits.specs.State.{Behind, Rises, the_end};
@@ -8,29 +8,39 @@ ghost use Rattle.std.specs.Borrow.{GName};
 use std::io;
 use std::io::Read;
 
-/// Bytes that come in pieces.
+/// Bytes that come in pieces: what a [`crate::BitReader`] reads from.
+///
+/// [`Memory`] is a source of bytes in memory, [`crate::Counted`] one of any `std::io::Read`, and `&mut` of a source is
+/// a source. The ghost fields exist for proofs only. What a contract says of the bytes that are read holds if they are
+/// known to a proof (`known`) and the source returned no unexpected error in the call.
 pub trait Source {
-    /// Whether the bytes still to come are known, and which they are.
+    /// Whether the bytes still to come are known.
     ghost known: { Self → Bool };
 
+    /// The bytes still to come, if they are known.
     ghost coming: { Self → List ℕ };
 
-    /// What stands behind the bytes to come: the end, or an error in its place, and further parts.
+    /// What comes after these bytes: the end, or an error in its place, and further parts.
     ghost behind: { Self → Behind };
 
-    /// How many errors were answered that nothing foretold. Where the count can rise no more, the bytes count as unknown.
+    /// How many errors were returned that `behind` did not announce. If the count can rise no more, the bytes count as
+    /// unknown.
     ghost errors: { Self → ℕ };
 
-    /// How many errors were answered, foretold or not. Each counts, known or not, as long as the count can rise.
+    /// How many errors were returned, announced or not. Each counts, whether the bytes are known or not, as long as the
+    /// count can rise.
     ghost raised: { Self → ℕ };
 
-    /// How many bytes can come at most.
+    /// How many bytes can still come at most.
     ghost most: { Self → ℕ };
 
-    /// The references that it goes through.
+    /// The references that the source goes through.
     ghost names: { Self → List GName };
 
-    /// Gives some of the bytes to come. Where there is room, none are given at the end alone.
+    /// Fills the front of `buf` with some of the bytes to come and returns how many. If `buf` has room, 0 is the end.
+    ///
+    /// # Errors
+    /// The source's own. No byte counts as read then.
     fn pull(&mut self, buf: &mut [u8]) -> io::Result<usize>
         ensures names { names self.new ≡ names self.old }
         ensures bound { ReadsAtMost result buf.new }
@@ -66,13 +76,19 @@ impl<S: Source> Source for &mut S {
     }
 }
 
-/// Bytes in memory.
+/// A source of bytes in memory. It never fails.
+///
+/// ```
+/// let mut bits = BitReader::new(Memory::new(b"fLaC"));
+/// let marker = bits.take(32)?; // 0x664C6143
+/// ```
 #[derive(Drop)]
 pub struct Memory<'a> {
     bytes: &'a [u8],
 }
 
 impl<'a> Memory<'a> {
+    /// Makes a source of these bytes, the first of them first.
     pub fn new(bytes: &'a [u8]) -> Memory<'a>
         ensures { result.bytes.now ≡ bytes.now }
     {
@@ -104,7 +120,8 @@ impl Source for Memory<'_> {
     }
 }
 
-/// A source that is asked for a few bytes at a time: the same bytes, whatever their number.
+/// A source that is asked for a few bytes at a time, for tests. The bytes are the same, however many are asked for at
+/// once.
 #[derive(Drop)]
 pub struct Pieces<S: Source> {
     source: S,
@@ -113,7 +130,7 @@ pub struct Pieces<S: Source> {
 }
 
 impl<S: Source> Pieces<S> {
-    /// The source, of which at most so many bytes are asked for at once, one or more.
+    /// Makes a source that asks this one for at most `most` bytes at once. `most` is at least 1.
     pub fn new(source: S, most: usize) -> Pieces<S>
         requires { 1 ≤ most }
         ensures { result.source ≡ source }
@@ -121,7 +138,7 @@ impl<S: Source> Pieces<S> {
         Pieces { source, most }
     }
 
-    /// The source again, with the bytes that were not asked for yet.
+    /// Returns the source, with the bytes that were not asked for yet.
     pub fn into_inner(self) -> S
         ensures { result ≡ self.source }
     {

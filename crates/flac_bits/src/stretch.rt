@@ -1,4 +1,4 @@
-//! Values under a Rice code off a word and the bytes behind it.
+//! Reading of values under a Rice code from a word and the bytes after it.
 
 ghost use Rattle.std.specs.Prelude.{◌≡◌, ◌<◌, ◌≤◌, ◌+◌, ◌++◌, ℕ, List, Bool, length, take, drop, get_or, pos};
 ghost use Rattle.flac_bits.specs.Bits.{unsigned, bits_of};
@@ -9,7 +9,7 @@ ghost use Rattle.flac_bits.specs.Stretches.{IsRead};
 use crate::signed::unfolded;
 use crate::word::Word;
 
-/// The greatest Rice parameter under which a value is within its range wherever the word has all of its code.
+/// The largest Rice parameter under which each value whose whole code the word has is in its range.
 pub const MOST_READY: u32 = 26;
 
 /// Four bytes as a number, the first of them highest.
@@ -37,7 +37,8 @@ fn eight_bytes(bytes: &[u8], place: usize) -> u64
     (u64::from(high) << 32) + u64::from(low)
 }
 
-/// Fills the places from one up to another with residual values, as far as the word has them, and answers where it stopped.
+/// Fills `values` from the index `from` up to `to` with residual values, as far as the word has them, and returns where
+/// it stopped.
 #[inline(always)]
 fn values_held(word: &mut Word, k: u32, values: &mut [i64], from: usize, to: usize) -> usize
     requires k { k ≤ 26 }
@@ -60,8 +61,8 @@ fn values_held(word: &mut Word, k: u32, values: &mut [i64], from: usize, to: usi
     i
 }
 
-/// Fills the places from one on with residual values, as far as the word and the bytes behind it have them, and answers how many
-/// bytes came into the word, and where it stopped.
+/// Fills `values` from the index `from` on with residual values, as far as the word and the bytes after it have them.
+/// Returns how many bytes went into the word, and where it stopped.
 #[inline(always)]
 fn values_in(
     word: &mut Word,
@@ -77,7 +78,7 @@ fn values_in(
     ensures read { (text : List Bool) × (word.old ++ bits_of (take result.0 bytes.now) ≡ text ++ word.new) × IsRead k text values.old from values.new result.1 }
     ensures fits { ((j : ℕ) → j < from → IsResidual (get_or values.old j (pos 0))) → (j : ℕ) → j < result.1 → IsResidual (get_or values.new j (pos 0)) }
 {
-    // so many values as a filled word nearly always has: where it has fewer, a jump is foretold wrongly
+    // as many values as a filled word nearly always has: if it has fewer, a branch is mispredicted
     let at_once = 56 / (k as usize + 3);
     let mut used = 0;
     let mut i = from;
@@ -93,7 +94,7 @@ fn values_in(
     (used, i)
 }
 
-/// What [`values_in`] does, made anew for each of the usual parameters.
+/// What [`values_in`] does, compiled anew for each of the usual parameters.
 #[inline(always)]
 pub(crate) fn values_by(
     word: &mut Word,

@@ -1,4 +1,4 @@
-//! Checks of bytes.
+//! Checksums of bytes.
 
 ghost use Rattle.std.specs.Prelude.{◌≡◌, ◌<◌, ◌≤◌, ◌/◌, ◌^◌, length};
 ghost use Rattle.flac_bits.specs.Bits.{unsigned, bits_of};
@@ -7,7 +7,7 @@ ghost use Rattle.flac_bits.specs.Check.{fed, remainder, ChecksAreRemainders};
 
 use crate::{remainders8, remainders16, remainders32};
 
-/// The remainder after one more bit.
+/// The CRC-8 after one more bit.
 fn fed8(check: u8, bit: bool) -> u8
     ensures { result ≡ feed 8 7 check bit }
 {
@@ -19,7 +19,7 @@ fn fed8(check: u8, bit: bool) -> u8
     }
 }
 
-/// The remainder after one more bit.
+/// The CRC-16 after one more bit.
 fn fed16(check: u16, bit: bool) -> u16
     ensures { result ≡ feed 16 32773 check bit }
 {
@@ -31,7 +31,7 @@ fn fed16(check: u16, bit: bool) -> u16
     }
 }
 
-/// The remainder after the lowest n bits of a value.
+/// The CRC-8 after the lowest n bits of a value.
 #[tactic(auto, unfolding(crate::specs::Check::fed), using(crate::proofs::Check::fed_bit))]
 pub(crate) fn bits_checked8(check: u8, value: u8, n: u32) -> u8
     requires { n ≤ 8 }
@@ -44,6 +44,7 @@ pub(crate) fn bits_checked8(check: u8, value: u8, n: u32) -> u8
     check
 }
 
+/// The CRC-16 after the lowest n bits of a value.
 #[tactic(auto, unfolding(crate::specs::Check::fed), using(crate::proofs::Check::fed_bit))]
 pub(crate) fn bits_checked16(check: u16, value: u8, n: u32) -> u16
     requires { n ≤ 8 }
@@ -56,7 +57,7 @@ pub(crate) fn bits_checked16(check: u16, value: u8, n: u32) -> u16
     check
 }
 
-/// The remainder after one more byte.
+/// The CRC-8 after one more byte.
 #[inline(always)]
 fn byte_checked8(check: u8, byte: u8) -> u8
     ensures { result ≡ fed 8 7 check (unsigned 8 byte) }
@@ -64,7 +65,7 @@ fn byte_checked8(check: u8, byte: u8) -> u8
     remainders8::BEHIND_0[(check ^ byte) as usize]
 }
 
-/// The remainder after eight more bytes, by the tables of all their places.
+/// The CRC-8 after eight more bytes, by a table for each place.
 #[inline(always)]
 fn eight_checked8(check: u8, bytes: &[u8]) -> u8
     requires { length bytes.now ≡ 8 }
@@ -80,6 +81,7 @@ fn eight_checked8(check: u8, bytes: &[u8]) -> u8
                                 ^ remainders8::BEHIND_0[bytes[7] as usize]))))))
 }
 
+/// The CRC-8 after more bytes, byte by byte.
 #[tactic(auto, unfolding(crate::specs::Check::fed))]
 fn each_checked8(check: u8, bytes: &[u8]) -> u8
     ensures { result ≡ fed 8 7 check (bits_of bytes.now) }
@@ -91,7 +93,7 @@ fn each_checked8(check: u8, bytes: &[u8]) -> u8
     check
 }
 
-/// The remainder after more bytes, at generator x^8 + x^2 + x + 1.
+/// The CRC-8 after more bytes: generator x^8 + x^2 + x + 1.
 #[tactic(auto, unfolding(crate::specs::Check::fed))]
 pub(crate) fn checked8(check: u8, bytes: &[u8]) -> u8
     ensures { result ≡ fed 8 7 check (bits_of bytes.now) }
@@ -104,7 +106,7 @@ pub(crate) fn checked8(check: u8, bytes: &[u8]) -> u8
     each_checked8(check, &bytes[8 * eights..])
 }
 
-/// The remainder after one more byte.
+/// The CRC-16 after one more byte.
 #[inline(always)]
 fn byte_checked16(check: u16, byte: u8) -> u16
     ensures { result ≡ fed 16 32773 check (unsigned 8 byte) }
@@ -112,7 +114,7 @@ fn byte_checked16(check: u16, byte: u8) -> u16
     (check << 8) ^ remainders16::BEHIND_0[((check >> 8) as u8 ^ byte) as usize]
 }
 
-/// The remainder after eight more bytes, by the tables of all their places.
+/// The CRC-16 after eight more bytes, by a table for each place.
 #[inline(always)]
 fn eight_checked16(check: u16, bytes: &[u8]) -> u16
     requires { length bytes.now ≡ 8 }
@@ -128,6 +130,7 @@ fn eight_checked16(check: u16, bytes: &[u8]) -> u16
                                 ^ remainders16::BEHIND_0[bytes[7] as usize]))))))
 }
 
+/// The CRC-16 after more bytes, byte by byte.
 #[tactic(auto, unfolding(crate::specs::Check::fed))]
 fn each_checked16(check: u16, bytes: &[u8]) -> u16
     ensures { result ≡ fed 16 32773 check (bits_of bytes.now) }
@@ -139,7 +142,7 @@ fn each_checked16(check: u16, bytes: &[u8]) -> u16
     check
 }
 
-/// The remainder after more bytes, at generator x^16 + x^15 + x^2 + 1.
+/// The CRC-16 after more bytes: generator x^16 + x^15 + x^2 + 1.
 #[tactic(auto, unfolding(crate::specs::Check::fed))]
 pub(crate) fn checked16(check: u16, bytes: &[u8]) -> u16
     ensures { result ≡ fed 16 32773 check (bits_of bytes.now) }
@@ -152,7 +155,7 @@ pub(crate) fn checked16(check: u16, bytes: &[u8]) -> u16
     each_checked16(check, &bytes[8 * eights..])
 }
 
-/// Both remainders after more bytes, in one pass over them.
+/// Both checks after more bytes, in one pass over them.
 #[tactic(auto, unfolding(crate::specs::Check::fed))]
 pub(crate) fn both_checked(check8: u8, check16: u16, bytes: &[u8]) -> (u8, u16)
     ensures eight { result.0 ≡ fed 8 7 check8 (bits_of bytes.now) }
@@ -171,7 +174,7 @@ pub(crate) fn both_checked(check8: u8, check16: u16, bytes: &[u8]) -> (u8, u16)
     )
 }
 
-/// The remainder after one more byte.
+/// The page checksum after one more byte.
 #[inline(always)]
 fn byte_checked32(check: u32, byte: u8) -> u32
     ensures { result ≡ fed 32 79764919 check (unsigned 8 byte) }
@@ -179,7 +182,7 @@ fn byte_checked32(check: u32, byte: u8) -> u32
     (check << 8) ^ remainders32::BEHIND_0[((check >> 24) as u8 ^ byte) as usize]
 }
 
-/// The remainder after eight more bytes, by the tables of all their places.
+/// The page checksum after eight more bytes, by a table for each place.
 #[inline(always)]
 fn eight_checked32(check: u32, bytes: &[u8]) -> u32
     requires { length bytes.now ≡ 8 }
@@ -195,6 +198,7 @@ fn eight_checked32(check: u32, bytes: &[u8]) -> u32
                                 ^ remainders32::BEHIND_0[bytes[7] as usize]))))))
 }
 
+/// The page checksum after more bytes, byte by byte.
 #[tactic(auto, unfolding(crate::specs::Check::fed))]
 fn each_checked32(check: u32, bytes: &[u8]) -> u32
     ensures { result ≡ fed 32 79764919 check (bits_of bytes.now) }
@@ -206,7 +210,8 @@ fn each_checked32(check: u32, bytes: &[u8]) -> u32
     check
 }
 
-/// The remainder after more bytes, as the sum of a page has it (RFC 3533, section 6): generator 04C11DB7, no reflection.
+/// Continues the checksum of an Ogg page, `check` so far, over more bytes (RFC 3533, section 6): generator 04C11DB7, no
+/// reflection. It starts from 0.
 #[tactic(auto, unfolding(crate::specs::Check::fed))]
 pub fn crc32_sum(check: u32, bytes: &[u8]) -> u32
     ensures { result ≡ fed 32 79764919 check (bits_of bytes.now) }
@@ -235,7 +240,8 @@ pub fn crc16(bytes: &[u8]) -> u16
     checked16(0, bytes)
 }
 
-/// The checksum of an Ogg page whose own field for it is zero (RFC 3533, section 6): generator 04C11DB7, from 0, no reflection.
+/// The checksum of the bytes of an Ogg page, whose own field for it is zero in them (RFC 3533, section 6): generator
+/// 04C11DB7, from 0, no reflection.
 #[tactic(auto, using(crate::proofs::Check::fed_from_zero))]
 pub fn page_sum(bytes: &[u8]) -> u32
     ensures { result ≡ remainder 32 79764919 (bits_of bytes.now) }
@@ -243,7 +249,7 @@ pub fn page_sum(bytes: &[u8]) -> u32
     crc32_sum(0, bytes)
 }
 
-/// The checks that a reader tells are the remainders of the bits that were read since the checks began.
+/// Law: the checks that a reader or a writer reports are the remainders of the bits since the checks began.
 pub fn checks_are_remainders()
     ensures { ChecksAreRemainders }
 {}

@@ -1,4 +1,4 @@
-//! Where bytes go.
+//! Targets of bytes.
 
 ghost use Rattle.std.specs.Prelude.{◌≡◌, ◌<◌, ◌≤◌, ◌++◌, ◌∷◌, [], ◌-◌, ◌^◌, ℕ, Bool, List, true, nat_lt, length, take, IfOk, OnOk, OnErr};
 ghost use Rattle.std.specs.Borrow.{GName};
@@ -8,20 +8,29 @@ use std::alloc::Global;
 use std::io;
 use std::io::Write;
 
-/// Bytes that go away in pieces.
+/// Takes bytes in pieces: what a [`crate::BitWriter`] writes to.
+///
+/// [`Collected`] is a target in memory, [`crate::Counted`] one over any `std::io::Write`, and `&mut` of a target is a
+/// target. The ghost fields exist for proofs only. What a contract says of the bytes that were sent holds if they are
+/// known to a proof (`known`).
 pub trait Target {
-    /// Whether the bytes that were sent are known, and which they are.
+    /// Whether the bytes that were sent are known.
     ghost known: { Self → Bool };
 
+    /// The bytes that were sent, if they are known.
     ghost sent: { Self → List ℕ };
 
-    /// How many errors were answered. Each counts, as long as the count can rise; where it cannot, the bytes count as unknown.
+    /// How many errors were returned. Each counts, as long as the count can rise; if it cannot, the bytes count as
+    /// unknown.
     ghost errors: { Self → ℕ };
 
-    /// The references that it goes through.
+    /// The references that the target goes through.
     ghost names: { Self → List GName };
 
-    /// Sends some of the bytes from the first on, and tells how many; at least one where there is one.
+    /// Sends some of the bytes, from the first on, and returns how many: at least one, if there are any.
+    ///
+    /// # Errors
+    /// The target's own. No byte counts as sent then.
     fn send(&mut self, bytes: &[u8]) -> io::Result<usize>
         ensures names { names self.new ≡ names self.old }
         ensures count { IfOk result (λ n. n ≤ length bytes.now) }
@@ -49,7 +58,13 @@ impl<W: Target> Target for &mut W {
     }
 }
 
-/// Bytes that are kept in memory. A growth that is refused is its only error.
+/// A target that keeps the bytes in memory. It fails only if an allocation fails.
+///
+/// ```
+/// let mut target = Collected::new(rt.alloc());
+/// send_all(&mut target, b"fLaC")?;
+/// let bytes = target.into_bytes(); // b"fLaC"
+/// ```
 #[derive(Drop)]
 pub struct Collected {
     bytes: Vec<u8>,
@@ -57,6 +72,7 @@ pub struct Collected {
 }
 
 impl Collected {
+    /// Makes a target without bytes, which allocates by `alloc`.
     pub fn new(alloc: Global) -> Collected
         ensures sent { result.bytes.items ≡ [] }
         ensures errors { result.errors ≡ 0 }
@@ -67,7 +83,7 @@ impl Collected {
         }
     }
 
-    /// The bytes that were sent.
+    /// Returns the bytes that were sent.
     pub fn into_bytes(self) -> Vec<u8>
         ensures { result ≡ self.bytes }
     {

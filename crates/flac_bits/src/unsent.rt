@@ -18,7 +18,7 @@ use std::marker::Model;
 /// How many bytes are held at most.
 const HOLD: usize = 4096;
 
-/// An array of whole bytes, and the bits behind them.
+/// An array of whole bytes, and the bits after them.
 #[derive(Drop)]
 pub struct Unsent {
     rest: Rest,
@@ -48,7 +48,7 @@ impl Model for Unsent {
     ghost invariant = { λ u. (u.from ≤ u.end) × (u.end ≤ 4096) × (length u.bytes ≡ 4096) };
 }
 
-/// Writes a word at a place, its highest byte first.
+/// Writes a word at an index, its highest byte first.
 #[inline(always)]
 fn put_word(bytes: &mut [u8], place: usize, word: u64)
     requires { place + 8 ≤ length bytes.old }
@@ -58,6 +58,7 @@ fn put_word(bytes: &mut [u8], place: usize, word: u64)
 }
 
 impl Unsent {
+    /// Nothing is held.
     pub(crate) fn new() -> Unsent
         ensures { result ≡ record { bytes = []; rest = []; mark = record { unread = 0; bytes = 0; check8 = 0; check16 = 0; short = Truncated } } }
     {
@@ -72,7 +73,7 @@ impl Unsent {
         }
     }
 
-    /// Puts the n bits of a number behind those held, where they do not fill a word; false where they do.
+    /// Adds the n bits of a number to those held, if they do not fill a word; false if they do.
     #[inline(always)]
     pub(crate) fn put(&mut self, n: u32, value: u64) -> bool
         requires few { n ≤ 64 }
@@ -87,14 +88,14 @@ impl Unsent {
         true
     }
 
-    /// Whether one more word has room.
+    /// Whether there is room for one more word.
     pub(crate) fn has_room(&self) -> bool
         ensures { result ≡ true → length self.now.bytes + 8 ≤ 4096 }
     {
         self.end <= HOLD - 8
     }
 
-    /// Puts the n bits of a number behind those held, where they fill a word.
+    /// Adds the n bits of a number, which fill a word; there is room for it.
     #[inline(always)]
     pub(crate) fn fill(&mut self, n: u32, value: u64)
         requires room { length self.old.bytes + 8 ≤ 4096 }
@@ -108,14 +109,14 @@ impl Unsent {
         self.end += 8;
     }
 
-    /// How many bits of the byte that was begun are still to come.
+    /// How many bits the current byte still lacks.
     pub(crate) fn unread(&self) -> u32
         ensures { (result ≡ self.now.mark.unread) × (result < 8) }
     {
         (64 - self.rest.count()) % 8
     }
 
-    /// How many bytes were begun.
+    /// How many bytes were written, at most 2^64 - 1. A byte counts from its first bit on.
     pub(crate) fn bytes_begun(&self) -> u64
         ensures { result ≡ self.now.mark.bytes }
     {
@@ -123,6 +124,7 @@ impl Unsent {
         self.before.saturating_add((self.end + begun) as u64)
     }
 
+    /// The CRC-8 of the bits since the checks began.
     pub(crate) fn check8(&self) -> u8
         ensures { result ≡ self.now.mark.check8 }
     {
@@ -130,6 +132,7 @@ impl Unsent {
         self.rest.checked8(check)
     }
 
+    /// The CRC-16 of the bits since the checks began.
     pub(crate) fn check16(&self) -> u16
         ensures { result ≡ self.now.mark.check16 }
     {
@@ -137,7 +140,7 @@ impl Unsent {
         self.rest.checked16(check)
     }
 
-    /// The next byte of the bits behind the whole bytes.
+    /// Moves the first eight bits after the whole bytes into the array.
     fn settle_byte(&mut self)
         requires room { length self.old.bytes < 4096 }
         requires enough { 8 ≤ length self.old.rest }
@@ -150,7 +153,7 @@ impl Unsent {
         self.end += 1;
     }
 
-    /// How many bits stand behind the whole bytes.
+    /// How many bits there are after the whole bytes.
     fn rest_count(&self) -> u32
         ensures count { (result ≡ length self.now.rest) × (result ≤ 63) }
         ensures unread { (length self.now.rest + self.now.mark.unread) % 8 ≡ 0 }
@@ -158,7 +161,7 @@ impl Unsent {
         self.rest.count()
     }
 
-    /// All whole bytes of the bits held, as bytes.
+    /// Moves all whole bytes of the bits held into the array.
     pub(crate) fn settle(&mut self)
         requires { length self.old.bytes + 8 ≤ 4096 }
         ensures kept { KeepsBits self.old self.new }
@@ -170,7 +173,7 @@ impl Unsent {
         }
     }
 
-    /// Begins the checks anew, where no bits stand behind the whole bytes.
+    /// Restarts the checks; there are no bits after the whole bytes.
     pub(crate) fn start_checks(&mut self)
         requires { self.old.rest ≡ [] }
         ensures { self.new ≡ record self.old { mark = record self.old.mark { check8 = 0; check16 = 0 } } }

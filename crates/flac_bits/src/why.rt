@@ -1,4 +1,4 @@
-//! Why something was refused.
+//! The reason of an error.
 
 ghost use Rattle.std.specs.Prelude.{◌≡◌, Some};
 ghost use Rattle.flac_bits.specs.declared.why.Why.TheVariants.{Memory};
@@ -7,100 +7,105 @@ ghost use Rattle.flac_bits.specs.Reasons.{number_of, text_of};
 use std::alloc::{AllocError, AllocFailed};
 use std::fmt;
 
-/// Why something was refused. Each reason has a number, which [`Why::number`] returns.
+/// The reason of an error of reading, decoding or writing. Each has a number from 1 to 39, see [`Why::number`].
 ///
-/// It prints as its number and its name: `26 FrameCheck`.
+/// It prints as its number and its name: `26 FrameCheck`. `docs/errors.md` says of each what it means and what can be
+/// done. Sections are those of RFC 9639, if nothing else is said.
 #[derive(Clone, Copy, Debug, PartialEq, Eq)]
 pub enum Why {
-    /// The reader answered an error in this call.
+    /// The source returned an error in this call.
     Read,
-    /// A growth was refused in this call.
+    /// Out of memory: an allocation failed in this call.
     Memory,
-    /// The input ends inside an item.
+    /// The input ends inside a marker, block, frame or page.
     Truncated,
-    /// The first four bytes are not `fLaC`.
+    /// The first four bytes are not `fLaC` (section 6).
     BadMarker,
-    /// The first block is no STREAMINFO.
+    /// The first metadata block is not STREAMINFO (section 8.2).
     NotStreamInfoFirst,
-    /// The block type is 127.
+    /// A metadata block has type 127; on writing, a block that keeps raw bytes has a type outside 7 to 126 (section
+    /// 8.1).
     ForbiddenType,
-    /// The length of a block does not fit its kind or its fields.
+    /// The length of a block does not fit its type or its fields; on writing, a block is too long (section 8.1).
     BlockLength,
-    /// A value of STREAMINFO is out of its range.
+    /// A value of STREAMINFO is out of its range (section 8.2).
     BadStreamInfo,
-    /// A kind of block that occurs once at most occurs again.
+    /// STREAMINFO, the seek table or the Vorbis comment occurs twice (section 8).
     RepeatedBlock,
-    /// The points of a seek table do not rise, or a point follows a placeholder.
+    /// The points of a seek table do not rise, or a point follows a placeholder (section 8.5).
     SeekOrder,
-    /// A reserved bit of a cue sheet is set, or it has no track.
+    /// A reserved bit of a cue sheet is set, or it has no track; on writing, also too many tracks or indices (section
+    /// 8.7).
     CueSheet,
-    /// A frame does not begin with the sync code.
+    /// A frame does not begin with the sync code (section 9.1).
     BadSync,
-    /// A reserved or forbidden code in a frame header.
+    /// A frame header has a reserved or forbidden code (section 9.1).
     ReservedCode,
-    /// Allowed by the format, but not in the streamable subset.
+    /// Allowed by the format, but not in the streamable subset (section 7).
     NotSubset,
-    /// A coded number that is no number, or not in its shortest form.
+    /// A coded number is malformed, too long, or not in its shortest form (section 9.1.5).
     BadNumber,
-    /// The check of a frame header differs.
+    /// The CRC-8 of a frame header differs (section 9.1.8).
     HeaderCheck,
-    /// Rate, channel count or depth of a frame is not that of STREAMINFO.
+    /// Sample rate, channel count or depth of a frame is not that of STREAMINFO (section 8.2).
     HeaderMismatch,
-    /// The number of a frame or its blocking strategy does not follow.
+    /// The number of a frame does not follow the one before, or the blocking strategy changes (section 9.1.5).
     Sequence,
-    /// The block size does not fit STREAMINFO or the blocks before.
+    /// A block size does not fit STREAMINFO or the blocks before it (section 8.2).
     BlockSize,
-    /// A reserved subframe type, or too many wasted bits.
+    /// A subframe has a reserved type, its first bit is set, or it has too many wasted bits (sections 9.2.1 and 9.2.2).
     BadSubframe,
-    /// A forbidden precision or shift of a linear predictor.
+    /// A linear predictor has a forbidden precision or shift (section 9.2.6).
     BadPredictor,
-    /// A residual partition that does not fit the block, or a reserved coding method.
+    /// A predictor's order or a residual partition does not fit the block, or the coding method is reserved (section
+    /// 9.2.7).
     BadPartition,
-    /// A residual value out of its range.
+    /// A residual value is not strictly between -2^31 and 2^31 (section 9.2.7.3).
     ResidualRange,
-    /// The bits up to a whole byte are not zeros.
+    /// The bits up to a whole byte at the end of a frame are not zeros (section 9.3).
     NonzeroPadding,
-    /// A frame of more than 16777215 bytes.
+    /// A frame has more than 16777215 bytes, or a field needs a bit past a fence ([`crate::BitReader::fence`]).
     FrameTooLong,
-    /// The check of a frame differs.
+    /// The CRC-16 of a frame differs (section 9.3).
     FrameCheck,
     /// A restored sample does not fit its depth.
     SampleRange,
-    /// The number of samples is not the stated total.
+    /// The number of samples is not the one that STREAMINFO states (section 8.2).
     TotalMismatch,
-    /// The digest of the samples is not the stated one.
+    /// The MD5 digest of the samples is not the one that STREAMINFO states (section 8.2).
     Md5Mismatch,
-    /// The sink answered an error in this call.
+    /// The sink returned an error in this call.
     Sink,
-    /// A page does not begin with its pattern and version 0.
+    /// A page does not begin with `OggS` and version 0 (RFC 3533, section 6).
     BadPage,
-    /// The sum of a page differs.
+    /// The checksum of a page differs (RFC 3533, section 6).
     PageCheck,
-    /// A page does not follow the one before it, or follows the last one.
+    /// A page does not follow the one before it, or there are bytes after the page marked last (RFC 3533, section 6).
     PageOrder,
-    /// A page of another stream.
+    /// A page has another serial number (RFC 3533, section 6).
     OtherStream,
-    /// A packet ends inside its item, goes on behind it, or is missing.
+    /// A packet does not hold exactly one item, or a packet is missing (section 10.1).
     PacketLength,
-    /// The input ends, and no page was marked last.
+    /// The input ends, and no page was marked last (RFC 3533, section 6).
     NoEndPage,
-    /// The first page or packet is not that of FLAC in Ogg.
+    /// The first page or packet is not that of FLAC in Ogg; on writing, comments do not come first, or there is a seek
+    /// table (section 10.1).
     BadMapping,
-    /// An earlier call of this value refused.
+    /// An earlier call of this value failed, and it goes no further.
     Spent,
-    /// The writer answered an error in this call.
+    /// The target returned an error in this call.
     Write,
 }
 
 impl Why {
-    /// The number of the reason: 1 to 39.
+    /// The number of the reason, 1 to 39, in the order of the variants.
     pub fn number(self) -> u8
         ensures { result ≡ number_of self }
     {
         self as u8 + 1
     }
 
-    /// The number and the name of the reason: `26 FrameCheck`.
+    /// The number and the name of the reason, as `26 FrameCheck`.
     pub fn as_str(self) -> &'static str
         ensures { result.now ≡ text_of self }
     {

@@ -22,13 +22,14 @@ impl Model for Word {
 }
 
 impl Word {
+    /// No bits.
     pub(crate) fn empty() -> Word
         ensures { result ≡ [] }
     {
         Word { word: 0, count: 0 }
     }
 
-    /// The same bits in a word of its own.
+    /// A copy.
     #[inline(always)]
     pub(crate) fn copied(&self) -> Word
         ensures { result ≡ self.now }
@@ -47,7 +48,7 @@ impl Word {
         self.count
     }
 
-    /// The first n bits as a number.
+    /// Takes the first n bits as a number.
     #[inline(always)]
     pub(crate) fn take(&mut self, n: u32) -> u64
         requires { n ≤ length self.old }
@@ -59,7 +60,7 @@ impl Word {
         value
     }
 
-    /// Holds the lowest n bits of a value, which has no others.
+    /// The n bits of a value below 2^n.
     #[inline(always)]
     fn of_bits(value: u64, n: u32) -> Word
         requires few { n ≤ 63 }
@@ -72,7 +73,7 @@ impl Word {
         }
     }
 
-    /// Keeps the first n bits alone.
+    /// Keeps the first n bits only.
     #[inline(always)]
     pub(crate) fn keep(&mut self, n: u32)
         requires few { n ≤ 63 }
@@ -83,7 +84,7 @@ impl Word {
         *self = Word::of_bits(value, n);
     }
 
-    /// Holds one byte.
+    /// The bits of one byte.
     #[inline(always)]
     pub(crate) fn of_byte(byte: u8) -> Word
         ensures { result ≡ unsigned 8 byte }
@@ -94,7 +95,7 @@ impl Word {
         }
     }
 
-    /// Puts 32 bits behind those held.
+    /// Adds 32 bits to those held.
     #[inline(always)]
     pub(crate) fn put(&mut self, value: u32)
         requires { length self.old < 32 }
@@ -104,7 +105,7 @@ impl Word {
         self.count += 32;
     }
 
-    /// Puts so many of eight bytes behind the bits held as there is room for, and answers how many.
+    /// Adds the first of eight bytes, as many as there is room for, and returns how many.
     #[inline(always)]
     pub(crate) fn fill(&mut self, eight: u64) -> u32
         ensures few { result ≤ 7 }
@@ -118,7 +119,7 @@ impl Word {
         n
     }
 
-    /// Takes zeros and a one, where they are held and the zeros are within the limit.
+    /// Takes zeros and a one, if they are held and there are at most `limit` zeros.
     #[inline(always)]
     pub(crate) fn unary(&mut self, limit: u64) -> Option<u64>
         ensures some { IfSome result (λ q. (q ≤ limit) × (self.old ≡ unary_bits q ++ self.new)) }
@@ -134,7 +135,7 @@ impl Word {
         }
     }
 
-    /// Zeros, a one and k bits, where all are held and the zeros are within the limit.
+    /// Takes zeros, a one and k bits, if all are held and there are at most `limit` zeros.
     #[inline(always)]
     pub(crate) fn rice(&mut self, k: u32, limit: u64) -> Option<u64>
         requires k { k ≤ 30 }
@@ -153,7 +154,7 @@ impl Word {
             None
         }
     }
-    /// Zeros, a one and k bits, where all are held.
+    /// Takes zeros, a one and k bits, if all are held.
     #[inline(always)]
     pub(crate) fn code(&mut self, k: u32) -> Option<u64>
         requires { k ≤ 26 }
@@ -161,11 +162,11 @@ impl Word {
         ensures small { IfSome result (λ v. v ≤ 0xFFFF_FFFE) }
         ensures none { result ≡ None → self.new ≡ self.old }
     {
-        // 64 where no one is held: too many in any case
+        // 64 if no one is held: too many in any case
         let zeros = self.word.leading_zeros();
         let used = zeros + 1 + k;
         if used <= self.count {
-            // so that where k is known only one shift is by a number that is not
+            // so that only one shift is by an unknown number if k is known
             let ahead = self.word << zeros;
             let one_and_low = ahead >> (63 - k);
             self.word = ahead << (k + 1);

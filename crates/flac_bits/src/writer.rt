@@ -1,4 +1,4 @@
-//! Bits into a target of bytes.
+//! Writing of bits to a target of bytes.
 
 ghost use Rattle.std.specs.Prelude.{◌≡◌, ◌<◌, ◌≤◌, ◌+◌, ◌-◌, ◌*◌, ◌/◌, ◌%◌, ◌^◌, ◌++◌, [], true, length, IfOk, OnOk, IfErr};
 ghost use Rattle.flac_bits.specs.Bits.{unsigned, bits_of};
@@ -13,10 +13,13 @@ use crate::unsent::Unsent;
 use crate::why::Why;
 use std::marker::Model;
 
-/// Writes bit by bit into a target, the highest bit of a byte first.
+/// Writes to a target bit by bit, the highest bit of a byte first.
 ///
-/// Bytes are held and sent many at a time; [`BitWriter::finish`] sends what is held. After an error the target
-/// was sent a beginning of the bits that were to be written, and nothing more should be written.
+/// Up to 4096 bytes are held before they are sent; [`BitWriter::finish`] sends what is held. After an error the target
+/// has received a prefix of the bits that were to be written, and nothing more should be written.
+///
+/// # Errors
+/// Each call returns [`Why::Write`] if the target returned an error.
 #[derive(Drop)]
 pub struct BitWriter<W: Target> {
     target: W,
@@ -29,7 +32,7 @@ impl<W: Target> Model for BitWriter<W> {
     ghost view = { λ w. standing W.Target w.target w.held };
 }
 
-/// Room for one more word.
+/// Makes room for one more word, by sending what is held if need be.
 #[inline(always)]
 fn make_room<W: Target>(held: &mut Unsent, target: &mut W) -> Result<(), Why>
     ensures room { OnOk result (length held.new.bytes + 8 ≤ 4096) }
@@ -42,7 +45,7 @@ fn make_room<W: Target>(held: &mut Unsent, target: &mut W) -> Result<(), Why>
     held.send_to(target)
 }
 
-/// The n bits of a number, which fill a word.
+/// Writes the n bits of a number, which fill a word.
 #[inline(never)]
 fn put_more<W: Target>(held: &mut Unsent, target: &mut W, n: u32, value: u64) -> Result<(), Why>
     requires enough { 64 ≤ length held.old.rest + n }
@@ -55,7 +58,7 @@ fn put_more<W: Target>(held: &mut Unsent, target: &mut W, n: u32, value: u64) ->
     Ok(())
 }
 
-/// The checks begin anew where no bits stand behind the whole bytes.
+/// Restarts the checks if the bits written are whole bytes; else nothing changes.
 fn start<W: Target>(held: &mut Unsent, target: &mut W) -> Result<(), Why>
     ensures { Starts (standing W.Target target.old held.old) (standing W.Target target.new held.new) result }
 {
@@ -68,7 +71,7 @@ fn start<W: Target>(held: &mut Unsent, target: &mut W) -> Result<(), Why>
     Ok(())
 }
 
-/// All whole bytes are sent.
+/// Sends all whole bytes.
 fn send_rest<W: Target>(held: &mut Unsent, target: &mut W) -> Result<(), Why>
     ensures writes { Writes [] (standing W.Target target.old held.old) (standing W.Target target.new held.new) result }
     ensures whole { OnOk result (W.known target.old ≡ true → held.old.mark.unread ≡ 0 → bits_of (W.sent target.new) ≡ bits_of (W.sent target.old) ++ (bits_of held.old.bytes ++ held.old.rest)) }
@@ -87,6 +90,15 @@ fn lowest_bits(n: u32, value: i64) -> u64
 }
 
 impl<W: Target> BitWriter<W> {
+    /// Makes a writer that adds to what the target was sent. Both checks begin here, and no byte is counted yet.
+    ///
+    /// ```
+    /// let mut writer = BitWriter::new(Collected::new(rt.alloc()));
+    /// writer.put(4, 10)?;
+    /// writer.put_signed(4, -3)?;
+    /// writer.finish()?;
+    /// let bytes = writer.into_target().into_bytes(); // [0xAD]
+    /// ```
     pub fn new(target: W) -> BitWriter<W>
         ensures { result ≡ record {
           known = W.known target;
@@ -103,7 +115,10 @@ impl<W: Target> BitWriter<W> {
         }
     }
 
-    /// Writes the n bits of a number.
+    /// Writes a number below 2^n as n bits, the highest first. n is at most 64.
+    ///
+    /// # Errors
+    /// [`Why::Write`] if the target fails.
     #[inline(always)]
     pub fn put(&mut self, n: u32, value: u64) -> Result<(), Why>
         requires small { n ≤ 64 }
@@ -116,7 +131,10 @@ impl<W: Target> BitWriter<W> {
         put_more(&mut self.held, &mut self.target, n, value)
     }
 
-    /// Writes the n lowest bits of a signed number in two's complement.
+    /// Writes the n lowest bits of a signed number in two's complement. n is 1 to 64.
+    ///
+    /// # Errors
+    /// [`Why::Write`] if the target fails.
     pub fn put_signed(&mut self, n: u32, value: i64) -> Result<(), Why>
         requires { (1 ≤ n) × (n ≤ 64) }
         ensures { Writes (signed n value) self.old self.new result }
@@ -125,6 +143,9 @@ impl<W: Target> BitWriter<W> {
     }
 
     /// Writes q zeros and a one.
+    ///
+    /// # Errors
+    /// [`Why::Write`] if the target fails.
     pub fn put_unary(&mut self, q: u64) -> Result<(), Why>
         ensures { Writes (unary_bits q) self.old self.new result }
     {
@@ -135,7 +156,11 @@ impl<W: Target> BitWriter<W> {
         self.put((q % 64) as u32 + 1, 1)
     }
 
-    /// Writes a number under a Rice code: its bits above the lowest k as zeros and a one, and these k bits.
+    /// Writes a number under a Rice code with the parameter k, at most 32: value / 2^k zeros, a one, and the lowest k
+    /// bits (RFC 9639, section 9.2.7.2). The number of a residual value is the folded one.
+    ///
+    /// # Errors
+    /// [`Why::Write`] if the target fails.
     #[inline(always)]
     pub fn put_rice(&mut self, k: u32, value: u64) -> Result<(), Why>
         requires { k ≤ 32 }
@@ -149,6 +174,7 @@ impl<W: Target> BitWriter<W> {
         self.put_long_rice(k, zeros, low)
     }
 
+    /// Writes a Rice code of 31 zeros or more, in two parts.
     #[inline(never)]
     fn put_long_rice(&mut self, k: u32, zeros: u64, low: u64) -> Result<(), Why>
         requires k { k ≤ 32 }
@@ -159,7 +185,10 @@ impl<W: Target> BitWriter<W> {
         self.put(k, low)
     }
 
-    /// Writes zeros up to the next whole byte.
+    /// Writes zeros up to the next whole byte, 0 to 7 of them.
+    ///
+    /// # Errors
+    /// [`Why::Write`] if the target fails.
     pub fn align(&mut self) -> Result<(), Why>
         ensures { Writes (unsigned self.old.mark.unread 0) self.old self.new result }
     {
@@ -168,7 +197,10 @@ impl<W: Target> BitWriter<W> {
         self.put(unread, 0)
     }
 
-    /// Writes whole bytes.
+    /// Writes bytes, at a whole byte or inside one.
+    ///
+    /// # Errors
+    /// [`Why::Write`] if the target fails.
     pub fn put_bytes(&mut self, bytes: &[u8]) -> Result<(), Why>
         ensures { Writes (bits_of bytes.now) self.old self.new result }
     {
@@ -178,35 +210,44 @@ impl<W: Target> BitWriter<W> {
         Ok(())
     }
 
-    /// How many bytes were begun since the writer was made; at most 2^64 - 1.
+    /// How many bytes were written since the writer was made, at most 2^64 - 1. A byte counts from its first bit on.
     pub fn bytes_written(&self) -> u64
         ensures { result ≡ self.now.mark.bytes }
     {
         self.held.bytes_begun()
     }
 
-    /// The remainder of the bits since the checks began by x^8 + x^2 + x + 1 (RFC 9639, section 9.1.8).
+    /// The CRC-8 of the bits written since the checks began: generator x^8 + x^2 + x + 1, from 0 (RFC 9639, section
+    /// 9.1.8).
     pub fn check8(&self) -> u8
         ensures { result ≡ self.now.mark.check8 }
     {
         self.held.check8()
     }
 
-    /// The remainder of the bits since the checks began by x^16 + x^15 + x^2 + 1 (RFC 9639, section 9.3).
+    /// The CRC-16 of the bits written since the checks began: generator x^16 + x^15 + x^2 + 1, from 0 (RFC 9639,
+    /// section 9.3).
     pub fn check16(&self) -> u16
         ensures { result ≡ self.now.mark.check16 }
     {
         self.held.check16()
     }
 
-    /// Begins the checks anew where the bits written are whole bytes; elsewhere they go on.
+    /// Restarts both checks from 0 if the bits written are whole bytes; else they go on.
+    ///
+    /// # Errors
+    /// [`Why::Write`] if the target fails.
     pub fn start_checks(&mut self) -> Result<(), Why>
         ensures { Starts self.old self.new result }
     {
         start(&mut self.held, &mut self.target)
     }
 
-    /// Sends what is held. At a whole byte the target was then sent all bits.
+    /// Sends the whole bytes that are held. If the bits written are whole bytes, the target has then received all of
+    /// them; call [`BitWriter::align`] before if they may not be.
+    ///
+    /// # Errors
+    /// [`Why::Write`] if the target fails.
     pub fn finish(&mut self) -> Result<(), Why>
         ensures writes { Writes [] self.old self.new result }
         ensures whole { OnOk result (self.old.known ≡ true → self.old.mark.unread ≡ 0 → bits_of self.new.sent ≡ self.old.bits) }
@@ -214,7 +255,7 @@ impl<W: Target> BitWriter<W> {
         send_rest(&mut self.held, &mut self.target)
     }
 
-    /// The target, without the bits that are held.
+    /// Returns the target. Bits that are held are lost: call [`BitWriter::finish`] before.
     pub fn into_target(self) -> W
         ensures known { W.known result ≡ self.known }
         ensures sent { W.sent result ≡ self.sent }

@@ -7,7 +7,7 @@ use flac_frame::FrameView;
 use flac_meta::Block;
 use flac_native::{Sink, SinkFault};
 
-/// Counts frames, and the samples of each channel. The counts stop at 2^64 - 1.
+/// Counts frames, and the samples of each channel, up to 2^64 - 1.
 #[derive(Drop)]
 pub(crate) struct Counts {
     pub(crate) frames: u64,

@@ -1,4 +1,4 @@
-//! Decodes a stream, native or Ogg.
+//! Decoding of a stream, native or Ogg.
 
 ghost use Rattle.std.specs.Prelude.{◌≡◌, true, List, OnOk};
 ghost use Rattle.flac_bits.specs.Handing.{TakesAll};

@@ -1,4 +1,4 @@
-//! Raw samples, encoded.
+//! Encoding of raw samples.
 
 ghost use Rattle.std.specs.Prelude.{◌≡◌, ◌≢◌, ◌≤◌, ◌<◌, ◌⊎◌, true, map, IfOk, IfErr, OnOk, OnErr, Some, None};
 ghost use Rattle.flac_bits.specs.Bits.{bits_of};
@@ -19,13 +19,13 @@ use flac_native::{EncodeFault, Plan, encode};
 use flac_ogg::encode_ogg;
 use std::alloc::Global;
 
-/// The program's name in the streams that it writes.
+/// The vendor in the comments of the streams that are written.
 const VENDOR: &[u8] = b"flac profile 1";
 
 /// Why raw samples are not encoded.
 #[derive(Clone, Copy, Debug, PartialEq, Eq)]
 pub(crate) enum Refusal {
-    /// The input cannot be read, or a growth is refused.
+    /// The input cannot be read, the comments are too long, or an allocation fails.
     Input(Why),
     /// The samples or their format cannot be encoded.
     Setup(SetupFault),
@@ -60,7 +60,7 @@ impl From<EncodeFault> for Refusal {
 }
 
 impl Refusal {
-    /// The number and the name of the reason: `48 RawLength`.
+    /// The number and the name of the reason, as `48 RawLength`.
     pub(crate) fn as_str(self) -> &'static str
         ensures { result.now ≡ text_of self }
     {
@@ -73,7 +73,7 @@ impl Refusal {
     }
 }
 
-/// The first reason, if there is one, for which samples of a format cannot be encoded, whatever they are.
+/// The first reason, if there is one, for which no samples of this format can be encoded: rate, depth, channels.
 #[tactic(auto, unfolding(crate::specs::Refusals::format_fault), using(crate::proofs::Rows::depth_range))]
 fn format_fault(format: Format) -> Option<SetupFault>
     ensures value { result ≡ format_fault format }
@@ -92,11 +92,11 @@ fn format_fault(format: Format) -> Option<SetupFault>
     None
 }
 
-/// The samples of a source: just its bytes.
+/// The samples that the bytes of a source are.
 ///
 /// # Errors
-/// The first reason for which they are no samples of the format: rate, depth, channels, the number of bytes, a sample that is too large, too many
-/// samples. An error of the source, or out of memory.
+/// The first reason for which they are no samples of the format: rate, depth, channels, the number of bytes, a sample
+/// that does not fit the depth, too many samples. An error of the source, or out of memory.
 fn audio_of<R: Source>(alloc: Global, source: &mut R, format: Format) -> Result<Audio, Refusal>
     ensures raw { IfOk result (λ a. R.known source.old ≡ true → IsRaw format (R.coming source.old) a) }
     ensures sound { IfOk result (λ a. R.known source.old ≡ true → a ≡ raw_sound format (R.coming source.old)) }
@@ -117,7 +117,7 @@ fn audio_of<R: Source>(alloc: Global, source: &mut R, format: Format) -> Result<
     Ok(audio)
 }
 
-/// Comments of these words.
+/// The comments that these words are, with the program's vendor.
 pub(crate) fn comments_of(alloc: Global, words: &[&str]) -> Result<Comments, Why>
     ensures comments { IfOk result (λ comments. comments ≡ comments_of (map (λ word. word.now) words.now)) }
     ensures memory { IfErr result (λ e. e ≡ Why.Memory) }
@@ -134,7 +134,7 @@ pub(crate) fn comments_of(alloc: Global, words: &[&str]) -> Result<Comments, Why
     })
 }
 
-/// The one block behind STREAMINFO: comments of these words.
+/// The one block after STREAMINFO: comments of these words.
 fn comment_list(alloc: Global, words: &[&str]) -> Result<BlockList, Why>
     ensures list { IfOk result (λ list. list ≡ comment_list (map (λ word. word.now) words.now)) }
     ensures accepted { OnOk result (list_fault info_seen (comment_list (map (λ word. word.now) words.now)) ≡ None) }
@@ -146,7 +146,7 @@ fn comment_list(alloc: Global, words: &[&str]) -> Result<BlockList, Why>
     BlockList::new(blocks)
 }
 
-/// Writes what was given as a stream. Where it is refused, nothing was sent, or a beginning of the stream.
+/// Writes the samples as a stream. After an error, nothing or a prefix of the stream was sent.
 fn write_stream<W: Target>(
     alloc: Global,
     container: Container,
@@ -168,11 +168,12 @@ fn write_stream<W: Target>(
     }
 }
 
-/// Encodes the raw samples of a source, and writes the stream. Where it is refused, nothing was written, or a beginning of the stream.
+/// Encodes the raw samples of a source, and writes the stream. After an error, nothing or a prefix of the stream was
+/// sent.
 ///
 /// # Errors
-/// The first reason for which the samples cannot be encoded as asked for: the samples, the block size and the seek points, the comments, the
-/// container. An error of the source or of the target, or out of memory.
+/// The first reason for which the samples cannot be encoded as asked for: the samples, the block size and the seek
+/// points, the comments, the container. An error of the source or of the target, or out of memory.
 pub(crate) fn encode_raw<R: Source, W: Target>(
     alloc: Global,
     source: &mut R,

@@ -11,7 +11,7 @@ pub(crate) struct Failures {
 }
 
 impl Failures {
-    /// Counts one more, and answers it. The count stops at 2^64 - 1.
+    /// Counts one more failure, up to 2^64 - 1, and returns it as an error.
     pub(crate) fn fail(&mut self) -> Result<(), SinkFault>
         ensures refused { OnOk result ⊥ }
         ensures counted { self.old.count < 18446744073709551615 → self.old.count < self.new.count }

@@ -1,4 +1,4 @@
-//! The samples of a frame, sent to a target.
+//! Sending of the samples of a frame.
 
 ghost use Rattle.std.specs.Prelude.{◌≡◌, ◌≤◌, ◌<◌, ◌++◌, true, OnOk, OnErr};
 ghost use Rattle.flac_native.specs.Message.{rows_bytes};
@@ -8,13 +8,13 @@ use flac_bits::{Target, Why, send_all};
 use flac_frame::FrameView;
 use flac_native::put_rows;
 
-/// How many bytes are sent at once at most.
+/// How many bytes are sent at once, at most.
 const ROOM: usize = 32768;
 
-/// How many rows are sent at once at most. Each has at most 8 samples of 4 bytes.
+/// How many inter-channel samples are sent at once, at most. Each has at most 8 samples of 4 bytes.
 const ROWS: usize = 1024;
 
-/// Sends the samples of a frame.
+/// Sends the samples of a frame, interleaved, `width` bytes each.
 pub(crate) fn send_frame<W: Target>(
     frame: &FrameView<'_>,
     width: usize,

@@ -1,4 +1,4 @@
-//! The program `flac` as a library: a job is run over a source and targets.
+//! The program `flac` as a library: [`run`] does a job over a source and targets.
 #![tactic(auto)]
 
 mod counts;

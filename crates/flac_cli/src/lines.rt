@@ -1,4 +1,4 @@
-//! Lines of text, sent to a target.
+//! Lines of text for a target.
 
 ghost use Rattle.std.specs.Prelude.{◌≡◌, ◌≤◌, ◌<◌, ◌+◌, ◌++◌, true, [], length, take, OnOk, OnErr};
 ghost use Rattle.flac_cli.specs.Lined.{Adds};
@@ -8,10 +8,10 @@ use flac_bits::{Target, Why, send_all};
 use std::fmt;
 use std::fmt::Write;
 
-/// How many bytes are sent at once at most.
+/// How many bytes are held before they are sent.
 const ROOM: usize = 1024;
 
-/// Text on its way to a target. It allocates no memory, and sends what it holds when its room is full.
+/// A buffer of text for a target. It allocates no memory, and sends what it holds when it is full.
 #[derive(Drop)]
 pub(crate) struct Lines<W: Target> {
     target: W,
@@ -21,6 +21,7 @@ pub(crate) struct Lines<W: Target> {
 }
 
 impl<W: Target> Lines<W> {
+    /// An empty buffer over the target.
     pub(crate) fn new(target: W) -> Lines<W>
         ensures target { result.target ≡ target }
         ensures held { result.held ≡ 0 }
@@ -61,7 +62,7 @@ impl<W: Target> Lines<W> {
         self.held = end;
     }
 
-    /// Takes a text: holds it where there is room, and sends it otherwise.
+    /// Adds a text: it is held if there is room, and sent otherwise.
     ///
     /// # Errors
     /// [`Why::Write`] if the target fails.
@@ -97,7 +98,7 @@ impl<W: Target> fmt::Write for Lines<W> {
     }
 }
 
-/// Sends the line of a fault through a buffer.
+/// Sends the line of an error through a buffer.
 fn put_line<W: Target>(lines: &mut Lines<W>, path: &str, text: &str) -> Result<(), Why>
     requires { lines.old.held ≡ 0 }
     ensures { Adds W.Target (fault_line path.now text.now) lines.old.target lines.new.target [] [] result }
@@ -110,7 +111,7 @@ fn put_line<W: Target>(lines: &mut Lines<W>, path: &str, text: &str) -> Result<(
     lines.send()
 }
 
-/// Sends the line of a fault: `flac: PATH: TEXT`.
+/// Sends the line of an error: `flac: PATH: TEXT`.
 ///
 /// # Errors
 /// [`Why::Write`] if the target fails.
@@ -122,7 +123,7 @@ pub(crate) fn write_line<E: Target>(err: &mut E, path: &str, text: &str) -> Resu
     put_line(&mut lines, path, text)
 }
 
-/// Writes the line of a fault: `flac: PATH: FAULT`. If it cannot be written, there is no one left to report it to.
+/// Writes the line of an error: `flac: PATH: FAULT`. If it cannot be written, there is no one left to report it to.
 pub(crate) fn write_fault<E: Target, F: fmt::Display>(err: &mut E, path: &str, fault: &F) {
     let mut lines = Lines::new(err);
     if writeln!(lines, "flac: {path}: {fault}").is_ok() {

@@ -1,4 +1,4 @@
-//! The lines of `flac list`: each metadata block, and what stands in it.
+//! The lines of `flac list`: each metadata block, and its fields.
 
 use crate::texts::{Digits, Escaped};
 use flac_meta::{Block, Comments, CueSheet, CueTrack, Picture, SeekTable, StreamInfo};
@@ -24,8 +24,8 @@ impl fmt::Display for TypeName<'_> {
     }
 }
 
-/// Writes the lines of a block: `block I NAME LENGTH`, with its index and the length of its content in bytes, and then its
-/// fields, with two leading spaces.
+/// Writes the lines of a block: `block I NAME LENGTH`, with its index and the length of its content in bytes, and then
+/// its fields, each line with two leading spaces.
 ///
 /// # Errors
 /// That of the writer.
@@ -47,6 +47,7 @@ pub(crate) fn write_block<W: Write>(lines: &mut W, index: u64, block: &Block) ->
     }
 }
 
+/// Writes the fields of a STREAMINFO.
 fn write_info<W: Write>(lines: &mut W, info: &StreamInfo) -> fmt::Result {
     let (least_block, greatest_block) = (info.least_block(), info.greatest_block());
     let (least_frame, greatest_frame) = (info.least_frame(), info.greatest_frame());
@@ -65,6 +66,7 @@ fn write_info<W: Write>(lines: &mut W, info: &StreamInfo) -> fmt::Result {
     writeln!(lines, "  md5 {digest}")
 }
 
+/// Writes a line for each seek point.
 fn write_points<W: Write>(lines: &mut W, table: &SeekTable) -> fmt::Result {
     for point in table.points() {
         if point.sample == u64::MAX {
@@ -77,6 +79,7 @@ fn write_points<W: Write>(lines: &mut W, table: &SeekTable) -> fmt::Result {
     Ok(())
 }
 
+/// Writes the vendor and a line for each comment.
 fn write_comments<W: Write>(lines: &mut W, comments: &Comments) -> fmt::Result {
     let vendor = Escaped(comments.vendor.as_slice());
     writeln!(lines, "  vendor {vendor}")?;
@@ -96,6 +99,7 @@ fn without_zeros(bytes: &[u8]) -> &[u8] {
     &bytes[..end]
 }
 
+/// Writes the fields of a cue sheet and its tracks.
 fn write_sheet<W: Write>(lines: &mut W, sheet: &CueSheet) -> fmt::Result {
     let catalogue = Escaped(without_zeros(&sheet.catalogue));
     let (lead_in, cd) = (sheet.lead_in, u8::from(sheet.cd));
@@ -106,6 +110,7 @@ fn write_sheet<W: Write>(lines: &mut W, sheet: &CueSheet) -> fmt::Result {
     Ok(())
 }
 
+/// Writes the fields of a track and its index points.
 fn write_track<W: Write>(lines: &mut W, track: &CueTrack) -> fmt::Result {
     let (number, offset) = (track.number, track.offset);
     let isrc = Escaped(without_zeros(&track.isrc));
@@ -122,6 +127,7 @@ fn write_track<W: Write>(lines: &mut W, track: &CueTrack) -> fmt::Result {
     Ok(())
 }
 
+/// Writes the fields of a picture, but not its data.
 fn write_picture<W: Write>(lines: &mut W, picture: &Picture) -> fmt::Result {
     let kind = picture.kind;
     let media = Escaped(picture.media.as_slice());

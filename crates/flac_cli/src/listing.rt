@@ -10,7 +10,7 @@ use flac_frame::FrameView;
 use flac_meta::Block;
 use flac_native::{Sink, SinkFault};
 
-/// Writes the lines of each block, those of one block at once.
+/// Writes the lines of each metadata block, those of one block at once.
 #[derive(Drop)]
 pub(crate) struct Listing<W: Target> {
     pub(crate) lines: Lines<W>,
@@ -20,6 +20,7 @@ pub(crate) struct Listing<W: Target> {
 }
 
 impl<W: Target> Listing<W> {
+    /// A listing that begins at block 0.
     pub(crate) fn new(target: W) -> Listing<W>
         ensures { result.failures.count ≡ 0 }
     {

@@ -1,4 +1,4 @@
-//! Raw samples, read from a source.
+//! Reading of raw samples from a source.
 
 ghost use Rattle.std.specs.Prelude.{◌≡◌, ◌≢◌, ◌≤◌, ◌<◌, ◌+◌, ◌*◌, ◌%◌, ◌++◌, [], true, length, map, take, slice_index_or, ℕ, IfOk, IfErr, IfSome, OnOk, OnErr, None};
 ghost use Rattle.flac_bits.specs.Signed.{FitsBits};
@@ -9,13 +9,14 @@ use byteorder::{ByteOrder, LittleEndian};
 use flac_bits::{Source, Why};
 use std::alloc::Global;
 
-/// How many bytes are asked for at once.
+/// How many bytes are read at once, at most.
 const PIECE: usize = 16384;
 
-/// Fills the first so many places with the next bytes of a source, and answers how many there were: fewer where the source ends.
+/// Fills the front of `places` with the next bytes of a source, at most `most`, and returns how many: fewer if the
+/// source ends.
 ///
 /// # Errors
-/// [`Why::Read`] where the source answers an error.
+/// [`Why::Read`] if the source returns an error.
 fn fill<R: Source>(source: &mut R, places: &mut [u8], most: usize) -> Result<usize, Why>
     requires { most ≤ length places.old }
     ensures few { IfOk result (λ n. n ≤ most) }
@@ -39,7 +40,7 @@ fn fill<R: Source>(source: &mut R, places: &mut [u8], most: usize) -> Result<usi
     Ok(count)
 }
 
-/// The number of 1 to 4 bytes in two's complement, the lowest byte first.
+/// The number that 1 to 4 bytes are in two's complement, the lowest byte first.
 #[inline(always)]
 fn sample(bytes: &[u8]) -> i32
     requires { (1 ≤ length bytes.now) × (length bytes.now ≤ 4) }
@@ -50,7 +51,7 @@ fn sample(bytes: &[u8]) -> i32
     LittleEndian::read_int(bytes, bytes.len()) as i32
 }
 
-/// What [`push_samples`] does, for a width that its caller fixes: it is made anew for each of them.
+/// What [`push_samples`] does, for a width that its caller fixes: it is compiled anew for each width.
 #[inline(always)]
 fn push_samples_of(
     piece: &[u8],
@@ -73,7 +74,8 @@ fn push_samples_of(
     Ok(())
 }
 
-/// Appends the samples of one channel of rows of samples, which begin at this byte of each row and have so many bytes.
+/// Adds the samples of one channel to `samples`. The piece has `rows` inter-channel samples of `row` bytes each, in
+/// which the channel's sample begins at byte `start` and has `width` bytes.
 fn push_samples(
     piece: &[u8],
     rows: usize,
@@ -96,7 +98,7 @@ fn push_samples(
     }
 }
 
-/// Appends the samples of so many rows to those of their channels.
+/// Adds the samples of `rows` inter-channel samples to those of their channels.
 fn push_rows(piece: &[u8], rows: usize, width: usize, lists: &mut [Vec<i32>]) -> Result<(), Why>
     requires channels { (1 ≤ length lists.old) × (length lists.old ≤ 8) }
     requires width { (1 ≤ width) × (width ≤ 4) }
@@ -119,7 +121,7 @@ fn push_rows(piece: &[u8], rows: usize, width: usize, lists: &mut [Vec<i32>]) ->
     Ok(())
 }
 
-/// So many channels of no samples.
+/// A list without samples for each of `channels` channels.
 fn no_samples(alloc: Global, channels: usize) -> Result<Vec<Vec<i32>>, Why>
     ensures many { IfOk result (λ lists. length lists.items ≡ channels) }
     ensures none { IfOk result (λ lists. (c : ℕ) → slice_index_or (map (λ v. v.items) lists.items) c [] ≡ []) }
@@ -133,11 +135,11 @@ fn no_samples(alloc: Global, channels: usize) -> Result<Vec<Vec<i32>>, Why>
     Ok(lists)
 }
 
-/// The samples of each of 1 to 8 channels, which are all bytes of a source: interleaved, 1 to 4 bytes each, the lowest first. `None` where the
-/// last row is not whole. At no time more than a piece of the bytes is held.
+/// Reads the samples of 1 to 8 channels, which are all bytes of a source: interleaved, 1 to 4 bytes each, the lowest
+/// first. `None` if the last inter-channel sample is not whole. The bytes are read in pieces of at most 16384.
 ///
 /// # Errors
-/// [`Why::Read`] where the source answers an error, [`Why::Memory`] where a growth is refused.
+/// [`Why::Read`] if the source returns an error, [`Why::Memory`] if an allocation fails.
 pub(crate) fn read_channels<R: Source>(
     alloc: Global,
     source: &mut R,

@@ -1,4 +1,4 @@
-//! Streams with other comments.
+//! Writing of a stream with other comments.
 
 ghost use Rattle.std.specs.Prelude.{◌≡◌, true, map, OnOk};
 ghost use Rattle.flac_bits.specs.Bits.{bits_of};
@@ -9,7 +9,7 @@ use flac_bits::{Source, Target, Why};
 use flac_native::{RetagFault, retag};
 use std::alloc::Global;
 
-/// Writes a stream with comments of these words in place of its own.
+/// Writes a stream with these words as comments in place of its own.
 pub(crate) fn retag_with<R: Source, W: Target>(
     alloc: Global,
     source: &mut R,

@@ -93,7 +93,8 @@ fn write_counts<O: Target>(out: &mut O, counts: &Counts) -> Result<(), Why>
     put_counts(&mut lines, counts)
 }
 
-/// Writes the line of a fault, and returns the status 1. The path is that of the file at fault.
+/// Writes the line of an error, and returns the status 1. The path is that of the job's output if `of_output` is true,
+/// else that of its input.
 fn refuse<E: Target, F: Display>(err: &mut E, job: &Job<'_>, of_output: bool, fault: &F) -> u8
     ensures { result ≡ 1 }
 {
@@ -105,7 +106,7 @@ fn refuse<E: Target, F: Display>(err: &mut E, job: &Job<'_>, of_output: bool, fa
     1
 }
 
-/// Writes the line of a refused encoding, and returns the status 1.
+/// Writes the line of an encoding that failed, and returns the status 1.
 fn refuse_encoding<E: Target>(err: &mut E, input: &str, output: &str, refusal: Refusal) -> u8
     ensures status { result ≡ 1 }
     ensures line { E.known err.old ≡ true → E.errors err.new ≡ E.errors err.old → E.sent err.new ≡ E.sent err.old ++ fault_line (path_of input.now output.now refusal) (text_of refusal) }
@@ -119,13 +120,16 @@ fn refuse_encoding<E: Target>(err: &mut E, input: &str, output: &str, refusal: R
     1
 }
 
-/// Whether the file at fault is the one that the job writes.
+/// Whether the error is one of the file that the job writes.
 fn is_of_output(why: Why) -> bool {
     matches!(why, Why::Sink | Why::Write)
 }
 
-/// Does a job over its devices, and answers the status: 0 where it is done; 1 where it is refused, and then the fault's line
-/// was written to `err`. `target` is the file that the job writes, where there is one.
+/// Does a job, and returns the exit status: 0 if it is done, 1 if it failed.
+///
+/// `source` is the file that the job reads, `target` the one that it writes, if it writes one; `out` and `err` are
+/// standard output and standard error. After status 1 the line of the error was written to `err`, if that could be
+/// written. The clauses say so of encoding only.
 pub fn run<R: Source, W: Target, O: Target, E: Target>(
     alloc: Global,
     job: &Job<'_>,
@@ -134,24 +138,27 @@ pub fn run<R: Source, W: Target, O: Target, E: Target>(
     out: &mut O,
     err: &mut E,
 ) -> u8
-    // It is done only where the input is a stream, or is to be encoded.
+    // Test, decode and list are done only if the input is a stream.
     ensures stream { AsksStream job.now → result ≡ 0 → Tells R.Source source.old source.new → (parts : List Piece) × IsStream parts (R.coming source.old) (R.behind source.old) }
-    // A test has then added to standard output just the line of the stream's counts.
+    // After status 0, a test has added to standard output exactly the line of the stream's counts.
     ensures tested { AsksTest job.now → result ≡ 0 → Tells R.Source source.old source.new → O.known out.old ≡ true →
         (parts : List Piece) × IsStream parts (R.coming source.old) (R.behind source.old) × (O.sent out.new ≡ O.sent out.old ++ counts_line parts) }
-    // A decoding has then added to the file just the samples of its frames.
+    // After status 0, a decoding has added to the file exactly the samples of the stream's frames.
     ensures decoded { AsksDecode job.now → result ≡ 0 → Tells R.Source source.old source.new → W.known target.old ≡ true →
         (parts : List Piece) × IsStream parts (R.coming source.old) (R.behind source.old) × (W.sent target.new ≡ W.sent target.old ++ all_samples 0 parts) }
-    // An encoding has then added to the file a stream of just the samples that the input is.
+    // After status 0, an encoding has added to the file a stream of exactly the samples that the input is.
     ensures encoded { result ≡ 0 → R.known source.old ≡ true → W.known target.old ≡ true → HasEncoded job.now (R.coming source.old) (bits_of (W.sent target.old)) (bits_of (W.sent target.new)) }
-    // There was then no reason to refuse it.
+    // After status 0 there was no reason to refuse the encoding.
     ensures accepted { result ≡ 0 → R.known source.old ≡ true → CanBeEncoded job.now (R.coming source.old) }
-    // Where it is refused, it has added nothing, or a beginning of such a stream.
+    // After status 1, an encoding has added nothing, or a prefix of such a stream.
     ensures begun { result ≡ 1 → R.known source.old ≡ true → W.known target.old ≡ true → HasBegun job.now (R.coming source.old) (bits_of (W.sent target.old)) (bits_of (W.sent target.new)) }
-    // Where there is one it is refused, and its line was added to standard error. Without one it is done in silence, but where memory ran out: then the line says that.
+    // If no device fails: if there is a reason to refuse the encoding, the status is 1, and the line of the first one
+    // was added to standard error; if there is none, the status is 0, and nothing was added. Or memory ran out: then
+    // the status is 1, and the line says that.
     ensures refused { Tells R.Source source.old source.new → Serves W.Target target.old target.new → Serves E.Target err.old err.new →
         Reports job.now (R.coming source.old) result (E.sent err.old) (E.sent err.new) }
-    // A retagging has then added to the file the same STREAMINFO, the comments, the other blocks and the rest of the input.
+    // After status 0, a retagging has added to the file the same STREAMINFO, the comments, the other blocks and the
+    // rest of the input.
     ensures retagged { result ≡ 0 → R.known source.old ≡ true → W.known target.old ≡ true → HasRetagged job.now (R.coming source.old) (R.behind source.old) (bits_of (W.sent target.old)) (bits_of (W.sent target.new)) }
 {
     match job {

@@ -11,17 +11,18 @@ use flac_meta::Block;
 use flac_native::{Sink, SinkFault};
 
 /// Writes the samples of each frame: interleaved, signed little-endian, each sign-extended to whole bytes. It holds no
-/// bytes between frames.
+/// bytes from one frame to the next.
 #[derive(Drop)]
 pub(crate) struct SampleWriter<W: Target> {
     pub(crate) target: W,
-    /// Bits a sample, as STREAMINFO told them; 0 before it.
+    /// Bits per sample, as STREAMINFO states them; 0 before it.
     pub(crate) depth: u8,
     pub(crate) failures: Failures,
     ghost range: { depth ≤ 32 },
 }
 
 impl<W: Target> SampleWriter<W> {
+    /// A writer of samples that has seen no STREAMINFO.
     pub(crate) fn new(target: W) -> SampleWriter<W>
         ensures target { result.target ≡ target }
         ensures depth { result.depth ≡ 0 }

@@ -3,7 +3,8 @@
 use hex::encode_to_slice;
 use std::fmt;
 
-/// Bytes as a text: those from 20 to 7E (hexadecimal) but the backslash as themselves, all others as `\x` and two digits.
+/// Bytes as a text: those from 20 to 7E (hexadecimal) except the backslash as themselves, all others as `\x` and two
+/// digits.
 #[derive(Clone, Copy)]
 pub(crate) struct Escaped<'a>(pub(crate) &'a [u8]);
 
@@ -19,7 +20,7 @@ impl fmt::Display for Escaped<'_> {
     }
 }
 
-/// Bytes as hexadecimal digits, two lower-case ones a byte.
+/// Bytes as hexadecimal digits, two lower-case ones for each byte.
 #[derive(Clone, Copy)]
 pub(crate) struct Digits<'a>(pub(crate) &'a [u8]);
 

@@ -97,7 +97,7 @@ stands_of depth [] (s ∷ ss) a = absurd a
 stands_of depth (f ∷ fs) [] a = absurd a
 stands_of depth (f ∷ fs) (s ∷ ss) a = (a.0.member, stands_of depth fs ss a.1)
 
-code_once : (b : Bool) (c n : ℕ) → cond b (c + 1) 2 ≡ n → (n ≡ 2 → ⊥) → c + 1 ≡ n
+pub code_once : (b : Bool) (c n : ℕ) → cond b (c + 1) 2 ≡ n → (n ≡ 2 → ⊥) → c + 1 ≡ n
 code_once true c n e other = e
 code_once false c n e other = absurd (other (sym e))
 

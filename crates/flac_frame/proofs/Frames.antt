@@ -1,43 +1,44 @@
 -- A frame of channels each by itself, as it is written.
-use Rattle.std.proofs.Common.{◌≡◌, ◌∙◌, refl, sym, ap, subst, ℕ, ◌+◌, ◌-◌, ◌≤◌, ◌<◌, ◌^◌, arith, ℤ, Bool, true, nat_lt, List, [], ◌∷◌, length, map, Option, Some, None, is_some, Result, All, flat_map, take, drop, get_or}
+use Rattle.std.proofs.Common.{◌≡◌, ◌∙◌, refl, sym, ap, subst, ℕ, ◌+◌, ◌-◌, ◌≤◌, ◌<◌, ◌^◌, arith, ℤ, Bool, true, nat_lt, List, [], ◌∷◌, length, map, Option, Some, None, is_some, All, IfSome, flat_map, take, drop, get_or}
 use Rattle.std.proofs.lemmas.Bool.Decides.{nat_tests}
 use Rattle.std.proofs.lemmas.List.Elements.{All-nil, All-cons, All-head, All-tail}
 use Rattle.std.proofs.lemmas.List.{length-map}
 use Rattle.flac_bits.specs.Signed.{FitsBits}
-use Rattle.flac_bits.specs.Written.{Written, Writes}
-use Rattle.flac_bits.specs.declared.why.Why.{Why}
 use Rattle.flac_header.specs.Header.{Header, IsHeader, channels_of}
 use Rattle.flac_header.specs.Choice.{size_choice, rate_choice, depth_choice, chosen_header}
-use Rattle.flac_header.specs.Spelling.{restarted}
 use Rattle.flac_subframe.specs.declared.limits.Limits.{Limits}
 use Rattle.flac_subframe.specs.Spelling.{subframe_spelling}
+use Rattle.flac_subframe.specs.Subframe.{Form}
 use Rattle.flac_subframe.proofs.Family.{fits_more}
 use Rattle.flac_frame.specs.Audio.{Sound, IsSound, samples_each}
 use Rattle.flac_frame.specs.Frame.{limits_at}
-use Rattle.flac_frame.specs.Stereo.{joined}
-use Rattle.flac_frame.specs.Spelling.{subframes_spelling, HaveSamples}
-use Rattle.flac_frame.specs.Encoding.{block_of, IsEncoding, WritesFrame, AreLeast, WritesWhole}
+use Rattle.flac_frame.specs.Stereo.{joined, kept_as}
+use Rattle.flac_frame.specs.Spelling.{FrameForm, subframes_spelling, HaveSamples}
+use Rattle.flac_frame.specs.Chosen.{forms_of, AreMade, AreChosen, IsFrameChoice}
+use Rattle.flac_frame.specs.Encoding.{block_of, AreForms, AreLeast, IsEncoding, IsLeastFrame, IsShort, subframes_cost}
+use Rattle.flac_frame.specs.declared.frame_choice.FrameChoice.{FrameChoice}
 use Rattle.flac_frame.proofs.Encoded.{is_block, part_fits}
 use Rattle.flac_frame.proofs.Short.{all_short, parts_few, frame_short}
-use Rattle.flac_frame.proofs.Family.{independent_least}
+use Rattle.flac_frame.proofs.Family.{independent_least, kept_same}
 use Rattle.flac_frame.proofs.Sounds.{depth_small}
-use Rattle.flac_frame.proofs.Wholes.{on_ok_map, text_is, texts_are, subframes_are, samples_are, as_many, not_joined, all_fit_in, codes_are, chosen_as, chosen_there}
+use Rattle.flac_frame.proofs.Wholes.{texts_are, subframes_are, samples_are, as_many, not_joined, all_fit_in, codes_are, chosen_as, chosen_there}
 
 -- ---- the whole
 
 as_coded : (code : ℕ) → code ≤ 7 → channels_of code ≡ code + 1
 as_coded code few = let a : nat_lt code 8 ≡ true = grind (arith, nat_tests) in rw a refl
 
-pub frame_encoded : {X : Type 0} (sound : Sound) (code size number : ℕ) (block : List (List ℤ)) (h : Header) (old new : Written) (result : Result X Why) → (length block ≡ 2 → ⊥) → code ≤ 7 → number < 2 ^ 31 → old.mark.unread ≡ 0
-    → (1 ≤ sound.bits) × (sound.bits ≤ 32) → 1 ≤ size → size ≤ 65535 → All (λ s. length s ≡ size) block → chosen_header size sound.rate code sound.bits number ≡ Some h → IsHeader h → code + 1 ≡ length block → All (λ s. All (FitsBits sound.bits) s) block → WritesWhole sound.bits size h block old new result → WritesFrame sound size number block old new result
-frame_encoded sound code size number block h old new result other independent small whole deep some few long chosen valid each fits (fs, are, leasts, writes) =
+pub frame_encoded : (sound : Sound) (code size number : ℕ) (block : List (List ℤ)) (fs : List Form) (h : Header) → (length block ≡ 2 → ⊥) → code ≤ 7 → number < 2 ^ 31
+    → (1 ≤ sound.bits) × (sound.bits ≤ 32) → 1 ≤ size → size ≤ 65535 → All (λ s. length s ≡ size) block → chosen_header size sound.rate code sound.bits number ≡ Some h → IsHeader h → code + 1 ≡ length block → All (λ s. All (FitsBits sound.bits) s) block
+    → AreForms sound.bits size fs block → AreLeast sound.bits fs block → (f : FrameForm) → f ≡ record { header = h; subframes = fs }
+    → IsEncoding sound size number block f × IsLeastFrame sound size number block f × IsShort sound.bits f × (subframes_cost sound.bits f ≡ length (flat_map (subframe_spelling sound.bits) fs))
+frame_encoded sound code size number block fs h other independent small deep some few long chosen valid each fits are least f is =
     let depth : ℕ = sound.bits in
     let codes = codes_are (size_choice size) (rate_choice sound.rate) (depth_choice depth) size sound.rate code number h (sym (chosen_as size sound.rate code depth number (omega (arith, independent)) small) ∙ chosen) in
     let parts_are : flat_map (subframe_spelling depth) fs ≡ subframes_spelling depth h.channel_code 0 fs = sym (ap (λ k. subframes_spelling depth k 0 fs) codes.0 ∙ texts_are depth code size independent 0 fs) in
-    let text = text_is depth h (flat_map (subframe_spelling depth) fs) fs old.mark whole parts_are in
     let limits : Limits = limits_at sound.rate in
     let have = subst (λ k. HaveSamples depth k h.size 0 fs block) (sym codes.0) (subst (λ n. HaveSamples depth code n 0 fs block) (sym codes.1) (samples_are depth code size independent 0 fs block are)) in
-    let short = λ (least : AreLeast depth fs block). frame_short depth (record { header = h; subframes = fs })
+    let short : IsShort depth (record { header = h; subframes = fs }) = frame_short depth (record { header = h; subframes = fs })
     (omega (arith, ap (λ (t : List Bool). length t) parts_are, all_short depth deep.0 size fs block some long fits least, parts_few (length block) depth size (omega (arith, independent, each)) deep.1 few)) in
     let encoding : IsEncoding sound size number block (record { header = h; subframes = fs }) =
     record {
@@ -53,12 +54,8 @@ frame_encoded sound code size number block h old new result other independent sm
         joined = ap (λ k. joined k block) codes.0 ∙ not_joined depth code size independent block;
         fit = all_fit_in depth code size independent block fits;
       };
-    } in (
-      record { header = h; subframes = fs },
-      encoding,
-      on_ok_map result (λ least. (independent_least sound size number block (record { header = h; subframes = fs }) other (omega (arith, independent, each)) encoding least, short least)) leasts,
-      subst (λ t. Writes t (restarted old) new result) text writes,
-    )
+    } in
+    rw is (encoding, independent_least sound size number block (record { header = h; subframes = fs }) other (omega (arith, independent, each)) encoding least, short, ap (λ (t : List Bool). length t) (sym parts_are))
 
 -- ---- the samples of vectors
 
@@ -88,19 +85,38 @@ module _ {V : Type 0} (items : V → List ℤ) (xs : List V) (sound : Sound) (go
   never_none size rate code bits number o r b c some few small is none =
       chosen_there size rate code bits number some few (ap (λ k. is_some (rate_choice k)) r ∙ good.rate) (ap (λ k. is_some (depth_choice k)) b ∙ good.bits) c small (sym is ∙ none)
 
-  pub encoded_block : {X : Type 0} (start size rate code bits depth number : ℕ) (o : Option Header) (h : Header) (old new : Written) (result : Result X Why) → rate ≡ sound.rate → bits ≡ sound.bits → depth ≡ sound.bits → (length sound.channels ≡ 2 → ⊥) → code ≡ length xs - 1
-      → 1 ≤ size → size ≤ 65535 → start + size ≤ samples_each sound.channels → number < 2 ^ 31 → old.mark.unread ≡ 0 → o ≡ chosen_header size rate code bits number → o ≡ Some h → IsHeader h
-      → WritesWhole depth size h (block_of start size (map items xs)) old new result → WritesFrame sound size number (block_of start size sound.channels) old new result
-  encoded_block start size rate code bits depth number o h old new result r b d other c some few within small whole is there valid wrote =
+  -- what was chosen of each channel by itself makes a frame
+  pub apart_choice : (start size rate code bits depth number : ℕ) (o : Option Header) (c : FrameChoice) → rate ≡ sound.rate → bits ≡ sound.bits → depth ≡ sound.bits → (length sound.channels ≡ 2 → ⊥) → code ≡ length xs - 1 → c.code ≡ code
+      → 1 ≤ size → size ≤ 65535 → start + size ≤ samples_each sound.channels → number < 2 ^ 31 → o ≡ chosen_header size rate code bits number → IfSome o IsHeader
+      → AreChosen depth size c.subframes.items (block_of start size (map items xs)) → c.bits ≡ length (flat_map (subframe_spelling depth) (forms_of c.subframes.items (block_of start size (map items xs))))
+      → IsFrameChoice sound size number (block_of start size sound.channels) c
+  apart_choice start size rate code bits depth number None c r b d other n coded some few within small is valid chose cost = absurd (never_none size rate code bits number None r b (omega (arith, n, few_channels.1)) some few small is refl)
+  apart_choice start size rate code bits depth number (Some h) c r b d other n coded some few within small is valid chose cost =
       let deep = bits_small sound.bits refl in
-      let chosen : chosen_header size sound.rate code sound.bits number ≡ Some h = ap (λ k. chosen_header size k code sound.bits number) (sym r) ∙ ap (λ k. chosen_header size rate code k number) (sym b) ∙ sym is ∙ there in
+      let chosen : chosen_header size sound.rate code sound.bits number ≡ Some h = ap (λ k. chosen_header size k code sound.bits number) (sym r) ∙ ap (λ k. chosen_header size rate code k number) (sym b) ∙ sym is in
       let block = is_block items sound.bits start size deep.0 some xs (each_long start size within, each_fits_in sound.bits refl) in
+      let all : List (List ℤ) = block_of start size sound.channels in
       let fits = subst (λ k. All (λ s. All (FitsBits sound.bits) s) (block_of start size k)) are block.1 in
       let long = subst (λ k. All (λ s. length s ≡ size) (block_of start size k)) are block.0 in
-      let block_long : length (block_of start size sound.channels) ≡ length xs = length-map sound.channels (λ c. take size (drop start c)) ∙ ap (λ (l : List (List ℤ)). length l) (sym are) ∙ length-map xs items in
+      let block_long : length all ≡ length xs = length-map sound.channels (λ c. take size (drop start c)) ∙ ap (λ (l : List (List ℤ)). length l) (sym are) ∙ length-map xs items in
       let lengths_are : length sound.channels ≡ length xs = ap (λ (l : List (List ℤ)). length l) (sym are) ∙ length-map xs items in
-      let wrote' = subst (λ k. WritesWhole sound.bits size h (block_of start size k) old new result) are (subst (λ k. WritesWhole k size h (block_of start size (map items xs)) old new result) d wrote) in
-      frame_encoded sound code size number (block_of start size sound.channels) h old new result (λ e. other (omega (arith, e, block_long, lengths_are))) (omega (arith, c, few_channels.1)) small whole deep some few long chosen valid (omega (arith, c, few_channels.0, block_long)) fits wrote'
+      let chose' : AreChosen sound.bits size c.subframes.items all = subst (λ k. AreChosen sound.bits size c.subframes.items (block_of start size k)) are (subst (λ k. AreChosen k size c.subframes.items (block_of start size (map items xs))) d chose) in
+      let cost' : c.bits ≡ length (flat_map (subframe_spelling sound.bits) (forms_of c.subframes.items all)) =
+      cost ∙ ap (λ k. length (flat_map (subframe_spelling k) (forms_of c.subframes.items (block_of start size (map items xs))))) d ∙ ap (λ k. length (flat_map (subframe_spelling sound.bits) (forms_of c.subframes.items (block_of start size k)))) are in
+      let low : code ≤ 7 = omega (arith, n, few_channels.1) in
+      let form : FrameForm = record { header = h; subframes = forms_of c.subframes.items all } in
+      let p = frame_encoded sound code size number all (forms_of c.subframes.items all) h (λ e. other (omega (arith, e, block_long, lengths_are))) low small deep some few long chosen valid (omega (arith, n, few_channels.0, block_long)) fits chose'.are chose'.least form refl in
+      let keeps : kept_as c.code all ≡ all = kept_same c.code all (omega (arith, coded, low)) in
+      record {
+        form = form;
+        header = ap (λ k. chosen_header size sound.rate k sound.bits number) coded ∙ chosen;
+        subframes = ap (forms_of c.subframes.items) (sym keeps);
+        made = subst (AreMade c.subframes.items) (sym keeps) chose'.made;
+        encoding = p.0;
+        least = p.1;
+        short = p.2;
+        cost = cost' ∙ sym p.3;
+      }
 
 -- ---- two channels of vectors
 

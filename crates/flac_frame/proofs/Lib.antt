@@ -18,4 +18,7 @@ pub mod Encodings
 pub mod PlainFamily
 pub mod Sizes
 pub mod Rooms
+pub mod Chosen
+pub mod Counted
+pub mod Written
 pub mod Interleaved

@@ -1,29 +1,29 @@
 -- The least frame of two channels.
-use Rattle.std.proofs.Common.{◌≡◌, ◌∙◌, refl, sym, ap, subst, inl, inr, ℕ, ◌+◌, ◌*◌, ◌≤◌, ◌<◌, arith, ℤ, Bool, true, false, cond, nat_eq, nat_lt, List, [], ◌∷◌, ◌++◌, length, length-append, Option, Some, Result, All}
+use Rattle.std.proofs.Common.{◌≡◌, ◌∙◌, refl, sym, ap, subst, inl, inr, ℕ, ◌+◌, ◌*◌, ◌≤◌, ◌<◌, arith, ℤ, Bool, true, false, cond, nat_eq, nat_lt, List, [], ◌∷◌, ◌++◌, length, length-append, set, ◌^◌, Option, Some, None, is_some, IfSome, All}
 use Rattle.std.proofs.lemmas.Bool.Decides.{nat_tests}
 use Rattle.std.proofs.lemmas.List.{append-nil}
 use Rattle.std.proofs.lemmas.Nat.{mul-le}
 use Rattle.flac_bits.specs.Signed.{FitsBits}
-use Rattle.flac_bits.specs.Written.{Written, Writes}
-use Rattle.flac_bits.specs.declared.why.Why.{Why}
 use Rattle.flac_header.specs.Header.{Header, IsHeader, channels_of}
-use Rattle.flac_header.specs.Choice.{chosen_header}
-use Rattle.flac_header.specs.Spelling.{restarted}
+use Rattle.flac_header.specs.Choice.{rate_choice, depth_choice, chosen_header}
 use Rattle.flac_subframe.specs.declared.chosen.Choice.{Choice}
-use Rattle.flac_subframe.specs.Family.{form_of}
+use Rattle.flac_subframe.specs.Family.{IsMadeOf, form_of}
 use Rattle.flac_subframe.specs.Spelling.{subframe_spelling, IsSubframe}
 use Rattle.flac_subframe.specs.Subframe.{Form, samples_of}
 use Rattle.flac_subframe.proofs.Samples.{all_fit_is}
-use Rattle.flac_frame.specs.Audio.{Sound}
-use Rattle.flac_frame.specs.Encoding.{EachStands, IsEncoding, IsLeastFrame, IsShort, WritesFrame, behind_header, subframes_cost}
+use Rattle.flac_frame.specs.Audio.{Sound, IsSound}
+use Rattle.flac_frame.specs.Chosen.{forms_of, AreMade, IsFrameChoice}
+use Rattle.flac_frame.specs.Encoding.{EachStands, IsEncoding, IsLeastFrame, IsShort, subframes_cost}
+use Rattle.flac_frame.specs.declared.frame_choice.FrameChoice.{FrameChoice}
 use Rattle.flac_frame.specs.Frame.{side_bit, limits_at}
 use Rattle.flac_frame.specs.Pair.{IsPairCode, pair_cost, IsFirstLeast, IsChosen, IsKept}
-use Rattle.flac_frame.specs.Spelling.{FrameForm, frame_spelling, subframes_spelling, HaveSamples}
+use Rattle.flac_frame.specs.Spelling.{FrameForm, subframes_spelling, HaveSamples}
 use Rattle.flac_frame.specs.Stereo.{joined, kept_as, side_of, middle_of, ChannelsAreKept}
 use Rattle.flac_frame.proofs.Family.{coded_as, least_frame, kept_same}
 use Rattle.flac_frame.proofs.Pairs.{side_long, middle_long, left_side, side_right, middle_side}
 use Rattle.flac_frame.proofs.Short.{one_short, frame_short}
-use Rattle.flac_frame.proofs.Wholes.{on_ok, text_is, not_joined}
+use Rattle.flac_frame.proofs.Sounds.{depth_small}
+use Rattle.flac_frame.proofs.Wholes.{not_joined, chosen_there}
 
 pub by_test : {R : Type 0} (b : Bool) → (b ≡ true → R) → (b ≡ false → R) → R
 by_test true f g = f refl
@@ -43,7 +43,7 @@ few_codes code (inr (inl e)) = omega (arith, e)
 few_codes code (inr (inr (inl e))) = omega (arith, e)
 few_codes code (inr (inr (inr e))) = omega (arith, e)
 
-pair_codes : (code : ℕ) → code < 11 → channels_of code ≡ 2 → IsPairCode code
+pub pair_codes : (code : ℕ) → code < 11 → channels_of code ≡ 2 → IsPairCode code
 pair_codes code few e = go (nat_lt code 8) refl e
   where
     go : (b : Bool) → nat_lt code 8 ≡ b → cond b (code + 1) 2 ≡ 2 → IsPairCode code
@@ -56,23 +56,23 @@ pair_codes code few e = go (nat_lt code 8) refl e
         (λ b. inr (inr (inl (grind (arith, nat_tests)))))
         (λ b. inr (inr (inr (grind (arith, nat_tests))))))
 
-bits_1 : (side_bit 1 0 ≡ 0) × (side_bit 1 1 ≡ 0)
+pub bits_1 : (side_bit 1 0 ≡ 0) × (side_bit 1 1 ≡ 0)
 unfolding side_bit
 bits_1 = (refl, refl)
 
-bits_8 : (side_bit 8 0 ≡ 0) × (side_bit 8 1 ≡ 1)
+pub bits_8 : (side_bit 8 0 ≡ 0) × (side_bit 8 1 ≡ 1)
 unfolding side_bit
 bits_8 = (refl, refl)
 
-bits_9 : (side_bit 9 0 ≡ 1) × (side_bit 9 1 ≡ 0)
+pub bits_9 : (side_bit 9 0 ≡ 1) × (side_bit 9 1 ≡ 0)
 unfolding side_bit
 bits_9 = (refl, refl)
 
-bits_10 : (side_bit 10 0 ≡ 0) × (side_bit 10 1 ≡ 1)
+pub bits_10 : (side_bit 10 0 ≡ 0) × (side_bit 10 1 ≡ 1)
 unfolding side_bit
 bits_10 = (refl, refl)
 
-kept_1 : (left right : List ℤ) → kept_as 1 (left ∷ right ∷ []) ≡ left ∷ right ∷ []
+pub kept_1 : (left right : List ℤ) → kept_as 1 (left ∷ right ∷ []) ≡ left ∷ right ∷ []
 unfolding kept_as
 kept_1 left right = refl
 
@@ -125,10 +125,6 @@ module _ (d code : ℕ) (a b : List ℤ) (f g : Form) (n k : ℕ) (p : IsChosen 
       let v : length (subframe_spelling (d + side_bit code 1) g) ≤ length (subframe_spelling (d + side_bit code 1) y) = q.least.least y h.1.0 in
       omega (arith, two_long x y, u, v, p.cost, q.cost)
   two_least (x ∷ y ∷ z ∷ zs) h = absurd h.1.1
-
-  two_text : subframes_spelling d code 0 (f ∷ g ∷ []) ≡ subframe_spelling (d + side_bit code 0) f ++ subframe_spelling (d + side_bit code 1) g
-  unfolding subframes_spelling
-  two_text = ap (λ t. subframe_spelling (d + side_bit code 0) f ++ t) (append-nil (subframe_spelling (d + side_bit code 1) g))
 
 abbrev HasSamples : ℕ → ℕ → List ℤ → Form → Type 0
 HasSamples d size s f = samples_of d size f ≡ Some s
@@ -236,13 +232,8 @@ module _ (sound : Sound) (size number : ℕ) (left right : List ℤ) (lf rf sf m
         let under : cost code ≤ l + r = best.least 1 (inl refl) in
         frame_short sound.bits form (omega (arith, form_cost, under, a, b, cl.cost, cr.cost, one_few (length left) left_long, one_few (length right) right_long))
 
-    pub pair_encoded : {X : Type 0} (old new : Written) (result : Result X Why) → old.mark.unread ≡ 0
-        → Writes (behind_header h (subframe_spelling (sound.bits + side_bit code 0) f ++ subframe_spelling (sound.bits + side_bit code 1) g) old.mark) (restarted old) new result → WritesFrame sound size number block old new result
-    unfolding frame_spelling
-    pair_encoded old new result whole writes =
-        let parts : List Bool = subframe_spelling (sound.bits + side_bit code 0) f ++ subframe_spelling (sound.bits + side_bit code 1) g in
-        let is : parts ≡ subframes_spelling sound.bits h.channel_code 0 (f ∷ g ∷ []) = sym (two_text sound.bits code first second f g n k p q) ∙ ap (λ c. subframes_spelling sound.bits c 0 (f ∷ g ∷ [])) (sym codes.0) in
-        (form, encoding, on_ok result (least, short), subst (λ t. Writes t (restarted old) new result) (text_is sound.bits h parts (f ∷ g ∷ []) old.mark whole is) writes)
+    pub pair_encoded : IsEncoding sound size number block form × IsLeastFrame sound size number block form × IsShort sound.bits form × (subframes_cost sound.bits form ≡ n + k)
+    pair_encoded = (encoding, least, short, form_cost ∙ sym sum)
 
 -- ---- as the code chooses
 
@@ -348,16 +339,56 @@ only_1 code (inr (inl e)) a b d = absurd (a e)
 only_1 code (inr (inr (inl e))) a b d = absurd (b e)
 only_1 code (inr (inr (inr e))) a b d = absurd (d e)
 
--- what was kept is written as a frame
+-- what was kept makes a frame
 module _ (sound : Sound) (number : ℕ) (left right : List ℤ) {code d e : ℕ} {first second : List ℤ} {f g : Form} (k : IsKept sound.bits left right code d e first second f g)
     (depth : (1 ≤ sound.bits) × (sound.bits ≤ 32)) (some : 1 ≤ length left) (few : length left ≤ 65535) (long : length right ≡ length left)
     (left_fits : All (FitsBits sound.bits) left) (right_fits : All (FitsBits sound.bits) right) (h : Header) (chosen : chosen_header (length left) sound.rate code sound.bits number ≡ Some h) (valid : IsHeader h) where
-  pub kept_encoded : {X : Type 0} (old new : Written) (result : Result X Why) → old.mark.unread ≡ 0
-      → Writes (behind_header h (subframe_spelling d f ++ subframe_spelling e g) old.mark) (restarted old) new result → WritesFrame sound (length left) number (left ∷ right ∷ []) old new result
-  kept_encoded old new result whole writes =
+  kept_encoded : (n : FrameForm) → n ≡ record { header = h; subframes = f ∷ g ∷ [] }
+      → IsEncoding sound (length left) number (left ∷ right ∷ []) n × IsLeastFrame sound (length left) number (left ∷ right ∷ []) n × IsShort sound.bits n × (subframes_cost sound.bits n ≡ k.first_bits + k.second_bits)
+  kept_encoded n is =
       let back : joined code (first ∷ second ∷ []) ≡ left ∷ right ∷ [] = sym (ap (joined code) k.kept) ∙ channels_kept code left right (omega (arith, few_codes code k.best.one)) long in
-      pair_encoded sound (length left) number left right k.left_form k.right_form k.side_form k.middle_form k.left_bits k.right_bits k.side_bits k.middle_bits k.left_chosen k.right_chosen k.side_chosen k.middle_chosen
+      rw is (pair_encoded sound (length left) number left right k.left_form k.right_form k.side_form k.middle_form k.left_bits k.right_bits k.side_bits k.middle_bits k.left_chosen k.right_chosen k.side_chosen k.middle_chosen
       code k.best first second f g k.first_bits k.second_bits (subst (λ n. IsChosen n first f k.first_bits) k.first_depth k.first_chosen) (subst (λ n. IsChosen n second g k.second_bits) k.second_depth k.second_chosen)
-      k.sum k.kept back depth some few refl long k.first_long k.second_long left_fits right_fits h chosen valid old new result whole
-      (subst (λ n. Writes (behind_header h (subframe_spelling (sound.bits + side_bit code 0) f ++ subframe_spelling n g) old.mark) (restarted old) new result) k.second_depth
-      (subst (λ n. Writes (behind_header h (subframe_spelling n f ++ subframe_spelling e g) old.mark) (restarted old) new result) k.first_depth writes))
+      k.sum k.kept back depth some few refl long k.first_long k.second_long left_fits right_fits h chosen valid)
+
+  pub kept_choice : (c : FrameChoice) (x y : Choice) (old : List Choice) → 2 ≤ length old → c.code ≡ code → c.subframes.items ≡ set (set old 0 x) 1 y → f ≡ form_of x first → g ≡ form_of y second → IsMadeOf x first → IsMadeOf y second
+      → x.bits ≡ length (subframe_spelling d f) → y.bits ≡ length (subframe_spelling e g) → c.bits ≡ x.bits + y.bits → IsFrameChoice sound (length left) number (left ∷ right ∷ []) c
+  kept_choice c x y old two coded placed is_f is_g made_x made_y cost_x cost_y sum =
+      let n : FrameForm = record { header = h; subframes = f ∷ g ∷ [] } in
+      let p = kept_encoded n refl in
+      let keeps : kept_as c.code (left ∷ right ∷ []) ≡ first ∷ second ∷ [] = ap (λ z. kept_as z (left ∷ right ∷ [])) coded ∙ k.kept in
+      let forms : forms_of c.subframes.items (first ∷ second ∷ []) ≡ f ∷ g ∷ [] = ap (λ cs. forms_of cs (first ∷ second ∷ [])) placed ∙ two_forms old x y two ∙ ap (λ z. z ∷ form_of y second ∷ []) (sym is_f) ∙ ap (λ z. f ∷ z ∷ []) (sym is_g) in
+      record {
+        form = n;
+        header = ap (λ z. chosen_header (length left) sound.rate z sound.bits number) coded ∙ chosen;
+        subframes = sym (ap (forms_of c.subframes.items) keeps ∙ forms);
+        made = subst (AreMade c.subframes.items) (sym keeps) (subst (λ cs. AreMade cs (first ∷ second ∷ [])) (sym placed) (two_made old x y two made_x made_y));
+        encoding = p.0;
+        least = p.1;
+        short = p.2;
+        cost = omega (arith, sum, cost_x, cost_y, p.3, k.first_chosen.cost, k.second_chosen.cost);
+      }
+    where
+      two_forms : (old : List Choice) (x y : Choice) → 2 ≤ length old → forms_of (set (set old 0 x) 1 y) (first ∷ second ∷ []) ≡ form_of x first ∷ form_of y second ∷ []
+      two_forms [] x y h = absurd (omega (arith, h))
+      two_forms (a ∷ []) x y h = absurd (omega (arith, h))
+      two_forms (a ∷ b ∷ cs) x y h = refl
+
+      two_made : (old : List Choice) (x y : Choice) → 2 ≤ length old → IsMadeOf x first → IsMadeOf y second → AreMade (set (set old 0 x) 1 y) (first ∷ second ∷ [])
+      two_made [] x y h p q = absurd (omega (arith, h))
+      two_made (a ∷ []) x y h p q = absurd (omega (arith, h))
+      two_made (a ∷ b ∷ cs) x y h p q = (p, (q, tt))
+
+-- what was kept of two channels makes the frame of their block
+pub pair_choice : (sound : Sound) (number n : ℕ) (left right : List ℤ) (block : List (List ℤ)) {code d e : ℕ} {first second : List ℤ} {f g : Form} → IsKept sound.bits left right code d e first second f g → IsSound sound
+    → 1 ≤ n → n ≤ 65535 → length left ≡ n → length right ≡ length left → All (FitsBits sound.bits) left → All (FitsBits sound.bits) right → left ∷ right ∷ [] ≡ block → (rate bits : ℕ) (o : Option Header) → rate ≡ sound.rate → bits ≡ sound.bits
+    → o ≡ chosen_header n rate code bits number → IfSome o IsHeader → number < 2 ^ 31 → (c : FrameChoice) (x y : Choice) (old : List Choice) → 2 ≤ length old → c.code ≡ code → c.subframes.items ≡ set (set old 0 x) 1 y → f ≡ form_of x first → g ≡ form_of y second
+    → IsMadeOf x first → IsMadeOf y second → x.bits ≡ length (subframe_spelling d f) → y.bits ≡ length (subframe_spelling e g) → c.bits ≡ x.bits + y.bits → IsFrameChoice sound n number block c
+pair_choice sound number n left right block {code = code} k good some few left_long right_long left_fits right_fits is rate bits None r b chosen valid small c x y old two coded placed is_f is_g made_x made_y cost_x cost_y sum =
+    absurd (chosen_there n rate code bits number some few (ap (λ z. is_some (rate_choice z)) r ∙ good.rate) (ap (λ z. is_some (depth_choice z)) b ∙ good.bits) (few_codes code k.best.one) small (sym chosen))
+pair_choice sound number n left right block {code = code} k good some few left_long right_long left_fits right_fits is rate bits (Some h) r b chosen valid small c x y old two coded placed is_f is_g made_x made_y cost_x cost_y sum =
+    let there : chosen_header n sound.rate code sound.bits number ≡ Some h = header_at sound n rate code bits number (Some h) h r b chosen refl in
+    let at : chosen_header (length left) sound.rate code sound.bits number ≡ Some h = ap (λ z. chosen_header z sound.rate code sound.bits number) left_long ∙ there in
+    subst (λ z. IsFrameChoice sound n number z c) is
+    (subst (λ z. IsFrameChoice sound z number (left ∷ right ∷ []) c) left_long
+    (kept_choice sound number left right k (depth_small sound.bits good.bits) (omega (arith, some, left_long)) (omega (arith, few, left_long)) right_long left_fits right_fits h at valid c x y old two coded placed is_f is_g made_x made_y cost_x cost_y sum))

@@ -27,7 +27,7 @@ use Rattle.flac_frame.specs.Spelling.{FrameForm, subframes_spelling, filled, che
 
 -- ---- a header
 
-six_long : (n v : ℕ) → length (six_bits n v) ≡ 8 * n
+pub six_long : (n v : ℕ) → length (six_bits n v) ≡ 8 * n
 unfolding six_bits
 six_long zero v = refl
 six_long (suc n) v = omega (arith, length-append (unsigned 8 (128 + v / 64 ^ n % 64)) (six_bits n v), length-unsigned 8 (128 + v / 64 ^ n % 64), six_long n v)
@@ -102,7 +102,7 @@ header_long h = omega (
   length-unsigned 1 0,
 )
 
-header_few : (h : Header) → length (header_spelling h) ≤ 128
+pub header_few : (h : Header) → length (header_spelling h) ≤ 128
 header_few h = omega (arith, header_long h, number_few h.number, size_few h.size_code h.size, rate_few h.rate_code h.rate)
 
 -- ---- a subframe

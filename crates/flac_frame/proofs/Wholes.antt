@@ -1,5 +1,5 @@
 -- A whole frame, as it is written.
-use Rattle.std.proofs.Common.{◌≡◌, ◌∙◌, refl, sym, ap, subst, ℕ, suc, ◌+◌, ◌≤◌, ◌<◌, ◌^◌, arith, ℤ, Bool, true, false, cond, nat_eq, nat_lt, nat_le, List, [], ◌∷◌, ◌++◌, append_assoc, length, Option, Some, None, is_some, Result, Ok, Err, OnOk, All, flat_map}
+use Rattle.std.proofs.Common.{◌≡◌, ◌∙◌, refl, sym, ap, subst, ℕ, suc, ◌+◌, ◌≤◌, ◌<◌, ◌^◌, arith, ℤ, Bool, true, false, cond, nat_eq, nat_lt, nat_le, List, [], ◌∷◌, ◌++◌, append_assoc, length, Option, Some, None, is_some, Result, All, flat_map}
 use Rattle.std.proofs.lemmas.Bool.Decides.{nat_tests}
 use Rattle.std.proofs.lemmas.List.Elements.{All-head, All-tail}
 use Rattle.flac_bits.specs.State.{Mark, past, fresh}
@@ -19,35 +19,11 @@ use Rattle.flac_subframe.proofs.Samples.{all_fit_is}
 use Rattle.flac_frame.specs.Frame.{side_bit, each_fits}
 use Rattle.flac_frame.specs.Stereo.{joined}
 use Rattle.flac_frame.specs.Spelling.{frame_spelling, subframes_spelling, filled, checked, AreSubframes, HaveSamples}
-use Rattle.flac_frame.specs.Encoding.{AreForms, WritesForms, end_spelling, behind_header, WritesWhole}
+use Rattle.flac_frame.specs.Encoding.{AreForms, end_spelling, behind_header}
 use Rattle.flac_frame.proofs.FrameTie.{end_is}
-use Rattle.flac_frame.proofs.Encoded.{IsBlock, plain_forms, okay, failed}
+use Rattle.flac_frame.proofs.Encoded.{failed}
 
 -- ---- header, subframes and end, one after another
-
-pub on_ok : {X P : Type 0} (result : Result X Why) → P → OnOk result P
-on_ok (Ok x) p = p
-on_ok (Err e) p = tt
-
-pub on_ok_map : {X P Q : Type 0} (result : Result X Why) → (P → Q) → OnOk result P → OnOk result Q
-on_ok_map (Ok x) f p = f p
-on_ok_map (Err e) f p = tt
-
-module _ (depth size : ℕ) (deep : 1 ≤ depth) (some : 1 ≤ size) (h : Header) (block : List (List ℤ)) (old : Written) where
-  pub header_fails : (new : Written) (e : Why) → IsBlock depth size deep some block → Fails ((restarted old).bits ++ header_spelling h) (restarted old) new e → WritesWhole depth size h block old new (failed e)
-  header_fails new e are fails =
-      let p = plain_forms depth size deep some block are in
-      (p.0, p.1, tt, fails_first (header_spelling h) _ fails)
-
-  pub channels_fail : (mid new : Written) (e : Why) → Adds (header_spelling h) (restarted old) mid → WritesForms depth size block mid new (failed e) → WritesWhole depth size h block old new (failed e)
-  channels_fail mid new e adds (fs, are, leasts, fails) = (fs, are, tt, fails_then _ adds (fails_first (flat_map (subframe_spelling depth) fs) _ fails))
-
-  pub frame_written : {X : Type 0} (mid end new : Written) (result : Result X Why) → Adds (header_spelling h) (restarted old) mid → WritesForms depth size block mid end (okay tt) → Writes (end_spelling end.mark) end new result
-      → WritesWhole depth size h block old new result
-  frame_written mid end new result adds (fs, are, leasts, more) last =
-      let is : end.mark ≡ past (flat_map (subframe_spelling depth) fs) (past (header_spelling h) (fresh old.mark)) = more.mark ∙ ap (past (flat_map (subframe_spelling depth) fs)) adds.mark in
-      let last' = subst (λ m. Writes (end_spelling m) end new result) is last in
-      (fs, are, on_ok result leasts, writes_then _ new result adds (writes_then _ new result more last'))
 
 -- what stands behind the header was written, and then the end
 pub ends : {X : Type 0} (h : Header) (parts : List Bool) (old mid end new : Written) (result : Result X Why) → Adds (header_spelling h) (restarted old) mid → Adds parts mid end → Writes (end_spelling end.mark) end new result
@@ -59,6 +35,10 @@ ends h parts old mid end new result adds more last =
 -- the header was not written
 pub header_stops : (h : Header) (parts : List Bool) (old new : Written) (e : Why) → Fails ((restarted old).bits ++ header_spelling h) (restarted old) new e → Writes (behind_header h parts old.mark) (restarted old) new (failed e)
 header_stops h parts old new e fails = fails_first (header_spelling h) (parts ++ end_spelling (past parts (past (header_spelling h) (fresh old.mark)))) fails
+
+-- what stands behind it was not written
+pub parts_stop : (h : Header) (parts : List Bool) (old mid new : Written) (e : Why) → Adds (header_spelling h) (restarted old) mid → Fails (mid.bits ++ parts) mid new e → Writes (behind_header h parts old.mark) (restarted old) new (failed e)
+parts_stop h parts old mid new e adds fails = fails_then _ adds (fails_first parts _ fails)
 
 -- one of two subframes was not written
 pub first_fails : (h : Header) (a b : List Bool) (old mid new : Written) (e : Why) → Adds (header_spelling h) (restarted old) mid → Fails (mid.bits ++ a) mid new e → Writes (behind_header h (a ++ b) old.mark) (restarted old) new (failed e)

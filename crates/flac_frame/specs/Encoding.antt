@@ -1,5 +1,5 @@
 -- What encoding a frame writes.
-use Rattle.std.specs.Prelude.{◌≡◌, ℕ, ◌≤◌, ◌<◌, ◌↔◌, Bool, ℤ, List, [], ◌∷◌, ◌++◌, ◌*◌, length, map, take, drop, flat_map, Some, Option, All, Result, OnOk, true, false, ⊤}
+use Rattle.std.specs.Prelude.{◌≡◌, ℕ, ◌≤◌, ◌<◌, ◌↔◌, Bool, ℤ, List, [], ◌∷◌, ◌++◌, ◌*◌, length, map, take, drop, Some, Option, All, Result, true, false, ⊤}
 use Rattle.flac_bits.specs.Bits.{unsigned}
 use Rattle.flac_bits.specs.State.{Mark, past, fresh}
 use Rattle.flac_bits.specs.Signed.{FitsBits}
@@ -97,9 +97,9 @@ pub record IsLeastFrame (sound : Sound) (size number : ℕ) (block : List (List 
   pub fewest : (g : FrameForm) → IsOfFamily sound size number block g → subframes_cost sound.bits f ≤ subframes_cost sound.bits g
   pub first : (g : FrameForm) → IsOfFamily sound size number block g → g.header.channel_code < f.header.channel_code → subframes_cost sound.bits f < subframes_cost sound.bits g
 
--- at a whole byte, where the checks begin, the spelling of such a frame was written; one that was written whole is the least of the family, and short
+-- at a whole byte, where the checks begin, the spelling of such a frame was written, the least of the family, and short
 abbrev pub WritesFrame : {X : Type 0} → Sound → (size number : ℕ) → List (List ℤ) → Written → Written → Result X Why → Type 0
-WritesFrame sound size number block old new result = (f : FrameForm) × IsEncoding sound size number block f × OnOk result (IsLeastFrame sound size number block f × IsShort sound.bits f) × Writes (frame_spelling sound.bits f) (restarted old) new result
+WritesFrame sound size number block old new result = (f : FrameForm) × IsEncoding sound size number block f × (IsLeastFrame sound size number block f × IsShort sound.bits f) × Writes (frame_spelling sound.bits f) (restarted old) new result
 
 -- What is encoded of samples of the format that STREAMINFO tells has a header of that format, which the subset allows where the block is not too long for its
 -- rate; and where the header keeps the rules behind what the frames before leave, it is a frame of the block.
@@ -117,19 +117,12 @@ EncodingsAreFrames = (sound : Sound) (size number : ℕ) (block : List (List ℤ
 
 -- ---- its parts
 
--- a least form of samples was written
-abbrev pub WritesLeast : {X : Type 0} → ℕ → List ℤ → Written → Written → Result X Why → Type 0
-WritesLeast depth s old new result = (f : Form) × IsLeastFor depth s f × Writes (subframe_spelling depth f) old new result
-
 -- forms that may be spelled have the samples of channels, each by itself
 abbrev pub AreForms : (depth size : ℕ) → List Form → List (List ℤ) → Type 0
 AreForms depth size [] [] = ⊤
 AreForms depth size [] (s ∷ ss) = ⊥
 AreForms depth size (f ∷ fs) [] = ⊥
 AreForms depth size (f ∷ fs) (s ∷ ss) = ((limits : Limits) → 8 ≤ limits.partition → IsSubframe depth size limits f) × (samples_of depth size f ≡ Some s) × AreForms depth size fs ss
-
-abbrev pub WritesForms : {X : Type 0} → (depth size : ℕ) → List (List ℤ) → Written → Written → Result X Why → Type 0
-WritesForms depth size block old new result = (fs : List Form) × AreForms depth size fs block × OnOk result (AreLeast depth fs block) × Writes (flat_map (subframe_spelling depth) fs) old new result
 
 -- zeros up to a whole byte behind a mark, and CRC-16
 abbrev pub end_spelling : Mark → List Bool
@@ -138,9 +131,3 @@ end_spelling m = unsigned m.unread 0 ++ unsigned 16 (past (unsigned m.unread 0) 
 -- behind the header of a frame come its subframes, zeros up to a whole byte, and the check
 abbrev pub behind_header : Header → List Bool → Mark → List Bool
 behind_header h parts m = header_spelling h ++ (parts ++ end_spelling (past parts (past (header_spelling h) (fresh m))))
-
-abbrev pub whole_text : ℕ → Header → List Form → Mark → List Bool
-whole_text depth h fs m = behind_header h (flat_map (subframe_spelling depth) fs) m
-
-abbrev pub WritesWhole : {X : Type 0} → (depth size : ℕ) → Header → List (List ℤ) → Written → Written → Result X Why → Type 0
-WritesWhole depth size h block old new result = (fs : List Form) × AreForms depth size fs block × OnOk result (AreLeast depth fs block) × Writes (whole_text depth h fs old.mark) (restarted old) new result

@@ -23,7 +23,7 @@ pub(crate) fn limits_of(info: &StreamInfo) -> Limits
 
 /// How many bits the samples of a channel have more than those of the stream.
 #[tactic(auto, unfolding(crate::specs::Frame::side_bit))]
-fn side_bit(code: u8, channel: usize) -> u32
+pub(crate) fn side_bit(code: u8, channel: usize) -> u32
     ensures bit { result ≡ side_bit code channel }
     ensures small { result ≤ 1 }
 {

@@ -1,16 +1,20 @@
 //! Frames, written.
 
-ghost use Rattle.std.specs.Prelude.{◌≡◌, ◌≤◌, ◌<◌, ◌+◌, ◌-◌, ◌*◌, ◌^◌, true, map, length, All, IfOk, IfErr};
+ghost use Rattle.std.specs.Prelude.{◌≡◌, ◌≤◌, ◌<◌, ◌+◌, ◌-◌, ◌*◌, ◌^◌, true, map, length, flat_map, All, IfOk, IfErr};
 ghost use Rattle.flac_bits.specs.Signed.{FitsBits};
 ghost use Rattle.flac_bits.specs.Written.{Writes};
+ghost use Rattle.flac_header.specs.Spelling.{restarted};
+ghost use Rattle.flac_subframe.specs.Spelling.{subframe_spelling};
 ghost use Rattle.flac_frame.specs.Audio.{samples_each};
-ghost use Rattle.flac_frame.specs.Encoding.{block_of, end_spelling, WritesLeast, WritesForms, WritesWhole, WritesFrame};
+ghost use Rattle.flac_frame.specs.Chosen.{forms_of, AreMade, AreChosen, IsFrameChoice};
+ghost use Rattle.flac_frame.specs.Encoding.{block_of, behind_header, end_spelling, WritesFrame};
 
 use crate::audio::Audio;
-use crate::pair::encode_pair;
+use crate::frame_choice::FrameChoice;
+use crate::pair::{choose_pair, write_pair};
 use flac_bits::{BitWriter, Target, Why};
 use flac_header::{FrameHeader, write_header};
-use flac_subframe::{choose_into, write_subframe_into};
+use flac_subframe::{Choice, choose_into, write_subframe_into};
 use std::alloc::Global;
 use std::marker::Model;
 use std::ops::Range;
@@ -25,6 +29,7 @@ pub struct EncodeBuffers {
     shortened: Vec<i64>,
     values: Vec<i64>,
     folds: Vec<u32>,
+    choice: FrameChoice,
     max_block: usize,
 }
 
@@ -43,6 +48,7 @@ impl Model for EncodeBuffers {
       shortened : vec_len b.shortened ≡ b.max_block;
       values : vec_len b.values ≡ b.max_block;
       folds : vec_len b.folds ≡ b.max_block;
+      choice : 8 ≤ vec_len b.choice.subframes;
       max_block : b.max_block ≤ 65535;
     } };
 }
@@ -64,6 +70,7 @@ impl EncodeBuffers {
         let shortened = vec![in alloc; 0i64; max_block]?;
         let values = vec![in alloc; 0i64; max_block]?;
         let folds = vec![in alloc; 0u32; max_block]?;
+        let choice = FrameChoice::new(alloc, 8)?;
         Ok(EncodeBuffers {
             samples,
             right,
@@ -72,6 +79,7 @@ impl EncodeBuffers {
             shortened,
             values,
             folds,
+            choice,
             max_block,
         })
     }
@@ -87,30 +95,8 @@ pub(crate) fn widen(samples: &[i32], out: &mut [i64])
     }
 }
 
-/// Writes the least subframe of some samples.
-fn write_least<W: Target>(
-    samples: &[i64],
-    depth: u32,
-    shortened: &mut [i64],
-    values: &mut [i64],
-    folds: &mut [u32],
-    writer: &mut BitWriter<W>,
-) -> Result<(), Why>
-    requires some { 0 < length samples.now }
-    requires few { length samples.now ≤ 65535 }
-    requires depth { (1 ≤ depth) × (depth ≤ 33) }
-    requires fits { All (FitsBits depth) samples.now }
-    requires places { length samples.now ≤ length shortened.old }
-    requires values { length samples.now ≤ length values.old }
-    requires folds { length samples.now ≤ length folds.old }
-    ensures { WritesLeast depth samples.now writer.old writer.new result }
-{
-    let choice = choose_into(samples, depth, shortened, values, folds);
-    write_subframe_into(&choice, samples, depth, shortened, values, writer)
-}
-
-/// Writes a subframe for each channel, of so many samples from one on.
-fn write_channels<W: Target>(
+/// Chooses the least subframe of each channel, for so many samples from one on, and answers how many bits they take.
+fn choose_channels(
     channels: &[Vec<i32>],
     start: usize,
     depth: u32,
@@ -118,6 +104,135 @@ fn write_channels<W: Target>(
     shortened: &mut [i64],
     values: &mut [i64],
     folds: &mut [u32],
+    subframes: &mut [Choice],
+) -> u64
+    requires some { 0 < length samples.old }
+    requires few { length samples.old ≤ 65535 }
+    requires long { All (λ c. start + length samples.old ≤ length c.items) channels.now }
+    requires depth { (1 ≤ depth) × (depth ≤ 32) }
+    requires fits { All (λ c. All (FitsBits depth) c.items) channels.now }
+    requires many { length channels.now ≤ 8 }
+    requires places { length samples.old ≤ length shortened.old }
+    requires values { length samples.old ≤ length values.old }
+    requires folds { length samples.old ≤ length folds.old }
+    requires choices { length channels.now ≤ length subframes.old }
+    ensures chosen { AreChosen depth (length samples.old) subframes.new (block_of start (length samples.old) (map (λ c. c.items) channels.now)) }
+    ensures bits { result ≡ length (flat_map (subframe_spelling depth) (forms_of subframes.new (block_of start (length samples.old) (map (λ c. c.items) channels.now)))) }
+{
+    let size = samples.len();
+    let mut bits = 0;
+    for i in 0..channels.len() {
+        let channel = &channels[i];
+        widen(&channel[start..start + size], samples);
+        let choice = choose_into(samples, depth, shortened, values, folds);
+        let more = choice.bits();
+        bits += more;
+        subframes[i] = choice;
+    }
+    bits
+}
+
+/// Chooses how so many of the samples from one on, of channels other than two, are written as the frame of a number.
+fn choose_apart(
+    audio: &Audio,
+    start: usize,
+    number: u64,
+    samples: &mut [i64],
+    shortened: &mut [i64],
+    values: &mut [i64],
+    folds: &mut [u32],
+    choice: &mut FrameChoice,
+)
+    requires some { 0 < length samples.old }
+    requires few { length samples.old ≤ 65535 }
+    requires other { length audio.now.channels ≡ 2 → ⊥ }
+    requires within { start + length samples.old ≤ samples_each audio.now.channels }
+    requires places { length samples.old ≤ length shortened.old }
+    requires values { length samples.old ≤ length values.old }
+    requires folds { length samples.old ≤ length folds.old }
+    requires choices { length audio.now.channels ≤ length choice.old.subframes.items }
+    requires number { number < 2 ^ 31 }
+    ensures chosen { IsFrameChoice audio.now (length samples.old) number (block_of start (length samples.old) audio.now.channels) choice.new }
+    ensures places { length choice.new.subframes.items ≡ length choice.old.subframes.items }
+{
+    let size = samples.len() as u32;
+    let channels = audio.channels();
+    let depth = audio.bits();
+    choice.code = channels.len() as u8 - 1;
+    choice.bits = choose_channels(
+        channels,
+        start,
+        depth,
+        samples,
+        shortened,
+        values,
+        folds,
+        &mut choice.subframes,
+    );
+    let _header = FrameHeader::chosen(size, audio.rate(), choice.code, depth, number);
+}
+
+/// Chooses how so many of the samples from one on are written as the frame of a number, with the first places of arrays that may have more.
+fn choose_first(
+    audio: &Audio,
+    start: usize,
+    size: usize,
+    number: u64,
+    samples: &mut [i64],
+    right: &mut [i64],
+    side: &mut [i64],
+    middle: &mut [i64],
+    shortened: &mut [i64],
+    values: &mut [i64],
+    folds: &mut [u32],
+    choice: &mut FrameChoice,
+)
+    requires some { 0 < size }
+    requires few { size ≤ 65535 }
+    requires within { start + size ≤ samples_each audio.now.channels }
+    requires samples { size ≤ length samples.old }
+    requires right { size ≤ length right.old }
+    requires side { size ≤ length side.old }
+    requires middle { size ≤ length middle.old }
+    requires places { size ≤ length shortened.old }
+    requires values { size ≤ length values.old }
+    requires folds { size ≤ length folds.old }
+    requires choices { length audio.now.channels ≤ length choice.old.subframes.items }
+    requires number { number < 2 ^ 31 }
+    ensures chosen { IsFrameChoice audio.now size number (block_of start size audio.now.channels) choice.new }
+    ensures places { length choice.new.subframes.items ≡ length choice.old.subframes.items }
+{
+    let samples = &mut samples[..size];
+    if audio.channels().len() != 2 {
+        choose_apart(
+            audio, start, number, samples, shortened, values, folds, choice,
+        );
+        return;
+    }
+    choose_pair(
+        audio,
+        start,
+        number,
+        samples,
+        &mut right[..size],
+        &mut side[..size],
+        &mut middle[..size],
+        shortened,
+        values,
+        folds,
+        choice,
+    );
+}
+
+/// Writes the subframe that was chosen of each channel, of so many samples from one on.
+fn write_channels<W: Target>(
+    channels: &[Vec<i32>],
+    start: usize,
+    depth: u32,
+    samples: &mut [i64],
+    shortened: &mut [i64],
+    values: &mut [i64],
+    subframes: &[Choice],
     writer: &mut BitWriter<W>,
 ) -> Result<(), Why>
     requires some { 0 < length samples.old }
@@ -127,13 +242,15 @@ fn write_channels<W: Target>(
     requires fits { All (λ c. All (FitsBits depth) c.items) channels.now }
     requires places { length samples.old ≤ length shortened.old }
     requires values { length samples.old ≤ length values.old }
-    requires folds { length samples.old ≤ length folds.old }
-    ensures { WritesForms depth (length samples.old) (block_of start (length samples.old) (map (λ c. c.items) channels.now)) writer.old writer.new result }
+    requires choices { length channels.now ≤ length subframes.now }
+    requires made { AreMade subframes.now (block_of start (length samples.old) (map (λ c. c.items) channels.now)) }
+    ensures { Writes (flat_map (subframe_spelling depth) (forms_of subframes.now (block_of start (length samples.old) (map (λ c. c.items) channels.now)))) writer.old writer.new result }
 {
     let size = samples.len();
-    for channel in channels {
-        widen(&channel[start..start + size], samples);
-        write_least(samples, depth, shortened, values, folds, writer)?;
+    for i in 0..channels.len() {
+        let own = &channels[i];
+        widen(&own[start..start + size], samples);
+        write_subframe_into(&subframes[i], samples, depth, shortened, values, writer)?;
     }
     Ok(())
 }
@@ -147,8 +264,8 @@ pub(crate) fn write_end<W: Target>(writer: &mut BitWriter<W>) -> Result<(), Why>
     writer.put(16, check as u64)
 }
 
-/// Writes a frame of so many samples of each channel from one on, behind its header.
-fn write_frame<W: Target>(
+/// Writes a frame of so many samples of each channel from one on, each by itself, behind its header.
+fn write_apart<W: Target>(
     header: &FrameHeader,
     channels: &[Vec<i32>],
     start: usize,
@@ -156,7 +273,7 @@ fn write_frame<W: Target>(
     samples: &mut [i64],
     shortened: &mut [i64],
     values: &mut [i64],
-    folds: &mut [u32],
+    subframes: &[Choice],
     writer: &mut BitWriter<W>,
 ) -> Result<(), Why>
     requires some { 0 < length samples.old }
@@ -166,65 +283,31 @@ fn write_frame<W: Target>(
     requires fits { All (λ c. All (FitsBits depth) c.items) channels.now }
     requires places { length samples.old ≤ length shortened.old }
     requires values { length samples.old ≤ length values.old }
-    requires folds { length samples.old ≤ length folds.old }
+    requires choices { length channels.now ≤ length subframes.now }
+    requires made { AreMade subframes.now (block_of start (length samples.old) (map (λ c. c.items) channels.now)) }
     requires whole { writer.old.mark.unread ≡ 0 }
-    ensures { WritesWhole depth (length samples.old) header.now (block_of start (length samples.old) (map (λ c. c.items) channels.now)) writer.old writer.new result }
+    ensures { Writes (behind_header header.now (flat_map (subframe_spelling depth) (forms_of subframes.now (block_of start (length samples.old) (map (λ c. c.items) channels.now)))) writer.old.mark) (restarted writer.old) writer.new result }
 {
     write_header(header, writer)?;
     write_channels(
-        channels, start, depth, samples, shortened, values, folds, writer,
+        channels, start, depth, samples, shortened, values, subframes, writer,
     )?;
     write_end(writer)
 }
 
-/// Writes so many of the samples from one on, of channels other than two, as the frame of a number.
-fn encode_into<W: Target>(
-    audio: &Audio,
-    start: usize,
-    number: u64,
-    samples: &mut [i64],
-    shortened: &mut [i64],
-    values: &mut [i64],
-    folds: &mut [u32],
-    writer: &mut BitWriter<W>,
-) -> Result<(), Why>
-    requires some { 0 < length samples.old }
-    requires few { length samples.old ≤ 65535 }
-    requires other { length audio.now.channels ≡ 2 → ⊥ }
-    requires within { start + length samples.old ≤ samples_each audio.now.channels }
-    requires places { length samples.old ≤ length shortened.old }
-    requires values { length samples.old ≤ length values.old }
-    requires folds { length samples.old ≤ length folds.old }
-    requires number { number < 2 ^ 31 }
-    requires whole { writer.old.mark.unread ≡ 0 }
-    ensures { WritesFrame audio.now (length samples.old) number (block_of start (length samples.old) audio.now.channels) writer.old writer.new result }
-{
-    let size = samples.len() as u32;
-    let channels = audio.channels();
-    let code = channels.len() as u8 - 1;
-    let header = FrameHeader::chosen(size, audio.rate(), code, audio.bits(), number);
-    let Some(header) = header else {
-        return Err(Why::Write);
-    };
-    let depth = audio.bits();
-    write_frame(
-        &header, channels, start, depth, samples, shortened, values, folds, writer,
-    )
-}
-
-/// Writes so many of the samples from one on as the frame of a number, with the first places of arrays that may have more.
-fn encode_first<W: Target>(
+/// Writes the frame that was chosen for so many of the samples from one on, with the first places of arrays that may have more.
+fn write_first<W: Target>(
     audio: &Audio,
     start: usize,
     size: usize,
     number: u64,
+    choice: &FrameChoice,
     samples: &mut [i64],
     right: &mut [i64],
     side: &mut [i64],
     middle: &mut [i64],
     shortened: &mut [i64],
     values: &mut [i64],
-    folds: &mut [u32],
     writer: &mut BitWriter<W>,
 ) -> Result<(), Why>
     requires some { 0 < size }
@@ -236,42 +319,131 @@ fn encode_first<W: Target>(
     requires middle { size ≤ length middle.old }
     requires places { size ≤ length shortened.old }
     requires values { size ≤ length values.old }
-    requires folds { size ≤ length folds.old }
-    requires number { number < 2 ^ 31 }
+    requires choices { length audio.now.channels ≤ length choice.now.subframes.items }
+    requires chosen { IsFrameChoice audio.now size number (block_of start size audio.now.channels) choice.now }
     requires whole { writer.old.mark.unread ≡ 0 }
     ensures { WritesFrame audio.now size number (block_of start size audio.now.channels) writer.old writer.new result }
 {
+    let depth = audio.bits();
+    let header = FrameHeader::chosen(size as u32, audio.rate(), choice.code, depth, number);
+    let Some(header) = header else {
+        return Err(Why::Write);
+    };
     let samples = &mut samples[..size];
-    if audio.channels().len() != 2 {
-        return encode_into(
-            audio, start, number, samples, shortened, values, folds, writer,
+    let subframes = choice.subframes.as_slice();
+    let channels = audio.channels();
+    if channels.len() != 2 {
+        return write_apart(
+            &header, channels, start, depth, samples, shortened, values, subframes, writer,
         );
     }
-    encode_pair(
+    write_pair(
+        &header,
         audio,
         start,
-        number,
         samples,
         &mut right[..size],
         &mut side[..size],
         &mut middle[..size],
         shortened,
         values,
-        folds,
+        subframes,
         writer,
     )
 }
 
-/// Writes a block of the samples as the frame of a number, at a whole byte (RFC 9639, section 9).
+/// Chooses how a block of the samples is written as the frame of a number (RFC 9639, section 9), before anything of it is written. [`FrameChoice::frame_bytes`] then
+/// counts its bytes, and [`write_frame`] writes it.
 ///
 /// Each subframe is the least of its family. Two channels are kept as they are, as left and side, as side and right, or as middle and side
 /// (section 9.1.3), whichever takes the fewest bits; among equals the first of these.
+///
+/// The range lies in the samples and has 1 sample at least, and as many as the buffers have places for at most; the number is below 2^31. There is a place for the choice of each channel.
+pub fn choose_frame(
+    audio: &Audio,
+    range: Range<usize>,
+    number: u64,
+    buffers: &mut EncodeBuffers,
+    choice: &mut FrameChoice,
+)
+    requires some { range.start < range.end }
+    requires within { range.end ≤ samples_each audio.now.channels }
+    requires room { range.end - range.start ≤ buffers.old }
+    requires number { number < 2 ^ 31 }
+    requires places { length audio.now.channels ≤ length choice.old.subframes.items }
+    ensures kept { buffers.new ≡ buffers.old }
+    ensures chosen { IsFrameChoice audio.now (range.end - range.start) number (block_of range.start (range.end - range.start) audio.now.channels) choice.new }
+    ensures places { length choice.new.subframes.items ≡ length choice.old.subframes.items }
+{
+    let first = range.start;
+    choose_first(
+        audio,
+        first,
+        range.end - first,
+        number,
+        &mut buffers.samples,
+        &mut buffers.right,
+        &mut buffers.side,
+        &mut buffers.middle,
+        &mut buffers.shortened,
+        &mut buffers.values,
+        &mut buffers.folds,
+        choice,
+    );
+}
+
+/// Writes the frame that [`choose_frame`] chose for this block of the samples and this number, at a whole byte (RFC 9639, section 9).
+///
+/// ```
+/// let mut choice = FrameChoice::new(alloc, audio.channels().len())?;
+/// choose_frame(&audio, start..end, number, &mut buffers, &mut choice);
+/// let bytes = choice.frame_bytes(alloc, &audio, end - start, number)?;
+/// write_frame(&audio, start..end, number, &choice, &mut buffers, &mut writer)?;
+/// ```
+///
+/// # Errors
+/// [`Why::Write`] alone, if the target returns an error.
+pub fn write_frame<W: Target>(
+    audio: &Audio,
+    range: Range<usize>,
+    number: u64,
+    choice: &FrameChoice,
+    buffers: &mut EncodeBuffers,
+    writer: &mut BitWriter<W>,
+) -> Result<(), Why>
+    requires some { range.start < range.end }
+    requires within { range.end ≤ samples_each audio.now.channels }
+    requires room { range.end - range.start ≤ buffers.old }
+    requires places { length audio.now.channels ≤ length choice.now.subframes.items }
+    requires chosen { IsFrameChoice audio.now (range.end - range.start) number (block_of range.start (range.end - range.start) audio.now.channels) choice.now }
+    requires whole { writer.old.mark.unread ≡ 0 }
+    ensures kept { buffers.new ≡ buffers.old }
+    ensures wrote { WritesFrame audio.now (range.end - range.start) number (block_of range.start (range.end - range.start) audio.now.channels) writer.old writer.new result }
+{
+    let begin = range.start;
+    write_first(
+        audio,
+        begin,
+        range.end - begin,
+        number,
+        choice,
+        &mut buffers.samples,
+        &mut buffers.right,
+        &mut buffers.side,
+        &mut buffers.middle,
+        &mut buffers.shortened,
+        &mut buffers.values,
+        writer,
+    )
+}
+
+/// Writes a block of the samples as the frame of a number, at a whole byte (RFC 9639, section 9), as [`choose_frame`] chooses it.
 ///
 /// The range lies in the samples and has 1 sample at least, and as many as the buffers have places for at most; the number is below 2^31.
 /// Returns how many bytes the frame has, 1 to 16777215.
 ///
 /// # Errors
-/// [`Why::Write`] alone, if the target answers an error.
+/// [`Why::Write`] alone, if the target returns an error.
 pub fn encode_frame<W: Target>(
     audio: &Audio,
     range: Range<usize>,
@@ -290,11 +462,14 @@ pub fn encode_frame<W: Target>(
     // The count of the writer stops at 2^64 - 1.
     ensures bytes { IfOk result (λ bytes. writer.old.known ≡ true → writer.new.mark.bytes < 2 ^ 64 - 1 → length writer.new.bits ≡ length writer.old.bits + 8 * bytes) }
 {
+    let _channels = audio.channels();
     let before = writer.bytes_written();
-    encode_first(
+    let start = range.start;
+    let size = range.end - range.start;
+    choose_first(
         audio,
-        range.start,
-        range.end - range.start,
+        start,
+        size,
         number,
         &mut buffers.samples,
         &mut buffers.right,
@@ -303,6 +478,20 @@ pub fn encode_frame<W: Target>(
         &mut buffers.shortened,
         &mut buffers.values,
         &mut buffers.folds,
+        &mut buffers.choice,
+    );
+    write_first(
+        audio,
+        start,
+        size,
+        number,
+        &buffers.choice,
+        &mut buffers.samples,
+        &mut buffers.right,
+        &mut buffers.side,
+        &mut buffers.middle,
+        &mut buffers.shortened,
+        &mut buffers.values,
         writer,
     )?;
     Ok(writer.bytes_written() - before)

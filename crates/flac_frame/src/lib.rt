@@ -8,6 +8,7 @@ mod channels;
 mod encode;
 mod end;
 mod fill;
+mod frame_choice;
 mod pair;
 mod plane;
 mod promises;
@@ -20,7 +21,8 @@ mod view;
 pub use audio::Audio;
 pub use before::Before;
 pub use buffers::FrameBuffers;
-pub use encode::{EncodeBuffers, encode_frame};
+pub use encode::{EncodeBuffers, choose_frame, encode_frame, write_frame};
+pub use frame_choice::FrameChoice;
 pub use promises::{
     channels_are_joined, encodings_are_frames, forms_stand_for_samples, frame_family_is_plain,
     frames_are_spelled, frames_follow,

@@ -1,22 +1,28 @@
 //! Two channels, kept in the way that takes the fewest bits.
 
-ghost use Rattle.std.specs.Prelude.{◌≡◌, ◌<◌, ◌≤◌, ◌+◌, ◌^◌, ◌-ℤ◌, ◌+ℤ◌, ◌++◌, ◌∷◌, [], length, take, drop, All};
+ghost use Rattle.std.specs.Prelude.{◌≡◌, ◌<◌, ◌≤◌, ◌+◌, ◌^◌, ◌-ℤ◌, ◌+ℤ◌, ◌∷◌, [], ℕ, length, take, drop, slice_set, All};
 ghost use Rattle.std.specs.Int.{int_shr};
 ghost use Rattle.flac_bits.specs.Signed.{FitsBits};
 ghost use Rattle.flac_bits.specs.Written.{Writes};
 ghost use Rattle.flac_header.specs.Spelling.{restarted};
 ghost use Rattle.flac_subframe.specs.Family.{IsMadeOf, form_of};
 ghost use Rattle.flac_subframe.specs.Spelling.{subframe_spelling};
-ghost use Rattle.flac_frame.specs.Audio.{IsSound, samples_each};
-ghost use Rattle.flac_frame.specs.Encoding.{block_of, behind_header, WritesFrame};
-ghost use Rattle.flac_frame.specs.Pair.{IsFirstLeast, IsKept, pair_cost};
-ghost use Rattle.flac_frame.specs.Stereo.{side_of, middle_of};
+ghost use Rattle.flac_frame.specs.Audio.{samples_each};
+ghost use Rattle.flac_frame.specs.Chosen.{forms_of, AreMade, IsFrameChoice};
+ghost use Rattle.flac_frame.specs.Encoding.{block_of, behind_header};
+ghost use Rattle.flac_frame.specs.Frame.{side_bit};
+ghost use Rattle.flac_frame.specs.Pair.{IsPairCode, IsFirstLeast, IsKept, pair_cost};
+ghost use Rattle.flac_frame.specs.Spelling.{subframes_spelling};
+ghost use Rattle.flac_frame.specs.Stereo.{side_of, middle_of, kept_as};
 
 use crate::audio::Audio;
+use crate::channels::side_bit;
 use crate::encode::{widen, write_end};
-use crate::plane::{Plane, choose_plane, write_plane};
+use crate::frame_choice::FrameChoice;
+use crate::plane::{Plane, choose_plane};
 use flac_bits::{BitWriter, Target, Why};
 use flac_header::{FrameHeader, write_header};
+use flac_subframe::{Choice, write_subframe_into};
 
 /// The side and the middle of two samples (RFC 9639, section 4.2).
 #[inline(always)]
@@ -71,30 +77,6 @@ fn least_code(left: u64, right: u64, side: u64, middle: u64) -> u8
     10
 }
 
-/// Writes a frame of two subframes.
-fn write_two<W: Target>(
-    header: &FrameHeader,
-    first: &Plane,
-    second: &Plane,
-    shortened: &mut [i64],
-    values: &mut [i64],
-    writer: &mut BitWriter<W>,
-) -> Result<(), Why>
-    requires first_made { IsMadeOf first.now.choice first.now.samples.now }
-    requires second_made { IsMadeOf second.now.choice second.now.samples.now }
-    requires first_places { length first.now.samples.now ≤ length shortened.old }
-    requires first_values { length first.now.samples.now ≤ length values.old }
-    requires second_places { length second.now.samples.now ≤ length shortened.old }
-    requires second_values { length second.now.samples.now ≤ length values.old }
-    requires whole { writer.old.mark.unread ≡ 0 }
-    ensures { Writes (behind_header header.now (subframe_spelling first.now.depth (form_of first.now.choice first.now.samples.now) ++ subframe_spelling second.now.depth (form_of second.now.choice second.now.samples.now)) writer.old.mark) (restarted writer.old) writer.new result }
-{
-    write_header(header, writer)?;
-    write_plane(first, shortened, values, writer)?;
-    write_plane(second, shortened, values, writer)?;
-    write_end(writer)
-}
-
 /// Two channels as a frame keeps them: the channel code, and each subframe's samples with how they are written.
 #[derive(Drop)]
 struct KeptPair<'a> {
@@ -104,7 +86,7 @@ struct KeptPair<'a> {
 }
 
 /// Chooses what two channels, whose side and middle are given, are kept as.
-fn choose_pair<'a>(
+fn choose_kept<'a>(
     left: &'a [i64],
     right: &'a [i64],
     side: &'a [i64],
@@ -126,6 +108,8 @@ fn choose_pair<'a>(
     requires values { length left.now ≤ length values.old }
     requires folds { length left.now ≤ length folds.old }
     ensures kept { IsKept depth left.now right.now result.code result.first.depth result.second.depth result.first.samples.now result.second.samples.now (form_of result.first.choice result.first.samples.now) (form_of result.second.choice result.second.samples.now) }
+    ensures bits { (result.first.choice.bits ≡ length (subframe_spelling result.first.depth (form_of result.first.choice result.first.samples.now))) × (result.second.choice.bits ≡ length (subframe_spelling result.second.depth (form_of result.second.choice result.second.samples.now))) }
+    ensures small { (result.first.choice.bits ≤ 2 ^ 61) × (result.second.choice.bits ≤ 2 ^ 61) }
     ensures first_made { IsMadeOf result.first.choice result.first.samples.now }
     ensures second_made { IsMadeOf result.second.choice result.second.samples.now }
 {
@@ -167,51 +151,6 @@ fn choose_pair<'a>(
     }
 }
 
-/// Writes two channels, whose side and middle are given, as the frame of a number.
-fn write_least_pair<W: Target>(
-    audio: &Audio,
-    number: u64,
-    left: &[i64],
-    right: &[i64],
-    side: &[i64],
-    middle: &[i64],
-    shortened: &mut [i64],
-    values: &mut [i64],
-    folds: &mut [u32],
-    writer: &mut BitWriter<W>,
-) -> Result<(), Why>
-    requires sound { IsSound audio.now }
-    requires some { 0 < length left.now }
-    requires few { length left.now ≤ 65535 }
-    requires right { length right.now ≡ length left.now }
-    requires side { side.now ≡ side_of left.now right.now }
-    requires middle { middle.now ≡ middle_of left.now right.now }
-    requires left_fits { All (FitsBits audio.now.bits) left.now }
-    requires right_fits { All (FitsBits audio.now.bits) right.now }
-    requires places { length left.now ≤ length shortened.old }
-    requires values { length left.now ≤ length values.old }
-    requires folds { length left.now ≤ length folds.old }
-    requires number { number < 2 ^ 31 }
-    requires whole { writer.old.mark.unread ≡ 0 }
-    ensures { WritesFrame audio.now (length left.now) number (left.now ∷ right.now ∷ []) writer.old writer.new result }
-{
-    let size = left.len() as u32;
-    let depth = audio.bits();
-    let pair = choose_pair(left, right, side, middle, depth, shortened, values, folds);
-    let header = FrameHeader::chosen(size, audio.rate(), pair.code, depth, number);
-    let Some(header) = header else {
-        return Err(Why::Write);
-    };
-    write_two(
-        &header,
-        &pair.first,
-        &pair.second,
-        shortened,
-        values,
-        writer,
-    )
-}
-
 /// Puts samples of a channel from one on into places of 64 bits.
 fn widen_from(channel: &[i32], start: usize, out: &mut [i64])
     requires { start + length out.old ≤ length channel.now }
@@ -221,8 +160,43 @@ fn widen_from(channel: &[i32], start: usize, out: &mut [i64])
     widen(&channel[start..end], out);
 }
 
-/// Writes so many samples of two channels from one on as the frame of a number.
-pub(crate) fn encode_pair<W: Target>(
+/// Puts so many samples of two channels from one on into places, and their side and middle.
+fn split_pair(
+    audio: &Audio,
+    start: usize,
+    left: &mut [i64],
+    right: &mut [i64],
+    side: &mut [i64],
+    middle: &mut [i64],
+)
+    requires two { length audio.now.channels ≡ 2 }
+    requires within { start + length left.old ≤ samples_each audio.now.channels }
+    requires right { length right.old ≡ length left.old }
+    requires side { length side.old ≡ length left.old }
+    requires middle { length middle.old ≡ length left.old }
+    ensures block { left.new ∷ right.new ∷ [] ≡ block_of start (length left.old) audio.now.channels }
+    ensures side { side.new ≡ side_of left.new right.new }
+    ensures middle { middle.new ≡ middle_of left.new right.new }
+    ensures left_fits { All (FitsBits audio.now.bits) left.new }
+    ensures right_fits { All (FitsBits audio.now.bits) right.new }
+{
+    let channels = audio.channels();
+    widen_from(&channels[0], start, left);
+    widen_from(&channels[1], start, right);
+    split_channels(left, right, side, middle);
+}
+
+/// Puts two subframes into the first places.
+fn place_two(places: &mut [Choice], first: Choice, second: Choice)
+    requires { 2 ≤ length places.old }
+    ensures { places.new ≡ slice_set (slice_set places.old 0 first) 1 second }
+{
+    places[0] = first;
+    places[1] = second;
+}
+
+/// Chooses how so many samples of two channels from one on are written as the frame of a number.
+pub(crate) fn choose_pair(
     audio: &Audio,
     start: usize,
     number: u64,
@@ -233,6 +207,124 @@ pub(crate) fn encode_pair<W: Target>(
     shortened: &mut [i64],
     values: &mut [i64],
     folds: &mut [u32],
+    choice: &mut FrameChoice,
+)
+    requires two { length audio.now.channels ≡ 2 }
+    requires some { 0 < length left.old }
+    requires few { length left.old ≤ 65535 }
+    requires within { start + length left.old ≤ samples_each audio.now.channels }
+    requires right { length right.old ≡ length left.old }
+    requires side { length side.old ≡ length left.old }
+    requires middle { length middle.old ≡ length left.old }
+    requires places { length left.old ≤ length shortened.old }
+    requires values { length left.old ≤ length values.old }
+    requires folds { length left.old ≤ length folds.old }
+    requires choices { 2 ≤ length choice.old.subframes.items }
+    requires number { number < 2 ^ 31 }
+    ensures chosen { IsFrameChoice audio.now (length left.old) number (block_of start (length left.old) audio.now.channels) choice.new }
+    ensures places { length choice.new.subframes.items ≡ length choice.old.subframes.items }
+{
+    let size = left.len() as u32;
+    let depth = audio.bits();
+    let _channels = audio.channels();
+    split_pair(audio, start, left, right, side, middle);
+    let kept = choose_kept(left, right, side, middle, depth, shortened, values, folds);
+    let _header = FrameHeader::chosen(size, audio.rate(), kept.code, depth, number);
+    let KeptPair {
+        code,
+        first,
+        second,
+    } = kept;
+    choice.code = code;
+    choice.bits = first.choice.bits() + second.choice.bits();
+    place_two(&mut choice.subframes, first.choice, second.choice);
+}
+
+/// What a channel code keeps of two channels, whose side and middle are given.
+fn kept_of<'a>(
+    code: u8,
+    left: &'a [i64],
+    right: &'a [i64],
+    side: &'a [i64],
+    middle: &'a [i64],
+) -> (&'a [i64], &'a [i64])
+    requires code { IsPairCode code }
+    requires side { side.now ≡ side_of left.now right.now }
+    requires middle { middle.now ≡ middle_of left.now right.now }
+    requires long { length right.now ≡ length left.now }
+    ensures kept { kept_as code (left.now ∷ right.now ∷ []) ≡ result.0.now ∷ result.1.now ∷ [] }
+    ensures long { (length result.0.now ≡ length left.now) × (length result.1.now ≡ length left.now) }
+    ensures fits { (depth : ℕ) → 1 ≤ depth → All (FitsBits depth) left.now → All (FitsBits depth) right.now → All (FitsBits (depth + side_bit code 0)) result.0.now × All (FitsBits (depth + side_bit code 1)) result.1.now }
+{
+    if code == 8 {
+        return (left, side);
+    }
+    if code == 9 {
+        return (side, right);
+    }
+    if code == 10 {
+        return (middle, side);
+    }
+    (left, right)
+}
+
+/// Writes the subframes that were chosen of two channels as a channel code keeps them, behind their header.
+fn write_kept<W: Target>(
+    header: &FrameHeader,
+    first: &[i64],
+    second: &[i64],
+    depth: u32,
+    shortened: &mut [i64],
+    values: &mut [i64],
+    subframes: &[Choice],
+    writer: &mut BitWriter<W>,
+) -> Result<(), Why>
+    requires some { 0 < length first.now }
+    requires few { length first.now ≤ 65535 }
+    requires second { length second.now ≡ length first.now }
+    requires depth { (1 ≤ depth) × (depth ≤ 32) }
+    requires first_fits { All (FitsBits (depth + side_bit header.now.channel_code 0)) first.now }
+    requires second_fits { All (FitsBits (depth + side_bit header.now.channel_code 1)) second.now }
+    requires places { length first.now ≤ length shortened.old }
+    requires values { length first.now ≤ length values.old }
+    requires made { AreMade subframes.now (first.now ∷ second.now ∷ []) }
+    requires choices { 2 ≤ length subframes.now }
+    requires whole { writer.old.mark.unread ≡ 0 }
+    ensures { Writes (behind_header header.now (subframes_spelling depth header.now.channel_code 0 (forms_of subframes.now (first.now ∷ second.now ∷ []))) writer.old.mark) (restarted writer.old) writer.new result }
+{
+    let code = header.channel_code();
+    write_header(header, writer)?;
+    write_subframe_into(
+        &subframes[0],
+        first,
+        depth + side_bit(code, 0),
+        shortened,
+        values,
+        writer,
+    )?;
+    write_subframe_into(
+        &subframes[1],
+        second,
+        depth + side_bit(code, 1),
+        shortened,
+        values,
+        writer,
+    )?;
+    write_end(writer)
+}
+
+/// Writes so many samples of two channels from one on, as they were chosen to be written, behind their header.
+pub(crate) fn write_pair<W: Target>(
+    header: &FrameHeader,
+    audio: &Audio,
+    start: usize,
+    left: &mut [i64],
+    right: &mut [i64],
+    side: &mut [i64],
+    middle: &mut [i64],
+    shortened: &mut [i64],
+    values: &mut [i64],
+    subframes: &[Choice],
     writer: &mut BitWriter<W>,
 ) -> Result<(), Why>
     requires two { length audio.now.channels ≡ 2 }
@@ -244,16 +336,23 @@ pub(crate) fn encode_pair<W: Target>(
     requires middle { length middle.old ≡ length left.old }
     requires places { length left.old ≤ length shortened.old }
     requires values { length left.old ≤ length values.old }
-    requires folds { length left.old ≤ length folds.old }
-    requires number { number < 2 ^ 31 }
+    requires code { IsPairCode header.now.channel_code }
+    requires made { AreMade subframes.now (kept_as header.now.channel_code (block_of start (length left.old) audio.now.channels)) }
+    requires choices { 2 ≤ length subframes.now }
     requires whole { writer.old.mark.unread ≡ 0 }
-    ensures { WritesFrame audio.now (length left.old) number (block_of start (length left.old) audio.now.channels) writer.old writer.new result }
+    ensures { Writes (behind_header header.now (subframes_spelling audio.now.bits header.now.channel_code 0 (forms_of subframes.now (kept_as header.now.channel_code (block_of start (length left.old) audio.now.channels)))) writer.old.mark) (restarted writer.old) writer.new result }
 {
-    let channels = audio.channels();
-    widen_from(&channels[0], start, left);
-    widen_from(&channels[1], start, right);
-    split_channels(left, right, side, middle);
-    write_least_pair(
-        audio, number, left, right, side, middle, shortened, values, folds, writer,
+    let _channels = audio.channels();
+    split_pair(audio, start, left, right, side, middle);
+    let (first, second) = kept_of(header.channel_code(), left, right, side, middle);
+    write_kept(
+        header,
+        first,
+        second,
+        audio.bits(),
+        shortened,
+        values,
+        subframes,
+        writer,
     )
 }

@@ -2,13 +2,10 @@
 
 ghost use Rattle.std.specs.Prelude.{◌≡◌, ◌<◌, ◌≤◌, ◌^◌, length, All};
 ghost use Rattle.flac_bits.specs.Signed.{FitsBits};
-ghost use Rattle.flac_bits.specs.Written.{Writes};
 ghost use Rattle.flac_subframe.specs.Family.{IsMadeOf, form_of};
-ghost use Rattle.flac_subframe.specs.Spelling.{subframe_spelling};
 ghost use Rattle.flac_frame.specs.Pair.{IsChosen};
 
-use flac_bits::{BitWriter, Target, Why};
-use flac_subframe::{Choice, choose_into, write_subframe_into};
+use flac_subframe::{Choice, choose_into};
 
 /// A channel as it is kept: its samples, their depth, and how they are written.
 #[derive(Drop)]
@@ -49,26 +46,4 @@ pub(crate) fn choose_plane<'a>(
         depth,
         choice,
     }
-}
-
-/// Writes the subframe that was chosen.
-pub(crate) fn write_plane<W: Target>(
-    plane: &Plane,
-    shortened: &mut [i64],
-    values: &mut [i64],
-    writer: &mut BitWriter<W>,
-) -> Result<(), Why>
-    requires made { IsMadeOf plane.now.choice plane.now.samples.now }
-    requires places { length plane.now.samples.now ≤ length shortened.old }
-    requires values { length plane.now.samples.now ≤ length values.old }
-    ensures { Writes (subframe_spelling plane.now.depth (form_of plane.now.choice plane.now.samples.now)) writer.old writer.new result }
-{
-    write_subframe_into(
-        &plane.choice,
-        plane.samples,
-        plane.depth,
-        shortened,
-        values,
-        writer,
-    )
 }

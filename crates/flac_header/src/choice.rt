@@ -1,4 +1,4 @@
-//! The codes that a writer chooses.
+//! The codes that a header of given values has.
 
 ghost use Rattle.std.specs.Prelude.{◌≡◌, ◌≤◌, ◌<◌, IfSome, nat_eq, false};
 ghost use Rattle.flac_header.specs.Header.{IsSize, IsRate, IsHeader};
@@ -6,7 +6,8 @@ ghost use Rattle.flac_header.specs.Choice.{size_choice, rate_choice, depth_choic
 
 use crate::frame_header::FrameHeader;
 
-/// The code of a block size (RFC 9639, section 9.1.1).
+/// The code of a block size (RFC 9639, section 9.1.1): one that names the size, or else 6 up to 256 and 7 up to 65535;
+/// `None` if there is none.
 #[tactic(auto, unfolding(crate::specs::Choice::size_choice))]
 fn size_code(size: u32) -> Option<u8>
     ensures code { result ≡ size_choice size }
@@ -34,7 +35,8 @@ fn size_code(size: u32) -> Option<u8>
     }
 }
 
-/// The code of a rate (RFC 9639, section 9.1.2).
+/// The code of a sample rate in Hz (RFC 9639, section 9.1.2): one that names the rate, or else 12 for multiples of 1000
+/// up to 255000, 13 up to 65535, and 14 for multiples of 10 up to 655350. `None` if there is none, and for 0 Hz.
 #[tactic(auto, unfolding(crate::specs::Choice::rate_choice))]
 pub fn rate_code(rate: u32) -> Option<u8>
     ensures code { result ≡ rate_choice rate }
@@ -61,7 +63,7 @@ pub fn rate_code(rate: u32) -> Option<u8>
     }
 }
 
-/// The code of a depth (RFC 9639, section 9.1.4).
+/// The code of 8, 12, 16, 20, 24 or 32 bits per sample (RFC 9639, section 9.1.4); `None` for others.
 #[tactic(auto, unfolding(crate::specs::Choice::depth_choice))]
 pub fn depth_code(depth: u32) -> Option<u8>
     ensures code { result ≡ depth_choice depth }
@@ -79,8 +81,14 @@ pub fn depth_code(depth: u32) -> Option<u8>
 }
 
 impl FrameHeader {
-    /// The header of a counted frame: its block size, rate in Hz, channel code, depth in bits and number. A code that names
-    /// a size or a rate is taken before one that asks for a field. `None` where a value has no code, or the number is 2^31 or more.
+    /// Makes the header of a frame with a frame number: block size in samples, rate in Hz, channel code 0 to 10
+    /// ([`FrameHeader::channel_code`]), bits per sample, and number below 2^31. A code that names a value is preferred
+    /// to one that asks for a field, see [`rate_code`]. `None` if a value has no code or is out of its range.
+    ///
+    /// ```
+    /// // 4096 samples of two independent channels, 16 bits at 44100 Hz, in frame 0
+    /// let header = FrameHeader::chosen(4096, 44100, 1, 16, 0);
+    /// ```
     #[tactic(auto, unfolding(crate::specs::Choice::chosen_header))]
     pub fn chosen(
         size: u32,

@@ -1,11 +1,12 @@
-//! The value of a frame header.
+//! Frame headers.
 
 ghost use Rattle.std.specs.Prelude.{◌≡◌, ◌≤◌, ◌<◌, ◌^◌};
 ghost use Rattle.flac_header.specs.Header.{channels_of, depth_of};
 
 use std::marker::Model;
 
-/// The header of a frame, with the codes that were chosen. Size, rate and number are always such as the codes may stand for.
+/// The header of a frame, with the codes that state its values (RFC 9639, section 9.1). No code is reserved, and block
+/// size, rate and number are always such as their codes can state. Sections are those of RFC 9639.
 #[derive(Clone, Copy, Debug, PartialEq, Eq)]
 pub struct FrameHeader {
     pub(crate) variable: bool,
@@ -31,7 +32,8 @@ impl Model for FrameHeader {
 }
 
 impl FrameHeader {
-    /// Whether the number is that of the first sample; else it counts the frames (RFC 9639, section 9.1).
+    /// The blocking strategy (section 9.1): true if the header has the number of the first sample, false if it has the
+    /// number of the frame.
     pub fn variable(&self) -> bool
         ensures { result ≡ self.now.variable }
     {
@@ -47,14 +49,15 @@ impl FrameHeader {
         self.size
     }
 
-    /// Samples a second, 0 where STREAMINFO tells the rate (section 9.1.2).
+    /// The sample rate in Hz, as the header states it (section 9.1.2). 0 if the rate is that of STREAMINFO; a rate
+    /// field of 0 gives 0 too.
     pub fn rate(&self) -> u32
         ensures { result ≡ self.now.rate }
     {
         self.rate
     }
 
-    /// How many channels, 1 to 8 (section 9.1.3).
+    /// How many channels there are, 1 to 8 (section 9.1.3).
     pub fn channels(&self) -> u32
         ensures channels { result ≡ channels_of self.now.channel_code }
         ensures least { 1 ≤ result }
@@ -66,7 +69,8 @@ impl FrameHeader {
         }
     }
 
-    /// The channel code, 0 to 10: 8 is left and side, 9 side and right, 10 mid and side (section 9.1.3).
+    /// The channel code, 0 to 10 (section 9.1.3). 0 to 7 are one to eight independent channels; the others are
+    /// decorrelated stereo: 8 is left and side, 9 side and right, 10 mid and side.
     pub fn channel_code(&self) -> u8
         ensures code { result ≡ self.now.channel_code }
         ensures greatest { result ≤ 10 }
@@ -74,7 +78,7 @@ impl FrameHeader {
         self.channel_code
     }
 
-    /// Bits of a sample, 0 where STREAMINFO tells the depth (section 9.1.4).
+    /// Bits per sample: 8, 12, 16, 20, 24 or 32; 0 if the depth is that of STREAMINFO (section 9.1.4).
     pub fn depth(&self) -> u32
         ensures depth { result ≡ depth_of self.now.depth_code }
         ensures greatest { result ≤ 32 }
@@ -90,7 +94,7 @@ impl FrameHeader {
         }
     }
 
-    /// The number of the frame or of its first sample, below 2^36 (section 9.1.5).
+    /// The number of the frame or of its first sample, below 2^36 (section 9.1.5): see [`FrameHeader::variable`].
     pub fn number(&self) -> u64
         ensures number { result ≡ self.now.number }
         ensures small { result < 2 ^ 36 }

@@ -1,4 +1,5 @@
-//! The header of a FLAC frame (RFC 9639, section 9.1): its value, reading and writing it, and the rules of the streamable subset.
+//! Frame headers: their values, reading, writing, and the rules of the streamable subset (RFC 9639, sections 7 and
+//! 9.1).
 #![tactic(auto)]
 
 mod choice;

@@ -1,8 +1,9 @@
-//! What holds of the definitions.
+//! Laws of the definitions.
 
 ghost use Rattle.flac_header.specs.Spelling.{HeadersAreSpelled, HeadersAreReadAgain};
 
-/// Bits spell just the headers whose codes may say what they hold, each in one way, and what spells a header is read as it, whatever follows.
+/// Law: bits encode exactly the headers whose codes can state their values, each in one way; and what encodes a header
+/// is read as it, whatever follows.
 pub fn headers_are_spelled()
     ensures spelled { HeadersAreSpelled }
     ensures again { HeadersAreReadAgain }

@@ -1,4 +1,4 @@
-//! Reads the header of a frame.
+//! Reading of frame headers.
 
 ghost use Rattle.std.specs.Prelude.{◌≡◌, ◌≢◌, ◌<◌, ◌≤◌, ◌+◌, ◌^◌, IfOk, IfErr, OnOk};
 ghost use Rattle.flac_bits.specs.Reading.{Counts, Reads, Means};
@@ -8,7 +8,7 @@ ghost use Rattle.flac_header.specs.Header.{size_field, rate_field, rate_of_code,
 use crate::frame_header::FrameHeader;
 use flac_bits::{BitReader, Source, Why, read_number};
 
-/// The block size by its code and, where this asks for it, by what stands here (RFC 9639, section 9.1.6).
+/// The block size of a code, with the field that codes 6 and 7 ask for (RFC 9639, section 9.1.6).
 #[tactic(auto, unfolding(crate::specs::Header::size_field))]
 fn read_size<R: Source>(bits: &mut BitReader<R>, code: u8) -> Result<u32, Why>
     requires chosen { 0 < code }
@@ -35,7 +35,7 @@ fn read_size<R: Source>(bits: &mut BitReader<R>, code: u8) -> Result<u32, Why>
     Ok(size)
 }
 
-/// The rate that a code names by itself, and 0 for every other code (RFC 9639, section 9.1.2).
+/// The rate in Hz that a code names by itself, and 0 for every other code (RFC 9639, section 9.1.2).
 fn named_rate(code: u8) -> u32
     ensures is { result ≡ rate_of_code code }
     ensures fits { code < 12 → IsRate code result }
@@ -57,7 +57,7 @@ fn named_rate(code: u8) -> u32
     }
 }
 
-/// The rate by its code and, where this asks for it, by what stands here (RFC 9639, section 9.1.7).
+/// The rate in Hz of a code, with the field that codes 12 to 14 ask for (RFC 9639, section 9.1.7).
 #[tactic(auto, unfolding(crate::specs::Header::rate_field))]
 fn read_rate<R: Source>(bits: &mut BitReader<R>, code: u8) -> Result<u32, Why>
     requires { code < 15 }
@@ -76,7 +76,7 @@ fn read_rate<R: Source>(bits: &mut BitReader<R>, code: u8) -> Result<u32, Why>
     Ok(rate)
 }
 
-/// The header from its first bit on, the checks having begun there.
+/// Reads a header from its first bit on; the checks began there.
 #[tactic(auto, unfolding(crate::specs::Header::header))]
 fn read_fields<R: Source>(bits: &mut BitReader<R>) -> Result<FrameHeader, Why>
     ensures spends { OnOk result (bits.new.most + 40 ≤ bits.old.most) }
@@ -126,9 +126,22 @@ fn read_fields<R: Source>(bits: &mut BitReader<R>) -> Result<FrameHeader, Why>
     })
 }
 
-/// Reads the header of the frame that begins here, at a whole byte, and begins the checks there (RFC 9639, section 9.1).
+/// Reads a frame header with its CRC-8 (RFC 9639, section 9.1). The reader should be at a whole byte: there the checks
+/// begin anew.
 ///
-/// Refuses `BadSync`, `ReservedCode`, `BadNumber` and `HeaderCheck`, each at the end of the field that shows it.
+/// ```
+/// let mut bits = BitReader::new(Memory::new(&[0xFF, 0xF8, 0x69, 0x08, 0x00, 0x0F, 0x30]));
+/// let header = read_header(&mut bits)?; // 16 samples of one channel, 16 bits at 44100 Hz
+/// ```
+///
+/// # Errors
+/// The error of the field that ends first:
+///
+/// - [`Why::BadSync`] if the first 15 bits are not the sync code.
+/// - [`Why::ReservedCode`] if a code is reserved or forbidden, the reserved bit is set, or the block size is 65536.
+/// - [`Why::BadNumber`] if the coded number is malformed, too long, or not in its shortest form.
+/// - [`Why::HeaderCheck`] if the CRC-8 differs.
+/// - Those of [`BitReader`].
 pub fn read_header<R: Source>(bits: &mut BitReader<R>) -> Result<FrameHeader, Why>
     ensures spends { OnOk result (bits.new.most + 40 ≤ bits.old.most) }
     ensures counts { Counts bits.old bits.new result }

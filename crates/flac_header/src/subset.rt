@@ -5,15 +5,15 @@ ghost use Rattle.flac_header.specs.Header.{allowed};
 
 use crate::frame_header::FrameHeader;
 
-/// Which streams are accepted.
+/// Which streams a decoder accepts.
 #[derive(Clone, Copy, Debug, PartialEq, Eq)]
 pub enum Profile {
-    /// The streamable subset.
+    /// Streams of the streamable subset (RFC 9639, section 7).
     Subset,
 }
 
-/// Whether the streamable subset allows the header: it says rate and depth, and the block has at most 16384 samples,
-/// 4608 where the rate is at most 48000 Hz.
+/// Whether the streamable subset allows the header (RFC 9639, section 7): it states rate and depth itself, and the
+/// block has at most 16384 samples, or 4608 if the rate is at most 48000 Hz.
 #[tactic(auto, unfolding(crate::specs::Header::allowed))]
 pub fn subset_allows(header: &FrameHeader) -> bool
     ensures { result ≡ allowed header.now }

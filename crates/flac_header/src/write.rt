@@ -1,4 +1,4 @@
-//! Writes the header of a frame.
+//! Writing of frame headers.
 
 ghost use Rattle.std.specs.Prelude.{◌≡◌};
 ghost use Rattle.flac_bits.specs.Written.{Writes, WritesParts};
@@ -8,7 +8,7 @@ ghost use Rattle.flac_header.specs.Spelling.{size_spelling, rate_spelling, code_
 use crate::frame_header::FrameHeader;
 use flac_bits::{BitWriter, Target, Why, write_number};
 
-/// The block size, where the code asks for it (RFC 9639, section 9.1.6).
+/// Writes the block size, if the code asks for a field (RFC 9639, section 9.1.6).
 #[tactic(auto, unfolding(crate::specs::Spelling::size_spelling))]
 fn put_size<W: Target>(writer: &mut BitWriter<W>, code: u8, size: u32) -> Result<(), Why>
     requires { IsSize code size }
@@ -21,7 +21,7 @@ fn put_size<W: Target>(writer: &mut BitWriter<W>, code: u8, size: u32) -> Result
     }
 }
 
-/// The rate, where the code asks for it (RFC 9639, section 9.1.7).
+/// Writes the rate, if the code asks for a field (RFC 9639, section 9.1.7).
 #[tactic(auto, unfolding(crate::specs::Spelling::rate_spelling))]
 fn put_rate<W: Target>(writer: &mut BitWriter<W>, code: u8, rate: u32) -> Result<(), Why>
     requires { IsRate code rate }
@@ -35,7 +35,7 @@ fn put_rate<W: Target>(writer: &mut BitWriter<W>, code: u8, rate: u32) -> Result
     }
 }
 
-/// The sync code, the blocking strategy, the codes and the reserved bit.
+/// Writes the sync code, the blocking strategy, the codes and the reserved bit.
 #[tactic(auto, unfolding(crate::specs::Spelling::code_parts))]
 fn put_codes<W: Target>(writer: &mut BitWriter<W>, header: &FrameHeader) -> Result<(), Why>
     ensures { WritesParts (code_parts header.now) writer.old writer.new result }
@@ -50,7 +50,7 @@ fn put_codes<W: Target>(writer: &mut BitWriter<W>, header: &FrameHeader) -> Resu
     writer.put(1, 0)
 }
 
-/// All but the check.
+/// Writes all but the check.
 #[tactic(auto, unfolding(crate::specs::Spelling::header_parts))]
 fn put_fields<W: Target>(writer: &mut BitWriter<W>, header: &FrameHeader) -> Result<(), Why>
     ensures { WritesParts (header_parts header.now) writer.old writer.new result }
@@ -61,9 +61,10 @@ fn put_fields<W: Target>(writer: &mut BitWriter<W>, header: &FrameHeader) -> Res
     put_rate(writer, header.rate_code, header.rate)
 }
 
-/// Writes a header at a whole byte, and begins the checks there (RFC 9639, section 9.1).
+/// Writes a frame header with its CRC-8 at a whole byte, where the checks begin anew (RFC 9639, section 9.1).
 ///
-/// Refuses [`Why::Write`] alone, where the target does.
+/// # Errors
+/// [`Why::Write`] if the target fails.
 pub fn write_header<W: Target>(header: &FrameHeader, writer: &mut BitWriter<W>) -> Result<(), Why>
     requires { writer.old.mark.unread ≡ 0 }
     ensures { Writes (header_spelling header.now) (restarted writer.old) writer.new result }

@@ -2,18 +2,18 @@
 
 /// The format of raw samples, and how an encoding divides them into blocks.
 ///
-/// A `Format` holds the numbers of the command line as they were given; an encoding refuses those out of range.
+/// A `Format` has the numbers of the command line as they were given; an encoding refuses those out of range.
 #[derive(Clone, Copy, Debug, PartialEq, Eq)]
 pub struct Format {
-    /// Inter-channel samples a second.
+    /// Sample rate in Hz.
     pub rate: u32,
     /// The number of channels.
     pub channels: u32,
-    /// Bits of a sample.
+    /// Bits per sample.
     pub bits: u32,
-    /// Inter-channel samples of a block.
+    /// Block size in inter-channel samples.
     pub block: u32,
-    /// Inter-channel samples from one seek point to the next; 0: no seek table.
+    /// Inter-channel samples from one seek point to the next; 0 for no seek table.
     pub seek_every: u32,
 }
 

@@ -5,21 +5,22 @@ ghost use Rattle.flac_jobs.specs.Asks.{input_of, output_of};
 
 use crate::formats::{Container, Format};
 
-/// What the program is asked for: one variant a command, with the command's words.
+/// What the program is asked for: one variant for each command, with what was given on the command line.
 ///
-/// `input` is the path of the file that is read, `output` of the file that is written.
+/// `input` is the path of the file that is read, `output` that of the file that is written. A comment is a text
+/// `NAME=VALUE`.
 #[derive(Debug, Drop, PartialEq, Eq)]
 pub enum Job<'a> {
-    /// Decodes the stream, and prints how many frames and samples it has.
+    /// Decodes a stream, and prints how many frames and samples it has.
     Test {
         input: &'a str,
     },
-    /// Decodes the stream, and writes its samples.
+    /// Decodes a stream, and writes its samples.
     Decode {
         input: &'a str,
         output: &'a str,
     },
-    /// Decodes the stream, and lists its metadata.
+    /// Decodes a stream, and lists its metadata.
     List {
         input: &'a str,
     },
@@ -31,7 +32,7 @@ pub enum Job<'a> {
         container: Container,
         comments: Vec<&'a str>,
     },
-    /// Writes the stream with these comments in place of its own.
+    /// Writes a stream with these comments in place of its own.
     Retag {
         input: &'a str,
         output: &'a str,
@@ -51,7 +52,7 @@ impl<'a> Job<'a> {
         }
     }
 
-    /// The path of the file that is written, if there is one.
+    /// The path of the file that is written; `None` if the job writes none.
     pub fn output(&self) -> Option<&'a str>
         ensures { option_map (λ path. path.now) result ≡ output_of self.now }
     {

@@ -6,18 +6,20 @@ use std::alloc::Global;
 use std::borrow::CowStr;
 use std::io::ErrorKind;
 
-/// What the program prints in place of a job, and the status that it ends with.
+/// What the program prints in place of a job, and its exit status.
 ///
-/// Status 0: help was asked for, and the text goes to standard output. Status 1 (out of memory) and 2 (a refused
-/// command line): the text goes to standard error.
+/// Status 0: help was asked for, and the text goes to standard output. Status 1 (out of memory) and 2 (the command line
+/// is refused): the text goes to standard error.
 #[derive(Drop)]
 pub struct LineFault {
+    /// What is printed.
     pub text: CowStr<'static, Global>,
+    /// The exit status.
     pub status: u8,
 }
 
 impl LineFault {
-    /// Out of memory while the words are read.
+    /// Out of memory while the command line is read: status 1.
     pub fn no_memory() -> LineFault
         ensures { result.status ≡ 1 }
     {
@@ -27,7 +29,7 @@ impl LineFault {
         }
     }
 
-    /// A comment without `=`.
+    /// A comment has no `=`: status 2.
     pub fn no_equals() -> LineFault
         ensures { result.status ≡ 2 }
     {
@@ -37,7 +39,7 @@ impl LineFault {
         }
     }
 
-    /// A seek table in Ogg, where its offsets have no meaning.
+    /// A seek table is asked for in an Ogg stream, where its offsets have no meaning: status 2.
     pub fn table_in_ogg() -> LineFault
         ensures { result.status ≡ 2 }
     {
@@ -47,7 +49,7 @@ impl LineFault {
         }
     }
 
-    /// The words could not be read: out of memory, or a word is not text.
+    /// The command line could not be read: out of memory, or a word is not UTF-8.
     pub fn reading(kind: ErrorKind) -> LineFault
         ensures { result.status ≤ 2 }
     {

@@ -1,4 +1,4 @@
-//! How long blocks are.
+//! Lengths of blocks.
 
 ghost use Rattle.std.specs.Prelude.{◌≡◌, ◌+◌, ◌<◌, ◌≤◌, ◌^◌, min, length};
 ghost use Rattle.flac_meta.specs.Spelling.{texts_length, comments_length, tracks_length, length_of};
@@ -8,10 +8,10 @@ use crate::comments::Comments;
 use crate::cue_sheet::CueTrack;
 use crate::lists::Bytes;
 
-/// One more than the greatest length of a content in bytes.
+/// One more than the largest length of a content in bytes.
 const TOO_LONG: u64 = 16777216;
 
-/// The sum of two lengths, or 16777216 where it is above that.
+/// The sum of two lengths, or 16777216 if it is larger.
 fn capped(a: u64, b: usize) -> u64
     requires { a ≤ 16777216 }
     ensures { result ≡ min (a + b) 16777216 }
@@ -22,7 +22,7 @@ fn capped(a: u64, b: usize) -> u64
     (a + b as u64).min(TOO_LONG)
 }
 
-/// The length of these texts with their own lengths, behind so many bytes.
+/// The length of these texts, each with 4 bytes for its length, after `before` bytes.
 fn texts_behind(before: u64, texts: &[Bytes]) -> u64
     requires { before ≤ 16777216 }
     ensures { result ≡ min (before + texts_length texts.now) 16777216 }
@@ -35,7 +35,8 @@ fn texts_behind(before: u64, texts: &[Bytes]) -> u64
 }
 
 impl Comments {
-    /// The length in bytes of the content of a Vorbis comment of these, 16777216 where it is above 16777215.
+    /// The length in bytes of the content of a Vorbis comment block with these comments, or 16777216 if it is above
+    /// 16777215, the most that a block can have.
     pub fn length(&self) -> u64
         ensures { result ≡ min (comments_length self.now) 16777216 }
     {
@@ -43,7 +44,7 @@ impl Comments {
     }
 }
 
-/// The length of these tracks, behind so many bytes.
+/// The length of these tracks, after `before` bytes.
 fn tracks_behind(before: u64, tracks: &[CueTrack]) -> u64
     requires { before ≤ 16777216 }
     ensures { result ≡ min (before + tracks_length tracks.now) 16777216 }
@@ -58,7 +59,8 @@ fn tracks_behind(before: u64, tracks: &[CueTrack]) -> u64
 }
 
 impl Block {
-    /// The length of the content in bytes, 16777216 where it is above 16777215.
+    /// The length of the content in bytes, without the block's header; or 16777216 if it is above 16777215, the most
+    /// that a block can have.
     pub fn length(&self) -> u64
         ensures { result ≡ min (length_of self.now) 16777216 }
     {

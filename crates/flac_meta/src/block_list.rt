@@ -1,4 +1,4 @@
-//! Blocks that stand behind STREAMINFO.
+//! The blocks after STREAMINFO.
 
 ghost use Rattle.std.specs.Prelude.{◌≡◌, MatchResult, OnOk, None, Some};
 ghost use Rattle.std.specs.Cmp.{partial_equiv_from_equiv};
@@ -14,8 +14,8 @@ use flac_bits::Why;
 use std::alloc::AllocError;
 use std::marker::Model;
 
-/// Blocks that may stand behind STREAMINFO, in their order: each may be written, none is a STREAMINFO, and there is at most
-/// one seek table and one Vorbis comment.
+/// The blocks after STREAMINFO, in their order. Each can be written, none is a STREAMINFO, and at most one is a seek
+/// table and at most one a Vorbis comment.
 #[derive(Debug, Drop)]
 pub struct BlockList {
     blocks: Vec<Block>,
@@ -65,7 +65,7 @@ impl Eq for BlockList {
     ghost laws = { lists_equiv laws-law };
 }
 
-/// Why a block may not stand behind those that came, if it may not.
+/// Why a block may not come after those seen, or `None` if it may.
 fn fault_after(seen: Seen, block: &Block) -> Option<Why>
     ensures { result ≡ fault_behind seen block.now }
 {
@@ -81,7 +81,7 @@ fn fault_after(seen: Seen, block: &Block) -> Option<Why>
     fault_of(block)
 }
 
-/// The reason of the first block that may not stand behind STREAMINFO and those before it.
+/// The reason of the first block that may not come after STREAMINFO and the blocks before it; `None` if all may.
 fn first_fault(blocks: &[Block]) -> Option<Why>
     ensures { result ≡ list_fault info_seen blocks.now }
 {
@@ -100,8 +100,18 @@ fn first_fault(blocks: &[Block]) -> Option<Why>
 }
 
 impl BlockList {
-    /// The list of these blocks. It refuses the first block that offends, with the first reason that applies of
-    /// [`Why::RepeatedBlock`] (a STREAMINFO, a second seek table or Vorbis comment) and those of [`crate::write_block`].
+    /// Makes a list of these blocks, if all of them can be written after a STREAMINFO.
+    ///
+    /// ```
+    /// let mut blocks = Vec::new(rt.alloc());
+    /// blocks.push(Block::VorbisComment(comments))?;
+    /// blocks.push(Block::Padding(8192))?;
+    /// let list = BlockList::new(blocks)?;
+    /// ```
+    ///
+    /// # Errors
+    /// That of the first block that has one: [`Why::RepeatedBlock`] for a STREAMINFO, or a second seek table or Vorbis
+    /// comment; else that of [`crate::write_block`].
     pub fn new(blocks: Vec<Block>) -> Result<BlockList, Why>
         ensures found { MatchResult result (λ b. b ≡ blocks.items) (λ e. list_fault info_seen blocks.items ≡ Some e) }
         ensures good { OnOk result (list_fault info_seen blocks.items ≡ None) }
@@ -115,7 +125,7 @@ impl BlockList {
         }
     }
 
-    /// The blocks as a vector.
+    /// Returns the blocks as a vector.
     pub fn into_blocks(self) -> Vec<Block>
         ensures items { result.items ≡ self }
         ensures good { list_fault info_seen self ≡ None }

@@ -1,4 +1,4 @@
-//! Comments.
+//! Vorbis comments.
 
 ghost use Rattle.std.specs.Prelude.{◌≡◌, ◌≢◌, ℕ, ◌<◌, ◌≤◌, ◌+◌, ◌++◌, [], ◌∷◌, length, take, drop, nat_eq, EachIndex, MatchOption, OnOk, OnErr, IfOk, slice_index, slice_index_or};
 ghost use Rattle.std.specs.Iterator.{YieldsFirstRef, item_count};
@@ -8,7 +8,7 @@ ghost use Rattle.flac_meta.specs.Named.{value_under, values_of, IsFirstOf};
 use crate::lists::{Bytes, Texts};
 use std::alloc::{AllocError, Global};
 
-/// A Vorbis comment (RFC 9639, section 8.6).
+/// A Vorbis comment block: the tags of a stream (RFC 9639, section 8.6).
 #[derive(Clone, Debug, PartialEq, Eq, Drop)]
 pub struct Comments {
     /// The name of the program that wrote the stream.
@@ -17,7 +17,7 @@ pub struct Comments {
     pub list: Texts,
 }
 
-/// The place of the first `=`.
+/// The index of the first `=`.
 fn place_of_equals(text: &[u8]) -> Option<usize>
     ensures { MatchOption result (HasNoEquals text.now) (λ k. (k < length text.now) × (slice_index text.now k ≡ 61) × HasNoEquals (take k text.now)) }
 {
@@ -29,7 +29,7 @@ fn place_of_equals(text: &[u8]) -> Option<usize>
     None
 }
 
-/// The name and the value of a text.
+/// The name and the value of a text, before and after its first `=`.
 fn parts_of(text: &[u8]) -> Option<(&[u8], &[u8])>
     ensures { MatchOption result (HasNoEquals text.now) (λ p. (text.now ≡ p.0.now ++ 61 ∷ p.1.now) × HasNoEquals p.0.now) }
 {
@@ -38,7 +38,7 @@ fn parts_of(text: &[u8]) -> Option<(&[u8], &[u8])>
     Some((&text[..k], &text[behind..]))
 }
 
-/// The value of a text of this name.
+/// The value of a text, if it has this name.
 #[tactic(auto, using(crate::proofs::Named::under_none, crate::proofs::Named::under_same, crate::proofs::Named::under_other))]
 fn value_under<'a>(name: &[u8], text: &'a [u8]) -> Option<&'a [u8]>
     ensures { MatchOption result (value_under name.now text.now ≡ []) (λ v. value_under name.now text.now ≡ v.now ∷ []) }
@@ -49,7 +49,7 @@ fn value_under<'a>(name: &[u8], text: &'a [u8]) -> Option<&'a [u8]>
     }
 }
 
-/// The first value of this name among some texts, and its place.
+/// The first value of this name among some texts, and the index of its text.
 #[tactic(auto, unfolding(crate::specs::Named::values_of), using(crate::proofs::Named::values_more))]
 fn first_named<'a>(name: &[u8], texts: &'a [Bytes]) -> Option<(usize, &'a [u8])>
     ensures { MatchOption result (values_of name.now texts.now ≡ []) (λ p. (p.0 < length texts.now) × (values_of name.now texts.now ≡ p.1.now ∷ values_of name.now (drop (p.0 + 1) texts.now))) }
@@ -63,7 +63,7 @@ fn first_named<'a>(name: &[u8], texts: &'a [Bytes]) -> Option<(usize, &'a [u8])>
     None
 }
 
-/// The values of one name, in the order of the comments: see [`Comments::values`].
+/// An iterator over the values of one name, in the order of the comments: see [`Comments::values`].
 #[derive(Clone, Copy, Debug, Drop)]
 pub struct Values<'a> {
     name: &'a [u8],
@@ -85,16 +85,15 @@ impl<'a> Iterator for Values<'a> {
 }
 
 impl Comments {
-    /// No comments yet, of a program of this name.
-    ///
-    /// # Errors
-    ///
-    /// An allocation failed.
+    /// Makes an empty list of comments, of a program with this name.
     ///
     /// ```
     /// let mut comments = Comments::new(rt.alloc(), b"my program 1.0")?;
     /// comments.push(rt.alloc(), b"TITLE", b"A song")?;
     /// ```
+    ///
+    /// # Errors
+    /// `AllocError` if an allocation fails.
     pub fn new(alloc: Global, vendor: &[u8]) -> Result<Comments, AllocError>
         ensures vendor { IfOk result (λ c. c.vendor ≡ vendor.now) }
         ensures list { IfOk result (λ c. c.list ≡ []) }
@@ -106,11 +105,11 @@ impl Comments {
         })
     }
 
-    /// Puts the comment `NAME=VALUE` behind the others. A name has bytes from 0x20 to 0x7E without `=`, and a value is UTF-8 (RFC 9639, section 8.6); this is not judged.
+    /// Adds the comment `NAME=VALUE` after the others. A name has bytes from 0x20 to 0x7E without `=`, and a value is
+    /// UTF-8 (RFC 9639, section 8.6); neither is checked.
     ///
     /// # Errors
-    ///
-    /// An allocation failed, and the comments are as before.
+    /// `AllocError` if an allocation fails. The comments are then as before.
     pub fn push(&mut self, alloc: Global, name: &[u8], value: &[u8]) -> Result<(), AllocError>
         ensures pushed { OnOk result (self.new.list ≡ self.old.list ++ (name.now ++ 61 ∷ value.now) ∷ []) }
         ensures vendor { self.new.vendor ≡ self.old.vendor }
@@ -122,7 +121,7 @@ impl Comments {
         self.list.push(Bytes::from_vec(text))
     }
 
-    /// The name of the program that wrote the stream, as bytes of UTF-8 (RFC 9639, section 8.6).
+    /// The name of the program that wrote the stream, as bytes of UTF-8 (RFC 9639, section 8.6); this is not checked.
     pub fn vendor(&self) -> &[u8]
         ensures { result.now ≡ self.now.vendor }
     {
@@ -143,7 +142,7 @@ impl Comments {
         self.len() == 0
     }
 
-    /// A comment, counted from 0, as it stands in the block: `NAME=VALUE`. `None` where there is no such comment.
+    /// Comment `i`, counted from 0, as it is in the block: `NAME=VALUE`. `None` if there is no such comment.
     pub fn get(&self, i: usize) -> Option<&[u8]>
         ensures { MatchOption result (length self.now.list ≤ i) (λ t. (i < length self.now.list) × (t.now ≡ slice_index_or self.now.list i [])) }
     {
@@ -155,7 +154,8 @@ impl Comments {
         }
     }
 
-    /// The values of all comments of a name, in their order. Names are the same but for the case of ASCII letters (RFC 9639, section 8.6).
+    /// An iterator over the values of all comments of a name, in their order. Names are equal but for the case of ASCII
+    /// letters (RFC 9639, section 8.6).
     ///
     /// ```
     /// for artist in comments.values(b"ARTIST") {
@@ -172,7 +172,11 @@ impl Comments {
         }
     }
 
-    /// The first value of a name, as [`Comments::values`] gives it.
+    /// The first value of a name, or `None` if there is none. Names are compared as in [`Comments::values`].
+    ///
+    /// ```
+    /// let title = comments.find(b"TITLE").unwrap_or(b"unknown");
+    /// ```
     pub fn find(&self, name: &[u8]) -> Option<&[u8]>
         ensures { MatchOption result (values_of name.now self.now.list ≡ []) (λ v. IsFirstOf v.now (values_of name.now self.now.list)) }
     {
@@ -180,8 +184,8 @@ impl Comments {
         Some(value)
     }
 
-    /// The name and the value of a comment, before and behind its first `=`. `None` where there is no such comment, or no
-    /// `=` in it.
+    /// The name and the value of comment `i`, counted from 0: the bytes before and after its first `=`. `None` if there
+    /// is no such comment, or no `=` in it.
     pub fn parts(&self, i: usize) -> Option<(&[u8], &[u8])>
         ensures { MatchOption result (LacksParts self.now.list i) (λ p. AreParts self.now.list i p.0.now p.1.now) }
     {

@@ -7,16 +7,16 @@ ghost use Rattle.std.specs.Cmp.Lexicographic.{pointwise, lists_equiv};
 use std::alloc::AllocError;
 use std::marker::Model;
 
-/// A place in a track (RFC 9639, section 8.7.1.1).
+/// An index point of a track (RFC 9639, section 8.7.1.1).
 #[derive(Clone, Copy, Debug, PartialEq, Eq)]
 pub struct CueIndex {
-    /// Samples from the track's offset.
+    /// Samples from the offset of the track.
     pub offset: u64,
-    /// The number of the place.
+    /// The number of the index point.
     pub number: u8,
 }
 
-/// The places of a track.
+/// The index points of a track.
 #[derive(Debug, Drop)]
 pub struct CueIndices {
     items: Vec<CueIndex>,
@@ -61,21 +61,21 @@ impl Eq for CueIndices {
 }
 
 impl CueIndices {
-    /// The places of a vector.
+    /// Makes index points of a vector.
     pub fn from_vec(items: Vec<CueIndex>) -> CueIndices
         ensures { result ≡ items.items }
     {
         CueIndices { items }
     }
 
-    /// The places as a vector.
+    /// Returns the index points as a vector.
     pub fn into_vec(self) -> Vec<CueIndex>
         ensures { result.items ≡ self }
     {
         self.items
     }
 
-    /// The places.
+    /// The index points.
     pub fn as_slice(&self) -> &[CueIndex]
         ensures { result.now ≡ self.now }
     {
@@ -86,17 +86,17 @@ impl CueIndices {
 /// A track of a cue sheet (RFC 9639, section 8.7.1).
 #[derive(Clone, Debug, PartialEq, Eq, Drop)]
 pub struct CueTrack {
-    /// Samples from the first sample of the stream.
+    /// Samples from the beginning of the audio.
     pub offset: u64,
     /// The track's number.
     pub number: u8,
-    /// The International Standard Recording Code, zeros where there is none.
+    /// The International Standard Recording Code; zeros if there is none.
     pub isrc: [u8; 12],
     /// Whether it is an audio track.
     pub audio: bool,
     /// Whether it has pre-emphasis.
     pub pre_emphasis: bool,
-    /// Its places.
+    /// Its index points, at most 255 if it is to be written.
     pub indices: CueIndices,
 }
 
@@ -145,14 +145,14 @@ impl Eq for CueTracks {
 }
 
 impl CueTracks {
-    /// The tracks of a vector.
+    /// Makes tracks of a vector.
     pub fn from_vec(tracks: Vec<CueTrack>) -> CueTracks
         ensures { result ≡ tracks.items }
     {
         CueTracks { tracks }
     }
 
-    /// The tracks as a vector.
+    /// Returns the tracks as a vector.
     pub fn into_vec(self) -> Vec<CueTrack>
         ensures { result.items ≡ self }
     {
@@ -170,12 +170,12 @@ impl CueTracks {
 /// A cue sheet (RFC 9639, section 8.7).
 #[derive(Clone, Debug, PartialEq, Eq, Drop)]
 pub struct CueSheet {
-    /// The media catalogue number, zeros behind it.
+    /// The media catalogue number, filled up with zeros.
     pub catalogue: [u8; 128],
-    /// Samples of the lead-in.
+    /// How many samples the lead-in has.
     pub lead_in: u64,
-    /// Whether it is that of a CD.
+    /// Whether it is of a CD.
     pub cd: bool,
-    /// The tracks, the lead-out among them.
+    /// The tracks, with the lead-out; 1 to 255 if it is to be written.
     pub tracks: CueTracks,
 }

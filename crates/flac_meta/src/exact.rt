@@ -1,4 +1,4 @@
-//! Bytes of a known number.
+//! Reading of a known number of bytes.
 
 ghost use Rattle.std.specs.Prelude.{OnOk, ◌<◌, ◌≤◌, ◌*◌, ◌^◌, length, ⊤, Err};
 ghost use Rattle.flac_bits.specs.Layout.{bits as number};
@@ -9,7 +9,7 @@ ghost use Rattle.flac_meta.specs.Padding.{skipped};
 
 use flac_bits::{BitReader, Source, Why};
 
-/// Fills the places with the bytes that come next.
+/// Fills `out` with the next bytes.
 #[tactic(auto, using(flac_bits::proofs::Lists::list_more, flac_bits::proofs::Lists::list_end, flac_bits::proofs::Lists::list_start))]
 pub(crate) fn read_exact<R: Source>(bits: &mut BitReader<R>, out: &mut [u8]) -> Result<(), Why>
     ensures spends { OnOk result (bits.new.most ≤ bits.old.most) }
@@ -22,7 +22,7 @@ pub(crate) fn read_exact<R: Source>(bits: &mut BitReader<R>, out: &mut [u8]) -> 
     Ok(())
 }
 
-/// Passes over so many bytes.
+/// Skips `length` bytes.
 #[tactic(auto, using(crate::proofs::Skips::skip_more, crate::proofs::Skips::skip_last))]
 pub(crate) fn skip_bytes<R: Source>(bits: &mut BitReader<R>, length: u32) -> Result<(), Why>
     requires { length < 2 ^ 24 }
@@ -38,8 +38,8 @@ pub(crate) fn skip_bytes<R: Source>(bits: &mut BitReader<R>, length: u32) -> Res
     Ok(())
 }
 
-/// Passes over the last bytes of a content that has too few of them, and returns the reason: [`Why::BlockLength`], if
-/// they can be read.
+/// Skips the last bytes of a content that has too few of them, and returns the error: [`Why::BlockLength`] if they can
+/// be read.
 pub(crate) fn too_short<R: Source>(bits: &mut BitReader<R>, left: u32) -> Why
     requires { left < 2 ^ 24 }
     ensures counts { Counts {X = ⊤} bits.old bits.new (Err result) }

@@ -1,4 +1,4 @@
-//! Which blocks may be written.
+//! Which blocks can be written.
 
 ghost use Rattle.std.specs.Prelude.{◌≡◌, None, false};
 ghost use Rattle.flac_meta.specs.SeekTable.{in_order};
@@ -11,7 +11,7 @@ use crate::read_lists::may_follow;
 use crate::seek_table::SeekPoint;
 use flac_bits::Why;
 
-/// Whether the points are in their order.
+/// Whether the sample numbers of the points rise, with placeholders last.
 fn are_in_order(points: &[SeekPoint]) -> bool
     ensures { result ≡ in_order None points.now }
 {
@@ -25,7 +25,7 @@ fn are_in_order(points: &[SeekPoint]) -> bool
     true
 }
 
-/// Whether some track has more places than one byte can count.
+/// Whether a track has more index points than one byte can count.
 fn overflow(tracks: &[CueTrack]) -> bool
     ensures { result ≡ overflows tracks.now }
 {
@@ -37,7 +37,7 @@ fn overflow(tracks: &[CueTrack]) -> bool
     false
 }
 
-/// Whether a cue sheet has no track, or more tracks or places than one byte can count.
+/// Whether a cue sheet has no track, or more tracks or index points than one byte can count.
 fn is_bad(sheet: &CueSheet) -> bool
     ensures { result ≡ is_bad_sheet sheet.now }
 {
@@ -48,7 +48,7 @@ fn is_bad(sheet: &CueSheet) -> bool
     overflow(tracks)
 }
 
-/// Whether it is of a kind whose number is not reserved.
+/// Whether a block keeps raw bytes under a type that is not reserved: outside 7 to 126.
 fn is_of_forbidden_kind(block: &Block) -> bool
     ensures { result ≡ is_forbidden block.now }
 {
@@ -58,7 +58,7 @@ fn is_of_forbidden_kind(block: &Block) -> bool
     }
 }
 
-/// Why a block may not be written, if it may not.
+/// Why a block cannot be written, or `None` if it can.
 pub(crate) fn fault_of(block: &Block) -> Option<Why>
     ensures { result ≡ block_fault block.now }
 {
@@ -82,7 +82,7 @@ pub(crate) fn fault_of(block: &Block) -> Option<Why>
 }
 
 impl Block {
-    /// The number of the block's kind (RFC 9639, section 8.1).
+    /// The type of the block, as its header states it (RFC 9639, section 8.1).
     pub fn kind(&self) -> u8
         ensures { result ≡ kind_of self.now }
     {

@@ -1,9 +1,9 @@
-//! Fields that are written.
+//! Fields to be written.
 
 ghost use Rattle.std.specs.Prelude.{◌≡◌, ◌<◌, ◌≤◌, ◌^◌};
 ghost use Rattle.flac_bits.specs.Bits.{bit_value};
 
-/// A number and in how many bits it is written.
+/// A number, and how many bits it takes, at most 64.
 #[derive(Clone, Copy)]
 pub struct Field {
     pub bits: u32,

@@ -1,4 +1,4 @@
-//! Fields inside a block's content.
+//! Fields inside the content of a block.
 
 ghost use Rattle.std.specs.Prelude.{◌≡◌, OnOk, IfOk, ◌+◌, ◌-◌, ◌*◌, ◌<◌, ◌≤◌, ◌^◌, length, true};
 ghost use Rattle.flac_bits.specs.Layout.{bits as number};
@@ -12,7 +12,7 @@ use crate::lists::Bytes;
 use flac_bits::{BitReader, Source, Why, read_little_32};
 use std::alloc::Global;
 
-/// So many bytes. Memory is asked for as they come.
+/// Reads `size` bytes. Memory is allocated as they come, not by the number that the input states.
 #[tactic(auto, using(flac_bits::proofs::Lists::list_more, flac_bits::proofs::Lists::list_end, flac_bits::proofs::Lists::list_start))]
 pub(crate) fn read_raw<R: Source>(
     alloc: Global,
@@ -32,7 +32,7 @@ pub(crate) fn read_raw<R: Source>(
     Ok(Bytes::from_vec(bytes))
 }
 
-/// Bytes behind their number, whose lowest byte comes first, in a content of which so many bytes are left.
+/// Reads a number of 32 bits, lowest byte first, and that many bytes, of a content of which `left` bytes are left.
 #[tactic(auto, unfolding(crate::specs::Fields::sized))]
 pub(crate) fn read_sized_little<R: Source>(
     alloc: Global,
@@ -55,7 +55,7 @@ pub(crate) fn read_sized_little<R: Source>(
     read_raw(alloc, bits, size)
 }
 
-/// Bytes behind their number, in a content of which so many bytes are left.
+/// Reads a number of 32 bits and that many bytes, of a content of which `left` bytes are left.
 #[tactic(auto, unfolding(crate::specs::Fields::sized))]
 pub(crate) fn read_sized<R: Source>(
     alloc: Global,
@@ -78,7 +78,7 @@ pub(crate) fn read_sized<R: Source>(
     read_raw(alloc, bits, size)
 }
 
-/// A number of 32 bits, in a content of which so many bytes are left.
+/// Reads a number of 32 bits, of a content of which `left` bytes are left.
 #[tactic(auto, unfolding(crate::specs::Fields::number_32))]
 pub(crate) fn read_number_32<R: Source>(bits: &mut BitReader<R>, left: u32) -> Result<u32, Why>
     requires { left < 2 ^ 24 }
@@ -93,7 +93,7 @@ pub(crate) fn read_number_32<R: Source>(bits: &mut BitReader<R>, left: u32) -> R
     Ok(bits.take(32)? as u32)
 }
 
-/// Whether so many bits are zeros.
+/// Reads `count` bits, and returns whether all are zeros.
 #[tactic(auto, using(crate::proofs::Zeros::zeros_first, crate::proofs::Zeros::zeros_more, crate::proofs::Zeros::zeros_end))]
 pub(crate) fn read_zeros<R: Source>(bits: &mut BitReader<R>, count: u32) -> Result<bool, Why>
     ensures spends { OnOk result (bits.new.most ≤ bits.old.most) }

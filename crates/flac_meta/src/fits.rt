@@ -1,5 +1,5 @@
-//! Each number of a block fits its field, and each byte is below 256: so it is by the types. Contracts learn it here: the
-//! functions read their arguments and change nothing.
+//! Each number of a block fits its field, and each byte is below 256, by their types. Contracts learn it from these
+//! functions, which change nothing.
 
 ghost use Rattle.flac_bits.specs.Forms.{AreBytes};
 ghost use Rattle.flac_meta.specs.Valid.{AllAre, FitsFields, IsInfo, IsPoint, IsComments, IsIndex, IsTrack, IsSheet, IsPicture};
@@ -12,10 +12,12 @@ use crate::picture::Picture;
 use crate::seek_table::SeekPoint;
 use crate::stream_info::StreamInfo;
 
+/// Each byte is below 256.
 fn bytes_fit(bytes: &[u8])
     ensures { AreBytes bytes.now }
 {}
 
+/// Each byte of each text is below 256.
 fn texts_fit(texts: &[Bytes])
     ensures { AllAre AreBytes texts.now }
 {
@@ -24,12 +26,14 @@ fn texts_fit(texts: &[Bytes])
     }
 }
 
+/// The numbers and bytes of a STREAMINFO fit.
 fn info_fits(info: &StreamInfo)
     ensures { IsInfo info.now }
 {
     bytes_fit(&info.digest());
 }
 
+/// The numbers of a seek point fit.
 fn point_fits(point: &SeekPoint)
     ensures { IsPoint point.now }
 {
@@ -38,6 +42,7 @@ fn point_fits(point: &SeekPoint)
     let _length = point.length;
 }
 
+/// The numbers of all seek points fit.
 fn points_fit(points: &[SeekPoint])
     ensures { AllAre IsPoint points.now }
 {
@@ -46,6 +51,7 @@ fn points_fit(points: &[SeekPoint])
     }
 }
 
+/// The bytes of comments fit.
 fn comments_fit(comments: &Comments)
     ensures { IsComments comments.now }
 {
@@ -53,6 +59,7 @@ fn comments_fit(comments: &Comments)
     texts_fit(comments.list.as_slice());
 }
 
+/// The numbers of an index point fit.
 fn index_fits(index: &CueIndex)
     ensures { IsIndex index.now }
 {
@@ -60,6 +67,7 @@ fn index_fits(index: &CueIndex)
     let _number = index.number;
 }
 
+/// The numbers of all index points fit.
 fn indices_fit(indices: &[CueIndex])
     ensures { AllAre IsIndex indices.now }
 {
@@ -68,6 +76,7 @@ fn indices_fit(indices: &[CueIndex])
     }
 }
 
+/// The numbers and bytes of a track fit.
 fn track_fits(track: &CueTrack)
     ensures { IsTrack track.now }
 {
@@ -77,6 +86,7 @@ fn track_fits(track: &CueTrack)
     indices_fit(track.indices.as_slice());
 }
 
+/// The numbers and bytes of all tracks fit.
 fn tracks_fit(tracks: &[CueTrack])
     ensures { AllAre IsTrack tracks.now }
 {
@@ -85,6 +95,7 @@ fn tracks_fit(tracks: &[CueTrack])
     }
 }
 
+/// The numbers and bytes of a cue sheet fit.
 fn sheet_fits(sheet: &CueSheet)
     ensures { IsSheet sheet.now }
 {
@@ -93,6 +104,7 @@ fn sheet_fits(sheet: &CueSheet)
     tracks_fit(sheet.tracks.as_slice());
 }
 
+/// The numbers and bytes of a picture fit.
 fn picture_fits(picture: &Picture)
     ensures { IsPicture picture.now }
 {
@@ -106,6 +118,7 @@ fn picture_fits(picture: &Picture)
     bytes_fit(picture.bytes.as_slice());
 }
 
+/// The numbers and bytes of a block fit.
 fn block_fits(block: &Block)
     ensures { FitsFields block.now }
 {
@@ -124,7 +137,7 @@ fn block_fits(block: &Block)
     }
 }
 
-/// The numbers and bytes of all blocks.
+/// The numbers and bytes of all blocks fit.
 pub(crate) fn blocks_fit(blocks: &[Block])
     ensures { AllAre FitsFields blocks.now }
 {

@@ -1,4 +1,4 @@
-//! The header of a metadata block.
+//! Headers of metadata blocks.
 
 ghost use Rattle.std.specs.Prelude.{OnOk, IfOk, ◌≡◌, ◌+◌, ◌<◌, ◌≤◌, ◌^◌};
 ghost use Rattle.flac_bits.specs.Reading.{Counts, Reads};
@@ -7,7 +7,8 @@ ghost use Rattle.flac_meta.specs.Header.{block_header};
 use crate::seen::Seen;
 use flac_bits::{BitReader, Source, Why};
 
-/// What stands before a block's content (RFC 9639, section 8.1).
+/// The header of a block: whether it is the last one, its type, and the length of its content in bytes (RFC 9639,
+/// section 8.1).
 #[derive(Clone, Copy)]
 pub struct BlockHeader {
     pub last: bool,
@@ -15,7 +16,7 @@ pub struct BlockHeader {
     pub length: u32,
 }
 
-/// Reads the header of the next block.
+/// Reads the header of the next block, and checks type and length as far as they alone decide.
 #[tactic(auto, unfolding(crate::specs::Header::block_header))]
 pub(crate) fn read_block_header<R: Source>(
     bits: &mut BitReader<R>,

@@ -1,4 +1,4 @@
-//! Metadata blocks of a FLAC stream (RFC 9639, section 8).
+//! Metadata blocks of a FLAC stream: reading, writing, and lists of them (RFC 9639, section 8).
 #![tactic(auto)]
 
 mod block;

@@ -1,4 +1,4 @@
-//! Bytes and texts, which contracts see as lists.
+//! Vectors of bytes and of texts, which contracts see as lists.
 
 ghost use Rattle.std.specs.Prelude.{◌≡◌, ◌++◌, ◌∷◌, [], ℕ, List, length, nat_eq, OnOk, OnErr};
 ghost use Rattle.std.specs.Cmp.{partial_equiv_from_equiv};
@@ -7,7 +7,7 @@ ghost use Rattle.std.specs.Cmp.Lexicographic.{pointwise, lists_equiv, nat_list_e
 use std::alloc::AllocError;
 use std::marker::Model;
 
-/// Bytes.
+/// A vector of bytes.
 #[derive(Debug, Drop)]
 pub struct Bytes {
     items: Vec<u8>,
@@ -44,14 +44,14 @@ impl Eq for Bytes {
 }
 
 impl Bytes {
-    /// The bytes of a vector.
+    /// Makes bytes of a vector.
     pub fn from_vec(items: Vec<u8>) -> Bytes
         ensures { result ≡ items.items }
     {
         Bytes { items }
     }
 
-    /// The bytes as a vector.
+    /// Returns the bytes as a vector.
     pub fn into_vec(self) -> Vec<u8>
         ensures { result.items ≡ self }
     {
@@ -73,7 +73,7 @@ impl Bytes {
     }
 }
 
-/// Texts, each of bytes that need not be UTF-8.
+/// A vector of texts, each of bytes that need not be UTF-8.
 #[derive(Debug, Drop)]
 pub struct Texts {
     texts: Vec<Bytes>,
@@ -110,21 +110,21 @@ impl Eq for Texts {
 }
 
 impl Texts {
-    /// The texts of a vector.
+    /// Makes texts of a vector.
     pub fn from_vec(texts: Vec<Bytes>) -> Texts
         ensures { result ≡ texts.items }
     {
         Texts { texts }
     }
 
-    /// The texts as a vector.
+    /// Returns the texts as a vector.
     pub fn into_vec(self) -> Vec<Bytes>
         ensures { result.items ≡ self }
     {
         self.texts
     }
 
-    /// Puts a text behind the others. After an error they are as before.
+    /// Adds a text after the others. After an error they are as before.
     pub(crate) fn push(&mut self, text: Bytes) -> Result<(), AllocError>
         ensures pushed { OnOk result (self.new ≡ self.old ++ text ∷ []) }
         ensures kept { OnErr result (self.new ≡ self.old) }

@@ -1,4 +1,4 @@
-//! Writes the contents of blocks.
+//! Writing of the parts of blocks.
 
 ghost use Rattle.std.specs.Prelude.{◌≡◌, ◌<◌, ◌≤◌, ◌^◌, ◌*◌, length};
 ghost use Rattle.flac_bits.specs.Written.{Writes};
@@ -19,7 +19,7 @@ pub(crate) fn put_fields<W: Target>(writer: &mut BitWriter<W>, fields: &[Field])
     Ok(())
 }
 
-/// Writes so many zeros.
+/// Writes `count` zero bits.
 pub(crate) fn put_zeros<W: Target>(writer: &mut BitWriter<W>, count: u32) -> Result<(), Why>
     ensures { Writes (zero_bits count) writer.old writer.new result }
 {
@@ -76,7 +76,7 @@ pub(crate) fn put_info<W: Target>(writer: &mut BitWriter<W>, info: &StreamInfo) 
     writer.put_bytes(&info.digest)
 }
 
-/// Writes bytes behind their number, whose lowest byte comes first.
+/// Writes the number of bytes in 32 bits, lowest byte first, and the bytes.
 pub(crate) fn put_little_sized<W: Target>(
     writer: &mut BitWriter<W>,
     bytes: &[u8],
@@ -88,7 +88,7 @@ pub(crate) fn put_little_sized<W: Target>(
     writer.put_bytes(bytes)
 }
 
-/// Writes bytes behind their number.
+/// Writes the number of bytes in 32 bits, and the bytes.
 pub(crate) fn put_sized<W: Target>(writer: &mut BitWriter<W>, bytes: &[u8]) -> Result<(), Why>
     requires { length bytes.now < 2 ^ 24 }
     ensures { Writes (sized_bits bytes.now) writer.old writer.new result }

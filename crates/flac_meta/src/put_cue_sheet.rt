@@ -1,4 +1,4 @@
-//! Writes cue sheets.
+//! Writing of cue sheets.
 
 ghost use Rattle.std.specs.Prelude.{◌≡◌, ◌≤◌, ◌+◌, ◌*◌, ◌∷◌, [], false, not, length};
 ghost use Rattle.flac_bits.specs.Bits.{unsigned, bits_of, bit_value};
@@ -12,7 +12,7 @@ use crate::fielded::{Field, flag};
 use crate::put::{put_fields, put_zeros};
 use flac_bits::{BitWriter, Target, Why};
 
-/// Writes a place in a track (RFC 9639, section 8.7.1.1).
+/// Writes an index point of a track (RFC 9639, section 8.7.1.1).
 fn put_index<W: Target>(writer: &mut BitWriter<W>, index: &CueIndex) -> Result<(), Why>
     ensures { Writes (index_spelling index.now) writer.old writer.new result }
 {
@@ -21,7 +21,7 @@ fn put_index<W: Target>(writer: &mut BitWriter<W>, index: &CueIndex) -> Result<(
     put_zeros(writer, 8 * 3)
 }
 
-/// Writes the places of a track.
+/// Writes the index points of a track.
 fn put_indices<W: Target>(writer: &mut BitWriter<W>, indices: &[CueIndex]) -> Result<(), Why>
     ensures { Writes (each_spelled index_spelling indices.now) writer.old writer.new result }
 {

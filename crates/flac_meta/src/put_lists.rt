@@ -1,4 +1,4 @@
-//! Writes seek tables, comments and pictures.
+//! Writing of seek tables, comments and pictures.
 
 ghost use Rattle.std.specs.Prelude.{◌≡◌, ◌+◌, ◌*◌, ◌<◌, ◌≤◌, ◌^◌, length};
 ghost use Rattle.flac_bits.specs.Written.{Writes};
@@ -34,7 +34,7 @@ pub(crate) fn put_points<W: Target>(
     Ok(())
 }
 
-/// Writes texts, each behind its length.
+/// Writes texts, each after its length.
 fn put_texts<W: Target>(writer: &mut BitWriter<W>, texts: &[Bytes]) -> Result<(), Why>
     requires { texts_length texts.now < 2 ^ 24 }
     ensures { Writes (each_spelled little_sized texts.now) writer.old writer.new result }

@@ -1,4 +1,4 @@
-//! Reads cue sheets.
+//! Reading of cue sheets.
 
 ghost use Rattle.std.specs.Prelude.{◌≡◌, OnOk, IfOk, ◌+◌, ◌*◌, ◌<◌, ◌≤◌, ◌^◌, length};
 ghost use Rattle.flac_bits.specs.Lists.{list_of};
@@ -11,7 +11,7 @@ use crate::fields::read_zeros;
 use flac_bits::{BitReader, Source, Why};
 use std::alloc::Global;
 
-/// A place in a track (RFC 9639, section 8.7.1.1).
+/// Reads an index point of a track (RFC 9639, section 8.7.1.1).
 #[tactic(auto, unfolding(crate::specs::CueSheet::cue_index, crate::specs::Fields::reserved))]
 fn read_index<R: Source>(bits: &mut BitReader<R>) -> Result<CueIndex, Why>
     ensures spends { OnOk result (bits.new.most ≤ bits.old.most) }
@@ -26,7 +26,7 @@ fn read_index<R: Source>(bits: &mut BitReader<R>) -> Result<CueIndex, Why>
     Ok(CueIndex { offset, number })
 }
 
-/// So many places.
+/// Reads `count` index points.
 #[tactic(auto, using(flac_bits::proofs::Lists::list_more, flac_bits::proofs::Lists::list_end, flac_bits::proofs::Lists::list_start))]
 fn read_indices<R: Source>(
     alloc: Global,
@@ -47,7 +47,7 @@ fn read_indices<R: Source>(
     Ok(CueIndices::from_vec(items))
 }
 
-/// The fields of a track before its places.
+/// Reads the fields of a track before its index points.
 #[tactic(auto, unfolding(crate::specs::CueSheet::track_front, crate::specs::Fields::reserved))]
 fn read_track_front<R: Source>(
     bits: &mut BitReader<R>,
@@ -68,7 +68,7 @@ fn read_track_front<R: Source>(
     Ok((offset, number, isrc, audio, pre_emphasis))
 }
 
-/// A track, in a content of which so many bytes are left (RFC 9639, section 8.7.1).
+/// Reads a track, of a content of which `left` bytes are left (RFC 9639, section 8.7.1).
 #[tactic(auto, unfolding(crate::specs::CueSheet::cue_track))]
 fn read_track<R: Source>(alloc: Global, bits: &mut BitReader<R>, left: u32) -> Result<CueTrack, Why>
     requires { left < 2 ^ 24 }
@@ -96,7 +96,7 @@ fn read_track<R: Source>(alloc: Global, bits: &mut BitReader<R>, left: u32) -> R
     })
 }
 
-/// The number of tracks or of places, in a content of which so many bytes are left.
+/// Reads the number of tracks or of index points, of a content of which `left` bytes are left.
 #[tactic(auto, unfolding(crate::specs::CueSheet::cue_count))]
 fn read_count<R: Source>(bits: &mut BitReader<R>, left: u32) -> Result<u8, Why>
     requires { left < 2 ^ 24 }
@@ -111,7 +111,7 @@ fn read_count<R: Source>(bits: &mut BitReader<R>, left: u32) -> Result<u8, Why>
     Ok(bits.take(8)? as u8)
 }
 
-/// So many tracks, behind which the content ends; of it so many bytes are left.
+/// Reads `count` tracks, which are all of the `left` bytes that are left of the content.
 #[tactic(auto, using(crate::proofs::Turns::tracks_more, crate::proofs::Turns::tracks_end, crate::proofs::Turns::turn_start))]
 fn read_tracks<R: Source>(
     alloc: Global,
@@ -138,7 +138,7 @@ fn read_tracks<R: Source>(
     Ok(CueTracks::from_vec(tracks))
 }
 
-/// The fields of a cue sheet before its tracks.
+/// Reads the fields of a cue sheet before its tracks.
 #[tactic(auto, unfolding(crate::specs::CueSheet::sheet_front, crate::specs::Fields::reserved))]
 fn read_sheet_front<R: Source>(bits: &mut BitReader<R>) -> Result<([u8; 128], u64, bool), Why>
     ensures spends { OnOk result (bits.new.most ≤ bits.old.most) }
@@ -155,7 +155,7 @@ fn read_sheet_front<R: Source>(bits: &mut BitReader<R>) -> Result<([u8; 128], u6
     Ok((catalogue, lead_in, cd))
 }
 
-/// A cue sheet of so many bytes (RFC 9639, section 8.7).
+/// Reads a cue sheet of `left` bytes (RFC 9639, section 8.7).
 #[tactic(auto, unfolding(crate::specs::CueSheet::cue_sheet))]
 pub(crate) fn read_cue_sheet<R: Source>(
     alloc: Global,

@@ -1,4 +1,4 @@
-//! Reads what a stream says of itself.
+//! Reading of STREAMINFO.
 
 ghost use Rattle.std.specs.Prelude.{OnOk, IfOk, ◌<◌, ◌≤◌, ◌^◌};
 ghost use Rattle.flac_bits.specs.Reading.{Counts, Reads};
@@ -8,7 +8,7 @@ use crate::exact::read_exact;
 use crate::stream_info::StreamInfo;
 use flac_bits::{BitReader, Source, Why};
 
-/// Least and greatest block size in samples, least and greatest frame size in bytes.
+/// Smallest and largest block size in samples, smallest and largest frame size in bytes.
 #[tactic(auto, unfolding(crate::specs::Info::info_sizes))]
 fn read_sizes<R: Source>(bits: &mut BitReader<R>) -> Result<(u16, u16, u32, u32), Why>
     ensures fit { IfOk result (λ s. (s.2 < 2 ^ 24) × (s.3 < 2 ^ 24)) }
@@ -23,7 +23,7 @@ fn read_sizes<R: Source>(bits: &mut BitReader<R>) -> Result<(u16, u16, u32, u32)
     Ok((least_block, greatest_block, least_frame, greatest_frame))
 }
 
-/// Rate in Hz, channels, bits a sample, samples of each channel.
+/// Sample rate in Hz, channels, bits per sample, samples of each channel.
 #[tactic(auto, unfolding(crate::specs::Info::info_format))]
 fn read_format<R: Source>(bits: &mut BitReader<R>) -> Result<(u32, u8, u8, u64), Why>
     ensures fit { IfOk result (λ f. (f.0 < 2 ^ 20) × (1 ≤ f.1) × (f.1 ≤ 8) × (f.2 ≤ 32) × (f.3 < 2 ^ 36)) }

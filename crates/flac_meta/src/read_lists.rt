@@ -1,4 +1,4 @@
-//! Reads seek tables, comments and pictures.
+//! Reading of seek tables, comments and pictures.
 
 ghost use Rattle.std.specs.Prelude.{◌≡◌, OnOk, IfOk, ◌+◌, ◌*◌, ◌<◌, ◌≤◌, ◌^◌, length, None};
 ghost use Rattle.flac_bits.specs.Reading.{Counts, Reads, ReadsInRoom};
@@ -15,7 +15,8 @@ use crate::seek_table::{SeekPoint, SeekTable};
 use flac_bits::{BitReader, Source, Why, read_little_32};
 use std::alloc::Global;
 
-/// Whether a point of this sample number may stand behind one of that.
+/// Whether a seek point of this sample number may come after one of the number `before`: if it is larger, or a
+/// placeholder.
 pub(crate) fn may_follow(before: Option<u64>, sample: u64) -> bool
     ensures { result ≡ follows before sample }
 {
@@ -25,7 +26,7 @@ pub(crate) fn may_follow(before: Option<u64>, sample: u64) -> bool
     }
 }
 
-/// A point behind one of this sample number.
+/// Reads a seek point that comes after one of the sample number `before`.
 #[tactic(auto, unfolding(crate::specs::SeekTable::seek_point))]
 fn read_point<R: Source>(bits: &mut BitReader<R>, before: Option<u64>) -> Result<SeekPoint, Why>
     ensures spends { OnOk result (bits.new.most ≤ bits.old.most) }
@@ -45,7 +46,7 @@ fn read_point<R: Source>(bits: &mut BitReader<R>, before: Option<u64>) -> Result
     })
 }
 
-/// A seek table of so many points.
+/// Reads a seek table of `count` points.
 #[tactic(auto, using(crate::proofs::Turns::points_more, crate::proofs::Turns::points_end, crate::proofs::Turns::turn_start))]
 pub(crate) fn read_seek_table<R: Source>(
     alloc: Global,
@@ -67,7 +68,7 @@ pub(crate) fn read_seek_table<R: Source>(
     Ok(SeekTable::from_vec(points))
 }
 
-/// So many texts, behind which the content ends; of it so many bytes are left.
+/// Reads `count` texts, which are all of the `left` bytes that are left of the content.
 #[tactic(auto, using(crate::proofs::Turns::texts_more, crate::proofs::Turns::texts_end, crate::proofs::Turns::turn_start))]
 fn read_texts<R: Source>(
     alloc: Global,
@@ -94,7 +95,7 @@ fn read_texts<R: Source>(
     Ok(Texts::from_vec(list))
 }
 
-/// A Vorbis comment of so many bytes (RFC 9639, section 8.6).
+/// Reads a Vorbis comment of `left` bytes (RFC 9639, section 8.6).
 #[tactic(auto, unfolding(crate::specs::Comments::comments))]
 pub(crate) fn read_comments<R: Source>(
     alloc: Global,
@@ -120,7 +121,7 @@ pub(crate) fn read_comments<R: Source>(
     Ok(Comments { vendor, list })
 }
 
-/// Width, height, bits a pixel and colours used of a picture.
+/// Reads width, height, bits per pixel and number of colours of a picture.
 #[tactic(auto, unfolding(crate::specs::Picture::sizes))]
 fn read_sizes<R: Source>(bits: &mut BitReader<R>, left: u32) -> Result<(u32, u32, u32, u32), Why>
     requires { left < 2 ^ 24 }
@@ -136,7 +137,7 @@ fn read_sizes<R: Source>(bits: &mut BitReader<R>, left: u32) -> Result<(u32, u32
     Ok((width, height, depth, colours))
 }
 
-/// Kind, media type and description of a picture, in a content of which so many bytes are left.
+/// Reads kind, media type and description of a picture, of a content of which `left` bytes are left.
 #[tactic(auto, unfolding(crate::specs::Picture::picture_front))]
 fn read_picture_front<R: Source>(
     alloc: Global,
@@ -155,7 +156,7 @@ fn read_picture_front<R: Source>(
     Ok((kind, media, text))
 }
 
-/// A picture of so many bytes (RFC 9639, section 8.8).
+/// Reads a picture of `left` bytes (RFC 9639, section 8.8).
 #[tactic(auto, unfolding(crate::specs::Picture::picture))]
 pub(crate) fn read_picture<R: Source>(
     alloc: Global,

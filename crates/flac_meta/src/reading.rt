@@ -1,4 +1,4 @@
-//! Reads a block.
+//! Reading of blocks.
 
 ghost use Rattle.std.specs.Prelude.{◌≡◌, OnOk, OnErr, IfOk, ◌+◌, ◌<◌, ◌≤◌, ◌^◌, true, Ok, Err};
 ghost use Rattle.flac_bits.specs.State.{Cursor};
@@ -19,7 +19,7 @@ use crate::seen::Seen;
 use flac_bits::{BitReader, Source, Why};
 use std::alloc::Global;
 
-/// The content of an application block of so many bytes (RFC 9639, section 8.4).
+/// Reads the content of an application block of `length` bytes (RFC 9639, section 8.4).
 #[tactic(auto, unfolding(crate::specs::Block::application))]
 fn read_application<R: Source>(
     alloc: Global,
@@ -37,7 +37,7 @@ fn read_application<R: Source>(
     Ok(Block::Application { id, bytes })
 }
 
-/// Reads the content of a block of this kind and of this length in bytes.
+/// Reads the content of a block of this type and of `length` bytes.
 #[tactic(auto, unfolding(crate::specs::Block::content, crate::specs::Block::padding, crate::specs::Block::other))]
 fn read_content<R: Source>(
     alloc: Global,
@@ -70,6 +70,7 @@ fn read_content<R: Source>(
     }
 }
 
+/// What [`read_block`] does, but for the note in `seen`.
 #[tactic(auto, unfolding(crate::specs::Block::block))]
 fn next_block<R: Source>(
     alloc: Global,
@@ -86,8 +87,25 @@ fn next_block<R: Source>(
     Ok((header.last, body))
 }
 
-/// Reads the next block, where `seen` tells which kinds came before it, and notes its kind there. Answers whether it is
-/// marked last, and the block.
+/// Reads the next metadata block, and returns whether it is marked last, and the block (RFC 9639, section 8). `seen`
+/// has the kinds of blocks that were read before; the new one is noted there.
+///
+/// ```
+/// let mut bits = BitReader::new(source); // after `fLaC`
+/// let mut seen = Seen::new();
+/// let (last, info) = read_block(rt.alloc(), &mut bits, &mut seen)?; // STREAMINFO
+/// ```
+///
+/// # Errors
+/// `seen` is then as before.
+///
+/// - [`Why::NotStreamInfoFirst`] if the first block is not STREAMINFO.
+/// - [`Why::ForbiddenType`] if the type is 127.
+/// - [`Why::RepeatedBlock`] if it is a second STREAMINFO, seek table or Vorbis comment.
+/// - [`Why::BlockLength`] if the length does not fit the type or the fields of the content.
+/// - [`Why::BadStreamInfo`], [`Why::SeekOrder`] or [`Why::CueSheet`] if the content breaks the rules of its fields.
+/// - [`Why::Memory`] if an allocation fails; not for STREAMINFO and padding, which need none.
+/// - Those of [`BitReader`].
 pub fn read_block<R: Source>(
     alloc: Global,
     bits: &mut BitReader<R>,

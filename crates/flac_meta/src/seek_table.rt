@@ -1,4 +1,4 @@
-//! Seek points.
+//! Seek tables.
 
 ghost use Rattle.std.specs.Prelude.{◌≡◌};
 ghost use Rattle.std.specs.Cmp.{partial_equiv_from_equiv};
@@ -7,18 +7,19 @@ ghost use Rattle.std.specs.Cmp.Lexicographic.{pointwise, lists_equiv};
 use std::alloc::AllocError;
 use std::marker::Model;
 
-/// A place to which a player can jump (RFC 9639, section 8.5.1).
+/// A frame to which a player can jump (RFC 9639, section 8.5.1).
 #[derive(Clone, Copy, Debug, PartialEq, Eq)]
 pub struct SeekPoint {
-    /// Number of the first sample of the frame; all ones: a placeholder.
+    /// Number of the first sample of the frame; 2^64 - 1 is a placeholder.
     pub sample: u64,
-    /// Bytes from the first byte of the first frame to the frame.
+    /// Bytes from the first byte of the first frame to the first byte of this one.
     pub offset: u64,
-    /// Samples of each channel in the frame.
+    /// How many samples of each channel the frame has.
     pub length: u16,
 }
 
-/// Seek points (RFC 9639, section 8.5).
+/// A seek table (RFC 9639, section 8.5). If it is to be written, sample numbers rise strictly, and placeholders come
+/// last.
 #[derive(Debug, Drop)]
 pub struct SeekTable {
     points: Vec<SeekPoint>,
@@ -63,14 +64,14 @@ impl Eq for SeekTable {
 }
 
 impl SeekTable {
-    /// The table of these points.
+    /// Makes a seek table of these points. Their order is not checked here, but when the table is written.
     pub fn from_vec(points: Vec<SeekPoint>) -> SeekTable
         ensures { result ≡ points.items }
     {
         SeekTable { points }
     }
 
-    /// The points as a vector.
+    /// Returns the points as a vector.
     pub fn into_vec(self) -> Vec<SeekPoint>
         ensures { result.items ≡ self }
     {

@@ -1,4 +1,4 @@
-//! Which blocks came already.
+//! Which kinds of blocks were read already.
 
 ghost use Rattle.std.specs.Prelude.{◌≡◌};
 ghost use Rattle.flac_meta.specs.Header.{nothing_seen};
@@ -6,7 +6,7 @@ ghost use Rattle.flac_meta.specs.Block.{seen_after};
 
 use crate::block::Block;
 
-/// Which kinds of block came already.
+/// Which kinds of blocks were read already; what may come next depends on it (RFC 9639, section 8.1).
 #[derive(Clone, Copy, Debug, PartialEq, Eq)]
 pub struct Seen {
     pub(crate) stream_info: bool,
@@ -15,7 +15,7 @@ pub struct Seen {
 }
 
 impl Seen {
-    /// No block came: the next one has to be STREAMINFO.
+    /// Begins with no block read: the next one must be STREAMINFO.
     pub fn new() -> Seen
         ensures { result ≡ nothing_seen }
     {
@@ -26,7 +26,7 @@ impl Seen {
         }
     }
 
-    /// Notes that this block came.
+    /// Notes that this block was read.
     pub(crate) fn note(&mut self, block: &Block)
         ensures { self.new ≡ seen_after self.old block.now }
     {

@@ -1,4 +1,4 @@
-//! What a stream says of itself.
+//! STREAMINFO.
 
 ghost use Rattle.std.specs.Prelude.{◌≡◌, IfOk, IfErr};
 ghost use Rattle.flac_meta.specs.Info.{Info, KeepsRules};
@@ -6,7 +6,7 @@ ghost use Rattle.flac_meta.specs.Info.{Info, KeepsRules};
 use flac_bits::Why;
 use std::marker::Model;
 
-/// STREAMINFO: what a stream says of itself (RFC 9639, section 8.2). A value always keeps the rules of its fields.
+/// STREAMINFO: properties of the whole stream (RFC 9639, section 8.2). Its fields are always in their ranges.
 #[derive(Clone, Copy, Debug, PartialEq, Eq)]
 pub struct StreamInfo {
     pub(crate) least_block: u16,
@@ -63,10 +63,18 @@ impl Model for StreamInfo {
 }
 
 impl StreamInfo {
-    /// The value of these fields, in the order in which they stand: block sizes in samples, 16 to 65535, the least at most
-    /// the greatest; frame sizes in bytes, below 2^24, 0 where unknown; rate in Hz, 1 to 1048575; 1 to 8 channels; 4 to 32
-    /// bits a sample; samples of each channel, below 2^36, 0 where unknown; the MD5 of the samples, zeros where unknown.
-    /// Refuses [`Why::BadStreamInfo`] where one of these does not hold.
+    /// Makes a STREAMINFO of these fields, in the order of section 8.2:
+    ///
+    /// - block sizes in samples, 16 to 65535, the smallest not above the largest;
+    /// - frame sizes in bytes, below 2^24, 0 if unknown;
+    /// - sample rate in Hz, 1 to 1048575;
+    /// - 1 to 8 channels;
+    /// - 4 to 32 bits per sample;
+    /// - samples of each channel, below 2^36, 0 if unknown;
+    /// - MD5 of the samples, zeros if unknown.
+    ///
+    /// # Errors
+    /// [`Why::BadStreamInfo`] if a field is out of its range.
     pub fn new(
         least_block: u16,
         greatest_block: u16,
@@ -127,7 +135,7 @@ impl StreamInfo {
         })
     }
 
-    /// The least block size in samples.
+    /// The smallest block size in samples, 16 to 65535. The last block may be smaller.
     pub fn least_block(&self) -> u16
         ensures value { result ≡ self.now.least_block }
         ensures rules { KeepsRules self.now }
@@ -135,7 +143,7 @@ impl StreamInfo {
         self.least_block
     }
 
-    /// The greatest block size in samples.
+    /// The largest block size in samples, 16 to 65535.
     pub fn greatest_block(&self) -> u16
         ensures value { result ≡ self.now.greatest_block }
         ensures rules { KeepsRules self.now }
@@ -143,7 +151,7 @@ impl StreamInfo {
         self.greatest_block
     }
 
-    /// The least frame size in bytes, 0 where it is unknown.
+    /// The smallest frame size in bytes, below 2^24; 0 if it is unknown.
     pub fn least_frame(&self) -> u32
         ensures value { result ≡ self.now.least_frame }
         ensures rules { KeepsRules self.now }
@@ -151,7 +159,7 @@ impl StreamInfo {
         self.least_frame
     }
 
-    /// The greatest frame size in bytes, 0 where it is unknown.
+    /// The largest frame size in bytes, below 2^24; 0 if it is unknown.
     pub fn greatest_frame(&self) -> u32
         ensures value { result ≡ self.now.greatest_frame }
         ensures rules { KeepsRules self.now }
@@ -159,7 +167,7 @@ impl StreamInfo {
         self.greatest_frame
     }
 
-    /// The sample rate in Hz.
+    /// The sample rate in Hz, 1 to 1048575.
     pub fn rate(&self) -> u32
         ensures value { result ≡ self.now.rate }
         ensures rules { KeepsRules self.now }
@@ -175,7 +183,7 @@ impl StreamInfo {
         self.channels
     }
 
-    /// Bits a sample, 4 to 32.
+    /// Bits per sample, 4 to 32.
     pub fn depth(&self) -> u8
         ensures value { result ≡ self.now.depth }
         ensures rules { KeepsRules self.now }
@@ -183,7 +191,7 @@ impl StreamInfo {
         self.depth
     }
 
-    /// Samples of each channel, 0 where they are unknown.
+    /// How many samples each channel has, below 2^36; 0 if it is unknown.
     pub fn total(&self) -> u64
         ensures value { result ≡ self.now.total }
         ensures rules { KeepsRules self.now }
@@ -191,7 +199,7 @@ impl StreamInfo {
         self.total
     }
 
-    /// The MD5 of all samples, zeros where it is unknown.
+    /// The MD5 digest of all samples; zeros if it is unknown.
     pub fn digest(&self) -> [u8; 16]
         ensures value { result ≡ self.now.digest }
         ensures rules { KeepsRules self.now }

@@ -1,4 +1,4 @@
-//! Writes blocks.
+//! Writing of blocks.
 
 ghost use Rattle.std.specs.Prelude.{◌≡◌, ◌<◌, ◌≤◌, ◌^◌, None, Some, Ok, Err, IfSome, false, ◌∷◌, []};
 ghost use Rattle.flac_bits.specs.Bits.{bits_of};
@@ -16,7 +16,7 @@ use crate::put_cue_sheet::put_sheet;
 use crate::put_lists::{put_comments, put_picture, put_points};
 use flac_bits::{BitWriter, Target, Why};
 
-/// Writes the data of an application block (RFC 9639, section 8.4).
+/// Writes the content of an application block (RFC 9639, section 8.4).
 fn put_application<W: Target>(writer: &mut BitWriter<W>, id: &[u8], bytes: &[u8]) -> Result<(), Why>
     ensures { Writes (joined (bits_of id.now ∷ bits_of bytes.now ∷ [])) writer.old writer.new result }
 {
@@ -44,7 +44,7 @@ fn put_content<W: Target>(writer: &mut BitWriter<W>, block: &Block) -> Result<()
     }
 }
 
-/// Writes a block that may be written.
+/// Writes a block that can be written.
 fn put_block<W: Target>(writer: &mut BitWriter<W>, block: &Block, last: bool) -> Result<(), Why>
     requires { block_fault block.now ≡ None }
     ensures { Writes (block_spelling last block.now) writer.old writer.new result }
@@ -71,9 +71,24 @@ fn put_comments_block<W: Target>(
     Ok(())
 }
 
-/// Writes a block. Where it may not be written, nothing is, and the reason is the first that applies of
-/// [`Why::ForbiddenType`] (kept bytes of a kind that is not 7 to 126), [`Why::BlockLength`] (a content of more than 16777215
-/// bytes), [`Why::SeekOrder`] and [`Why::CueSheet`] (no track, or more than 255 tracks or places).
+/// Writes a metadata block: its header, marked last if `last` is true, and its content (RFC 9639, section 8).
+///
+/// ```
+/// let mut writer = BitWriter::new(Collected::new(rt.alloc()));
+/// write_block(&Block::Padding(2), true, &mut writer)?;
+/// writer.finish()?;
+/// let bytes = writer.into_target().into_bytes(); // 81 00 00 02 00 00
+/// ```
+///
+/// # Errors
+/// If the block cannot be written, nothing is written, and the error is the first of these that applies:
+///
+/// - [`Why::ForbiddenType`] if it is a [`Block::Other`] of a type outside 7 to 126;
+/// - [`Why::BlockLength`] if the content has more than 16777215 bytes;
+/// - [`Why::SeekOrder`] if the points of a seek table do not rise;
+/// - [`Why::CueSheet`] if a cue sheet has no track, more than 255 tracks, or a track of more than 255 index points.
+///
+/// Else [`Why::Write`] if the target fails.
 pub fn write_block<W: Target>(
     block: &Block,
     last: bool,
@@ -89,6 +104,10 @@ pub fn write_block<W: Target>(
 }
 
 /// Writes the Vorbis comment block of these comments, as [`write_block`] does.
+///
+/// # Errors
+/// [`Why::BlockLength`] if the content has more than 16777215 bytes: then nothing is written. [`Why::Write`] if the
+/// target fails.
 pub fn write_comments<W: Target>(
     comments: &Comments,
     last: bool,

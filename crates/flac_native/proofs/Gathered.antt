@@ -1,28 +1,18 @@
 -- Frames that are encoded one after another.
-use Rattle.std.proofs.Common.{◌≡◌, ℕ, zero, suc, ◌+◌, ◌-◌, ◌*◌, ◌/◌, ◌%◌, ◌^◌, ◌<◌, ◌≤◌, min, max, Bool, true, false, cond, nat_eq, List, [], ◌∷◌, ◌++◌, length, length-append, get_or, refl, sym, ap, subst, ◌∙◌, arith, ◌⊎◌, inl, inr}
+use Rattle.std.proofs.Common.{◌≡◌, ℕ, zero, suc, ◌+◌, ◌-◌, ◌*◌, ◌/◌, ◌%◌, ◌^◌, ◌<◌, ◌≤◌, min, max, Bool, true, false, cond, nat_eq, nat_lt, List, [], ◌∷◌, ◌++◌, length, length-append, get_or, refl, sym, ap, subst, ◌∙◌, arith, ◌⊎◌, inl, inr}
 use Rattle.std.proofs.lemmas.Bool.{cases_lt}
 use Rattle.std.proofs.lemmas.Bool.Decides.{nat_tests}
-use Rattle.std.proofs.lemmas.List.{append-nil}
 use Rattle.std.proofs.Math.ListN.{get_or-append}
 use Rattle.std.proofs.Math.Seq.{get_or-append_seam}
 use Rattle.std.proofs.Math.Nat.{lt_of_mul-lt-mul_left}
-use Rattle.std.specs.Borrow.{GName}
-use Rattle.flac_bits.specs.Bits.{bits_of}
-use Rattle.flac_bits.specs.declared.why.Why.TheVariants.{Truncated}
-use Rattle.flac_bits.specs.State.{Mark, fresh}
-use Rattle.flac_bits.specs.Forms.{joined}
-use Rattle.flac_bits.specs.Written.{Written, Adds}
-use Rattle.flac_bits.proofs.ItemSpellings.{fresh_unread, behind_whole}
-use Rattle.flac_meta.proofs.Tied.{joined_append}
 use Rattle.flac_meta.specs.declared.seek_table.SeekPoint.{SeekPoint}
-use Rattle.flac_header.specs.Spelling.{restarted}
 use Rattle.flac_frame.specs.Audio.{Sound, samples_each}
+use Rattle.flac_frame.specs.Chosen.{IsFrameChoice}
 use Rattle.flac_frame.specs.Encoding.{IsEncoding, IsLeastFrame, block_of}
-use Rattle.flac_frame.specs.Spelling.{FrameForm, frame_spelling}
-use Rattle.flac_frame.proofs.FrameTie.{frames_bytes}
-use Rattle.flac_frame.proofs.Sizes.{bytes_after}
+use Rattle.flac_frame.specs.Spelling.{frame_spelling}
+use Rattle.flac_frame.specs.declared.frame_choice.FrameChoice.{FrameChoice}
 use Rattle.flac_native.specs.Given.{Cut, blocks_in, size_of, frame_of}
-use Rattle.flac_native.specs.Writing.{SpellsFrame, SpellsLeast, AreSizes, IsEncoded}
+use Rattle.flac_native.specs.Writing.{SpellsFrame, SpellsLeast, AreSizes, AreCounted, IsChoiceOf, AreChoices}
 use Rattle.flac_native.specs.Seeking.{point_at, points_of}
 use Rattle.flac_native.proofs.Encoded.{least_part, all_parts}
 use Rattle.flac_native.proofs.Tables.{bytes_of, bytes_more, points_more}
@@ -92,33 +82,6 @@ more_sizes frames t least greatest bytes some e s = record {
     upper (inl h) = there (max greatest bytes) greatest (omega (arith, h)) (s.greatest_is some)
     upper (inr h) = here (max greatest bytes) (omega (arith, h))
 
--- ---- frames so far
-
--- so many frames were written, of which the least and the greatest have so many bytes, and these are their points
-pub record Gathered (p : Cut) (a : Sound) (w : Written) (number least greatest : ℕ) (points : List SeekPoint) : Type 0 where
-  pub frames : List (List Bool)
-  pub many : length frames ≡ number
-  pub each : (i : ℕ) → i < length frames → SpellsFrame a (frame_of p.block_size a i) (nth frames i)
-  pub each_least : (i : ℕ) → i < length frames → SpellsLeast a (frame_of p.block_size a i) (nth frames i)
-  pub sizes : AreSizes frames least greatest
-  pub known : w.known ≡ true
-  pub bits : w.bits ≡ joined frames
-  pub whole : w.mark.unread ≡ 0
-  pub count : w.mark.bytes ≤ 16777215 * number
-  pub placed : w.mark.bytes ≡ bytes_of frames
-  pub pointed : points ≡ points_of p frames
-
-pub gathered_none : (p : Cut) (a : Sound) (w : Written) → w.known ≡ true → w.bits ≡ [] → w.mark.unread ≡ 0 → w.mark.bytes ≡ 0 → Gathered p a w 0 0 0 []
-gathered_none p a w known bits whole count = record { frames = []; many = refl; each = λ i h. absurd (omega arith); each_least = λ i h. absurd (omega arith); sizes = no_sizes; known = known; bits = bits; whole = whole; count = omega (arith, count); placed = count; pointed = refl }
-
-pub gathered_new : (p : Cut) (a : Sound) (w : Written) (k : Bool) (e : ℕ) (names : List GName) (s : List ℕ) → w ≡ record { known = k; errors = e; names = names; sent = s; bits = bits_of s; mark = record { unread = 0; bytes = 0; check8 = 0; check16 = 0; short = Truncated } }
-    → k ≡ true → s ≡ [] → Gathered p a w 0 0 0 []
-gathered_new p a w k e names s is known sent =
-    gathered_none p a w (ap (λ (v : Written). v.known) is ∙ known) (ap (λ (v : Written). v.bits) is ∙ ap bits_of sent) (ap (λ (v : Written). v.mark.unread) is) (ap (λ (v : Written). v.mark.bytes) is)
-
-counted : (n long after bytes : ℕ) → n < 2 ^ 60 → long % 8 ≡ 0 → after ≡ min (n + (long + 7 - 0) / 8) (2 ^ 64 - 1) → bytes ≡ after - n → bytes ≤ 16777215 → (long ≡ 8 * bytes) × (after ≡ n + bytes)
-counted n long after bytes small whole e is few = (omega (arith, small, whole, e, is, few), omega (arith, small, whole, e, is, few))
-
 -- the least with one more: that itself where it is the first
 abbrev pub least_with : ℕ → ℕ → ℕ → ℕ
 least_with number least bytes = cond (nat_eq number 0) bytes (min least bytes)
@@ -131,36 +94,86 @@ sizes_with (x ∷ xs) t (suc n) least greatest bytes many e s =
     let later : nat_eq (suc n) 0 ≡ false = grind (arith, nat_tests) in
     subst (λ b. AreSizes (snoc (x ∷ xs) t) (cond b bytes (min least bytes)) (max greatest bytes)) (sym later) (more_sizes (x ∷ xs) t least greatest bytes (omega arith) e s)
 
-pub gathered_more : (p : Cut) (a : Sound) (w v : Written) (number least greatest bytes start n : ℕ) (f : FrameForm) (points more : List SeekPoint) → Gathered p a w number least greatest points
-    → more ≡ points ++ point_at p number w.mark.bytes → number < 2 ^ 31
-    → start ≡ p.block_size * number → n ≡ size_of p.block_size (samples_each a.channels) number → IsEncoding a n number (block_of start n a.channels) f → IsLeastFrame a n number (block_of start n a.channels) f
-    → Adds (frame_spelling a.bits f) (restarted w) v → bytes ≡ v.mark.bytes - w.mark.bytes → bytes ≤ 16777215 → Gathered p a v (number + 1) (least_with number least bytes) (max greatest bytes) more
-gathered_more p a w v number least greatest bytes start n f points more g noted small start_is n_is encoded chosen adds is few =
-    let encoding : IsEncoding a (size_of p.block_size (samples_each a.channels) number) number (block_of (p.block_size * number) (size_of p.block_size (samples_each a.channels) number) a.channels) f =
-    subst (λ k. IsEncoding a k number (block_of (p.block_size * number) k a.channels) f) n_is (subst (λ k. IsEncoding a n number (block_of k n a.channels) f) start_is encoded) in
-    let least_frame : IsLeastFrame a (size_of p.block_size (samples_each a.channels) number) number (block_of (p.block_size * number) (size_of p.block_size (samples_each a.channels) number) a.channels) f =
-    subst (λ k. IsLeastFrame a k number (block_of (p.block_size * number) k a.channels) f) n_is (subst (λ k. IsLeastFrame a n number (block_of k n a.channels) f) start_is chosen) in
-    let t = frame_spelling a.bits f in
-    let whole = frames_bytes a.bits f in
-    let u = fresh_unread w.mark g.whole in
-    let after = bytes_after t w v g.whole (omega (arith, g.count, small)) adds in
-    let k = counted w.mark.bytes (length t) v.mark.bytes bytes (omega (arith, g.count, small)) whole after is few in
-    let here : SpellsFrame a (frame_of p.block_size a number) t = record { form = f; encoding = encoding; spelling = refl; short = omega (arith, k.0, few) } in
-    let here_least : SpellsLeast a (frame_of p.block_size a number) t = record { form = f; least = least_frame; spelling = refl } in
-    record {
-      frames = snoc g.frames t;
-      many = omega (arith, length-snoc g.frames t, g.many);
-      each = each_more (λ i k. SpellsFrame a (frame_of p.block_size a i) k) g.frames t g.each (subst (λ n. SpellsFrame a (frame_of p.block_size a n) t) (sym g.many) here);
-      each_least = each_more (λ i k. SpellsLeast a (frame_of p.block_size a i) k) g.frames t g.each_least (subst (λ n. SpellsLeast a (frame_of p.block_size a n) t) (sym g.many) here_least);
-      sizes = sizes_with g.frames t number least greatest bytes g.many k.0 g.sizes;
-      known = adds.known g.known;
-      bits = adds.bits g.known ∙ ap (λ k. k ++ t) g.bits ∙ ap (λ k. joined g.frames ++ k) (sym (append-nil t)) ∙ joined_append g.frames (t ∷ []);
-      whole = ap (λ (m : Mark). m.unread) adds.mark ∙ behind_whole t (fresh w.mark) u whole;
-      count = omega (arith, k.1, g.count, few);
-      placed = omega (arith, k.0, k.1, g.placed, bytes_more g.frames t);
-      pointed = noted ∙ ap (λ l. l ++ point_at p number w.mark.bytes) g.pointed ∙ ap (λ i. points_of p g.frames ++ point_at p i w.mark.bytes) (let e : number ≡ 0 + length g.frames = omega (arith, g.many) in e)
-          ∙ ap (λ o. points_of p g.frames ++ point_at p (0 + length g.frames) o) (let e : w.mark.bytes ≡ 0 + bytes_of g.frames = omega (arith, g.placed) in e) ∙ sym (points_more p 0 0 g.frames t);
-    }
+-- ---- frames so far
+
+-- so many frames are known, of which the least and the greatest have so many bytes, all of them so many, and these are their points
+pub record Gathered (p : Cut) (a : Sound) (number offset least greatest : ℕ) (points : List SeekPoint) : Type 0 where
+  pub frames : List (List Bool)
+  pub many : length frames ≡ number
+  pub each : (i : ℕ) → i < length frames → SpellsFrame a (frame_of p.block_size a i) (nth frames i)
+  pub each_least : (i : ℕ) → i < length frames → SpellsLeast a (frame_of p.block_size a i) (nth frames i)
+  pub sizes : AreSizes frames least greatest
+  pub count : offset ≤ 16777215 * number
+  pub placed : offset ≡ bytes_of frames
+  pub pointed : points ≡ points_of p frames
+
+pub gathered_none : (p : Cut) (a : Sound) → Gathered p a 0 0 0 0 []
+gathered_none p a = record { frames = []; many = refl; each = λ i h. absurd (omega arith); each_least = λ i h. absurd (omega arith); sizes = no_sizes; count = omega arith; placed = refl; pointed = refl }
+
+-- what was chosen of a block makes the frame of its number
+pub choice_of : (p : Cut) (a : Sound) (number start n : ℕ) (c : FrameChoice) → start ≡ p.block_size * number → n ≡ size_of p.block_size (samples_each a.channels) number → IsFrameChoice a n number (block_of start n a.channels) c
+    → IsFrameChoice a (size_of p.block_size (samples_each a.channels) number) number (block_of (p.block_size * number) (size_of p.block_size (samples_each a.channels) number) a.channels) c
+choice_of p a number start n c start_is n_is is = subst (λ k. IsFrameChoice a k number (block_of (p.block_size * number) k a.channels) c) n_is (subst (λ k. IsFrameChoice a n number (block_of k n a.channels) c) start_is is)
+
+pub choice_back : (p : Cut) (a : Sound) (number start n : ℕ) (c : FrameChoice) → start ≡ p.block_size * number → n ≡ size_of p.block_size (samples_each a.channels) number
+    → IsFrameChoice a (size_of p.block_size (samples_each a.channels) number) number (block_of (p.block_size * number) (size_of p.block_size (samples_each a.channels) number) a.channels) c → IsFrameChoice a n number (block_of start n a.channels) c
+choice_back p a number start n c start_is n_is is =
+    subst (λ k. IsFrameChoice a n number (block_of k n a.channels) c) (sym start_is) (subst (λ k. IsFrameChoice a k number (block_of (p.block_size * number) k a.channels) c) (sym n_is) is)
+
+pub gathered_more : (p : Cut) (a : Sound) (number offset least greatest bytes start n : ℕ) (c : FrameChoice) (points more : List SeekPoint) → Gathered p a number offset least greatest points
+    → more ≡ points ++ point_at p number offset → start ≡ p.block_size * number → n ≡ size_of p.block_size (samples_each a.channels) number
+    → (is : IsFrameChoice a n number (block_of start n a.channels) c) → length (frame_spelling a.bits is.form) ≡ 8 * bytes
+    → Gathered p a (number + 1) (offset + bytes) (least_with number least bytes) (max greatest bytes) more × (bytes ≤ 16777215)
+gathered_more p a number offset least greatest bytes start n c points more g noted start_is n_is is long =
+    let size = size_of p.block_size (samples_each a.channels) number in
+    let t = frame_spelling a.bits is.form in
+    let encoding : IsEncoding a size number (block_of (p.block_size * number) size a.channels) is.form =
+    subst (λ k. IsEncoding a k number (block_of (p.block_size * number) k a.channels) is.form) n_is (subst (λ k. IsEncoding a n number (block_of k n a.channels) is.form) start_is is.encoding) in
+    let least_frame : IsLeastFrame a size number (block_of (p.block_size * number) size a.channels) is.form =
+    subst (λ k. IsLeastFrame a k number (block_of (p.block_size * number) k a.channels) is.form) n_is (subst (λ k. IsLeastFrame a n number (block_of k n a.channels) is.form) start_is is.least) in
+    let few : bytes ≤ 16777215 = omega (arith, long, is.short) in
+    let here : SpellsFrame a (frame_of p.block_size a number) t = record { form = is.form; encoding = encoding; spelling = refl; short = is.short } in
+    let here_least : SpellsLeast a (frame_of p.block_size a number) t = record { form = is.form; least = least_frame; spelling = refl } in (
+      record {
+        frames = snoc g.frames t;
+        many = omega (arith, length-snoc g.frames t, g.many);
+        each = each_more (λ i k. SpellsFrame a (frame_of p.block_size a i) k) g.frames t g.each (subst (λ n. SpellsFrame a (frame_of p.block_size a n) t) (sym g.many) here);
+        each_least = each_more (λ i k. SpellsLeast a (frame_of p.block_size a i) k) g.frames t g.each_least (subst (λ n. SpellsLeast a (frame_of p.block_size a n) t) (sym g.many) here_least);
+        sizes = sizes_with g.frames t number least greatest bytes g.many long g.sizes;
+        count = omega (arith, g.count, few);
+        placed = omega (arith, long, g.placed, bytes_more g.frames t);
+        pointed = noted ∙ ap (λ l. l ++ point_at p number offset) g.pointed ∙ ap (λ i. points_of p g.frames ++ point_at p i offset) (let e : number ≡ 0 + length g.frames = omega (arith, g.many) in e)
+            ∙ ap (λ o. points_of p g.frames ++ point_at p (0 + length g.frames) o) (let e : offset ≡ 0 + bytes_of g.frames = omega (arith, g.placed) in e) ∙ sym (points_more p 0 0 g.frames t);
+      },
+      few,
+    )
+
+-- ---- what is kept of them
+
+pub no_choices : (p : Cut) (a : Sound) → AreChoices p a []
+no_choices p a i c lt is = absurd (omega arith)
+
+one_choice : (p : Cut) (a : Sound) (cs : List FrameChoice) (c : FrameChoice) → AreChoices p a cs → IsChoiceOf p a (length cs) c → AreChoices p a (cs ++ c ∷ [])
+one_choice p a cs c are one i d lt is = elim (cases_lt i (length cs)) [
+  | inl b ↦ are i d b (is ∙ get_or-append cs (c ∷ []) d i b)
+  | inr b ↦
+      let e : length cs ≡ i = omega (arith, b, lt, length-append cs (c ∷ [])) in
+      let same : c ≡ d = sym (is ∙ ap (λ k. get_or (cs ++ c ∷ []) k d) (sym e) ∙ get_or-append_seam cs c [] d) in
+      subst (λ k. IsChoiceOf p a k d) e (subst (IsChoiceOf p a (length cs)) same one)
+]
+
+pub choices_more : (p : Cut) (a : Sound) (cs new : List FrameChoice) (c : FrameChoice) (number most : ℕ) → AreChoices p a cs → length cs ≡ min number most → IsChoiceOf p a number c
+    → new ≡ cond (nat_lt (length cs) most) (cs ++ c ∷ []) cs → AreChoices p a new × (length new ≡ min (number + 1) most)
+choices_more p a cs new c number most are many one is = go (nat_lt (length cs) most) refl is
+  where
+    go : (b : Bool) → nat_lt (length cs) most ≡ b → new ≡ cond b (cs ++ c ∷ []) cs → AreChoices p a new × (length new ≡ min (number + 1) most)
+    go true test e =
+        let below : length cs < most = grind (arith, nat_tests) in
+        let at : number ≡ length cs = omega (arith, many, below) in
+        subst (λ l. AreChoices p a l × (length l ≡ min (number + 1) most)) (sym e) (one_choice p a cs c are (subst (λ k. IsChoiceOf p a k c) at one), omega (arith, length-append cs (c ∷ []), many, below))
+    go false test e =
+        let over : most ≤ length cs = grind (arith, nat_tests) in
+        subst (λ l. AreChoices p a l × (length l ≡ min (number + 1) most)) (sym e) (are, omega (arith, many, over))
 
 -- ---- where the loop stands
 
@@ -174,10 +187,5 @@ all_gathered b total number some few h = elim (cases_lt number (blocks_in b tota
 ]
 
 -- all frames
-pub all_encoded : (p : Cut) (a : Sound) (w : Written) (number least greatest : ℕ) (text : List Bool) (points : List SeekPoint) → Gathered p a w number least greatest points → number ≡ blocks_in p.block_size (samples_each a.channels) → text ≡ w.bits → IsEncoded p a text least greatest points
-all_encoded p a w number least greatest text points g all is = record { frames = g.frames; are = record { many = g.many ∙ all; each = g.each }; are_least = g.each_least; sizes = g.sizes; spelled = is ∙ g.bits; pointed = g.pointed }
-
--- a short frame adds few bytes to the count
-pub short_bytes : (t : List Bool) (w v : Written) → w.mark.unread ≡ 0 → w.mark.bytes < 2 ^ 64 → Adds t (restarted w) v → length t ≤ 8 * 16777215 → v.mark.bytes - w.mark.bytes ≤ 16777215
-short_bytes t w v z small adds short =
-    omega (arith, bytes_after t w v z small adds, small, short)
+pub all_counted : (p : Cut) (a : Sound) (number offset least greatest : ℕ) (points : List SeekPoint) → Gathered p a number offset least greatest points → number ≡ blocks_in p.block_size (samples_each a.channels) → AreCounted p a least greatest points
+all_counted p a number offset least greatest points g all = record { frames = g.frames; are = record { many = g.many ∙ all; each = g.each }; are_least = g.each_least; sizes = g.sizes; pointed = g.pointed }

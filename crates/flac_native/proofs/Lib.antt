@@ -36,3 +36,5 @@ pub mod Unread
 pub mod BlockOrder
 pub mod Ordered
 pub mod Pushing
+pub mod Spelled
+pub mod Rooms

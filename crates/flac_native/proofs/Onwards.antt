@@ -204,7 +204,7 @@ frames_again i new old m k (x ∷ xs) text rules u z o (front, rest, split, spel
 may_end : (p : Progress) (i : Info) → p.stand.phase ≡ Frames → p.stand.info ≡ Some i → may_end_in p.stand.phase p.stand.info ≡ true
 may_end p i e f = rw (e, f) refl
 
-ends_well : (info : Option Info) (i : Info) (samples : ℕ) (message : List ℕ) → info ≡ Some (untold i) → AllKept (end_rules info samples message)
+pub ends_well : (info : Option Info) (i : Info) (samples : ℕ) (message : List ℕ) → info ≡ Some (untold i) → AllKept (end_rules info samples message)
 unfolding end_rules
 ends_well info i samples message e = rw e (refl, (refl, tt))
 
@@ -255,7 +255,7 @@ step_of s m text x told u h = go s.phase refl
 
 -- ---- one place
 
-one_place : (p : Progress) (m : Mark) (items : List Piece) (front left head rest : List Bool) → front ++ left ≡ head ++ rest → Joined grammar p m items front → Joined grammar p m items head → left ≡ rest
+pub one_place : (p : Progress) (m : Mark) (items : List Piece) (front left head rest : List Bool) → front ++ left ≡ head ++ rest → Joined grammar p m items front → Joined grammar p m items head → left ≡ rest
 one_place p m [] front left head rest e j k = ap (λ (t : List Bool). t ++ left) (sym j) ∙ e ∙ ap (λ (t : List Bool). t ++ rest) k
 one_place p m (x ∷ xs) front left head rest e j k =
     let h = heads p m x x xs xs front left head rest e j k in

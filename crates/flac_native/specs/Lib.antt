@@ -20,3 +20,4 @@ pub mod ReadBack
 pub mod Whole
 pub mod BlockOrder
 pub mod Ordered
+pub mod Room

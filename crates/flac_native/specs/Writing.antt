@@ -1,6 +1,10 @@
 -- What encoding writes, and that it is a stream of what was given.
-use Rattle.std.specs.Prelude.{◌≡◌, ℕ, ◌*◌, ◌<◌, ◌≤◌, Bool, true, List, [], ◌∷◌, ◌++◌, length, slice_index_or, None}
-use Rattle.flac_bits.specs.Bits.{unsigned, is_nil}
+use Rattle.std.specs.Prelude.{◌≡◌, ℕ, ◌+◌, ◌*◌, ◌<◌, ◌≤◌, Bool, true, List, [], ◌∷◌, ◌++◌, length, slice_index_or, None, Result, OnOk, OnErr, IfErr}
+use Rattle.flac_bits.specs.Bits.{unsigned, bits_of, is_nil}
+use Rattle.flac_bits.specs.State.{Rises}
+use Rattle.flac_bits.specs.Written.{Written, Fails}
+use Rattle.flac_bits.specs.declared.why.Why.{Why}
+use Rattle.flac_bits.specs.declared.target.Target as target
 use Rattle.flac_bits.specs.Forms.{joined}
 use Rattle.flac_bits.specs.Items.{Stream}
 use Rattle.flac_bits.specs.declared.why.Why.TheVariants.{Truncated}
@@ -12,7 +16,9 @@ use Rattle.flac_meta.specs.declared.seek_table.SeekPoint.{SeekPoint}
 use Rattle.flac_meta.specs.declared.block.Block.{Block}
 use Rattle.flac_meta.specs.declared.block.Block.TheVariants as blocks
 use Rattle.flac_frame.specs.Audio.{Sound, samples_each}
+use Rattle.flac_frame.specs.Chosen.{IsFrameChoice}
 use Rattle.flac_frame.specs.Encoding.{IsEncoding, IsLeastFrame}
+use Rattle.flac_frame.specs.declared.frame_choice.FrameChoice.{FrameChoice}
 use Rattle.flac_frame.specs.Frame.{Frame}
 use Rattle.flac_frame.specs.Spelling.{FrameForm, frame_spelling}
 use Rattle.flac_native.specs.Decoding.{beginning}
@@ -74,14 +80,64 @@ EncodedAreStreams =
     → AreFrames p a frames → AreSizes frames least greatest
     → Stream grammar opening (beginning Truncated) (given p list a least greatest) (stream_spelling p list a least greatest frames)
 
--- the bits are all frames of the samples, each the least of its block, of which the shortest and the longest have so many bytes, and these are their points
-pub record IsEncoded (p : Cut) (a : Sound) (text : List Bool) (least greatest : ℕ) (points : List SeekPoint) : Type 0 where
+-- what is known of the frames of the samples before they are written: each is the least of its block, the shortest and the longest have so many bytes, and these are
+-- their points
+pub record AreCounted (p : Cut) (a : Sound) (least greatest : ℕ) (points : List SeekPoint) : Type 0 where
   pub frames : List (List Bool)
   pub are : AreFrames p a frames
   pub are_least : AreLeastFrames p a frames
   pub sizes : AreSizes frames least greatest
-  pub spelled : text ≡ joined frames
   pub pointed : points ≡ points_of p frames
+
+-- the bits are those of the least frame of a number, and a short one
+pub record IsSpelled (p : Cut) (a : Sound) (number : ℕ) (text : List Bool) : Type 0 where
+  pub frame : SpellsFrame a (frame_of p.block_size a number) text
+  pub least : SpellsLeast a (frame_of p.block_size a number) text
+
+-- These bits were written and sent, at a whole byte, or else the target failed.
+pub record WritesAll {X : Type 0} (text : List Bool) (old new : Written) (result : Result X Why) : Type 0 where
+  pub failed : IfErr result (λ e. Fails (old.bits ++ text) old new e)
+  pub counted : OnOk result (new.errors ≡ old.errors)
+  pub sent : OnOk result (old.known ≡ true → bits_of new.sent ≡ old.bits ++ text)
+
+-- so it is of the least frame of a number
+abbrev pub WritesNext : {X : Type 0} → Cut → Sound → ℕ → Written → Written → Result X Why → Type 0
+WritesNext p a number old new result = (text : List Bool) × IsSpelled p a number text × WritesAll text old new result
+
+-- it was chosen how the frame of a number is written
+pub record IsChoiceOf (p : Cut) (a : Sound) (number : ℕ) (c : FrameChoice) : Type 0 where
+  pub chosen : IsFrameChoice a (frame_of p.block_size a number).size number (frame_of p.block_size a number).channels c
+  pub places : length a.channels ≤ length c.subframes.items
+
+-- these are the choices of the first frames
+abbrev pub AreChoices : Cut → Sound → List FrameChoice → Type 0
+AreChoices p a choices = (i : ℕ) (c : FrameChoice) → i < length choices → c ≡ slice_index_or choices i c → IsChoiceOf p a i c
+
+-- A call that was to send whole bytes of these bits sent all of them where it answered Ok, and else a beginning of them; then the target answered an error.
+pub record SendsBits {S X E : Type 0} (g : target.Ghosts S) (text : List Bool) (old new : S) (result : Result X E) : Type 0 where
+  pub known : OnOk result (g.known old ≡ true → g.known new ≡ true)
+  pub sent : OnOk result (g.known old ≡ true → bits_of (g.sent new) ≡ bits_of (g.sent old) ++ text)
+  pub begun : OnErr result (g.known old ≡ true → (front : List Bool) × (rest : List Bool) × (text ≡ front ++ rest) × (bits_of (g.sent new) ≡ bits_of (g.sent old) ++ front))
+  pub names : g.names new ≡ g.names old
+  pub counted : OnOk result (g.errors new ≡ g.errors old)
+  pub kept : g.errors old ≤ g.errors new
+  pub rises : OnErr result (g.known old ≡ true → g.errors old < g.errors new)
+  pub risen : OnErr result (Rises (g.errors old) (g.errors new))
+
+-- all frames of the samples were sent, each the least of its block, or else a beginning of them
+abbrev pub SendsFrames : {S X E : Type 0} → target.Ghosts S → Cut → Sound → S → S → Result X E → Type 0
+SendsFrames g p a old new result = (frames : List (List Bool)) × AreFrames p a frames × AreLeastFrames p a frames × SendsBits g (joined frames) old new result
+
+-- so it is behind bits that were to be sent before them
+abbrev pub SendsStream : {S X E : Type 0} → target.Ghosts S → List Bool → Cut → Sound → S → S → Result X E → Type 0
+SendsStream g head p a old new result = (frames : List (List Bool)) × AreFrames p a frames × AreLeastFrames p a frames × SendsBits g (head ++ joined frames) old new result
+
+-- so many bytes hold any frame: the least frames are no longer than that
+pub record HasRoom (p : Cut) (a : Sound) (places : ℕ) : Type 0 where
+  pub frames : List (List Bool)
+  pub are : AreFrames p a frames
+  pub are_least : AreLeastFrames p a frames
+  pub within : (i : ℕ) → i < length frames → length (slice_index_or frames i []) ≤ 8 * places
 
 -- Behind the bits that were there, a stream of what was given was written: all frames of the samples, each the least of its block, whose least and greatest sizes STREAMINFO tells.
 -- The last block is the seek table of the frames, where one has a point.

@@ -1,24 +1,26 @@
 //! Writes native streams.
 
-ghost use Rattle.std.specs.Prelude.{◌≡◌, ◌≢◌, ◌∷◌, ◌++◌, ◌≤◌, ◌<◌, ◌^◌, ◌↔◌, length, min, max, cond, nat_eq, true, IfOk, IfErr, OnOk, None, Err};
+ghost use Rattle.std.specs.Prelude.{◌≡◌, ◌≢◌, ◌∷◌, ◌++◌, ◌<◌, ◌↔◌, length, true, IfOk, IfErr, OnOk, None, Err};
 ghost use Rattle.flac_bits.specs.Bits.{bits_of};
 ghost use Rattle.flac_bits.specs.State.{Rises};
-ghost use Rattle.flac_bits.specs.Sending.{Sends};
 ghost use Rattle.flac_bits.specs.Written.{Writes};
 ghost use Rattle.flac_meta.specs.Listed.{block_fault};
 ghost use Rattle.flac_meta.specs.declared.block.Block.TheVariants as block_of;
 ghost use Rattle.flac_native.specs.Given.{fits_plan};
 ghost use Rattle.flac_native.specs.Numbers.{is_of_whole};
 ghost use Rattle.flac_native.specs.Seeking.{table_of, is_table, has_table, repeats_table};
-ghost use Rattle.flac_native.specs.Writing.{blocks_spelling, head_spelling, IsEncoded, Encodes, BeginsEncoding};
+ghost use Rattle.flac_native.specs.Writing.{blocks_spelling, head_spelling, AreChoices, HasRoom, SendsStream, Encodes, BeginsEncoding};
 
+use crate::chosen_frames::ChosenFrames;
 use crate::encode_fault::EncodeFault;
 use crate::encoded_info::info_of;
+use crate::frames::send_frames;
 use crate::in_order::write_each;
 use crate::memory::{collect, in_memory};
 use crate::plan::Plan;
+use crate::room::Room;
 use flac_bits::{BitWriter, Collected, Target, Why, send_all};
-use flac_frame::{Audio, EncodeBuffers, encode_frame};
+use flac_frame::{Audio, EncodeBuffers, FrameChoice};
 use flac_meta::{Block, BlockList, SeekPoint, SeekTable, StreamInfo, write_block};
 use std::alloc::Global;
 
@@ -92,75 +94,6 @@ pub(crate) fn head_of(
     }
 }
 
-/// Frames in memory, the least and the greatest number of bytes of one, 0 where there is none, and their seek points.
-#[derive(Drop)]
-pub(crate) struct Frames {
-    pub(crate) bytes: Vec<u8>,
-    pub(crate) least: u32,
-    pub(crate) greatest: u32,
-    pub(crate) points: Vec<SeekPoint>,
-}
-
-/// The least size with one more, which is that of the first where there was none.
-fn least_with(count: u64, least: u64, bytes: u64) -> u64
-    ensures { result ≡ cond (nat_eq count 0) bytes (min least bytes) }
-{
-    if count == 0 { bytes } else { least.min(bytes) }
-}
-
-/// The greatest size with one more.
-fn greatest_with(greatest: u64, bytes: u64) -> u64
-    ensures { result ≡ max greatest bytes }
-{
-    if greatest < bytes { bytes } else { greatest }
-}
-
-/// Encodes all samples into memory. Its only error is `Memory`: an allocation failed.
-fn encode_frames(alloc: Global, plan: &Plan, audio: &Audio) -> Result<Frames, Why>
-    requires { fits_plan plan.now audio.now ≡ true }
-    ensures encoded { IfOk result (λ f. IsEncoded plan.now audio.now (bits_of f.bytes.items) f.least f.greatest f.points.items) }
-    ensures table { IfOk result (λ f. block_fault (block_of.SeekTable f.points.items) ≡ None) }
-    ensures sizes { IfOk result (λ f. (f.least ≤ f.greatest) × (f.greatest < 2 ^ 24)) }
-    ensures memory { IfErr result (λ e. e ≡ Why.Memory) }
-{
-    let size = plan.block_size() as usize;
-    let total = audio.len();
-    let mut buffers = EncodeBuffers::new(alloc, plan.block_size())?;
-    let mut writer = BitWriter::new(Collected::new(alloc));
-    let mut points = Vec::new(alloc);
-    let mut least = 0;
-    let mut greatest = 0;
-    let mut number = 0;
-    let mut start = 0;
-    while start < total {
-        let end = start + size.min(total - start);
-        plan.note_point(number, writer.bytes_written(), &mut points)?;
-        let frame_bytes = match encode_frame(audio, start..end, number, &mut buffers, &mut writer) {
-            Ok(frame_bytes) => frame_bytes,
-            Err(why) => return Err(in_memory(why)),
-        };
-        least = least_with(number, least, frame_bytes);
-        greatest = greatest_with(greatest, frame_bytes);
-        number += 1;
-        start = end;
-    }
-    let bytes = collect(writer)?;
-    Ok(Frames {
-        bytes,
-        least: least as u32,
-        greatest: greatest as u32,
-        points,
-    })
-}
-
-/// Sends the bytes before the frames and those of the frames. After an error a beginning of them was sent.
-fn send_stream<W: Target>(head: &[u8], frames: &[u8], target: &mut W) -> Result<(), Why>
-    ensures { Sends W.Target (head.now ++ frames.now) target.old target.new result }
-{
-    send_all(target, head)?;
-    send_all(target, frames)
-}
-
 fn is_table(block: &Block) -> bool
     ensures { result ≡ is_table block.now }
 {
@@ -186,9 +119,32 @@ fn repeats_table(plan: &Plan, list: &BlockList) -> bool
     plan.seek_every() > 0 && has_table(list.blocks())
 }
 
+/// Sends the bytes before the frames, and then the frames. After an error a beginning of them was sent.
+fn send_stream<W: Target>(
+    head: &[u8],
+    plan: &Plan,
+    audio: &Audio,
+    choices: &[FrameChoice],
+    buffers: &mut EncodeBuffers,
+    room: Room,
+    target: &mut W,
+) -> Result<(), Why>
+    requires fits { fits_plan plan.now audio.now ≡ true }
+    requires room { buffers.old ≡ plan.now.block_size }
+    requires choices { AreChoices plan.now audio.now choices.now }
+    requires places { HasRoom plan.now audio.now room.places }
+    ensures { SendsStream W.Target (bits_of head.now) plan.now audio.now target.old target.new result }
+{
+    send_all(target, head)?;
+    send_frames(plan, audio, choices, buffers, room, target)
+}
+
 /// Writes samples as a native stream: STREAMINFO with the number of samples, the sizes of the frames and the digest, the blocks of the list, the seek table
-/// where the plan asks for one and there is a sample, and a frame for each block of the plan (RFC 9639, section 6). The whole stream is held in memory
-/// before its first byte is sent.
+/// where the plan asks for one and there is a sample, and a frame for each block of the plan (RFC 9639, section 6).
+///
+/// It goes over the samples twice: first it chooses how each frame is written, which tells its length, and then it writes one frame after another. Beside the samples it
+/// holds the bytes before the frames, one frame, and for each frame how it is written, some 560 bytes for each channel. Where blocks have fewer than 1000 samples, that
+/// would take more than a seventh of the memory of the samples: then it keeps what was chosen of the first frames, and chooses the others again.
 ///
 /// The plan fits the samples: see [`Plan::fits`].
 ///
@@ -219,14 +175,28 @@ pub fn encode<W: Target>(
     }
     let _size = plan.block_size();
     let _blocks = list.blocks();
-    let Ok(frames) = encode_frames(alloc, plan, audio) else {
+    let Ok(mut buffers) = EncodeBuffers::new(alloc, plan.block_size()) else {
+        return Err(EncodeFault::Memory);
+    };
+    let Ok(frames) = ChosenFrames::new(alloc, plan, audio, &mut buffers) else {
+        return Err(EncodeFault::Memory);
+    };
+    let Ok(room) = frames.room(alloc) else {
         return Err(EncodeFault::Memory);
     };
     let info = info_of(plan, audio, frames.least, frames.greatest);
     let Ok(head) = head_of(alloc, info, list, frames.points) else {
         return Err(EncodeFault::Memory);
     };
-    match send_stream(head.as_slice(), frames.bytes.as_slice(), target) {
+    match send_stream(
+        head.as_slice(),
+        plan,
+        audio,
+        frames.choices.as_slice(),
+        &mut buffers,
+        room,
+        target,
+    ) {
         Ok(()) => Ok(()),
         Err(_) => Err(EncodeFault::Write),
     }

@@ -5,6 +5,7 @@
 
 mod advance;
 mod block_bytes;
+mod chosen_frames;
 mod container;
 mod copying;
 mod course;
@@ -17,6 +18,7 @@ mod encoding;
 mod end;
 mod fault;
 mod format;
+mod frames;
 mod handing;
 mod in_order;
 mod item;
@@ -33,6 +35,7 @@ mod renewed;
 mod resuming;
 mod retag_fault;
 mod retagging;
+mod room;
 mod rows;
 mod sink;
 mod steps;
@@ -40,6 +43,7 @@ mod stream_encoder;
 mod subset;
 mod track;
 
+pub use chosen_frames::ChosenFrames;
 pub use container::Container;
 pub use decoder::Decoder;
 pub use decoding::decode;
@@ -71,6 +75,7 @@ pub use promises::{
 };
 pub use retag_fault::RetagFault;
 pub use retagging::retag;
+pub use room::Room;
 pub use sink::{Sink, SinkFault};
 pub use stream_encoder::StreamEncoder;
 pub use track::Track;

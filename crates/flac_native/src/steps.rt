@@ -1,6 +1,6 @@
 //! One item of a stream after another.
 
-ghost use Rattle.std.specs.Prelude.{◌≡◌, ◌≢◌, ⊤, IfOk, IfErr, IfSome, true, false, Some, Ok};
+ghost use Rattle.std.specs.Prelude.{◌≡◌, ◌≢◌, ⊤, IfOk, IfErr, IfSome, true, false, Some, Ok, option_copied};
 ghost use Rattle.std.specs.Borrow.{sem, follows_so};
 ghost use mathlib.Core.Option.{none};
 ghost use Rattle.flac_bits.specs.Bits.{bits_of};
@@ -11,6 +11,7 @@ ghost use Rattle.flac_native.specs.contracts.decoder.Decoder.{the_row};
 ghost use Rattle.flac_native.specs.Stream.{Progress, opening};
 ghost use Rattle.flac_native.specs.Track.{IsAt, is_made, is_going, stand_of};
 ghost use Rattle.flac_native.specs.Decoding.{beginning};
+ghost use Rattle.flac_native.specs.Retag.{is_behind_blocks};
 ghost use Rattle.flac_native.specs.Giving.{GivesFirst, BreaksAt, CountsIn, found, held, shown_of, Goes, Moves, stage_of};
 
 use crate::container::Container;
@@ -23,6 +24,7 @@ use crate::phase::Phase;
 use crate::track::Track;
 use flac_bits::{BitReader, Source, Why};
 use flac_header::Profile;
+use flac_meta::StreamInfo;
 use std::alloc::Global;
 
 /// Whether the part that was read is the marker.
@@ -136,6 +138,45 @@ impl<C: Container> Decoder<C> {
     {
         self.step()?;
         Ok(self.view())
+    }
+
+    /// STREAMINFO, once it was read: rate, channels, bits per sample and length of the stream (RFC 9639, section 8.2); `None` before. A decoder that was resumed
+    /// at a frame has it from the start, without the number of samples and their digest.
+    ///
+    /// ```
+    /// if let Some(info) = decoder.info() {
+    ///     println!(rt; "{} Hz", info.rate())?;
+    /// }
+    /// ```
+    pub fn info(&self) -> Option<&StreamInfo>
+        ensures { option_copied result ≡ (stand_of (stage_of self.now).track).info }
+    {
+        match &self.track.format {
+            Some(format) => Some(&format.info),
+            None => None,
+        }
+    }
+
+    /// Whether the last metadata block was read, so that a frame comes next, or the end: no metadata comes any more (RFC 9639, section 8.1).
+    ///
+    /// ```
+    /// for _ in 0..u64::MAX {
+    ///     if decoder.is_past_metadata() {
+    ///         break;
+    ///     }
+    ///     if let Item::Block(block) = decoder.next()? {
+    ///         note(block);
+    ///     }
+    /// }
+    /// ```
+    pub fn is_past_metadata(&self) -> bool
+        ensures { result ≡ is_behind_blocks (stand_of (stage_of self.now).track).phase }
+    {
+        match self.track.phase {
+            Phase::Opening => false,
+            Phase::Blocks => false,
+            Phase::Frames => true,
+        }
     }
 
     /// Gives the container back: what it still gives comes after the item that was read last. After an error it is of no use any more.

@@ -18,6 +18,9 @@ pub mod Whole
 pub mod FirstByte
 pub mod RoundTrips
 pub mod OpenPages
+pub mod BitsAsBytes
+pub mod SentPackets
+pub mod SentOgg
 pub mod Headed
 pub mod PushedOgg
 pub mod Judged

@@ -11,16 +11,16 @@ use Rattle.flac_pages.specs.Written.{page_at, pages_of_packet, packet_spelling}
 use Rattle.flac_pages.specs.Placed.{Placed, marks_of, sequence_behind, pages_from, stream_spelling}
 use Rattle.flac_ogg.specs.Pushing.{open_from, number_behind, ArePages}
 
-packet_joined : (m : PacketMarks) (packet : List ℕ) → flat_map page_spelling (pages_of_packet m packet) ≡ packet_spelling m packet
+pub packet_joined : (m : PacketMarks) (packet : List ℕ) → flat_map page_spelling (pages_of_packet m packet) ≡ packet_spelling m packet
 unfolding packet_spelling
 packet_joined m packet = flat_map-map page_spelling (page_at m packet) (range_with_len 0 (length packet / 65025 + 1))
 
 -- whether the packet after these is the first
-abbrev is_first : Bool → List Placed → Bool
+abbrev pub is_first : Bool → List Placed → Bool
 is_first first [] = first
 is_first first (p ∷ ps) = false
 
-later : (ps : List Placed) → is_first false ps ≡ false
+pub later : (ps : List Placed) → is_first false ps ≡ false
 later [] = refl
 later (p ∷ ps) = refl
 
@@ -47,7 +47,7 @@ last_packet serial n first (p ∷ ps) q =
     flat_map-append page_spelling (pages_of_packet m p.packet) others ∙ ap (λ t. t ++ flat_map page_spelling others) one ∙ ap (λ t. packet_spelling (marks_of serial n first false p) p.packet ++ t) rest
     ∙ sym (append_assoc (packet_spelling (marks_of serial n first false p) p.packet) (open_from serial k false ps) end)
 
-open_packet : (serial n : ℕ) (first : Bool) (ps : List Placed) (q : Placed)
+pub open_packet : (serial n : ℕ) (first : Bool) (ps : List Placed) (q : Placed)
     → open_from serial n first (ps ++ q ∷ []) ≡ open_from serial n first ps ++ packet_spelling (marks_of serial (number_behind n ps) (is_first first ps) false q) q.packet
 open_packet serial n first [] q = append-nil (packet_spelling (marks_of serial n first false q) q.packet)
 open_packet serial n first (p ∷ ps) q =
@@ -58,7 +58,7 @@ open_packet serial n first (p ∷ ps) q =
     open_packet serial k false ps q ∙ ap (λ f. open_from serial k false ps ++ packet_spelling (marks_of serial (number_behind k ps) f false q) q.packet) (later ps) in
     ap (λ t. front ++ t) rest ∙ sym (append_assoc front (open_from serial k false ps) end)
 
-next_number : (n : ℕ) (ps : List Placed) (q : Placed) → number_behind n (ps ++ q ∷ []) ≡ sequence_behind (number_behind n ps) q.packet
+pub next_number : (n : ℕ) (ps : List Placed) (q : Placed) → number_behind n (ps ++ q ∷ []) ≡ sequence_behind (number_behind n ps) q.packet
 next_number n [] q = refl
 next_number n (p ∷ ps) q = next_number (sequence_behind n p.packet) ps q
 

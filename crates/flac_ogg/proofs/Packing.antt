@@ -21,11 +21,8 @@ use Rattle.flac_native.proofs.BlocksWritten.{nil_is}
 use Rattle.flac_native.proofs.Gathered.{nth, snoc, length-snoc, each_more, sizes_with, least_with, no_sizes, all_gathered}
 use Rattle.flac_pages.specs.declared.writing.PacketKind.{PacketKind}
 use Rattle.flac_pages.specs.declared.writing.PacketKind.TheVariants.{Header, Frame}
-use Rattle.flac_ogg.specs.Listed.{Puts}
 use Rattle.flac_ogg.specs.Native.{mapping_spelling, block_spellings}
-use Rattle.flac_ogg.specs.Writing.{IsFrameText, PutsFrames, frames_to}
-use Rattle.flac_ogg.specs.declared.packet_list.PacketList.{PacketList}
-use Rattle.flac_ogg.proofs.Listing.{puts_none, puts_then}
+use Rattle.flac_ogg.specs.Writing.{IsFrameText}
 
 -- ---- the first packet
 
@@ -68,9 +65,6 @@ take_over (x ∷ xs) (suc n) e = ap (λ (l : List (List Bool)). x ∷ l) (take_o
 pub all_blocks : (bs : List Block) (i : ℕ) → i ≡ length bs → take i (block_spellings bs) ≡ block_spellings bs
 all_blocks bs i e = take_over (block_spellings bs) i (e ∙ sym (count_blocks bs))
 
-abbrev pub zeros : ℕ → List ℕ
-zeros n = replicate n 0
-
 abbrev pub headers : ℕ → List PacketKind
 headers n = replicate n Header
 
@@ -91,47 +85,3 @@ pub frame_collected : (a : Sound) (start size number : ℕ) (f : FrameForm) (r :
     → IfOk r (λ v. IsFrameText a start size number (bits_of v.items))
 frame_collected a start size number f (Err e) encoded chosen short is = tt
 frame_collected a start size number f (Ok v) encoded chosen short is = frame_text a start size number f (bits_of v.items) encoded chosen short is
-
--- so many frames were put behind the other packets
-pub record FramesSoFar (p : Cut) (a : Sound) (old new : PacketList) (number least greatest : ℕ) : Type 0 where
-  pub frames : List (List Bool)
-  pub many : length frames ≡ number
-  pub each : (i : ℕ) → i < length frames → SpellsFrame a (frame_of p.block_size a i) (nth frames i)
-  pub each_least : (i : ℕ) → i < length frames → SpellsLeast a (frame_of p.block_size a i) (nth frames i)
-  pub sizes : AreSizes frames least greatest
-  pub put : Puts frames (frames_to p.block_size (samples_each a.channels) number) old new
-
-pub no_frames : (p : Cut) (a : Sound) (l : PacketList) → FramesSoFar p a l l 0 0 0
-no_frames p a l = record { frames = []; many = refl; each = λ i h. absurd (omega arith); each_least = λ i h. absurd (omega arith); sizes = no_sizes; put = puts_none l }
-
-pub one_frame : (p : Cut) (a : Sound) (l m n : PacketList) (number least greatest bytes start size end : ℕ) (packet : List ℕ) → FramesSoFar p a l m number least greatest
-    → start ≡ p.block_size * number → size ≡ size_of p.block_size (samples_each a.channels) number → end ≡ min (samples_each a.channels) (p.block_size * (number + 1)) → bytes ≡ length packet
-    → IsFrameText a start size number (bits_of packet) → Puts (bits_of packet ∷ []) (Frame end ∷ []) m n → FramesSoFar p a l n (number + 1) (least_with number least bytes) (max greatest bytes)
-one_frame p a l m n number least greatest bytes start size end packet g start_is size_is end_is bytes_is text put =
-    let t = bits_of packet in
-    let total = samples_each a.channels in
-    let here = subst (λ k. IsFrameText a (p.block_size * number) k number t) size_is (subst (λ k. IsFrameText a k size number t) start_is text) in
-    let next : number + 1 ≡ suc number = omega arith in
-    let at : end ≡ min total (p.block_size * suc number) = end_is ∙ ap (λ k. min total (p.block_size * k)) next in
-    let kinds : frames_to p.block_size total number ++ Frame end ∷ [] ≡ frames_to p.block_size total (number + 1) =
-    ap (λ k. frames_to p.block_size total number ++ Frame k ∷ []) at ∙ ap (λ k. frames_to p.block_size total k) (sym next) in
-    record {
-      frames = snoc g.frames t;
-      many = omega (arith, length-snoc g.frames t, g.many);
-      each = each_more (λ i k. SpellsFrame a (frame_of p.block_size a i) k) g.frames t g.each (subst (λ k. SpellsFrame a (frame_of p.block_size a k) t) (sym g.many) here.frame);
-      each_least = each_more (λ i k. SpellsLeast a (frame_of p.block_size a i) k) g.frames t g.each_least (subst (λ k. SpellsLeast a (frame_of p.block_size a k) t) (sym g.many) here.least);
-      sizes = sizes_with g.frames t number least greatest bytes g.many (length-bits_of packet ∙ ap (λ k. 8 * k) (sym bytes_is)) g.sizes;
-      put = subst (λ k. Puts (snoc g.frames t) k l n) kinds (puts_then g.frames (t ∷ []) (frames_to p.block_size total number) (Frame end ∷ []) l m n g.put put);
-    }
-
-pub all_frames : (p : Cut) (a : Sound) (l m : PacketList) (number least greatest start : ℕ) → 16 ≤ p.block_size → FramesSoFar p a l m number least greatest → number ≤ blocks_in p.block_size (samples_each a.channels)
-    → start ≡ min (samples_each a.channels) (p.block_size * number) → samples_each a.channels ≤ start → PutsFrames p a l m least greatest
-all_frames p a l m number least greatest start some g few at over =
-    let all = all_gathered p.block_size (samples_each a.channels) number some few (omega (arith, at, over)) in
-    record {
-      frames = g.frames;
-      are = record { many = g.many ∙ all; each = g.each };
-      are_least = g.each_least;
-      sizes = g.sizes;
-      put = subst (λ k. Puts g.frames (frames_to p.block_size (samples_each a.channels) k) l m) all g.put;
-    }

@@ -1,7 +1,6 @@
 -- All packets of what is encoded, and the Ogg stream of them.
 use Rattle.std.proofs.Common.{◌≡◌, ℕ, suc, ◌+◌, ◌^◌, ◌<◌, Bool, true, List, [], ◌∷◌, ◌++◌, length, length-append, append-nil, map, get_or, ◌-◌, nat_eq, None, refl, sym, ap, subst, ◌∙◌, arith}
 use Rattle.std.specs.List.{All}
-use Rattle.std.proofs.lemmas.List.{length-replicate}
 use Rattle.std.proofs.lemmas.Bool.Decides.{nat_tests}
 use Rattle.flac_bits.specs.Bits.{unsigned, bits_of, is_nil}
 use Rattle.flac_bits.specs.State.{Mark, past}
@@ -29,14 +28,10 @@ use Rattle.flac_pages.specs.Placed.{Placed, IsPlaced, stream_pages, stream_spell
 use Rattle.flac_pages.proofs.PlacedPages.{written_pages_are_good}
 use Rattle.flac_ogg.specs.Stream.{OggStream}
 use Rattle.flac_ogg.specs.Native.{mapping_spelling, block_spellings, AreStream}
-use Rattle.flac_pages.specs.declared.writing.PacketKind.{PacketKind}
-use Rattle.flac_pages.specs.declared.writing.PacketKind.TheVariants.{Header}
-use Rattle.flac_ogg.specs.Listed.{Holds, Puts, texts_of, kinds_in}
-use Rattle.flac_ogg.specs.Writing.{PutsFrames, ArePackets, EncodesOgg, BeginsOgg, header_count, frames_to}
-use Rattle.flac_ogg.specs.declared.packet_list.PacketList.{PacketList}
+use Rattle.flac_ogg.specs.Listed.{texts_of}
+use Rattle.flac_ogg.specs.Writing.{ArePackets, EncodesOgg, BeginsOgg, header_count}
 use Rattle.flac_ogg.proofs.NativeFrames.{encoded_are_ogg_items}
-use Rattle.flac_ogg.proofs.Listing.{texts_append, kinds_append}
-use Rattle.flac_ogg.proofs.Packing.{mapping_long, zeros, headers}
+use Rattle.flac_ogg.proofs.Packing.{mapping_long}
 
 -- ---- the first packet has 51 bytes
 
@@ -77,64 +72,6 @@ first_text bs list info i text blocks same is =
     ∙ ap (λ j. mapping_spelling (header_count (length list)) ++ s.block_spelling (nat_eq (length list) 0) (block_of.StreamInfo j)) same
     ∙ ap (λ k. mapping_spelling (header_count (length list)) ++ s.block_spelling k (block_of.StreamInfo i)) (sym (nil_is list))
 
--- the zeros that stand in its place at first
-pub blank_long : length (zeros 51) ≡ 51
-blank_long = let z : ℕ = 0 in length-replicate 51 z
-
--- ---- the list of all packets
-
--- all packets but the first, whose place another one of 51 bytes holds
-pub record Made (p : Cut) (list : List Block) (a : Sound) (l : PacketList) (first : List ℕ) : Type 0 where
-  pub old : Placed
-  pub others : List Placed
-  pub held : Holds l (old ∷ others)
-  pub long : length old.packet ≡ length first
-  pub are : ArePackets p list a (record { packet = first; kind = old.kind } ∷ others)
-
--- one packet alone
-record One (l m : PacketList) (text : List Bool) (kind : PacketKind) : Type 0 where
-  pub only : Placed
-  pub text_is : bits_of only.packet ≡ text
-  pub kind_is : only.kind ≡ kind
-  pub held : Holds l [] → Holds m (only ∷ [])
-
-one_put : (l m : PacketList) (text : List Bool) (kind : PacketKind) → Puts (text ∷ []) (kind ∷ []) l m → One l m text kind
-one_put l m text kind h = go h.packets h.texts_are h.kinds_are (h.held [])
-  where
-    go : (ps : List Placed) → texts_of ps ≡ text ∷ [] → kinds_in ps ≡ kind ∷ [] → (Holds l [] → Holds m ps) → One l m text kind
-    go [] e f k = absurd (omega (arith, ap (λ (x : List PacketKind). length x) f))
-    go (x ∷ []) e f k = record { only = x; text_is = ap (λ (t : List (List Bool)). get_or t 0 text) e; kind_is = ap (λ (t : List PacketKind). get_or t 0 kind) f; held = k }
-    go (x ∷ y ∷ zs) e f k = absurd (omega (arith, ap (λ (x : List PacketKind). length x) f))
-
-pub packets_made : (p : Cut) (list : List Block) (a : Sound) (l0 l1 l2 l3 : PacketList) (blank first : List ℕ) (least greatest : ℕ) → length blank ≡ 51 → Holds l0 [] → Puts (bits_of blank ∷ []) (Header ∷ []) l0 l1
-    → Puts (block_spellings list) (headers (length list)) l1 l2 → PutsFrames p a l2 l3 least greatest
-    → bits_of first ≡ mapping_spelling (header_count (length list)) ++ s.block_spelling (is_nil list) (block_of.StreamInfo (info_of p a least greatest)) → Made p list a l3 first
-packets_made p list a l0 l1 l2 l3 blank first least greatest many none put blocks frames is =
-    let o = one_put l0 l1 (bits_of blank) Header put in
-    let old = o.only in
-    let others : List Placed = blocks.packets ++ frames.put.packets in
-    let blank_long : length old.packet ≡ length blank = omega (arith, ap (λ (k : List Bool). length k) o.text_is, length-bits_of old.packet, length-bits_of blank) in
-    let behind : List PacketKind = frames_to p.block_size (samples_each a.channels) (blocks_in p.block_size (samples_each a.channels)) in
-    let up : suc (length list) ≡ length list + 1 = omega arith in
-    let kinds : kinds_in others ≡ headers (length list) ++ behind = kinds_append blocks.packets frames.put.packets ∙ ap (λ t. t ++ kinds_in frames.put.packets) blocks.kinds_are ∙ ap (λ t. headers (length list) ++ t) frames.put.kinds_are in
-    record {
-      old = old;
-      others = others;
-      held = frames.put.held (old ∷ blocks.packets) (blocks.held (old ∷ []) (o.held none));
-      long = blank_long ∙ many ∙ sym (first_size (header_count (length list)) (is_nil list) p a least greatest first is);
-      are = record {
-        least = least;
-        greatest = greatest;
-        frames = frames.frames;
-        are = frames.are;
-        are_least = frames.are_least;
-        sizes = frames.sizes;
-        texts = ap (λ (t : List Bool). t ∷ texts_of others) is ∙ ap (λ (t : List (List Bool)). (mapping_spelling (header_count (length list)) ++ s.block_spelling (is_nil list) (block_of.StreamInfo (info_of p a least greatest))) ∷ t)
-            (texts_append blocks.packets frames.put.packets ∙ ap (λ t. t ++ texts_of frames.put.packets) blocks.texts_are ∙ ap (λ t. block_spellings list ++ t) frames.put.texts_are);
-        kinds = ap (λ (n : PacketKind). n ∷ kinds_in others) o.kind_is ∙ ap (λ (t : List PacketKind). Header ∷ t) kinds ∙ ap (λ n. headers n ++ behind) up;
-      };
-    }
-
 -- ---- the stream
 
 ends_well : (m : Mark) → m.short ≡ Truncated → end_fault (record { left = []; mark = m }) ≡ None
@@ -165,28 +102,22 @@ ogg_stream serial q qs items small long good are =
 pub count_small : (n : ℕ) → header_count n < 2 ^ 16
 count_small n = grind (arith, nat_tests)
 
-pub encodes_ogg : (serial : ℕ) (p : Cut) (list : List Block) (a : Sound) (l : PacketList) (packets : List Placed) (before : List Bool) → serial < 2 ^ 32 → plan_fault p ≡ None → fits_plan p a ≡ true
-    → list_fault info_seen list ≡ None → AllAre FitsFields list → Holds l packets → ArePackets p list a packets → EncodesOgg serial p list a before (before ++ stream_spelling serial packets)
-encodes_ogg serial p list a l [] before small planned fits may fields held are = absurd (omega (arith, ap (λ (x : List (List Bool)). length x) are.texts))
-encodes_ogg serial p list a l (q ∷ qs) before small planned fits may fields held are =
+pub encodes_ogg : (serial : ℕ) (p : Cut) (list : List Block) (a : Sound) (packets : List Placed) (before : List Bool) → serial < 2 ^ 32 → plan_fault p ≡ None → fits_plan p a ≡ true
+    → list_fault info_seen list ≡ None → AllAre FitsFields list → All IsPlaced packets → ArePackets p list a packets → EncodesOgg serial p list a before (before ++ stream_spelling serial packets)
+encodes_ogg serial p list a [] before small planned fits may fields good are = absurd (omega (arith, ap (λ (x : List (List Bool)). length x) are.texts))
+encodes_ogg serial p list a (q ∷ qs) before small planned fits may fields good are =
     let count = header_count (length list) in
     let first : bits_of q.packet ≡ mapping_spelling count ++ s.block_spelling (is_nil list) (block_of.StreamInfo (info_of p a are.least are.greatest)) = ap (λ (t : List (List Bool)). get_or t 0 []) are.texts in
     let long = first_size count (is_nil list) p a are.least are.greatest q.packet first in
     let items = encoded_are_ogg_items p list a are.least are.greatest count are.frames (map (λ x. x.packet) (q ∷ qs)) planned fits may fields are.are are.sizes (count_small (length list)) are.texts in
-    record { packets = q ∷ qs; are = are; written = refl; stream = ogg_stream serial q qs _ small long held.good items }
+    record { packets = q ∷ qs; are = are; written = refl; stream = ogg_stream serial q qs _ small long good items }
 
 -- ---- what of it was sent
 
--- all of its bytes were sent
-pub all_sent : (serial : ℕ) (p : Cut) (list : List Block) (a : Sound) (bytes old new : List ℕ) → EncodesOgg serial p list a (bits_of old) (bits_of old ++ bits_of bytes) → new ≡ old ++ bytes → EncodesOgg serial p list a (bits_of old) (bits_of new)
-all_sent serial p list a bytes old new e is = subst (λ k. EncodesOgg serial p list a (bits_of old) k) (sym (ap bits_of is ∙ bits_of-append old bytes)) e
+-- all of it
+pub all_sent : (serial : ℕ) (p : Cut) (list : List Block) (a : Sound) (text old new : List Bool) → EncodesOgg serial p list a old (old ++ text) → new ≡ old ++ text → EncodesOgg serial p list a old new
+all_sent serial p list a text old new e is = subst (EncodesOgg serial p list a old) (sym is) e
 
--- the first of its bytes were sent
-pub some_sent : (serial : ℕ) (p : Cut) (list : List Block) (a : Sound) (bytes front rest old new : List ℕ) → EncodesOgg serial p list a (bits_of old) (bits_of old ++ bits_of bytes) → bytes ≡ front ++ rest → new ≡ old ++ front
-    → BeginsOgg serial p list a (bits_of old) (bits_of new)
-some_sent serial p list a bytes front rest old new e cut is = record {
-  front = bits_of front;
-  rest = bits_of rest;
-  written = ap bits_of is ∙ bits_of-append old front;
-  encodes = subst (λ k. EncodesOgg serial p list a (bits_of old) (bits_of old ++ k)) (ap bits_of cut ∙ bits_of-append front rest) e;
-}
+-- the first of it
+pub some_sent : (serial : ℕ) (p : Cut) (list : List Block) (a : Sound) (text front rest old new : List Bool) → EncodesOgg serial p list a old (old ++ text) → text ≡ front ++ rest → new ≡ old ++ front → BeginsOgg serial p list a old new
+some_sent serial p list a text front rest old new e cut is = record { front = front; rest = rest; written = is; encodes = subst (λ k. EncodesOgg serial p list a old (old ++ k)) cut e }

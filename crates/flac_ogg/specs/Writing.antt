@@ -1,5 +1,7 @@
 -- What encoding writes as an Ogg stream, and that it is one of what was given (RFC 9639, section 10.1).
-use Rattle.std.specs.Prelude.{◌≡◌, ℕ, zero, suc, ◌+◌, ◌*◌, min, Bool, true, false, cond, ◌&&◌, nat_eq, nat_lt, List, [], ◌∷◌, ◌++◌, length, map, replicate}
+use Rattle.std.specs.Prelude.{◌≡◌, ℕ, zero, suc, ◌+◌, ◌*◌, min, Bool, true, false, cond, ◌&&◌, nat_eq, nat_lt, List, [], ◌∷◌, ◌++◌, length, map, replicate, Result}
+use Rattle.std.specs.List.{All, flat_map}
+use Rattle.flac_bits.specs.declared.target.Target as target
 use Rattle.flac_bits.specs.declared.why.Why.TheVariants.{Truncated}
 use Rattle.flac_meta.specs.declared.block.Block.{Block}
 use Rattle.flac_meta.specs.declared.block.Block.TheVariants as blocks
@@ -9,14 +11,14 @@ use Rattle.flac_frame.specs.Frame.{Frame}
 use Rattle.flac_native.specs.Decoding.{beginning}
 use Rattle.flac_native.specs.Stream.{framed}
 use Rattle.flac_native.specs.Given.{Cut, blocks_in, info_of, frames_of, closing}
-use Rattle.flac_native.specs.Writing.{AreFrames, AreLeastFrames, AreSizes, SpellsFrame, SpellsLeast}
+use Rattle.flac_native.specs.Writing.{AreFrames, AreLeastFrames, AreSizes, SpellsFrame, SpellsLeast, SendsBits}
 use Rattle.flac_pages.specs.declared.writing.PacketKind.{PacketKind}
 use Rattle.flac_pages.specs.declared.writing.PacketKind.TheVariants as kind_of
-use Rattle.flac_pages.specs.Placed.{Placed, stream_spelling}
+use Rattle.flac_pages.specs.Page.{page_spelling}
+use Rattle.flac_pages.specs.Placed.{Placed, IsPlaced, pages_from, stream_spelling}
 use Rattle.flac_ogg.specs.Stream.{OggStream}
 use Rattle.flac_ogg.specs.Native.{packet_spellings}
-use Rattle.flac_ogg.specs.Listed.{texts_of, kinds_in, Puts}
-use Rattle.flac_ogg.specs.declared.packet_list.PacketList.{PacketList}
+use Rattle.flac_ogg.specs.Listed.{texts_of, kinds_in}
 
 -- The first block behind STREAMINFO is a Vorbis comment.
 abbrev pub begins_with_comment : List Block → Bool
@@ -49,14 +51,6 @@ frames_to block_size total (suc n) = frames_to block_size total n ++ kind_of.Fra
 abbrev pub kinds_of : Cut → List Block → Sound → List PacketKind
 kinds_of p list a = replicate (length list + 1) kind_of.Header ++ frames_to p.block_size (samples_each a.channels) (blocks_in p.block_size (samples_each a.channels))
 
--- all frames of the samples were put behind the other packets, each the least of its block, of which the shortest and the longest have so many bytes
-pub record PutsFrames (p : Cut) (a : Sound) (old new : PacketList) (least greatest : ℕ) : Type 0 where
-  pub frames : List (List Bool)
-  pub are : AreFrames p a frames
-  pub are_least : AreLeastFrames p a frames
-  pub sizes : AreSizes frames least greatest
-  pub put : Puts frames (frames_to p.block_size (samples_each a.channels) (blocks_in p.block_size (samples_each a.channels))) old new
-
 -- The packets are those of what was given: the mapping with STREAMINFO, a block each, and a frame each: all frames of the samples, each the least of its
 -- block, whose least and greatest sizes STREAMINFO tells.
 pub record ArePackets (p : Cut) (list : List Block) (a : Sound) (packets : List Placed) : Type 0 where
@@ -68,6 +62,28 @@ pub record ArePackets (p : Cut) (list : List Block) (a : Sound) (packets : List 
   pub sizes : AreSizes frames least greatest
   pub texts : texts_of packets ≡ packet_spellings (header_count (length list)) (info_of p a least greatest) list frames
   pub kinds : kinds_in packets ≡ kinds_of p list a
+
+-- Pages from the one of a number on were sent, or else a beginning of them: all frames of the samples, each the least of its block, in a packet each.
+pub record SendsPackets {S X E : Type 0} (g : target.Ghosts S) (serial from : ℕ) (p : Cut) (a : Sound) (old new : S) (result : Result X E) : Type 0 where
+  pub frames : List (List Bool)
+  pub are : AreFrames p a frames
+  pub are_least : AreLeastFrames p a frames
+  pub packets : List Placed
+  pub texts : texts_of packets ≡ frames
+  pub kinds : kinds_in packets ≡ frames_to p.block_size (samples_each a.channels) (blocks_in p.block_size (samples_each a.channels))
+  pub good : All IsPlaced packets
+  pub sends : SendsBits g (flat_map page_spelling (pages_from serial from false packets)) old new result
+
+-- so it is of a whole stream, behind header packets
+pub record SendsOgg {S X E : Type 0} (g : target.Ghosts S) (serial : ℕ) (p : Cut) (a : Sound) (headers : List Placed) (old new : S) (result : Result X E) : Type 0 where
+  pub frames : List (List Bool)
+  pub are : AreFrames p a frames
+  pub are_least : AreLeastFrames p a frames
+  pub packets : List Placed
+  pub texts : texts_of packets ≡ frames
+  pub kinds : kinds_in packets ≡ frames_to p.block_size (samples_each a.channels) (blocks_in p.block_size (samples_each a.channels))
+  pub good : All IsPlaced packets
+  pub sends : SendsBits g (stream_spelling serial (headers ++ packets)) old new result
 
 -- Behind the bits that were there, an Ogg stream of what was given was written, of these packets.
 pub record EncodesOgg (serial : ℕ) (p : Cut) (list : List Block) (a : Sound) (before after : List Bool) : Type 0 where

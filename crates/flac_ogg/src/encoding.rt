@@ -1,28 +1,26 @@
 //! Writes Ogg streams.
 
-ghost use Rattle.std.specs.Prelude.{◌≡◌, ◌≢◌, ◌∷◌, [], ◌++◌, ◌≤◌, ◌<◌, ◌+◌, ◌-◌, ◌^◌, ◌↔◌, List, length, min, max, cond, nat_eq, true, false, replicate, IfOk, IfErr, OnOk, None, Err};
-ghost use Rattle.flac_bits.specs.Bits.{bits_of, is_nil};
+ghost use Rattle.std.specs.Prelude.{◌≡◌, ◌≢◌, [], ◌++◌, ◌≤◌, ◌<◌, ◌-◌, ◌^◌, ◌↔◌, length, nat_eq, true, false, IfOk, IfErr, OnOk, None, Err};
+ghost use Rattle.flac_bits.specs.Bits.{bits_of};
 ghost use Rattle.flac_bits.specs.State.{Rises};
 ghost use Rattle.flac_bits.specs.Written.{Writes};
 ghost use Rattle.flac_meta.specs.Listed.{block_fault};
 ghost use Rattle.flac_meta.specs.Spelling.{block_spelling};
 ghost use Rattle.flac_meta.specs.declared.block.Block.TheVariants as block_of;
 ghost use Rattle.flac_frame.specs.Audio.{samples_each};
-ghost use Rattle.flac_native.specs.Given.{fits_plan};
+ghost use Rattle.flac_native.specs.Given.{fits_plan, info_of};
 ghost use Rattle.flac_native.specs.Numbers.{is_of_whole};
-ghost use Rattle.flac_pages.specs.Placed.{Placed};
-ghost use Rattle.flac_pages.specs.declared.writing.PacketKind.TheVariants.{Header};
-ghost use Rattle.flac_ogg.specs.Listed.{Holds, Puts};
-ghost use Rattle.flac_ogg.specs.Native.{mapping_spelling, block_spellings};
-ghost use Rattle.flac_ogg.specs.Writing.{begins_with_comment, may_be_ogg, header_count, IsFrameText, PutsFrames, ArePackets, EncodesOgg, BeginsOgg};
+ghost use Rattle.flac_ogg.specs.Headers.{AreHeaders};
+ghost use Rattle.flac_ogg.specs.Native.{mapping_spelling, packet_spellings};
+ghost use Rattle.flac_ogg.specs.Writing.{begins_with_comment, may_be_ogg, header_count, IsFrameText, EncodesOgg, BeginsOgg};
 
+use crate::headers::Headers;
 use crate::memory::{collect, in_memory};
-use crate::packet_list::PacketList;
-use flac_bits::{BitWriter, Collected, Target, Why, send_all};
+use crate::sending::{page_room, send_stream};
+use flac_bits::{BitWriter, Collected, Target, Why};
 use flac_frame::{Audio, EncodeBuffers, encode_frame};
 use flac_meta::{Block, BlockList, StreamInfo, write_block};
-use flac_native::{EncodeFault, Plan, info_of};
-use flac_pages::PacketKind;
+use flac_native::{ChosenFrames, EncodeFault, Plan, info_of};
 use std::alloc::Global;
 
 /// Whether the first block is a Vorbis comment.
@@ -99,20 +97,6 @@ pub(crate) fn block_packet(alloc: Global, block: &Block, last: bool) -> Result<V
     }
 }
 
-/// Puts each block behind the others as a packet. Its only error is `Memory`: an allocation failed.
-fn push_blocks(alloc: Global, list: &BlockList, packets: &mut PacketList) -> Result<(), Why>
-    ensures put { OnOk result (Puts (block_spellings list.now) (replicate (length list.now) Header) packets.old packets.new) }
-    ensures memory { IfErr result (λ e. e ≡ Why.Memory) }
-{
-    let blocks = list.blocks();
-    let count = blocks.len();
-    for i in 0..count {
-        let packet = block_packet(alloc, &blocks[i], i + 1 == count)?;
-        packets.push(packet.as_slice(), PacketKind::Header)?;
-    }
-    Ok(())
-}
-
 /// The samples from one place to another as the frame of a number, in memory. Its only error is `Memory`: an allocation failed.
 pub(crate) fn frame_packet(
     alloc: Global,
@@ -137,85 +121,38 @@ pub(crate) fn frame_packet(
     }
 }
 
-/// The least and the greatest number of bytes of a frame, 0 where there is none.
-#[derive(Clone, Copy)]
-struct Sizes {
-    least: u32,
-    greatest: u32,
-}
-
-/// The sizes with one more frame.
-fn sizes_with(sizes: Sizes, number: u64, bytes: u32) -> Sizes
-    ensures least { result.least ≡ cond (nat_eq number 0) bytes (min sizes.least bytes) }
-    ensures greatest { result.greatest ≡ max sizes.greatest bytes }
-{
-    Sizes {
-        least: if number == 0 {
-            bytes
-        } else {
-            sizes.least.min(bytes)
-        },
-        greatest: sizes.greatest.max(bytes),
-    }
-}
-
-/// Puts each frame of the samples behind the other packets. Its only error is `Memory`: an allocation failed.
-fn push_frames(
+/// The header packets: the mapping with STREAMINFO, where the least and the greatest frame have so many bytes, and a block each. Its only error is `Memory`: an
+/// allocation failed.
+fn header_packets(
     alloc: Global,
-    plan: &Plan,
-    audio: &Audio,
-    packets: &mut PacketList,
-) -> Result<Sizes, Why>
-    requires { fits_plan plan.now audio.now ≡ true }
-    ensures put { IfOk result (λ s. PutsFrames plan.now audio.now packets.old packets.new s.least s.greatest) }
-    ensures sizes { IfOk result (λ s. (s.least ≤ s.greatest) × (s.greatest < 2 ^ 24)) }
-    ensures memory { IfErr result (λ e. e ≡ Why.Memory) }
-{
-    let size = plan.block_size() as usize;
-    let total = audio.len();
-    let mut buffers = EncodeBuffers::new(alloc, plan.block_size())?;
-    let mut sizes = Sizes {
-        least: 0,
-        greatest: 0,
-    };
-    let mut number = 0;
-    let mut start = 0;
-    while start < total {
-        let end = start + size.min(total - start);
-        let packet = frame_packet(alloc, audio, start, end, number, &mut buffers)?;
-        packets.push(packet.as_slice(), PacketKind::Frame { end: end as u64 })?;
-        sizes = sizes_with(sizes, number, packet.len() as u32);
-        number += 1;
-        start = end;
-    }
-    Ok(sizes)
-}
-
-/// All packets of what is encoded. Its only error is `Memory`: an allocation failed.
-fn packets_of(
-    alloc: Global,
+    serial: u32,
     plan: &Plan,
     list: &BlockList,
     audio: &Audio,
-) -> Result<PacketList, Why>
-    requires { fits_plan plan.now audio.now ≡ true }
-    ensures packets { IfOk result (λ l. (packets : List Placed) × Holds l packets × ArePackets plan.now list.now audio.now packets) }
+    least: u32,
+    greatest: u32,
+) -> Result<Headers, Why>
+    requires fits { fits_plan plan.now audio.now ≡ true }
+    requires least { least ≤ greatest }
+    requires greatest { greatest < 2 ^ 24 }
+    ensures made { IfOk result (λ h. AreHeaders (packet_spellings (header_count (length list.now)) (info_of plan.now audio.now least greatest) list.now []) h) }
+    ensures serial { IfOk result (λ h. h.serial ≡ serial) }
     ensures memory { IfErr result (λ e. e ≡ Why.Memory) }
 {
-    let mut packets = PacketList::new(alloc);
-    // The frames' sizes, which the first packet tells, are known once all are made: till then zeros stand there.
-    packets.push(&[0; 51], PacketKind::Header)?;
-    push_blocks(alloc, list, &mut packets)?;
-    let sizes = push_frames(alloc, plan, audio, &mut packets)?;
-    let info = info_of(plan, audio, sizes.least, sizes.greatest);
-    let first = first_packet(alloc, info, list.blocks().len())?;
-    packets.set_first(first.as_slice());
-    Ok(packets)
+    let info = info_of(plan, audio, least, greatest);
+    let blocks = list.blocks();
+    let first = first_packet(alloc, info, blocks.len())?;
+    let mut headers = Headers::new(alloc, serial, first.as_slice())?;
+    headers.push_blocks(alloc, list)?;
+    Ok(headers)
 }
 
 /// Writes samples as an Ogg stream of FLAC (RFC 9639, section 10.1; RFC 3533): the mapping with STREAMINFO, each block of the list, of which the last is marked,
 /// and a frame for each block of the plan, each in a packet of its own that begins a page. Each page of a header packet has granule position 0. A page on which
-/// a frame ends has the number of samples so far, and the pages before it have all ones. The whole stream is held in memory before its first byte is sent.
+/// a frame ends has the number of samples so far, and the pages before it have all ones.
+///
+/// It goes over the samples twice, as [`flac_native::encode`] does. Beside the samples, and how frames are written, it holds the pages of the header packets, and one
+/// frame with its pages.
 ///
 /// The plan fits the samples: see [`Plan::fits`]. `serial` is the number of the stream.
 ///
@@ -248,13 +185,33 @@ pub fn encode_ogg<W: Target>(
     }
     let _size = plan.block_size();
     let _blocks = list.blocks();
-    let Ok(packets) = packets_of(alloc, plan, list, audio) else {
+    let Ok(mut buffers) = EncodeBuffers::new(alloc, plan.block_size()) else {
         return Err(EncodeFault::Memory);
     };
-    let Ok(pages) = packets.pages(alloc, serial) else {
+    let Ok(frames) = ChosenFrames::new(alloc, plan, audio, &mut buffers) else {
         return Err(EncodeFault::Memory);
     };
-    match send_all(target, pages.as_slice()) {
+    let least = frames.least();
+    let greatest = frames.greatest();
+    let Ok(headers) = header_packets(alloc, serial, plan, list, audio, least, greatest) else {
+        return Err(EncodeFault::Memory);
+    };
+    let Ok(room) = frames.room(alloc) else {
+        return Err(EncodeFault::Memory);
+    };
+    let Ok(pages) = page_room(alloc, greatest) else {
+        return Err(EncodeFault::Memory);
+    };
+    match send_stream(
+        &headers,
+        plan,
+        audio,
+        &frames,
+        &mut buffers,
+        room,
+        pages,
+        target,
+    ) {
         Ok(()) => Ok(()),
         Err(_) => Err(EncodeFault::Write),
     }

@@ -1,4 +1,4 @@
-//! The header packets of a stream that samples are pushed to.
+//! The header packets of a stream.
 
 ghost use Rattle.std.specs.Prelude.{◌≡◌, ◌≤◌, ◌<◌, ◌^◌, ◌∷◌, [], ◌++◌, List, Bool, length, IfOk, IfErr, OnOk};
 ghost use Rattle.flac_bits.specs.Bits.{unsigned, bits_of};
@@ -13,7 +13,7 @@ ghost use Rattle.flac_ogg.specs.Writing.{header_count};
 use crate::encoding::{block_packet, header_count};
 use crate::held_packet::HeldPacket;
 use crate::memory::{collect, in_memory};
-use crate::packet_list::bytes_fit;
+use crate::packet_bytes::bytes_fit;
 use flac_bits::{BitWriter, Collected, Target, Why};
 use flac_meta::BlockList;
 use flac_pages::{PacketKind, PacketMarks};
@@ -29,7 +29,7 @@ pub(crate) struct Headers {
 
 impl Headers {
     /// The first header packet alone. Its only error is `Memory`: an allocation failed.
-    fn new(alloc: Global, serial: u32, packet: &[u8]) -> Result<Headers, Why>
+    pub(crate) fn new(alloc: Global, serial: u32, packet: &[u8]) -> Result<Headers, Why>
         ensures made { IfOk result (λ h. AreHeaders (bits_of packet.now ∷ []) h) }
         ensures serial { IfOk result (λ h. h.serial ≡ serial) }
         ensures memory { IfErr result (λ e. e ≡ Why.Memory) }
@@ -68,7 +68,7 @@ impl Headers {
     }
 
     /// Puts each block after the others. Its only error is `Memory`: an allocation failed.
-    fn push_blocks(&mut self, alloc: Global, list: &BlockList) -> Result<(), Why>
+    pub(crate) fn push_blocks(&mut self, alloc: Global, list: &BlockList) -> Result<(), Why>
         ensures put { OnOk result ((first : List Bool) → AreHeaders (first ∷ []) self.old → AreHeaders (first ∷ block_spellings list.now) self.new) }
         ensures serial { OnOk result (self.new.serial ≡ self.old.serial) }
         ensures memory { IfErr result (λ e. e ≡ Why.Memory) }

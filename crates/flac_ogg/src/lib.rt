@@ -15,12 +15,13 @@ mod laws;
 mod mapping;
 mod memory;
 mod ogg_encoder;
-mod packet_list;
+mod packet_bytes;
 mod packets;
 mod parts;
 mod places;
 mod pushed_block;
 mod round_trip;
+mod sending;
 mod verifying;
 
 pub use decoder::ogg_decoder;

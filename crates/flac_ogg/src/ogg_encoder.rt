@@ -19,7 +19,7 @@ use crate::encoding::begins_with_comment;
 use crate::headers::headers_of;
 use crate::held_packet::HeldPacket;
 use crate::judge::{block_fault, judge_of};
-use crate::packet_list::bytes_fit;
+use crate::packet_bytes::bytes_fit;
 use crate::pushed_block::{block_len, pushed_packet};
 use crate::round_trip::in_memory;
 use flac_bits::{Collected, Target, Why, send_all};

@@ -1,6 +1,6 @@
 //! The packets of an Ogg stream as a container.
 
-ghost use Rattle.std.specs.Prelude.{◌≡◌, ◌+◌, ◌&&◌, not, nat_eq, length};
+ghost use Rattle.std.specs.Prelude.{◌≡◌, ◌+◌, ◌&&◌, not, nat_eq, length, true};
 ghost use Rattle.flac_bits.specs.State.{the_end};
 ghost use Rattle.flac_pages.specs.Packets.{ahead};
 ghost use Rattle.flac_ogg.specs.Coming.{ItemsCome, IsClear};
@@ -31,6 +31,20 @@ impl<R: Source> OggPackets<R> {
     {
         let OggPackets { pages } = self;
         pages
+    }
+
+    /// Gives the source back, after the page that was read last: the bytes that were pulled from it and not read are gone.
+    ///
+    /// ```
+    /// let source = decoder.into_container().into_source();
+    /// ```
+    pub fn into_source(self) -> R
+        ensures known { self.pages.known ≡ true → R.known result ≡ true }
+        ensures errors { R.errors result ≡ self.pages.errors }
+        ensures raised { R.raised result ≡ self.pages.raised }
+        ensures names { R.names result ≡ self.pages.names }
+    {
+        self.into_pages().into_source()
     }
 }
 

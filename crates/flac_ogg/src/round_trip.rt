@@ -10,7 +10,7 @@ ghost use Rattle.flac_ogg.specs.Verifying.{bytes_reading};
 ghost use Rattle.flac_ogg.specs.Writing.{may_be_ogg};
 
 use crate::encoding::encode_ogg;
-use crate::packet_list::bytes_fit;
+use crate::packet_bytes::bytes_fit;
 use crate::verifying::verify;
 use flac_bits::{Collected, Why};
 use flac_frame::Audio;

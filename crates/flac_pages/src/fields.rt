@@ -1,4 +1,4 @@
-//! The fixed fields of a page, read.
+//! Reading of the fixed fields of a page.
 
 ghost use Rattle.std.specs.Prelude.{◌≢◌, ◌≤◌, OnOk, IfErr};
 ghost use Rattle.flac_bits.specs.Reading.{Counts, Reads};
@@ -7,7 +7,7 @@ ghost use Rattle.flac_pages.specs.Page.{head_behind};
 use crate::page::Head;
 use flac_bits::{BitReader, Source, Why, read_little_32, read_little_64};
 
-/// Reads what stands between a page's first byte and the number of its lacing values.
+/// Reads the fields between the first byte of a page and the number of its lacing values.
 #[tactic(auto, unfolding(crate::specs::Page::head_behind))]
 pub(crate) fn read_head<R: Source>(reader: &mut BitReader<R>, first: u8) -> Result<Head, Why>
     ensures spends { OnOk result (reader.new.most ≤ reader.old.most) }

@@ -12,7 +12,7 @@ use crate::packet_bytes::PacketBytes;
 use crate::pages::Pages;
 use flac_bits::{BitReader, Source, Why, read_bytes};
 
-/// The bits of a packet, which an item is read from. [`end_item`] gives the pages back.
+/// Makes a reader of the bits of a packet, to read an item from. [`end_item`] returns the pages.
 pub fn packet_bits<R: Source>(packet: PacketBytes<'_, R>) -> BitReader<PacketBytes<'_, R>>
     ensures at { packet.entry.fault ≡ None → packet.entry.errors ≡ 0 → IsAtPacket packet.entry.pages.ghost_name packet.entry.pages.now result }
     ensures names { result.names ≡ packet.entry.pages.ghost_name ∷ packet.entry.lent.value.raised ∷ packet.entry.pages.now.names }
@@ -20,7 +20,8 @@ pub fn packet_bits<R: Source>(packet: PacketBytes<'_, R>) -> BitReader<PacketByt
     BitReader::new(packet)
 }
 
-/// Why an item's reader refused, told of the item's packet: a page's fault with the page, and an item that its packet cuts off.
+/// The error of an item's reader in terms of its packet: that of a refused page has the number of pages before it, and
+/// an item that the packet cuts off is [`Why::PacketLength`].
 fn why_in(fault: Option<(u64, Why)>, why: Why) -> (Option<u64>, Why)
     ensures value { result ≡ why_in fault why }
     ensures memory { IfSome fault (λ f. f.1 ≢ Why.Memory) → result.1 ≡ Why.Memory → why ≡ Why.Memory }
@@ -35,7 +36,7 @@ fn why_in(fault: Option<(u64, Why)>, why: Why) -> (Option<u64>, Why)
     }
 }
 
-/// Judges the packet's end behind a whole item.
+/// Checks that the packet ends after a whole item.
 fn end_behind<'a, R: Source>(
     bits: BitReader<PacketBytes<'a, R>>,
 ) -> (Result<(), (Option<u64>, Why)>, &'a mut Pages<R>)
@@ -61,12 +62,14 @@ fn end_behind<'a, R: Source>(
     }
 }
 
-/// Judges a packet's end behind what an item's reader answered over the packet's bits, and gives the pages back. Where the packet is just the item, the next packet is to be begun.
+/// Checks that a packet ends after the item that was read from its bits, and returns the pages. `read` is what the
+/// item's reader returned. At `Ok` the packet is just the item, and the next packet can be begun.
 ///
 /// # Errors
-///
-/// The item's own reason. `PacketLength` where the packet ends inside the item, goes on behind it, or is still open at the end of the last page. Where a
-/// refused page breaks the packet off, how many pages came before that page, and its fault.
+/// - The item's own error.
+/// - [`Why::PacketLength`] if the packet ends inside the item, goes on after it, or is still open at the end of the
+///   last page.
+/// - If a refused page breaks the packet off: the number of pages before that page, and its error.
 pub fn end_item<'a, R: Source, X: Drop>(
     bits: BitReader<PacketBytes<'a, R>>,
     read: Result<X, Why>,
@@ -93,7 +96,7 @@ pub fn end_item<'a, R: Source, X: Drop>(
     }
 }
 
-/// Fills the places with the bytes that come next.
+/// Fills `out` with the next bytes.
 fn fill<R: Source>(bits: &mut BitReader<R>, out: &mut [u8]) -> Result<(), Why>
     ensures names { bits.new.names ≡ bits.old.names }
     ensures counts { Counts bits.old bits.new result }
@@ -103,19 +106,19 @@ fn fill<R: Source>(bits: &mut BitReader<R>, out: &mut [u8]) -> Result<(), Why>
     read_bytes(bits, out)
 }
 
-/// Reads the packet that was begun, which is to have just so many bytes.
+/// Reads the packet that was begun into `out`. It must have exactly as many bytes. At `Ok` the next packet can be
+/// begun.
 ///
 /// # Errors
-///
-/// `PacketLength` where the packet has another number of bytes, or is still open at the end of the last page. Where a refused page breaks the packet off, how
-/// many pages came before that page, and its fault.
+/// - [`Why::PacketLength`] if the packet has another length, or is still open at the end of the last page.
+/// - If a refused page breaks the packet off: the number of pages before that page, and its error.
 pub fn read_packet<R: Source>(
     pages: &mut Pages<R>,
     out: &mut [u8],
 ) -> Result<(), (Option<u64>, Why)>
     ensures kept { pages.old.errors ≤ pages.new.errors }
     ensures names { pages.new.names ≡ pages.old.names }
-    // Read is told only where the device answered an error in the call.
+    // Read is reported only if the device returned an error in the call.
     ensures meets { Meets pages.old.raised pages.new.raised result }
     ensures memory { IfErr result (λ e. e.1 ≢ Why.Memory) }
     ensures tells { pages.old.known ≡ true → pages.new.errors ≡ pages.old.errors → TellsItem (λ _. out.new) None (list_of (length out.old) (number 8)) (packet_mark pages.old) (packet_of pages.old) result }

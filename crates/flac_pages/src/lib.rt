@@ -1,4 +1,4 @@
-//! Pages and packets of an Ogg stream (RFC 3533).
+//! Pages and packets of an Ogg stream: reading and writing (RFC 3533).
 #![tactic(auto)]
 
 mod fields;

@@ -10,11 +10,12 @@ use flac_bits::{Source, Why};
 use std::io;
 use std::snapshot::Snapshot;
 
-/// The bytes of the packet that these pages have begun, which are lent for the time. A page's fault is an error of its read, which [`PacketBytes::why`] names.
+/// A source of the bytes of one packet: the one that was begun in these pages, which it borrows. A refused page is an
+/// error of a read; [`PacketBytes::why`] has its reason.
 #[derive(Drop)]
 pub struct PacketBytes<'a, R: Source> {
     pages: &'a mut Pages<R>,
-    /// The pages as they were lent, which clauses alone read.
+    /// The pages as they were borrowed, for clauses only.
     lent: Snapshot<Pages<R>>,
     fault: Option<(u64, Why)>,
     errors: u64,
@@ -26,7 +27,7 @@ pub struct PacketBytes<'a, R: Source> {
 }
 
 impl<'a, R: Source> PacketBytes<'a, R> {
-    /// The bytes still to come of the packet that was begun.
+    /// Makes a source of the bytes that are left of the packet that was begun.
     pub fn over(pages: &'a mut Pages<R>) -> PacketBytes<'a, R>
         ensures same { result.pages.ghost_name ≡ pages.entry.ghost_name }
         ensures pages { result.pages.now ≡ pages.old }
@@ -41,7 +42,7 @@ impl<'a, R: Source> PacketBytes<'a, R> {
         }
     }
 
-    /// How many pages came before the one that was refused, and why it was.
+    /// If a page was refused: how many pages came before it, and the error.
     pub fn why(&self) -> Option<(u64, Why)>
         ensures fault { result ≡ self.now.fault }
         ensures memory { IfSome result (λ f. f.1 ≢ Why.Memory) }
@@ -49,7 +50,7 @@ impl<'a, R: Source> PacketBytes<'a, R> {
         self.fault
     }
 
-    /// The pages, behind the bytes that were pulled.
+    /// Returns the pages, after the bytes that were pulled.
     pub fn into_pages(self) -> &'a mut Pages<R>
         ensures same { result.ghost_name ≡ self.entry.pages.ghost_name }
         ensures pages { result.now ≡ self.entry.pages.now }
@@ -77,7 +78,7 @@ impl<R: Source> Source for PacketBytes<'_, R> {
 
     ghost most = { λ p. p.pages.now.most + length p.pages.now.body };
 
-    // Between them: how many errors the device had returned when the pages were lent, which stays too.
+    // The number between them is how many errors the device had returned when the pages were borrowed. It stays, too.
     ghost names = { λ p. p.pages.ghost_name ∷ p.lent.value.raised ∷ p.pages.now.names };
 
     fn pull(&mut self, buf: &mut [u8]) -> io::Result<usize> {

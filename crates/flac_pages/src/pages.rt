@@ -1,4 +1,4 @@
-//! Pages, one after another, and a place in the page that is held.
+//! The pages of a stream, one after another, and the position in the current page.
 
 ghost use Rattle.std.specs.Prelude.{◌≡◌, ◌≢◌, [], ◌≤◌, ◌<◌, ◌+◌, ◌*◌, ℕ, Bool, true, false, length, IfOk, IfErr, IfSome, OnOk, None, Some};
 ghost use Rattle.flac_bits.specs.State.{short_of};
@@ -14,7 +14,8 @@ use flac_bits::{BitReader, Source, Why};
 use std::alloc::Global;
 use std::marker::Model;
 
-/// Pages, one after another: the one that is held, and a place in it.
+/// Reads the pages of an Ogg stream one after another, and gives its packets: [`Pages::next_packet`] begins each, and
+/// [`crate::read_packet`] or [`crate::PacketBytes`] reads it (RFC 3533, section 6). It holds one page.
 ///
 /// A page is read when its first byte or its lacing values are needed.
 #[derive(Drop)]
@@ -22,17 +23,17 @@ pub struct Pages<R: Source> {
     reader: BitReader<R>,
     page: PageRoom,
     before: Option<Before>,
-    /// The page is marked last.
+    /// Whether the page is marked last.
     last: bool,
-    /// Lacing values of the page that were taken.
+    /// How many lacing values of the page were taken.
     next: u8,
-    /// Bytes of the page that were taken.
+    /// How many bytes of the page were taken.
     at: u32,
-    /// Bytes of the segment still to come.
+    /// How many bytes of the segment are left.
     rest: u8,
-    /// The packet goes on behind the segment.
+    /// Whether the packet goes on after the segment.
     more: bool,
-    /// Pages that were read.
+    /// How many pages were read.
     count: u64,
 }
 
@@ -64,11 +65,21 @@ impl<R: Source> Model for Pages<R> {
 }
 
 impl<R: Source + Drop> Pages<R> {
-    /// The pages of a source, from its first byte on, with room for one page.
+    /// Makes a reader of the pages of a source, from its first byte on. It allocates 65025 bytes, the most that a page
+    /// can have.
+    ///
+    /// ```
+    /// let mut pages = Pages::new(rt.alloc(), Memory::new(&stream))?;
+    /// let mut first = [0; 51]; // the first packet of FLAC in Ogg has 51 bytes
+    /// let outcome = match pages.next_packet() {
+    ///     Ok(true) => read_packet(&mut pages, &mut first),
+    ///     Ok(false) => Ok(()), // there is no packet
+    ///     Err((page, why)) => Err((Some(page), why)),
+    /// };
+    /// ```
     ///
     /// # Errors
-    ///
-    /// `Memory` where the room is not to be had.
+    /// [`Why::Memory`] if the allocation fails.
     pub fn new(alloc: Global, source: R) -> Result<Pages<R>, Why>
         ensures ok { IfOk result (λ p. p ≡ at_front (R.known source) (R.errors source) (R.raised source) (8 * R.most source) (R.names source) (bits_of (R.coming source)) (short_of ((R.behind source).fails))) }
         ensures err { IfErr result (λ e. e ≡ Why.Memory) }
@@ -79,7 +90,8 @@ impl<R: Source + Drop> Pages<R> {
 }
 
 impl<R: Source> Pages<R> {
-    /// The pages of a source, from its first byte on, with this room for one page, which is empty.
+    /// Makes a reader of the pages of a source, from its first byte on, with this room for one page, which must be
+    /// empty.
     pub fn over(page: PageRoom, source: R) -> Pages<R>
         requires { (page.lacing ≡ []) × (page.body ≡ []) }
         ensures { result ≡ at_front (R.known source) (R.errors source) (R.raised source) (8 * R.most source) (R.names source) (bits_of (R.coming source)) (short_of ((R.behind source).fails)) }
@@ -107,27 +119,28 @@ impl<R: Source> Pages<R> {
         self.next == self.page.count()
     }
 
-    /// Whether the page that is held is marked last.
+    /// Whether the current page is marked last.
     pub fn is_last(&self) -> bool
         ensures { result ≡ self.now.last }
     {
         self.last
     }
 
-    /// Whether the packet goes on behind the segment.
+    /// Whether the packet goes on after the segment.
     fn goes_on(&self) -> bool
         ensures { result ≡ self.now.more }
     {
         self.more
     }
 
+    /// How many bytes of the segment are left.
     fn rest(&self) -> u8
         ensures { result ≡ self.now.rest }
     {
         self.rest
     }
 
-    /// The source, behind the page that is held.
+    /// Returns the source. The current page is lost, and so are bytes after it that were pulled already.
     pub fn into_source(self) -> R
         ensures known { self.known ≡ true → R.known result ≡ true }
         ensures errors { R.errors result ≡ self.errors }
@@ -138,7 +151,7 @@ impl<R: Source> Pages<R> {
         reader.into_source()
     }
 
-    /// How many pages were read, a count that stops at 2^64 - 1.
+    /// How many pages were read, at most 2^64 - 1.
     pub fn count(&self) -> u64
         ensures { result ≡ self.now.count }
     {
@@ -189,7 +202,7 @@ impl<R: Source> Pages<R> {
         }
     }
 
-    /// The packet's next segment, or the next page. `false` at the packet's end or the last page's.
+    /// Goes to the packet's next segment, or reads the next page; false at the end of the packet or of the last page.
     fn step(&mut self) -> Result<bool, Why>
         requires { self.now.rest ≡ 0 }
         ensures memory { IfErr result (λ e. e ≢ Why.Memory) }
@@ -211,7 +224,7 @@ impl<R: Source> Pages<R> {
         }
     }
 
-    /// Goes to the packet's next byte. `false` at the packet's end or the last page's.
+    /// Goes to the packet's next byte; false at the end of the packet or of the last page.
     pub(crate) fn find(&mut self) -> Result<bool, Why>
         ensures memory { IfErr result (λ e. e ≢ Why.Memory) }
         ensures finds { Finds self.old self.new result }
@@ -243,7 +256,7 @@ impl<R: Source> Pages<R> {
         self.rest() > 0
     }
 
-    /// Copies bytes of the packet to the front of the room, as many as the page has and there is room for.
+    /// Copies bytes of the packet to the front of `out`, as many as the page has and as fit, and returns how many.
     pub(crate) fn copy_in_page(&mut self, out: &mut [u8]) -> usize
         ensures few { result ≤ length out.old }
         ensures some { 0 < length out.old → 0 < self.old.rest → 0 < result }
@@ -256,7 +269,7 @@ impl<R: Source> Pages<R> {
         done
     }
 
-    /// Copies some of the segment's bytes to the front of the room.
+    /// Copies bytes of the segment to the front of `out`, as many as fit, and returns how many.
     pub(crate) fn copy(&mut self, out: &mut [u8]) -> usize
         ensures few { result ≤ length out.old }
         ensures some { 0 < length out.old → 0 < self.old.rest → 0 < result }
@@ -270,7 +283,7 @@ impl<R: Source> Pages<R> {
         n
     }
 
-    /// Whether the bytes that were taken end with a packet, or none was begun.
+    /// Whether the reader is between two packets: none was begun, or the last one was read to its end.
     pub fn is_between_packets(&self) -> bool
         ensures between { result ≡ true → (self.now.rest ≡ 0) × (self.now.more ≡ false) }
         ensures exact { self.now.rest ≡ 0 → self.now.more ≡ false → result ≡ true }
@@ -278,11 +291,11 @@ impl<R: Source> Pages<R> {
         self.rest == 0 && !self.more
     }
 
-    /// Goes behind the packet that was begun, where its bytes end with it.
+    /// Goes to the end of the packet that was begun, over the bytes that are left of it.
     ///
     /// # Errors
-    ///
-    /// The page and its fault where a refused page breaks the packet off; and `PacketLength` where it is still open at the end of the last page.
+    /// If a refused page breaks the packet off, the number of pages before that page, and its error.
+    /// [`Why::PacketLength`] if the packet is still open at the end of the last page.
     #[tactic(auto, using(crate::proofs::PacketEnds::passed_more, crate::proofs::PacketEnds::ends_between, crate::proofs::PacketEnds::ends_inside, crate::proofs::PacketEnds::ends_broken))]
     pub(crate) fn end_packet(&mut self) -> Result<(), (Option<u64>, Why)>
         ensures memory { IfErr result (λ e. e.1 ≢ Why.Memory) }
@@ -300,13 +313,14 @@ impl<R: Source> Pages<R> {
         }
     }
 
+    /// Begins a packet.
     fn begin(&mut self)
         ensures { self.new ≡ record self.old { more = true } }
     {
         self.more = true;
     }
 
-    /// Behind the last page: `false` where the input ends there.
+    /// What comes after the last page: false if the input ends there.
     fn end(&mut self) -> Result<bool, (u64, Why)>
         requires read { self.now.lacing ≡ [] }
         requires last { self.now.last ≡ true }
@@ -317,11 +331,13 @@ impl<R: Source> Pages<R> {
         ended(self.count, fault)
     }
 
-    /// Begins the next packet, which [`crate::PacketBytes`] gives. `false` where all packets were read: at the input's end behind the last page.
+    /// Begins the next packet, whose bytes [`crate::PacketBytes`] gives. False if there is none: the last page was
+    /// read, and the input ends after it. The packet before must have been read to its end (see
+    /// [`Pages::is_between_packets`]).
     ///
     /// # Errors
-    ///
-    /// How many pages came before, and the fault of the page behind them: those of [`crate::next_page`], and `PageOrder` for a byte behind the last page.
+    /// The number of pages before the one that is refused, and its error: those of [`crate::next_page`], and
+    /// [`Why::PageOrder`] for a byte after the last page.
     #[tactic(auto, using(crate::proofs::Exits::waits_begins, crate::proofs::Exits::waits_turned, crate::proofs::Exits::waits_refused, crate::proofs::Exits::waits_begun))]
     pub fn next_packet(&mut self) -> Result<bool, (u64, Why)>
         requires { (self.now.rest ≡ 0) × (self.now.more ≡ false) }
@@ -341,7 +357,7 @@ impl<R: Source> Pages<R> {
     }
 }
 
-/// The input's end is no fault.
+/// The end of the input is no error here.
 fn unless_over(why: Why) -> Option<Why>
     ensures value { result ≡ unless_over why }
     ensures memory { why ≢ Why.Memory → IfSome result (λ e. e ≢ Why.Memory) }
@@ -352,7 +368,7 @@ fn unless_over(why: Why) -> Option<Why>
     }
 }
 
-/// The fault behind the last page: any byte there, and an error in place of the input's end.
+/// The error after the last page: that of any byte there, or of the source in place of the end.
 #[tactic(auto, unfolding(crate::specs::Pages::end_fault))]
 fn end_fault<R: Source>(reader: &mut BitReader<R>) -> Option<Why>
     ensures kept { reader.old.errors ≤ reader.new.errors }
@@ -369,7 +385,7 @@ fn end_fault<R: Source>(reader: &mut BitReader<R>) -> Option<Why>
     }
 }
 
-/// What stands behind the last page: no packet, or the fault there.
+/// What [`Pages::next_packet`] returns after the last page.
 fn ended(count: u64, fault: Option<Why>) -> Result<bool, (u64, Why)>
     ensures value { result ≡ ended count fault }
     ensures memory { IfSome fault (λ e. e ≢ Why.Memory) → IfErr result (λ e. e.1 ≢ Why.Memory) }
@@ -380,6 +396,7 @@ fn ended(count: u64, fault: Option<Why>) -> Result<bool, (u64, Why)>
     }
 }
 
+/// Whether a packet goes on after the pages before.
 fn went_on(before: Option<Before>) -> bool
     ensures { result ≡ went_on before }
 {
@@ -389,7 +406,7 @@ fn went_on(before: Option<Before>) -> bool
     }
 }
 
-/// Whether a packet goes on behind these segments.
+/// Whether a packet goes on after these segments.
 fn goes_on_behind(before: bool, lacing: &[u8]) -> bool
     ensures { result ≡ goes_on_behind before lacing.now }
 {

@@ -1,4 +1,4 @@
-//! What holds of the definitions.
+//! Laws of the definitions.
 
 ghost use Rattle.flac_pages.specs.Given.{PacketListIsGiven, PacketsAreGiven};
 ghost use Rattle.flac_pages.specs.Items.{PacketsTellOne};
@@ -6,43 +6,50 @@ ghost use Rattle.flac_pages.specs.Placed.{BytesArePlaced, PacketsArePlaced, Writ
 ghost use Rattle.flac_pages.specs.Runs.{PagesAreRuns};
 ghost use Rattle.flac_pages.specs.Written.{PagesAreSpelled, PagesAreReadAgain, PagesHavePackets};
 
-/// Where pages have packets (RFC 3533, section 6), the one that was begun gives its bytes, and behind it are the further ones.
+/// Law: if pages have packets (RFC 3533, section 6), the bytes of the packet that was begun are to come, and after it
+/// the other packets.
 pub fn packets_are_given()
     ensures { PacketsAreGiven }
 {}
 
-/// Calls one after another give the packets that the pages have, in their order: of each its bytes, until none is left.
+/// Law: calls one after another give the packets that the pages have, in their order: the bytes of each, until none is
+/// left.
 pub fn packet_list_is_given()
     ensures { PacketListIsGiven }
 {}
 
-/// At each place bits spell just the pages that may stand there, each in one way; and what is spelled is read again, whatever follows.
+/// Law: after given pages, bits encode exactly the pages that may come there, each in one way; and what is encoded is
+/// read again, whatever follows.
 pub fn pages_are_spelled()
     ensures spelled { PagesAreSpelled }
     ensures again { PagesAreReadAgain }
 {}
 
-/// The pages of a packet, as [`crate::write_packet`] writes them, have just this packet.
+/// Law: the pages of a packet, as [`crate::write_packet`] writes them, have just this packet.
 pub fn pages_have_packets()
     ensures { PagesHavePackets }
 {}
 
-/// A packet is one item or is none, for one reason, and this is what reading it gives.
+/// Law: a packet is one item, or is none for one reason, and this is what reading it gives. It is stated for packets of
+/// n bytes.
 pub fn packets_tell_one()
     ensures { PacketsTellOne }
 {}
 
-/// An input begins with one list of good pages, up to the one marked last or to a refused one, and this is what reading pages gives.
+/// Law: an input begins with one list of good pages, up to the one marked last or to a refused one, and this is what
+/// reading pages gives.
 pub fn pages_are_runs()
     ensures { PagesAreRuns }
 {}
 
-/// Packets written one after another, as [`crate::write_packets`] writes them, are good pages, of which the final one alone is marked last; they have just these packets, and are read again.
+/// Law: packets written one after another, as [`crate::write_packets`] writes them, are good pages, of which only the
+/// final one is marked last; they have just these packets, and are read again. The first packet has 51 bytes.
 pub fn written_pages_are_good()
     ensures { WrittenPagesAreGood }
 {}
 
-/// Bytes that are put behind the last packet's end are the next packet of [`crate::write_packets`]; and packets that lie in bytes may be written.
+/// Law: bytes that are added after the end of the last packet are the next packet of [`crate::write_packets`]; and
+/// packets that are parts of a slice of bytes can be written.
 pub fn packets_are_placed()
     ensures next { PacketsArePlaced }
     ensures bytes { BytesArePlaced }

@@ -1,4 +1,4 @@
-//! Room for a page.
+//! The room that holds a page.
 
 ghost use Rattle.std.specs.Prelude.{◌≡◌, ◌≢◌, ◌≤◌, ◌<◌, ◌+◌, ◌*◌, ◌^◌, [], length, take, get_or, vec_len, OnOk, IfOk, IfErr, IfSome, OnErr};
 ghost use Rattle.std.specs.List.{sum};
@@ -17,7 +17,7 @@ use flac_bits::{BitReader, Source, Why, read_bytes, read_unchecked};
 use std::alloc::Global;
 use std::marker::Model;
 
-/// Room for one page, made once: at most 255 segments of at most 255 bytes.
+/// Room for one page, which is allocated once: at most 255 segments of at most 255 bytes (RFC 3533, section 6).
 #[derive(Drop)]
 pub struct PageRoom {
     head: Head,
@@ -39,11 +39,10 @@ impl Model for PageRoom {
 }
 
 impl PageRoom {
-    /// Room that holds an empty page.
+    /// Makes room that holds an empty page. It allocates 65025 bytes.
     ///
     /// # Errors
-    ///
-    /// `Memory` where the room is not to be had.
+    /// [`Why::Memory`] if the allocation fails.
     pub fn new(alloc: Global) -> Result<PageRoom, Why>
         ensures ok { IfOk result (λ p. (p.lacing ≡ []) × (p.body ≡ [])) }
         ensures err { IfErr result (λ e. e ≡ Why.Memory) }
@@ -64,7 +63,7 @@ impl PageRoom {
         })
     }
 
-    /// The fixed fields.
+    /// The fixed fields of the page.
     pub fn head(&self) -> Head
         ensures { result ≡ self.now.head }
     {
@@ -78,7 +77,7 @@ impl PageRoom {
         self.count
     }
 
-    /// The length of each segment in bytes.
+    /// The lacing values: the length of each segment in bytes, at most 255 of them.
     pub fn lacing(&self) -> &[u8]
         ensures values { result.now ≡ self.now.lacing }
         ensures few { length result.now ≤ 255 }
@@ -86,7 +85,7 @@ impl PageRoom {
         &self.lacing[..self.count as usize]
     }
 
-    /// The length of one segment in bytes.
+    /// The length of segment `index` in bytes, counted from 0. There must be such a segment.
     pub fn segment(&self, index: u8) -> u8
         requires { index < length self.now.lacing }
         ensures { result ≡ get_or self.now.lacing index 0 }
@@ -94,7 +93,7 @@ impl PageRoom {
         self.lacing()[index as usize]
     }
 
-    /// The bytes of all segments.
+    /// The bytes of all segments, at most 65025.
     pub fn body(&self) -> &[u8]
         ensures bytes { result.now ≡ self.now.body }
         ensures small { length result.now ≤ 65025 }
@@ -102,14 +101,14 @@ impl PageRoom {
         &self.body.as_slice()[..self.bytes as usize]
     }
 
-    /// The sum that the page states when it is whole (RFC 3533, section 6, field 7).
+    /// The checksum that the page has to state (RFC 3533, section 6, field 7).
     fn sum(&self) -> u32
         ensures { result ≡ page_sum self.now }
     {
         sum_of_page(self.head, self.lacing(), self.body())
     }
 
-    /// The reason of the first rule that is broken at the page's end, in the order of their rank.
+    /// The first rule that the page breaks at its end, in the order of their ranks.
     #[tactic(auto, unfolding(crate::specs::Page::end_rules))]
     fn fault(&self, before: Option<Before>) -> Option<Why>
         requires whole { length self.now.body ≡ sum self.now.lacing }
@@ -146,7 +145,7 @@ impl PageRoom {
         None
     }
 
-    /// Reads a page behind its first byte. After a refusal the room holds some page.
+    /// Reads a page after its first byte. After an error the room holds some page.
     #[tactic(auto, unfolding(crate::specs::Page::page_behind))]
     fn read_behind<R: Source>(
         &mut self,
@@ -180,7 +179,7 @@ impl PageRoom {
     }
 }
 
-/// The sum of so many lengths of segments.
+/// The sum of the first `count` lacing values.
 fn total(values: &[u8; 255], count: u8) -> u32
     ensures sum { result ≡ sum (take count values.now) }
     ensures small { result ≤ 65025 }
@@ -192,7 +191,7 @@ fn total(values: &[u8; 255], count: u8) -> u32
     total
 }
 
-/// Fills the first n places with the bytes that come next.
+/// Fills the first n bytes of `out` with the next bytes.
 fn read_some<R: Source>(reader: &mut BitReader<R>, out: &mut [u8], n: usize) -> Result<(), Why>
     requires { n ≤ length out.now }
     ensures spends { OnOk result (reader.new.most + n ≤ reader.old.most) }
@@ -203,7 +202,7 @@ fn read_some<R: Source>(reader: &mut BitReader<R>, out: &mut [u8], n: usize) -> 
     read_bytes(reader, &mut out[..n])
 }
 
-/// The same, and the checks begin anew after them.
+/// Fills the first n bytes of `out` with the next bytes, and restarts the checks after them.
 fn read_unchecked_some<R: Source>(
     reader: &mut BitReader<R>,
     out: &mut [u8],
@@ -218,7 +217,7 @@ fn read_unchecked_some<R: Source>(
     read_unchecked(reader, &mut out[..n])
 }
 
-/// Fills the first n places of a vector with the bytes that come next, and the checks begin anew after them.
+/// Fills the first n bytes of a vector with the next bytes, and restarts the checks after them.
 fn read_body<R: Source>(reader: &mut BitReader<R>, out: &mut Vec<u8>, n: usize) -> Result<(), Why>
     requires { n ≤ vec_len out.now }
     ensures room { vec_len out.new ≡ vec_len out.old }
@@ -230,7 +229,7 @@ fn read_body<R: Source>(reader: &mut BitReader<R>, out: &mut Vec<u8>, n: usize) 
     read_unchecked_some(reader, out, n)
 }
 
-/// What the end of the input is where no page has begun.
+/// The error for an end of the input before a page: [`Why::NoEndPage`] in place of [`Why::Truncated`].
 fn between(why: Why) -> Why
     ensures { result ≡ between why }
 {
@@ -240,13 +239,19 @@ fn between(why: Why) -> Why
     }
 }
 
-/// Reads the next page into the room, after which the reader's checks begin anew: of a page's bytes none is computed but its own sum.
-/// After a refusal the room holds an empty page.
+/// Reads the next page into the room (RFC 3533, section 6). `before` has what the page must agree with, `None` for the
+/// first page. The checks of the reader restart after the page; none is computed of its bytes but its own checksum.
 ///
 /// # Errors
+/// The room then holds an empty page.
 ///
-/// `NoEndPage` where the input ends before the page, `Truncated` where it ends inside; `BadPage` for another pattern or version; and at the page's end,
-/// in this order, `PageCheck`, `OtherStream`, `PageOrder`, and `BadMapping` for a first page that is not the first of a FLAC stream.
+/// - [`Why::NoEndPage`] if the input ends before the page, [`Why::Truncated`] if it ends inside it.
+/// - [`Why::BadPage`] if it does not begin with `OggS` and version 0.
+/// - At the end of the page, the first of these that applies: [`Why::PageCheck`] if the checksum differs;
+///   [`Why::OtherStream`] if the serial number differs; [`Why::PageOrder`] if the number or a flag does not follow from
+///   the page before; [`Why::BadMapping`] if a first page is not marked first, or is not that of FLAC, with one packet
+///   of 51 bytes (RFC 9639, section 10.1).
+/// - [`Why::Read`] if the source fails.
 #[tactic(auto, unfolding(crate::specs::Pages::next_page))]
 pub fn next_page<R: Source>(
     reader: &mut BitReader<R>,

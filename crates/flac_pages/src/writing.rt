@@ -1,4 +1,4 @@
-//! Pages and packets, written.
+//! Writing of pages and packets.
 
 ghost use Rattle.std.specs.Prelude.{◌≡◌, ◌≤◌, ◌<◌, ◌+◌, ◌*◌, ◌/◌, ◌%◌, ◌^◌, ◌∷◌, ◌++◌, [], length, take, replicate, IfOk};
 ghost use Rattle.flac_bits.specs.Written.{Writes};
@@ -10,7 +10,7 @@ ghost use Rattle.flac_pages.specs.Written.{granule_at, summed, head_at, packet_s
 use crate::page::Head;
 use flac_bits::{BitWriter, Target, Why, crc32_sum};
 
-/// The greatest number of bytes in a page.
+/// The most bytes that a page can have: 255 segments of 255 bytes.
 pub(crate) const MOST_BYTES: usize = 65025;
 
 /// What a packet is (RFC 9639, section 10.1).
@@ -26,9 +26,9 @@ pub enum PacketKind {
 }
 
 impl PacketKind {
-    /// The granule position of a page of such a packet, on which the packet ends or goes on (RFC 9639, section 10.1; RFC 3533, section 6).
-    ///
-    /// 0 on each page of a header packet; on a page of a frame the samples so far if the frame ends there, and all ones if it goes on.
+    /// The granule position of a page of such a packet, on which the packet ends or goes on (RFC 9639, section 10.1;
+    /// RFC 3533, section 6): 0 on each page of a header packet; on a page of a frame the number of samples so far if
+    /// the frame ends there, and 2^64 - 1 if it goes on.
     pub fn granule(self, ends: bool) -> u64
         ensures { result ≡ granule_at self ends }
     {
@@ -39,31 +39,32 @@ impl PacketKind {
     }
 }
 
-/// Where a packet stands in its stream.
+/// The position of a packet in its stream.
 #[derive(Clone, Copy, Debug, PartialEq, Eq)]
 pub struct PacketMarks {
-    /// The number of the stream.
+    /// The serial number of the stream.
     pub serial: u32,
     /// The number of the page that the packet begins.
     pub sequence: u32,
     /// What the packet is, which gives its pages their granule positions.
     pub kind: PacketKind,
-    /// It is the stream's first packet.
+    /// Whether it is the first packet of the stream.
     pub first: bool,
-    /// It is the stream's last packet.
+    /// Whether it is the last packet of the stream.
     pub last: bool,
 }
 
-/// Where a packet ends among the bytes of packets that lie one after another.
+/// The end of a packet in a slice of bytes in which packets follow one another.
 #[derive(Clone, Copy, Debug, PartialEq, Eq)]
 pub struct PacketAt {
-    /// The place behind its last byte.
+    /// The index after its last byte.
     pub end: usize,
     /// What the packet is, which gives its pages their granule positions.
     pub kind: PacketKind,
 }
 
-/// The sum that a page states (RFC 3533, section 6, field 7): the remainder over all of the page, whose own sum counts as 0. At most 255 segments.
+/// The checksum of a page (RFC 3533, section 6, field 7): the remainder over all of the page, whose own checksum counts
+/// as 0. `lacing` has at most 255 values.
 pub fn sum_of_page(head: Head, lacing: &[u8], body: &[u8]) -> u32
     requires { length lacing.now ≤ 255 }
     ensures { result ≡ page_sum (record { head = head; lacing = lacing.now; body = body.now }) }
@@ -79,9 +80,11 @@ pub fn sum_of_page(head: Head, lacing: &[u8], body: &[u8]) -> u32
     crc32_sum(check, body)
 }
 
-/// Writes a page with its sum, in place of the one in its head (RFC 3533, section 6).
+/// Writes a page (RFC 3533, section 6). `lacing` has the lengths of the segments, at most 255, and `body` their bytes.
+/// That these agree is not checked. The checksum is computed; that of `head` is not used.
 ///
-/// `lacing` holds the lengths of the segments, at most 255, and `body` their bytes. Errors: `Write`.
+/// # Errors
+/// [`Why::Write`] if the target fails.
 pub fn write_page<W: Target>(
     head: Head,
     lacing: &[u8],
@@ -103,7 +106,7 @@ pub fn write_page<W: Target>(
     writer.put_bytes(body)
 }
 
-/// The fixed fields of a packet's page of a number, of which the last one has another.
+/// The fixed fields of page `page` of a packet, whose last page is `last`, counted from 0.
 fn head_of(marks: PacketMarks, last: usize, page: usize) -> Head
     ensures { result ≡ head_at marks last page }
 {
@@ -122,7 +125,7 @@ fn head_of(marks: PacketMarks, last: usize, page: usize) -> Head
     }
 }
 
-/// Puts the lengths of the segments of so many bytes behind one another, where there is 255 at each place; answers how many they are.
+/// Fills in the lacing values of a last page of `bytes` bytes, in an array of 255s, and returns how many they are.
 fn put_lacing(bytes: usize, lacing: &mut [u8; 255]) -> usize
     requires bytes { bytes < 65025 }
     requires places { lacing.old ≡ replicate 255 255 }
@@ -135,7 +138,7 @@ fn put_lacing(bytes: usize, lacing: &mut [u8; 255]) -> usize
     full + 1
 }
 
-/// Writes the last page of a packet, of fewer bytes than a page may have.
+/// Writes the last page of a packet. It has fewer bytes than a page can have.
 #[tactic(auto, unfolding(crate::specs::Packets::lacing_of))]
 fn write_last<W: Target>(head: Head, rest: &[u8], writer: &mut BitWriter<W>) -> Result<(), Why>
     requires { length rest.now < 65025 }
@@ -146,9 +149,11 @@ fn write_last<W: Target>(head: Head, rest: &[u8], writer: &mut BitWriter<W>) -> 
     write_page(head, &lacing[..count], rest, writer)
 }
 
-/// Writes a packet from a page of its own on: pages of 255 segments of 255 bytes, and one of the rest, which may have no bytes (RFC 3533, sections 5 and 6).
+/// Writes a packet that begins a page: pages of 255 segments of 255 bytes, and one of the rest, which may have no bytes
+/// (RFC 3533, sections 5 and 6). Returns the number of the page after it.
 ///
-/// Answers the number of the page behind it. Errors: `Write`.
+/// # Errors
+/// [`Why::Write`] if the target fails.
 pub fn write_packet<W: Target>(
     marks: PacketMarks,
     packet: &[u8],
@@ -168,10 +173,14 @@ pub fn write_packet<W: Target>(
     Ok(head.sequence.wrapping_add(1))
 }
 
-/// Writes all packets of a stream, one after another, each from a page of its own on (RFC 3533, sections 5 and 6).
+/// Writes all packets of a stream, one after another, each on pages of its own (RFC 3533, sections 5 and 6).
 ///
-/// The packets lie one after another in `bytes`: the first begins there, and each further one where the one before ends, so that the ends do not fall; a packet may have no bytes.
-/// The pages are numbered from 0; the first packet begins the stream, and the last one ends it. Errors: `Write`.
+/// The packets are in `bytes`, one after another: the first begins at index 0, and each other one at the end of the one
+/// before. The ends must not fall, and none is past the end of `bytes`; a packet may have no bytes. Pages are numbered
+/// from 0; the first packet begins the stream, and the last one ends it.
+///
+/// # Errors
+/// [`Why::Write`] if the target fails.
 pub fn write_packets<W: Target>(
     serial: u32,
     bytes: &[u8],

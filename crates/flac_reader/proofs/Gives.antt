@@ -38,6 +38,7 @@ gives_refused {g = g} old new view seen f h = record {
   samples = tt;
   blocks = h.blocks;
   info = h.info;
+  start = h.start;
 }
 
 pub gives_shown : {C X Y : Type 0} {g : container.Ghosts C} (old new : Reader C g) (view : X → Option Item) (seen : Y → Option Item) (x : X) (y : Y) → seen y ≡ view x → Gives old new view (Ok x) → Gives old new seen (Ok y)
@@ -48,4 +49,5 @@ gives_shown {g = g} old new view seen x y same h = record {
   samples = (h.samples.0, h.samples.1 ∙ ap (λ k. min (old.behind + size_of k) 18446744073709551615) (sym same));
   blocks = h.blocks;
   info = h.info;
+  start = h.start;
 }

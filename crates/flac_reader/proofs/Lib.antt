@@ -7,3 +7,6 @@ pub mod Places
 pub mod Sampling
 pub mod Refusals
 pub mod Searches
+pub mod Cuts
+pub mod Starts
+pub mod Moved

@@ -13,6 +13,7 @@ use Rattle.flac_native.specs.declared.fault.Place.{Place}
 use Rattle.flac_native.specs.declared.course.Course.TheVariants as course
 use Rattle.flac_native.specs.declared.container.Container as container
 use Rattle.flac_reader.specs.Coming.{Comes, ComesBehind, HeadOf, stream_items}
+use Rattle.flac_reader.specs.Kept.{first_info}
 use Rattle.flac_reader.specs.Opening.{IsReadAs, Opens}
 use Rattle.flac_reader.specs.declared.keep.Keep.{Keep}
 use Rattle.flac_reader.specs.declared.reader.Reader.{Reader}
@@ -24,10 +25,12 @@ begun_comes g s p items end begun at still = subst (λ k. ComesBehind g k s item
 -- where the decoder was to give what the input is
 pub opens_over : {C : Type 0} {g : container.Ghosts C} (r : Reading Piece Place) (keep : Keep) (reader : Reader C g) (s : Stage C) (p : Progress) → s.course ≡ course.Begun → IsAt s.track p
     → ((parts : List Piece) (end : Option (Place × Why)) → ReadAs r parts end → g.gives s.container p parts end) → g.known s.container ≡ true
-    → HeadOf g s (stage_of reader.decoder) keep reader.blocks.items reader.ahead → Opens r keep reader
-opens_over {g = g} r keep reader s p begun at gives known head = record {
+    → HeadOf g s (stage_of reader.decoder) keep reader.blocks.items reader.ahead reader.start → first_info reader.blocks.items ≡ Some reader.info → Opens r keep reader
+opens_over {g = g} r keep reader s p begun at gives known head info = record {
   blocks = λ blocks frames end is. head.blocks known blocks frames end (comes blocks frames end is);
   frames = λ blocks frames end is. head.frames known blocks frames end (comes blocks frames end is);
+  start = λ blocks frames end is. head.counted known blocks frames end (comes blocks frames end is);
+  info = info;
 }
   where
     comes : (blocks : List Block) (frames : List Frame) (end : Option (Place × Why)) → IsReadAs r blocks frames end → Comes g s (stream_items blocks frames) end

@@ -1,8 +1,9 @@
 -- Why a stream is not opened.
-use Rattle.std.proofs.Common.{◌≡◌, ◌≤◌, ◌⊎◌, ℕ, Bool, true, false, cond, List, [], ◌∷◌, filter, Option, Some, None, Result, Ok, Err, refl, sym, ap, subst, ◌∙◌, arith}
+use Rattle.std.proofs.Common.{◌≡◌, ◌<◌, ◌≤◌, ℕ, Bool, true, List, [], ◌∷◌, ◌++◌, filter, Option, Some, None, Result, Ok, Err, refl, sym, ap, subst, ◌∙◌, arith}
 use Rattle.std.specs.Prelude.{◌≢◌, ⊤}
 use Rattle.std.proofs.Common.{inl, inr}
-use Rattle.flac_bits.specs.State.{Rises}
+use Rattle.flac_bits.specs.Bits.{bits_of}
+use Rattle.flac_bits.specs.State.{Rises, Mark}
 use Rattle.flac_bits.specs.Handing.{Reading}
 use Rattle.flac_bits.specs.declared.why.Why.{Why}
 use Rattle.flac_bits.specs.declared.why.Why.TheVariants.{Memory, Read, NotStreamInfoFirst}
@@ -19,10 +20,12 @@ use Rattle.flac_native.specs.declared.fault.Place.{Place}
 use Rattle.flac_native.specs.declared.fault.Place.TheVariants as place
 use Rattle.flac_native.specs.declared.fault.Fault.{Fault}
 use Rattle.flac_native.specs.declared.container.Container as container
+use Rattle.flac_ogg.specs.Fronts.{front_bytes}
+use Rattle.flac_ogg.specs.Either.{begins_page, read_either}
 use Rattle.flac_reader.specs.Kept.{keeps, first_info, or_info}
 use Rattle.flac_reader.specs.Coming.{Comes, IsCalm, HadRoom, Counted, HeadIs, stream_items}
 use Rattle.flac_reader.specs.Opening.{IsReadAs}
-use Rattle.flac_reader.specs.Refusing.{IsRefusal, RefusedHead, RefusesInput}
+use Rattle.flac_reader.specs.Refusing.{RefusedHead, RefusesInput}
 use Rattle.flac_reader.specs.declared.keep.Keep.{Keep}
 use Rattle.flac_reader.specs.declared.keep.Keep.TheVariants.{All, Tags}
 use Rattle.flac_reader.proofs.Heads.{room}
@@ -80,12 +83,42 @@ no_info_refused g old last keep kept x counts none head = record {
 -- where the decoder was to give what the input is
 pub refuses_input : {C : Type 0} {g : container.Ghosts C} (r : Reading Piece Place) (s last : Stage C) (p : Progress) (f : Fault) (known : Bool) (errors raised errors_left raised_left : ℕ)
     → s.course ≡ course.Begun → IsAt s.track p → ((parts : List Piece) (end : Option (Place × Why)) → ReadAs r parts end → g.gives s.container p parts end)
-    → g.known s.container ≡ known → g.errors s.container ≡ errors → g.raised s.container ≡ raised → g.met s.container ≡ raised → g.errors last.container ≡ errors_left → g.raised last.container ≡ raised_left → g.met last.container ≡ raised_left
+    → g.known s.container ≡ known → g.errors s.container ≡ errors → g.met s.container ≡ raised → g.errors last.container ≡ errors_left → g.met last.container ≡ raised_left
+    → (errors_left ≡ errors → raised_left ≡ raised → g.raised last.container ≡ g.raised s.container)
     → RefusedHead g s last f → f.why ≢ Memory → RefusesInput r known errors raised errors_left raised_left f
-refuses_input {g = g} r s last p f known errors raised errors_left raised_left begun at gives is_known e r0 m e' r' m' h other = record {
+refuses_input {g = g} r s last p f known errors raised errors_left raised_left begun at gives is_known e m e' m' quiet h other = record {
   kept = omega (arith, h.kept, e, e');
   risen = λ is. subst (λ n. Rises raised n) m' (subst (λ n. Rises n (g.met last.container)) m (h.risen is));
   refused = λ k same_errors same_raised blocks frames end is.
-      h.refused (is_known ∙ k, e' ∙ same_errors ∙ sym e, r' ∙ same_raised ∙ sym r0) other blocks frames end
+      h.refused (is_known ∙ k, e' ∙ same_errors ∙ sym e, quiet same_errors same_raised) other blocks frames end
       (begun_comes g s p (stream_items blocks frames) end begun at (is.parts, sym is.items, gives is.parts end is.read));
 }
+
+-- of an input that is known and is read so too, or is not known
+pub refuses_as : (r q : Reading Piece Place) (known knows : Bool) (errors raised now_errors now_raised errors_left raised_left : ℕ) (f : Fault) → now_errors ≡ errors → now_raised ≡ raised → (knows ≡ true → known ≡ true)
+    → (knows ≡ true → (blocks : List Block) (frames : List Frame) (end : Option (Place × Why)) → IsReadAs q blocks frames end → IsReadAs r blocks frames end)
+    → RefusesInput r known now_errors now_raised errors_left raised_left f → RefusesInput q knows errors raised errors_left raised_left f
+refuses_as r q known knows errors raised now_errors now_raised errors_left raised_left f e n told same h = record {
+  kept = omega (arith, h.kept, e);
+  risen = λ is. subst (λ k. Rises k raised_left) n (h.risen is);
+  refused = λ k same_errors same_raised blocks frames end is. h.refused (told k) (same_errors ∙ sym e) (same_raised ∙ sym n) blocks frames end (same k blocks frames end is);
+}
+
+-- of an input whose first byte could not be read
+pub refuses_unread : (r : Reading Piece Place) (known : Bool) (errors raised errors_left raised_left : ℕ) (f : Fault) → errors ≤ errors_left → Rises raised raised_left → (known ≡ true → raised < raised_left) → RefusesInput r known errors raised errors_left raised_left f
+refuses_unread r known errors raised errors_left raised_left f kept risen more = record {
+  kept = kept;
+  risen = λ is. risen;
+  refused = λ k same_errors same_raised blocks frames end is. absurd (omega (arith, more k, same_raised));
+}
+
+same_page : (front : Option ℕ) (coming now : List ℕ) → coming ≡ front_bytes front ++ now → (front ≡ None → coming ≡ []) → begins_page coming ≡ begins_page (front_bytes front)
+same_page None coming now e over = ap begins_page (over refl)
+same_page (Some b) coming now e over = ap begins_page e
+
+-- the bytes behind the first one, and that one in front of them
+pub front_read : (front : Option ℕ) (coming now : List ℕ) (is_ogg : Bool) (m k : Mark) → coming ≡ front_bytes front ++ now → (front ≡ None → coming ≡ []) → is_ogg ≡ begins_page (front_bytes front) → m ≡ k
+    → (blocks : List Block) (frames : List Frame) (end : Option (Place × Why)) → IsReadAs (read_either (begins_page coming) m (bits_of coming)) blocks frames end → IsReadAs (read_either is_ogg k (bits_of (front_bytes front ++ now))) blocks frames end
+front_read front coming now is_ogg m k e over page same blocks frames end is =
+    let P : Bool → Mark → List ℕ → Type 0 = λ b a t. IsReadAs (read_either b a (bits_of t)) blocks frames end in
+    subst (λ t. P is_ogg k t) e (subst (λ a. P is_ogg a coming) same (subst (λ b. P b m coming) (same_page front coming now e over ∙ sym page) is))

@@ -5,12 +5,12 @@ use Rattle.flac_bits.specs.State.{Rises}
 use Rattle.flac_bits.specs.declared.why.Why.TheVariants.{Memory, Read}
 use Rattle.flac_frame.specs.Frame.{Frame}
 use Rattle.flac_frame.specs.Interleaved.{interleaved}
-use Rattle.flac_native.specs.Item.{Item, frame, told}
+use Rattle.flac_native.specs.Item.{Item, frame}
 use Rattle.flac_native.specs.Giving.{stage_of, held, Stage}
 use Rattle.flac_native.specs.declared.fault.Place.{Place}
 use Rattle.flac_native.specs.declared.fault.Fault.{Fault}
 use Rattle.flac_native.specs.declared.container.Container as container
-use Rattle.flac_reader.specs.Coming.{FramesCome, IsFirst, IsCalm, HadRoom, Counted, only_frame}
+use Rattle.flac_reader.specs.Coming.{FramesCome, IsFirst, IsCalm, Counted, only_frame}
 use Rattle.flac_reader.specs.Giving.{Gives}
 use Rattle.flac_reader.specs.Places.{all_samples, left_at, is_over}
 use Rattle.flac_reader.specs.Sampling.{SamplesLeft, ComeBehind, SamplesCome, IsFirstSample, calls_left, GivesSample}
@@ -47,6 +47,7 @@ pub record SamplesSoFar {C : Type 0} {g : container.Ghosts C} (old now : Samples
   pub met : g.met (stage_of now.reader.decoder).container ≡ g.met (stage_of old.reader.decoder).container
   pub blocks : now.reader.blocks ≡ old.reader.blocks
   pub info : now.reader.info ≡ old.reader.info
+  pub start : now.reader.start ≡ old.reader.start
   pub left : now.left ≤ old.left
   pub going : is_over now.spot ≡ false
   pub same : g.known (stage_of old.reader.decoder).container ≡ true → (samples : List ℤ) (end : Option (Place × Why)) → SamplesCome old samples end → SamplesCome now samples end
@@ -59,6 +60,7 @@ samples_start s going = record {
   met = refl;
   blocks = refl;
   info = refl;
+  start = refl;
   left = omega arith;
   going = going;
   same = λ known samples end come. come;
@@ -165,6 +167,7 @@ turn {g = g} old now next new far same fewer none gives left enters =
       met = met.met.3 ∙ far.met;
       blocks = gives.blocks ∙ ap (λ (r : Reader _ g). r.blocks) same ∙ far.blocks;
       info = gives.info ∙ ap (λ (r : Reader _ g). r.info) same ∙ far.info;
+      start = gives.start ∙ ap (λ (r : Reader _ g). r.start) same ∙ far.start;
       left = omega (arith, left, fewer, far.left);
       going = rw enters.2 refl;
       same = λ known samples end come.
@@ -197,6 +200,7 @@ give_over {g = g} s is = record {
   nearer = tt;
   blocks = refl;
   info = refl;
+  start = refl;
 }
   where
     at : (k : Spot) → is_over k ≡ true → k ≡ spot.Over
@@ -227,6 +231,7 @@ give_sample {g = g} old now new x going far same fewer takes = record {
   nearer = fewer_calls old.spot new.spot new.left old.left going (omega (arith, fewer, far.left));
   blocks = ap (λ (r : Reader _ g). r.blocks) same ∙ far.blocks;
   info = ap (λ (r : Reader _ g). r.info) same ∙ far.info;
+  start = ap (λ (r : Reader _ g). r.start) same ∙ far.start;
 }
   where
     some_none : told_sample (Some x) ≡ Ok None → ⊥
@@ -254,6 +259,7 @@ give_end {g = g} old now next new going far same none gives enters =
       nearer = tt;
       blocks = gives.blocks ∙ ap (λ (r : Reader _ g). r.blocks) same ∙ far.blocks;
       info = gives.info ∙ ap (λ (r : Reader _ g). r.info) same ∙ far.info;
+      start = gives.start ∙ ap (λ (r : Reader _ g). r.start) same ∙ far.start;
     }
 
 -- the stream is refused
@@ -277,6 +283,7 @@ give_refusal {g = g} old now next new f going far same none gives over =
       nearer = no_calls old.spot new.spot new.left old.left going over;
       blocks = gives.blocks ∙ ap (λ (r : Reader _ g). r.blocks) same ∙ far.blocks;
       info = gives.info ∙ ap (λ (r : Reader _ g). r.info) same ∙ far.info;
+      start = gives.start ∙ ap (λ (r : Reader _ g). r.start) same ∙ far.start;
     }
 
 -- after as many calls as can be counted
@@ -294,6 +301,7 @@ give_no_more {g = g} old now new at going far same over = record {
   nearer = no_calls old.spot new.spot new.left old.left going over;
   blocks = ap (λ (r : Reader _ g). r.blocks) same ∙ far.blocks;
   info = ap (λ (r : Reader _ g). r.info) same ∙ far.info;
+  start = ap (λ (r : Reader _ g). r.start) same ∙ far.start;
 }
   where
     other : Memory ≡ Read → ⊥

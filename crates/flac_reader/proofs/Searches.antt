@@ -1,5 +1,5 @@
 -- A search for the frame that holds a sample.
-use Rattle.std.proofs.Common.{◌≡◌, ◌≤◌, ℕ, true, false, ◌||◌, List, [], ◌∷◌, ◌++◌, append_assoc, map, Option, Some, None, Result, Ok, Err, refl, sym, ap, subst, ◌∙◌, arith}
+use Rattle.std.proofs.Common.{◌≡◌, ℕ, Bool, true, IfOk, IfErr, List, [], ◌∷◌, ◌++◌, append_assoc, map, Option, Some, None, Result, Ok, Err, refl, sym, ap, subst, ◌∙◌, arith}
 use Rattle.std.specs.Prelude.{◌≢◌}
 use Rattle.std.specs.List.{list_any}
 use Rattle.std.proofs.lemmas.List.{append-nil}
@@ -15,16 +15,16 @@ use Rattle.flac_native.specs.Stream.{Piece, Progress}
 use Rattle.flac_native.specs.Track.{IsAt}
 use Rattle.flac_native.specs.Coming.{ReadAs}
 use Rattle.flac_native.specs.declared.course.Course.TheVariants as course
-use Rattle.flac_native.specs.Item.{Item, metadata, frame, told}
+use Rattle.flac_native.specs.Item.{Item, frame, told}
 use Rattle.flac_native.specs.Giving.{Stage, stage_of, held}
 use Rattle.flac_native.specs.Decoding.{beginning}
 use Rattle.flac_native.specs.declared.decoder.Decoder.{Decoder}
 use Rattle.flac_native.specs.declared.fault.Place.{Place}
 use Rattle.flac_native.specs.declared.fault.Fault.{Fault}
 use Rattle.flac_native.specs.declared.container.Container as container
-use Rattle.flac_reader.specs.Coming.{Comes, FramesCome, IsFirst, IsCalm, HadRoom, Counted, only_frame}
+use Rattle.flac_reader.specs.Coming.{Comes, IsFirst, IsCalm, HadRoom, Counted, only_frame}
 use Rattle.flac_reader.specs.Opening.{IsReadAs}
-use Rattle.flac_reader.specs.Seeking.{holds, FirstIfHeld, PassedBy, HoldsFirst, Finds, Searches, Passes}
+use Rattle.flac_reader.specs.Seeking.{holds, FirstIfHeld, PassedBy, HoldsFirst, Finds, Passes, Sought, SeeksTo, RefusesSeek}
 use Rattle.flac_reader.specs.declared.reader.Reader.{Reader}
 use Rattle.flac_reader.proofs.Heads.{room, same_room}
 use Rattle.flac_reader.proofs.Openings.{begun_comes}
@@ -176,11 +176,19 @@ pub seek_finds : {C : Type 0} (g : container.Ghosts C) (r : Reading Piece Place)
     → (frames : List Frame) (end : Option (Place × Why)) → IsReadAs r [] frames end → Finds g info sample frames end true new
 seek_finds g r info sample n s new p begun at gives calm finds frames end is = finds calm (room n) frames end (input_comes g r s p begun at gives frames end is)
 
-pub seek_refuses : {C : Type 0} {g : container.Ghosts C} (r : Reading Piece Place) (info : Info) (sample : ℕ) (d new : Decoder C g) (p : Progress) (f : Fault) → (stage_of d).course ≡ course.Begun → IsAt (stage_of d).track p
-    → ((parts : List Piece) (end : Option (Place × Why)) → ReadAs r parts end → g.gives (stage_of d).container p parts end) → IsCalm g (stage_of d) (stage_of new) → f.why ≢ Memory
+pub seek_refuses : {C : Type 0} {g : container.Ghosts C} (r : Reading Piece Place) (info : Info) (sample : ℕ) (d new : Decoder C g) (p : Progress) (f : Fault) (known : Bool) (errors raised errors_left raised_left : ℕ)
+    → (stage_of d).course ≡ course.Begun → IsAt (stage_of d).track p → ((parts : List Piece) (end : Option (Place × Why)) → ReadAs r parts end → g.gives (stage_of d).container p parts end)
+    → g.known (stage_of d).container ≡ known → g.errors (stage_of d).container ≡ errors → g.raised (stage_of d).container ≡ raised → g.met (stage_of d).container ≡ raised
+    → g.errors (stage_of new).container ≡ errors_left → g.raised (stage_of new).container ≡ raised_left → g.met (stage_of new).container ≡ raised_left
+    → f.why ≢ Memory → Counted {X = ℕ} g (stage_of d) (stage_of new) (Err f)
     → (IsCalm g (stage_of d) (stage_of new) → HadRoom {X = ℕ} (Err f) → (frames : List Frame) (end : Option (Place × Why)) → Comes g (stage_of d) (map frame frames) end → PassedBy info sample frames × (end ≡ Some (told f)))
-    → (frames : List Frame) (end : Option (Place × Why)) → IsReadAs r [] frames end → PassedBy info sample frames × (end ≡ Some (told f))
-seek_refuses {g = g} r info sample d new p f begun at gives calm other refused frames end is = refused calm (had_room f other) frames end (input_comes g r (stage_of d) p begun at gives frames end is)
+    → RefusesSeek info sample r known errors raised errors_left raised_left f
+seek_refuses {g = g} r info sample d new p f known errors raised errors_left raised_left begun at gives is_known e r0 m e' r' m' other counts refused = record {
+  kept = omega (arith, counts.kept, e, e');
+  risen = λ is. subst (λ n. Rises raised n) m' (subst (λ n. Rises n (g.met (stage_of new).container)) m (counts.risen is));
+  refused = λ k same_errors same_raised frames end is.
+      refused (is_known ∙ k, e' ∙ same_errors ∙ sym e, r' ∙ same_raised ∙ sym r0) (had_room f other) frames end (input_comes g r (stage_of d) p begun at gives frames end is);
+}
 
 -- a reader before what was read ahead
 pub finds_at : {C : Type 0} {g : container.Ghosts C} (info : Info) (sample : ℕ) (frames : List Frame) (end : Option (Place × Why)) (reader : Reader C g) (d : Decoder C g) → reader.decoder ≡ d → reader.ahead ≡ true
@@ -191,6 +199,12 @@ finds_at {g = g} info sample frames end reader d is ahead finds =
 -- where bytes in memory begin
 abbrev pub memory_cursor : List ℕ → Cursor
 memory_cursor bytes = record { left = bits_of bytes; mark = beginning Truncated }
+
+-- over bytes in memory no error of the source comes
+pub seeks_memory : {C : Type 0} (S : Type 0) {g : container.Ghosts C} (info : Info) (sample : ℕ) (r : Reading Piece Place) (result : Result (Reader C g) Fault) → IfOk result (λ x. true ≡ true → Sought info sample r x)
+    → IfErr result (λ f. f.why ≢ Memory → (left : S) × RefusesSeek info sample r true 0 0 0 0 f) → SeeksTo info sample r result
+seeks_memory S info sample r (Ok x) sought refused = sought refl
+seeks_memory S info sample r (Err f) sought refused = λ other. (refused other).1.refused refl refl refl
 
 pub search_no_more : {C X : Type 0} (g : container.Ghosts C) (old now : Stage C) (info : Info) (sample : ℕ) (at : Place) → SearchSoFar g old now info sample → Counted {X = X} g old now (Err (record { at = at; why = Memory }))
 search_no_more g old now info sample at far = record {

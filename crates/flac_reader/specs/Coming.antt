@@ -18,6 +18,7 @@ use Rattle.flac_native.specs.declared.course.Course.{Course}
 use Rattle.flac_native.specs.declared.course.Course.TheVariants as course
 use Rattle.flac_native.specs.declared.container.Container as container
 use Rattle.flac_reader.specs.Kept.{keeps}
+use Rattle.flac_reader.specs.Starting.{frames_start}
 use Rattle.flac_reader.specs.declared.keep.Keep.{Keep}
 
 -- ---- a decoder
@@ -97,10 +98,12 @@ size_of None = 0
 size_of (Some (metadata b)) = 0
 size_of (Some (frame f)) = f.size
 
--- The metadata was read from old on, of a source that tells its bytes: the wanted blocks are kept, and the frames come next. No error was met.
-pub record HeadOf {C : Type 0} (g : container.Ghosts C) (old new : Stage C) (keep : Keep) (kept : List Block) (ahead : Bool) : Type 0 where
+-- The metadata was read from old on, of a source that tells its bytes: the wanted blocks are kept, the frames come next, and the bytes before them are counted. No
+-- error was met.
+pub record HeadOf {C : Type 0} (g : container.Ghosts C) (old new : Stage C) (keep : Keep) (kept : List Block) (ahead : Bool) (start : ℕ) : Type 0 where
   pub known : g.known old.container ≡ true → g.known new.container ≡ true
   pub errors : g.errors new.container ≡ g.errors old.container
   pub raised : g.raised new.container ≡ g.raised old.container
   pub blocks : g.known old.container ≡ true → (blocks : List Block) (frames : List Frame) (end : Option (Place × Why)) → Comes g old (stream_items blocks frames) end → kept ≡ filter (keeps keep) blocks
   pub frames : g.known old.container ≡ true → (blocks : List Block) (frames : List Frame) (end : Option (Place × Why)) → Comes g old (stream_items blocks frames) end → FramesCome g ahead new frames end
+  pub counted : g.known old.container ≡ true → (blocks : List Block) (frames : List Frame) (end : Option (Place × Why)) → Comes g old (stream_items blocks frames) end → start ≡ frames_start blocks

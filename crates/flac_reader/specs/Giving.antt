@@ -16,3 +16,4 @@ pub record Gives {C X : Type 0} {g : container.Ghosts C} (old new : Reader C g) 
   pub samples : IfOk result (λ x. (new.first ≡ old.behind) × (new.behind ≡ min (old.behind + size_of (view x)) 18446744073709551615))
   pub blocks : new.blocks ≡ old.blocks
   pub info : new.info ≡ old.info
+  pub start : new.start ≡ old.start

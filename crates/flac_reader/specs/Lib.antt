@@ -1,4 +1,5 @@
 pub mod Kept
+pub mod Starting
 pub mod Coming
 pub mod Taking
 pub mod Giving
@@ -9,3 +10,4 @@ pub mod Sampling
 pub mod Stepping
 pub mod Refusing
 pub mod Seeking
+pub mod Moved

@@ -54,6 +54,7 @@ pub record GivesSample {C : Type 0} {g : container.Ghosts C} (old new : Samples 
   pub nearer : MatchResult answer (λ o. IfSome o (λ _. calls_left new.spot new.left < calls_left old.spot old.left)) (λ _. calls_left new.spot new.left < calls_left old.spot old.left)
   pub blocks : new.reader.blocks ≡ old.reader.blocks
   pub info : new.reader.info ≡ old.reader.info
+  pub start : new.reader.start ≡ old.reader.start
 
 -- an item of an iterator as the answer of a call
 abbrev pub turned : Option (Result ℤ Fault) → Result (Option ℤ) Fault

@@ -1,18 +1,26 @@
 -- Where a sample is sought in a stream (RFC 9639, sections 8.5 and 9.1.5).
-use Rattle.std.specs.Prelude.{◌≡◌, ◌≢◌, ℕ, ◌+◌, ◌*◌, Bool, not, ◌&&◌, cond, nat_eq, nat_le, nat_lt, List, [], ◌∷◌, ◌++◌, true, false, map, Option, Some, None, Result, Ok, Err, ⊤}
+use Rattle.std.specs.Prelude.{◌≡◌, ◌≢◌, ◌≤◌, ◌<◌, ◌^◌, ℕ, ◌+◌, ◌*◌, min, Bool, not, ◌&&◌, cond, nat_eq, nat_le, nat_lt, List, [], ◌∷◌, ◌++◌, true, false, map, take, drop, length, Option, Some, None, Result, Ok, Err, ⊤}
 use Rattle.std.specs.List.{fold, list_any}
-use Rattle.flac_bits.specs.Handing.{Reading}
+use Rattle.flac_bits.specs.Bits.{bits_of}
+use Rattle.flac_bits.specs.State.{Rises}
+use Rattle.flac_bits.specs.Items.{Joined, Stream, after}
+use Rattle.flac_bits.specs.Handing.{Reading, by_grammar}
 use Rattle.flac_bits.specs.declared.why.Why.{Why}
-use Rattle.flac_bits.specs.declared.why.Why.TheVariants.{Memory}
+use Rattle.flac_bits.specs.declared.why.Why.TheVariants.{Memory, Read, Truncated}
+use Rattle.flac_meta.specs.declared.block.Block.{Block}
 use Rattle.flac_meta.specs.Info.{Info}
 use Rattle.flac_meta.specs.declared.seek_table.SeekPoint.{SeekPoint}
 use Rattle.flac_frame.specs.Frame.{Frame}
-use Rattle.flac_native.specs.Stream.{Piece}
+use Rattle.flac_native.specs.Decoding.{beginning}
+use Rattle.flac_native.specs.Resuming.{resumed}
+use Rattle.flac_native.specs.Stream.{Piece, framed, grammar, opening}
 use Rattle.flac_native.specs.Item.{Item, metadata, frame, told}
 use Rattle.flac_native.specs.Giving.{Stage, stage_of}
 use Rattle.flac_native.specs.declared.fault.Place.{Place}
 use Rattle.flac_native.specs.declared.fault.Fault.{Fault}
 use Rattle.flac_native.specs.declared.container.Container as container
+use Rattle.flac_reader.specs.Kept.{first_info}
+use Rattle.flac_reader.specs.Starting.{frames_start}
 use Rattle.flac_reader.specs.Coming.{Comes, FramesCome}
 use Rattle.flac_reader.specs.Opening.{IsReadAs}
 use Rattle.flac_reader.specs.declared.reader.Reader.{Reader}
@@ -26,6 +34,10 @@ is_before sample p = nat_le p.sample sample && not (nat_eq p.sample 184467440737
 -- the offset of the last point at or before a sample, from the first frame; that of the first frame where there is none
 abbrev pub offset_before : ℕ → List SeekPoint → ℕ
 offset_before sample points = fold (λ offset p. cond (is_before sample p) p.offset offset) 0 points
+
+-- where a search begins, in bytes from the first of the stream, whose frames start here; it stops at 2^64 - 1
+abbrev pub search_start : (start sample : ℕ) → List SeekPoint → ℕ
+search_start start sample points = min (start + offset_before sample points) 18446744073709551615
 
 -- ---- a frame
 
@@ -77,7 +89,41 @@ Passes g info sample frames end (Ok None) s = (f : Frame) × (rest : List Frame)
 Passes g info sample frames end (Ok (Some n)) s = HoldsFirst info sample frames × FramesCome g true s frames end
 Passes g info sample frames end (Err f) s = (frames ≡ []) × (end ≡ Some (told f))
 
+-- A reader that was made over this input finds the frame.
+abbrev pub Sought : {C : Type 0} {g : container.Ghosts C} → Info → ℕ → Reading Piece Place → Reader C g → Type 0
+Sought {g = g} info sample r reader = (frames : List Frame) (end : Option (Place × Why)) → IsReadAs r [] frames end → Finds g info sample frames end reader.ahead (stage_of reader.decoder)
+
 -- So a reader was made over this input: it finds the frame; or the input is refused behind frames that do not hold the sample, unless memory ran out.
 abbrev pub SeeksTo : {C : Type 0} {g : container.Ghosts C} → Info → ℕ → Reading Piece Place → Result (Reader C g) Fault → Type 0
-SeeksTo {g = g} info sample r (Ok reader) = (frames : List Frame) (end : Option (Place × Why)) → IsReadAs r [] frames end → Finds g info sample frames end reader.ahead (stage_of reader.decoder)
+SeeksTo info sample r (Ok reader) = Sought info sample r reader
 SeeksTo info sample r (Err f) = f.why ≢ Memory → (frames : List Frame) (end : Option (Place × Why)) → IsReadAs r [] frames end → PassedBy info sample frames × (end ≡ Some (told f))
+
+-- No reader was made over the input of a source, for this reason. An error of the source raised its counts; without one, and if the input is known, it is refused
+-- behind frames that do not hold the sample.
+pub record RefusesSeek (info : Info) (sample : ℕ) (r : Reading Piece Place) (known : Bool) (errors raised errors_left raised_left : ℕ) (f : Fault) : Type 0 where
+  pub kept : errors ≤ errors_left
+  pub risen : f.why ≡ Read → Rises raised raised_left
+  pub refused : known ≡ true → errors_left ≡ errors → raised_left ≡ raised → (frames : List Frame) (end : Option (Place × Why)) → IsReadAs r [] frames end → PassedBy info sample frames × (end ≡ Some (told f))
+
+-- ---- in a whole stream
+
+-- The first so many bytes of a native stream are all its parts before these frames, and STREAMINFO among them is this.
+pub record Cuts (stream : List ℕ) (info : Info) (at : ℕ) (frames : List Frame) : Type 0 where
+  pub front : List Piece
+  pub whole : Stream grammar opening (beginning Truncated) (front ++ map framed frames) (bits_of stream)
+  pub before : Joined grammar opening (beginning Truncated) front (bits_of (take at stream))
+  pub known : (after grammar opening front).stand.info ≡ Some info
+
+-- A reader finds the frame among these, and gives it and all behind it, up to the end of the stream; or memory ran out.
+abbrev pub SeeksFrames : {C : Type 0} {g : container.Ghosts C} → Info → ℕ → List Frame → Result (Reader C g) Fault → Type 0
+SeeksFrames {g = g} info sample frames (Ok reader) = Finds g info sample frames None reader.ahead (stage_of reader.decoder)
+SeeksFrames info sample frames (Err f) = f.why ≢ Memory → ⊥
+
+-- So a native stream in memory is cut where its frames start, as the reader that opened it counted.
+abbrev pub FramesStart : Type 0
+FramesStart = (stream : List ℕ) (blocks : List Block) (frames : List Frame) (info : Info) → length stream < 2 ^ 64
+    → IsReadAs (by_grammar grammar opening (beginning Truncated) (bits_of stream)) blocks frames None → first_info blocks ≡ Some info → Cuts stream info (frames_start blocks) frames
+
+-- And what is behind a cut is a stream of the frames there, read from the state in which a decoder is resumed.
+abbrev pub CutsAreRead : Type 0
+CutsAreRead = (stream : List ℕ) (info : Info) (at : ℕ) (frames : List Frame) → Cuts stream info at frames → IsReadAs (by_grammar grammar (resumed info) (beginning Truncated) (bits_of (drop at stream))) [] frames None

@@ -1,5 +1,5 @@
 -- What the steps of an iterator over samples do.
-use Rattle.std.specs.Prelude.{◌≡◌, ℕ, Bool, true, false, ℤ, List, [], ◌∷◌, Option, Some, None, Result, Ok, Err}
+use Rattle.std.specs.Prelude.{◌≡◌, ℕ, Bool, true, false, ℤ, [], ◌∷◌, Option, Some, None, Result, Ok, Err}
 use Rattle.flac_frame.specs.Frame.{Frame}
 use Rattle.flac_native.specs.Item.{Item, frame}
 use Rattle.flac_native.specs.declared.fault.Fault.{Fault}

@@ -1,5 +1,5 @@
 -- What a call does that reads one item of the metadata.
-use Rattle.std.specs.Prelude.{◌≡◌, Bool, true, false, List, [], ◌∷◌, ◌++◌, filter, Option, Some, Result, Ok, Err}
+use Rattle.std.specs.Prelude.{◌≡◌, ℕ, Bool, true, false, List, [], ◌∷◌, ◌++◌, filter, Option, Some, Result, Ok, Err}
 use Rattle.flac_bits.specs.declared.why.Why.{Why}
 use Rattle.flac_meta.specs.declared.block.Block.{Block}
 use Rattle.flac_frame.specs.Frame.{Frame}
@@ -10,10 +10,12 @@ use Rattle.flac_native.specs.declared.fault.Fault.{Fault}
 use Rattle.flac_native.specs.declared.container.Container as container
 use Rattle.flac_reader.specs.Kept.{keeps}
 use Rattle.flac_reader.specs.Coming.{Comes, FramesCome, stream_items}
+use Rattle.flac_reader.specs.Starting.{and_block}
 use Rattle.flac_reader.specs.declared.keep.Keep.{Keep}
 
--- a block was the first of what was to come, and is kept if it is wanted; or else a frame was, or the end, and is read ahead; or the stream is refused
-abbrev pub Took : {C : Type 0} → container.Ghosts C → Keep → List Block → List Frame → Option (Place × Why) → (old new : List Block) → Result Bool Fault → Stage C → Type 0
-Took g keep blocks frames end old new (Ok true) s = (b : Block) × (rest : List Block) × (blocks ≡ b ∷ rest) × (new ≡ old ++ filter (keeps keep) (b ∷ [])) × Comes g s (stream_items rest frames) end
-Took g keep blocks frames end old new (Ok false) s = (blocks ≡ []) × (new ≡ old) × FramesCome g true s frames end
-Took g keep blocks frames end old new (Err f) s = (blocks ≡ []) × (frames ≡ []) × (end ≡ Some (told f))
+-- A block was the first of what was to come, is kept if it is wanted, and its bytes are counted behind those before; or else a frame was, or the end, and is read
+-- ahead; or the stream is refused.
+abbrev pub Took : {C : Type 0} → container.Ghosts C → Keep → List Block → List Frame → Option (Place × Why) → (old new : List Block) → (before now : ℕ) → Result Bool Fault → Stage C → Type 0
+Took g keep blocks frames end old new before now (Ok true) s = (b : Block) × (rest : List Block) × (blocks ≡ b ∷ rest) × (new ≡ old ++ filter (keeps keep) (b ∷ [])) × (now ≡ and_block before b) × Comes g s (stream_items rest frames) end
+Took g keep blocks frames end old new before now (Ok false) s = (blocks ≡ []) × (new ≡ old) × (now ≡ before) × FramesCome g true s frames end
+Took g keep blocks frames end old new before now (Err f) s = (blocks ≡ []) × (frames ≡ []) × (end ≡ Some (told f))

@@ -1,6 +1,6 @@
 //! The metadata of a stream.
 
-ghost use Rattle.std.specs.Prelude.{◌≡◌, ◌++◌, [], ◌∷◌, List, Option, Some, true, false, IfOk, IfErr};
+ghost use Rattle.std.specs.Prelude.{◌≡◌, ◌++◌, [], ◌∷◌, List, Option, Some, true, false, OnOk, IfOk, IfErr};
 ghost use Rattle.flac_meta.specs.declared.block.Block.{Block as ABlock};
 ghost use Rattle.flac_frame.specs.Frame.{Frame};
 ghost use Rattle.flac_native.specs.Giving.{stage_of, held};
@@ -8,27 +8,41 @@ ghost use Rattle.flac_reader.specs.Kept.{first_info};
 ghost use Rattle.flac_reader.specs.Coming.{Comes, IsCalm, HadRoom, Counted, HeadIs, HeadOf, GivesFrame, stream_items};
 ghost use Rattle.flac_reader.specs.Refusing.{RefusedHead};
 ghost use Rattle.flac_reader.specs.Taking.{Took};
+ghost use Rattle.flac_reader.specs.Starting.{and_blocks};
 
 use crate::keep::{Keep, keep_block};
 use flac_native::{Block, Container, Decoder, Fault, Item, Place, StreamInfo, Why};
 
-/// Reads the next item, and keeps a block that is wanted; `false` if the item is none.
+/// What the metadata of a stream says.
+#[derive(Clone, Copy)]
+pub(crate) struct Head {
+    /// STREAMINFO.
+    pub(crate) info: StreamInfo,
+    /// How many bytes a native stream has before its first frame.
+    pub(crate) start: u64,
+}
+
+/// Reads the next item, keeps a block that is wanted, and counts its bytes; `false` if the item is none.
 fn take_block<C: Container>(
     decoder: &mut Decoder<C>,
     keep: Keep,
     index: u64,
     kept: &mut Vec<Block>,
+    size: &mut u64,
 ) -> Result<bool, Fault>
     ensures counts { Counted C.Container (stage_of decoder.old) (stage_of decoder.new) result }
     ensures gives { IsCalm C.Container (stage_of decoder.old) (stage_of decoder.new) → HadRoom result → (blocks : List ABlock) (frames : List Frame) (end : Option (Place × Why)) → Comes C.Container (stage_of decoder.old) (stream_items blocks frames) end →
-        Took C.Container keep blocks frames end kept.old.items kept.new.items result (stage_of decoder.new) }
+        Took C.Container keep blocks frames end kept.old.items kept.new.items size.old size.new result (stage_of decoder.new) }
 {
     match decoder.step() {
         Ok(()) => {}
         Err(fault) => return Err(fault),
     }
     let outcome = match decoder.view() {
-        Item::Block(block) => keep_block(kept, keep, block),
+        Item::Block(block) => {
+            *size = size.saturating_add(4 + block.length());
+            keep_block(kept, keep, block)
+        }
         Item::Frame(_) => return Ok(false),
         Item::End => return Ok(false),
     };
@@ -39,6 +53,33 @@ fn take_block<C: Container>(
             why,
         }),
     }
+}
+
+/// Reads all metadata blocks as [`read_blocks`] does, and counts their bytes behind those before.
+fn read_counted<C: Container>(
+    decoder: &mut Decoder<C>,
+    keep: Keep,
+    kept: &mut Vec<Block>,
+    size: &mut u64,
+) -> Result<(), Fault>
+    requires { kept.old.items ≡ [] }
+    ensures counts { Counted C.Container (stage_of decoder.old) (stage_of decoder.new) result }
+    ensures head { IsCalm C.Container (stage_of decoder.old) (stage_of decoder.new) → HadRoom result → (blocks : List ABlock) (frames : List Frame) (end : Option (Place × Why)) → Comes C.Container (stage_of decoder.old) (stream_items blocks frames) end →
+        HeadIs C.Container keep blocks frames end kept.new.items result (stage_of decoder.new) }
+    ensures size { OnOk result (IsCalm C.Container (stage_of decoder.old) (stage_of decoder.new) → (blocks : List ABlock) (frames : List Frame) (end : Option (Place × Why)) → Comes C.Container (stage_of decoder.old) (stream_items blocks frames) end →
+        size.new ≡ and_blocks size.old blocks) }
+{
+    for index in 0..u64::MAX {
+        match take_block(decoder, keep, index, kept, size) {
+            Ok(true) => {}
+            Ok(false) => return Ok(()),
+            Err(fault) => return Err(fault),
+        }
+    }
+    Err(Fault {
+        at: Place::Block(u64::MAX),
+        why: Why::Memory,
+    })
 }
 
 /// Reads all metadata blocks of a stream from its start, and keeps those that are wanted, in their order (RFC 9639, section 8). It reads the first frame too,
@@ -58,17 +99,8 @@ pub fn read_blocks<C: Container>(
     ensures head { IsCalm C.Container (stage_of decoder.old) (stage_of decoder.new) → HadRoom result → (blocks : List ABlock) (frames : List Frame) (end : Option (Place × Why)) → Comes C.Container (stage_of decoder.old) (stream_items blocks frames) end →
         HeadIs C.Container keep blocks frames end kept.new.items result (stage_of decoder.new) }
 {
-    for index in 0..u64::MAX {
-        match take_block(decoder, keep, index, kept) {
-            Ok(true) => {}
-            Ok(false) => return Ok(()),
-            Err(fault) => return Err(fault),
-        }
-    }
-    Err(Fault {
-        at: Place::Block(u64::MAX),
-        why: Why::Memory,
-    })
+    let mut size = 0;
+    read_counted(decoder, keep, kept, &mut size)
 }
 
 /// The first STREAMINFO of some blocks.
@@ -85,23 +117,24 @@ fn info_of(blocks: &[Block]) -> Option<StreamInfo>
     None
 }
 
-/// Reads all metadata blocks, and finds STREAMINFO.
+/// Reads all metadata blocks, finds STREAMINFO, and counts the bytes before the first frame of a native stream: those of the marker are 4.
 pub(crate) fn read_head<C: Container>(
     decoder: &mut Decoder<C>,
     keep: Keep,
     kept: &mut Vec<Block>,
-) -> Result<StreamInfo, Fault>
+) -> Result<Head, Fault>
     requires { kept.old.items ≡ [] }
-    ensures info { IfOk result (λ i. first_info kept.new.items ≡ Some i) }
-    ensures head { IfOk result (λ _. HeadOf C.Container (stage_of decoder.old) (stage_of decoder.new) keep kept.new.items true) }
+    ensures info { IfOk result (λ h. first_info kept.new.items ≡ Some h.info) }
+    ensures head { IfOk result (λ h. HeadOf C.Container (stage_of decoder.old) (stage_of decoder.new) keep kept.new.items true h.start) }
     ensures refused { IfErr result (λ f. RefusedHead C.Container (stage_of decoder.old) (stage_of decoder.new) f) }
 {
-    match read_blocks(decoder, keep, kept) {
+    let mut start = 4;
+    match read_counted(decoder, keep, kept, &mut start) {
         Ok(()) => {}
         Err(fault) => return Err(fault),
     }
     match info_of(kept.as_slice()) {
-        Some(info) => Ok(info),
+        Some(info) => Ok(Head { info, start }),
         None => Err(Fault {
             at: Place::Block(0),
             why: Why::NotStreamInfoFirst,

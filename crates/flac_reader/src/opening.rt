@@ -64,9 +64,19 @@ pub fn open_ogg<R: Source + Drop>(
 ) -> Result<Reader<OggPackets<R>>, Fault>
     // The blocks that are kept, and the frames to come, are those of the stream that the bytes are.
     ensures opens { IfOk result (λ r. R.known source ≡ true → Opens (ogg_reading (beginning (short_of ((R.behind source).fails))) (bits_of (R.coming source))) keep r) }
+    // Refused only as the input is, before its first frame, for want of memory, or for an error of the source, which was left with its counts raised.
+    ensures refused { IfErr result (λ f. f.why ≢ Why.Memory → (left : R) × RefusesInput (ogg_reading (beginning (short_of ((R.behind source).fails))) (bits_of (R.coming source))) (R.known source) (R.errors source) (R.raised source) (R.errors left) (R.raised left) f) }
 {
-    match ogg_decoder(alloc, source, profile) {
-        Ok(decoder) => Reader::over(alloc, decoder, keep),
-        Err(fault) => Err(fault),
+    let decoder = match ogg_decoder(alloc, source, profile) {
+        Ok(decoder) => decoder,
+        Err(fault) => return Err(fault),
+    };
+    match Reader::begin(alloc, decoder, keep) {
+        Ok(reader) => Ok(reader),
+        Err(refused) => {
+            let fault = refused.fault;
+            let _source = refused.into_decoder().into_container().into_source();
+            Err(fault)
+        }
     }
 }

@@ -1,33 +1,23 @@
 //! A reader.
 
-ghost use Rattle.std.specs.Prelude.{◌≡◌, ◌≢◌, ◌*◌, ◌/◌, ⊤, IfOk, IfErr, List, MatchOption, None, Option, Some, drop, true};
+ghost use Rattle.std.specs.Prelude.{◌≡◌, ◌≢◌, ◌*◌, ◌/◌, ⊤, IfOk, IfErr, List, MatchOption, None, Option, Some, true};
 ghost use Rattle.std.specs.Duration.{as_nanos};
-ghost use Rattle.flac_bits.specs.Bits.{bits_of};
-ghost use Rattle.flac_bits.specs.Handing.{by_grammar};
 ghost use Rattle.flac_bits.specs.declared.why.Why.{Why};
-ghost use Rattle.flac_bits.specs.declared.why.Why.TheVariants.{Truncated};
 ghost use Rattle.flac_frame.specs.Frame.{Frame};
 ghost use Rattle.flac_native.specs.declared.fault.Place.{Place};
 ghost use Rattle.std.specs.Borrow.{sem, follows_so};
 ghost use mathlib.Core.Option.{none};
-ghost use Rattle.flac_native.specs.Stream.{grammar};
-ghost use Rattle.flac_native.specs.Decoding.{beginning};
-ghost use Rattle.flac_native.specs.Resuming.{resumed};
 ghost use Rattle.flac_native.specs.Giving.{stage_of, held};
 ghost use Rattle.flac_reader.specs.Kept.{first_info, first_comments, first_points};
-ghost use Rattle.flac_reader.specs.Seeking.{offset_before, number_of, SeeksTo};
 ghost use Rattle.flac_reader.specs.Refusing.{RefusedHead, IsRefusedHead};
 ghost use Rattle.flac_reader.specs.Coming.{lent, only_frame, size_of, FramesCome, HeadOf};
 
-use crate::head::{forward, read_head};
+use crate::head::{Head, forward, read_head};
 use crate::keep::Keep;
 use crate::samples::Samples;
-use crate::seeking::{bytes_from, find_frame, offset_before};
 use crate::time::time_of;
-use flac_bits::BitReader;
 use flac_native::{
-    Block, Comments, Container, Decoder, Fault, FrameView, Item, Memory, Profile, SeekPoint,
-    StreamInfo,
+    Block, Comments, Container, Decoder, Fault, FrameView, Item, SeekPoint, StreamInfo,
 };
 use std::alloc::Global;
 use std::time::Duration;
@@ -35,12 +25,13 @@ use std::time::Duration;
 /// A reader of a stream: its metadata was read, and its frames come one after another.
 #[derive(Drop)]
 pub struct Reader<C: Container> {
-    decoder: Decoder<C>,
-    info: StreamInfo,
-    blocks: Vec<Block>,
-    ahead: bool,
-    first: u64,
-    behind: u64,
+    pub(crate) decoder: Decoder<C>,
+    pub(crate) info: StreamInfo,
+    pub(crate) blocks: Vec<Block>,
+    pub(crate) ahead: bool,
+    pub(crate) start: u64,
+    pub(crate) first: u64,
+    pub(crate) behind: u64,
 }
 
 /// A decoder whose metadata was refused, and the fault.
@@ -69,13 +60,13 @@ impl<C: Container + Drop> Reader<C> {
     ) -> Result<Reader<C>, Refused<C>>
         ensures info { IfOk result (λ r. first_info r.blocks.items ≡ Some r.info) }
         ensures start { IfOk result (λ r. (r.first ≡ 0) × (r.behind ≡ 0)) }
-        ensures head { IfOk result (λ r. HeadOf C.Container (stage_of decoder) (stage_of r.decoder) keep r.blocks.items r.ahead) }
+        ensures head { IfOk result (λ r. HeadOf C.Container (stage_of decoder) (stage_of r.decoder) keep r.blocks.items r.ahead r.start) }
         ensures refused { IfErr result (λ x. RefusedHead C.Container (stage_of decoder) (stage_of x.decoder) x.fault) }
     {
         let mut decoder = decoder;
         let mut blocks = Vec::new(alloc);
         match read_head(&mut decoder, keep, &mut blocks) {
-            Ok(info) => Ok(Reader::before_frame(decoder, info, blocks, 0)),
+            Ok(head) => Ok(Reader::before_frame(decoder, head, blocks, 0)),
             Err(fault) => Err(Refused { fault, decoder }),
         }
     }
@@ -89,60 +80,13 @@ impl<C: Container + Drop> Reader<C> {
         ensures info { IfOk result (λ r. first_info r.blocks.items ≡ Some r.info) }
         ensures start { IfOk result (λ r. (r.first ≡ 0) × (r.behind ≡ 0)) }
         // All wanted blocks are kept, and the frames come next: those of the stream that the decoder was to give.
-        ensures head { IfOk result (λ r. HeadOf C.Container (stage_of decoder) (stage_of r.decoder) keep r.blocks.items r.ahead) }
+        ensures head { IfOk result (λ r. HeadOf C.Container (stage_of decoder) (stage_of r.decoder) keep r.blocks.items r.ahead r.start) }
         // Refused only as the stream is that the decoder was to give, before its first frame, or for want of memory.
         ensures refused { IfErr result (λ f. IsRefusedHead C.Container (stage_of decoder) f) }
     {
         match Reader::begin(alloc, decoder, keep) {
             Ok(reader) => Ok(reader),
             Err(refused) => Err(refused.fault),
-        }
-    }
-
-    /// A reader of the same stream, of which these are the bytes from the first frame on, that lends next the frame that holds a sample: the first such frame from
-    /// the last point on of the seek table at or before that sample, or from the first frame on if there is no such point (RFC 9639, section 8.5). A frame holds
-    /// the samples from the number in its header on; if the header has the number of the frame, each frame before it has as many samples as the greatest block.
-    /// If no frame holds the sample, the reader is at the end.
-    ///
-    /// # Errors
-    ///
-    /// Those of [`Decoder::resume`] and [`Decoder::next`], with frames counted from the point on.
-    ///
-    /// ```
-    /// let mut reader = reader.seek(rt.alloc(), &stream[first_frame..], Profile::Subset, 44100)?;
-    /// ```
-    pub fn seek<'a>(
-        self,
-        alloc: Global,
-        frames: &'a [u8],
-        profile: Profile,
-        sample: u64,
-    ) -> Result<Reader<BitReader<Memory<'a>>>, Fault>
-        ensures blocks { IfOk result (λ r. (r.blocks ≡ self.blocks) × (r.info ≡ self.info)) }
-        ensures first { IfOk result (λ r. r.behind ≡ number_of self.info (held (stage_of r.decoder).course (stage_of r.decoder).track)) }
-        // Of the frames from that point on, the first that holds the sample comes next, and then all others; refused only as the bytes are, with no such frame before.
-        ensures found { SeeksTo self.info sample (by_grammar grammar (resumed self.info) (beginning Truncated) (bits_of (drop (offset_before sample (first_points self.blocks.items)) frames.now))) result }
-    {
-        let offset = offset_before(self.seek_points(), sample);
-        let Reader {
-            decoder: _,
-            info,
-            blocks,
-            ahead: _,
-            first: _,
-            behind: _,
-        } = self;
-        let source = Memory::new(bytes_from(frames, offset));
-        let mut decoder = match Decoder::resume(alloc, source, &info, profile) {
-            Ok(decoder) => decoder,
-            Err(fault) => return Err(fault),
-        };
-        match find_frame(&mut decoder, &info, sample) {
-            Ok(first) => Ok(Reader::before_frame(decoder, info, blocks, first)),
-            Err(fault) => {
-                let _source = decoder.into_source();
-                Err(fault)
-            }
         }
     }
 }
@@ -154,23 +98,24 @@ impl<C: Container> Reader<C> {
     ghost use Rattle.flac_reader.specs.Sampling.{SamplesCome};
 
     /// A reader whose next frame, or the end, was read ahead; that frame's first sample has this number.
-    fn before_frame(
+    pub(crate) fn before_frame(
         decoder: Decoder<C>,
-        info: StreamInfo,
+        head: Head,
         blocks: Vec<Block>,
         first: u64,
     ) -> Reader<C>
         ensures decoder { result.decoder ≡ decoder }
-        ensures info { result.info ≡ info }
+        ensures head { (result.info ≡ head.info) × (result.start ≡ head.start) }
         ensures blocks { result.blocks ≡ blocks }
         ensures ahead { result.ahead ≡ true }
         ensures first { (result.first ≡ first) × (result.behind ≡ first) }
     {
         Reader {
             decoder,
-            info,
+            info: head.info,
             blocks,
             ahead: true,
+            start: head.start,
             first,
             behind: first,
         }
@@ -206,7 +151,7 @@ impl<C: Container> Reader<C> {
 
     /// The points of the seek table, if there is one among the blocks that are kept (RFC 9639, section 8.5).
     #[tactic(auto, unfolding(crate::specs::Kept::first_points), using(crate::proofs::Firsts::points_more))]
-    fn seek_points(&self) -> &[SeekPoint]
+    pub(crate) fn seek_points(&self) -> &[SeekPoint]
         ensures { result.now ≡ first_points self.now.blocks.items }
     {
         for block in self.blocks.iter() {
@@ -216,6 +161,18 @@ impl<C: Container> Reader<C> {
             }
         }
         &[]
+    }
+
+    /// How many bytes a native stream has before its first frame: those of the marker and of the metadata blocks (RFC 9639, section 6). The offsets of a seek table
+    /// count from there.
+    ///
+    /// ```
+    /// let frames = &stream[reader.frames_start() as usize..];
+    /// ```
+    pub fn frames_start(&self) -> u64
+        ensures { result ≡ self.now.start }
+    {
+        self.start
     }
 
     /// The number of the first sample of the frame that was lent last, counted from 0 in each channel. At the end of the stream it is how many samples each channel
@@ -262,6 +219,26 @@ impl<C: Container> Reader<C> {
         ensures come { (frames : List Frame) (end : Option (Place × Why)) → FramesCome C.Container self.ahead (stage_of self.decoder) frames end → SamplesCome result (all_samples frames) end }
     {
         Samples::over(self)
+    }
+
+    /// The decoder again, from which the source can be had. What [`Reader::next`] has not lent yet may have been read by it: see [`Reader::over`].
+    ///
+    /// ```
+    /// let source = reader.into_decoder().into_source();
+    /// ```
+    pub fn into_decoder(self) -> Decoder<C>
+        ensures { result ≡ self.decoder }
+    {
+        let Reader {
+            decoder,
+            info: _,
+            blocks: _,
+            ahead: _,
+            start: _,
+            first: _,
+            behind: _,
+        } = self;
+        decoder
     }
 
     /// The frame that was read last.

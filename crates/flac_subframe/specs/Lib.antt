@@ -9,6 +9,7 @@ pub mod Least
 pub mod Cost
 pub mod Halves
 pub mod Bodies
+pub mod Handed
 pub mod Chosen
 pub mod Wasted
 pub mod Family

@@ -1,4 +1,4 @@
-//! What the fixed predictors leave of samples.
+//! What predictors leave of samples.
 
 ghost use Rattle.std.specs.Prelude.{◌≡◌, ◌<◌, ◌≤◌, ◌-◌, ◌+◌, length, All, IsTrue, ◌↔◌};
 ghost use Rattle.flac_bits.specs.Signed.{FitsBits};
@@ -7,6 +7,7 @@ ghost use Rattle.flac_subframe.specs.Numbers.{sample_at};
 ghost use Rattle.flac_subframe.specs.Prediction.{fixed_coefficients};
 ghost use Rattle.flac_subframe.specs.Bodies.{differences};
 
+use crate::predictors::predict_linear;
 use crate::restoration::predict_after;
 
 /// The sample `back` places before an index, 0 where a predictor of the order does not read it.
@@ -86,5 +87,41 @@ pub(crate) fn take_differences(order: usize, samples: &[i64], values: &mut [i64]
     ensures range { IsTrue result ↔ All IsResidual (differences (fixed_coefficients order) 0 samples.now) }
 {
     take_fixed(order, samples, values);
+    are_residual(values)
+}
+
+/// What a linear predictor leaves of the samples (RFC 9639, section 9.2.6).
+pub(crate) fn take_linear(coefficients: &[i32], shift: u32, samples: &[i64], values: &mut [i64])
+    requires few { length coefficients.now ≤ 32 }
+    requires small { All (FitsBits 15) coefficients.now }
+    requires shift { shift < 16 }
+    requires fits { All (FitsBits 33) samples.now }
+    requires places { length values.old + length coefficients.now ≡ length samples.now }
+    ensures all { values.new ≡ differences coefficients.now shift samples.now }
+    ensures long { length values.new ≡ length values.old }
+{
+    let order = coefficients.len();
+    for index in 0..values.len() {
+        let at = order + index;
+        values[index] = samples[at] - predict_linear(coefficients, shift, &samples[..at]);
+    }
+}
+
+/// What a linear predictor leaves of the samples, and whether a residual may have it all.
+pub(crate) fn take_weighed(
+    coefficients: &[i32],
+    shift: u32,
+    samples: &[i64],
+    values: &mut [i64],
+) -> bool
+    requires few { length coefficients.now ≤ 32 }
+    requires small { All (FitsBits 15) coefficients.now }
+    requires shift { shift < 16 }
+    requires fits { All (FitsBits 33) samples.now }
+    requires places { length values.old + length coefficients.now ≡ length samples.now }
+    ensures all { values.new ≡ differences coefficients.now shift samples.now }
+    ensures range { IsTrue result ↔ All IsResidual (differences coefficients.now shift samples.now) }
+{
+    take_linear(coefficients, shift, samples, values);
     are_residual(values)
 }

@@ -10,6 +10,7 @@ mod halves;
 mod halving;
 mod leaving;
 mod limits;
+mod linear;
 mod narrowed;
 mod numbers;
 mod predictors;
@@ -26,6 +27,7 @@ mod writing;
 
 pub use chosen::{Choice, choose, choose_into};
 pub use limits::Limits;
+pub use linear::LinearPredictor;
 pub use predictors::{predict_fixed, predict_linear};
 pub use promises::{
     family_is_plain, samples_are_restored, subframes_are_read_again, subframes_are_spelled,

@@ -5,8 +5,9 @@ ghost use Rattle.std.specs.Prelude.{◌≡◌, IfOk};
 use crate::rows::{channels_of, fields_of, pair_of};
 use flac_bits::{BitReader, BitWriter, Collected, Memory, Target, Why};
 use flac_frame::{
-    Audio, EncodeBuffers, FrameBuffers, FrameView, SetupFault, channels_are_joined, encode_frame,
-    encodings_are_frames, forms_stand_for_samples, frames_are_spelled, frames_follow,
+    Audio, EncodeBuffers, FrameBuffers, FrameChoice, FrameView, SetupFault, channels_are_joined,
+    choose_frame, encode_frame, encodings_are_frames, forms_stand_for_samples, frames_are_spelled,
+    frames_follow, write_frame,
 };
 use flac_header::Profile;
 use flac_meta::StreamInfo;
@@ -188,6 +189,30 @@ fn write_all<W: Target>(alloc: Global, audio: &Audio, writer: &mut BitWriter<W>)
     Ok(bytes)
 }
 
+/// The same in two steps: chooses the frame, counts its bytes, and then writes it.
+fn write_chosen<W: Target>(
+    alloc: Global,
+    audio: &Audio,
+    writer: &mut BitWriter<W>,
+) -> Result<u64, Why>
+    requires { writer.old.mark.unread ≡ 0 }
+{
+    let len = audio.len();
+    if len == 0 || len > 16 {
+        return Err(Why::BlockSize);
+    }
+    let mut buffers = EncodeBuffers::new(alloc, 16)?;
+    let mut choice = FrameChoice::new(alloc, audio.channels().len())?;
+    choose_frame(audio, 0..len, 0, &mut buffers, &mut choice);
+    let bytes = choice.frame_bytes(alloc, audio, len, 0);
+    let outcome = write_frame(audio, 0..len, 0, &choice, &mut buffers, writer);
+    drop(buffers);
+    drop(choice);
+    outcome?;
+    writer.finish()?;
+    bytes
+}
+
 /// Sample rate and bit depth; the channels, each after a `;`; and the frame that is written of them.
 const WRITTEN: &str =
     "# Independent channels, the only one, left and side, side and right, middle and side.
@@ -209,12 +234,26 @@ fn written(alloc: Global, format: &str, words: &str) -> Result<(u64, Vec<u8>), F
     Ok((count, writer.into_target().into_bytes()))
 }
 
-/// Writes the frame of a row, and compares its bytes and their number.
+/// The same in two steps.
+fn chosen(alloc: Global, format: &str, words: &str) -> Result<(u64, Vec<u8>), Fail> {
+    let audio = audio_of(alloc, format, words)??;
+    let mut writer = BitWriter::new(Collected::new(alloc));
+    let count = write_chosen(alloc, &audio, &mut writer)?;
+    Ok((count, writer.into_target().into_bytes()))
+}
+
+/// Writes the frame of a row, at once and in two steps, and compares its bytes and their number.
 fn check_written(rt: &impl Abort, alloc: Global, row: &str) -> Result<(), Fail> {
     let (format, words, wanted) = fields_of(row);
     let (count, bytes) = written(alloc, format, words)?;
     let wanted = hex::decode(alloc, wanted)?;
     assert!(rt; bytes.as_slice() == wanted.as_slice(), "{row}");
+    assert!(rt; count == wanted.len() as u64);
+    let (count, bytes) = chosen(alloc, format, words)?;
+    assert!(rt;
+        bytes.as_slice() == wanted.as_slice(),
+        "chosen first: {row}"
+    );
     assert!(rt; count == wanted.len() as u64);
     Ok(())
 }

@@ -17,11 +17,15 @@ mod ogg_decoding;
 #[cfg(test)]
 mod parts;
 #[cfg(test)]
+mod predictors;
+#[cfg(test)]
 mod pushing;
 #[cfg(test)]
 mod pushing_ogg;
 #[cfg(test)]
 mod reading_files;
+#[cfg(test)]
+mod reading_more;
 #[cfg(test)]
 mod reading_samples;
 #[cfg(test)]

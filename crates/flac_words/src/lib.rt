@@ -1,4 +1,4 @@
-//! The words of the command line, read as a job.
+//! The command line of the program, read as a job.
 #![tactic(auto)]
 
 mod words;

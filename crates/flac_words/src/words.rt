@@ -1,4 +1,4 @@
-//! Reads the words of the command line.
+//! Reading of the command line.
 
 ghost use Rattle.std.specs.Prelude.{◌≤◌, IfErr};
 
@@ -17,16 +17,16 @@ const EXAMPLES: &str = "Examples:
   flac encode song.raw song.oga --ogg --rate 44100 --channels 2 --bits 16
   flac retag song.flac other.flac TITLE=Song
 
-The status is 0 if all is done. It is 1 if a stream is refused, and a line says where and
-why:
+The exit status is 0 if the job is done. It is 1 if a stream is refused, and a line says
+where and why:
   flac: song.flac: frame 3: 26 FrameCheck";
 
 const TEST_EXAMPLE: &str = "Example:
   $ flac test song.flac
   frames 2584 samples 10584000
 
-The samples are those of each channel. If the stream states their number and their MD5,
-both were compared. A file that was cut:
+Samples are counted per channel. If the stream states their number and their MD5 digest,
+both were verified. A file that was cut off:
   $ flac test cut.flac
   flac: cut.flac: frame 1291: 3 Truncated";
 
@@ -34,25 +34,31 @@ const DECODE_EXAMPLE: &str = "Example, of a stream of 44100 Hz with two channels
   $ flac decode song.flac song.raw
   $ sox -t raw -r 44100 -c 2 -b 16 -e signed -L song.raw song.wav
 
-OUT has to be another file than IN: else it cannot be created, and IN stays as it is. What
-was written before a fault stays in OUT.";
+OUT has to be another file than IN: else it cannot be created, and IN stays as it is. If
+decoding fails, the samples written before stay in OUT. But if OUT was a file with
+bytes, it stays as it was, and these samples are in OUT.part beside it.";
 
 const ENCODE_EXAMPLE: &str =
-    "Example, of raw samples of 44100 Hz with two channels of 16 bits, interleaved, little-endian:
+    "Example, of raw samples of 44100 Hz, two interleaved channels, 16 bits, little-endian:
   $ flac encode song.raw song.flac --rate 44100 --channels 2 --bits 16 TITLE=Song
 
-A sample has whole bytes: of 12 bits two, of 20 bits three. With --seek-every 441000 a seek
-table has a point for each frame that holds the begin of ten seconds. With --ogg the stream
-is an Ogg stream. OUT has to be another file than IN: else it cannot be created, and IN
-stays as it is. What was written before a fault stays in OUT.";
+A sample takes whole bytes: two for 12 bits, three for 20 bits. With --seek-every 441000
+the stream has a seek table with a point every ten seconds. With --ogg it is an Ogg
+stream.
+
+OUT has to be another file than IN: else it cannot be created, and IN stays as it is. If
+encoding fails, what was written before stays in OUT. But if OUT was a file with bytes,
+it stays as it was, and what was written is in OUT.part beside it.";
 
 const RETAG_EXAMPLE: &str = "Example:
   $ flac retag song.flac other.flac TITLE=Song ARTIST=Someone
 
-STREAMINFO, the other blocks and the frames stay as they are; the frames are not read. A
-stream whose metadata is refused writes nothing. OUT has to be another file than IN: else it
-cannot be created, and IN stays as it is. What was written before another fault stays in
-OUT.";
+STREAMINFO, the other blocks and the frames stay as they are, but padding is written as
+zeros. The frames are not read. If the metadata is refused, nothing is written.
+
+OUT has to be another file than IN: else it cannot be created, and IN stays as it is. If
+the job fails later, what was written before stays in OUT. But if OUT was a file with
+bytes, it stays as it was, and what was written is in OUT.part beside it.";
 
 const LIST_EXAMPLE: &str = "Example:
   $ flac list song.flac
@@ -63,13 +69,14 @@ const LIST_EXAMPLE: &str = "Example:
     vendor reference libFLAC 1.4.2 20221022
     comment TITLE=x
 
-Bytes of a text outside 20 to 7E, and the backslash, are shown as \\x and two digits.";
+Bytes of a text outside 20 to 7E (hexadecimal), and the backslash, are shown as \\x and
+two digits.";
 
-/// Reads the words of the command line, of which the first is the program's name.
+/// Reads the command line as a job. `words` are its words, the program's name first.
 ///
 /// # Errors
-/// What to print in place of a job: the help that was asked for (status 0), that memory ran out (1), or why the words
-/// are refused (2).
+/// What to print in place of a job: the help that was asked for (status 0), that memory ran out (1), or why the command
+/// line is refused (2).
 pub fn job<'a>(alloc: Global, words: &'a [String]) -> Result<Job<'a>, LineFault>
     ensures { IfErr result (λ fault. fault.status ≤ 2) }
 {
@@ -95,7 +102,7 @@ fn lacks_equals(job: &Job<'_>) -> bool {
     }
 }
 
-/// Whether the job asks for a seek table in Ogg.
+/// Whether the job asks for a seek table in an Ogg stream.
 fn has_table_in_ogg(job: &Job<'_>) -> bool {
     match job {
         Job::Encode {
@@ -107,7 +114,7 @@ fn has_table_in_ogg(job: &Job<'_>) -> bool {
     }
 }
 
-/// What to print for a refusal of `clap`: help is one of them.
+/// What to print for an error of `clap`: help is one of them.
 fn refused(alloc: Global, error: &clap::Error) -> LineFault
     ensures { result.status ≤ 2 }
 {
@@ -122,7 +129,7 @@ fn refused(alloc: Global, error: &clap::Error) -> LineFault
     LineFault::no_memory()
 }
 
-/// The job of the words, or `None` if a word is missing.
+/// The job of the command line, or `None` if a word is missing.
 fn parsed<'a>(alloc: Global, words: &'a [String]) -> Result<Option<Job<'a>>, clap::Error> {
     let matches = command(alloc)?.try_get_matches_from(words)?;
     match matches.subcommand() {
@@ -131,7 +138,7 @@ fn parsed<'a>(alloc: Global, words: &'a [String]) -> Result<Option<Job<'a>>, cla
     }
 }
 
-/// The job of a command and what was given with it, or `None` if a word is missing.
+/// The job of a command and its arguments, or `None` if one is missing.
 fn job_of<'a>(
     alloc: Global,
     name: &str,
@@ -175,7 +182,7 @@ fn job_of<'a>(
     }))
 }
 
-/// The format of raw samples by the options.
+/// The format of raw samples that the options give.
 fn format_of(given: &ArgMatches<'_>) -> Option<Format> {
     Some(Format {
         rate: given.get_one("rate")?,
@@ -186,7 +193,7 @@ fn format_of(given: &ArgMatches<'_>) -> Option<Format> {
     })
 }
 
-/// The container of the stream by the options.
+/// The container that the options give.
 fn container_of(given: &ArgMatches<'_>) -> Option<Container> {
     if !given.get_flag("ogg") {
         return Some(Container::Native);
@@ -195,7 +202,7 @@ fn container_of(given: &ArgMatches<'_>) -> Option<Container> {
     Some(Container::Ogg { serial })
 }
 
-/// The program's command line.
+/// The command line of the program.
 fn command<'a>(alloc: Global) -> Result<Command<'a>, AllocError> {
     let command = Command::new(alloc, "flac")
         .about("Tests, decodes, lists, encodes and retags FLAC streams (RFC 9639)")
@@ -208,6 +215,7 @@ fn command<'a>(alloc: Global) -> Result<Command<'a>, AllocError> {
     with(command, retag_command(alloc))
 }
 
+/// The command with one more subcommand.
 fn with<'a>(
     command: Command<'a>,
     subcommand: Result<Command<'a>, AllocError>,
@@ -215,6 +223,7 @@ fn with<'a>(
     command.subcommand(subcommand?)
 }
 
+/// The command `test`.
 fn test_command<'a>(alloc: Global) -> Result<Command<'a>, AllocError> {
     Command::new(alloc, "test")
         .about("Decodes a stream, and prints how many frames and samples it has")
@@ -222,6 +231,7 @@ fn test_command<'a>(alloc: Global) -> Result<Command<'a>, AllocError> {
         .arg(file(alloc, "IN", "The stream"))
 }
 
+/// The command `decode`.
 fn decode_command<'a>(alloc: Global) -> Result<Command<'a>, AllocError> {
     let words = vec![in alloc;
         file(alloc, "IN", "The stream"),
@@ -235,6 +245,7 @@ fn decode_command<'a>(alloc: Global) -> Result<Command<'a>, AllocError> {
         .args(words)
 }
 
+/// The command `list`.
 fn list_command<'a>(alloc: Global) -> Result<Command<'a>, AllocError> {
     Command::new(alloc, "list")
         .about("Decodes a stream, and lists its metadata blocks")
@@ -242,6 +253,7 @@ fn list_command<'a>(alloc: Global) -> Result<Command<'a>, AllocError> {
         .arg(file(alloc, "IN", "The stream"))
 }
 
+/// The command `encode`.
 fn encode_command<'a>(alloc: Global) -> Result<Command<'a>, AllocError> {
     let words = words_of_encode(alloc)?;
     Command::new(alloc, "encode")
@@ -250,6 +262,7 @@ fn encode_command<'a>(alloc: Global) -> Result<Command<'a>, AllocError> {
         .args(words)
 }
 
+/// The arguments of `encode`.
 fn words_of_encode<'a>(alloc: Global) -> Result<Vec<Arg<'a>>, AllocError> {
     Ok(vec![in alloc;
         file(alloc, "IN", "The raw samples"),
@@ -275,6 +288,7 @@ fn words_of_encode<'a>(alloc: Global) -> Result<Vec<Arg<'a>>, AllocError> {
     ]?)
 }
 
+/// The command `retag`.
 fn retag_command<'a>(alloc: Global) -> Result<Command<'a>, AllocError> {
     let words = vec![in alloc;
         file(alloc, "IN", "The stream"),
@@ -287,6 +301,7 @@ fn retag_command<'a>(alloc: Global) -> Result<Command<'a>, AllocError> {
         .args(words)
 }
 
+/// The option `--ogg`.
 fn ogg<'a>(alloc: Global) -> Arg<'a> {
     Arg::new(alloc, "ogg")
         .long("ogg")
@@ -294,27 +309,29 @@ fn ogg<'a>(alloc: Global) -> Arg<'a> {
         .help("Writes an Ogg stream, which has no seek table")
 }
 
-/// The path of a file.
+/// A required argument: the path of a file.
 fn file<'a>(alloc: Global, name: &'a str, help: &'a str) -> Arg<'a> {
     Arg::new(alloc, name).required(true).help(help)
 }
 
+/// The arguments that are comments.
 fn comments<'a>(alloc: Global) -> Arg<'a> {
     Arg::new(alloc, "COMMENT")
         .num_args(0..)
         .help("Comments, each NAME=VALUE")
 }
 
-/// An option that has to be given, whose value is a whole number.
+/// A required option, whose value is a whole number.
 fn needed<'a>(alloc: Global, name: &'a str, help: &'a str) -> Arg<'a> {
     option(alloc, name).required(true).help(help)
 }
 
-/// An option whose value is a whole number.
+/// An option with a default, whose value is a whole number.
 fn number<'a>(alloc: Global, name: &'a str, default: &'a str, help: &'a str) -> Arg<'a> {
     option(alloc, name).default_value(default).help(help)
 }
 
+/// An option whose value is a whole number below 2^32.
 fn option<'a>(alloc: Global, name: &'a str) -> Arg<'a> {
     Arg::new(alloc, name)
         .long(name)

@@ -1,9 +1,13 @@
-use Rattle.std.proofs.Common.{take, map, flat_map, List}
-use Rattle.flac_bits.specs.Written.{Adds}
-use Rattle.flac_subframe.specs.Subframe.{Form}
+use Rattle.std.proofs.Common.{drop, map, flat_map}
+use Rattle.flac_bits.proofs.Writing.{Towards}
 use Rattle.flac_subframe.specs.Spelling.{subframe_spelling}
-use Rattle.flac_frame.specs.Encoding.{block_of, AreForms, AreLeast}
+use Rattle.flac_frame.specs.Chosen.{forms_of, AreMade}
+use Rattle.flac_frame.specs.Encoding.{block_of}
 use Rattle.flac_frame.proofs.encode.write_channels.Given as goal
 
-abbrev pub invariant-loop-channel : goal.invariant-loop-channel
-invariant-loop-channel g l = (fs : List Form) × AreForms l.depth l.size fs (block_of l.start l.size (map (λ c. c.items) (take l.channel-index l.channels))) × AreLeast l.depth fs (block_of l.start l.size (map (λ c. c.items) (take l.channel-index l.channels))) × Adds (flat_map (subframe_spelling l.depth) fs) l.initial.writer l.writer
+abbrev pub invariant-loop-i : goal.invariant-loop-i
+invariant-loop-i g l = record {
+  made : AreMade (drop l.i l.subframes) (block_of l.start l.size (map (λ c. c.items) (drop l.i l.channels)));
+  towards : Towards (flat_map (subframe_spelling l.depth) (forms_of (drop l.i l.subframes) (block_of l.start l.size (map (λ c. c.items) (drop l.i l.channels)))))
+      (flat_map (subframe_spelling l.depth) (forms_of l.subframes (block_of l.start l.size (map (λ c. c.items) l.channels)))) l.fn.writer l.writer;
+}

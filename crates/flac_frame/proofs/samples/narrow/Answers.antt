@@ -1,4 +1,4 @@
-use Rattle.std.proofs.Common.{arith, rules, ◌≡◌, ℕ, ℤ, pos, length, get_or, to_z, of_z, w32, w64, SFits, true, sym, ap, ◌∙◌}
+use Rattle.std.proofs.Common.{arith, rules, ◌≡◌, ℤ, pos, length, get_or, to_z, of_z, w32, w64, SFits, true, sym, ap, ◌∙◌}
 use Rattle.std.proofs.lemmas.Int.{to_z-of_z}
 use Rattle.flac_subframe.specs.Numbers.{fits}
 use Rattle.flac_frame.proofs.Depths.{fit_more, fit_less, put_more, kept_32, none_left, none_both}

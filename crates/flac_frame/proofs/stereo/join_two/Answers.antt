@@ -1,10 +1,10 @@
-use Rattle.std.proofs.Common.{arith, rules, ◌≡◌, ◌<◌, ◌≤◌, ℕ, ℤ, pos, length, get_or, to_z, of_z, w32, w64, SFits, FitsSigned, true, take, refl, sym, ap, ◌∙◌}
+use Rattle.std.proofs.Common.{arith, rules, ◌≡◌, ℤ, pos, length, get_or, to_z, of_z, w32, w64, SFits, FitsSigned, true, sym, ap, ◌∙◌}
 use Rattle.std.specs.Prelude.{bit_or}
 use Rattle.std.specs.Simd.Lanes.{zip2}
 use Rattle.std.proofs.lemmas.Int.{to_z-of_z}
 use Rattle.std.proofs.lemmas.List.{take_all}
 use Rattle.std.proofs.lemmas.Simd.{length-zip2}
-use Rattle.flac_subframe.specs.Numbers.{fits, all_fit}
+use Rattle.flac_subframe.specs.Numbers.{fits}
 use Rattle.flac_frame.specs.Stereo.{left_of, right_of}
 use Rattle.flac_frame.proofs.Depths.{fit_less, side_more, none_left, none_both, judged}
 use Rattle.flac_frame.proofs.Joins.{zip_at}

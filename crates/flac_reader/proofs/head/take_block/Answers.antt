@@ -22,18 +22,18 @@ returns-in-Frame-clause-gives g c = λ calm roomy blocks frames end comes.
     let new = c.step.new.self in
     let first = moves_first g.C.Container (stage_of c.args.decoder.now) (stage_of new) (λ _. held new.course new.track) (Ok c.in-Ok.field-0) c.in-Ok.ensures calm (room c.in-Ok.field-0) (stream_items blocks frames) end comes in
     let t = took_other g.C.Container blocks frames end (held new.course new.track) (stage_of new) (subst (λ h. only_frame h ≡ h) c.in-Frame.ensures refl) first in
-    (t.0, refl, t.1)
+    (t.0, refl, refl, t.1)
 
 pub returns-in-End-clause-gives : goal.returns-in-End-clause-gives
 returns-in-End-clause-gives g c = λ calm roomy blocks frames end comes.
     let new = c.step.new.self in
     let first = moves_first g.C.Container (stage_of c.args.decoder.now) (stage_of new) (λ _. held new.course new.track) (Ok c.in-Ok.field-0) c.in-Ok.ensures calm (room c.in-Ok.field-0) (stream_items blocks frames) end comes in
     let t = took_other g.C.Container blocks frames end (held new.course new.track) (stage_of new) (subst (λ h. only_frame h ≡ h) c.in-End.ensures refl) first in
-    (t.0, refl, t.1)
+    (t.0, refl, refl, t.1)
 
 pub returns-in-Ok-outcome-clause-gives : goal.returns-in-Ok-outcome-clause-gives
 returns-in-Ok-outcome-clause-gives g c = λ calm roomy blocks frames end comes.
     let new = c.step.new.self in
     let first = moves_first g.C.Container (stage_of c.args.decoder.now) (stage_of new) (λ _. held new.course new.track) (Ok c.in-Ok.field-0) c.in-Ok.ensures calm (room c.in-Ok.field-0) (stream_items blocks frames) end comes in
     let t = took_block g.C.Container blocks frames end c.in-Block.block.now (stage_of new) (subst (λ h. IsFirst g.C.Container (stream_items blocks frames) end (Ok h) (stage_of new)) (sym c.in-Block.ensures) first) in
-    (c.in-Block.block.now, t.0, t.1, c.in-Ok-outcome.ensures.kept, t.2)
+    (c.in-Block.block.now, t.0, t.1, c.in-Ok-outcome.ensures.kept, rw c.length.ensures at c.saturating_add.ensures, t.2)

@@ -1,4 +1,4 @@
-use Rattle.std.proofs.Common.{sym, subst, ◌∙◌}
+use Rattle.std.proofs.Common.{◌≡◌, sym, subst, ◌∙◌}
 use Rattle.flac_bits.specs.Bits.{bits_of}
 use Rattle.flac_bits.specs.State.{short_of}
 use Rattle.flac_bits.specs.Handing.{by_grammar}
@@ -15,17 +15,21 @@ returns-in-Ok-clause-opens g c = λ known.
     let R = g.R.Source in
     let source = c.args.source in
     opens_over (by_grammar grammar opening (beginning (short_of ((R.behind source).fails))) (bits_of (R.coming source))) c.args.keep c.in-Ok.reader (stage_of c.new.result) opening c.new.ensures.course c.new.ensures.track
-    (λ parts end read. subst (λ k. PartsCome opening k parts end) (sym c.new.ensures.cursor) read) (c.new.ensures.known ∙ known) c.in-Ok.ensures.head
+    (λ parts end read. subst (λ k. PartsCome opening k parts end) (sym c.new.ensures.cursor) read) (c.new.ensures.known ∙ known) c.in-Ok.ensures.head c.in-Ok.ensures.info
 
 pub returns-in-Err-clause-refused : goal.returns-in-Err-clause-refused
 returns-in-Err-clause-refused g c = λ other.
     let R = g.R.Source in
-    let source = c.args.source in (
-      c.into_source-source.result,
-      refuses_input (by_grammar grammar opening (beginning (short_of ((R.behind source).fails))) (bits_of (R.coming source))) (stage_of c.new.result) (stage_of c.in-Err.refused.decoder) opening c.in-Err.refused.fault (R.known source) (R.errors source) (R.raised source) (R.errors c.into_source-source.result) (R.raised c.into_source-source.result)
+    let source = c.args.source in
+    let left = c.into_source-source.result in
+    let last = c.in-Err.refused.decoder in
+    let errors : last.container.errors ≡ R.errors left = rw (← c.into_decoder.ensures) (sym c.into_source-source.ensures.errors.0) in
+    let raised : last.container.raised ≡ R.raised left = rw (← c.into_decoder.ensures) (sym c.into_source-source.ensures.errors.1) in (
+      left,
+      refuses_input (by_grammar grammar opening (beginning (short_of ((R.behind source).fails))) (bits_of (R.coming source))) (stage_of c.new.result) (stage_of last) opening c.in-Err.refused.fault (R.known source) (R.errors source) (R.raised source) (R.errors left) (R.raised left)
           c.new.ensures.course c.new.ensures.track
           (λ parts end read. subst (λ k. PartsCome opening k parts end) (sym c.new.ensures.cursor) read)
-          c.new.ensures.known c.new.ensures.errors.0 c.new.ensures.errors.1 c.new.ensures.errors.1
-          (rw (← c.into_decoder.ensures) (sym c.into_source-source.ensures.errors.0)) (rw (← c.into_decoder.ensures) (sym c.into_source-source.ensures.errors.1)) (rw (← c.into_decoder.ensures) (sym c.into_source-source.ensures.errors.1))
+          c.new.ensures.known c.new.ensures.errors.0 c.new.ensures.errors.1 errors raised
+          (λ _ same. raised ∙ same ∙ sym c.new.ensures.errors.1)
           c.in-Err.ensures.refused other,
     )

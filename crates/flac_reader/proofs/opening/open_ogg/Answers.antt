@@ -1,5 +1,4 @@
-use Rattle.std.proofs.Common.{◌∙◌}
-use Rattle.std.proofs.lemmas.Result.{IfOk-weaker}
+use Rattle.std.proofs.Common.{◌≡◌, sym, ◌∙◌}
 use Rattle.flac_bits.specs.Bits.{bits_of}
 use Rattle.flac_bits.specs.State.{short_of}
 use Rattle.flac_native.specs.Decoding.{beginning}
@@ -7,16 +6,33 @@ use Rattle.flac_native.specs.Giving.{stage_of}
 use Rattle.flac_ogg.specs.Stream.{start}
 use Rattle.flac_ogg.specs.Decoding.{ogg_reading}
 use Rattle.flac_reader.proofs.Openings.{opens_over, either_end}
+use Rattle.flac_reader.proofs.Refusals.{refuses_input}
 use Rattle.flac_reader.proofs.opening.open_ogg.Goals as goal
 
-pub returns-in-Ok : goal.returns-in-Ok
-returns-in-Ok g c =
+pub returns-in-Ok-begin-clause-opens : goal.returns-in-Ok-begin-clause-opens
+returns-in-Ok-begin-clause-opens g c = λ known.
     let R = g.R.Source in
     let source = c.args.source in
     let d = c.in-Ok.decoder in
     let r = ogg_reading (beginning (short_of ((R.behind source).fails))) (bits_of (R.coming source)) in
-    record {
-      opens = IfOk-weaker c.over.result _ _ (λ reader head known.
-          opens_over r c.args.keep reader (stage_of d) start c.in-Ok.ensures.course c.in-Ok.ensures.track
-          (either_end _ r c.in-Ok.ensures.stream c.in-Ok.ensures.refused) (c.in-Ok.ensures.known ∙ known) head) c.over.ensures.head;
-    }
+    opens_over r c.args.keep c.in-Ok-begin.reader (stage_of d) start c.in-Ok.ensures.course c.in-Ok.ensures.track
+    (either_end _ r c.in-Ok.ensures.stream c.in-Ok.ensures.refused) (c.in-Ok.ensures.known ∙ known) c.in-Ok-begin.ensures.head c.in-Ok-begin.ensures.info
+
+pub returns-in-Err-begin-clause-refused : goal.returns-in-Err-begin-clause-refused
+returns-in-Err-begin-clause-refused g c = λ other.
+    let R = g.R.Source in
+    let source = c.args.source in
+    let d = c.in-Ok.decoder in
+    let left = c.into_source-source.result in
+    let last = c.in-Err-begin.refused.decoder in
+    let errors : last.container.pages.errors ≡ R.errors left = cc in
+    let raised : last.container.pages.raised ≡ R.raised left = cc in
+    let r = ogg_reading (beginning (short_of ((R.behind source).fails))) (bits_of (R.coming source)) in (
+      left,
+      refuses_input r (stage_of d) (stage_of last) start c.in-Err-begin.refused.fault (R.known source) (R.errors source) (R.raised source) (R.errors left) (R.raised left)
+          c.in-Ok.ensures.course c.in-Ok.ensures.track
+          (either_end _ r c.in-Ok.ensures.stream c.in-Ok.ensures.refused)
+          c.in-Ok.ensures.known c.in-Ok.ensures.errors c.in-Ok.ensures.met errors raised
+          (λ same _. errors ∙ same ∙ sym c.in-Ok.ensures.errors)
+          c.in-Err-begin.ensures.refused other,
+    )

@@ -1,6 +1,5 @@
-use Rattle.std.proofs.Common.{None, Some}
+use Rattle.std.proofs.Common.{Some}
 use Rattle.flac_native.specs.Giving.{stage_of}
-use Rattle.flac_native.specs.declared.fault.Place.TheVariants as place
 use Rattle.flac_reader.proofs.Searches.{search_more, search_ends, search_refused, search_ok, search_err, search_no_more}
 use Rattle.flac_reader.proofs.seeking.find_frame.Goals as goal
 

@@ -1,4 +1,4 @@
-use Rattle.std.proofs.Common.{◌≡◌, ◌≤◌, ◌++◌, map, sym, ap, subst, ◌∙◌, arith}
+use Rattle.std.proofs.Common.{◌≤◌, ◌++◌, map, sym, ap, subst, ◌∙◌, arith}
 use Rattle.flac_frame.specs.Audio.{samples_each}
 use Rattle.flac_native.specs.Pushing.{Pushed, behind_block, spent_with}
 use Rattle.flac_native.proofs.Pushing.{never_write, not_refused, pushes, begins_push}

@@ -14,4 +14,5 @@ returns g c =
       samples = (refl, search (rules, c.frame_len.ensures, c.saturating_add-self.ensures));
       blocks = refl;
       info = refl;
+      start = refl;
     }

@@ -1,0 +1,210 @@
+-- Frames that are written and sent one after another.
+use Rattle.std.proofs.Common.{◌≡◌, ◌∙◌, refl, sym, ap, subst, ℕ, zero, suc, ◌+◌, ◌-◌, ◌*◌, ◌/◌, ◌^◌, ◌<◌, ◌≤◌, arith, Bool, true, false, List, [], ◌∷◌, ◌++◌, append_assoc, length, length-append, drop, take, get_or, Result, Ok, Err, OnOk, IfErr}
+use Rattle.std.proofs.lemmas.Bool.{cases_lt}
+use Rattle.std.proofs.lemmas.List.{append-nil, length-drop, get_or-drop}
+use Rattle.flac_bits.specs.Bits.{bits_of}
+use Rattle.flac_bits.specs.Forms.{joined}
+use Rattle.flac_bits.specs.Sending.{Sends}
+use Rattle.flac_bits.specs.Written.{Written, Adds, Fails, Writes, begins}
+use Rattle.flac_bits.specs.declared.why.Why.{Why}
+use Rattle.flac_bits.specs.declared.target.Target as target
+use Rattle.flac_bits.proofs.Counting.{rises_then}
+use Rattle.flac_bits.proofs.Holding.{bits_of-append}
+use Rattle.flac_header.specs.Spelling.{restarted}
+use Rattle.flac_meta.proofs.Tied.{joined_append}
+use Rattle.flac_frame.specs.Audio.{Sound, samples_each}
+use Rattle.flac_frame.specs.Encoding.{block_of, IsEncoding, IsLeastFrame, IsShort}
+use Rattle.flac_frame.specs.Frame.{Frame}
+use Rattle.flac_frame.specs.Spelling.{FrameForm, frame_spelling}
+use Rattle.flac_native.specs.Given.{Cut, blocks_in, size_of, frame_of}
+use Rattle.flac_native.specs.Seeking.{points_from, points_of, point_at}
+use Rattle.flac_native.specs.Writing.{SpellsFrame, SpellsLeast, AreFrames, AreLeastFrames, AreSizes, IsSpelled, SendsBits}
+use Rattle.flac_native.proofs.Gathered.{nth, snoc, length-snoc, each_more}
+
+-- ---- least frames of a block are as long
+
+pub as_long : (a : Sound) (f : Frame) (t u : List Bool) → SpellsLeast a f t → SpellsLeast a f u → length t ≡ length u
+as_long a f t u x y =
+    let p : length (frame_spelling a.bits x.form) ≤ length (frame_spelling a.bits y.form) = x.least.least.least y.form y.least.least.member in
+    let q : length (frame_spelling a.bits y.form) ≤ length (frame_spelling a.bits x.form) = y.least.least.least x.form x.least.least.member in
+    omega (arith, p, q, ap (λ (k : List Bool). length k) x.spelling, ap (λ (k : List Bool). length k) y.spelling)
+
+-- what is written of a block is the frame of its number
+pub spelled_of : (p : Cut) (a : Sound) (number start n : ℕ) (f : FrameForm) → start ≡ p.block_size * number → n ≡ size_of p.block_size (samples_each a.channels) number → IsEncoding a n number (block_of start n a.channels) f
+    → IsLeastFrame a n number (block_of start n a.channels) f → IsShort a.bits f → IsSpelled p a number (frame_spelling a.bits f)
+spelled_of p a number start n f start_is n_is encoding least short =
+    let size = size_of p.block_size (samples_each a.channels) number in
+    let e : IsEncoding a size number (block_of (p.block_size * number) size a.channels) f = subst (λ k. IsEncoding a k number (block_of (p.block_size * number) k a.channels) f) n_is (subst (λ k. IsEncoding a n number (block_of k n a.channels) f) start_is encoding) in
+    let l : IsLeastFrame a size number (block_of (p.block_size * number) size a.channels) f = subst (λ k. IsLeastFrame a k number (block_of (p.block_size * number) k a.channels) f) n_is (subst (λ k. IsLeastFrame a n number (block_of k n a.channels) f) start_is least) in
+    record { frame = record { form = f; encoding = e; spelling = refl; short = short }; least = record { form = f; least = l; spelling = refl } }
+
+-- ---- a beginning is no longer
+
+pub begins_long : (front whole : List Bool) → begins front whole ≡ true → length front ≤ length whole
+unfolding begins
+begins_long [] whole e = omega arith
+begins_long (b ∷ front) [] e = absurd cc
+begins_long (true ∷ front) (true ∷ whole) e = let h = begins_long front whole e in omega (arith, h)
+begins_long (true ∷ front) (false ∷ whole) e = absurd cc
+begins_long (false ∷ front) (false ∷ whole) e = let h = begins_long front whole e in omega (arith, h)
+begins_long (false ∷ front) (true ∷ whole) e = absurd cc
+
+-- ---- one sending after another, by bits
+
+abbrev pub came_out : Result (Unit {0}) Why
+came_out = Ok tt
+
+module _ {S : Type 0} (g : target.Ghosts S) where
+  pub sends_bits : {X E : Type 0} (bytes : List ℕ) (old new : S) (r : Result X E) → Sends g bytes old new r → SendsBits g (bits_of bytes) old new r
+  sends_bits bytes old new (Ok x) s = record {
+    known = s.known;
+    sent = λ k. ap bits_of (s.sent k) ∙ bits_of-append (g.sent old) bytes;
+    begun = tt;
+    names = s.names;
+    counted = s.counted;
+    kept = s.kept;
+    rises = tt;
+    risen = tt;
+  }
+  sends_bits bytes old new (Err e) s = record {
+    known = tt;
+    sent = tt;
+    begun = λ k. let h = s.begun k in (bits_of h.0, bits_of h.1, ap bits_of h.2 ∙ bits_of-append h.0 h.1, ap bits_of h.3 ∙ bits_of-append (g.sent old) h.0);
+    names = s.names;
+    counted = tt;
+    kept = s.kept;
+    rises = s.rises;
+    risen = s.risen;
+  }
+
+  pub bits_none : (w : S) → SendsBits g [] w w came_out
+  bits_none w = record { known = λ k. k; sent = λ _. sym (append-nil (bits_of (g.sent w))); begun = tt; names = refl; counted = refl; kept = omega arith; rises = tt; risen = tt }
+
+  -- a sending that came out, and what came of the next
+  pub bits_then : {X Y E F : Type 0} {a b : List Bool} {old mid new : S} {x : X} (r : Result Y F) → SendsBits {E = E} g a old mid (Ok x) → SendsBits g b mid new r → SendsBits g (a ++ b) old new r
+  bits_then {a = a} {b = b} {old = old} (Ok y) p q = record {
+    known = λ k. q.known (p.known k);
+    sent = λ k. q.sent (p.known k) ∙ ap (λ l. l ++ b) (p.sent k) ∙ append_assoc (bits_of (g.sent old)) a b;
+    begun = tt;
+    names = q.names ∙ p.names;
+    counted = q.counted ∙ p.counted;
+    kept = omega (arith, p.kept, q.kept);
+    rises = tt;
+    risen = tt;
+  }
+  bits_then {a = a} {b = b} {old = old} {mid = mid} {new = new} (Err e) p q = record {
+    known = tt;
+    sent = tt;
+    begun = λ k.
+        let h = q.begun (p.known k) in
+        (a ++ h.0, h.1, ap (λ l. a ++ l) h.2 ∙ sym (append_assoc a h.0 h.1), h.3 ∙ ap (λ l. l ++ h.0) (p.sent k) ∙ append_assoc (bits_of (g.sent old)) a h.0);
+    names = q.names ∙ p.names;
+    counted = tt;
+    kept = omega (arith, p.kept, q.kept);
+    rises = λ k. omega (arith, q.rises (p.known k), p.counted);
+    risen = rises_then (g.errors old) (g.errors mid) (g.errors new) p.counted q.risen;
+  }
+
+  -- a sending that failed, of more
+  pub bits_fault : {X Y E F : Type 0} {a : List Bool} (b : List Bool) {old new : S} {e : E} {f : F} → SendsBits {X = X} g a old new (Err e) → SendsBits {X = Y} g (a ++ b) old new (Err f)
+  bits_fault b p = record {
+    known = tt;
+    sent = tt;
+    begun = λ k. let h = p.begun k in (h.0, h.1 ++ b, ap (λ l. l ++ b) h.2 ∙ append_assoc h.0 h.1 b, h.3);
+    names = p.names;
+    counted = tt;
+    kept = p.kept;
+    rises = p.rises;
+    risen = p.risen;
+  }
+
+-- ---- what holds of each
+
+pub each_append : (P : ℕ → List Bool → Type 0) (xs ys : List (List Bool)) → ((i : ℕ) → i < length xs → P i (nth xs i)) → ((j : ℕ) → j < length ys → P (length xs + j) (nth ys j)) → (i : ℕ) → i < length (xs ++ ys) → P i (nth (xs ++ ys) i)
+each_append P [] ys left right i lt = let e : zero + i ≡ i = omega arith in subst (λ k. P k (nth ys i)) e (right i lt)
+each_append P (x ∷ xs) ys left right zero lt = left zero (omega arith)
+each_append P (x ∷ xs) ys left right (suc i) lt =
+    each_append (λ k. P (suc k)) xs ys (λ j h. left (suc j) (omega (arith, h))) (λ j h. let e : suc (length xs) + j ≡ suc (length xs + j) = omega arith in subst (λ k. P k (nth ys j)) e (right j h)) i (omega (arith, lt))
+
+pub each_drop : (P : ℕ → List Bool → Type 0) (n : ℕ) (xs : List (List Bool)) → ((i : ℕ) → i < length xs → P i (nth xs i)) → (j : ℕ) → j < length (drop n xs) → P (n + j) (nth (drop n xs) j)
+each_drop P n xs all j lt = subst (P (n + j)) (sym (get_or-drop n xs j [])) (all (n + j) (let h = length-drop n xs in omega (arith, h, lt)))
+
+-- ---- frames so far
+
+-- so many frames were sent
+pub record SentFrames {S : Type 0} (g : target.Ghosts S) (p : Cut) (a : Sound) (number : ℕ) (old new : S) : Type 0 where
+  pub frames : List (List Bool)
+  pub many : length frames ≡ number
+  pub each : (i : ℕ) → i < length frames → SpellsFrame a (frame_of p.block_size a i) (nth frames i)
+  pub each_least : (i : ℕ) → i < length frames → SpellsLeast a (frame_of p.block_size a i) (nth frames i)
+  pub sends : SendsBits g (joined frames) old new came_out
+
+module _ {S : Type 0} (g : target.Ghosts S) (p : Cut) (a : Sound) where
+  pub frames_none : (w : S) → SentFrames g p a 0 w w
+  frames_none w = record { frames = []; many = refl; each = λ i h. absurd (omega arith); each_least = λ i h. absurd (omega arith); sends = bits_none g w }
+
+  one_more : (frames : List (List Bool)) (t : List Bool) → joined frames ++ t ≡ joined (snoc frames t)
+  one_more frames t = ap (λ k. joined frames ++ k) (sym (append-nil t)) ∙ joined_append frames (t ∷ [])
+
+  pub frames_more : (number : ℕ) (old mid new : S) (t : List Bool) → SentFrames g p a number old mid → IsSpelled p a number t → SendsBits g t mid new came_out → SentFrames g p a (number + 1) old new
+  frames_more number old mid new t s is sends = record {
+    frames = snoc s.frames t;
+    many = omega (arith, length-snoc s.frames t, s.many);
+    each = each_more (λ i k. SpellsFrame a (frame_of p.block_size a i) k) s.frames t s.each (subst (λ n. SpellsFrame a (frame_of p.block_size a n) t) (sym s.many) is.frame);
+    each_least = each_more (λ i k. SpellsLeast a (frame_of p.block_size a i) k) s.frames t s.each_least (subst (λ n. SpellsLeast a (frame_of p.block_size a n) t) (sym s.many) is.least);
+    sends = subst (λ k. SendsBits g k old new came_out) (one_more s.frames t) (bits_then g came_out s.sends sends);
+  }
+
+  -- the frames that were sent, the one that was not sent whole, and those behind it
+  pub frames_fail : (number : ℕ) (old mid new : S) (t : List Bool) (e f : Why) (others : List (List Bool)) → number < length others → AreFrames p a others → AreLeastFrames p a others → SentFrames g p a number old mid → IsSpelled p a number t
+      → SendsBits {X = Unit {0}} g t mid new (Err e)
+      → (frames : List (List Bool)) × AreFrames p a frames × AreLeastFrames p a frames × SendsBits {X = Unit {0}} g (joined frames) old new (Err f)
+  frames_fail number old mid new t e f others lt are least s is sends =
+      let front = snoc s.frames t in
+      let rest = drop (number + 1) others in
+      let long : length front ≡ number + 1 = omega (arith, length-snoc s.frames t, s.many) in
+      let each_front = each_more (λ i k. SpellsFrame a (frame_of p.block_size a i) k) s.frames t s.each (subst (λ n. SpellsFrame a (frame_of p.block_size a n) t) (sym s.many) is.frame) in
+      let least_front = each_more (λ i k. SpellsLeast a (frame_of p.block_size a i) k) s.frames t s.each_least (subst (λ n. SpellsLeast a (frame_of p.block_size a n) t) (sym s.many) is.least) in
+      let each_rest = each_drop (λ i k. SpellsFrame a (frame_of p.block_size a i) k) (number + 1) others are.each in
+      let least_rest = each_drop (λ i k. SpellsLeast a (frame_of p.block_size a i) k) (number + 1) others least in
+      let failed : SendsBits {X = Unit {0}} g ((joined s.frames ++ t) ++ joined rest) old new (Err f) = bits_fault g (joined rest) (bits_then g (Err e) s.sends sends) in (
+        front ++ rest,
+        record {
+          many = omega (arith, length-append front rest, length-drop (number + 1) others, long, lt, are.many);
+          each = each_append (λ i k. SpellsFrame a (frame_of p.block_size a i) k) front rest each_front (λ j h. subst (λ n. SpellsFrame a (frame_of p.block_size a (n + j)) (nth rest j)) (sym long) (each_rest j h));
+        },
+        each_append (λ i k. SpellsLeast a (frame_of p.block_size a i) k) front rest least_front (λ j h. subst (λ n. SpellsLeast a (frame_of p.block_size a (n + j)) (nth rest j)) (sym long) (least_rest j h)),
+        subst (λ k. SendsBits {X = Unit {0}} g k old new (Err f)) (ap (λ k. k ++ joined rest) (one_more s.frames t) ∙ joined_append front rest) failed,
+      )
+
+  pub frames_all : (number : ℕ) (old new : S) → SentFrames g p a number old new → number ≡ blocks_in p.block_size (samples_each a.channels) → (frames : List (List Bool)) × AreFrames p a frames × AreLeastFrames p a frames × SendsBits g (joined frames) old new came_out
+  frames_all number old new s all = (s.frames, record { many = s.many ∙ all; each = s.each }, s.each_least, s.sends)
+
+-- ---- the same sizes and points
+
+-- two lists of texts, each as long as that of the other
+abbrev AsLong : List (List Bool) → List (List Bool) → Type 0
+AsLong ts us = (length ts ≡ length us) × ((i : ℕ) → i < length ts → length (nth ts i) ≡ length (nth us i))
+
+same_points : (p : Cut) (number offset : ℕ) (ts us : List (List Bool)) → AsLong ts us → points_from p number offset ts ≡ points_from p number offset us
+same_points p number offset [] [] h = refl
+same_points p number offset [] (u ∷ us) h = absurd (omega (arith, h.0))
+same_points p number offset (t ∷ ts) [] h = absurd (omega (arith, h.0))
+same_points p number offset (t ∷ ts) (u ∷ us) h =
+    let first : length t ≡ length u = h.1 zero (omega arith) in
+    let rest = same_points p (number + 1) (offset + length u / 8) ts us (omega (arith, h.0), λ i lt. h.1 (suc i) (omega (arith, lt))) in
+    ap (λ n. point_at p number offset ++ points_from p (number + 1) (offset + n / 8) ts) first ∙ ap (λ l. point_at p number offset ++ l) rest
+
+same_sizes : (ts us : List (List Bool)) (least greatest : ℕ) → AsLong ts us → AreSizes us least greatest → AreSizes ts least greatest
+same_sizes ts us least greatest h s = record {
+  none = λ e. s.none (sym h.0 ∙ e);
+  least_is = λ some. let k = s.least_is (omega (arith, some, h.0)) in (k.0, omega (arith, k.1, h.0), h.1 k.0 (omega (arith, k.1, h.0)) ∙ k.2);
+  greatest_is = λ some. let k = s.greatest_is (omega (arith, some, h.0)) in (k.0, omega (arith, k.1, h.0), h.1 k.0 (omega (arith, k.1, h.0)) ∙ k.2);
+  within = λ i lt. let k = s.within i (omega (arith, lt, h.0)) in let e = h.1 i lt in (omega (arith, k.0, e), omega (arith, k.1, e));
+}
+
+-- the frames that are sent have the sizes and the points of those that were counted
+pub alike : (p : Cut) (a : Sound) (ts us : List (List Bool)) (least greatest : ℕ) → AreFrames p a ts → AreLeastFrames p a ts → AreFrames p a us → AreLeastFrames p a us → AreSizes us least greatest → AreSizes ts least greatest × (points_of p ts ≡ points_of p us)
+alike p a ts us least greatest are least_ts others least_us sizes =
+    let long : AsLong ts us = (are.many ∙ sym others.many, λ i lt. as_long a (frame_of p.block_size a i) (nth ts i) (nth us i) (least_ts i lt) (least_us i (omega (arith, lt, are.many, others.many)))) in
+    (same_sizes ts us least greatest long sizes, same_points p 0 0 ts us long)

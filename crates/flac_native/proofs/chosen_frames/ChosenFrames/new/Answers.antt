@@ -1,0 +1,137 @@
+use Rattle.std.proofs.Common.{◌≡◌, ◌≤◌, ◌<◌, ◌-◌, ◌*◌, ◌+◌, ◌^◌, min, max, sym, ap, subst, ◌∙◌, ◌++◌, arith, ℕ, ℤ, List, length, None, refl}
+use Rattle.std.proofs.Math.Nat.{mul-suc}
+use Rattle.std.proofs.lemmas.Bool.Decides.{nat_tests}
+use Rattle.std.proofs.lemmas.List.{length-map}
+use Rattle.flac_meta.specs.Listed.{block_fault}
+use Rattle.flac_meta.specs.declared.seek_table.SeekPoint.{SeekPoint}
+use Rattle.flac_meta.specs.declared.block.Block.TheVariants as block_of
+use Rattle.flac_frame.specs.Audio.{Sound, samples_each}
+use Rattle.flac_native.specs.Given.{Cut, blocks_in}
+use Rattle.flac_native.specs.Seeking.{point_at}
+use Rattle.flac_native.specs.Writing.{AreChoices, AreCounted}
+use Rattle.flac_native.proofs.Planned.{Planned, planned, fit, block_small}
+use Rattle.flac_native.proofs.Tables.{table_good}
+use Rattle.flac_native.proofs.Gathered.{Gathered, least_with, gathered_none, gathered_more, choice_of, no_choices, choices_more, still_some, all_gathered, all_counted}
+use Rattle.flac_native.proofs.chosen_frames.ChosenFrames.new.Goals as goal
+
+ordered : (n least greatest bytes : ℕ) {l m : ℕ} → least ≤ greatest → l ≡ least_with n least bytes → m ≡ max greatest bytes → l ≤ m
+ordered n least greatest bytes h e f = grind (arith, nat_tests)
+
+pub loop-start-init : goal.loop-start-init
+loop-start-init c = record {
+  gathered = subst (λ l. Gathered c.args.plan.now c.args.audio.now 0 0 0 0 l) (sym c.new-points.ensures.items) (gathered_none c.args.plan.now c.args.audio.now);
+  choices = subst (AreChoices c.args.plan.now c.args.audio.now) (sym c.new-choices.ensures.items) (no_choices c.args.plan.now c.args.audio.now);
+  kept = omega (arith, ap length c.new-choices.ensures.items);
+  places = c.in_ok-choice.ensures.places;
+  buffers = c.requires.room;
+  start = omega arith;
+  few = omega arith;
+  greatest = omega arith;
+  least = omega arith;
+}
+
+pub choose_frame-requires-clause-some : goal.choose_frame-requires-clause-some
+choose_frame-requires-clause-some c =
+    let q = planned c.args.plan.now c.block_size-size.ensures.good in
+    omega (arith, c.min.ensures, c.loop-start-test.true, c.block_size-size.ensures.value, q.least)
+
+pub choose_frame-requires-clause-number : goal.choose_frame-requires-clause-number
+choose_frame-requires-clause-number c =
+    let p = c.args.plan.now in
+    let total = samples_each c.args.audio.now.channels in
+    let q = planned p c.block_size-size.ensures.good in
+    let more : p.block_size * c.loop-start.number < total = omega (arith, c.loop-start.invariant.start, c.loop-start-test.true, c.len-total.ensures) in
+    let f = fit p c.args.audio.now c.requires.fits in
+    let blocks : blocks_in p.block_size total ≤ 2 ^ 31 = subst (λ t. blocks_in p.block_size t ≤ 2 ^ 31) f.total q.blocks in
+    omega (arith, still_some p.block_size total c.loop-start.number q.least more, blocks)
+
+pub choose_frame-requires-clause-places : goal.choose_frame-requires-clause-places
+choose_frame-requires-clause-places c =
+    let many : length c.channels-channels.result.now ≡ length c.args.audio.now.channels = sym (length-map c.channels-channels.result.now (λ v. v.items)) ∙ ap length c.channels-channels.ensures.items in
+    omega (arith, c.loop-start.invariant.places, many)
+
+pub frame_bytes-requires-clause-few : goal.frame_bytes-requires-clause-few
+frame_bytes-requires-clause-few c =
+    let p = c.args.plan.now in
+    omega (arith, c.min.ensures, c.block_size-size.ensures.value, block_small p (planned p c.block_size-size.ensures.good))
+
+pub frame_bytes-requires-clause-chosen : goal.frame_bytes-requires-clause-chosen
+frame_bytes-requires-clause-chosen c = (_, c.choose_frame.ensures.chosen)
+
+pub overflow_add-offset : goal.overflow_add-offset
+overflow_add-offset c =
+    let is = c.choose_frame.ensures.chosen in
+    let p = c.args.plan.now in
+    let total = samples_each c.args.audio.now.channels in
+    let q = planned p c.block_size-size.ensures.good in
+    let more : p.block_size * c.loop-start.number < total = omega (arith, c.loop-start.invariant.start, c.loop-start-test.true, c.len-total.ensures) in
+    let f = fit p c.args.audio.now c.requires.fits in
+    let blocks : blocks_in p.block_size total ≤ 2 ^ 31 = subst (λ t. blocks_in p.block_size t ≤ 2 ^ 31) f.total q.blocks in
+    omega (arith, c.in_ok-bytes.ensures.bytes _ is, is.short, c.loop-start.invariant.gathered.count, still_some p.block_size total c.loop-start.number q.least more, blocks)
+
+pub loop-start-preserved : goal.loop-start-preserved
+loop-start-preserved c =
+    let p = c.args.plan.now in
+    let a = c.args.audio.now in
+    let b = p.block_size in
+    let n = c.loop-start.number in
+    let total = samples_each a.channels in
+    let inv = c.loop-start.invariant in
+    let q = planned p c.block_size-size.ensures.good in
+    let size_is = c.block_size-size.ensures.value in
+    let total_is = c.len-total.ensures in
+    let test = c.loop-start-test.true in
+    let step = c.min.ensures in
+    let more : b * n < total = omega (arith, inv.start, test, total_is) in
+    let few : n < blocks_in b total = still_some b total n q.least more in
+    let up : b * (n + 1) ≡ b * n + b = omega (arith, mul-suc b n) in
+    let at : c.loop-start.start ≡ b * n = omega (arith, inv.start, more) in
+    let part : c.loop-start.start + c.min.result - c.loop-start.start ≡ min b (total - b * n) = omega (arith, step, at, size_is, total_is) in
+    let is = c.choose_frame.ensures.chosen in
+    let choice = c.choose_frame.new.choice in
+    let bytes : ℕ = c.in_ok-bytes.bytes in
+    let now = c.note_point.new.points.items in
+    let g = gathered_more p a n c.loop-start.offset c.loop-start.least c.loop-start.greatest bytes c.loop-start.start _ choice c.loop-start.points.items now inv.gathered c.in_ok-note_point.ensures.noted at part is (c.in_ok-bytes.ensures.bytes _ is) in
+    let many : length c.channels-channels.result.now ≡ length a.channels = sym (length-map c.channels-channels.result.now (λ v. v.items)) ∙ ap length c.channels-channels.ensures.items in
+    let kept = choices_more p a c.loop-start.choices.items c.keep.new.choices.items choice n _ inv.choices inv.kept (record { chosen = choice_of p a n c.loop-start.start _ choice at part is; places = omega (arith, c.choose_frame.ensures.places, inv.places, many) }) c.in_ok-choice-2.ensures.kept in
+    let max_is : c.greatest_with-greatest.result ≡ max c.loop-start.greatest bytes = c.greatest_with-greatest.ensures in
+    let least_is : c.least_with-least.result ≡ least_with n c.loop-start.least bytes = c.least_with-least.ensures in
+    let made = subst (λ l. Gathered p a (n + 1) (c.loop-start.offset + bytes) l c.greatest_with-greatest.result now) (sym least_is) (subst (λ m. Gathered p a (n + 1) (c.loop-start.offset + bytes) (least_with n c.loop-start.least bytes) m now) (sym max_is) g.0) in
+    record {
+      gathered = made;
+      choices = kept.0;
+      kept = kept.1;
+      places = c.in_ok-choice-2.ensures.places;
+      buffers = c.choose_frame.ensures.kept ∙ inv.buffers;
+      start = omega (arith, at, step, up, more, size_is, total_is);
+      few = omega (arith, few);
+      greatest = omega (arith, max_is, inv.greatest, g.1);
+      least = ordered n c.loop-start.least c.loop-start.greatest bytes inv.least least_is max_is;
+    }
+
+pub loop-start-smaller : goal.loop-start-smaller
+loop-start-smaller c =
+    let q = planned c.args.plan.now c.block_size-size.ensures.good in
+    omega (arith, c.min.ensures, c.loop-start-test.true, c.block_size-size.ensures.value, q.least)
+
+all_frames : (p : Cut) (a : Sound) (number offset least greatest start : ℕ) (points : List SeekPoint) → Planned p → Gathered p a number offset least greatest points → number ≤ blocks_in p.block_size (samples_each a.channels)
+    → start ≡ min (samples_each a.channels) (p.block_size * number) → samples_each a.channels ≤ start → AreCounted p a least greatest points
+all_frames p a number offset least greatest start points q g few at over =
+    all_counted p a number offset least greatest points g (all_gathered p.block_size (samples_each a.channels) number q.least few (omega (arith, at, over)))
+
+pub returns-clause-counted : goal.returns-clause-counted
+returns-clause-counted c =
+    let inv = c.loop-start.invariant in
+    let q = planned c.args.plan.now c.block_size-size.ensures.good in
+    all_frames c.args.plan.now c.args.audio.now c.loop-start.number c.loop-start.offset c.loop-start.least c.loop-start.greatest c.loop-start.start c.loop-start.points.items q inv.gathered inv.few inv.start
+    (omega (arith, c.loop-start-test.false, c.len-total.ensures))
+
+pub returns-clause-table : goal.returns-clause-table
+returns-clause-table c =
+    let p = c.args.plan.now in
+    let inv = c.loop-start.invariant in
+    let q = planned p c.block_size-size.ensures.good in
+    let e = all_frames p c.args.audio.now c.loop-start.number c.loop-start.offset c.loop-start.least c.loop-start.greatest c.loop-start.start c.loop-start.points.items q inv.gathered inv.few inv.start
+    (omega (arith, c.loop-start-test.false, c.len-total.ensures)) in
+    let t = table_good p c.args.audio.now e.frames q (fit p c.args.audio.now c.requires.fits) e.are in
+    subst (λ l. block_fault (block_of.SeekTable l) ≡ None) (sym e.pointed) t.0

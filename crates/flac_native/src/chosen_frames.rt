@@ -1,0 +1,179 @@
+//! The frames of samples, chosen before any of them is written.
+
+ghost use Rattle.std.specs.Prelude.{◌≡◌, [], ◌∷◌, ◌++◌, ◌≤◌, ◌<◌, ◌^◌, length, min, max, cond, nat_eq, nat_lt, true, IfOk, IfErr, OnOk, None};
+ghost use Rattle.flac_meta.specs.Listed.{block_fault};
+ghost use Rattle.flac_meta.specs.declared.block.Block.TheVariants as block_of;
+ghost use Rattle.flac_bits.specs.Bits.{bits_of};
+ghost use Rattle.flac_frame.specs.Audio.{samples_each};
+ghost use Rattle.flac_native.specs.Given.{fits_plan, blocks_in};
+ghost use Rattle.flac_native.specs.Writing.{AreCounted, AreChoices, HasRoom, IsSpelled};
+
+use crate::frames::spell_next;
+use crate::plan::Plan;
+use crate::room::Room;
+use flac_bits::Why;
+use flac_frame::{Audio, EncodeBuffers, FrameChoice, choose_frame};
+use flac_meta::SeekPoint;
+use std::alloc::Global;
+
+/// How many samples of each channel there are for each choice that is kept: a choice takes some 560 bytes a channel.
+const KEPT: usize = 1000;
+
+/// The frames that a plan cuts samples into, chosen before any of them is written (RFC 9639, section 9). It knows how long each is, and how the first ones are written:
+/// of as many as there are thousands of samples, and of one more, since that takes a seventh of the memory of the samples at most. So these are all frames of 1000
+/// samples or more. The others are chosen again when they are written; each choice is a least frame of its block, and these are equally long.
+///
+/// ```
+/// let mut buffers = EncodeBuffers::new(alloc, plan.block_size())?;
+/// let frames = ChosenFrames::new(alloc, &plan, &audio, &mut buffers)?;
+/// let mut room = frames.room(alloc)?;
+/// room = frames.write(&plan, &audio, 0, &mut buffers, room);
+/// file.write_all(room.bytes())?;
+/// ```
+#[derive(Drop)]
+pub struct ChosenFrames {
+    pub(crate) least: u32,
+    pub(crate) greatest: u32,
+    pub(crate) points: Vec<SeekPoint>,
+    pub(crate) choices: Vec<FrameChoice>,
+}
+
+/// The least size with one more, which is that of the first where there was none.
+fn least_with(count: u64, least: u64, bytes: u64) -> u64
+    ensures { result ≡ cond (nat_eq count 0) bytes (min least bytes) }
+{
+    if count == 0 { bytes } else { least.min(bytes) }
+}
+
+/// The greatest size with one more.
+fn greatest_with(greatest: u64, bytes: u64) -> u64
+    ensures { result ≡ max greatest bytes }
+{
+    if greatest < bytes { bytes } else { greatest }
+}
+
+/// Keeps how a frame is written, where fewer than so many are kept, and gives places for the next.
+fn keep(
+    alloc: Global,
+    channels: usize,
+    choices: &mut Vec<FrameChoice>,
+    choice: FrameChoice,
+    most: usize,
+) -> Result<FrameChoice, Why>
+    requires { length choice.subframes.items ≡ channels }
+    ensures kept { OnOk result (choices.new.items ≡ cond (nat_lt (length choices.old.items) most) (choices.old.items ++ choice ∷ []) choices.old.items) }
+    ensures places { IfOk result (λ next. length next.subframes.items ≡ channels) }
+    ensures memory { IfErr result (λ e. e ≡ Why.Memory) }
+{
+    if choices.len() < most {
+        let next = FrameChoice::new(alloc, channels)?;
+        choices.push(choice)?;
+        return Ok(next);
+    }
+    Ok(choice)
+}
+
+impl ChosenFrames {
+    /// Chooses how each frame is written, and counts its bytes. The plan fits the samples, and the buffers are made for its block size.
+    ///
+    /// # Errors
+    /// [`Why::Memory`] alone, if an allocation fails.
+    pub fn new(
+        alloc: Global,
+        plan: &Plan,
+        audio: &Audio,
+        buffers: &mut EncodeBuffers,
+    ) -> Result<ChosenFrames, Why>
+        requires fits { fits_plan plan.now audio.now ≡ true }
+        requires room { buffers.old ≡ plan.now.block_size }
+        ensures kept { buffers.new ≡ buffers.old }
+        ensures counted { IfOk result (λ f. AreCounted plan.now audio.now f.least f.greatest f.points.items) }
+        ensures choices { IfOk result (λ f. AreChoices plan.now audio.now f.choices.items) }
+        ensures table { IfOk result (λ f. block_fault (block_of.SeekTable f.points.items) ≡ None) }
+        ensures sizes { IfOk result (λ f. (f.least ≤ f.greatest) × (f.greatest < 2 ^ 24)) }
+        ensures memory { IfErr result (λ e. e ≡ Why.Memory) }
+    {
+        let size = plan.block_size() as usize;
+        let total = audio.len();
+        let channels = audio.channels().len();
+        let most = total / KEPT + 1;
+        let mut choices = Vec::new(alloc);
+        let mut choice = FrameChoice::new(alloc, channels)?;
+        let mut points = Vec::new(alloc);
+        let mut least = 0;
+        let mut greatest = 0;
+        let mut offset = 0;
+        let mut number = 0;
+        let mut start = 0;
+        while start < total {
+            let end = start + size.min(total - start);
+            plan.note_point(number, offset, &mut points)?;
+            choose_frame(audio, start..end, number, buffers, &mut choice);
+            let bytes = choice.frame_bytes(alloc, audio, end - start, number)?;
+            choice = keep(alloc, channels, &mut choices, choice, most)?;
+            least = least_with(number, least, bytes);
+            greatest = greatest_with(greatest, bytes);
+            offset += bytes;
+            number += 1;
+            start = end;
+        }
+        Ok(ChosenFrames {
+            least: least as u32,
+            greatest: greatest as u32,
+            points,
+            choices,
+        })
+    }
+
+    /// The number of bytes of the shortest frame, 0 where there is none.
+    pub fn least(&self) -> u32
+        ensures { result ≡ self.now.least }
+    {
+        self.least
+    }
+
+    /// The number of bytes of the longest frame, 0 where there is none.
+    pub fn greatest(&self) -> u32
+        ensures { result ≡ self.now.greatest }
+    {
+        self.greatest
+    }
+
+    /// Makes a place for the longest frame.
+    ///
+    /// # Errors
+    /// [`Why::Memory`] alone, if an allocation fails.
+    pub fn room(&self, alloc: Global) -> Result<Room, Why>
+        ensures places { IfOk result (λ room. room.places ≡ self.now.greatest) }
+        ensures memory { IfErr result (λ e. e ≡ Why.Memory) }
+    {
+        Room::new(alloc, self.greatest as usize)
+    }
+
+    /// Writes the frame of a number, counted from 0, into a place for the longest frame, in place of what is in it. The plan, the samples and the block size of the
+    /// buffers are those of the choice.
+    pub fn write(
+        &self,
+        plan: &Plan,
+        audio: &Audio,
+        number: u64,
+        buffers: &mut EncodeBuffers,
+        room: Room,
+    ) -> Room
+        requires fits { fits_plan plan.now audio.now ≡ true }
+        requires choices { AreChoices plan.now audio.now self.now.choices.items }
+        requires buffers { buffers.old ≡ plan.now.block_size }
+        requires few { number < blocks_in plan.now.block_size (samples_each audio.now.channels) }
+        requires room { HasRoom plan.now audio.now room.places }
+        ensures kept { buffers.new ≡ buffers.old }
+        ensures places { result.places ≡ room.places }
+        ensures frame { IsSpelled plan.now audio.now number (bits_of result.bytes.items) }
+    {
+        let size = plan.block_size() as usize;
+        let total = audio.len();
+        let choices = self.choices.as_slice();
+        let start = number as usize * size;
+        let end = start + size.min(total - start);
+        spell_next(plan, audio, start..end, number, choices, buffers, room)
+    }
+}

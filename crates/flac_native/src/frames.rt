@@ -1,0 +1,133 @@
+//! The frames of a stream, written one after another.
+
+ghost use Rattle.std.specs.Prelude.{◌≡◌, ◌≤◌, ◌<◌, ◌+◌, ◌-◌, ◌*◌, ◌^◌, true, length, IfErr};
+ghost use Rattle.flac_bits.specs.Bits.{bits_of};
+ghost use Rattle.flac_frame.specs.Audio.{samples_each};
+ghost use Rattle.flac_frame.specs.Encoding.{block_of, WritesFrame};
+ghost use Rattle.flac_native.specs.Given.{fits_plan, blocks_in, frame_of};
+ghost use Rattle.flac_native.specs.Writing.{AreChoices, HasRoom, IsSpelled, WritesNext, SendsFrames};
+
+use crate::plan::Plan;
+use crate::room::Room;
+use flac_bits::{BitWriter, Target, Why, send_all};
+use flac_frame::{Audio, EncodeBuffers, FrameChoice, encode_frame, write_frame};
+use std::ops::Range;
+
+/// Writes the frame of a number as it was chosen, or as it is chosen now where that was not kept.
+fn write_chosen<W: Target>(
+    plan: &Plan,
+    audio: &Audio,
+    range: Range<usize>,
+    number: u64,
+    choices: &[FrameChoice],
+    buffers: &mut EncodeBuffers,
+    writer: &mut BitWriter<W>,
+) -> Result<(), Why>
+    requires some { range.start < range.end }
+    requires within { range.end ≤ samples_each audio.now.channels }
+    requires start { range.start ≡ plan.now.block_size * number }
+    requires size { range.end - range.start ≡ (frame_of plan.now.block_size audio.now number).size }
+    requires room { range.end - range.start ≤ buffers.old }
+    requires number { number < 2 ^ 31 }
+    requires choices { AreChoices plan.now audio.now choices.now }
+    requires whole { writer.old.mark.unread ≡ 0 }
+    ensures kept { buffers.new ≡ buffers.old }
+    ensures wrote { WritesFrame audio.now (range.end - range.start) number (block_of range.start (range.end - range.start) audio.now.channels) writer.old writer.new result }
+{
+    let _plan = plan.block_size();
+    let at = number as usize;
+    if at < choices.len() {
+        return write_frame(audio, range, number, &choices[at], buffers, writer);
+    }
+    match encode_frame(audio, range, number, buffers, writer) {
+        Ok(_) => Ok(()),
+        Err(why) => Err(why),
+    }
+}
+
+/// Writes the frame of a number, and sends what is held.
+fn write_next<W: Target>(
+    plan: &Plan,
+    audio: &Audio,
+    range: Range<usize>,
+    number: u64,
+    choices: &[FrameChoice],
+    buffers: &mut EncodeBuffers,
+    writer: &mut BitWriter<W>,
+) -> Result<(), Why>
+    requires some { range.start < range.end }
+    requires within { range.end ≤ samples_each audio.now.channels }
+    requires start { range.start ≡ plan.now.block_size * number }
+    requires size { range.end - range.start ≡ (frame_of plan.now.block_size audio.now number).size }
+    requires room { range.end - range.start ≤ buffers.old }
+    requires number { number < 2 ^ 31 }
+    requires choices { AreChoices plan.now audio.now choices.now }
+    requires whole { writer.old.mark.unread ≡ 0 }
+    ensures kept { buffers.new ≡ buffers.old }
+    ensures wrote { WritesNext plan.now audio.now number writer.old writer.new result }
+{
+    write_chosen(plan, audio, range, number, choices, buffers, writer)?;
+    writer.finish()
+}
+
+/// The bytes of the frame of a number, in a place that has room for them.
+pub(crate) fn spell_next(
+    plan: &Plan,
+    audio: &Audio,
+    range: Range<usize>,
+    number: u64,
+    choices: &[FrameChoice],
+    buffers: &mut EncodeBuffers,
+    room: Room,
+) -> Room
+    requires some { range.start < range.end }
+    requires within { range.end ≤ samples_each audio.now.channels }
+    requires start { range.start ≡ plan.now.block_size * number }
+    requires size { range.end - range.start ≡ (frame_of plan.now.block_size audio.now number).size }
+    requires buffers { range.end - range.start ≤ buffers.old }
+    requires number { number < 2 ^ 31 }
+    requires few { number < blocks_in plan.now.block_size (samples_each audio.now.channels) }
+    requires choices { AreChoices plan.now audio.now choices.now }
+    requires room { HasRoom plan.now audio.now room.places }
+    ensures kept { buffers.new ≡ buffers.old }
+    ensures places { result.places ≡ room.places }
+    ensures frame { IsSpelled plan.now audio.now number (bits_of result.bytes.items) }
+{
+    let mut writer = BitWriter::new(room.emptied());
+    let outcome = write_next(plan, audio, range, number, choices, buffers, &mut writer);
+    let room = writer.into_target();
+    match outcome {
+        Ok(()) => room,
+        Err(_) => unreachable!(),
+    }
+}
+
+/// Sends all frames, one after another. After an error a beginning of them was sent.
+pub(crate) fn send_frames<W: Target>(
+    plan: &Plan,
+    audio: &Audio,
+    choices: &[FrameChoice],
+    buffers: &mut EncodeBuffers,
+    room: Room,
+    target: &mut W,
+) -> Result<(), Why>
+    requires fits { fits_plan plan.now audio.now ≡ true }
+    requires buffers { buffers.old ≡ plan.now.block_size }
+    requires choices { AreChoices plan.now audio.now choices.now }
+    requires room { HasRoom plan.now audio.now room.places }
+    ensures { SendsFrames W.Target plan.now audio.now target.old target.new result }
+{
+    let size = plan.block_size() as usize;
+    let total = audio.len();
+    let mut room = room;
+    let mut number = 0;
+    let mut start = 0;
+    while start < total {
+        let end = start + size.min(total - start);
+        room = spell_next(plan, audio, start..end, number, choices, buffers, room);
+        send_all(target, room.bytes())?;
+        number += 1;
+        start = end;
+    }
+    Ok(())
+}

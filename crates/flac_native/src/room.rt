@@ -1,0 +1,89 @@
+//! A place for bytes, which is made once.
+
+ghost use Rattle.std.specs.Prelude.{◌≡◌, ◌≤◌, ◌<◌, ◌+◌, ◌-◌, ◌^◌, [], length, nat_lt, vec_capacity, IfOk, IfErr};
+ghost use Rattle.flac_native.specs.Room.{placed};
+
+use flac_bits::{Target, Why};
+use std::alloc::Global;
+use std::io;
+
+/// How many bytes are taken at once, at most, and how many places there are beside those that were asked for.
+const PIECE: usize = 4096;
+
+/// A place in memory for so many bytes, which is made once and then filled and emptied as often as needed. It is a [`Target`] that keeps what it is sent: up to so many
+/// bytes it never needs an allocation, and never returns an error.
+#[derive(Drop)]
+pub struct Room {
+    bytes: Vec<u8>,
+    places: usize,
+    errors: u64,
+    ghost within: { places + 4096 ≤ vec_capacity bytes },
+    ghost full: { 1 ≤ errors → places < length bytes.items },
+}
+
+impl Room {
+    /// Makes a place for so many bytes, 2^32 at most. Nothing is in it.
+    ///
+    /// # Errors
+    /// [`Why::Memory`] alone, if an allocation fails.
+    pub fn new(alloc: Global, places: usize) -> Result<Room, Why>
+        requires { places ≤ 2 ^ 32 }
+        ensures places { IfOk result (λ room. room.places ≡ places) }
+        ensures none { IfOk result (λ room. room.bytes.items ≡ []) }
+        ensures memory { IfErr result (λ e. e ≡ Why.Memory) }
+    {
+        let bytes = Vec::with_capacity(alloc, places + PIECE)?;
+        Ok(Room {
+            bytes,
+            places,
+            errors: 0,
+        })
+    }
+
+    /// The bytes that it was sent since it was made or emptied.
+    pub fn bytes(&self) -> &[u8]
+        ensures { result.now ≡ self.now.bytes.items }
+    {
+        self.bytes.as_slice()
+    }
+
+    /// Gives the same place with no bytes in it, and no error counted.
+    pub fn emptied(self) -> Room
+        ensures places { result.places ≡ self.places }
+        ensures none { result.bytes.items ≡ [] }
+        ensures errors { result.errors ≡ 0 }
+    {
+        let Room {
+            mut bytes,
+            places,
+            ..
+        } = self;
+        bytes.clear();
+        Room {
+            bytes,
+            places,
+            errors: 0,
+        }
+    }
+}
+
+impl Target for Room {
+    ghost known = { λ r. nat_lt r.errors (2 ^ 64 - 1) };
+
+    ghost sent = { λ r. placed r.places r.bytes.items };
+
+    ghost errors = { λ r. r.errors };
+
+    ghost names = { λ _. [] };
+
+    fn send(&mut self, bytes: &[u8]) -> io::Result<usize> {
+        let more = bytes.len().min(PIECE);
+        match self.bytes.extend_from_slice(&bytes[..more]) {
+            Ok(()) => Ok(more),
+            Err(_) => {
+                self.errors = self.errors.saturating_add(1);
+                Err(io::Error::from(io::ErrorKind::WriteZero))
+            }
+        }
+    }
+}

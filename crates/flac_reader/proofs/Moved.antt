@@ -1,0 +1,46 @@
+-- A device that was moved, as a source.
+use Rattle.std.proofs.Common.{◌≡◌, ℕ, Bool, true, false, ◌&&◌, nat_lt, List, [], take, Option, Some, None, IfSome, refl, ap, subst, ◌∙◌}
+use Rattle.std.specs.Prelude.{is_some, unwrap_or}
+use Rattle.flac_bits.specs.Bits.{bits_of}
+use Rattle.flac_bits.specs.Handing.{by_grammar}
+use Rattle.flac_bits.specs.declared.why.Why.TheVariants.{Truncated}
+use Rattle.flac_meta.specs.Info.{Info}
+use Rattle.flac_native.specs.Decoding.{beginning}
+use Rattle.flac_native.specs.Resuming.{resumed}
+use Rattle.flac_native.specs.Stream.{grammar}
+use Rattle.flac_native.specs.declared.fault.Fault.{Fault}
+use Rattle.flac_native.specs.declared.container.Container as container
+use Rattle.flac_reader.specs.Seeking.{Sought, RefusesSeek}
+use Rattle.flac_reader.specs.Moved.{read_resumed}
+use Rattle.flac_reader.specs.declared.reader.Reader.{Reader}
+
+pub there : (old new : Option ℕ) (to at n : ℕ) → at ≡ to → IfSome old (λ _. (n ≡ at) × (new ≡ Some n)) → IfSome old (λ _. new ≡ Some to)
+there None new to at n e h = tt
+there (Some p) new to at n e h = h.1 ∙ ap (λ k. Some k) (h.0 ∙ e)
+
+abbrev most : ℕ
+most = 18446744073709551615
+
+both : (b : Bool) → b ≡ true → (b && nat_lt 0 most) ≡ true
+both true e = refl
+both false e = absurd cc
+
+only : (b : Bool) → (b && nat_lt 0 most) ≡ b
+only true = refl
+only false = refl
+
+pub moved_found : {T C : Type 0} {g : container.Ghosts C} (remaining : T → Option (List ℕ)) (device d : T) (errors room : ℕ) (info : Info) (sample : ℕ) (reader : Reader C g) → d ≡ device → errors ≡ 0 → room ≡ most
+    → ((is_some (remaining d) && nat_lt errors most) ≡ true → Sought info sample (by_grammar grammar (resumed info) (beginning Truncated) (bits_of (take room (unwrap_or (remaining d) [])))) reader)
+    → is_some (remaining device) ≡ true → Sought info sample (read_resumed info (remaining device)) reader
+moved_found {T = T} remaining device d errors room info sample reader e z full h k =
+    let P : T → ℕ → ℕ → Type 0 = λ x n m. (is_some (remaining x) && nat_lt n most) ≡ true → Sought info sample (by_grammar grammar (resumed info) (beginning Truncated) (bits_of (take m (unwrap_or (remaining x) [])))) reader in
+    let done : P device 0 most = subst (λ x. P x 0 most) e (subst (λ n. P d n most) z (subst (λ m. P d errors m) full h)) in
+    done (both (is_some (remaining device)) k)
+
+pub moved_refused : {T : Type 0} (remaining : T → Option (List ℕ)) (device d : T) (errors room left : ℕ) (info : Info) (sample : ℕ) (f : Fault) → d ≡ device → errors ≡ 0 → room ≡ most
+    → RefusesSeek info sample (by_grammar grammar (resumed info) (beginning Truncated) (bits_of (take room (unwrap_or (remaining d) [])))) (is_some (remaining d) && nat_lt errors most) errors errors left left f
+    → RefusesSeek info sample (read_resumed info (remaining device)) (is_some (remaining device)) 0 0 left left f
+moved_refused {T = T} remaining device d errors room left info sample f e z full h =
+    let P : T → ℕ → ℕ → Type 0 = λ x n m. RefusesSeek info sample (by_grammar grammar (resumed info) (beginning Truncated) (bits_of (take m (unwrap_or (remaining x) [])))) (is_some (remaining x) && nat_lt n most) n n left left f in
+    let done : P device 0 most = subst (λ x. P x 0 most) e (subst (λ n. P d n most) z (subst (λ m. P d errors m) full h)) in
+    subst (λ b. RefusesSeek info sample (read_resumed info (remaining device)) b 0 0 left left f) (only (is_some (remaining device))) done

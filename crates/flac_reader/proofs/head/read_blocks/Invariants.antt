@@ -1,6 +1,0 @@
-use Rattle.flac_native.specs.Giving.{stage_of}
-use Rattle.flac_reader.proofs.Heads.{HeadSoFar}
-use Rattle.flac_reader.proofs.head.read_blocks.Given as goal
-
-abbrev pub invariant-loop-index : goal.invariant-loop-index
-invariant-loop-index g l = HeadSoFar g.C.Container (stage_of l.initial.decoder) (stage_of l.decoder) l.keep l.kept.items

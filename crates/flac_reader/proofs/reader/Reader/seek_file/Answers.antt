@@ -1,0 +1,31 @@
+use Rattle.std.proofs.Common.{inr}
+use Rattle.std.proofs.lemmas.Result.{IfOk-weaker, IfErr-weaker}
+use Rattle.flac_reader.specs.Kept.{first_points}
+use Rattle.flac_reader.specs.Seeking.{search_start}
+use Rattle.flac_reader.specs.Moved.{IsMoved}
+use Rattle.flac_reader.proofs.Moved.{there, moved_found, moved_refused}
+use Rattle.flac_reader.proofs.reader.Reader.seek_file.Goals as goal
+
+pub returns-in-Ok-clause-found : goal.returns-in-Ok-clause-found
+returns-in-Ok-clause-found g c =
+    let T = g.T in
+    let moved = c.seek.new.self in
+    let at = search_start c.args.self.start c.args.sample (first_points c.args.self.blocks.items) in
+    let is : IsMoved T.Seek.stream_position T.Seek.stream_bytes c.args.device moved at = record {
+      there = there (T.Seek.stream_position c.args.device) (T.Seek.stream_position moved) at c.seek_offset-offset.result c.in-Ok.field-0 c.seek_offset-offset.ensures c.in-Ok.ensures.moves;
+      kept = c.in-Ok.ensures.bytes;
+    } in
+    IfOk-weaker c.seek_from.result _ _ (λ r p. (moved, is, moved_found T.Read.remaining moved c.new.result.device c.new.result.errors c.new.result.room c.args.self.info c.args.sample r c.new.ensures.0 c.new.ensures.1 c.new.ensures.2 p)) c.seek_from.ensures.found
+
+pub returns-in-Ok-clause-refused : goal.returns-in-Ok-clause-refused
+returns-in-Ok-clause-refused g c =
+    let T = g.T in
+    let moved = c.seek.new.self in
+    let at = search_start c.args.self.start c.args.sample (first_points c.args.self.blocks.items) in
+    let is : IsMoved T.Seek.stream_position T.Seek.stream_bytes c.args.device moved at = record {
+      there = there (T.Seek.stream_position c.args.device) (T.Seek.stream_position moved) at c.seek_offset-offset.result c.in-Ok.field-0 c.seek_offset-offset.ensures c.in-Ok.ensures.moves;
+      kept = c.in-Ok.ensures.bytes;
+    } in
+    IfErr-weaker c.seek_from.result _ _ (λ f p other.
+    let q = p other in
+    inr (moved, q.0, is, moved_refused T.Read.remaining moved c.new.result.device c.new.result.errors c.new.result.room q.0.errors c.args.self.info c.args.sample f c.new.ensures.0 c.new.ensures.1 c.new.ensures.2 q.1)) c.seek_from.ensures.refused

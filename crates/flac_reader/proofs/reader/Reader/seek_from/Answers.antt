@@ -1,0 +1,40 @@
+use Rattle.std.proofs.Common.{sym, subst, ◌∙◌}
+use Rattle.flac_bits.specs.Bits.{bits_of}
+use Rattle.flac_bits.specs.State.{short_of}
+use Rattle.flac_bits.specs.Handing.{by_grammar}
+use Rattle.flac_native.specs.Stream.{grammar}
+use Rattle.flac_native.specs.Coming.{PartsCome}
+use Rattle.flac_native.specs.Decoding.{beginning}
+use Rattle.flac_native.specs.Resuming.{resumed}
+use Rattle.flac_native.specs.Giving.{stage_of}
+use Rattle.flac_reader.proofs.Searches.{seek_finds, seek_refuses, finds_at}
+use Rattle.flac_reader.proofs.reader.Reader.seek_from.Goals as goal
+
+pub returns-in-Ok-find_frame-clause-found : goal.returns-in-Ok-find_frame-clause-found
+returns-in-Ok-find_frame-clause-found g c = λ known frames end is.
+    let S = g.S.Source in
+    let source = c.args.source in
+    let info = c.args.self.info in
+    finds_at info c.args.sample frames end c.before_frame.result c.find_frame.new.decoder c.before_frame.ensures.decoder c.before_frame.ensures.ahead
+    (seek_finds _ (by_grammar grammar (resumed info) (beginning (short_of ((S.behind source).fails))) (bits_of (S.coming source))) info c.args.sample c.in-Ok-find_frame.first
+    (stage_of c.in-Ok.decoder) (stage_of c.find_frame.new.decoder) (resumed info) c.in-Ok.ensures.course c.in-Ok.ensures.track
+    (λ parts e read. subst (λ k. PartsCome (resumed info) k parts e) (sym c.in-Ok.ensures.cursor) read)
+    (c.in-Ok.ensures.known ∙ known, c.in-Ok-find_frame.ensures.counts.met.1, c.in-Ok-find_frame.ensures.counts.met.2)
+    c.in-Ok-find_frame.ensures.finds frames end is)
+
+pub returns-clause-refused : goal.returns-clause-refused
+returns-clause-refused g c = λ other.
+    let S = g.S.Source in
+    let source = c.args.source in
+    let info = c.args.self.info in
+    let left = c.into_source-source.result in
+    let first = c.in-Ok.ensures.errors in
+    let last = c.into_source-source.ensures.errors in (
+      left,
+      seek_refuses (by_grammar grammar (resumed info) (beginning (short_of ((S.behind source).fails))) (bits_of (S.coming source))) info c.args.sample
+          c.in-Ok.decoder c.find_frame.new.decoder (resumed info) c.in-Err-find_frame.fault (S.known source) (S.errors source) (S.raised source) (S.errors left) (S.raised left)
+          c.in-Ok.ensures.course c.in-Ok.ensures.track
+          (λ parts e read. subst (λ k. PartsCome (resumed info) k parts e) (sym c.in-Ok.ensures.cursor) read)
+          c.in-Ok.ensures.known first.0 first.1 first.1 (sym last.0) (sym last.1) (sym last.1)
+          other c.in-Err-find_frame.ensures.counts c.in-Err-find_frame.ensures.finds,
+    )

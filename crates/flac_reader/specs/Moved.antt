@@ -1,0 +1,30 @@
+-- A device that is moved, and what a reader over it finds.
+use Rattle.std.specs.Prelude.{◌≡◌, ℕ, List, [], take, Option, Some, IfSome, unwrap_or}
+use Rattle.std.specs.Io.KnownBytes.{Keeps}
+use Rattle.flac_bits.specs.Bits.{bits_of}
+use Rattle.flac_bits.specs.Handing.{Reading, by_grammar}
+use Rattle.flac_bits.specs.declared.why.Why.TheVariants.{Truncated, Read}
+use Rattle.flac_meta.specs.Info.{Info}
+use Rattle.flac_native.specs.Decoding.{beginning}
+use Rattle.flac_native.specs.Resuming.{resumed}
+use Rattle.flac_native.specs.Stream.{Piece, grammar}
+use Rattle.flac_native.specs.declared.fault.Place.{Place}
+use Rattle.flac_native.specs.declared.fault.Place.TheVariants as place
+use Rattle.flac_native.specs.declared.fault.Fault.{Fault}
+
+-- A device was moved so that its byte of this number is the next, and keeps its bytes; of one that tells no position, or no bytes, nothing is said of these.
+pub record IsMoved {T : Type 0} (position : T → Option ℕ) (bytes : T → Option (List ℕ)) (old new : T) (at : ℕ) : Type 0 where
+  pub there : IfSome (position old) (λ _. position new ≡ Some at)
+  pub kept : Keeps (bytes old) (bytes new)
+
+-- the bytes that a reader takes of a device, of those that it has still to give: 2^64 - 1 at most
+abbrev pub bytes_to_come : Option (List ℕ) → List ℕ
+bytes_to_come remaining = take 18446744073709551615 (unwrap_or remaining [])
+
+-- read from the state in which a frame comes
+abbrev pub read_resumed : Info → Option (List ℕ) → Reading Piece Place
+read_resumed info remaining = by_grammar grammar (resumed info) (beginning Truncated) (bits_of (bytes_to_come remaining))
+
+-- the device could not be moved
+abbrev pub not_moved : Fault
+not_moved = record { at = place.Frame 0; why = Read }

@@ -1,0 +1,177 @@
+//! A reader at the frame that holds a sample.
+
+ghost use Rattle.std.specs.Prelude.{◌≡◌, ◌≢◌, ◌⊎◌, IfOk, IfErr, drop, true, is_some, List};
+ghost use Rattle.flac_bits.specs.Bits.{bits_of};
+ghost use Rattle.flac_bits.specs.State.{short_of};
+ghost use Rattle.flac_bits.specs.Handing.{by_grammar};
+ghost use Rattle.flac_bits.specs.declared.why.Why.TheVariants.{Truncated};
+ghost use Rattle.flac_frame.specs.Frame.{Frame};
+ghost use Rattle.flac_native.specs.Stream.{grammar};
+ghost use Rattle.flac_native.specs.Decoding.{beginning};
+ghost use Rattle.flac_native.specs.Resuming.{resumed};
+ghost use Rattle.flac_native.specs.Giving.{stage_of, held};
+ghost use Rattle.flac_reader.specs.Kept.{first_points};
+ghost use Rattle.flac_reader.specs.Moved.{IsMoved, read_resumed, not_moved};
+ghost use Rattle.flac_reader.specs.Seeking.{offset_before, search_start, number_of, Sought, SeeksTo, RefusesSeek, Cuts, SeeksFrames};
+
+use crate::head::Head;
+use crate::reader::Reader;
+use crate::seeking::{bytes_from, find_frame, offset_before};
+use flac_bits::BitReader;
+use flac_native::{Container, Counted, Decoder, Fault, Memory, Place, Profile, Source, Why};
+use std::alloc::Global;
+use std::io::{Read, Seek, SeekFrom};
+
+impl<C: Container + Drop> Reader<C> {
+    /// Where the search for a sample begins in a native stream, in bytes from its first: at the last point of the seek table at or before the sample, or at the
+    /// first frame if there is no such point (RFC 9639, section 8.5). It stops at 2^64 - 1.
+    pub fn seek_offset(&self, sample: u64) -> u64
+        ensures { result ≡ search_start self.now.start sample (first_points self.now.blocks.items) }
+    {
+        let offset = offset_before(self.seek_points(), sample);
+        self.start.saturating_add(offset)
+    }
+
+    /// A reader of the same stream, of which these are the bytes from the first frame on, that lends next the frame that holds a sample: the first such frame from
+    /// the last point on of the seek table at or before that sample, or from the first frame on if there is no such point (RFC 9639, section 8.5). A frame holds
+    /// the samples from the number in its header on; if the header has the number of the frame, each frame before it has as many samples as the greatest block.
+    /// If no frame holds the sample, the reader is at the end.
+    ///
+    /// # Errors
+    ///
+    /// Those of [`Decoder::resume`] and [`Decoder::next`], with frames counted from the point on.
+    ///
+    /// ```
+    /// let mut reader = reader.seek(rt.alloc(), &stream[first_frame..], Profile::Subset, 44100)?;
+    /// ```
+    pub fn seek<'a>(
+        self,
+        alloc: Global,
+        frames: &'a [u8],
+        profile: Profile,
+        sample: u64,
+    ) -> Result<Reader<BitReader<Memory<'a>>>, Fault>
+        ensures blocks { IfOk result (λ r. (r.blocks ≡ self.blocks) × (r.info ≡ self.info) × (r.start ≡ self.start)) }
+        ensures first { IfOk result (λ r. r.behind ≡ number_of self.info (held (stage_of r.decoder).course (stage_of r.decoder).track)) }
+        // Of the frames from that point on, the first that holds the sample comes next, and then all others; refused only as the bytes are, with no such frame before.
+        ensures found { SeeksTo self.info sample (by_grammar grammar (resumed self.info) (beginning Truncated) (bits_of (drop (offset_before sample (first_points self.blocks.items)) frames.now))) result }
+    {
+        let offset = offset_before(self.seek_points(), sample);
+        let source = Memory::new(bytes_from(frames, offset));
+        self.seek_from(alloc, source, profile, sample)
+    }
+
+    /// A reader of the same stream as [`Reader::seek`] gives it, where all bytes of the native stream are in memory.
+    ///
+    /// # Errors
+    ///
+    /// Those of [`Reader::seek`].
+    ///
+    /// ```
+    /// let reader = open_native(rt.alloc(), Memory::new(&stream), Profile::Subset, Keep::All)?;
+    /// let mut reader = reader.seek_in(rt.alloc(), &stream, Profile::Subset, 44100)?;
+    /// ```
+    pub fn seek_in<'a>(
+        self,
+        alloc: Global,
+        stream: &'a [u8],
+        profile: Profile,
+        sample: u64,
+    ) -> Result<Reader<BitReader<Memory<'a>>>, Fault>
+        ensures blocks { IfOk result (λ r. (r.blocks ≡ self.blocks) × (r.info ≡ self.info) × (r.start ≡ self.start)) }
+        ensures first { IfOk result (λ r. r.behind ≡ number_of self.info (held (stage_of r.decoder).course (stage_of r.decoder).track)) }
+        // Of the frames from that point on, the first that holds the sample comes next, and then all others; refused only as the bytes are, with no such frame before.
+        ensures found { SeeksTo self.info sample (by_grammar grammar (resumed self.info) (beginning Truncated) (bits_of (drop (search_start self.start sample (first_points self.blocks.items)) stream.now))) result }
+        // If the bytes are a stream of which some frames are left behind that point, just these are searched, and the rest of them is given up to the end of the stream.
+        ensures whole { (frames : List Frame) → Cuts stream.now self.info (search_start self.start sample (first_points self.blocks.items)) frames → SeeksFrames self.info sample frames result }
+    {
+        let offset = self.seek_offset(sample);
+        let source = Memory::new(bytes_from(stream, offset));
+        self.seek_from(alloc, source, profile, sample)
+    }
+
+    /// A reader of the same stream as [`Reader::seek`] gives it, over a source of the bytes from [`Reader::seek_offset`] on, such as a file that was moved there.
+    ///
+    /// # Errors
+    ///
+    /// Those of [`Reader::seek`].
+    ///
+    /// ```
+    /// file.seek(SeekFrom::Start(reader.seek_offset(44100)))?;
+    /// let mut reader = reader.seek_from(rt.alloc(), Counted::new(file), Profile::Subset, 44100)?;
+    /// ```
+    pub fn seek_from<S: Source + Drop>(
+        self,
+        alloc: Global,
+        source: S,
+        profile: Profile,
+        sample: u64,
+    ) -> Result<Reader<BitReader<S>>, Fault>
+        ensures blocks { IfOk result (λ r. (r.blocks ≡ self.blocks) × (r.info ≡ self.info) × (r.start ≡ self.start)) }
+        ensures first { IfOk result (λ r. r.behind ≡ number_of self.info (held (stage_of r.decoder).course (stage_of r.decoder).track)) }
+        // Of the frames of the source, the first that holds the sample comes next, and then all others.
+        ensures found { IfOk result (λ r. S.known source ≡ true → Sought self.info sample (by_grammar grammar (resumed self.info) (beginning (short_of ((S.behind source).fails))) (bits_of (S.coming source))) r) }
+        // Refused only as the input is, with no such frame before, for want of memory, or for an error of the source, which was left with its counts raised.
+        ensures refused { IfErr result (λ f. f.why ≢ Why.Memory → (left : S) × RefusesSeek self.info sample (by_grammar grammar (resumed self.info) (beginning (short_of ((S.behind source).fails))) (bits_of (S.coming source))) (S.known source) (S.errors source) (S.raised source) (S.errors left) (S.raised left) f) }
+    {
+        let Reader {
+            decoder: _,
+            info,
+            blocks,
+            ahead: _,
+            start,
+            first: _,
+            behind: _,
+        } = self;
+        let mut decoder = match Decoder::resume(alloc, source, &info, profile) {
+            Ok(decoder) => decoder,
+            Err(fault) => return Err(fault),
+        };
+        match find_frame(&mut decoder, &info, sample) {
+            Ok(first) => {
+                let head = Head { info, start };
+                Ok(Reader::before_frame(decoder, head, blocks, first))
+            }
+            Err(fault) => {
+                let _source = decoder.into_source();
+                Err(fault)
+            }
+        }
+    }
+
+    /// A reader of the same stream as [`Reader::seek`] gives it, over a device that can be moved, such as a file, whose first byte is the first of a native stream.
+    ///
+    /// # Errors
+    ///
+    /// `Read` at the first frame if the device cannot be moved; otherwise those of [`Reader::seek`].
+    ///
+    /// ```
+    /// let file = File::open(&rt, "music.flac")?;
+    /// let reader = open_native(rt.alloc(), Counted::new(&file), Profile::Subset, Keep::All)?;
+    /// let mut reader = reader.seek_file(rt.alloc(), &file, Profile::Subset, 44100)?;
+    /// ```
+    pub fn seek_file<T: Read + Seek + Drop>(
+        self,
+        alloc: Global,
+        device: T,
+        profile: Profile,
+        sample: u64,
+    ) -> Result<Reader<BitReader<Counted<T>>>, Fault>
+        ensures blocks { IfOk result (λ r. (r.blocks ≡ self.blocks) × (r.info ≡ self.info) × (r.start ≡ self.start)) }
+        ensures first { IfOk result (λ r. r.behind ≡ number_of self.info (held (stage_of r.decoder).course (stage_of r.decoder).track)) }
+        // Of the frames of the device from that point on, the first that holds the sample comes next, and then all others.
+        ensures found { IfOk result (λ r. (moved : T) × IsMoved T.stream_position T.stream_bytes device moved (search_start self.start sample (first_points self.blocks.items)) × (is_some (T.remaining moved) ≡ true → Sought self.info sample (read_resumed self.info (T.remaining moved)) r)) }
+        // Refused only if the device cannot be moved, as its bytes from there on are, with no such frame before, for want of memory, or for an error of the device.
+        ensures refused { IfErr result (λ f. f.why ≢ Why.Memory → (f ≡ not_moved) ⊎ ((moved : T) × (left : Counted T) × IsMoved T.stream_position T.stream_bytes device moved (search_start self.start sample (first_points self.blocks.items)) × RefusesSeek self.info sample (read_resumed self.info (T.remaining moved)) (is_some (T.remaining moved)) 0 0 left.errors left.errors f)) }
+    {
+        let mut device = device;
+        let offset = self.seek_offset(sample);
+        match device.seek(SeekFrom::Start(offset)) {
+            Ok(_) => self.seek_from(alloc, Counted::new(device), profile, sample),
+            Err(_) => Err(Fault {
+                at: Place::Frame(0),
+                why: Why::Read,
+            }),
+        }
+    }
+}

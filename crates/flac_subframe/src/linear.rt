@@ -1,0 +1,155 @@
+//! Linear predictors that a caller hands in.
+
+ghost use Rattle.std.specs.Prelude.{◌≡◌, ◌<◌, ◌≤◌, ◌↔◌, length, All, IsTrue, IsSome, IfSome};
+ghost use Rattle.flac_bits.specs.Signed.{FitsBits};
+
+use crate::numbers::fits_bits;
+use arrayvec::ArrayVec;
+use std::alloc::AllocError;
+
+/// The most coefficients that a linear predictor has.
+const MOST_COEFFICIENTS: usize = 32;
+
+/// A linear predictor: the precision of its coefficients in bits, the shift, and the coefficients, the one for the nearest sample first
+/// (RFC 9639, section 9.2.6).
+#[derive(Drop, Debug, PartialEq, Eq)]
+pub struct LinearPredictor {
+    precision: u8,
+    shift: u8,
+    coefficients: ArrayVec<i32, 32>,
+    ghost some_bits: { 1 ≤ precision },
+    ghost few_bits: { precision ≤ 15 },
+    ghost small_shift: { shift ≤ 15 },
+    ghost some: { 0 < length coefficients.items },
+    ghost few: { length coefficients.items ≤ 32 },
+    ghost fit: { All (FitsBits precision) coefficients.items },
+}
+
+/// Whether each coefficient has a two's complement form of as many bits as the precision.
+fn all_fit(coefficients: &[i32], precision: u8) -> bool
+    requires positive { 1 ≤ precision }
+    requires small { precision ≤ 15 }
+    ensures { IsTrue result ↔ All (FitsBits precision) coefficients.now }
+{
+    for coefficient in coefficients {
+        if !fits_bits(i64::from(*coefficient), u32::from(precision)) {
+            return false;
+        }
+    }
+    true
+}
+
+/// The coefficients in an array of their own.
+fn copied(coefficients: &[i32]) -> ArrayVec<i32, 32>
+    requires { length coefficients.now ≤ 32 }
+    ensures { result.items ≡ coefficients.now }
+{
+    let mut copy = ArrayVec::new();
+    for coefficient in coefficients {
+        copy.push(*coefficient);
+    }
+    copy
+}
+
+impl LinearPredictor {
+    ghost use Rattle.flac_subframe.specs.Bodies.{linear, fields_cost};
+    ghost use Rattle.flac_subframe.specs.Handed.{predictor_of};
+
+    /// A predictor of a precision of 1 to 15 bits, a shift of 0 to 15, and 1 to 32 coefficients that have a two's complement form of as
+    /// many bits as the precision, the one for the nearest sample first (RFC 9639, section 9.2.6). `None` if one of these does not hold.
+    ///
+    /// It allocates nothing.
+    ///
+    /// ```
+    /// let doubled = LinearPredictor::new(3, 0, &[2, -1]);
+    /// assert!(doubled.is_some());
+    /// // One bit has -1 and 0 alone.
+    /// assert!(LinearPredictor::new(1, 0, &[1]).is_none());
+    /// ```
+    pub fn new(precision: u32, shift: u32, coefficients: &[i32]) -> Option<LinearPredictor>
+        ensures some { IfSome result (λ p. predictor_of p ≡ linear precision shift coefficients.now) }
+        ensures only { IsSome result ↔ ((1 ≤ precision) × (precision ≤ 15) × (shift ≤ 15) × (0 < length coefficients.now) × (length coefficients.now ≤ 32) × All (FitsBits precision) coefficients.now) }
+    {
+        if precision < 1 || precision > 15 || shift > 15 {
+            return None;
+        }
+        if coefficients.is_empty() || coefficients.len() > MOST_COEFFICIENTS {
+            return None;
+        }
+        if !all_fit(coefficients, precision as u8) {
+            return None;
+        }
+        Some(LinearPredictor {
+            precision: precision as u8,
+            shift: shift as u8,
+            coefficients: copied(coefficients),
+        })
+    }
+
+    /// How many coefficients it has, 1 to 32: as many as it has warm-up samples.
+    pub fn order(&self) -> usize
+        ensures value { result ≡ length self.now.coefficients.items }
+        ensures some { 0 < result }
+        ensures few { result ≤ 32 }
+    {
+        self.coefficients.len()
+    }
+
+    /// The bits of each coefficient, 1 to 15.
+    pub fn precision(&self) -> u32
+        ensures value { result ≡ self.now.precision }
+        ensures some { 1 ≤ result }
+        ensures few { result ≤ 15 }
+    {
+        u32::from(self.precision)
+    }
+
+    /// By how many bits the sum of products is shifted to the right, 0 to 15.
+    pub fn shift(&self) -> u32
+        ensures value { result ≡ self.now.shift }
+        ensures few { result ≤ 15 }
+    {
+        u32::from(self.shift)
+    }
+
+    /// The coefficients, the one for the nearest sample first.
+    pub fn coefficients(&self) -> &[i32]
+        ensures value { result.now ≡ self.now.coefficients.items }
+        ensures few { length result.now ≤ 32 }
+        ensures fit { All (FitsBits 15) result.now }
+    {
+        self.coefficients.as_slice()
+    }
+
+    /// How many bits its precision, its shift and its coefficients take in a subframe.
+    pub(crate) fn field_bits(&self) -> u64
+        ensures value { result ≡ fields_cost (predictor_of self.now) }
+        ensures small { result ≤ 1024 }
+    {
+        9 + u64::from(self.precision) * self.coefficients.len() as u64
+    }
+
+    /// The same predictor once more.
+    pub(crate) fn copy(&self) -> LinearPredictor
+        ensures { predictor_of result ≡ predictor_of self.now }
+    {
+        LinearPredictor {
+            precision: self.precision,
+            shift: self.shift,
+            coefficients: copied(self.coefficients.as_slice()),
+        }
+    }
+}
+
+impl Clone for LinearPredictor {
+    ghost use Rattle.flac_subframe.specs.Handed.{predictor_of};
+    ghost use Rattle.std.specs.Prelude.{⊤};
+
+    ghost is_clone = { λ p q. predictor_of q ≡ predictor_of p };
+
+    ghost is_infallible = { λ p. ⊤ };
+
+    fn clone(&self) -> Result<LinearPredictor, AllocError> {
+        Ok(self.copy())
+    }
+}
