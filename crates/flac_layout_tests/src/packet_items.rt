@@ -5,6 +5,7 @@ use crate::rows::bytes_of;
 use flac_bits::{BitWriter, Collected, Memory, Source, Why};
 use flac_pages::{Head, Pages, read_packet, write_page};
 use std::alloc::Global;
+use std::process::Abort;
 use std::test::Fail;
 
 /// Whether a packet of a length is read, and not the end; or why not, and on which page.
@@ -104,6 +105,11 @@ fn whole_stream(alloc: Global) -> Result<Vec<u8>, Fail> {
     Ok(stream)
 }
 
+/// Whether the next packet is these bytes, for which there is as much room.
+fn comes_next<R: Source>(pages: &mut Pages<R>, room: &mut [u8], wanted: &[u8]) -> bool {
+    read_next(pages, room) == Ok(true) && &*room == wanted
+}
+
 /// Whether the next packet is this byte, so often.
 fn repeats<R: Source>(
     alloc: Global,
@@ -112,20 +118,29 @@ fn repeats<R: Source>(
     length: usize,
 ) -> Result<bool, Fail> {
     let mut room = vec![in alloc; 0u8; length]?;
-    let outcome = read_next(pages, &mut room);
-    Ok(outcome == Ok(true) && room.as_slice() == vec![in alloc; byte; length]?.as_slice())
+    let wanted = vec![in alloc; byte; length]?;
+    Ok(comes_next(pages, &mut room, &wanted))
 }
 
-/// Packets of whole segments after a first packet are read back, each to its last byte, and the end after them.
+/// Reads a first packet, packets of whole segments, each to its last byte, and the end after them.
+fn read_whole_segments<R: Source>(
+    rt: &impl Abort,
+    alloc: Global,
+    pages: &mut Pages<R>,
+) -> Result<(), Fail> {
+    assert!(rt; read_length(pages, 51) == Ok(true));
+    for (byte, length) in PACKETS {
+        let same = repeats(alloc, pages, byte, length)?;
+        assert!(rt; same, "at {length}");
+    }
+    assert!(rt; read_next(pages, &mut []) == Ok(false));
+    Ok(())
+}
+
+/// Packets of whole segments are read back.
 #[test]
 fn whole_segments(rt: HostRuntime) -> Result<(), Fail> {
     let stream = whole_stream(rt.alloc())?;
     let mut pages = Pages::new(rt.alloc(), Memory::new(&stream))?;
-    assert!(rt; read_length(&mut pages, 51) == Ok(true));
-    for (byte, length) in PACKETS {
-        let same = repeats(rt.alloc(), &mut pages, byte, length)?;
-        assert!(rt; same, "at {length}");
-    }
-    assert!(rt; read_next(&mut pages, &mut []) == Ok(false));
-    Ok(())
+    read_whole_segments(&rt, rt.alloc(), &mut pages)
 }

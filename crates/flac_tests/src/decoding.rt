@@ -3,17 +3,13 @@
 use flac_bits::{Counted, Memory, Pieces, Source};
 use flac_frame::FrameView;
 use flac_native::{Block, Container, Decoder, Fault, Item, Place, Profile, Why};
+use flac_vectors::EXAMPLE;
 use std::alloc::Global;
 use std::fs;
 use std::fs::File;
 use std::mem::drop;
 use std::process::Abort;
 use std::test::Fail;
-
-/// One frame of one sample of two channels.
-pub(crate) const ROW: &str =
-    "664c6143800000221000100000000f00000f0ac442f00000000100000000000000000000000000000000\
-    fff869180000bf0358fd03128baa9a";
 
 /// The peak of some samples.
 fn peak(samples: &[i32]) -> u32 {
@@ -74,7 +70,7 @@ pub(crate) const PEAKS: Option<(u32, u32, u32)> = Some((25588, 10416, 0));
 
 #[test]
 fn peaks_of_a_stream(rt: HostRuntime) -> Result<(), Fail> {
-    let stream = hex::decode(rt.alloc(), ROW)?;
+    let stream = hex::decode(rt.alloc(), EXAMPLE)?;
     let found = peaks_of(rt.alloc(), Pieces::new(Memory::new(&stream), 1));
     assert!(rt; found == PEAKS);
     Ok(())
@@ -83,7 +79,7 @@ fn peaks_of_a_stream(rt: HostRuntime) -> Result<(), Fail> {
 /// The same, read from a file, its peaks printed.
 #[test]
 fn peaks_of_a_file(rt: HostRuntime) -> Result<(), Fail> {
-    let stream = hex::decode(rt.alloc(), ROW)?;
+    let stream = hex::decode(rt.alloc(), EXAMPLE)?;
     fs::write(&rt, "peaks.flac", &stream)?;
     let file = File::open(&rt, "peaks.flac")?;
     let found = peaks_of(rt.alloc(), Counted::new(file));
@@ -119,7 +115,7 @@ pub(crate) fn cut_off(rt: &impl Abort, faults: (Result<(), Fault>, Result<(), Fa
 
 #[test]
 fn refused_once_and_spent_then(rt: HostRuntime) -> Result<(), Fail> {
-    let mut stream = hex::decode(rt.alloc(), ROW)?;
+    let mut stream = hex::decode(rt.alloc(), EXAMPLE)?;
     let _last = stream.pop();
     let mut decoder = Decoder::new(rt.alloc(), Memory::new(&stream), Profile::Subset);
     let block = next_type(&mut decoder);

@@ -64,12 +64,17 @@ fn read_frame(alloc: Global, block: u16, depth: u8, bytes: &[u8]) -> Result<Stri
     text
 }
 
+/// The same for a bit depth and a largest block in words, and bytes in hex.
+fn read_of(alloc: Global, shape: &str, bytes: &str) -> Result<String, Fail> {
+    let (depth, block) = pair_of(shape)?;
+    let bytes = hex::decode(alloc, bytes)?;
+    read_frame(alloc, block.min(4096) as u16, depth.min(32) as u8, &bytes)
+}
+
 /// Reads the frame of a row, and compares what is read.
 fn check_frame(rt: &impl Abort, alloc: Global, row: &str) -> Result<(), Fail> {
     let (shape, bytes, wanted) = fields_of(row);
-    let (depth, block) = pair_of(shape)?;
-    let bytes = hex::decode(alloc, bytes)?;
-    let text = read_frame(alloc, block.min(4096) as u16, depth.min(32) as u8, &bytes)?;
+    let text = read_of(alloc, shape, bytes)?;
     assert!(rt; text.as_str() == wanted);
     Ok(())
 }

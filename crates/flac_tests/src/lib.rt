@@ -1,5 +1,5 @@
 //! Tests of subframes, frames and whole streams, through the public calls of the libraries and by vectors from outside. They stand apart, so that a library
-//! is proved once and not again with its tests.
+//! is proved once and not again with its tests. What fails, or comes in pieces, is tested in `flac_failure_tests`.
 #![tactic(auto)]
 
 #[cfg(test)]
@@ -7,7 +7,7 @@ mod decoding;
 #[cfg(test)]
 mod encoding;
 #[cfg(test)]
-mod failing;
+mod equals;
 #[cfg(test)]
 mod frames;
 #[cfg(test)]
@@ -16,8 +16,6 @@ mod ogg;
 mod ogg_decoding;
 #[cfg(test)]
 mod parts;
-#[cfg(test)]
-mod pieces;
 #[cfg(test)]
 mod predictors;
 #[cfg(test)]
@@ -36,7 +34,5 @@ mod retagging;
 mod rows;
 #[cfg(test)]
 mod seeking;
-#[cfg(test)]
-mod strange;
 #[cfg(test)]
 mod subframes;

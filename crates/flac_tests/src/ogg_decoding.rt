@@ -3,20 +3,16 @@
 
 ghost use Rattle.std.specs.Prelude.{⊤, [], true};
 
-use crate::decoding::{PEAKS, ROW, cut_off, next_type, peaks_to_end, two_faults};
+use crate::decoding::{PEAKS, cut_off, next_type, peaks_to_end, two_faults};
 use flac_ogg::{
     Block, Fault, FrameView, Memory, Place, Profile, Sink, SinkFault, Why, decode_any, ogg_decoder,
     verify,
 };
+use flac_vectors::{EXAMPLE, PAGES};
 use std::alloc::Global;
 use std::mem::drop;
 use std::process::Abort;
 use std::test::Fail;
-
-pub(crate) const PAGES: &str =
-    "4f67675300020000000000000000010000000000000018597d8f01337f464c414301000001664c6143000000221000100000000f00000f0ac442f0000000013e84b41807dc690307586a3dad1a2e0f\
-4f67675300000000000000000000010000000100000060d1f601010c840000080000000000000000\
-4f67675300040100000000000000010000000200000049872f1f010ffff869180000bf0158fd01128b5ab2";
 
 #[test]
 fn peaks_of_pages(rt: HostRuntime) -> Result<(), Fail> {
@@ -96,7 +92,7 @@ fn decodes(
 
 #[test]
 fn either_container(rt: HostRuntime) -> Result<(), Fail> {
-    decodes(&rt, rt.alloc(), ROW, Ok((1, [25588, 10416])))?;
+    decodes(&rt, rt.alloc(), EXAMPLE, Ok((1, [25588, 10416])))?;
     decodes(&rt, rt.alloc(), PAGES, Ok((2, [25588, 10416])))?;
     let at = Place::Marker;
     let why = Why::Truncated;
@@ -110,7 +106,7 @@ fn verifies(rt: &impl Abort, alloc: Global, stream: &[u8], wanted: Result<(), Fa
 
 #[test]
 fn verified_in_memory(rt: HostRuntime) -> Result<(), Fail> {
-    let mut native = hex::decode(rt.alloc(), ROW)?;
+    let mut native = hex::decode(rt.alloc(), EXAMPLE)?;
     let stream = hex::decode(rt.alloc(), PAGES)?;
     verifies(&rt, rt.alloc(), &native, Ok(()));
     verifies(&rt, rt.alloc(), &stream, Ok(()));

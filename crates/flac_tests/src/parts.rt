@@ -1,8 +1,9 @@
 //! Calls beside whole streams: a stream read part by part, what is given back, numbers and texts of faults.
 
+use crate::ogg::sample;
 use flac_native::{
-    Audio, BitReader, Block, Decoder, EncodeFault, Fault, FrameView, Item, Memory, Place, Plan,
-    Profile, RetagFault, SetupFault, StreamInfo, Track, Why, info_of, put_rows,
+    BitReader, Block, Decoder, EncodeFault, Fault, FrameView, Item, Memory, Place, Plan, Profile,
+    RetagFault, SetupFault, StreamInfo, Track, Why, info_of, put_rows,
 };
 use std::alloc::Global;
 use std::fmt::Display;
@@ -75,15 +76,9 @@ fn reads_parts(rt: HostRuntime) -> Result<(), Fail> {
     Ok(())
 }
 
-/// The one sample of two channels of the example.
-fn one_sample(alloc: Global) -> Result<Audio, Fail> {
-    let channels = vec![in alloc; vec![in alloc; 25588]?, vec![in alloc; 10416]?]?;
-    Ok(Audio::new(44100, 16, channels)?)
-}
-
 /// STREAMINFO of the example, for frames of at most 15 bytes.
 fn info(alloc: Global, least: u32) -> Result<StreamInfo, Fail> {
-    let audio = one_sample(alloc)?;
+    let audio = sample(alloc)?;
     let plan = Plan::new(4096, &audio, 0)?;
     Ok(info_of(&plan, &audio, least.min(15), 15))
 }
@@ -115,7 +110,7 @@ fn gives_its_source_back(rt: HostRuntime) -> Result<(), Fail> {
 
 #[test]
 fn gives_its_channels_back(rt: HostRuntime) -> Result<(), Fail> {
-    let channels = one_sample(rt.alloc())?.into_channels();
+    let channels = sample(rt.alloc())?.into_channels();
     assert!(rt; channels.len() == 2);
     assert!(rt; channels[0].as_slice() == [25588].as_slice());
     assert!(rt; channels[1].as_slice() == [10416].as_slice());
@@ -156,20 +151,41 @@ fn prints_at(rt: &impl Abort, alloc: Global, at: Place, why: Why, text: &str) ->
 #[test]
 fn prints_faults(rt: HostRuntime) -> Result<(), Fail> {
     let alloc = rt.alloc();
-    let rows = [
-        (Place::Marker, Why::BadMarker, "marker: 4 BadMarker"),
-        (
-            Place::Block(0),
-            Why::BadStreamInfo,
-            "block 0: 8 BadStreamInfo",
-        ),
-        (Place::Frame(3), Why::FrameCheck, "frame 3: 26 FrameCheck"),
-        (Place::Page(7), Why::PageCheck, "page 7: 32 PageCheck"),
-        (Place::End, Why::Md5Mismatch, "end: 29 Md5Mismatch"),
-    ];
-    for (at, why, text) in rows {
-        prints_at(&rt, alloc, at, why, text)?;
-    }
+    prints_at(
+        &rt,
+        alloc,
+        Place::Marker,
+        Why::BadMarker,
+        "marker: 4 BadMarker",
+    )?;
+    prints_at(
+        &rt,
+        alloc,
+        Place::Block(0),
+        Why::BadStreamInfo,
+        "block 0: 8 BadStreamInfo",
+    )?;
+    prints_at(
+        &rt,
+        alloc,
+        Place::Frame(3),
+        Why::FrameCheck,
+        "frame 3: 26 FrameCheck",
+    )?;
+    prints_at(
+        &rt,
+        alloc,
+        Place::Page(7),
+        Why::PageCheck,
+        "page 7: 32 PageCheck",
+    )?;
+    prints_at(
+        &rt,
+        alloc,
+        Place::End,
+        Why::Md5Mismatch,
+        "end: 29 Md5Mismatch",
+    )?;
     let (at, why) = (None, Why::BlockLength);
     prints(&rt, alloc, &RetagFault { at, why }, "7 BlockLength")?;
     prints(&rt, alloc, &SetupFault::SampleTooLarge, "44 SampleTooLarge")

@@ -1,21 +1,15 @@
 //! Ogg streams that are encoded a block at a time, as the samples come. The sums of the pages were worked out apart from this project.
 
-use crate::encoding::ramp;
-use crate::rows::channels_of;
+use crate::pushing::{Narrow, Recorder, count_rising, number_of};
 use flac_bits::{Collected, Counted, Memory, Target};
 use flac_frame::Audio;
 use flac_meta::{Block, BlockList, Bytes, Comments, Texts};
-use flac_native::{Container, Decoder, EncodeFault, Item, Plan, Profile};
+use flac_native::{EncodeFault, Plan, Profile};
 use flac_ogg::{OggEncoder, encode_ogg, ogg_decoder};
+use flac_vectors::PAGES_OF_PUSHES;
 use std::alloc::Global;
-use std::io;
-use std::io::{ErrorKind, Write};
 use std::mem::drop;
 use std::test::Fail;
-
-/// One sample of two channels in blocks of 4096 with a comment block of no vendor and no comments, serial number 1; the total and the digest are unknown.
-pub(crate) const ONE: &str =
-    "4f676753000200000000000000000100000000000000bb6e652301337f464c414301000001664c614300000022100010000000000000000ac442f000000000000000000000000000000000000000004f67675300000000000000000000010000000100000060d1f601010c8400000800000000000000004f67675300040100000000000000010000000200000049872f1f010ffff869180000bf0158fd01128b5ab2";
 
 /// No samples: the block's page is marked last.
 const NO_FRAME: &str =
@@ -50,14 +44,6 @@ fn encoder_of<W: Target + Drop>(
     Ok(made?)
 }
 
-/// The number of a fault, 0 where there is none.
-fn number_of(outcome: Result<(), EncodeFault>) -> u8 {
-    match outcome {
-        Ok(()) => 0,
-        Err(fault) => fault.number(),
-    }
-}
-
 /// Pushes a block.
 fn push<W: Target + Drop>(encoder: &mut OggEncoder<W>, block: &[&[i32]]) -> u8 {
     number_of(encoder.push(block))
@@ -84,7 +70,7 @@ fn one_sample(rt: HostRuntime) -> Result<(), Fail> {
     let mut encoder = encoder_of(alloc, 2, 4096, 0, Collected::new(alloc))?;
     let answers = short_first(&mut encoder);
     let target = encoder.finish()?;
-    let wanted = hex::decode(alloc, ONE)?;
+    let wanted = hex::decode(alloc, PAGES_OF_PUSHES)?;
     assert!(rt; answers == [0, 19, 46, 42]);
     assert!(rt; target.bytes() == wanted.as_slice());
     Ok(())
@@ -166,27 +152,6 @@ fn refused_formats(rt: HostRuntime) -> Result<(), Fail> {
     Ok(())
 }
 
-/// A writer that has room for this many bytes.
-#[derive(Drop)]
-struct Narrow {
-    room: usize,
-}
-
-impl Write for Narrow {
-    fn write(&mut self, bytes: &[u8]) -> io::Result<usize> {
-        if self.room == 0 {
-            return Err(io::Error::from(ErrorKind::Other));
-        }
-        let count = bytes.len().min(self.room);
-        self.room -= count;
-        Ok(count)
-    }
-
-    fn flush(&mut self) -> io::Result<()> {
-        Ok(())
-    }
-}
-
 /// Pushes two blocks, and ends.
 fn two_and_finish<W: Target + Drop>(encoder: OggEncoder<W>) -> [u8; 3] {
     let mut encoder = encoder;
@@ -203,38 +168,24 @@ fn two_and_finish<W: Target + Drop>(encoder: OggEncoder<W>) -> [u8; 3] {
     [first, second, end]
 }
 
+/// Pushes two blocks to a target with this room, and ends.
+fn two_with_room(alloc: Global, room: usize) -> Result<[u8; 3], Fail> {
+    let encoder = encoder_of(alloc, 1, 16, 0, Counted::new(Narrow::new(room)))?;
+    Ok(two_and_finish(encoder))
+}
+
 /// A target that fails in the second header packet, which the first frame is held behind, and one that fails at the end.
 #[test]
 fn spent(rt: HostRuntime) -> Result<(), Fail> {
-    let alloc = rt.alloc();
-    let encoder = encoder_of(alloc, 1, 16, 0, Counted::new(Narrow { room: 100 }))?;
-    assert!(rt; two_and_finish(encoder) == [39, 38, 38]);
-    let encoder = encoder_of(alloc, 1, 16, 0, Counted::new(Narrow { room: 160 }))?;
-    assert!(rt; two_and_finish(encoder) == [0, 0, 39]);
-    let encoder = encoder_of(alloc, 1, 16, 0, Counted::new(Narrow { room: 500 }))?;
-    assert!(rt; two_and_finish(encoder) == [0, 0, 0]);
+    assert!(rt; two_with_room(rt.alloc(), 100)? == [39, 38, 38]);
+    assert!(rt; two_with_room(rt.alloc(), 160)? == [0, 0, 39]);
+    assert!(rt; two_with_room(rt.alloc(), 500)? == [0, 0, 0]);
     Ok(())
-}
-
-/// A source of samples that does not have all of them yet: 0, 1, 2, ..
-#[derive(Drop)]
-struct Recorder {
-    at: i32,
-}
-
-impl Recorder {
-    /// Puts the next samples into a block.
-    fn fill(&mut self, block: &mut [i32]) {
-        for i in 0..block.len() {
-            block[i] = self.at;
-            self.at = self.at.wrapping_add(1);
-        }
-    }
 }
 
 /// Records two blocks of 16 samples and one of 5, each encoded as it comes.
 fn record<W: Target + Drop>(encoder: &mut OggEncoder<W>) -> Result<(), EncodeFault> {
-    let mut recorder = Recorder { at: 0 };
+    let mut recorder = Recorder::new();
     let mut block = [0; 16];
     recorder.fill(&mut block);
     encoder.push(&[block.as_slice()])?;
@@ -252,50 +203,21 @@ fn recorded(alloc: Global) -> Result<(Result<(), EncodeFault>, Collected), Fail>
     Ok((outcome, target))
 }
 
-/// Puts the samples of the next item behind the others, and answers whether it was the end.
-fn read_on<C: Container>(decoder: &mut Decoder<C>, samples: &mut Vec<i32>) -> Result<bool, Fail> {
-    match decoder.next()? {
-        Item::Block(_) => Ok(false),
-        Item::Frame(frame) => {
-            if frame.channels() > 0 {
-                samples.extend_from_slice(frame.channel(0))?;
-            }
-            Ok(false)
-        }
-        Item::End => Ok(true),
-    }
-}
-
-/// The samples of a stream of one channel.
-fn read_all<C: Container>(decoder: &mut Decoder<C>, samples: &mut Vec<i32>) -> Result<bool, Fail> {
-    for _ in 0..10 {
-        if read_on(decoder, samples)? {
-            return Ok(true);
-        }
-    }
-    Ok(false)
-}
-
 /// What a recorder pushes is read again.
 #[test]
 fn read_again(rt: HostRuntime) -> Result<(), Fail> {
-    let alloc = rt.alloc();
-    let (outcome, target) = recorded(alloc)?;
-    let mut samples = Vec::new(alloc);
-    let mut decoder = ogg_decoder(alloc, Memory::new(target.bytes()), Profile::Subset)?;
-    let ended = read_all(&mut decoder, &mut samples);
+    let (outcome, target) = recorded(rt.alloc())?;
+    let mut decoder = ogg_decoder(rt.alloc(), Memory::new(target.bytes()), Profile::Subset)?;
+    let count = count_rising(&mut decoder);
     drop(decoder);
-    let ended = ended?;
-    let wanted = ramp(alloc, 37)?;
     assert!(rt; outcome == Ok(()));
-    assert!(rt; ended && samples.as_slice() == wanted.as_slice());
+    assert!(rt; count == Ok(37));
     Ok(())
 }
 
 /// The same samples, encoded at once.
 fn at_once(alloc: Global) -> Result<Collected, Fail> {
-    let mut channels = Vec::new(alloc);
-    channels.push(ramp(alloc, 37)?)?;
+    let channels = vec![in alloc; (0..37).collect(alloc)?]?;
     let audio = Audio::new(44100, 16, channels)?;
     let plan = Plan::new(16, &audio, 0)?;
     let list = list_of(alloc, true, 2)?;

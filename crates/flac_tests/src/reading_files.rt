@@ -1,23 +1,18 @@
 //! Programs over a reader, as a user writes them: the tags and the peak of a stream, and a copy of one. The stream is the example of RFC 9639, appendix D.1, its
 //! digest unknown, with the comment TITLE=x.
 
-use crate::ogg_decoding::PAGES;
-use flac_bits::Collected;
+use crate::encoding::encoded;
 use flac_frame::{Audio, FrameView};
-use flac_meta::BlockList;
-use flac_native::{Decoder, Plan, encode};
+use flac_native::Decoder;
 use flac_reader::{
     Block, Comments, Container, Fault, Keep, Memory, Opened, Place, Profile, Reader, Why, open,
     open_native, open_ogg, read_blocks,
 };
+use flac_vectors::{EXAMPLE_TAGGED, PAGES};
 use std::alloc::{AllocError, Global};
 use std::mem::drop;
 use std::process::Abort;
 use std::test::Fail;
-
-/// The stream.
-pub(crate) const TAGGED: &str =
-    "664c6143000000221000100000000f00000f0ac442f00000000100000000000000000000000000000000840000210e000000666c61632070726f66696c65203101000000070000005449544c453d78fff869180000bf0358fd03128baa9a";
 
 /// The greatest absolute value of a frame's samples, or a greater one so far.
 fn raised(peak: u32, frame: &FrameView<'_>) -> u32 {
@@ -81,7 +76,7 @@ fn printed_and_dropped<C: Container + Drop>(reader: Reader<C>) -> Result<Printed
 
 #[test]
 fn tags_and_peak_of_a_stream(rt: HostRuntime) -> Result<(), Fail> {
-    let native = hex::decode(rt.alloc(), TAGGED)?;
+    let native = hex::decode(rt.alloc(), EXAMPLE_TAGGED)?;
     let wanted = Ok((44100, true, 25588, 1));
     assert!(rt; tags_and_peak(rt.alloc(), &native, Keep::Tags) == wanted);
     assert!(rt; tags_and_peak(rt.alloc(), &native, Keep::All) == wanted);
@@ -92,7 +87,7 @@ fn tags_and_peak_of_a_stream(rt: HostRuntime) -> Result<(), Fail> {
 
 #[test]
 fn refused_before_the_first_frame(rt: HostRuntime) -> Result<(), Fail> {
-    let mut stream = hex::decode(rt.alloc(), TAGGED)?;
+    let mut stream = hex::decode(rt.alloc(), EXAMPLE_TAGGED)?;
     let _last = stream.pop();
     let found = tags_and_peak(rt.alloc(), &stream, Keep::All);
     let at = Place::Frame(0);
@@ -127,11 +122,16 @@ fn blocks_read(alloc: Global, stream: &[u8]) -> Result<usize, Fault> {
 
 #[test]
 fn blocks_of_streams(rt: HostRuntime) -> Result<(), Fail> {
-    let native = hex::decode(rt.alloc(), TAGGED)?;
-    let pages = hex::decode(rt.alloc(), PAGES)?;
+    let native = hex::decode(rt.alloc(), EXAMPLE_TAGGED)?;
     assert!(rt; kept(rt.alloc(), &native, false, Keep::Tags) == Ok(2));
-    assert!(rt; kept(rt.alloc(), &pages, true, Keep::All) == Ok(2));
     assert!(rt; blocks_read(rt.alloc(), &native) == Ok(2));
+    Ok(())
+}
+
+#[test]
+fn blocks_of_pages(rt: HostRuntime) -> Result<(), Fail> {
+    let pages = hex::decode(rt.alloc(), PAGES)?;
+    assert!(rt; kept(rt.alloc(), &pages, true, Keep::All) == Ok(2));
     Ok(())
 }
 
@@ -190,18 +190,6 @@ fn gather_all<C: Container>(
     Ok(())
 }
 
-/// The samples of two channels as a stream.
-fn encoded(alloc: Global, channels: Vec<Vec<i32>>) -> Result<Vec<u8>, Fail> {
-    let audio = Audio::new(44100, 16, channels)?;
-    let plan = Plan::new(4096, &audio, 0)?;
-    let list = BlockList::new(Vec::new(alloc))?;
-    let mut target = Collected::new(alloc);
-    let outcome = encode(alloc, &plan, &list, &audio, &mut target);
-    drop(list);
-    outcome?;
-    Ok(target.into_bytes())
-}
-
 /// A copy of a stream of two channels, through decoder and encoder.
 fn copied(alloc: Global, stream: &[u8]) -> Result<Vec<u8>, Fail> {
     let mut reader = open_native(alloc, Memory::new(stream), Profile::Subset, Keep::Tags)?;
@@ -209,12 +197,12 @@ fn copied(alloc: Global, stream: &[u8]) -> Result<Vec<u8>, Fail> {
     let outcome = gather_all(&mut reader, &mut channels);
     drop(reader);
     outcome?;
-    encoded(alloc, channels)
+    encoded(alloc, &Audio::new(44100, 16, channels)?, 4096, 0)
 }
 
 #[test]
 fn copy_of_a_stream(rt: HostRuntime) -> Result<(), Fail> {
-    let stream = hex::decode(rt.alloc(), TAGGED)?;
+    let stream = hex::decode(rt.alloc(), EXAMPLE_TAGGED)?;
     let copy = copied(rt.alloc(), &stream)?;
     let wanted = Ok((44100, false, 25588, 1));
     assert!(rt; tags_and_peak(rt.alloc(), &copy, Keep::All) == wanted);
@@ -235,7 +223,7 @@ fn interleaved(alloc: Global, stream: &[u8], room: usize) -> Result<(usize, i32,
 
 #[test]
 fn samples_interleaved(rt: HostRuntime) -> Result<(), Fail> {
-    let stream = hex::decode(rt.alloc(), TAGGED)?;
+    let stream = hex::decode(rt.alloc(), EXAMPLE_TAGGED)?;
     let all = interleaved(rt.alloc(), &stream, 4)?;
     assert!(rt; all == (2, 25588, 10416));
     let none = interleaved(rt.alloc(), &stream, 1)?;

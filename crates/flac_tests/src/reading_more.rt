@@ -2,9 +2,6 @@
 //! of RFC 9639, appendix D.1, with the comment TITLE=x, its digest unknown, and the same samples in pages; and the samples 0, 1, .., 9999 in three frames of 4096, 4096
 //! and 1808 samples with seek points, of which the first frame begins at byte 100 and the second 15 bytes behind it.
 
-use crate::ogg_decoding::PAGES;
-use crate::reading_files::TAGGED;
-use crate::seeking::TEN_THOUSAND;
 use flac_bits::BitReader;
 use flac_native::{Item, StreamInfo};
 use flac_ogg::ogg_decoder;
@@ -12,6 +9,7 @@ use flac_reader::{
     Container, Counted, Decoder, Fault, Keep, Memory, Place, Profile, Reader, Source, Why,
     open_native, open_ogg,
 };
+use flac_vectors::{EXAMPLE_TAGGED, PAGES, TEN_THOUSAND};
 use std::alloc::Global;
 use std::fs;
 use std::fs::File;
@@ -63,7 +61,7 @@ fn metadata_first<C: Container>(rt: &impl Abort, decoder: &mut Decoder<C>) {
 
 #[test]
 fn metadata_before_frames(rt: HostRuntime) -> Result<(), Fail> {
-    let stream = hex::decode(rt.alloc(), TAGGED)?;
+    let stream = hex::decode(rt.alloc(), EXAMPLE_TAGGED)?;
     let mut decoder = Decoder::new(rt.alloc(), Memory::new(&stream), Profile::Subset);
     metadata_first(&rt, &mut decoder);
     drop(decoder);
@@ -231,7 +229,7 @@ fn is_read_ahead(alloc: Global, stream: &[u8]) -> Result<bool, Fault> {
 
 #[test]
 fn decoder_of_a_reader(rt: HostRuntime) -> Result<(), Fail> {
-    let stream = hex::decode(rt.alloc(), TAGGED)?;
+    let stream = hex::decode(rt.alloc(), EXAMPLE_TAGGED)?;
     assert!(rt; is_read_ahead(rt.alloc(), &stream) == Ok(true));
     Ok(())
 }

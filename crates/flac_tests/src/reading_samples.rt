@@ -1,34 +1,45 @@
 //! Samples one by one, frames that are sought, and times. The streams are the example of RFC 9639, appendix D.1, with the comment TITLE=x, and the samples 0, 1, ..,
 //! 9999 in three frames of 4096, 4096 and 1808 samples with seek points, of which the first frame begins at byte 100.
 
-use crate::ogg_decoding::PAGES;
-use crate::reading_files::TAGGED;
-use crate::seeking::TEN_THOUSAND;
-use flac_bits::{BitReader, Collected};
+use crate::encoding::encoded;
+use flac_bits::BitReader;
 use flac_frame::Audio;
-use flac_meta::BlockList;
-use flac_native::{Plan, encode};
 use flac_reader::{
     Container, Fault, Keep, Memory, Opened, Place, Profile, Reader, Samples, Why, open,
     open_native, stereo_samples,
 };
+use flac_vectors::{EXAMPLE_TAGGED, PAGES, TEN_THOUSAND};
 use std::alloc::Global;
 use std::mem::drop;
 use std::process::Abort;
 use std::test::Fail;
 use std::time::Duration;
 
-/// The first title of a stream and its peak, as text.
-fn title_and_peak<C: Container + Drop>(alloc: Global, reader: Reader<C>) -> Result<String, Fail> {
-    let mut title = Vec::new(alloc);
-    if let Some(comments) = reader.comments() {
-        title.extend_from_slice(comments.find(b"TITLE").unwrap_or(b"none"))?;
-    }
+/// The first title of a stream, as text.
+fn title_of<C: Container>(alloc: Global, reader: &Reader<C>) -> Result<String, Fail> {
+    let title = match reader.comments() {
+        Some(comments) => comments.find(b"TITLE").unwrap_or(b"none"),
+        None => b"",
+    };
+    Ok(String::from_utf8_lossy(alloc, title)?)
+}
+
+/// The peak of the samples that come.
+fn peak_of<C: Container + Drop>(samples: &mut Samples<C>) -> Result<u32, Fault> {
     let mut peak = 0;
-    for sample in reader.into_samples() {
+    for sample in samples {
         peak = sample?.unsigned_abs().max(peak);
     }
-    let title = String::from_utf8_lossy(alloc, &title)?;
+    Ok(peak)
+}
+
+/// The first title of a stream and its peak, as text.
+fn title_and_peak<C: Container + Drop>(alloc: Global, reader: Reader<C>) -> Result<String, Fail> {
+    let title = title_of(alloc, &reader);
+    let mut samples = reader.into_samples();
+    let peak = peak_of(&mut samples);
+    drop(samples);
+    let (title, peak) = (title?, peak?);
     Ok(format!(in alloc; "{title}: {peak}")?)
 }
 
@@ -40,69 +51,67 @@ fn described(alloc: Global, stream: &[u8]) -> Result<String, Fail> {
     }
 }
 
-#[test]
-fn title_and_peak_of_a_stream(rt: HostRuntime) -> Result<(), Fail> {
-    let stream = hex::decode(rt.alloc(), TAGGED)?;
-    let found = described(rt.alloc(), &stream)?;
-    assert!(rt; found.as_str() == "x: 25588");
-    let pages = hex::decode(rt.alloc(), PAGES)?;
-    let found = described(rt.alloc(), &pages)?;
-    assert!(rt; found.as_str() == "none: 25588");
+/// Compares the title and the peak of a stream.
+fn describes(rt: &impl Abort, alloc: Global, stream: &str, wanted: &str) -> Result<(), Fail> {
+    let stream = hex::decode(alloc, stream)?;
+    let found = described(alloc, &stream)?;
+    assert!(rt; found.as_str() == wanted);
     Ok(())
 }
 
-/// The samples of each channel of the stream that a reader reads.
-fn channels_of<C: Container + Drop>(
-    alloc: Global,
-    reader: Reader<C>,
-) -> Result<Vec<Vec<i32>>, Fail> {
+#[test]
+fn title_and_peak_of_a_stream(rt: HostRuntime) -> Result<(), Fail> {
+    describes(&rt, rt.alloc(), EXAMPLE_TAGGED, "x: 25588")?;
+    describes(&rt, rt.alloc(), PAGES, "none: 25588")
+}
+
+/// As many channels, without samples.
+fn empty_channels(alloc: Global, count: u8) -> Result<Vec<Vec<i32>>, Fail> {
     let mut channels = Vec::new(alloc);
-    for _ in 0..reader.info().channels() {
+    for _ in 0..count {
         channels.push(Vec::new(alloc))?;
-    }
-    let mut next = 0;
-    for sample in reader.into_samples() {
-        let sample = sample?;
-        if let Some(channel) = channels.get_mut(next) {
-            channel.push(sample)?;
-        }
-        next = next.saturating_add(1);
-        if next >= channels.len() {
-            next = 0;
-        }
     }
     Ok(channels)
 }
 
-/// These samples as a stream.
-fn encoded(alloc: Global, rate: u32, depth: u32, channels: Vec<Vec<i32>>) -> Result<Vec<u8>, Fail> {
-    let audio = Audio::new(rate, depth, channels)?;
-    let plan = Plan::new(4096, &audio, 0)?;
-    let list = BlockList::new(Vec::new(alloc))?;
-    let mut target = Collected::new(alloc);
-    let outcome = encode(alloc, &plan, &list, &audio, &mut target);
-    drop(list);
-    outcome?;
-    Ok(target.into_bytes())
+/// Puts the samples of a stream into its channels, one into each in turn.
+fn gather<C: Container + Drop>(
+    samples: &mut Samples<C>,
+    channels: &mut [Vec<i32>],
+) -> Result<(), Fail> {
+    for _ in 0..u64::MAX {
+        for channel in channels.iter_mut() {
+            match samples.next() {
+                Some(sample) => channel.push(sample?)?,
+                None => return Ok(()),
+            }
+        }
+    }
+    Ok(())
+}
+
+/// All samples of a stream that is read, with its rate and its depth.
+fn audio_of<C: Container + Drop>(alloc: Global, samples: &mut Samples<C>) -> Result<Audio, Fail> {
+    let info = samples.reader().info();
+    let (rate, depth, count) = (info.rate(), u32::from(info.depth()), info.channels());
+    let mut channels = empty_channels(alloc, count)?;
+    gather(samples, &mut channels)?;
+    Ok(Audio::new(rate, depth, channels)?)
 }
 
 /// A copy of a stream, through decoder and encoder.
 fn copied(alloc: Global, stream: &[u8]) -> Result<Vec<u8>, Fail> {
-    let reader = opened(alloc, stream, Keep::Tags)?;
-    let rate = reader.info().rate();
-    let depth = u32::from(reader.info().depth());
-    let channels = channels_of(alloc, reader)?;
-    encoded(alloc, rate, depth, channels)
+    let mut samples = opened(alloc, stream, Keep::Tags)?.into_samples();
+    let audio = audio_of(alloc, &mut samples);
+    drop(samples);
+    encoded(alloc, &audio?, 4096, 0)
 }
 
 #[test]
 fn copy_by_samples(rt: HostRuntime) -> Result<(), Fail> {
     let stream = hex::decode(rt.alloc(), TEN_THOUSAND)?;
     let copy = copied(rt.alloc(), &stream)?;
-    let mut samples = opened(rt.alloc(), &copy, Keep::Tags)?.into_samples();
-    let whole = count_rising(&mut samples, 0);
-    drop(samples);
-    assert!(rt; whole == (10000, None));
+    assert!(rt; counted(rt.alloc(), &copy) == Ok((10000, None, None)));
     Ok(())
 }
 
@@ -129,37 +138,46 @@ fn count_rising<C: Container + Drop>(
     (10001, None)
 }
 
+/// What is counted of a stream: the samples that rise by 1 from 0 on, what comes in place of the next, and what comes then.
+type Counts = (i32, Option<Result<i32, Fault>>, Option<Result<i32, Fault>>);
+
+/// Counts the samples of a stream.
+fn counted(alloc: Global, stream: &[u8]) -> Result<Counts, Fault> {
+    let mut samples = opened(alloc, stream, Keep::Tags)?.into_samples();
+    let (count, next) = count_rising(&mut samples, 0);
+    let behind = samples.next();
+    drop(samples);
+    Ok((count, next, behind))
+}
+
+/// What comes of the example: two samples, nothing, and nothing again; and the rate that its reader has then.
+fn check_pair<C: Container + Drop>(rt: &impl Abort, samples: &mut Samples<C>) {
+    assert!(rt; samples.next() == Some(Ok(25588)));
+    assert!(rt; samples.next() == Some(Ok(10416)));
+    assert!(rt; samples.next().is_none());
+    assert!(rt; samples.next().is_none());
+    assert!(rt; samples.reader().info().rate() == 44100);
+}
+
 #[test]
 fn samples_one_by_one(rt: HostRuntime) -> Result<(), Fail> {
-    let stereo = hex::decode(rt.alloc(), TAGGED)?;
+    let stereo = hex::decode(rt.alloc(), EXAMPLE_TAGGED)?;
     let mut samples = opened(rt.alloc(), &stereo, Keep::Tags)?.into_samples();
-    let first = samples.next();
-    let second = samples.next();
-    let end = (samples.next(), samples.next());
-    let rate = samples.reader().info().rate();
+    check_pair(&rt, &mut samples);
     drop(samples);
-    assert!(rt; first == Some(Ok(25588)) && second == Some(Ok(10416)));
-    assert!(rt; end == (None, None) && rate == 44100);
     Ok(())
 }
 
 #[test]
 fn samples_up_to_a_fault(rt: HostRuntime) -> Result<(), Fail> {
     let mut stream = hex::decode(rt.alloc(), TEN_THOUSAND)?;
-    let mut samples = opened(rt.alloc(), &stream, Keep::Tags)?.into_samples();
-    let whole = count_rising(&mut samples, 0);
-    drop(samples);
-    assert!(rt; whole == (10000, None));
-    let _check = stream.pop();
-    stream.push(0)?;
-    let mut samples = opened(rt.alloc(), &stream, Keep::Tags)?.into_samples();
-    let broken = count_rising(&mut samples, 0);
-    let behind = samples.next();
-    drop(samples);
+    assert!(rt; counted(rt.alloc(), &stream) == Ok((10000, None, None)));
+    if let Some(byte) = stream.last_mut() {
+        *byte = 0;
+    }
     let at = Place::Frame(2);
     let why = Why::FrameCheck;
-    assert!(rt; broken == (8192, Some(Err(Fault { at, why }))));
-    assert!(rt; behind.is_none());
+    assert!(rt; counted(rt.alloc(), &stream) == Ok((8192, Some(Err(Fault { at, why })), None)));
     Ok(())
 }
 
@@ -256,7 +274,7 @@ fn pair_of<C: Container>(reader: &mut Reader<C>) -> Result<Option<(i32, i32, boo
 
 #[test]
 fn pairs_of_samples(rt: HostRuntime) -> Result<(), Fail> {
-    let stereo = hex::decode(rt.alloc(), TAGGED)?;
+    let stereo = hex::decode(rt.alloc(), EXAMPLE_TAGGED)?;
     assert!(rt; first_pair(rt.alloc(), &stereo) == Ok(Some((25588, 10416, true))));
     let mono = hex::decode(rt.alloc(), TEN_THOUSAND)?;
     assert!(rt; first_pair(rt.alloc(), &mono) == Ok(None));

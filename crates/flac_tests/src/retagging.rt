@@ -5,6 +5,7 @@ use flac_native::{
     Block, Bytes, Collected, Comments, Container, Decoder, Item, Memory, Pieces, Place, Profile,
     RetagFault, Texts, Why, only_one_head, retag,
 };
+use flac_vectors::{CUT_COMMENTS, EXAMPLE_INFO, EXAMPLE_TAGGED, TWO_INFOS};
 use std::alloc::Global;
 use std::mem::drop;
 use std::process::Abort;
@@ -17,22 +18,6 @@ TITLE=x | 664c6143800000221000100000000f00000f0ac442f000000001000000000000000000
 TITLE=y | 664c6143000000221000100000000f00000f0ac442f00000000100000000000000000000000000000000840000210e000000666c61632070726f66696c65203101000000070000005449544c453d78fff869180000bf0358fd03128baa9a | 664c6143000000221000100000000f00000f0ac442f00000000100000000000000000000000000000000840000210e000000666c61632070726f66696c65203101000000070000005449544c453d79fff869180000bf0358fd03128baa9a
 # Two bytes of padding are before an old comment, and after the new one.
 TITLE=x | 664c6143000000221000100000000f00000f0ac442f00000000100000000000000000000000000000000010000020000840000210e000000666c61632070726f66696c65203101000000070000005449544c453d78fff869180000bf0358fd03128baa9a | 664c6143000000221000100000000f00000f0ac442f00000000100000000000000000000000000000000040000210e000000666c61632070726f66696c65203101000000070000005449544c453d78810000020000fff869180000bf0358fd03128baa9a";
-
-/// The stream with the comment TITLE=x.
-pub(crate) const TAGGED: &str =
-    "664c6143000000221000100000000f00000f0ac442f00000000100000000000000000000000000000000840000210e000000666c61632070726f66696c65203101000000070000005449544c453d78fff869180000bf0358fd03128baa9a";
-
-/// STREAMINFO after its marker, the last block.
-pub(crate) const HEAD: &str =
-    "664c6143800000221000100000000f00000f0ac442f00000000100000000000000000000000000000000";
-
-/// Blocks with a second STREAMINFO.
-pub(crate) const TWICE: &str =
-    "664c6143000000221000100000000f00000f0ac442f00000000100000000000000000000000000000000800000221000100000000f00000f0ac442f00000000100000000000000000000000000000000fff869180000bf0358fd03128baa9a";
-
-/// A comment block that is cut off.
-pub(crate) const CUT: &str =
-    "664c6143000000221000100000000f00000f0ac442f00000000100000000000000000000000000000000840000210e000000666c61632070726f66696c65203101000000070000005449544c453d";
 
 /// Comments of one text.
 pub(crate) fn comments(alloc: Global, text: &[u8]) -> Result<Comments, Why> {
@@ -54,11 +39,17 @@ fn retagged(alloc: Global, stream: &[u8], comments: Comments) -> Result<Vec<u8>,
     Ok(target.into_bytes())
 }
 
+/// What is written of the stream of some hex digits with this comment.
+fn tagged(alloc: Global, text: &str, stream: &str) -> Result<Vec<u8>, Fail> {
+    let stream = hex::decode(alloc, stream)?;
+    let comments = comments(alloc, text.as_bytes())?;
+    Ok(retagged(alloc, &stream, comments)?)
+}
+
 /// Sets the comment of a row, and compares what is written.
 fn check_row(rt: &impl Abort, alloc: Global, row: &str) -> Result<(), Fail> {
     let (text, stream, wanted) = fields_of(row);
-    let stream = hex::decode(alloc, stream)?;
-    let found = retagged(alloc, &stream, comments(alloc, text.as_bytes())?)?;
+    let found = tagged(alloc, text, stream)?;
     let wanted = hex::decode(alloc, wanted)?;
     assert!(rt; found.as_slice() == wanted.as_slice(), "{row}");
     Ok(())
@@ -84,13 +75,19 @@ fn rest(alloc: Global) -> Result<Vec<u8>, Fail> {
     Ok(rest)
 }
 
+/// What is written of the example's STREAMINFO and these bytes behind it with the comment TITLE=x.
+fn headed(alloc: Global, rest: &[u8]) -> Result<Vec<u8>, Fail> {
+    let mut stream = hex::decode(alloc, EXAMPLE_INFO)?;
+    stream.extend_from_slice(rest)?;
+    let comments = comments(alloc, b"TITLE=x")?;
+    Ok(retagged(alloc, &stream, comments)?)
+}
+
 /// What comes after the blocks is not judged.
 #[test]
 fn the_rest_is_copied(rt: HostRuntime) -> Result<(), Fail> {
     let rest = rest(rt.alloc())?;
-    let mut stream = hex::decode(rt.alloc(), HEAD)?;
-    stream.extend_from_slice(&rest)?;
-    let found = retagged(rt.alloc(), &stream, comments(rt.alloc(), b"TITLE=x")?)?;
+    let found = headed(rt.alloc(), &rest)?;
     assert!(rt; found.len() == 79 + 9000);
     assert!(rt; found.as_slice().ends_with(rest.as_slice()));
     Ok(())
@@ -125,8 +122,8 @@ fn is_refused(
 #[test]
 fn refused_metadata(rt: HostRuntime) -> Result<(), Fail> {
     let alloc = rt.alloc();
-    is_refused(&rt, alloc, TWICE, Place::Block(1), Why::RepeatedBlock)?;
-    is_refused(&rt, alloc, CUT, Place::Block(1), Why::Truncated)?;
+    is_refused(&rt, alloc, TWO_INFOS, Place::Block(1), Why::RepeatedBlock)?;
+    is_refused(&rt, alloc, CUT_COMMENTS, Place::Block(1), Why::Truncated)?;
     is_refused(&rt, alloc, "664c6158", Place::Marker, Why::BadMarker)
 }
 
@@ -169,7 +166,7 @@ fn first_value<C: Container>(
 
 #[test]
 fn tags_of_a_stream(rt: HostRuntime) -> Result<(), Fail> {
-    let stream = hex::decode(rt.alloc(), TAGGED)?;
+    let stream = hex::decode(rt.alloc(), EXAMPLE_TAGGED)?;
     let mut decoder = Decoder::new(rt.alloc(), Memory::new(&stream), Profile::Subset);
     let title = first_value(rt.alloc(), &mut decoder, b"TITLE");
     drop(decoder);

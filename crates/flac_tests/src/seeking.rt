@@ -1,11 +1,12 @@
 //! Seek tables that are written, and a stream that is read from a point on.
 
 use crate::decoding::ends;
-use crate::encoding::{encoded, ramp};
+use crate::encoding::encoded;
 use flac_bits::{Collected, Memory};
 use flac_frame::{Audio, FrameView};
 use flac_meta::{Block, BlockList, SeekPoint, SeekTable, StreamInfo};
 use flac_native::{Container, Decoder, EncodeFault, Item, Plan, Profile, encode};
+use flac_vectors::TEN_THOUSAND;
 use std::alloc::Global;
 use std::mem::drop;
 use std::process::Abort;
@@ -13,7 +14,7 @@ use std::test::Fail;
 
 /// The samples 0, 1, .., 16 of one channel of 16 bits.
 fn seventeen(alloc: Global) -> Result<Audio, Fail> {
-    Ok(Audio::new(44100, 16, vec![in alloc; ramp(alloc, 17)?]?)?)
+    Ok(Audio::new(44100, 16, vec![in alloc; (0..17).collect(alloc)?]?)?)
 }
 
 /// A table of these points, and nothing else.
@@ -45,13 +46,6 @@ fn repeated_table(rt: HostRuntime) -> Result<(), Fail> {
     Ok(())
 }
 
-/// The samples 0, 1, .., 9999 of one channel of 16 bits, in blocks of 4096 with seek points at every 1000: STREAMINFO, the three points, and the frames, each
-/// by a fixed predictor of order 2 that leaves nothing.
-pub(crate) const TEN_THOUSAND: &str =
-    "664c6143000000221000100000000f0000110ac440f000002710fbaf22f91d9bc53a48e9bcd88d4a22ff\
-    830000360000000000000000000000000000000010000000000000001000000000000000000f10000000000000002000000000000000001e0710\
-    fff8c9080095140000000103c080fcfff8c9080192141000100103c0b699fff8790802070ff1142000200103c0c8ca";
-
 /// The MD5 of those samples.
 const DIGEST: [u8; 16] = [
     0xFB, 0xAF, 0x22, 0xF9, 0x1D, 0x9B, 0xC5, 0x3A, 0x48, 0xE9, 0xBC, 0xD8, 0x8D, 0x4A, 0x22, 0xFF,
@@ -59,7 +53,7 @@ const DIGEST: [u8; 16] = [
 
 /// Those samples, encoded.
 fn ten_thousand(alloc: Global) -> Result<Vec<u8>, Fail> {
-    let audio = Audio::new(44100, 16, vec![in alloc; ramp(alloc, 10000)?]?)?;
+    let audio = Audio::new(44100, 16, vec![in alloc; (0..10000).collect(alloc)?]?)?;
     encoded(alloc, &audio, 4096, 1000)
 }
 

@@ -78,6 +78,17 @@ fn outcome(alloc: Global, read: Result<bool, Why>) -> Result<String, Fail> {
     }
 }
 
+/// What reading the bytes of some hex digits returns, in text.
+fn outcome_of(
+    alloc: Global,
+    shape: &str,
+    bytes: &str,
+    block: &mut [i64; 16],
+) -> Result<String, Fail> {
+    let bytes = hex::decode(alloc, bytes)?;
+    outcome(alloc, read_shaped(shape, &bytes, block)?)
+}
+
 /// Whether a block has a sample that is written as `PLACE:SAMPLE`.
 fn has(block: &[i64; 16], word: &str) -> Option<bool> {
     let (place, sample) = word.split_once(':')?;
@@ -96,9 +107,8 @@ fn check_samples(rt: &impl Abort, block: &[i64; 16], words: &str) {
 /// Reads the subframe of a row, and compares what is read.
 fn check_row(rt: &impl Abort, alloc: Global, row: &str) -> Result<(), Fail> {
     let (bytes, shape, wanted) = fields_of(row);
-    let bytes = hex::decode(alloc, bytes)?;
     let mut block = [0; 16];
-    let text = outcome(alloc, read_shaped(shape, &bytes, &mut block)?)?;
+    let text = outcome_of(alloc, shape, bytes, &mut block)?;
     let (first, words) = wanted.split_once(' ').unwrap_or((wanted, ""));
     assert!(rt; text.as_str() == first, "{row}");
     check_samples(rt, &block, words);
@@ -145,14 +155,14 @@ fn write_least<W: Target>(
     writer: &mut BitWriter<W>,
 ) -> Result<u64, Why>
     requires depth { (1 ≤ depth) × (depth ≤ 33) }
-    requires block { (1 ≤ length samples.now) × (length samples.now ≤ 16) }
+    requires block { (1 ≤ length samples.now) × (length samples.now ≤ 64) }
 {
     if !all_fit(samples, depth) {
         return Err(Why::SampleRange);
     }
-    let mut shortened = [0i64; 16];
-    let mut values = [0i64; 16];
-    let mut folds = [0u32; 16];
+    let mut shortened = [0i64; 64];
+    let mut values = [0i64; 64];
+    let mut folds = [0u32; 64];
     let choice = choose_into(samples, depth, &mut shortened, &mut values, &mut folds);
     write_subframe_into(&choice, samples, depth, &mut shortened, &mut values, writer)?;
     writer.align()?;
@@ -183,10 +193,10 @@ const WRITTEN: &str = "# Predicted, equal, and a single sample: constant before 
 20 23 | 7 | 1000dc
 16 23 | 0 0 0 0 0 | 10003e";
 
-/// The shortest subframe of 1 to 16 samples, written to a new target: how many bits it takes, and its bytes.
+/// The shortest subframe of 1 to 64 samples, written to a new target: how many bits it takes, and its bytes.
 fn written(alloc: Global, samples: &[i64], depth: u32) -> Result<(u64, Vec<u8>), Why> {
     let len = samples.len();
-    if len == 0 || len > 16 || depth == 0 || depth > 33 {
+    if len == 0 || len > 64 || depth == 0 || depth > 33 {
         return Err(Why::BlockSize);
     }
     let mut writer = BitWriter::new(Collected::new(alloc));
@@ -194,15 +204,22 @@ fn written(alloc: Global, samples: &[i64], depth: u32) -> Result<(u64, Vec<u8>),
     Ok((bits, writer.into_target().into_bytes()))
 }
 
+/// The shortest subframe of the samples of some words.
+fn written_of(alloc: Global, words: &str, depth: u32) -> Result<(u64, Vec<u8>), Fail> {
+    let samples = wide_of(alloc, words)?;
+    Ok(written(alloc, &samples, depth)?)
+}
+
 /// Writes the subframe of a row, and compares its bits and bytes.
-fn check_written(rt: &impl Abort, alloc: Global, row: &str) -> Result<(), Fail> {
+pub(crate) fn check_written(rt: &impl Abort, alloc: Global, row: &str) -> Result<(), Fail> {
     let (shape, words, wanted) = fields_of(row);
     let (depth, bits) = pair_of(shape)?;
-    let samples = wide_of(alloc, words)?;
-    let (count, bytes) = written(alloc, &samples, depth)?;
+    let (count, bytes) = written_of(alloc, words, depth)?;
     let wanted = hex::decode(alloc, wanted)?;
-    assert!(rt; bytes.as_slice() == wanted.as_slice(), "{row}");
-    assert!(rt; count == bits as u64);
+    assert!(rt;
+        count == bits as u64 && bytes.as_slice() == wanted.as_slice(),
+        "{row}"
+    );
     Ok(())
 }
 

@@ -2,16 +2,16 @@
 
 ghost use Rattle.std.specs.Prelude.{⊤, [], true};
 
-use crate::decoding::ROW;
-use crate::encoding::{EQUAL_8, EQUAL_24, EQUAL_32, NONE, ONE, RISING, SILENT};
-use crate::ogg::{NATIVE, NO_FRAME, PAGES};
-use crate::retagging::{CUT, HEAD, TAGGED, TWICE};
-use crate::seeking::TEN_THOUSAND;
 use flac_bits::{Memory, Pieces};
 use flac_native::{
     Block, Container, Decoder, Fault, FrameView, Item, Profile, Sink, SinkFault, decode,
 };
 use flac_ogg::{decode_ogg, ogg_decoder};
+use flac_vectors::{
+    ALTERNATING, CUT_COMMENTS, EQUAL_8, EQUAL_24, EQUAL_32, EVERY_BLOCK, EXAMPLE, EXAMPLE_INFO,
+    EXAMPLE_TAGGED, LEFT_SIDE, NO_SAMPLES, ONE_SAMPLE, ONE_SAMPLE_COMMENTED, PAGES,
+    PAGES_OF_NO_SAMPLES, RISING, RISING_ALONE, SILENT, SILENT_ALONE, TEN_THOUSAND, TWO_INFOS,
+};
 use std::alloc::Global;
 use std::mem::drop;
 use std::process::Abort;
@@ -146,44 +146,60 @@ fn is_same(alloc: Global, stream: &[u8], ogg: bool, wanted: &Told) -> bool {
     same
 }
 
+/// Reads some bytes in pieces: they are accepted or not, and come to the same however they are cut.
+fn reads_bytes(rt: &impl Abort, alloc: Global, bytes: &[u8], ogg: bool, good: bool) {
+    let wanted = sunk(alloc, bytes, ogg, usize::MAX);
+    assert!(rt; wanted.1.is_ok() == good, "{} bytes", bytes.len());
+    assert!(rt;
+        is_same(alloc, bytes, ogg, &wanted),
+        "{} bytes",
+        bytes.len()
+    );
+}
+
 /// Reads a stream, its front without the last byte, and the stream with a byte more.
 fn reads(rt: &impl Abort, alloc: Global, stream: &str, ogg: bool, good: bool) -> Result<(), Fail> {
     let mut bytes = hex::decode(alloc, stream)?;
+    let whole = bytes.len();
     bytes.push(0)?;
-    let whole = bytes.len().saturating_sub(1);
     for length in [whole, whole.saturating_sub(1), whole.saturating_add(1)] {
         let front = bytes.get(..length).unwrap_or(&[]);
-        let wanted = sunk(alloc, front, ogg, usize::MAX);
-        assert!(rt; wanted.1.is_ok() == (good && length == whole), "{stream}");
-        assert!(rt; is_same(alloc, front, ogg, &wanted), "{stream}");
+        reads_bytes(rt, alloc, front, ogg, good && length == whole);
     }
     Ok(())
 }
 
+/// Native streams that are accepted.
+const ACCEPTED: [&str; 16] = [
+    EXAMPLE,
+    ONE_SAMPLE,
+    NO_SAMPLES,
+    RISING,
+    SILENT,
+    EQUAL_8,
+    EQUAL_24,
+    EQUAL_32,
+    ONE_SAMPLE_COMMENTED,
+    EXAMPLE_TAGGED,
+    TEN_THOUSAND,
+    RISING_ALONE,
+    SILENT_ALONE,
+    ALTERNATING,
+    LEFT_SIDE,
+    EVERY_BLOCK,
+];
+
 #[test]
 fn native_streams_in_pieces(rt: HostRuntime) -> Result<(), Fail> {
-    let streams = [
-        ROW,
-        ONE,
-        NONE,
-        RISING,
-        SILENT,
-        EQUAL_8,
-        EQUAL_24,
-        EQUAL_32,
-        NATIVE,
-        TAGGED,
-        TEN_THOUSAND,
-    ];
-    for stream in streams {
-        reads(&rt, rt.alloc(), stream, false, true)?;
+    for stream in ACCEPTED.iter() {
+        reads(&rt, rt.alloc(), *stream, false, true)?;
     }
     Ok(())
 }
 
 #[test]
 fn refused_streams_in_pieces(rt: HostRuntime) -> Result<(), Fail> {
-    for stream in [HEAD, TWICE, CUT] {
+    for stream in [EXAMPLE_INFO, TWO_INFOS, CUT_COMMENTS] {
         reads(&rt, rt.alloc(), stream, false, false)?;
     }
     Ok(())
@@ -191,7 +207,7 @@ fn refused_streams_in_pieces(rt: HostRuntime) -> Result<(), Fail> {
 
 #[test]
 fn pages_in_pieces(rt: HostRuntime) -> Result<(), Fail> {
-    for stream in [PAGES, NO_FRAME, crate::ogg_decoding::PAGES] {
+    for stream in [PAGES, PAGES_OF_NO_SAMPLES] {
         reads(&rt, rt.alloc(), stream, true, true)?;
     }
     Ok(())
