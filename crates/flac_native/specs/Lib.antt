@@ -21,3 +21,4 @@ pub mod Whole
 pub mod BlockOrder
 pub mod Ordered
 pub mod Room
+pub mod Places

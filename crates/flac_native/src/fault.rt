@@ -1,5 +1,8 @@
 //! Where and why a stream was refused.
 
+ghost use Rattle.std.specs.Prelude.{Some};
+ghost use Rattle.flac_native.specs.Places.{place_text, fault_text};
+
 use flac_bits::Why;
 use std::fmt;
 
@@ -21,6 +24,8 @@ pub enum Place {
 }
 
 impl fmt::Display for Place {
+    ghost output = { λ place. Some (place_text place) };
+
     fn fmt<W: fmt::Write>(&self, f: &mut fmt::Formatter<W>) -> fmt::Result {
         match *self {
             Place::Marker => f.write_str("marker"),
@@ -40,6 +45,8 @@ pub struct Fault {
 }
 
 impl fmt::Display for Fault {
+    ghost output = { λ fault. Some (fault_text fault) };
+
     fn fmt<W: fmt::Write>(&self, f: &mut fmt::Formatter<W>) -> fmt::Result {
         let at = self.at;
         let why = self.why;
