@@ -4,6 +4,7 @@ pub mod Failed
 pub mod Lined
 pub mod Outcomes
 pub mod Refused
+pub mod Reported
 pub mod Rows
 pub mod Sent
 pub mod Wide

@@ -1,5 +1,6 @@
 -- What calls that write text one after another have written.
-use Rattle.std.proofs.Common.{◌≡◌, ◌<◌, ◌≤◌, ℕ, List, [], ◌∷◌, ◌++◌, Bool, true, take, Result, Ok, Err, OnOk, OnErr, ap, refl, sym, subst, ◌∙◌, append_assoc, append-nil, arith}
+use Rattle.std.proofs.Common.{◌≡◌, ◌<◌, ◌≤◌, ◌+◌, ◌/◌, ◌%◌, ◌^◌, ℕ, List, [], ◌∷◌, ◌++◌, Bool, true, take, Result, Ok, Err, OnOk, OnErr, ap, refl, sym, subst, ◌∙◌, append_assoc, append-nil, arith, decimal}
+use Rattle.std.proofs.lemmas.Fmt.{decimal_digit, decimal_step}
 use Rattle.std.specs.Borrow.{GName}
 use Rattle.std.specs.List.{FoldsTo, concat}
 use Rattle.std.specs.Fmt.{WritesInCalls}
@@ -118,3 +119,19 @@ module _ {T : Type 0} (g : target.Ghosts T) where
   pub all_added : {X E : Type 0} {text : List ℕ} {old new : T} (r : Result X E) → Adds g text old new [] [] r → OnOk r (g.known old ≡ true → g.sent new ≡ g.sent old ++ text)
   all_added {text = text} {old = old} {new = new} (Ok x) p = λ k. sym (append-nil (g.sent new)) ∙ (p.added k ∙ ap (λ l. l ++ text) (append-nil (g.sent old)))
   all_added (Err e) p = tt
+
+  -- the text, said in another way
+  pub adds_same : {X E : Type 0} {text other : List ℕ} {old new : T} {had has : List ℕ} (r : Result X E) → Adds g text old new had has r → text ≡ other → Adds g other old new had has r
+  adds_same {old = old} {new = new} {had = had} {has = has} r p same = subst (λ l. Adds g l old new had has r) same p
+
+-- ---- decimal digits
+
+-- a number of one digit
+pub one_digit : (b n : ℕ) → b ≡ 48 + n % 10 → n < 10 → b ∷ [] ≡ decimal n
+one_digit b n is few =
+    let e : b ≡ 48 + n = omega (arith, is, few) in
+    ap (λ k. k ∷ []) e ∙ sym (decimal_digit n few)
+
+-- the last digit of a longer one
+pub next_digit : (b n : ℕ) → b ≡ 48 + n % 10 → 10 ≤ n → n < 2 ^ 64 → decimal (n / 10) ++ b ∷ [] ≡ decimal n
+next_digit b n is many small = ap (λ k. decimal (n / 10) ++ k ∷ []) is ∙ sym (decimal_step n many small)

@@ -1,12 +1,15 @@
 //! Decoding of a stream, native or Ogg.
 
-ghost use Rattle.std.specs.Prelude.{◌≡◌, true, List, OnOk};
-ghost use Rattle.flac_bits.specs.Handing.{TakesAll};
+ghost use Rattle.std.specs.Prelude.{◌≡◌, ◌<◌, true, List, Some, OnOk, IfErr};
+ghost use Rattle.flac_bits.specs.Handing.{TakesAll, outcome_of};
+ghost use Rattle.flac_bits.specs.State.{Rises};
 ghost use Rattle.flac_native.specs.Decoding.{taken};
 ghost use Rattle.flac_native.specs.Stream.{Piece};
+ghost use Rattle.flac_native.specs.declared.fault.Place.{Place};
+ghost use Rattle.flac_cli.specs.Outcomes.{at_place, Fits, Reads, IsOutOfMemory};
 ghost use Rattle.flac_cli.specs.Streams.{IsStream, Tells};
 
-use flac_bits::Source;
+use flac_bits::{Source, Why};
 use flac_native::{Fault, Profile, Sink};
 use flac_ogg::decode_any;
 use std::alloc::Global;
@@ -19,6 +22,12 @@ pub(crate) fn decode_stream<R: Source, S: Sink>(
 ) -> Result<(), Fault>
     ensures takes { Tells R.Source source.old source.new → S.known sink.old ≡ true →
         OnOk result ((parts : List Piece) × IsStream parts (R.coming source.old) (R.behind source.old) × TakesAll (taken S.takes) sink.old parts sink.new) }
+    // If the sink did not fail, the outcome is what the input is; if it did, it is that.
+    ensures outcome { Tells R.Source source.old source.new → S.known sink.old ≡ true → S.errors sink.new ≡ S.errors sink.old →
+        Fits IsOutOfMemory (Reads (R.coming source.old) (R.behind source.old)) (outcome_of at_place result) }
+    ensures failed { Tells R.Source source.old source.new → S.known sink.old ≡ true → S.errors sink.old < S.errors sink.new →
+        (at : Place) × (outcome_of at_place result ≡ Some (Some at, Why.Sink)) }
+    ensures sink { IfErr result (λ f. f.why ≡ Why.Sink → Rises (S.errors sink.old) (S.errors sink.new)) }
     ensures names { S.names sink.new ≡ S.names sink.old }
 {
     decode_any(alloc, source, Profile::Subset, sink)

@@ -15,6 +15,7 @@ impl Failures {
     pub(crate) fn fail(&mut self) -> Result<(), SinkFault>
         ensures refused { OnOk result ⊥ }
         ensures counted { self.old.count < 18446744073709551615 → self.old.count < self.new.count }
+        ensures some { 0 < self.new.count }
     {
         self.count = self.count.saturating_add(1);
         Err(SinkFault)

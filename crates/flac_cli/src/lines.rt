@@ -1,15 +1,24 @@
 //! Lines of text for a target.
 
-ghost use Rattle.std.specs.Prelude.{◌≡◌, ◌≤◌, ◌<◌, ◌+◌, ◌++◌, true, [], length, take, OnOk, OnErr};
+ghost use Rattle.std.specs.Prelude.{◌≡◌, ◌≤◌, ◌<◌, ◌+◌, ◌%◌, ◌++◌, true, [], length, take, decimal, Some, OnOk, OnErr};
+ghost use Rattle.flac_native.specs.Places.{place_text};
 ghost use Rattle.flac_cli.specs.Lined.{Adds};
+ghost use Rattle.flac_cli.specs.Outcomes.{placed};
 ghost use Rattle.flac_cli.specs.Reports.{fault_line};
 
 use flac_bits::{Target, Why, send_all};
+use flac_native::Place;
 use std::fmt;
-use std::fmt::Write;
 
 /// How many bytes are held before they are sent.
 const ROOM: usize = 1024;
+
+/// The last decimal digit of a number, as a character.
+fn last_digit(number: u64) -> u8
+    ensures { result ≡ 48 + number % 10 }
+{
+    b'0' + (number % 10) as u8
+}
 
 /// A buffer of text for a target. It allocates no memory, and sends what it holds when it is full.
 #[derive(Drop)]
@@ -62,14 +71,13 @@ impl<W: Target> Lines<W> {
         self.held = end;
     }
 
-    /// Adds a text: it is held if there is room, and sent otherwise.
+    /// Adds bytes: they are held if there is room, and sent otherwise.
     ///
     /// # Errors
     /// [`Why::Write`] if the target fails.
-    fn put(&mut self, text: &str) -> Result<(), Why>
+    fn put_bytes(&mut self, text: &[u8]) -> Result<(), Why>
         ensures { Adds W.Target text.now self.old.target self.new.target (take self.old.held self.old.bytes) (take self.new.held self.new.bytes) result }
     {
-        let text = text.as_bytes();
         if text.len() <= ROOM - self.held {
             self.hold(text);
             return Ok(());
@@ -80,6 +88,83 @@ impl<W: Target> Lines<W> {
             return Ok(());
         }
         send_all(&mut self.target, text)
+    }
+
+    /// Adds a text.
+    ///
+    /// # Errors
+    /// [`Why::Write`] if the target fails.
+    pub(crate) fn put(&mut self, text: &str) -> Result<(), Why>
+        ensures { Adds W.Target text.now self.old.target self.new.target (take self.old.held self.old.bytes) (take self.new.held self.new.bytes) result }
+    {
+        self.put_bytes(text.as_bytes())
+    }
+
+    /// Adds a number in decimal digits.
+    ///
+    /// # Errors
+    /// [`Why::Write`] if the target fails.
+    fn put_number(&mut self, number: u64) -> Result<(), Why>
+        ensures { Adds W.Target (decimal number) self.old.target self.new.target (take self.old.held self.old.bytes) (take self.new.held self.new.bytes) result }
+    {
+        let digit = last_digit(number);
+        if number < 10 {
+            return self.put_bytes(&[digit]);
+        }
+        self.put_number(number / 10)?;
+        self.put_bytes(&[digit])
+    }
+
+    /// Adds a text and a number.
+    ///
+    /// # Errors
+    /// [`Why::Write`] if the target fails.
+    pub(crate) fn put_counted(&mut self, name: &str, number: u64) -> Result<(), Why>
+        ensures { Adds W.Target (name.now ++ decimal number) self.old.target self.new.target (take self.old.held self.old.bytes) (take self.new.held self.new.bytes) result }
+    {
+        self.put(name)?;
+        self.put_number(number)
+    }
+
+    /// Adds a place as it is printed: `frame 3`.
+    ///
+    /// # Errors
+    /// [`Why::Write`] if the target fails.
+    fn put_place(&mut self, place: Place) -> Result<(), Why>
+        ensures { Adds W.Target (place_text place) self.old.target self.new.target (take self.old.held self.old.bytes) (take self.new.held self.new.bytes) result }
+    {
+        match place {
+            Place::Marker => self.put("marker"),
+            Place::Block(index) => self.put_counted("block ", index),
+            Place::Frame(index) => self.put_counted("frame ", index),
+            Place::Page(index) => self.put_counted("page ", index),
+            Place::End => self.put("end"),
+        }
+    }
+
+    /// Adds a text after that of its place: `frame 3: TEXT`.
+    ///
+    /// # Errors
+    /// [`Why::Write`] if the target fails.
+    fn put_placed(&mut self, place: Place, text: &str) -> Result<(), Why>
+        ensures { Adds W.Target (placed (Some place) text.now) self.old.target self.new.target (take self.old.held self.old.bytes) (take self.new.held self.new.bytes) result }
+    {
+        self.put_place(place)?;
+        self.put(": ")?;
+        self.put(text)
+    }
+
+    /// Adds the text of a reason, after that of its place, if it has one.
+    ///
+    /// # Errors
+    /// [`Why::Write`] if the target fails.
+    fn put_reason(&mut self, at: Option<Place>, text: &str) -> Result<(), Why>
+        ensures { Adds W.Target (placed at text.now) self.old.target self.new.target (take self.old.held self.old.bytes) (take self.new.held self.new.bytes) result }
+    {
+        match at {
+            Some(place) => self.put_placed(place, text),
+            None => self.put(text),
+        }
     }
 }
 
@@ -99,34 +184,36 @@ impl<W: Target> fmt::Write for Lines<W> {
 }
 
 /// Sends the line of an error through a buffer.
-fn put_line<W: Target>(lines: &mut Lines<W>, path: &str, text: &str) -> Result<(), Why>
+fn put_line<W: Target>(
+    lines: &mut Lines<W>,
+    path: &str,
+    at: Option<Place>,
+    text: &str,
+) -> Result<(), Why>
     requires { lines.old.held ≡ 0 }
-    ensures { Adds W.Target (fault_line path.now text.now) lines.old.target lines.new.target [] [] result }
+    ensures { Adds W.Target (fault_line path.now (placed at text.now)) lines.old.target lines.new.target [] [] result }
 {
     lines.put("flac: ")?;
     lines.put(path)?;
     lines.put(": ")?;
-    lines.put(text)?;
+    lines.put_reason(at, text)?;
     lines.put("\n")?;
     lines.send()
 }
 
-/// Sends the line of an error: `flac: PATH: TEXT`.
+/// Sends the line of an error: `flac: PATH: TEXT`, or `flac: PATH: PLACE: TEXT` if it has a place.
 ///
 /// # Errors
 /// [`Why::Write`] if the target fails.
-pub(crate) fn write_line<E: Target>(err: &mut E, path: &str, text: &str) -> Result<(), Why>
-    ensures sent { OnOk result (E.known err.old ≡ true → E.sent err.new ≡ E.sent err.old ++ fault_line path.now text.now) }
+pub(crate) fn write_line<E: Target>(
+    err: &mut E,
+    path: &str,
+    at: Option<Place>,
+    text: &str,
+) -> Result<(), Why>
+    ensures sent { OnOk result (E.known err.old ≡ true → E.sent err.new ≡ E.sent err.old ++ fault_line path.now (placed at text.now)) }
     ensures failed { OnErr result (E.known err.old ≡ true → E.errors err.old < E.errors err.new) }
 {
     let mut lines = Lines::new(err);
-    put_line(&mut lines, path, text)
-}
-
-/// Writes the line of an error: `flac: PATH: FAULT`. If it cannot be written, there is no one left to report it to.
-pub(crate) fn write_fault<E: Target, F: fmt::Display>(err: &mut E, path: &str, fault: &F) {
-    let mut lines = Lines::new(err);
-    if writeln!(lines, "flac: {path}: {fault}").is_ok() {
-        let _ = lines.send();
-    }
+    put_line(&mut lines, path, at, text)
 }

@@ -1,29 +1,32 @@
 //! What the program does for a job.
 
-ghost use Rattle.std.specs.Prelude.{◌≡◌, ◌++◌, true, List, IfOk, OnOk};
+ghost use Rattle.std.specs.Prelude.{◌≡◌, ◌≢◌, ◌≤◌, ◌<◌, ◌++◌, true, cond, map, List, [], Some, IfOk, IfErr, OnOk, OnErr};
+ghost use Rattle.flac_bits.specs.Handing.{outcome_of};
+ghost use Rattle.flac_native.specs.Retag.{not_written};
 ghost use Rattle.flac_native.specs.Stream.{Piece};
 ghost use Rattle.flac_cli.specs.Streams.{IsStream, Tells};
 ghost use Rattle.flac_jobs.specs.Asks.{AsksDecode, AsksStream};
 ghost use Rattle.flac_cli.specs.Samples.{all_samples};
 ghost use Rattle.flac_cli.specs.Counted.{AsksTest, line_of, counts_line, frames_in, samples_in_all, printed};
 ghost use Rattle.flac_cli.specs.Encoded.{HasEncoded, HasBegun};
+ghost use Rattle.flac_cli.specs.Lined.{Adds};
+ghost use Rattle.flac_cli.specs.Outcomes.{at_place, Fits, Reads, IsRetagged, IsOutOfMemory, IsRetagOutOfMemory, IsUnlisted, IsAnswer, Reports as ReportsOf, ReportsInput};
 ghost use Rattle.flac_cli.specs.Refusals.{CanBeEncoded, text_of};
 ghost use Rattle.flac_cli.specs.Reports.{fault_line, path_of, Serves, Reports};
-ghost use Rattle.flac_cli.specs.Retagged.{HasRetagged};
+ghost use Rattle.flac_cli.specs.Retagged.{HasRetagged, RetagsWith};
 ghost use Rattle.flac_bits.specs.Bits.{bits_of};
 
 use crate::counts::Counts;
 use crate::decoding::decode_stream;
 use crate::encoding::{Refusal, encode_raw};
-use crate::lines::{Lines, write_fault, write_line};
+use crate::lines::{Lines, write_line};
 use crate::listing::Listing;
 use crate::retagging::retag_with;
 use crate::samples::SampleWriter;
 use flac_bits::{Source, Target, Why};
 use flac_jobs::Job;
-use flac_native::{EncodeFault, Fault};
+use flac_native::{EncodeFault, Fault, Place, RetagFault};
 use std::alloc::Global;
-use std::fmt::{Display, Write};
 
 /// Decodes a stream into a writer of samples.
 fn decode_into<R: Source, W: Target>(
@@ -31,12 +34,18 @@ fn decode_into<R: Source, W: Target>(
     source: &mut R,
     sink: &mut SampleWriter<W>,
 ) -> Result<(), Fault>
-    requires { sink.old.failures.count ≡ 0 }
+    requires none { sink.old.failures.count ≡ 0 }
+    requires began { sink.old.began.value ≡ sink.old.target }
     ensures stream { Tells R.Source source.old source.new → OnOk result ((parts : List Piece) × IsStream parts (R.coming source.old) (R.behind source.old)) }
     ensures written { Tells R.Source source.old source.new → W.known sink.old.target ≡ true → OnOk result ((parts : List Piece) × IsStream parts (R.coming source.old) (R.behind source.old) × (W.sent sink.new.target ≡ W.sent sink.old.target ++ all_samples sink.old.depth parts)) }
+    ensures outcome { Tells R.Source source.old source.new → Serves W.Target sink.old.target sink.new.target →
+        Fits IsOutOfMemory (Reads (R.coming source.old) (R.behind source.old)) (outcome_of at_place result) }
+    ensures served { Serves W.Target sink.old.target sink.new.target → IfErr result (λ f. f.why ≢ Why.Sink) }
     ensures names { W.names sink.new.target ≡ W.names sink.old.target }
 {
-    decode_stream(alloc, source, sink)
+    let outcome = decode_stream(alloc, source, sink);
+    let _failures = sink.failures.count;
+    outcome
 }
 
 /// Decodes a stream, and writes its samples.
@@ -47,26 +56,37 @@ fn decode_samples<R: Source, W: Target>(
 ) -> Result<(), Fault>
     ensures stream { Tells R.Source source.old source.new → OnOk result ((parts : List Piece) × IsStream parts (R.coming source.old) (R.behind source.old)) }
     ensures written { Tells R.Source source.old source.new → W.known target.old ≡ true → OnOk result ((parts : List Piece) × IsStream parts (R.coming source.old) (R.behind source.old) × (W.sent target.new ≡ W.sent target.old ++ all_samples 0 parts)) }
+    ensures outcome { Tells R.Source source.old source.new → Serves W.Target target.old target.new →
+        Fits IsOutOfMemory (Reads (R.coming source.old) (R.behind source.old)) (outcome_of at_place result) }
+    ensures served { Serves W.Target target.old target.new → IfErr result (λ f. f.why ≢ Why.Sink) }
 {
     let mut sink = SampleWriter::new(target);
-    decode_into(alloc, source, &mut sink)
+    let outcome = decode_into(alloc, source, &mut sink);
+    let _target = sink.into_target();
+    outcome
 }
 
 /// Decodes a stream, and counts its frames and samples.
 fn count<R: Source>(alloc: Global, source: &mut R) -> Result<Counts, Fault>
-    ensures { Tells R.Source source.old source.new → IfOk result (λ c. (parts : List Piece) × IsStream parts (R.coming source.old) (R.behind source.old) × (c.frames ≡ printed (frames_in parts)) × (c.samples ≡ printed (samples_in_all parts))) }
+    ensures counts { Tells R.Source source.old source.new → IfOk result (λ c. (parts : List Piece) × IsStream parts (R.coming source.old) (R.behind source.old) × (c.frames ≡ printed (frames_in parts)) × (c.samples ≡ printed (samples_in_all parts))) }
+    ensures outcome { Tells R.Source source.old source.new →
+        Fits IsOutOfMemory (Reads (R.coming source.old) (R.behind source.old)) (outcome_of at_place result) }
 {
     let mut counts = Counts {
         frames: 0,
         samples: 0,
     };
-    decode_stream(alloc, source, &mut counts)?;
-    Ok(counts)
+    match decode_stream(alloc, source, &mut counts) {
+        Ok(()) => Ok(counts),
+        Err(fault) => Err(fault),
+    }
 }
 
 /// Decodes a stream, and lists its metadata.
 fn list<R: Source, O: Target>(alloc: Global, source: &mut R, out: &mut O) -> Result<(), Fault>
-    ensures { Tells R.Source source.old source.new → OnOk result ((parts : List Piece) × IsStream parts (R.coming source.old) (R.behind source.old)) }
+    ensures stream { Tells R.Source source.old source.new → OnOk result ((parts : List Piece) × IsStream parts (R.coming source.old) (R.behind source.old)) }
+    ensures outcome { Tells R.Source source.old source.new →
+        Fits IsUnlisted (Reads (R.coming source.old) (R.behind source.old)) (outcome_of at_place result) }
 {
     let mut listing = Listing::new(out);
     decode_stream(alloc, source, &mut listing)
@@ -75,34 +95,30 @@ fn list<R: Source, O: Target>(alloc: Global, source: &mut R, out: &mut O) -> Res
 /// Writes the line of counts through a buffer.
 fn put_counts<O: Target>(lines: &mut Lines<O>, counts: &Counts) -> Result<(), Why>
     requires { lines.old.held ≡ 0 }
-    ensures names { OnOk result (O.names lines.new.target ≡ O.names lines.old.target) }
-    ensures sent { OnOk result (O.known lines.old.target ≡ true → O.sent lines.new.target ≡ O.sent lines.old.target ++ line_of counts.now.frames counts.now.samples) }
+    ensures { Adds O.Target (line_of counts.now.frames counts.now.samples) lines.old.target lines.new.target [] [] result }
 {
-    let (frames, samples) = (counts.frames, counts.samples);
-    if writeln!(lines, "frames {frames} samples {samples}").is_err() {
-        return Err(Why::Write);
-    }
+    lines.put_counted("frames ", counts.frames)?;
+    lines.put_counted(" samples ", counts.samples)?;
+    lines.put("\n")?;
     lines.send()
 }
 
 /// Writes the line of counts.
 fn write_counts<O: Target>(out: &mut O, counts: &Counts) -> Result<(), Why>
-    ensures { OnOk result (O.known out.old ≡ true → O.sent out.new ≡ O.sent out.old ++ line_of counts.now.frames counts.now.samples) }
+    ensures sent { OnOk result (O.known out.old ≡ true → O.sent out.new ≡ O.sent out.old ++ line_of counts.now.frames counts.now.samples) }
+    ensures failed { OnErr result (O.known out.old ≡ true → O.errors out.old < O.errors out.new) }
 {
     let mut lines = Lines::new(out);
     put_counts(&mut lines, counts)
 }
 
-/// Writes the line of an error, and returns the status 1. The path is that of the job's output if `of_output` is true,
-/// else that of its input.
-fn refuse<E: Target, F: Display>(err: &mut E, job: &Job<'_>, of_output: bool, fault: &F) -> u8
-    ensures { result ≡ 1 }
+/// Writes the line of an error, and returns the status 1.
+fn refuse<E: Target>(err: &mut E, path: &str, at: Option<Place>, why: Why) -> u8
+    ensures status { result ≡ 1 }
+    ensures line { E.known err.old ≡ true → E.errors err.new ≡ E.errors err.old → IsAnswer (Some (at, why)) path.now result (E.sent err.old) (E.sent err.new) }
 {
-    let path = match job.output() {
-        Some(output) if of_output => output,
-        _ => job.input(),
-    };
-    write_fault(err, path, fault);
+    // If it cannot be written, there is no one left to report it to.
+    let _ = write_line(err, path, at, why.as_str());
     1
 }
 
@@ -116,20 +132,136 @@ fn refuse_encoding<E: Target>(err: &mut E, input: &str, output: &str, refusal: R
         _ => input,
     };
     // If it cannot be written, there is no one left to report it to.
-    let _ = write_line(err, path, refusal.as_str());
+    let _ = write_line(err, path, None, refusal.as_str());
     1
 }
 
-/// Whether the error is one of the file that the job writes.
-fn is_of_output(why: Why) -> bool {
-    matches!(why, Why::Sink | Why::Write)
+/// The paths of the files of a job that writes one.
+#[derive(Clone, Copy)]
+struct Paths<'a> {
+    input: &'a str,
+    output: &'a str,
+}
+
+impl<'a> Paths<'a> {
+    /// The path of the file at fault.
+    fn at_fault(&self, is_output: bool) -> &'a str
+        ensures { result.now ≡ cond is_output self.now.output.now self.now.input.now }
+    {
+        if is_output { self.output } else { self.input }
+    }
+}
+
+/// Whether the error is that of the file that a decoding writes.
+fn is_of_samples(why: Why) -> bool
+    ensures { result ≡ true → why ≡ Why.Sink }
+{
+    matches!(why, Why::Sink)
+}
+
+/// Whether the error is that of the file that a retagging writes.
+fn is_of_target(fault: RetagFault) -> bool
+    ensures { result ≡ true → fault ≡ not_written }
+{
+    matches!((fault.at, fault.why), (None, Why::Write))
+}
+
+/// Tests a stream. Returns the status.
+fn run_test<R: Source, O: Target, E: Target>(
+    alloc: Global,
+    input: &str,
+    source: &mut R,
+    out: &mut O,
+    err: &mut E,
+) -> u8
+    ensures status { result ≤ 1 }
+    ensures stream { result ≡ 0 → Tells R.Source source.old source.new → (parts : List Piece) × IsStream parts (R.coming source.old) (R.behind source.old) }
+    ensures tested { result ≡ 0 → Tells R.Source source.old source.new → O.known out.old ≡ true →
+        (parts : List Piece) × IsStream parts (R.coming source.old) (R.behind source.old) × (O.sent out.new ≡ O.sent out.old ++ counts_line parts) }
+    ensures reported { Tells R.Source source.old source.new → Serves O.Target out.old out.new → Serves E.Target err.old err.new →
+        ReportsOf IsOutOfMemory (Reads (R.coming source.old) (R.behind source.old)) input.now result (E.sent err.old) (E.sent err.new) }
+{
+    match count(alloc, source) {
+        Ok(counts) => match write_counts(out, &counts) {
+            Ok(()) => 0,
+            Err(why) => refuse(err, input, None, why),
+        },
+        Err(fault) => refuse(err, input, Some(fault.at), fault.why),
+    }
+}
+
+/// Decodes a stream to a file. Returns the status.
+fn run_decode<R: Source, W: Target, E: Target>(
+    alloc: Global,
+    paths: &Paths<'_>,
+    source: &mut R,
+    target: &mut W,
+    err: &mut E,
+) -> u8
+    ensures status { result ≤ 1 }
+    ensures stream { result ≡ 0 → Tells R.Source source.old source.new → (parts : List Piece) × IsStream parts (R.coming source.old) (R.behind source.old) }
+    ensures decoded { result ≡ 0 → Tells R.Source source.old source.new → W.known target.old ≡ true →
+        (parts : List Piece) × IsStream parts (R.coming source.old) (R.behind source.old) × (W.sent target.new ≡ W.sent target.old ++ all_samples 0 parts) }
+    ensures reported { Tells R.Source source.old source.new → Serves W.Target target.old target.new → Serves E.Target err.old err.new →
+        ReportsOf IsOutOfMemory (Reads (R.coming source.old) (R.behind source.old)) paths.now.input.now result (E.sent err.old) (E.sent err.new) }
+{
+    match decode_samples(alloc, source, target) {
+        Ok(()) => 0,
+        Err(fault) => {
+            let path = paths.at_fault(is_of_samples(fault.why));
+            refuse(err, path, Some(fault.at), fault.why)
+        }
+    }
+}
+
+/// Lists the metadata of a stream. Returns the status.
+fn run_list<R: Source, O: Target, E: Target>(
+    alloc: Global,
+    input: &str,
+    source: &mut R,
+    out: &mut O,
+    err: &mut E,
+) -> u8
+    ensures status { result ≤ 1 }
+    ensures stream { result ≡ 0 → Tells R.Source source.old source.new → (parts : List Piece) × IsStream parts (R.coming source.old) (R.behind source.old) }
+    ensures reported { Tells R.Source source.old source.new → Serves E.Target err.old err.new →
+        ReportsOf IsUnlisted (Reads (R.coming source.old) (R.behind source.old)) input.now result (E.sent err.old) (E.sent err.new) }
+{
+    match list(alloc, source, out) {
+        Ok(()) => 0,
+        Err(fault) => refuse(err, input, Some(fault.at), fault.why),
+    }
+}
+
+/// Writes a stream with these words as comments. Returns the status.
+fn run_retag<R: Source, W: Target, E: Target>(
+    alloc: Global,
+    paths: &Paths<'_>,
+    words: &[&str],
+    source: &mut R,
+    target: &mut W,
+    err: &mut E,
+) -> u8
+    ensures status { result ≤ 1 }
+    ensures retagged { result ≡ 0 → R.known source.old ≡ true → W.known target.old ≡ true →
+        RetagsWith (map (λ word. word.now) words.now) (R.coming source.old) (R.behind source.old) (bits_of (W.sent target.old)) (bits_of (W.sent target.new)) }
+    ensures reported { Tells R.Source source.old source.new → Serves W.Target target.old target.new → Serves E.Target err.old err.new →
+        ReportsOf IsRetagOutOfMemory (IsRetagged (map (λ word. word.now) words.now) (R.coming source.old) (R.behind source.old)) paths.now.input.now result (E.sent err.old) (E.sent err.new) }
+{
+    match retag_with(alloc, source, words, target) {
+        Ok(()) => 0,
+        Err(fault) => {
+            let path = paths.at_fault(is_of_target(fault));
+            refuse(err, path, fault.at, fault.why)
+        }
+    }
 }
 
 /// Does a job, and returns the exit status: 0 if it is done, 1 if it failed.
 ///
 /// `source` is the file that the job reads, `target` the one that it writes, if it writes one; `out` and `err` are
 /// standard output and standard error. After status 1 the line of the error was written to `err`, if that could be
-/// written. The clauses say so of encoding only.
+/// written.
 pub fn run<R: Source, W: Target, O: Target, E: Target>(
     alloc: Global,
     job: &Job<'_>,
@@ -160,23 +292,22 @@ pub fn run<R: Source, W: Target, O: Target, E: Target>(
     // After status 0, a retagging has added to the file the same STREAMINFO, the comments, the other blocks and the
     // rest of the input.
     ensures retagged { result ≡ 0 → R.known source.old ≡ true → W.known target.old ≡ true → HasRetagged job.now (R.coming source.old) (R.behind source.old) (bits_of (W.sent target.old)) (bits_of (W.sent target.new)) }
+    // The status is 0 or 1.
+    ensures status { result ≤ 1 }
+    // If no device that the job uses fails: if the input is a stream, test, decode and list return 0 and add nothing to
+    // standard error; if it is refused, they return 1 and add exactly the line of its place and reason. So does retag
+    // for the marker, the blocks and comments that are too long. Or memory ran out, or a block could not be listed:
+    // then the line says that.
+    ensures reported { Tells R.Source source.old source.new → Serves E.Target err.old err.new →
+        ReportsInput job.now (R.coming source.old) (R.behind source.old) (Serves W.Target target.old target.new) (Serves O.Target out.old out.new) result (E.sent err.old) (E.sent err.new) }
 {
     match job {
-        Job::Test { .. } => match count(alloc, source) {
-            Ok(counts) => match write_counts(out, &counts) {
-                Ok(()) => 0,
-                Err(why) => refuse(err, job, is_of_output(why), &why),
-            },
-            Err(fault) => refuse(err, job, is_of_output(fault.why), &fault),
-        },
-        Job::Decode { .. } => match decode_samples(alloc, source, target) {
-            Ok(()) => 0,
-            Err(fault) => refuse(err, job, is_of_output(fault.why), &fault),
-        },
-        Job::List { .. } => match list(alloc, source, out) {
-            Ok(()) => 0,
-            Err(fault) => refuse(err, job, is_of_output(fault.why), &fault),
-        },
+        Job::Test { input } => run_test(alloc, input, source, out, err),
+        Job::Decode { input, output } => {
+            let paths = Paths { input, output };
+            run_decode(alloc, &paths, source, target, err)
+        }
+        Job::List { input } => run_list(alloc, input, source, out, err),
         Job::Encode {
             input,
             output,
@@ -194,14 +325,13 @@ pub fn run<R: Source, W: Target, O: Target, E: Target>(
             Ok(()) => 0,
             Err(refusal) => refuse_encoding(err, input, output, refusal),
         },
-        Job::Retag { comments, .. } => match retag_with(
-            alloc,
-            source,
-            comments.as_slice(),
-            target,
-        ) {
-            Ok(()) => 0,
-            Err(fault) => refuse(err, job, is_of_output(fault.why), &fault),
-        },
+        Job::Retag {
+            input,
+            output,
+            comments,
+        } => {
+            let paths = Paths { input, output };
+            run_retag(alloc, &paths, comments.as_slice(), source, target, err)
+        }
     }
 }

@@ -1,0 +1,105 @@
+-- What the program reports of a job that reads a stream, native or Ogg.
+use Rattle.std.specs.Prelude.{◌≡◌, ◌⊎◌, ◌≤◌, ◌<◌, ℕ, List, ◌++◌, map, codes, Option, Some, None}
+use Rattle.flac_bits.specs.Bits.{bits_of}
+use Rattle.flac_bits.specs.Handing.{Reading}
+use Rattle.flac_bits.specs.Reasons as reasons
+use Rattle.flac_bits.specs.State.{Behind, short_of}
+use Rattle.flac_bits.specs.declared.why.Why.{Why}
+use Rattle.flac_bits.specs.declared.why.Why.TheVariants as why
+use Rattle.flac_meta.specs.Spelling.{comments_length}
+use Rattle.flac_native.specs.Decoding.{beginning}
+use Rattle.flac_native.specs.Places.{place_text, fault_text}
+use Rattle.flac_native.specs.Retag.{HasHead, IsRefused}
+use Rattle.flac_native.specs.Stream.{Piece}
+use Rattle.flac_native.specs.declared.fault.Fault.{Fault}
+use Rattle.flac_native.specs.declared.fault.Place.{Place}
+use Rattle.flac_native.specs.declared.retag_fault.RetagFault.{RetagFault}
+use Rattle.flac_ogg.specs.Either.{begins_page, read_either}
+use Rattle.flac_cli.specs.Encoded.{comments_of}
+use Rattle.flac_cli.specs.Reports.{fault_line}
+use Rattle.flac_jobs.specs.declared.jobs.Job.{Job}
+use Rattle.flac_jobs.specs.declared.jobs.Job.TheVariants as job
+
+-- ---- what is reported
+
+-- nothing, or the place of a refusal, if it has one, and its reason
+abbrev pub Outcome : Type 0
+Outcome = Option (Option Place × Why)
+
+-- the outcomes of calls
+abbrev pub at_place : Fault → Option Place × Why
+at_place fault = (Some fault.at, fault.why)
+
+abbrev pub at_some_place : RetagFault → Option Place × Why
+at_some_place fault = (fault.at, fault.why)
+
+-- the text of a reason: behind that of its place, if it has one
+abbrev pub placed : Option Place → (text : List ℕ) → List ℕ
+placed None text = text
+placed (Some at) text = place_text at ++ (codes ": " ++ text)
+
+-- the number and the name of a reason, as a fault at this place is printed
+abbrev pub reason_text : Option Place → Why → List ℕ
+reason_text None why = reasons.text_of why
+reason_text (Some at) why = fault_text (record { at = at; why = why })
+
+-- The status, and what was added to standard error: 0 and nothing, or 1 and the line of the place and the reason.
+abbrev pub IsAnswer : Outcome → (path : List ℕ) → (status : ℕ) → (before after : List ℕ) → Type 0
+IsAnswer None path status before after = (status ≡ 0) × (after ≡ before)
+IsAnswer (Some f) path status before after = (status ≡ 1) × (after ≡ before ++ fault_line path (reason_text f.0 f.1))
+
+-- ---- what an input is
+
+-- how an input is read: as an Ogg stream if its first byte is that of a page, else as a native one
+abbrev pub input_reading : List ℕ → Behind → Reading Piece Place
+input_reading bytes behind = read_either (begins_page bytes) (beginning (short_of behind.fails)) (bits_of bytes)
+
+-- it is a stream, or is refused at this place and for this reason
+abbrev pub Reads : List ℕ → Behind → Outcome → Type 0
+Reads bytes behind None = (items : List Piece) × (input_reading bytes behind).whole items
+Reads bytes behind (Some f) = (at : Place) × (f.0 ≡ Some at) × ((items : List Piece) × (input_reading bytes behind).refused items at f.1)
+
+-- These words are too long for a block of comments, or else the input begins with a marker and blocks, or its marker or a block is refused at this place
+-- and for this reason.
+abbrev pub IsRetagged : (words : List (List ℕ)) → List ℕ → Behind → Outcome → Type 0
+IsRetagged words bytes behind None = (comments_length (comments_of words) ≤ 16777215) × HasHead (beginning (short_of behind.fails)) (bits_of bytes)
+IsRetagged words bytes behind (Some f) =
+    ((16777215 < comments_length (comments_of words)) × (f.0 ≡ None) × (f.1 ≡ why.BlockLength))
+    ⊎ ((comments_length (comments_of words) ≤ 16777215) × ((at : Place) × (f.0 ≡ Some at) × IsRefused (beginning (short_of behind.fails)) (bits_of bytes) at f.1))
+
+-- ---- what no input shows
+
+-- memory ran out at some place
+abbrev pub IsOutOfMemory : Outcome → Type 0
+IsOutOfMemory outcome = (at : Place) × (outcome ≡ Some (Some at, why.Memory))
+
+-- memory ran out, at some place or before anything was read
+abbrev pub IsRetagOutOfMemory : Outcome → Type 0
+IsRetagOutOfMemory outcome = (at : Option Place) × (outcome ≡ Some (at, why.Memory))
+
+-- memory ran out, or a block could not be listed
+abbrev pub IsUnlisted : Outcome → Type 0
+IsUnlisted outcome = IsOutOfMemory outcome ⊎ ((at : Place) × (outcome ≡ Some (Some at, why.Sink)))
+
+-- ---- both ways
+
+-- What was reported is what the input is, and what the input is was reported, unless the outcome is one that no input shows.
+pub record Fits (outside is : Outcome → Type 0) (outcome : Outcome) : Type 0 where
+  pub right : outside outcome ⊎ is outcome
+  pub each : (other : Outcome) → is other → outside outcome ⊎ (outcome ≡ other)
+
+-- The status and the line are those of such an outcome.
+pub record Reports (outside is : Outcome → Type 0) (path : List ℕ) (status : ℕ) (before after : List ℕ) : Type 0 where
+  pub outcome : Outcome
+  pub answer : IsAnswer outcome path status before after
+  pub fits : Fits outside is outcome
+
+-- So it is for each job that reads a stream. Decoding and retagging write to the target, of which `served` says that it did not fail, and a test prints to
+-- standard output, of which `printed` says so. Listing prints too, and of its text nothing is claimed.
+abbrev pub ReportsInput : Job → (bytes : List ℕ) → Behind → (served printed : Type 0) → (status : ℕ) → (before after : List ℕ) → Type 0
+ReportsInput (job.Test input) bytes behind served printed status before after = printed → Reports IsOutOfMemory (Reads bytes behind) input.now status before after
+ReportsInput (job.Decode input output) bytes behind served printed status before after = served → Reports IsOutOfMemory (Reads bytes behind) input.now status before after
+ReportsInput (job.List input) bytes behind served printed status before after = Reports IsUnlisted (Reads bytes behind) input.now status before after
+ReportsInput (job.Encode input output format c comments) bytes behind served printed status before after = Unit {0}
+ReportsInput (job.Retag input output comments) bytes behind served printed status before after =
+    served → Reports IsRetagOutOfMemory (IsRetagged (map (λ c. c.now) comments.items) bytes behind) input.now status before after
