@@ -6,9 +6,10 @@ usage: conformance/c_door.py [--quick] [--library FILE] [--no-valgrind]
 `run` (FLAC), and files are made in a folder that is thrown away. Without the reference encoder only the streams that are made bit
 by bit, and copies of them, are compared. Status 1 if a case failed.
 
-Of each stream: verify is `test`, the information, vendor and comments are `list`, the samples are `decode`. Of each sound: the
-stream is that of `encode`, byte by byte, and wav2flac and flac2wav give the same WAV file again. Some run under valgrind and under
-the sanitizers, and with each allocation refused.
+Of each stream: verify is `test`, the information, vendor and comments are `list`, the samples are `decode`; a native stream frame by
+frame, and from some samples on, has the same samples and ends for the same reason. Of each sound: the stream is that of `encode`,
+byte by byte, and has at most the bytes of the bound; wav2flac and flac2wav give the same WAV file again. Some run under valgrind and
+under the sanitizers, and with each allocation refused.
 """
 import argparse
 import array
@@ -243,8 +244,16 @@ def module(door, made, listed, paths):
             door.expect(f"module {os.path.basename(path)}", library.decode(stream), program.read(raw))
     for sound in listed[:4]:
         data = program.read(made.path(sound.name + ".wav"))
-        samples = library.samples(library.encode(sounds_of(made, sound), sound.rate, sound.channels, sound.bits, comments=COMMENTS))
+        native = library.encode(sounds_of(made, sound), sound.rate, sound.channels, sound.bits, seek_every=1000, comments=COMMENTS)
+        samples, stepped, cursor = library.samples(native), array.array("i"), library.start(native)
         door.expect(f"module {sound.name}", (samples, len(data) > 0), (sounds_of(made, sound), True))
+        for frame in library.frames(native, cursor):
+            stepped.extend(frame)
+        door.expect(f"module, frames of {sound.name}", (stepped, cursor.offset, cursor.sample), (samples, len(native), sound.length))
+        cursor = library.seek(native, sound.length // 2)
+        first = cursor.sample
+        rest = array.array("i", [sample for frame in library.frames(native, cursor) for sample in frame])
+        door.expect(f"module, sought in {sound.name}", (first <= sound.length // 2, rest), (True, samples[first * sound.channels:]))
         stream = library.encode(samples, sound.rate, sound.channels, sound.bits, serial=5, vendor="x", comments=COMMENTS)
         info = library.info(stream)
         door.expect(f"module, info of {sound.name}", (info.total, info.rate, info.channels, info.bits), (sound.length, sound.rate, sound.channels, sound.bits))

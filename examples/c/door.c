@@ -20,6 +20,9 @@ void *__wrap_malloc(size_t size);
 void *__wrap_realloc(void *block, size_t size);
 void __wrap_free(void *block);
 
+/* The bytes of a stream's information without those that only fill it up. */
+#define INFO_BYTES (offsetof(struct flac_proved_stream_info, digest) + 16)
+
 /* Stands for a buffer without room. */
 static uint8_t nothing[1];
 static int32_t no_numbers[1];
@@ -196,6 +199,112 @@ static void put_samples(struct file file, uint32_t due) {
     __real_free(bytes.bytes);
 }
 
+/* Whether a cursor stayed. */
+static int is_there(const struct flac_proved_cursor *a, const struct flac_proved_cursor *b) {
+    return a->offset == b->offset && a->frames == b->frames && a->sample == b->sample && memcmp(&a->info, &b->info, INFO_BYTES) == 0;
+}
+
+/* The frame at a cursor: first with no room, then with as much as is needed and a sample more. Its samples are in a block of its own. */
+static int32_t *stepped(struct file file, struct flac_proved_cursor *cursor, size_t *len, struct flac_proved_fault *fault) {
+    struct flac_proved_cursor before = *cursor;
+    int32_t *samples = NULL;
+    size_t again = 98;
+    uint32_t number;
+    *len = 99;
+    number = flac_proved_next(file.bytes, file.len, cursor, no_numbers, 0, len, fault);
+    must(number == fault->number && is_there(&before, cursor) && (number == 0 || *len == 99), 13);
+    if (number != 0) {
+        return NULL;
+    }
+    must((*len == 0) == (cursor->offset == file.len), 13);
+    samples = room_for(*len + 1, sizeof *samples);
+    must(flac_proved_next(file.bytes, file.len, cursor, samples, *len + 1, &again, fault) == 0 && again == *len, 13);
+    must((uint32_t)samples[*len] == 0xA5A5A5A5U && (*len == 0) == is_there(&before, cursor), 13);
+    return samples;
+}
+
+/* Seeks a sample: the frame that holds it is found, and is that of all samples. */
+static void sought(struct file file, uint64_t sample, const int32_t *all, size_t count) {
+    struct flac_proved_cursor cursor;
+    struct flac_proved_fault fault;
+    size_t len, channels;
+    must(flac_proved_seek(file.bytes, file.len, sample, &cursor, &fault) == 0 && cursor.sample <= sample, 14);
+    channels = cursor.info.channels;
+    while (cursor.offset < file.len) {
+        uint64_t first = cursor.sample;
+        int32_t *samples = stepped(file, &cursor, &len, &fault);
+        must(samples != NULL && cursor.sample == first + len / channels, 14);
+        if (sample < cursor.sample) {
+            must(memcmp(samples, all + first * channels, len * sizeof *samples) == 0, 14);
+            __real_free(samples);
+            return;
+        }
+        __real_free(samples);
+    }
+    must(sample >= count / channels, 14);
+}
+
+/* The samples of a stream that is whole. */
+static int32_t *all_samples(struct file file, size_t *count) {
+    struct flac_proved_fault fault;
+    int32_t *all;
+    must(flac_proved_samples(file.bytes, file.len, no_numbers, 0, count, &fault) == 0, 8);
+    all = room_for(*count, sizeof *all);
+    must(flac_proved_samples(file.bytes, file.len, all, *count, count, &fault) == 0, 8);
+    return all;
+}
+
+/* Reads a native stream frame by frame: what is given, and where and why it ends, is what the other calls say. */
+static void step_through(struct file file, const struct flac_proved_fault *due) {
+    struct flac_proved_cursor cursor;
+    struct flac_proved_stream_info info;
+    struct flac_proved_fault fault;
+    int32_t *all = NULL, *samples;
+    size_t len, count = 0, done = 0, i;
+    int is_numbered = 1;
+    uint32_t number = flac_proved_start(file.bytes, file.len, &cursor, &fault);
+    must(number == fault.number && live == 0, 13);
+    if (file.len > 3 && memcmp(file.bytes, "OggS", 4) == 0) {
+        must(number == 4 && fault.place == 1, 13);
+        return;
+    }
+    if (due->place == 1 || due->place == 2) {
+        must(number == due->number && fault.place == due->place && fault.index == due->index, 13);
+        return;
+    }
+    if (number != 0) {
+        must(file.bytes[0] == 'O', 13);
+        return;
+    }
+    must(flac_proved_info(file.bytes, file.len, &info, &fault) == 0 && memcmp(&info, &cursor.info, INFO_BYTES) == 0, 13);
+    if (due->number == 0) {
+        all = all_samples(file, &count);
+    }
+    while ((samples = stepped(file, &cursor, &len, &fault)) != NULL && len > 0) {
+        if (due->number == 0) {
+            must(len <= count - done && memcmp(samples, all + done, len * sizeof *samples) == 0, 13);
+        }
+        done += len;
+        /* headers may number frames from any number on, and may be numbered by another block size than that of the frames */
+        is_numbered &= cursor.sample == done / cursor.info.channels;
+        __real_free(samples);
+    }
+    /* that a number or a size does not follow on is judged by the other calls alone */
+    if (due->place == 3 && due->number != 18 && due->number != 19) {
+        must(fault.number == due->number && fault.place == 3 && fault.index == due->index && cursor.frames == due->index, 13);
+    } else if (due->place != 3) {
+        must(fault.number == 0 && cursor.offset == file.len, 13);
+    }
+    __real_free(samples);
+    if (due->number == 0) {
+        must(done == count, 13);
+        for (i = 0; is_numbered && i < 5; i++) {
+            sought(file, i * count / info.channels / 4, all, count);
+        }
+        __real_free(all);
+    }
+}
+
 static void put_lines(const char *path) {
     struct file file = read_file(path);
     struct flac_proved_fault fault;
@@ -205,13 +314,14 @@ static void put_lines(const char *path) {
     number == 0 ? (void)printf("ok\n") : put_fault(&fault);
     put_info(file);
     put_samples(file, number);
+    step_through(file, &fault);
     must(live == 0, 7);
     __real_free(file.bytes);
 }
 
 /* ---- refuse */
 
-static const char *const names[] = {"verify", "info", "comment", "vendor", "decode", "samples", "encode", "encode_ogg"};
+static const char *const names[] = {"verify", "info", "comment", "vendor", "decode", "samples", "encode", "encode_ogg", "start", "seek", "next"};
 
 /* One of the calls. Its length is 99 if the call has not changed it. */
 static uint32_t call(size_t which, struct file file, size_t *len) {
@@ -221,8 +331,10 @@ static uint32_t call(size_t which, struct file file, size_t *len) {
     const struct flac_proved_tags tags = {{(const uint8_t *)"door", 4}, list, 2};
     struct flac_proved_settings settings = {44100, 2, 16, 64, 100, 0, 0};
     struct flac_proved_stream_info info;
+    struct flac_proved_cursor cursor;
     struct flac_proved_fault fault;
     int32_t samples[200];
+    uint32_t number;
     int i;
     *len = 99;
     switch (which) {
@@ -232,6 +344,11 @@ static uint32_t call(size_t which, struct file file, size_t *len) {
     case 3: return flac_proved_vendor(file.bytes, file.len, text, sizeof text, len, &fault);
     case 4: return flac_proved_decode(file.bytes, file.len, 0, text, sizeof text, len, &fault);
     case 5: return flac_proved_samples(file.bytes, file.len, numbers, 25000, len, &fault);
+    case 8: return flac_proved_start(file.bytes, file.len, &cursor, &fault);
+    case 9: return flac_proved_seek(file.bytes, file.len, 1000, &cursor, &fault);
+    case 10:
+        number = flac_proved_start(file.bytes, file.len, &cursor, &fault);
+        return number != 0 ? number : flac_proved_next(file.bytes, file.len, &cursor, numbers, 25000, len, &fault);
     }
     for (i = 0; i < 200; i++) {
         samples[i] = i * i % 1000 - 17 * i;
@@ -246,7 +363,7 @@ static void refuse_each(const char *path) {
     struct file file = read_file(path);
     size_t which, len;
     printf("%s refused", path);
-    for (which = 0; which < 8; which++) {
+    for (which = 0; which < sizeof names / sizeof *names; which++) {
         unsigned long cases = 0, memory = 0;
         uint32_t due, found;
         refused = 0;
@@ -302,6 +419,7 @@ static void encode(int count, char **words) {
         flac_proved_strerror(number, reason, sizeof reason);
         printf("%s\n", (char *)reason);
     } else {
+        must(len <= flac_proved_bound(&settings, samples, &tags), 12);
         stream.bytes = room_for(len, 1);
         must(flac_proved_encode(&settings, list, samples, &tags, stream.bytes, len, &stream.len) == 0 && stream.len == len, 10);
         out = fopen(words[3], "wb");

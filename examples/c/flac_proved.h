@@ -1,6 +1,6 @@
 /* FLAC streams in memory: verified, described, decoded and encoded by code that is proved.
  *
- * The calls of version 0.3, for C99 and C++ on x86-64. docs/c.md has a worked example.
+ * The calls of version 0.4, for C99 and C++ on x86-64. docs/c.md has a worked example.
  *
  * Link with libflac_c.a, which `rt lib` builds in crates/flac_c/out, and with liblibc_c.a of the toolchain, which passes allocations on
  * to malloc, realloc and free. The Makefile beside this file has the lines.
@@ -88,6 +88,36 @@ uint32_t flac_proved_samples(const uint8_t *bytes, size_t size, int32_t *out, si
 uint32_t flac_proved_decode(const uint8_t *bytes, size_t size, uint32_t width, uint8_t *out, size_t room, size_t *len,
                             struct flac_proved_fault *fault);
 
+/* ---- Reading a native stream frame by frame. An Ogg stream is refused at the marker: its frames are in packets that no offset names. */
+
+/* Where the next frame begins, and what frames are read by: plain numbers, which the caller may copy and keep. No memory belongs to it.
+ * A cursor is made by flac_proved_start or flac_proved_seek, and is used with the same bytes. */
+struct flac_proved_cursor {
+    uint64_t offset;                     /* bytes from the first byte of the stream to the next frame; `size` at the end */
+    uint64_t frames;                     /* how many frames were read since the cursor was made */
+    uint64_t sample;                     /* the number of the first sample of the next frame, counted in each channel */
+    struct flac_proved_stream_info info; /* what the stream says of itself */
+};
+
+/* Reads the metadata of a native stream, and makes a cursor at its first frame.
+ * Returns 0, or the number of the fault for which there is none; the cursor is then as it was. */
+uint32_t flac_proved_start(const uint8_t *bytes, size_t size, struct flac_proved_cursor *cursor, struct flac_proved_fault *fault);
+
+/* The same, but the cursor is where the seek table says that a frame begins: that of the last point at or before `sample` (RFC 9639,
+ * section 8.5), or the first frame if there is no such point. A table may be wrong: whether a frame is there is found by flac_proved_next.
+ * The frame that holds the sample is this one or a later one: read on while cursor->sample is at most `sample`. */
+uint32_t flac_proved_seek(const uint8_t *bytes, size_t size, uint64_t sample, struct flac_proved_cursor *cursor,
+                          struct flac_proved_fault *fault);
+
+/* Reads the frame at a cursor, and copies its samples to a buffer in the order of flac_proved_samples. *len is how many it has, at most
+ * info.greatest_block * info.channels. If there is room for all of them the cursor goes to the next frame; if not, nothing is written, and
+ * the cursor stays: call again with a larger buffer. At the end, if cursor->offset is `size`, *len is 0.
+ * Returns 0, or the number of the fault, at the place of the frame, counted from where the cursor was made; the cursor is then as it was.
+ * A frame is judged by itself and by STREAMINFO: that frames are numbered one after another, and the number and the MD5 of all samples, are
+ * judged by the calls that read the whole stream. */
+uint32_t flac_proved_next(const uint8_t *bytes, size_t size, struct flac_proved_cursor *cursor, int32_t *out, size_t room, size_t *len,
+                          struct flac_proved_fault *fault);
+
 /* ---- Writing a stream. */
 
 /* What samples are, and how they are encoded. */
@@ -128,6 +158,11 @@ struct flac_proved_tags {
  * or 2 if an allocation fails. */
 uint32_t flac_proved_encode(const struct flac_proved_settings *settings, const int32_t *samples, size_t count,
                             const struct flac_proved_tags *tags, uint8_t *out, size_t room, size_t *len);
+
+/* A number of bytes for the buffer of flac_proved_encode, by plain arithmetic: that of the samples as they are, and of what stands around
+ * them. In all tests it was enough. That it always is, is not proved: *len > room says so if it is not. Settings that are refused may have
+ * any bound; it stops at 2^64 - 1. */
+uint64_t flac_proved_bound(const struct flac_proved_settings *settings, size_t count, const struct flac_proved_tags *tags);
 
 #ifdef __cplusplus
 }

@@ -28,6 +28,12 @@ class StreamInfo(ctypes.Structure):
                 ("greatest_block", WORD), ("least_frame", WORD), ("greatest_frame", WORD), ("digest", ctypes.c_uint8 * 16)]
 
 
+class Cursor(ctypes.Structure):
+    """Where the next frame of a native stream begins, the number of its first sample, and what the stream says of itself."""
+
+    _fields_ = [("offset", ctypes.c_uint64), ("frames", ctypes.c_uint64), ("sample", ctypes.c_uint64), ("info", StreamInfo)]
+
+
 class Settings(ctypes.Structure):
     """What samples are, and how they are encoded."""
 
@@ -77,6 +83,10 @@ class Library:
                 ("vendor", WORD, stream + buffer + fault),
                 ("decode", WORD, stream + [WORD] + buffer + fault),
                 ("samples", WORD, stream + [INTS] + buffer[1:] + fault),
+                ("start", WORD, stream + [ctypes.POINTER(Cursor)] + fault),
+                ("seek", WORD, stream + [ctypes.c_uint64, ctypes.POINTER(Cursor)] + fault),
+                ("next", WORD, stream + [ctypes.POINTER(Cursor), INTS] + buffer[1:] + fault),
+                ("bound", ctypes.c_uint64, [ctypes.POINTER(Settings), SIZE, ctypes.POINTER(Tags)]),
                 ("encode", WORD, [ctypes.POINTER(Settings), INTS, SIZE, ctypes.POINTER(Tags)] + buffer),
                 ("strerror", SIZE, [WORD, BYTES, SIZE]),
                 ("place", SIZE, [WORD, BYTES, SIZE])):
@@ -140,12 +150,31 @@ class Library:
         numbers.frombytes(self.filled("samples", stream, room=info.total * info.channels, unit=ctypes.c_int32))
         return numbers
 
+    def start(self, stream):
+        """A Cursor at the first frame of a native stream."""
+        cursor = Cursor()
+        self.asked("start", stream, ctypes.byref(cursor))
+        return cursor
+
+    def seek(self, stream, sample):
+        """A Cursor at the frame that the seek table names for a sample, or at the first frame."""
+        cursor = Cursor()
+        self.asked("seek", stream, sample, ctypes.byref(cursor))
+        return cursor
+
+    def frames(self, stream, cursor):
+        """The frames from a cursor on, each as an array of numbers; the cursor goes with them."""
+        while cursor.offset < len(stream):
+            numbers = array.array("i")
+            numbers.frombytes(self.filled("next", stream, ctypes.byref(cursor), room=cursor.info.greatest_block * cursor.info.channels, unit=ctypes.c_int32))
+            yield numbers
+
     def encode(self, samples, rate, channels, bits, block_size=4096, seek_every=0, serial=None, vendor="flac_proved.py", comments=()):
         """The stream of an array of numbers; an Ogg stream if it gets a serial number."""
         settings = Settings(rate, channels, bits, block_size, seek_every, serial is not None, serial or 0)
         numbers = (ctypes.c_int32 * max(len(samples), 1))(*samples)
         tags = Tags(text(vendor), (Text * max(len(comments), 1))(*map(text, comments)), len(comments))
-        length = SIZE(len(samples) * ((bits + 7) // 8) + 65536)
+        length = SIZE(self.c.flac_proved_bound(ctypes.byref(settings), len(samples), ctypes.byref(tags)))
         while True:
             out = (ctypes.c_uint8 * length.value)()
             number = self.c.flac_proved_encode(ctypes.byref(settings), numbers, len(samples), ctypes.byref(tags), out, len(out), ctypes.byref(length))

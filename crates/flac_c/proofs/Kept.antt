@@ -16,6 +16,10 @@ use Rattle.flac_c.specs.Heads.{info_from, comments_from, info_behind, comments_b
 pub can_rise : (n : ℕ) → n ≡ 0 → nat_lt n 18446744073709551615 ≡ true
 can_rise n is = rw is refl
 
+-- What holds at Ok holds where it is one.
+pub then_ok : {A E : Type 0} (X : Type 0) (r : Result A E) (a : A) → r ≡ Ok a → OnOk r X → X
+then_ok {A} {E} X r a is h = subst (λ (q : Result A E). OnOk q X) is h
+
 -- What holds where nothing was refused holds at Ok.
 pub at_ok : {A X : Type 0} (r : Result A Fault) → (outcome_of told r ≡ None → X) → OnOk r X
 at_ok (Ok a) h = h refl

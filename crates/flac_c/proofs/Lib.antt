@@ -2,3 +2,8 @@ pub mod Collecting
 pub mod Encodings
 pub mod Kept
 pub mod Numbered
+pub mod FramesRead
+pub mod Heading
+pub mod HeadBytes
+pub mod HandedOver
+pub mod InStreams

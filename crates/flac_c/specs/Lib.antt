@@ -1,5 +1,9 @@
 pub mod Answers
+pub mod Cursors
 pub mod Encoded
 pub mod Heads
 pub mod Interleaved
 pub mod Sampled
+pub mod Starts
+pub mod Blocks
+pub mod Bound

@@ -48,13 +48,13 @@ fn count_of(comments: &Option<Comments>) -> u64
     }
 }
 
-/// STREAMINFO and the number of comments, in numbers.
-fn info_in_c(info: &StreamInfo, comments: &Option<Comments>) -> FlacProvedInfo
-    ensures { result ≡ info_in_c info.now comments.now }
+/// STREAMINFO and a number of comments, in numbers.
+pub(crate) fn info_counted(info: &StreamInfo, comments: u64) -> FlacProvedInfo
+    ensures { (found : Option Listed) → comments ≡ count_of found → result ≡ info_in_c info.now found }
 {
     FlacProvedInfo {
         total: info.total(),
-        comments: count_of(comments),
+        comments,
         rate: info.rate(),
         channels: u32::from(info.channels()),
         bits: u32::from(info.depth()),
@@ -64,6 +64,13 @@ fn info_in_c(info: &StreamInfo, comments: &Option<Comments>) -> FlacProvedInfo
         greatest_frame: info.greatest_frame(),
         digest: info.digest(),
     }
+}
+
+/// STREAMINFO and the number of comments, in numbers.
+fn info_in_c(info: &StreamInfo, comments: &Option<Comments>) -> FlacProvedInfo
+    ensures { result ≡ info_in_c info.now comments.now }
+{
+    info_counted(info, count_of(comments))
 }
 
 /// Copies a comment, as far as there is room, and returns its length.

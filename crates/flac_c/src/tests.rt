@@ -1,10 +1,14 @@
 //! Each call as a program in C makes it.
 
+use crate::bound::flac_proved_bound;
+use crate::cursor::FlacProvedCursor;
 use crate::decoding::flac_proved_decode;
 use crate::encoding::{FlacProvedSettings, flac_proved_encode};
 use crate::fault::FlacProvedFault;
 use crate::info::{FlacProvedInfo, flac_proved_comment, flac_proved_info, flac_proved_vendor};
 use crate::samples::flac_proved_samples;
+use crate::starting::{flac_proved_seek, flac_proved_start};
+use crate::stepping::flac_proved_next;
 use crate::tags::{FlacProvedTags, FlacProvedText};
 use crate::texts::{flac_proved_place, flac_proved_strerror};
 use crate::verifying::flac_proved_verify;
@@ -289,5 +293,169 @@ fn not_encoded(rt: HostRuntime) -> Result<(), Fail> {
         assert!(rt; (number, len) == (due, 99));
         assert!(rt; stream == [9; 200]);
     }
+    Ok(())
+}
+
+/// A cursor that no call made.
+fn nowhere() -> FlacProvedCursor {
+    FlacProvedCursor {
+        offset: 99,
+        frames: 99,
+        sample: 99,
+        info: unknown(),
+    }
+}
+
+#[test]
+fn frame_by_frame(rt: HostRuntime) -> Result<(), Fail> {
+    let (mut cursor, mut fault) = (nowhere(), unset());
+    let number = flac_proved_start(rt.alloc(), &TAGGED, &mut cursor, &mut fault);
+    assert!(rt; (number, fault.number) == (0, 0));
+    assert!(rt; (cursor.offset, cursor.frames, cursor.sample) == (73, 0, 0));
+    assert!(rt;
+        (
+            cursor.info.total,
+            cursor.info.comments,
+            cursor.info.channels
+        ) == (1, 2, 2)
+    );
+    let (mut samples, mut len) = ([9i32; 3], 99);
+    let number = flac_proved_next(
+        rt.alloc(),
+        &TAGGED,
+        &mut cursor,
+        &mut samples[..1],
+        &mut len,
+        &mut fault,
+    );
+    assert!(rt; (number, len, cursor.offset) == (0, 2, 73));
+    assert!(rt; samples == [9, 9, 9]);
+    let number = flac_proved_next(
+        rt.alloc(),
+        &TAGGED,
+        &mut cursor,
+        &mut samples,
+        &mut len,
+        &mut fault,
+    );
+    assert!(rt; (number, len) == (0, 2));
+    assert!(rt; samples == [25588, 10416, 9]);
+    assert!(rt; (cursor.offset, cursor.frames, cursor.sample) == (88, 1, 1));
+    let number = flac_proved_next(
+        rt.alloc(),
+        &TAGGED,
+        &mut cursor,
+        &mut samples,
+        &mut len,
+        &mut fault,
+    );
+    assert!(rt; (number, len, cursor.offset) == (0, 0, 88));
+    Ok(())
+}
+
+#[test]
+fn no_frame(rt: HostRuntime) -> Result<(), Fail> {
+    let (mut cursor, mut fault) = (nowhere(), unset());
+    let number = flac_proved_start(rt.alloc(), b"OggS", &mut cursor, &mut fault);
+    assert!(rt; (number, fault.number, fault.place, cursor.offset) == (4, 4, 1, 99));
+    let number = flac_proved_start(rt.alloc(), &STREAM[..40], &mut cursor, &mut fault);
+    assert!(rt; (number, fault.place, fault.index, cursor.offset) == (3, 2, 0, 99));
+    assert!(rt; flac_proved_start(rt.alloc(), &STREAM, &mut cursor, &mut fault) == 0);
+    cursor.frames = 7;
+    let (mut samples, mut len) = ([9i32; 3], 99);
+    let number = flac_proved_next(
+        rt.alloc(),
+        &STREAM[..56],
+        &mut cursor,
+        &mut samples,
+        &mut len,
+        &mut fault,
+    );
+    assert!(rt; (number, fault.number, fault.place, fault.index) == (3, 3, 3, 7));
+    assert!(rt; (len, cursor.offset, cursor.frames) == (99, 42, 7));
+    cursor.info.channels = 9;
+    let number = flac_proved_next(
+        rt.alloc(),
+        &STREAM,
+        &mut cursor,
+        &mut samples,
+        &mut len,
+        &mut fault,
+    );
+    assert!(rt; (number, fault.place, fault.index, len) == (8, 3, 7, 99));
+    assert!(rt; samples == [9, 9, 9]);
+    Ok(())
+}
+
+/// The stream with a seek table behind STREAMINFO (RFC 9639, section 8.5): of sample 5 in a frame 7 bytes behind the first frame, and of no frame.
+const SOUGHT: [u8; 97] = [
+    0x66, 0x4c, 0x61, 0x43, 0x00, 0x00, 0x00, 0x22, 0x10, 0x00, 0x10, 0x00, 0x00, 0x00, 0x0f, 0x00,
+    0x00, 0x0f, 0x0a, 0xc4, 0x42, 0xf0, 0x00, 0x00, 0x00, 0x01, 0x3e, 0x84, 0xb4, 0x18, 0x07, 0xdc,
+    0x69, 0x03, 0x07, 0x58, 0x6a, 0x3d, 0xad, 0x1a, 0x2e, 0x0f, 0x83, 0x00, 0x00, 0x24, 0x00, 0x00,
+    0x00, 0x00, 0x00, 0x00, 0x00, 0x05, 0x00, 0x00, 0x00, 0x00, 0x00, 0x00, 0x00, 0x07, 0x00, 0x01,
+    0xff, 0xff, 0xff, 0xff, 0xff, 0xff, 0xff, 0xff, 0x00, 0x00, 0x00, 0x00, 0x00, 0x00, 0x00, 0x00,
+    0x00, 0x00, 0xff, 0xf8, 0x69, 0x18, 0x00, 0x00, 0xbf, 0x01, 0x58, 0xfd, 0x01, 0x12, 0x8b, 0x5a,
+    0xb2,
+];
+
+#[test]
+fn sought(rt: HostRuntime) -> Result<(), Fail> {
+    let (mut cursor, mut fault) = (nowhere(), unset());
+    let number = flac_proved_seek(rt.alloc(), &SOUGHT, 4, &mut cursor, &mut fault);
+    assert!(rt; (number, cursor.offset, cursor.frames, cursor.sample) == (0, 82, 0, 0));
+    let number = flac_proved_seek(rt.alloc(), &SOUGHT, 5, &mut cursor, &mut fault);
+    assert!(rt; (number, cursor.offset, cursor.frames, cursor.sample) == (0, 89, 0, 5));
+    let number = flac_proved_seek(rt.alloc(), &SOUGHT, u64::MAX, &mut cursor, &mut fault);
+    assert!(rt; (number, cursor.offset, cursor.sample) == (0, 89, 5));
+    // No frame begins there.
+    let (mut samples, mut len) = ([9i32; 3], 99);
+    let number = flac_proved_next(
+        rt.alloc(),
+        &SOUGHT,
+        &mut cursor,
+        &mut samples,
+        &mut len,
+        &mut fault,
+    );
+    assert!(rt; (number, fault.place, fault.index, len) == (12, 3, 0, 99));
+    let number = flac_proved_seek(rt.alloc(), &SOUGHT[..81], 0, &mut cursor, &mut fault);
+    assert!(rt; (number, fault.place, fault.index, cursor.offset) == (3, 2, 1, 89));
+    Ok(())
+}
+
+/// The bound of samples with two comments.
+fn bound(settings: &FlacProvedSettings, count: usize) -> u64 {
+    let list = [
+        FlacProvedText { bytes: b"A=1" },
+        FlacProvedText { bytes: b"BC=23" },
+    ];
+    let tags = FlacProvedTags {
+        vendor: FlacProvedText { bytes: b"abc" },
+        list: &list,
+    };
+    flac_proved_bound(settings, count, &tags)
+}
+
+#[test]
+fn bounds(rt: HostRuntime) -> Result<(), Fail> {
+    // 58 bytes, the texts of 7, 7 and 9 bytes with their lengths, two samples of 2 bytes, and a frame of 28 bytes beside them.
+    assert!(rt; bound(&SETTINGS, 2) == 113);
+    // Three packets.
+    let ogg = FlacProvedSettings { ogg: 1, ..SETTINGS };
+    assert!(rt; bound(&ogg, 2) == 305);
+    // 3 frames of 16 samples at most, and 4 points of 18 bytes in a block with a header of 4 bytes.
+    let sought = FlacProvedSettings {
+        bits: 24,
+        block_size: 16,
+        seek_every: 10,
+        ..SETTINGS
+    };
+    assert!(rt; bound(&sought, 80) == 58 + 23 + 240 + 3 * 28 + 4 + 5 * 18);
+    let zeros = FlacProvedSettings {
+        channels: 0,
+        block_size: 0,
+        ..SETTINGS
+    };
+    assert!(rt; bound(&zeros, usize::MAX) == u64::MAX);
     Ok(())
 }

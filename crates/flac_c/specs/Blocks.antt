@@ -1,0 +1,73 @@
+-- Metadata blocks that are read one after another.
+use Rattle.std.specs.Prelude.{◌≡◌, ℕ, Bool, true, false, List, [], ◌∷◌, ◌++◌, Option, Some, None}
+use Rattle.flac_bits.specs.State.{State, past, fresh}
+use Rattle.flac_bits.specs.Meaning.{Spells}
+use Rattle.flac_bits.specs.Fence.{StopsIn}
+use Rattle.flac_bits.specs.Items.{Joined, Refused, after, mark_behind}
+use Rattle.flac_bits.specs.declared.why.Why.{Why}
+use Rattle.flac_meta.specs.Block.{block as block_layout, seen_after}
+use Rattle.flac_meta.specs.declared.seen.Seen.{Seen}
+use Rattle.flac_meta.specs.declared.block.Block.{Block}
+use Rattle.flac_meta.specs.declared.comments.Comments.{Comments}
+use Rattle.flac_native.specs.Stream.{Piece, grammar, opening, info_after}
+use Rattle.flac_native.specs.declared.fault.Place.{Place}
+use Rattle.flac_native.specs.declared.fault.Fault.{Fault}
+use Rattle.flac_native.specs.declared.fault.Place.TheVariants as place
+use Rattle.flac_native.specs.declared.phase.Phase.{Phase}
+use Rattle.flac_native.specs.declared.phase.Phase.TheVariants.{Blocks, Frames}
+use Rattle.flac_c.specs.Heads.{comments_from, comments_after, count_of}
+use Rattle.flac_c.specs.Starts.{point_after, point_from}
+use Rattle.flac_c.specs.declared.metadata.Metadata.{Metadata}
+
+-- what a block tells is kept
+pub record Noted (old : Metadata) (b : Block) (new : Metadata) : Type 0 where
+  pub info : new.info ≡ info_after old.info b
+  pub comments : (c : Option Comments) → old.comments ≡ count_of c → new.comments ≡ count_of (comments_after c b)
+  pub sample : new.sample ≡ old.sample
+  pub point : new.point ≡ point_after old.sample old.point b
+
+-- what all these parts tell is kept
+pub record IsFound (sample : ℕ) (parts : List Piece) (found : Metadata) : Type 0 where
+  pub info : found.info ≡ (after grammar opening parts).stand.info
+  pub comments : found.comments ≡ count_of (comments_from None parts)
+  pub sought : found.sample ≡ sample
+  pub point : found.point ≡ point_from sample None parts
+
+-- one block more was read and noted
+pub record BlockRead (seen left : Seen) (old new : State) (found noted : Metadata) (last : Bool) : Type 0 where
+  pub is : Block
+  pub text : List Bool
+  pub stands : old.cursor.left ≡ text ++ new.cursor.left
+  pub spelled : Spells (block_layout seen) (fresh old.cursor.mark) text (last, is)
+  pub mark : new.cursor.mark ≡ past text (fresh old.cursor.mark)
+  pub seen_is : left ≡ seen_after seen is
+  pub noted_is : Noted found is noted
+  pub known : new.known ≡ true
+  pub errors : new.errors ≡ old.errors
+
+-- these parts were read from the start on
+pub record PartsRead (start now : State) (sample : ℕ) (found : Metadata) : Type 0 where
+  pub parts : List Piece
+  pub text : List Bool
+  pub stands : start.cursor.left ≡ text ++ now.cursor.left
+  pub spelled : Joined grammar opening start.cursor.mark parts text
+  pub mark : now.cursor.mark ≡ mark_behind grammar opening start.cursor.mark parts text spelled
+  pub tells : IsFound sample parts found
+  pub known : now.known ≡ true
+  pub errors : now.errors ≡ start.errors
+
+-- and a block comes next
+pub record BlocksCome (start now : State) (sample : ℕ) (found : Metadata) (seen : Seen) (index : ℕ) : Type 0 where
+  pub read : PartsRead start now sample found
+  pub phase : (after grammar opening read.parts).stand.phase ≡ Blocks
+  pub seen_is : (after grammar opening read.parts).stand.seen ≡ seen
+  pub index_is : (after grammar opening read.parts).stand.index ≡ index
+
+-- and all blocks are read
+pub record HeadRead (start now : State) (sample : ℕ) (found : Metadata) : Type 0 where
+  pub read : PartsRead start now sample found
+  pub phase : (after grammar opening read.parts).stand.phase ≡ Frames
+
+-- what comes from the start on is refused there
+abbrev pub IsRefusedAt : State → Fault → Type 0
+IsRefusedAt start f = (parts : List Piece) × Refused grammar opening start.cursor.mark parts start.cursor.left f.at f.why

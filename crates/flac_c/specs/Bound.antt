@@ -1,0 +1,39 @@
+-- A number of bytes that is meant to have room for an encoded stream. No clause says that a stream is never longer.
+use Rattle.std.specs.Prelude.{ℕ, ◌+◌, ◌*◌, ◌/◌, min, max, cond, nat_eq, nat_le, List, length}
+use Rattle.std.specs.List.{fold}
+use Rattle.flac_c.specs.declared.tags.FlacProvedText.{FlacProvedText}
+use Rattle.flac_c.specs.declared.tags.FlacProvedTags.{FlacProvedTags}
+use Rattle.flac_c.specs.declared.encoding.FlacProvedSettings.{FlacProvedSettings}
+
+-- a text and its length; longer ones are refused
+abbrev pub text_bytes : FlacProvedText → ℕ
+text_bytes t = 4 + min (length t.bytes.now) 16777216
+
+abbrev pub texts_bytes : List FlacProvedText → ℕ
+texts_bytes texts = fold (λ n t. n + text_bytes t) 0 texts
+
+-- samples as they are, each in whole bytes
+abbrev pub raw_bytes : (bits count : ℕ) → ℕ
+raw_bytes bits count = cond (nat_le bits 8) count (cond (nat_le bits 16) (2 * count) (cond (nat_le bits 24) (3 * count) (4 * count)))
+
+-- how many parts of so many samples there are at most; 0 stands for 1
+abbrev pub parts_of : (each size : ℕ) → ℕ
+parts_of each size = each / max size 1 + 1
+
+-- a seek table of points of 18 bytes
+abbrev pub table_bytes : (each every : ℕ) → ℕ
+table_bytes each every = cond (nat_eq every 0) 0 (4 + 18 * parts_of each every)
+
+-- the marker, STREAMINFO and the comments have 58 bytes beside the texts; a frame has 28 beside its samples
+abbrev pub native_bytes : FlacProvedSettings → (count each : ℕ) → FlacProvedTags → ℕ
+native_bytes s count each t = 58 + text_bytes t.vendor + texts_bytes t.list.now + table_bytes each s.seek_every + raw_bytes s.bits count + 28 * parts_of each s.block_size
+
+-- and pages
+abbrev pub page_bytes : FlacProvedSettings → (each whole : ℕ) → ℕ
+page_bytes s each whole = cond (nat_eq s.ogg 0) 0 (whole / 200 + 64 * (parts_of each s.block_size + 2))
+
+abbrev pub bytes_among : FlacProvedSettings → (count each : ℕ) → FlacProvedTags → ℕ
+bytes_among s count each t = native_bytes s count each t + page_bytes s each (native_bytes s count each t)
+
+abbrev pub bound_of : FlacProvedSettings → (count : ℕ) → FlacProvedTags → ℕ
+bound_of s count t = min (bytes_among s count (count / max s.channels 1) t) 18446744073709551615

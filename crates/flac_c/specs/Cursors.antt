@@ -1,0 +1,98 @@
+-- Where a native stream is read, frame by frame (RFC 9639, sections 8.2, 8.5 and 9).
+use Rattle.std.specs.Prelude.{◌≡◌, ◌⊎◌, ℕ, ◌+◌, ◌*◌, ◌<◌, ◌≤◌, min, cond, Bool, ℤ, List, [], ◌∷◌, ◌++◌, length, take, drop, replicate, Option, Some, None}
+use Rattle.flac_bits.specs.Bits.{bits_of}
+use Rattle.flac_bits.specs.Items.{Joined, Stream, after}
+use Rattle.flac_bits.specs.Meaning.{Spells}
+use Rattle.flac_bits.specs.Fence.{InRoom, StopsIn}
+use Rattle.flac_bits.specs.declared.why.Why.{Why}
+use Rattle.flac_bits.specs.declared.why.Why.TheVariants.{Memory, Truncated, BadStreamInfo}
+use Rattle.flac_meta.specs.Info.{Info, KeepsRules}
+use Rattle.flac_frame.specs.Frame.{Frame, frame}
+use Rattle.flac_frame.specs.Interleaved.{interleaved}
+use Rattle.flac_native.specs.Decoding.{beginning}
+use Rattle.flac_native.specs.Resuming.{untold}
+use Rattle.flac_native.specs.Stream.{Piece, framed, grammar, opening}
+use Rattle.flac_native.specs.declared.fault.Place.{Place}
+use Rattle.flac_native.specs.declared.fault.Place.TheVariants as place
+use Rattle.flac_c.specs.Answers.{copied}
+use Rattle.flac_c.specs.declared.info.FlacProvedInfo.{FlacProvedInfo}
+use Rattle.flac_c.specs.declared.cursor.FlacProvedCursor.{FlacProvedCursor}
+
+-- ---- a cursor
+
+-- STREAMINFO by which frames are read from a cursor on: it states neither the number of samples nor their digest
+abbrev pub info_of : FlacProvedInfo → Info
+info_of i = record {
+  least_block = i.least_block;
+  greatest_block = i.greatest_block;
+  least_frame = i.least_frame;
+  greatest_frame = i.greatest_frame;
+  rate = i.rate;
+  channels = i.channels;
+  depth = i.bits;
+  total = 0;
+  digest = replicate 16 0;
+}
+
+-- the number of the first sample of a frame, by its header: coded there, or as many blocks before it as the number of the frame (section 9.1.5)
+abbrev pub first_of : FlacProvedInfo → Frame → ℕ
+first_of i f = cond f.variable f.number (f.number * i.greatest_block)
+
+-- the cursor behind a frame that ends at an offset; counts stop at 2^64 - 1
+abbrev pub passed : FlacProvedCursor → Frame → (end : ℕ) → FlacProvedCursor
+passed c f end = record {
+  offset = end;
+  frames = min (c.frames + 1) 18446744073709551615;
+  sample = min (first_of c.info f + f.size) 18446744073709551615;
+  info = c.info;
+}
+
+-- ---- a frame
+
+-- The first n of these bytes spell the frame, whatever its number is, and are no more than a frame may have.
+pub record IsFrameAt (i : Info) (bytes : List ℕ) (f : Frame) (n : ℕ) : Type 0 where
+  pub text : List Bool
+  pub split : bits_of bytes ≡ text ++ bits_of (drop n bytes)
+  pub within : n ≤ length bytes
+  pub spelled : Spells (frame i None) (beginning Truncated) text f
+  pub room : InRoom (Some 16777215) (beginning Truncated) text
+
+-- no frame of these bytes is there, for this reason
+abbrev pub NoFrameAt : Info → List ℕ → Why → Type 0
+NoFrameAt i bytes why = StopsIn (Some 16777215) (frame i None) (beginning Truncated) (bits_of bytes) why
+
+-- So many samples it has. Where there is room for all of them they are at the front of the buffer, and the cursor is behind the frame, which ends at this offset;
+-- where there is not, both are as they were.
+pub record HandsOver (f : Frame) (end : ℕ) (old new : FlacProvedCursor) (out written : List ℤ) (len : ℕ) : Type 0 where
+  pub many : len ≡ length (interleaved f)
+  pub given : len ≤ length out → (written ≡ copied (interleaved f) out) × (new ≡ passed old f end)
+  pub kept : length out < len → (written ≡ out) × (new ≡ old)
+
+-- ---- a call
+
+-- The stream is over at the cursor, or a frame is there and is handed over.
+abbrev pub GivesNext : List ℕ → (old new : FlacProvedCursor) → (out written : List ℤ) → ℕ → Type 0
+GivesNext bytes old new out written len =
+    ((old.offset ≡ length bytes) × (new ≡ old) × (written ≡ out) × (len ≡ 0))
+    ⊎ ((f : Frame) × (n : ℕ) × IsFrameAt (info_of old.info) (drop old.offset bytes) f n × HandsOver f (old.offset + n) old new out written len)
+
+-- No frame is there: memory ran out, or the cursor has no STREAMINFO, or this is why.
+abbrev pub RefusesNext : List ℕ → FlacProvedCursor → Option (Place × Why) → Type 0
+RefusesNext bytes c outcome =
+    (why : Why) × (outcome ≡ Some (place.Frame c.frames, why))
+    × ((why ≡ Memory) ⊎ (((why ≡ BadStreamInfo) × (KeepsRules (info_of c.info) → ⊥)) ⊎ NoFrameAt (info_of c.info) (drop c.offset bytes) why))
+
+-- ---- in a stream
+
+-- The bytes are a native stream of these parts. Those in front end at the cursor, which has their STREAMINFO; the others are still to come.
+pub record StandsIn (bytes : List ℕ) (c : FlacProvedCursor) (front more : List Piece) : Type 0 where
+  pub stream : Stream grammar opening (beginning Truncated) (front ++ more) (bits_of bytes)
+  pub before : c.offset ≤ length bytes
+  pub spelled : Joined grammar opening (beginning Truncated) front (bits_of (take c.offset bytes))
+  pub info : Info
+  pub told : (after grammar opening front).stand.info ≡ Some info
+  pub same : info_of c.info ≡ untold info
+
+-- Of a stream the next frame is handed over, and the cursor behind it stands in the same stream.
+abbrev pub GoesOn : List ℕ → (old new : FlacProvedCursor) → (out written : List ℤ) → ℕ → (front more : List Piece) → Frame → Type 0
+GoesOn bytes old new out written len front more f = (end : ℕ) × HandsOver f end old new out written len × StandsIn bytes (passed old f end) (front ++ framed f ∷ []) more

@@ -1,0 +1,74 @@
+-- Where the frames of a native stream begin, and where its seek table says that one begins (RFC 9639, sections 6, 8 and 8.5).
+use Rattle.std.specs.Prelude.{◌≡◌, ◌≢◌, ◌⊎◌, ℕ, ◌+◌, ◌≤◌, min, Bool, not, ◌&&◌, cond, nat_eq, nat_le, List, [], ◌∷◌, length, take, Option, Some, None}
+use Rattle.std.specs.List.{fold}
+use Rattle.flac_bits.specs.Bits.{bits_of}
+use Rattle.flac_bits.specs.Items.{Joined, Refused, after}
+use Rattle.flac_bits.specs.declared.why.Why.{Why}
+use Rattle.flac_bits.specs.declared.why.Why.TheVariants.{Memory, Truncated, NotStreamInfoFirst}
+use Rattle.flac_meta.specs.Info.{Info}
+use Rattle.flac_meta.specs.declared.block.Block.{Block}
+use Rattle.flac_meta.specs.declared.block.Block.TheVariants.{SeekTable}
+use Rattle.flac_meta.specs.declared.comments.Comments.{Comments}
+use Rattle.flac_meta.specs.declared.seek_table.SeekPoint.{SeekPoint}
+use Rattle.flac_native.specs.Decoding.{beginning}
+use Rattle.flac_native.specs.Stream.{Piece, marked, block, framed, grammar, opening}
+use Rattle.flac_native.specs.declared.fault.Place.{Place}
+use Rattle.flac_native.specs.declared.phase.Phase.TheVariants.{Frames}
+use Rattle.flac_c.specs.Heads.{comments_from, info_in_c}
+use Rattle.flac_c.specs.declared.cursor.FlacProvedCursor.{FlacProvedCursor}
+
+-- ---- the metadata
+
+-- The first n bytes are these parts: the marker and all metadata blocks. Frames come behind them.
+pub record IsHead (bytes : List ℕ) (n : ℕ) (parts : List Piece) : Type 0 where
+  pub within : n ≤ length bytes
+  pub spelled : Joined grammar opening (beginning Truncated) parts (bits_of (take n bytes))
+  pub behind : (after grammar opening parts).stand.phase ≡ Frames
+
+-- ---- the seek table
+
+-- the point names a frame at or before the sample of this number: all ones stand for no frame (section 8.5.1)
+abbrev pub is_before : ℕ → SeekPoint → Bool
+is_before sample p = nat_le p.sample sample && not (nat_eq p.sample 18446744073709551615)
+
+-- the last point at or before a sample, or else the one that was there
+abbrev pub point_among : ℕ → Option SeekPoint → List SeekPoint → Option SeekPoint
+point_among sample best points = fold (λ found p. cond (is_before sample p) (Some p) found) best points
+
+abbrev pub point_after : ℕ → Option SeekPoint → Block → Option SeekPoint
+point_after sample best (SeekTable points) = point_among sample best points
+point_after sample best other = best
+
+abbrev pub point_from : ℕ → Option SeekPoint → List Piece → Option SeekPoint
+point_from sample best [] = best
+point_from sample best (marked ∷ xs) = point_from sample best xs
+point_from sample best (block last b ∷ xs) = point_from sample (point_after sample best b) xs
+point_from sample best (framed f ∷ xs) = point_from sample best xs
+
+-- ---- a cursor
+
+-- at the first frame
+abbrev pub first_frame : Info → Option Comments → (offset : ℕ) → FlacProvedCursor
+first_frame i comments offset = record { offset = offset; frames = 0; sample = 0; info = info_in_c i comments }
+
+-- at the frame that a point names, whose offset is counted from the first frame (section 8.5.1)
+abbrev pub at_point : Option SeekPoint → FlacProvedCursor → FlacProvedCursor
+at_point None c = c
+at_point (Some p) c = record c { offset = min (c.offset + p.offset) 18446744073709551615; sample = p.sample }
+
+-- the cursor is at the first frame
+abbrev pub StandsFirst : List ℕ → FlacProvedCursor → Type 0
+StandsFirst bytes c = (parts : List Piece) × (n : ℕ) × (i : Info) × IsHead bytes n parts × ((after grammar opening parts).stand.info ≡ Some i) × (c ≡ first_frame i (comments_from None parts) n)
+
+-- the cursor is where the seek table says that the frame of the last point at or before a sample is; at the first frame where there is no such point
+abbrev pub StandsBefore : List ℕ → ℕ → FlacProvedCursor → Type 0
+StandsBefore bytes sample c =
+    (parts : List Piece) × (n : ℕ) × (i : Info) × IsHead bytes n parts × ((after grammar opening parts).stand.info ≡ Some i)
+    × (c ≡ at_point (point_from sample None parts) (first_frame i (comments_from None parts) n))
+
+-- The marker or a block is refused there, as the stream is; or there are blocks without STREAMINFO, which no stream has; unless memory ran out.
+abbrev pub RefusesHead : List ℕ → Option (Place × Why) → Type 0
+RefusesHead bytes outcome =
+    (at : Place) × (why : Why) × (outcome ≡ Some (at, why))
+    × (why ≢ Memory → ((parts : List Piece) × Refused grammar opening (beginning Truncated) parts (bits_of bytes) at why)
+    ⊎ ((why ≡ NotStreamInfoFirst) × ((parts : List Piece) × (n : ℕ) × IsHead bytes n parts × ((after grammar opening parts).stand.info ≡ None))))

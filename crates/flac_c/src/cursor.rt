@@ -1,0 +1,83 @@
+//! Where a native stream is read, frame by frame.
+
+ghost use Rattle.std.specs.Prelude.{◌≡◌, IfOk, IfErr, drop};
+ghost use Rattle.flac_meta.specs.Info.{KeepsRules};
+ghost use Rattle.flac_frame.specs.Lent.{frame_of};
+ghost use Rattle.flac_c.specs.Cursors.{info_of, passed};
+
+use crate::info::FlacProvedInfo;
+use flac_bits::Why;
+use flac_frame::FrameView;
+use flac_meta::StreamInfo;
+
+/// Where the next frame of a native stream begins, and what its frames are read by: plain numbers, which the caller keeps.
+#[repr(C)]
+#[derive(Clone, Copy, Drop)]
+pub struct FlacProvedCursor {
+    /// The bytes from the first byte of the stream to the next frame.
+    pub offset: u64,
+    /// How many frames were read since the cursor was made.
+    pub frames: u64,
+    /// The number of the first sample of the next frame.
+    pub sample: u64,
+    /// STREAMINFO of the stream.
+    pub info: FlacProvedInfo,
+}
+
+/// STREAMINFO by which frames are read: without the number of all samples and their MD5.
+pub(crate) fn info_of(info: &FlacProvedInfo) -> Result<StreamInfo, Why>
+    ensures value { IfOk result (λ i. i ≡ info_of info.now) }
+    ensures rules { IfOk result (λ i. KeepsRules i) }
+    ensures refused { IfErr result (λ e. (e ≡ Why.BadStreamInfo) × (KeepsRules (info_of info.now) → ⊥)) }
+{
+    if info.least_block > 65535
+        || info.greatest_block > 65535
+        || info.channels > 8
+        || info.bits > 32
+    {
+        return Err(Why::BadStreamInfo);
+    }
+    let found = StreamInfo::new(
+        info.least_block as u16,
+        info.greatest_block as u16,
+        info.least_frame,
+        info.greatest_frame,
+        info.rate,
+        info.channels as u8,
+        info.bits as u8,
+        0,
+        [0; 16],
+    )?;
+    let _rules = found.rate();
+    Ok(found)
+}
+
+/// The bytes from an offset on; none behind their end.
+pub(crate) fn bytes_from(bytes: &[u8], offset: u64) -> &[u8]
+    ensures { result.now ≡ drop offset bytes.now }
+{
+    if offset < bytes.len() as u64 {
+        &bytes[offset as usize..]
+    } else {
+        &bytes[bytes.len()..]
+    }
+}
+
+/// The cursor behind a frame that ends at an offset.
+pub(crate) fn passed(cursor: &FlacProvedCursor, frame: &FrameView<'_>, end: u64) -> FlacProvedCursor
+    ensures { result ≡ passed cursor.now (frame_of frame.now) end }
+{
+    let number = u128::from(frame.number());
+    let first = if frame.variable() {
+        number
+    } else {
+        number * u128::from(cursor.info.greatest_block)
+    };
+    let behind = first + frame.len() as u128;
+    FlacProvedCursor {
+        offset: end,
+        frames: cursor.frames.saturating_add(1),
+        sample: behind.min(u128::from(u64::MAX)) as u64,
+        info: cursor.info,
+    }
+}

@@ -1,0 +1,143 @@
+//! The metadata of a native stream, read up to its first frame.
+
+ghost use Rattle.std.specs.Prelude.{◌≡◌, ◌≢◌, true, [], None, Some, OnOk, IfOk, IfErr};
+ghost use Rattle.flac_bits.specs.Fence.{StopsIn};
+ghost use Rattle.flac_bits.specs.Reading.{Counts, Reads};
+ghost use Rattle.flac_bits.specs.State.{fresh, started};
+ghost use Rattle.flac_meta.specs.Block.{block as block_layout};
+ghost use Rattle.flac_native.specs.Stream.{marker};
+ghost use Rattle.flac_c.specs.Starts.{point_among};
+ghost use Rattle.flac_c.specs.Blocks.{Noted, IsFound, BlockRead, HeadRead, IsRefusedAt};
+
+use flac_bits::{BitReader, Memory, Why};
+use flac_meta::{Block, SeekPoint, Seen, StreamInfo, read_block};
+use flac_native::{Fault, Place};
+use std::alloc::Global;
+
+/// What the metadata tells.
+#[derive(Drop)]
+pub(crate) struct Metadata {
+    pub(crate) info: Option<StreamInfo>,
+    /// How many comments there are.
+    pub(crate) comments: u64,
+    /// The sample that is sought.
+    pub(crate) sample: u64,
+    /// The last seek point at or before it.
+    pub(crate) point: Option<SeekPoint>,
+}
+
+/// The last point at or before a sample, or else the one that was there.
+fn point_among(points: &[SeekPoint], sample: u64, best: Option<SeekPoint>) -> Option<SeekPoint>
+    ensures { result ≡ point_among sample best points.now }
+{
+    let mut found = best;
+    for point in points {
+        if point.sample <= sample && point.sample != u64::MAX {
+            found = Some(*point);
+        }
+    }
+    found
+}
+
+impl Metadata {
+    pub(crate) fn new(sample: u64) -> Metadata
+        ensures { result ≡ record { info = None; comments = 0; sample = sample; point = None } }
+    {
+        Metadata {
+            info: None,
+            comments: 0,
+            sample,
+            point: None,
+        }
+    }
+
+    /// Notes what a block tells.
+    fn note(&mut self, block: &Block)
+        ensures { Noted self.old block.now self.new }
+    {
+        match block {
+            Block::StreamInfo(info) => self.info = Some(*info),
+            Block::VorbisComment(comments) => {
+                self.comments = comments.list.as_slice().len() as u64;
+            }
+            Block::SeekTable(table) => {
+                self.point = point_among(table.points(), self.sample, self.point);
+            }
+            _ => {}
+        }
+    }
+}
+
+/// Reads the four bytes `fLaC`, with which a native stream begins (RFC 9639, section 6).
+#[tactic(auto, unfolding(flac_native::specs::Stream::marker))]
+fn read_marker(bits: &mut BitReader<Memory<'_>>) -> Result<(), Why>
+    ensures counts { Counts bits.old bits.new result }
+    ensures reads { Reads (λ u. u) marker (started bits.old) bits.new result }
+{
+    bits.start_checks();
+    if bits.take(32)? != 0x664C6143 {
+        return Err(Why::BadMarker);
+    }
+    Ok(())
+}
+
+/// Reads the next block and notes what it tells. Tells whether it is the last.
+fn next_block(
+    alloc: Global,
+    bits: &mut BitReader<Memory<'_>>,
+    seen: &mut Seen,
+    found: &mut Metadata,
+) -> Result<bool, Why>
+    requires { bits.old.known ≡ true }
+    ensures read { IfOk result (λ last. BlockRead seen.old seen.new bits.old bits.new found.old found.new last) }
+    ensures refused { IfErr result (λ why. bits.new.errors ≡ bits.old.errors → why ≢ Why.Memory
+        → StopsIn None (block_layout seen.old) (fresh bits.old.cursor.mark) bits.old.cursor.left why) }
+{
+    bits.start_checks();
+    match read_block(alloc, bits, seen) {
+        Ok(read) => {
+            found.note(&read.1);
+            Ok(read.0)
+        }
+        Err(why) => Err(why),
+    }
+}
+
+/// Reads the marker and all blocks, and notes what they tell.
+pub(crate) fn read_parts(
+    alloc: Global,
+    bits: &mut BitReader<Memory<'_>>,
+    found: &mut Metadata,
+) -> Result<(), Fault>
+    requires known { bits.old.known ≡ true }
+    requires none { IsFound found.old.sample [] found.old }
+    ensures read { OnOk result (HeadRead bits.old bits.new found.old.sample found.new) }
+    ensures refused { IfErr result (λ f. bits.new.errors ≡ bits.old.errors → f.why ≢ Why.Memory → IsRefusedAt bits.old f) }
+{
+    match read_marker(bits) {
+        Ok(()) => {}
+        Err(why) => {
+            return Err(Fault {
+                at: Place::Marker,
+                why,
+            });
+        }
+    }
+    let mut seen = Seen::new();
+    for index in 0..u64::MAX {
+        match next_block(alloc, bits, &mut seen, found) {
+            Ok(true) => return Ok(()),
+            Ok(false) => {}
+            Err(why) => {
+                return Err(Fault {
+                    at: Place::Block(index),
+                    why,
+                });
+            }
+        }
+    }
+    Err(Fault {
+        at: Place::Block(u64::MAX),
+        why: Why::Memory,
+    })
+}

@@ -1,0 +1,135 @@
+//! Where the frames of a native stream begin.
+
+ghost use Rattle.std.specs.Prelude.{◌≡◌, ◌≢◌, [], ℕ, List, IfOk, IfErr, OnOk, Some, None, Option};
+ghost use Rattle.flac_meta.specs.Info.{Info};
+ghost use Rattle.flac_native.specs.Item.{told};
+ghost use Rattle.flac_native.specs.Stream.{Piece, grammar, opening};
+ghost use Rattle.flac_bits.specs.Items.{after};
+ghost use Rattle.flac_c.specs.Answers.{IsAnswered};
+ghost use Rattle.flac_c.specs.Blocks.{IsFound};
+ghost use Rattle.flac_c.specs.Heads.{comments_from};
+ghost use Rattle.flac_c.specs.Starts.{IsHead, point_from, first_frame, at_point, StandsFirst, StandsBefore, RefusesHead};
+
+use crate::cursor::FlacProvedCursor;
+use crate::fault::{FlacProvedFault, in_c};
+use crate::info::info_counted;
+use crate::metadata::{Metadata, read_parts};
+use flac_bits::{BitReader, Memory, Why};
+use flac_meta::SeekPoint;
+use flac_native::{Fault, Place};
+use std::alloc::Global;
+
+/// Reads the marker and all blocks, and tells how many bytes they have.
+fn read_front(alloc: Global, bytes: &[u8], found: &mut Metadata) -> Result<u64, Fault>
+    requires { IsFound found.old.sample [] found.old }
+    ensures read { IfOk result (λ n. (parts : List Piece) × IsHead bytes.now n parts × IsFound found.old.sample parts found.new) }
+    ensures refused { IfErr result (λ f. RefusesHead bytes.now (Some (told f))) }
+{
+    let _len = bytes.len();
+    let mut bits = BitReader::new(Memory::new(bytes));
+    let outcome = read_parts(alloc, &mut bits, found);
+    let taken = bits.bytes_taken();
+    let _source = bits.into_source();
+    match outcome {
+        Ok(()) => Ok(taken),
+        Err(fault) => Err(fault),
+    }
+}
+
+/// A cursor at the first frame. What is sought is found in the seek table.
+fn read_start(alloc: Global, bytes: &[u8], found: &mut Metadata) -> Result<FlacProvedCursor, Fault>
+    requires { IsFound found.old.sample [] found.old }
+    ensures read { IfOk result (λ c. (parts : List Piece) × (n : ℕ) × (i : Info) × IsHead bytes.now n parts × ((after grammar opening parts).stand.info ≡ Some i)
+        × (c ≡ first_frame i (comments_from None parts) n) × (found.new.point ≡ point_from found.old.sample None parts)) }
+    ensures refused { IfErr result (λ f. RefusesHead bytes.now (Some (told f))) }
+{
+    let offset = match read_front(alloc, bytes, found) {
+        Ok(offset) => offset,
+        Err(fault) => return Err(fault),
+    };
+    match &found.info {
+        Some(info) => Ok(FlacProvedCursor {
+            offset,
+            frames: 0,
+            sample: 0,
+            info: info_counted(info, found.comments),
+        }),
+        None => Err(Fault {
+            at: Place::Marker,
+            why: Why::NotStreamInfoFirst,
+        }),
+    }
+}
+
+/// A cursor at the frame that a seek point names, whose offset is counted from the first frame.
+fn at_point(point: Option<SeekPoint>, first: FlacProvedCursor) -> FlacProvedCursor
+    ensures { result ≡ at_point point first }
+{
+    match point {
+        Some(point) => FlacProvedCursor {
+            offset: first.offset.saturating_add(point.offset),
+            sample: point.sample,
+            frames: first.frames,
+            info: first.info,
+        },
+        None => first,
+    }
+}
+
+/// Reads the metadata of a native stream (RFC 9639, sections 6 and 8), and makes a cursor at its first frame, for `flac_proved_next`. Returns 0, or the number of the
+/// fault for which there is none; the cursor is then as it was. An Ogg stream is refused at the marker.
+#[unsafe(no_mangle)]
+pub extern "C" fn flac_proved_start(
+    alloc: Global,
+    bytes: &[u8],
+    cursor: &mut FlacProvedCursor,
+    fault: &mut FlacProvedFault,
+) -> u32
+    ensures first { result ≡ 0 → StandsFirst bytes.now cursor.new }
+    ensures refused { result ≢ 0 → IsAnswered (RefusesHead bytes.now) fault.new }
+    ensures kept { result ≢ 0 → cursor.new ≡ cursor.old }
+    ensures number { result ≡ fault.new.number }
+{
+    let mut found = Metadata::new(0);
+    match read_start(alloc, bytes, &mut found) {
+        Ok(first) => {
+            *cursor = first;
+            *fault = in_c(Ok(()));
+            0
+        }
+        Err(told) => {
+            *fault = in_c(Err(told));
+            fault.number
+        }
+    }
+}
+
+/// Reads the metadata of a native stream, and makes a cursor where its seek table says that a frame is, at or before the sample of this number, the last such (RFC 9639,
+/// section 8.5); at the first frame where the table names none. That a frame is there, and with this sample, is shown by `flac_proved_next` alone. Returns 0, or the
+/// number of the fault for which there is no cursor; it is then as it was.
+#[unsafe(no_mangle)]
+pub extern "C" fn flac_proved_seek(
+    alloc: Global,
+    bytes: &[u8],
+    sample: u64,
+    cursor: &mut FlacProvedCursor,
+    fault: &mut FlacProvedFault,
+) -> u32
+    ensures before { result ≡ 0 → StandsBefore bytes.now sample cursor.new }
+    ensures refused { result ≢ 0 → IsAnswered (RefusesHead bytes.now) fault.new }
+    ensures kept { result ≢ 0 → cursor.new ≡ cursor.old }
+    ensures number { result ≡ fault.new.number }
+{
+    let mut found = Metadata::new(sample);
+    match read_start(alloc, bytes, &mut found) {
+        Ok(first) => {
+            *cursor = at_point(found.point, first);
+            *fault = in_c(Ok(()));
+            0
+        }
+        Err(told) => {
+            *fault = in_c(Err(told));
+            fault.number
+        }
+    }
+}

@@ -1,0 +1,151 @@
+//! One frame of a native stream after another.
+
+ghost use Rattle.std.specs.Prelude.{◌≡◌, ◌≢◌, ◌≤◌, ◌<◌, ◌+◌, ◌⊎◌, ◌∷◌, List, ℕ, IfOk, IfErr, IsOkAnd, None, Some, drop};
+ghost use Rattle.flac_meta.specs.Info.{KeepsRules};
+ghost use Rattle.flac_frame.specs.Frame.{Frame};
+ghost use Rattle.flac_frame.specs.Lent.{frame_of};
+ghost use Rattle.flac_native.specs.Stream.{Piece, framed};
+ghost use Rattle.flac_c.specs.Answers.{IsAnswered};
+ghost use Rattle.flac_c.specs.Cursors.{info_of, IsFrameAt, NoFrameAt, HandsOver, GivesNext, RefusesNext, StandsIn, GoesOn};
+
+use crate::cursor::{FlacProvedCursor, bytes_from, info_of, passed};
+use crate::fault::{FlacProvedFault, in_c};
+use flac_bits::{BitReader, Memory, Why};
+use flac_frame::{FrameBuffers, FrameView};
+use flac_meta::StreamInfo;
+use flac_native::{Fault, Place, Profile};
+use std::alloc::Global;
+
+/// How many bytes a frame has at most: STREAMINFO tells the sizes of frames in 24 bits (RFC 9639, section 8.2).
+const LONGEST_FRAME: u64 = 16777215;
+
+/// Reads the frame with which these bytes begin, whatever its number is, and tells how many bytes it has.
+fn fill_frame(bytes: &[u8], info: &StreamInfo, buffers: &mut FrameBuffers) -> Result<u64, Why>
+    requires rules { KeepsRules info.now }
+    requires channels { info.now.channels ≤ buffers.old.channels }
+    requires block { info.now.greatest_block ≤ buffers.old.max_block }
+    requires first { buffers.old.before ≡ None }
+    ensures found { IfOk result (λ n. IsFrameAt info.now bytes.now buffers.new.held n) }
+    ensures fault { IfErr result (λ why. NoFrameAt info.now bytes.now why) }
+    ensures only { (f : Frame) → (n : ℕ) → IsFrameAt info.now bytes.now f n → IsOkAnd result (λ m. (buffers.new.held ≡ f) × (m ≡ n)) }
+{
+    let _len = bytes.len();
+    let mut bits = BitReader::new(Memory::new(bytes));
+    bits.fence(LONGEST_FRAME);
+    let outcome = buffers.fill(&mut bits, info, Profile::Subset);
+    bits.lift();
+    let taken = bits.bytes_taken();
+    let _source = bits.into_source();
+    match outcome {
+        Ok(()) => Ok(taken),
+        Err(why) => Err(why),
+    }
+}
+
+/// Copies the samples of a frame that ends at an offset, if there is room for all of them, and moves the cursor behind it. Returns how many they are.
+fn hand_over(
+    frame: &FrameView<'_>,
+    end: u64,
+    cursor: &mut FlacProvedCursor,
+    out: &mut [i32],
+) -> usize
+    ensures { HandsOver (frame_of frame.now) end cursor.old cursor.new out.old out.new result }
+{
+    let count = frame.channels() * frame.len();
+    if count <= out.len() {
+        let _all = frame.interleave(out);
+        *cursor = passed(cursor, frame, end);
+    }
+    count
+}
+
+/// Reads the frame at a cursor into buffers, and hands it over.
+fn step(
+    bytes: &[u8],
+    info: &StreamInfo,
+    buffers: &mut FrameBuffers,
+    cursor: &mut FlacProvedCursor,
+    out: &mut [i32],
+) -> Result<usize, Why>
+    requires rules { KeepsRules info.now }
+    requires channels { info.now.channels ≤ buffers.old.channels }
+    requires block { info.now.greatest_block ≤ buffers.old.max_block }
+    requires first { buffers.old.before ≡ None }
+    ensures found { IfOk result (λ len. (f : Frame) × (n : ℕ) × IsFrameAt info.now (drop cursor.old.offset bytes.now) f n
+        × HandsOver f (cursor.old.offset + n) cursor.old cursor.new out.old out.new len) }
+    ensures fault { IfErr result (λ why. NoFrameAt info.now (drop cursor.old.offset bytes.now) why) }
+    ensures kept { IfErr result (λ _. (cursor.new ≡ cursor.old) × (out.new ≡ out.old)) }
+    ensures only { (f : Frame) → (n : ℕ) → IsFrameAt info.now (drop cursor.old.offset bytes.now) f n
+        → IsOkAnd result (λ len. HandsOver f (cursor.old.offset + n) cursor.old cursor.new out.old out.new len) }
+{
+    let taken = match fill_frame(bytes_from(bytes, cursor.offset), info, buffers) {
+        Ok(taken) => taken,
+        Err(why) => return Err(why),
+    };
+    let end = cursor.offset + taken;
+    Ok(hand_over(&buffers.view(), end, cursor, out))
+}
+
+/// The same with buffers of its own.
+fn step_alone(
+    alloc: Global,
+    bytes: &[u8],
+    cursor: &mut FlacProvedCursor,
+    out: &mut [i32],
+) -> Result<usize, Why>
+    ensures found { IfOk result (λ len. (f : Frame) × (n : ℕ) × IsFrameAt (info_of cursor.old.info) (drop cursor.old.offset bytes.now) f n
+        × HandsOver f (cursor.old.offset + n) cursor.old cursor.new out.old out.new len) }
+    ensures fault { IfErr result (λ why. (why ≡ Why.Memory) ⊎ (((why ≡ Why.BadStreamInfo) × (KeepsRules (info_of cursor.old.info) → ⊥)) ⊎ NoFrameAt (info_of cursor.old.info) (drop cursor.old.offset bytes.now) why)) }
+    ensures kept { IfErr result (λ _. (cursor.new ≡ cursor.old) × (out.new ≡ out.old)) }
+    ensures only { KeepsRules (info_of cursor.old.info) → (f : Frame) → (n : ℕ) → IsFrameAt (info_of cursor.old.info) (drop cursor.old.offset bytes.now) f n
+        → (result ≡ Err Why.Memory) ⊎ IsOkAnd result (λ len. HandsOver f (cursor.old.offset + n) cursor.old cursor.new out.old out.new len) }
+{
+    let info = info_of(&cursor.info)?;
+    let mut buffers = FrameBuffers::new(
+        alloc,
+        u32::from(info.channels()),
+        u32::from(info.greatest_block()),
+    )?;
+    step(bytes, &info, &mut buffers, cursor, out)
+}
+
+/// Reads the frame of a native stream that begins at a cursor, and copies its samples to the front of a buffer, channel by channel at each index: if there is room for
+/// all of them, and then the cursor goes behind the frame. Tells how many samples it has. At the end of the bytes there are none, and the cursor stays. The number of
+/// the frame may be any; neither the number of all samples nor their MD5 is judged. Returns 0, or the number of the fault, at the place of the frame, counted from where
+/// the cursor was made; the cursor, the buffer and the length are then as they were.
+#[unsafe(no_mangle)]
+pub extern "C" fn flac_proved_next(
+    alloc: Global,
+    bytes: &[u8],
+    cursor: &mut FlacProvedCursor,
+    out: &mut [i32],
+    len: &mut usize,
+    fault: &mut FlacProvedFault,
+) -> u32
+    ensures given { result ≡ 0 → GivesNext bytes.now cursor.old cursor.new out.old out.new len.new }
+    ensures refused { result ≢ 0 → IsAnswered (RefusesNext bytes.now cursor.old) fault.new }
+    ensures frames { KeepsRules (info_of cursor.old.info) → (f : Frame) → (n : ℕ) → IsFrameAt (info_of cursor.old.info) (drop cursor.old.offset bytes.now) f n
+        → (result ≡ 2) ⊎ ((result ≡ 0) × HandsOver f (cursor.old.offset + n) cursor.old cursor.new out.old out.new len.new) }
+    ensures streams { (front : List Piece) → (more : List Piece) → (f : Frame) → StandsIn bytes.now cursor.old front (framed f ∷ more)
+        → (result ≡ 2) ⊎ ((result ≡ 0) × GoesOn bytes.now cursor.old cursor.new out.old out.new len.new front more f) }
+    ensures kept { result ≢ 0 → (cursor.new ≡ cursor.old) × (out.new ≡ out.old) × (len.new ≡ len.old) }
+    ensures number { result ≡ fault.new.number }
+{
+    if cursor.offset == bytes.len() as u64 {
+        *fault = in_c(Ok(()));
+        *len = 0;
+        return 0;
+    }
+    let at = Place::Frame(cursor.frames);
+    match step_alone(alloc, bytes, cursor, out) {
+        Ok(count) => {
+            *fault = in_c(Ok(()));
+            *len = count;
+            0
+        }
+        Err(why) => {
+            *fault = in_c(Err(Fault { at, why }));
+            fault.number
+        }
+    }
+}
