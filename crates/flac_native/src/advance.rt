@@ -1,4 +1,4 @@
-//! One part of a stream after another.
+//! Reads one part of a native stream after another.
 
 ghost use Rattle.std.specs.Prelude.{◌≡◌, ◌≢◌, ◌≤◌, ◌+◌, ◌&&◌, true, OnOk, IfOk, IfErr, IfSome, MatchOption};
 ghost use Rattle.flac_bits.specs.Bits.{is_nil};
@@ -30,7 +30,7 @@ fn read_marker<R: Source>(reader: &mut BitReader<R>) -> Result<(), Why>
     Ok(())
 }
 
-/// Reads the next part, and keeps it in the track.
+/// Reads the next part and keeps it in the track.
 #[tactic(auto, unfolding(crate::specs::Stream::layout))]
 fn read_part<R: Source>(reader: &mut BitReader<R>, track: &mut Track) -> Result<Part, Why>
     ensures spends { OnOk result (reader.new.most + 32 ≤ reader.old.most) }
@@ -61,7 +61,7 @@ fn read_part<R: Source>(reader: &mut BitReader<R>, track: &mut Track) -> Result<
     }
 }
 
-/// Whether the stream ends here: behind the blocks, and no bit is left.
+/// Whether the stream ends here: all metadata blocks were read, and no bit is left.
 fn ends_here<R: Source>(reader: &mut BitReader<R>, track: &Track) -> Result<bool, Why>
     ensures spends { OnOk result (reader.new.most ≤ reader.old.most) }
     ensures counts { Counts reader.old reader.new result }
@@ -78,15 +78,15 @@ fn ends_here<R: Source>(reader: &mut BitReader<R>, track: &Track) -> Result<bool
     }
 }
 
-/// Reads the next part, and keeps it in the track; nothing where the stream is over. Where it refuses, the fault is told
-/// with its place, and the track is of no use any more.
+/// Reads the next part and keeps it in the track, or returns `None` at the end of the stream. After an error the track
+/// must not be used further.
 pub(crate) fn advance<R: Source>(
     reader: &mut BitReader<R>,
     track: &mut Track,
 ) -> Result<Option<Part>, Fault>
     ensures spends { IfOk result (λ o. MatchOption o (reader.new.most ≤ reader.old.most) (λ _. reader.new.most + 32 ≤ reader.old.most)) }
     ensures counts { Counts (lifted reader.old) reader.new (reason_of told result) }
-    // Behind the last block no memory is taken.
+    // After the last metadata block no allocation fails.
     ensures memory { track.old.phase ≡ Phase.Frames → IfErr result (λ f. f.why ≢ Why.Memory) }
     ensures broken { (p : Progress) → IsAt track.old p → IfErr result (λ f. IsOutside f.why → f.at ≡ grammar.place p) }
     ensures steps { (p : Progress) → IsAt track.old p → StepsTo (λ part. piece_of track.new part) told (step_at grammar p (lifted reader.old).cursor) (lifted reader.old) reader.new result }

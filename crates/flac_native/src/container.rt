@@ -1,4 +1,4 @@
-//! What the parts of a stream are read from.
+//! Containers: where a decoder reads the parts of a stream from.
 
 ghost use Rattle.std.specs.Prelude.{◌≡◌, ◌≢◌, ◌<◌, ◌≤◌, ℕ, Bool, true, List, Option, IfOk, IfErr, IfSome, Err};
 ghost use Rattle.std.specs.Borrow.{GName};
@@ -16,50 +16,56 @@ use crate::part::Part;
 use crate::track::Track;
 use flac_bits::Why;
 
-/// What the parts of a stream are read from, one after another: the bits of a native stream (RFC 9639, section 6), or the packets of another format.
+/// Gives the parts of a stream, one after another: what a [`crate::Decoder`] reads from.
+///
+/// A [`flac_bits::BitReader`] is the container of a native stream: its bits from `fLaC` on (RFC 9639, section 6).
+/// `OggPackets` of `flac_ogg` is that of an Ogg stream: its packets (section 10.1).
 pub trait Container {
     ghost use Rattle.flac_native.specs.declared.fault.Place.{Place};
     ghost use Rattle.flac_native.specs.declared.track.Track.{Track};
 
-    /// Whether what is still to come is known.
+    /// Whether the parts still to come are known.
     ghost known: { Self → Bool };
 
-    /// How many errors of the device were returned that nothing foretold.
+    /// How many errors of the device were returned that `behind` did not announce.
     ghost errors: { Self → ℕ };
 
-    /// How many errors of the device were returned, foretold or not, as far as what is still to come depends on it.
+    /// How many errors of the device were returned, announced or not, as far as the parts still to come depend on it.
     ghost raised: { Self → ℕ };
 
-    /// How many errors the device itself returned. Each counts, whatever is known of it, as long as the count can rise.
+    /// How many errors the device itself returned. Each counts, whether the parts are known or not, as long as the
+    /// count can rise.
     ghost met: { Self → ℕ };
 
-    /// What stands behind the bytes to come.
+    /// What comes after the bytes still to come.
     ghost behind: { Self → Behind };
 
-    /// No error of the device is foretold that `raised` would not count.
+    /// No error of the device is announced that `raised` would not count.
     ghost clear: { Self → Track → Type 0 };
 
-    /// More than the parts that can still come.
+    /// How many parts can still come at most.
     ghost most: { Self → ℕ };
 
-    /// The references that it goes through.
+    /// The references that the container goes through.
     ghost names: { Self → List GName };
 
-    /// A further part may be asked for, with a track in this state.
+    /// Whether the next part may be read into a track in this state.
     ghost stands: { Self → Stand → Bool };
 
-    /// What is still to come.
+    /// Which parts are still to come after this progress, and whether the end or a refusal comes after them.
     ghost gives: { Self → Coming };
 
-    /// Where a call that reads the part after this progress reports an error of the device, and that it is out of memory.
+    /// At which places a call that reads the part after this progress reports `Read` and `Memory`.
     ghost breaks: { Self → Progress → Place → Type 0 };
 
-    /// Reads the next part and keeps it in the track; `None` at the end of the stream. After an error neither is of use any more.
+    /// Reads the next part and keeps it in the track, or returns `None` at the end of the stream.
     ///
     /// # Errors
+    /// The place and the reason. After an error neither the container nor the track may be used to read on.
     ///
-    /// A [`Fault`] has the place and the reason of the refusal. [`Why::Read`]: the device returned an error. [`Why::Memory`]: an allocation failed, which
-    /// happens at metadata blocks alone.
+    /// - [`Why::Read`]: the device returned an error.
+    /// - [`Why::Memory`]: an allocation failed; never once the last metadata block was read.
+    /// - Any other reason, but not [`Why::Sink`]: the stream is refused there.
     fn next(&mut self, track: &mut Track) -> Result<Option<Part>, Fault>
         requires { stands self.old (stand_of track.old) ≡ true }
         ensures stands { IfOk result (λ o. IfSome o (λ _. stands self.new (stand_of track.new) ≡ true)) }

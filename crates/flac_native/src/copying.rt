@@ -1,4 +1,4 @@
-//! What stands behind the blocks of a stream that is retagged.
+//! Copies what follows the metadata of a stream that is retagged.
 
 ghost use Rattle.std.specs.Prelude.{◌≡◌, ◌<◌, ◌≤◌, ◌++◌, ◌⊎◌, true, Bool, List, OnOk, OnErr, IfErr};
 ghost use Rattle.flac_bits.specs.Bits.{bits_of};
@@ -9,10 +9,10 @@ use crate::fault::Place;
 use crate::retag_fault::RetagFault;
 use flac_bits::{BitReader, Source, Target, Why, send_all};
 
-/// How many bytes are copied at once.
+/// The most bytes that are copied at once.
 const PIECE: usize = 4096;
 
-/// Sends the bytes that are still to come, in pieces. After an error a beginning of them was sent.
+/// Sends the bytes that are still to come. After an error a prefix of them was sent.
 pub(crate) fn copy_rest<R: Source, W: Target>(
     reader: &mut BitReader<R>,
     target: &mut W,

@@ -1,4 +1,4 @@
-//! Why samples were not encoded.
+//! Why encoding failed.
 
 ghost use Rattle.std.specs.Prelude.{◌≡◌, Some};
 ghost use Rattle.flac_native.specs.Numbers.{fault_number, text_of};
@@ -7,27 +7,31 @@ use flac_frame::SetupFault;
 use std::fmt;
 use thiserror::Error;
 
-/// Why encoding was refused. A call that encodes all samples at once answers `Memory`, `RepeatedBlock`, `BadMapping` or `Write` alone.
+/// Why encoding failed. Each reason has a number, see [`EncodeFault::number`]. [`crate::encode`] and `encode_ogg` of
+/// `flac_ogg` return no other than `Memory`, `RepeatedBlock`, `BadMapping` and `Write`.
+///
+/// It prints as its number and its name: `39 Write`. Sections are those of RFC 9639.
 #[derive(Clone, Copy, Debug, PartialEq, Eq, Error)]
 pub enum EncodeFault {
-    /// A growth was refused in this call.
+    /// Out of memory: an allocation failed in this call.
     Memory,
-    /// The list of blocks has a seek table, and the plan asks for one.
+    /// The list of blocks has a seek table, and the plan asks for one (section 8.5).
     RepeatedBlock,
-    /// A block is pushed behind one that was shorter than the block size; only the last may be (RFC 9639, section 9.1).
+    /// A block was pushed after one that was shorter than the block size; only the last may be shorter (section 9.1).
     BlockSize,
-    /// The blocks or the plan cannot stand in an Ogg stream: the first block behind STREAMINFO is no Vorbis comment, or a seek table is asked for.
+    /// Not possible in an Ogg stream: the first block after STREAMINFO is no Vorbis comment, or a seek table is asked
+    /// for (section 10.1).
     BadMapping,
-    /// The target answered an error in an earlier call, and nothing more is encoded.
+    /// The target returned an error in an earlier call, and nothing more is encoded.
     Spent,
-    /// The writer answered an error in this call.
+    /// The target returned an error in this call.
     Write,
     /// The format or the samples cannot be encoded.
     Setup(SetupFault),
 }
 
 impl EncodeFault {
-    /// The number of the fault: 2, 9, 19, 37 to 39, or 40 to 47.
+    /// The number of the reason: 2, 9, 19, 37, 38 or 39, or 40 to 47 of [`SetupFault`].
     pub fn number(self) -> u8
         ensures { result ≡ fault_number self }
     {
@@ -42,7 +46,7 @@ impl EncodeFault {
         }
     }
 
-    /// The number and the name of the fault: `39 Write`.
+    /// The number and the name of the reason: `39 Write`.
     pub fn as_str(self) -> &'static str
         ensures { result.now ≡ text_of self }
     {

@@ -1,4 +1,4 @@
-//! Where and why a stream was refused.
+//! Where and why a stream is refused.
 
 ghost use Rattle.std.specs.Prelude.{Some};
 ghost use Rattle.flac_native.specs.Places.{place_text, fault_text};
@@ -6,18 +6,19 @@ ghost use Rattle.flac_native.specs.Places.{place_text, fault_text};
 use flac_bits::Why;
 use std::fmt;
 
-/// Where a stream was refused. Blocks, frames and pages are counted from 0; an index above 2^64 - 1 is reported as 2^64 - 1.
+/// Where a stream is refused. Blocks, frames and pages are counted from 0; an index above 2^64 - 1 is reported as 2^64
+/// - 1.
 ///
 /// It prints as `marker`, `block 2`, `frame 3`, `page 4` or `end`.
 #[derive(Clone, Copy, Debug, PartialEq, Eq)]
 pub enum Place {
-    /// In the first four bytes, or in the mapping packet of an Ogg stream.
+    /// The first four bytes, or the first packet's mapping in an Ogg stream.
     Marker,
-    /// In this metadata block.
+    /// The metadata block of this index; STREAMINFO is block 0.
     Block(u64),
-    /// In this frame.
+    /// The frame of this index.
     Frame(u64),
-    /// In this page of an Ogg stream.
+    /// The page of this index, in an Ogg stream.
     Page(u64),
     /// After the last frame.
     End,
@@ -37,10 +38,14 @@ impl fmt::Display for Place {
     }
 }
 
-/// Where and why a stream was refused. It prints as its place and its reason: `frame 3: 26 FrameCheck`.
+/// Where and why a stream is refused, or where reading was broken off.
+///
+/// It prints as its place and its reason: `frame 3: 26 FrameCheck`.
 #[derive(Clone, Copy, Debug, PartialEq, Eq)]
 pub struct Fault {
+    /// The place.
     pub at: Place,
+    /// The reason. `docs/errors.md` says of each what can be done.
     pub why: Why,
 }
 

@@ -10,7 +10,7 @@ use flac_header::Profile;
 use flac_meta::StreamInfo;
 use std::alloc::Global;
 
-/// How many bytes a frame has at most: STREAMINFO tells the sizes of frames in 24 bits (RFC 9639, section 8.2).
+/// The most bytes that a frame can have: STREAMINFO states the sizes of frames in 24 bits (RFC 9639, section 8.2).
 const LONGEST_FRAME: u64 = 16777215;
 
 /// STREAMINFO, and the buffers for its frames.
@@ -29,7 +29,7 @@ impl Format {
     ghost use Rattle.flac_frame.specs.Frame.{frame, after};
     ghost use Rattle.flac_frame.specs.Lent.{frame_of};
 
-    /// Makes the buffers. Refuses `Memory` alone.
+    /// Makes the buffers. Its only error is `Memory`: an allocation failed.
     pub(crate) fn new(alloc: Global, info: StreamInfo) -> Result<Format, Why>
         ensures ok { IfOk result (λ f. (f.info ≡ info) × (f.buffers.before ≡ None)) }
         ensures err { IfErr result (λ e. e ≡ Why.Memory) }

@@ -16,7 +16,7 @@ use crate::sink::{Sink, SinkFault};
 use crate::track::Track;
 use flac_bits::Why;
 
-/// Passes the part that was read last to the sink.
+/// Passes the part that was read last to the sink, unless it is the marker.
 fn hand<S: Sink>(part: Part, track: &Track, sink: &mut S) -> Result<(), SinkFault>
     requires { part ≡ Part.Frame → is_some track.now.format ≡ true }
     ensures known { OnOk result (S.known sink.old ≡ true → S.known sink.new ≡ true) }
@@ -55,14 +55,18 @@ fn hand_at<S: Sink>(at: Place, part: Part, track: &Track, sink: &mut S) -> Resul
     }
 }
 
-/// Passes each metadata block and each frame that is still to come to the sink, in the order of the stream (RFC 9639, section 6). It goes on from the state of
-/// the track, and holds one block and one frame. The marker is read and not passed on.
+/// Passes each metadata block and each frame that is still to come to the sink, in the order of the stream (RFC 9639,
+/// section 6). It goes on from the state of the track. The marker is read and not passed on. [`crate::decode`] is the
+/// call for a native stream as a whole.
 ///
 /// # Errors
+/// The place, with blocks and frames counted from 0, and the reason. The sink took all items before that place, and no
+/// others. Neither the container nor the track may then be used to read on.
 ///
-/// A [`Fault`] has the place, with blocks and frames counted from 0, and the reason. [`Why::Sink`]: the sink did not take the item there, and took all before
-/// it. [`Why::Read`]: the device returned an error. [`Why::Memory`]: an allocation failed, which happens at metadata blocks alone. Each other reason: the
-/// stream is refused there, and the sink took all items before. After an error neither the container nor the track is of use any more.
+/// - [`Why::Read`]: the device returned an error.
+/// - [`Why::Memory`]: an allocation failed.
+/// - [`Why::Sink`]: the sink did not take the item at this place.
+/// - Any other reason: the stream is refused there.
 pub fn hand_out<C: Container, S: Sink>(
     container: &mut C,
     track: &mut Track,

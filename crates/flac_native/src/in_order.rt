@@ -9,7 +9,8 @@ ghost use Rattle.flac_native.specs.Writing.{blocks_spelling};
 use flac_bits::{BitWriter, Target, Why};
 use flac_meta::{Block, write_block};
 
-/// Writes the first of so many blocks, of which the last is marked (RFC 9639, section 8.1). Refuses a block that may not be written.
+/// Writes blocks of which `count` come in all; the one of this number is marked last (RFC 9639, section 8.1). It fails
+/// at a block that cannot be written.
 pub(crate) fn write_each<W: Target>(
     blocks: &[Block],
     count: usize,

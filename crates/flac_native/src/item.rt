@@ -1,15 +1,15 @@
-//! What a decoder lends.
+//! The items that a decoder lends.
 
 use flac_frame::FrameView;
 use flac_meta::Block;
 
-/// One item of a stream. Blocks and frames are lent by the decoder, until it reads the next item.
+/// An item of a stream. The decoder lends blocks and frames until it reads the next item.
 #[derive(Clone, Copy, Debug, PartialEq, Eq)]
 pub enum Item<'a> {
-    /// A metadata block.
+    /// A metadata block (RFC 9639, section 8).
     Block(&'a Block),
-    /// A frame.
+    /// A frame (RFC 9639, section 9).
     Frame(FrameView<'a>),
-    /// The stream is over.
+    /// The end of the stream.
     End,
 }

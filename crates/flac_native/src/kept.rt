@@ -1,4 +1,4 @@
-//! The metadata of a stream that is retagged.
+//! The metadata blocks that are kept of a stream that is retagged.
 
 ghost use Rattle.std.specs.Prelude.{◌≡◌, ◌≢◌, ◌≤◌, ◌+◌, ◌++◌, [], true, false, OnOk, IfOk, IfErr, Some, None};
 ghost use Rattle.flac_bits.specs.Fencing.{lifted};
@@ -20,7 +20,7 @@ use flac_header::Profile;
 use flac_meta::Block;
 use std::alloc::Global;
 
-/// Keeps a block that is no comment. Refuses where a growth is.
+/// Keeps a block that is no comment block. Its only error is `Memory`: an allocation failed.
 fn keep(kept: &mut Vec<Block>, last: bool, block: Option<Block>) -> Result<(), Why>
     ensures keeps { OnOk result (keeps kept.old.items (block_in last block) kept.new.items) }
     ensures memory { IfErr result (λ e. e ≡ Why.Memory) }
@@ -35,7 +35,7 @@ fn keep(kept: &mut Vec<Block>, last: bool, block: Option<Block>) -> Result<(), W
     }
 }
 
-/// Reads the marker or the next block, and keeps a block that is no comment.
+/// Reads the marker or the next block, and keeps a block that is no comment block.
 fn keep_next<R: Source>(
     reader: &mut BitReader<R>,
     track: &mut Track,
@@ -69,7 +69,7 @@ fn keep_next<R: Source>(
     }
 }
 
-/// Whether no further block comes.
+/// Whether the last block was read.
 fn is_behind(track: &Track) -> bool
     ensures { result ≡ is_behind_blocks track.now.phase }
 {
@@ -80,7 +80,7 @@ fn is_behind(track: &Track) -> bool
     }
 }
 
-/// Reads the marker and all blocks, and keeps those that are no comments, in their order, after none were kept.
+/// Reads the marker and all blocks, and keeps those that are no comment blocks, in their order.
 fn keep_all<R: Source>(
     reader: &mut BitReader<R>,
     track: &mut Track,
@@ -128,7 +128,8 @@ fn keep_from_start<R: Source>(
     keep_all(reader, &mut track, kept)
 }
 
-/// Reads the marker and all blocks, and keeps those that are no comments, in their order. It begins at a whole byte, and behind the blocks no fence stands.
+/// Reads the marker and all blocks, and keeps those that are no comment blocks, in their order. The reader is at a
+/// whole byte, and no fence is left after the blocks.
 pub(crate) fn read_kept<R: Source>(
     alloc: Global,
     reader: &mut BitReader<R>,

@@ -1,6 +1,16 @@
-//! Streams of FLAC: a marker, metadata blocks and frames, one after another (RFC 9639, section 6).
+//! Native FLAC streams: decoding, encoding, seeking and retagging (RFC 9639, section 6).
 //!
-//! What users of these calls need of the crates below stands here too, so that a program names this crate alone.
+//! | To | Begin with |
+//! |---|---|
+//! | decode block by block and frame by frame | [`Decoder::new`] |
+//! | decode into a [`Sink`] | [`decode`] |
+//! | read a stream from a frame on | [`Decoder::resume`] |
+//! | encode samples that are all there | [`Audio`], [`Plan`] and [`encode`] |
+//! | encode a block at a time | [`StreamEncoder`] |
+//! | replace the comments | [`retag`] |
+//!
+//! It re-exports what its users need from the crates below: sources and targets, metadata blocks, frames, and errors. A
+//! program names this crate alone.
 #![tactic(auto)]
 
 mod advance;

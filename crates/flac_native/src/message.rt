@@ -1,4 +1,4 @@
-//! Samples of a frame as the bytes of which STREAMINFO states the digest (RFC 9639, section 8.2).
+//! The samples of a frame as the input of the MD5 digest that STREAMINFO states (RFC 9639, section 8.2).
 
 ghost use Rattle.std.specs.Prelude.{◌≡◌, ◌≤◌, ◌+◌, ◌*◌, ◌++◌, length, take, List, ℕ};
 ghost use Rattle.flac_native.specs.Message.{rows_bytes};
@@ -20,8 +20,16 @@ impl<'a> Channels for FrameView<'a> {
     }
 }
 
-/// Writes the samples of all channels at `count` indices from `start` on, interleaved, each in its lowest `width` bytes, the
-/// lowest first, to the front of `out`, and returns how many bytes these are: at most 32 for each index. Bytes of `out` after them may change.
+/// Writes samples as bytes to the front of `out` and returns how many bytes they are: the samples of all channels at
+/// index `start`, then those at the next, for `count` indices (RFC 9639, section 8.2). Each sample is in its lowest
+/// `width` bytes, 0 to 4, the lowest first.
+///
+/// The frame has samples at all these indices, and `out` room for 32 bytes for each index. Bytes of `out` after the
+/// samples may change.
+///
+/// ```
+/// let end = put_rows(frame, 2, 0, frame.len(), out); // 16 bits per sample
+/// ```
 pub fn put_rows(
     view: &FrameView<'_>,
     width: usize,
@@ -39,7 +47,7 @@ pub fn put_rows(
     put_rows_in(&view, view.channels(), width, start, count, out)
 }
 
-/// Feeds all samples of a frame to a digest.
+/// Adds all samples of a frame to the input of a digest.
 pub(crate) fn feed(hasher: &mut Md5, view: &FrameView<'_>, width: usize)
     requires { width ≤ 4 }
     ensures { (m : List ℕ) → Holds hasher.old m → Holds hasher.new (m ++ rows_bytes width (frame_of view.now).channels (frame_of view.now).size 0) }

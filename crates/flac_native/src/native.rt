@@ -1,4 +1,4 @@
-//! A native stream is a container: the bits from the marker `fLaC` on (RFC 9639, section 6).
+//! A native stream as a container: the bits from the marker `fLaC` on (RFC 9639, section 6).
 
 ghost use Rattle.std.specs.Prelude.{◌≡◌, ⊤, true};
 ghost use Rattle.flac_bits.specs.Fencing.{lifted};

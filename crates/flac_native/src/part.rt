@@ -1,6 +1,6 @@
-//! The kinds of parts of a stream.
+//! The kinds of parts that a stream has.
 
-/// The kinds of parts of a stream (RFC 9639, section 6).
+/// A kind of part of a stream (RFC 9639, section 6). Sections are those of RFC 9639.
 #[derive(Clone, Copy, Debug, PartialEq, Eq)]
 pub enum Part {
     /// The four bytes `fLaC`.

@@ -1,6 +1,6 @@
-//! Which part of a stream comes next.
+//! Which kind of part comes next.
 
-/// Which part of a stream comes next.
+/// Which kind of part of a stream comes next.
 #[derive(Clone, Copy, Debug, PartialEq, Eq)]
 pub(crate) enum Phase {
     /// The marker.

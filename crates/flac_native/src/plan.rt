@@ -1,4 +1,4 @@
-//! How samples are cut into frames.
+//! How samples are divided into frames.
 
 ghost use Rattle.std.specs.Prelude.{◌≡◌, ◌<◌, ◌≤◌, ◌*◌, ◌^◌, ◌++◌, MatchResult, IfOk, OnOk, IfErr, true, Some, None};
 ghost use Rattle.flac_native.specs.Given.{blocks_in, has_point, points_before, cut_of, fits_plan, plan_fault};
@@ -11,10 +11,12 @@ use flac_header::{depth_code, rate_code};
 use flac_meta::SeekPoint;
 use std::marker::Model;
 
-/// The points that a seek table of one block has room for: 18 bytes each, of 16777215 (RFC 9639, sections 8.1 and 8.5).
+/// The most points that a seek table of one block has: each has 18 bytes, and a block at most 16777215 (RFC 9639,
+/// sections 8.1 and 8.5).
 const MOST_POINTS: u64 = 932067;
 
-/// How samples of one format and length are cut into frames of one size, of which the last has what is left, and which frames have a seek point.
+/// How samples of one format and length are divided into frames, and which frames have a seek point. All frames have
+/// the same block size, but the last may be shorter (RFC 9639, section 9.1).
 #[derive(Clone, Copy, Debug, PartialEq, Eq)]
 pub struct Plan {
     block_size: u32,
@@ -38,7 +40,7 @@ impl Model for Plan {
     ghost inverse = { λ c. record { block_size = c.block_size; rate = c.rate; bits = c.bits; channels = c.channels; total = c.total; seek_every = c.seek_every } };
 }
 
-/// Whether the frame of a number holds a multiple of so many samples, 0 for none.
+/// Whether the frame of this number holds a sample whose index is a multiple of `every`; false if `every` is 0.
 #[tactic(auto, unfolding(crate::specs::Given::has_point))]
 fn has_point(size: u64, total: u64, every: u64, number: u64) -> bool
     requires first { size * number < total }
@@ -72,7 +74,7 @@ fn count_points(size: u64, total: u64, every: u64) -> u64
     count
 }
 
-/// Why samples of this format and length cannot be cut into blocks, if so.
+/// Why samples of this format and length cannot be divided into blocks, or `None` if they can.
 #[tactic(auto, unfolding(crate::specs::Given::plan_fault))]
 fn fault_of(
     block_size: u32,
@@ -107,12 +109,20 @@ fn fault_of(
 }
 
 impl Plan {
-    /// A plan to cut these samples into blocks of so many samples. Where `seek_every` is not 0, there is a seek point for each frame that holds a multiple
-    /// of so many samples (RFC 9639, section 8.5).
+    /// Makes a plan for these samples, with `block_size` samples of each channel in a frame. If `seek_every` is not 0,
+    /// each frame that holds a sample whose index is a multiple of it gets a seek point (RFC 9639, section 8.5).
+    ///
+    /// ```
+    /// let plan = Plan::new(4096, &audio, 44100)?; // a seek point for each second at 44100 Hz
+    /// ```
     ///
     /// # Errors
-    /// `BadBlockSize` where a block has not 16 to 16384 samples, or more than 4608 at a rate of 48000 Hz or less; `TooLong` where there would be more
-    /// than 2^31 frames; `TooManyPoints` where there would be more than 932067 seek points.
+    /// The first of these that applies:
+    ///
+    /// - [`SetupFault::BadBlockSize`] if the block size is below 16, above 16384, or above 4608 at a rate of 48000 Hz
+    ///   or less (RFC 9639, section 7);
+    /// - [`SetupFault::TooLong`] if there are 2^36 samples of each channel or more, or more than 2^31 frames;
+    /// - [`SetupFault::TooManyPoints`] if there would be more than 932067 seek points.
     pub fn new(block_size: u32, audio: &Audio, seek_every: u32) -> Result<Plan, SetupFault>
         ensures made { MatchResult result (λ p. p ≡ cut_of block_size audio.now seek_every) (λ e. plan_fault (cut_of block_size audio.now seek_every) ≡ Some e) }
         ensures fits { IfOk result (λ p. fits_plan p audio.now ≡ true) }
@@ -134,7 +144,7 @@ impl Plan {
         })
     }
 
-    /// Whether these samples have the format and the length that the plan was made for.
+    /// Whether these samples have the rate, depth, channels and length of those that the plan was made for.
     pub fn fits(&self, audio: &Audio) -> bool
         ensures { result ≡ fits_plan self.now audio.now }
     {
@@ -144,7 +154,7 @@ impl Plan {
             && self.total == audio.len() as u64
     }
 
-    /// How many samples of each channel a frame has, but the last, which may have fewer; 16 to 16384.
+    /// How many samples of each channel a frame has, 16 to 16384. The last frame may have fewer.
     pub fn block_size(&self) -> u32
         ensures value { result ≡ self.now.block_size }
         ensures good { plan_fault self.now ≡ None }
@@ -152,14 +162,15 @@ impl Plan {
         self.block_size
     }
 
-    /// How many samples stand from one multiple to the next that has a seek point; 0: there is no seek table.
+    /// The distance of seek points in samples, as it was asked for; 0 if there is no seek table.
     pub fn seek_every(&self) -> u32
         ensures { result ≡ self.now.seek_every }
     {
         self.seek_every
     }
 
-    /// Notes the point of the frame of a number, which begins so many bytes behind the first one, where it has a point. Refuses where a growth is.
+    /// Adds the seek point of the frame of this number, if it has one. The frame begins `offset` bytes after the first
+    /// one. Its only error is `Memory`: an allocation failed.
     pub(crate) fn note_point(
         &self,
         number: u64,

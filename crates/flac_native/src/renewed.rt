@@ -1,4 +1,4 @@
-//! What stands before the frames of a stream that is retagged.
+//! The marker and the metadata blocks of a stream that is retagged.
 
 ghost use Rattle.std.specs.Prelude.{◌≡◌, ◌≢◌, ◌++◌, OnOk, IfOk, IfErr};
 ghost use Rattle.flac_bits.specs.Bits.{bits_of};
@@ -11,8 +11,8 @@ use flac_bits::{BitWriter, Collected, Target, Why};
 use flac_meta::{Block, Comments, write_block, write_comments};
 use std::alloc::Global;
 
-/// Writes the marker fLaC, STREAMINFO, which is the first of these blocks, the comments and the other blocks (RFC 9639, section 6). Where all of them may be
-/// written, the target alone refuses.
+/// Writes the marker fLaC, STREAMINFO, which is the first of these blocks, the comments, and the other blocks (RFC
+/// 9639, section 6). If all of them can be written, only the target can fail.
 fn write_renewed<W: Target>(
     kept: &[Block],
     comments: &Comments,
@@ -31,7 +31,7 @@ fn write_renewed<W: Target>(
     write_each(others, others.len(), writer)
 }
 
-/// The same bytes in memory. Where all blocks may be written, it refuses for want of memory alone.
+/// The same bytes in memory. If all blocks can be written, the only error is `Memory`: an allocation failed.
 pub(crate) fn renewed(alloc: Global, kept: &[Block], comments: &Comments) -> Result<Vec<u8>, Why>
     ensures head { IfOk result (λ head. bits_of head.items ≡ new_head comments.now kept.now) }
     ensures unread { IfErr result (λ e. e ≢ Why.Read) }

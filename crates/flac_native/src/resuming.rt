@@ -1,4 +1,4 @@
-//! Reads a stream from one of its frames on.
+//! Reads a stream from a frame on.
 
 ghost use Rattle.std.specs.Prelude.{◌≡◌, IfOk, IfErr};
 ghost use Rattle.flac_bits.specs.Bits.{bits_of};
@@ -17,7 +17,7 @@ use flac_header::Profile;
 use flac_meta::StreamInfo;
 use std::alloc::Global;
 
-/// STREAMINFO that states neither the number of samples nor their digest, and else the same (RFC 9639, section 8.2).
+/// The same STREAMINFO without the number of samples and the digest (RFC 9639, section 8.2).
 fn untold(info: &StreamInfo) -> StreamInfo
     ensures { result ≡ untold info.now }
 {
@@ -39,12 +39,18 @@ fn untold(info: &StreamInfo) -> StreamInfo
 }
 
 impl<R: Source + Drop> Decoder<BitReader<R>> {
-    /// A decoder at the first byte of a frame, of a stream of which STREAMINFO says this: a seek point tells where one begins (RFC 9639, section 8.5). It
-    /// takes the memory for one frame, and no more. Frames are counted from 0 in its faults, and neither the number of samples nor their digest is judged where
-    /// the stream ends.
+    /// Makes a decoder that begins at the first byte of a frame, in a stream with this STREAMINFO. The offset of a seek
+    /// point says where such a byte is (RFC 9639, section 8.5). It allocates for one frame.
+    ///
+    /// Frames are counted from 0 in its faults. The number of samples and the digest are not compared at the end, and
+    /// [`Decoder::info`] states neither.
+    ///
+    /// ```
+    /// let mut decoder = Decoder::resume(rt.alloc(), source, &info, Profile::Subset)?;
+    /// ```
     ///
     /// # Errors
-    /// `Memory` at the marker where a growth was refused.
+    /// [`Why::Memory`] at [`Place::Marker`] if an allocation fails.
     pub fn resume(
         alloc: Global,
         source: R,

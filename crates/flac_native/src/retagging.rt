@@ -1,4 +1,4 @@
-//! Gives a stream other comments.
+//! Replaces the comments of a stream.
 
 ghost use Rattle.std.specs.Prelude.{◌≡◌, ◌≢◌, ◌<◌, ◌≤◌, ◌++◌, ◌⊎◌, true, Bool, List, OnOk, IfErr, IfSome, IsErrAnd, Err, Some, None};
 ghost use Rattle.flac_bits.specs.Bits.{bits_of};
@@ -22,7 +22,7 @@ use flac_bits::{BitReader, Source, Target, Why, send_all};
 use flac_meta::Comments;
 use std::alloc::Global;
 
-/// Writes what is still to come with other comments, which are not too long.
+/// Writes what is still to come with these comments, which are not too long.
 fn retag_from<R: Source, W: Target>(
     alloc: Global,
     reader: &mut BitReader<R>,
@@ -76,15 +76,25 @@ fn retag_from<R: Source, W: Target>(
     }
 }
 
-/// Gives a native stream other comments: writes the marker, the same STREAMINFO, a Vorbis comment block of the given comments, the other metadata blocks
-/// in their order without an old comment block, and then the rest of the input byte for byte, which is not judged (RFC 9639, sections 6 and 8). The
-/// metadata is held in memory; the rest is copied at most 4096 bytes at a time.
+/// Replaces the comments of a native stream (RFC 9639, sections 6 and 8.6). It writes the marker, the same STREAMINFO,
+/// a Vorbis comment block of these comments, the other metadata blocks in their order without an old comment block, and
+/// then all bytes that follow the metadata. These are copied as they are, and not verified.
+///
+/// The metadata blocks are held in memory. The rest is copied 4096 bytes at a time.
+///
+/// ```
+/// let mut target = Counted::new(file);
+/// retag(rt.alloc(), &mut source, &comments, &mut target)?;
+/// ```
 ///
 /// # Errors
-/// [`Why::BlockLength`] without a place where the content of the comments is longer than 16777215 bytes (see [`Comments::length`]); then nothing was read
-/// and nothing written. Each reason of the marker and of a block, at its place, as [`crate::decode`] refuses it, and [`Why::Memory`] where a growth was
-/// refused, at the place that was being read, which behind the blocks is the first frame; then nothing was written. [`Why::Write`] without a place where the
-/// target answered an error, and [`Why::Read`] at the first frame where the source answered one behind the blocks; then a beginning of the output was written.
+/// - [`Why::BlockLength`] without a place: the content of the comments is longer than 16777215 bytes
+///   ([`Comments::length`]). Nothing was read and nothing written.
+/// - A reason of the marker or of a metadata block, at its place, as [`crate::decode`] refuses it. Nothing was written.
+/// - [`Why::Read`] at the marker or at a block: the source returned an error there. Nothing was written.
+/// - [`Why::Memory`] at the marker, at a block, or at frame 0: an allocation failed there. Nothing was written.
+/// - [`Why::Read`] at frame 0: the source returned an error after the metadata. A prefix of the output was written.
+/// - [`Why::Write`] without a place: the target returned an error. A prefix of the output was written.
 pub fn retag<R: Source, W: Target>(
     alloc: Global,
     source: &mut R,
@@ -94,7 +104,8 @@ pub fn retag<R: Source, W: Target>(
     // Comments that are too long are refused before anything is read, and nothing else is refused so.
     ensures long { 16777215 < comments_length comments.now → (result ≡ Err too_long) × (source.new ≡ source.old) × (target.new ≡ target.old) }
     ensures short { result ≡ Err too_long → 16777215 < comments_length comments.now }
-    // Ok only where the input begins with a marker and blocks; and what was written is just these with the comments, and the rest.
+    // Ok only if the input begins with a marker and blocks; what was written is exactly these with the comments, and
+    // the rest.
     ensures written { OnOk result (R.known source.old ≡ true → W.known target.old ≡ true
         → Retags (beginning (short_of ((R.behind source.old).fails))) (bits_of (R.coming source.old)) comments.now (bits_of (W.sent target.old)) (bits_of (W.sent target.new))) }
     // That is so for each way in which the input begins.
@@ -104,21 +115,22 @@ pub fn retag<R: Source, W: Target>(
     // Refused only as the marker and the blocks are, at that place and for that reason.
     ensures refused { IfErr result (λ f. IfSome f.at (λ at. R.known source.old ≡ true → R.errors source.new ≡ R.errors source.old → R.raised source.new ≡ R.raised source.old → f.why ≢ Why.Memory
         → IsRefused (beginning (short_of ((R.behind source.old).fails))) (bits_of (R.coming source.old)) at f.why)) }
-    // Behind the blocks it is refused for an error of the source or for want of memory alone: no block that was read is refused in writing.
+    // After the blocks only an error of the source or of an allocation is returned: no block that was read is refused
+    // in writing.
     ensures behind { IfErr result (λ f. IfSome f.at (λ at. R.known source.old ≡ true → (is_before_frames at ≡ true) ⊎ ((f ≡ not_read) ⊎ (f ≡ no_memory)))) }
-    // An input that begins with a marker and blocks is refused for the comments, the target and the memory alone.
+    // An input that begins with a marker and blocks is refused only for the comments, the target and memory.
     ensures accepted { IfErr result (λ f. f ≢ too_long → R.known source.old ≡ true → R.errors source.new ≡ R.errors source.old → R.raised source.new ≡ R.raised source.old → f.why ≢ Why.Memory
         → HasHead (beginning (short_of ((R.behind source.old).fails))) (bits_of (R.coming source.old)) → f ≡ not_written) }
-    // One whose marker or block is to be refused is refused just so.
+    // An input of which the marker or a block is to be refused is refused exactly so.
     ensures shown { comments_length comments.now ≤ 16777215 → (at : Place) (why : Why) → IsRefused (beginning (short_of ((R.behind source.old).fails))) (bits_of (R.coming source.old)) at why
         → R.known source.old ≡ true → R.errors source.new ≡ R.errors source.old → R.raised source.new ≡ R.raised source.old
         → IsErrAnd result (λ f. f.why ≢ Why.Memory → f ≡ record { at = Some at; why = why }) }
-    // Whatever was refused but an error of a device behind the blocks: nothing was written.
+    // At any error but that of a device after the blocks, nothing was written.
     ensures nothing { IfErr result (λ f. f ≢ not_read → f ≢ not_written → target.new ≡ target.old) }
-    // Where a device failed behind the blocks, a beginning of the output was written.
+    // If a device failed after the blocks, a prefix of the output was written.
     ensures begun { IfErr result (λ f. (f ≡ not_read) ⊎ (f ≡ not_written) → R.known source.old ≡ true → W.known target.old ≡ true
         → BeginsRetagging (beginning (short_of ((R.behind source.old).fails))) (bits_of (R.coming source.old)) comments.now (bits_of (W.sent target.old)) (bits_of (W.sent target.new))) }
-    // No place has a fault of the comments and of the target alone, and an error was answered where one is told.
+    // Only faults of the comments and of the target have no place. A device's error that is returned is counted.
     ensures placeless { IfErr result (λ f. f.at ≡ None → (f ≡ too_long) ⊎ (f ≡ not_written)) }
     ensures read { IfErr result (λ f. f.why ≡ Why.Read → R.known source.old ≡ true → R.raised source.old < R.raised source.new) }
     ensures write { IfErr result (λ f. f ≡ not_written → W.known target.old ≡ true → W.errors target.old < W.errors target.new) }

@@ -6,13 +6,14 @@ ghost use Rattle.md5.specs.Md5.{Holds};
 
 use md5::{Digest, Md5};
 
-/// How many bytes the digest is fed at once, at most.
+/// The most bytes that are added to the digest at once.
 const CHUNK: usize = 4096;
 
-/// How many inter-channel samples fit into these bytes: each has at most 8 samples of 4 bytes. If all are gathered, they are whole blocks of the digest.
+/// How many inter-channel samples fit into these bytes: each has at most 8 samples of 4 bytes. If all are there, they
+/// are whole blocks of the digest.
 const ROWS: usize = 128;
 
-/// Samples of channels.
+/// The samples of several channels.
 pub(crate) trait Channels {
     /// The samples of each channel.
     ghost lists: { Self → List (List ℤ) };
@@ -55,7 +56,8 @@ fn put_sample(sample: i32, width: usize, out: &mut [u8], at: usize)
     }
 }
 
-/// Writes the samples of all channels at one index behind the first `at` bytes, each in `width` bytes, and answers where they end.
+/// Writes the samples of all channels at one index after the first `at` bytes, each in `width` bytes, and returns where
+/// they end.
 #[inline(always)]
 #[tactic(auto, unfolding(crate::specs::Message::row_bytes), using(crate::proofs::Messages::row_more))]
 fn put_row<C: Channels>(
@@ -163,7 +165,8 @@ pub(crate) fn put_rows_in<C: Channels>(
     }
 }
 
-/// Feeds so many samples of each channel to a digest, interleaved, each in its lowest `width` bytes.
+/// Adds the first `len` samples of each channel to the input of a digest, interleaved, each in its lowest `width`
+/// bytes.
 #[inline(always)]
 #[tactic(auto, unfolding(crate::specs::Message::rows_bytes), using(crate::proofs::Messages::rows_split))]
 pub(crate) fn feed_rows<C: Channels>(

@@ -1,4 +1,4 @@
-//! One item of a stream after another.
+//! The calls of a decoder that read one item after another.
 
 ghost use Rattle.std.specs.Prelude.{◌≡◌, ◌≢◌, ⊤, IfOk, IfErr, IfSome, true, false, Some, Ok, option_copied};
 ghost use Rattle.std.specs.Borrow.{sem, follows_so};
@@ -53,8 +53,8 @@ fn next_item<C: Container>(container: &mut C, track: &mut Track) -> Result<Optio
 }
 
 impl<C: Container> Decoder<C> {
-    /// A decoder that reads from a container, in the state of a track: that of [`Track::new`] if the first metadata block comes next. Nothing is read or
-    /// allocated yet.
+    /// Makes a decoder of a container and the state of a track, such as that of [`Track::new`] if the first metadata
+    /// block comes next. Nothing is read yet.
     pub fn over(container: C, track: Track) -> Decoder<C>
         requires { C.stands container (stand_of track) ≡ true }
         ensures track { result.track ≡ track }
@@ -68,10 +68,10 @@ impl<C: Container> Decoder<C> {
         }
     }
 
-    /// Reads the next item, which [`Decoder::view`] shows then: a metadata block (RFC 9639, section 8), a frame (section 9), or the end of the stream.
+    /// Reads the next item, which [`Decoder::view`] lends then. It is [`Decoder::next`] for callers that cannot hold
+    /// the loan of an item.
     ///
     /// # Errors
-    ///
     /// Those of [`Decoder::next`].
     pub fn step(&mut self) -> Result<(), Fault>
         ensures { Moves C.Container (stage_of self.old) (stage_of self.new) (λ _. held self.new.course self.new.track) result }
@@ -87,6 +87,7 @@ impl<C: Container> Decoder<C> {
         }
     }
 
+    /// Reads the next item of a stream that is neither over nor refused.
     fn advance(&mut self) -> Result<(), Fault>
         requires { is_going self.old.course ≡ true }
         ensures { Goes C.Container (stage_of self.old) (stage_of self.new) (λ _. held self.new.course self.new.track) result }
@@ -107,7 +108,8 @@ impl<C: Container> Decoder<C> {
         }
     }
 
-    /// The item that was read last. [`Item::End`] before the first call, at the end of the stream, and after an error.
+    /// Lends the item that was read last. [`Item::End`] before the first call of [`Decoder::step`], at the end of the
+    /// stream, and after an error.
     pub fn view(&self) -> Item<'_>
         ensures { shown_of result ≡ held self.now.course self.now.track }
     {
@@ -124,14 +126,19 @@ impl<C: Container> Decoder<C> {
         }
     }
 
-    /// Reads the next item, and lends it: a metadata block (RFC 9639, section 8), a frame (section 9), or the end of the stream. After [`Item::End`] each call
-    /// returns [`Item::End`].
+    /// Reads the next item and lends it: a metadata block (RFC 9639, section 8), a frame (section 9), or the end of the
+    /// stream. After [`Item::End`] each call returns [`Item::End`].
+    ///
+    /// The number of samples and the MD5 digest that STREAMINFO states are compared at the end, so a stream is verified
+    /// only when [`Item::End`] is returned.
     ///
     /// # Errors
-    ///
-    /// A [`Fault`] has the place, with blocks and frames counted from 0, and the reason. [`Why::Read`]: the device returned an error. [`Why::Memory`]: an
-    /// allocation failed, which happens at metadata blocks alone. Each other reason: the stream is refused there. After any error each call returns
+    /// The place, with blocks and frames counted from 0, and the reason. After an error each call returns
     /// [`Why::Spent`] at the place of that error.
+    ///
+    /// - [`Why::Read`]: the device returned an error.
+    /// - [`Why::Memory`]: an allocation failed; never once the last metadata block was read.
+    /// - Any other reason: the stream is refused there.
     pub fn next(&mut self) -> Result<Item<'_>, Fault>
         ensures* after { sem 𝓛 (follows_so (the_row C.row C.Container) (the_row C.row C.Container) self.entry.ghost_name none (λ _ _. ⊤)
             (λ last. Moves C.Container (stage_of self.old) (stage_of last) shown_of result)) }
@@ -140,8 +147,9 @@ impl<C: Container> Decoder<C> {
         Ok(self.view())
     }
 
-    /// STREAMINFO, once it was read: rate, channels, bits per sample and length of the stream (RFC 9639, section 8.2); `None` before. A decoder that was resumed
-    /// at a frame has it from the start, without the number of samples and their digest.
+    /// STREAMINFO: sample rate, channels, bits per sample, and number of samples (RFC 9639, section 8.2). `None` until
+    /// it was read. A decoder of [`Decoder::resume`] has it from the start, without the number of samples and the
+    /// digest.
     ///
     /// ```
     /// if let Some(info) = decoder.info() {
@@ -157,7 +165,8 @@ impl<C: Container> Decoder<C> {
         }
     }
 
-    /// Whether the last metadata block was read, so that a frame comes next, or the end: no metadata comes any more (RFC 9639, section 8.1).
+    /// Whether the last metadata block was read, so that only frames and the end are still to come (RFC 9639, section
+    /// 8.1).
     ///
     /// ```
     /// for _ in 0..u64::MAX {
@@ -179,7 +188,8 @@ impl<C: Container> Decoder<C> {
         }
     }
 
-    /// Gives the container back: what it still gives comes after the item that was read last. After an error it is of no use any more.
+    /// Returns the container, which goes on after the item that was read last. After an error it must not be read
+    /// further.
     pub fn into_container(self) -> C
         ensures { result ≡ self.container }
     {
@@ -193,8 +203,14 @@ impl<C: Container> Decoder<C> {
 }
 
 impl<R: Source> Decoder<BitReader<R>> {
-    /// A decoder at the start of a native stream, before the marker `fLaC` (RFC 9639, section 6). It allocates when it reads metadata: for one block, and, at
-    /// STREAMINFO, for one frame.
+    /// Makes a decoder of a native stream, whose marker `fLaC` is the next four bytes of the source (RFC 9639, section
+    /// 6). It allocates when it reads metadata: for each block, and at STREAMINFO for one frame.
+    ///
+    /// ```
+    /// let file = File::open(&rt, "peaks.flac")?;
+    /// let mut decoder = Decoder::new(rt.alloc(), Counted::new(file), Profile::Subset);
+    /// let found = peaks(&mut decoder)?;
+    /// ```
     pub fn new(alloc: Global, source: R, profile: Profile) -> Decoder<BitReader<R>>
         ensures track { IsAt result.track opening }
         ensures course { result.course ≡ Course.Begun }
@@ -205,7 +221,7 @@ impl<R: Source> Decoder<BitReader<R>> {
         Decoder::over(BitReader::new(source), Track::opening(alloc, profile))
     }
 
-    /// Gives the source back, without the bytes that were pulled from it and not read.
+    /// Returns the source. Bytes that were pulled from it and not decoded yet are lost.
     pub fn into_source(self) -> R
         ensures known { self.container.known ≡ true → R.known result ≡ true }
         ensures errors { (R.errors result ≡ self.container.errors) × (R.raised result ≡ self.container.raised) }

@@ -1,4 +1,4 @@
-//! Native streams, encoded a block at a time.
+//! Encodes a native stream a block at a time.
 
 ghost use Rattle.std.specs.Prelude.{◌≡◌, ◌≢◌, ◌++◌, ◌≤◌, ◌<◌, ◌+◌, ◌^◌, ◌↔◌, map, option_map, true, IfOk, OnOk, IfErr, None, Err};
 ghost use Rattle.flac_bits.specs.Bits.{bits_of};
@@ -20,11 +20,12 @@ use flac_meta::{BlockList, StreamInfo};
 use std::alloc::Global;
 use std::marker::Model;
 
-/// Encodes a native stream whose samples are not all there yet, as a recorder or a ripper does (RFC 9639, section 6). [`StreamEncoder::new`] writes the marker,
-/// STREAMINFO and the metadata blocks; each [`StreamEncoder::push`] writes one frame; [`StreamEncoder::finish`] gives the target back.
+/// Encodes a native stream a block at a time, as a recorder does whose samples are not all there yet (RFC 9639, section
+/// 6). [`StreamEncoder::new`] writes the marker, STREAMINFO and the metadata blocks, each [`StreamEncoder::push`] one
+/// frame, and [`StreamEncoder::finish`] returns the target.
 ///
-/// What was written is a stream after each call. Its STREAMINFO tells neither the number of samples, nor the sizes of the frames, nor the digest, since these are not
-/// known when it is written (section 8.2).
+/// After each call that returns `Ok`, what was written is a whole stream. Its STREAMINFO states neither the number of
+/// samples nor the sizes of the frames nor the digest, since they are not known when it is written (section 8.2).
 ///
 /// ```
 /// let mut encoder = StreamEncoder::new(alloc, 44100, 16, 2, 4096, &blocks, file)?;
@@ -69,7 +70,7 @@ impl<W: Target> Model for StreamEncoder<W> {
     } };
 }
 
-/// Why nothing of a format can be encoded, if so.
+/// Why nothing of a format can be encoded, or `None` if it can.
 #[tactic(auto, unfolding(crate::specs::Pushing::shape_fault))]
 fn shape_fault(rate: u32, bits: u32, channels: u32, block_size: u32) -> Option<SetupFault>
     ensures { result ≡ shape_fault (record { rate = rate; bits = bits; channels = channels; block_size = block_size }) }
@@ -89,7 +90,7 @@ fn shape_fault(rate: u32, bits: u32, channels: u32, block_size: u32) -> Option<S
     None
 }
 
-/// STREAMINFO of a format, where all that the samples tell is unknown (RFC 9639, section 8.2).
+/// STREAMINFO of a format, in which everything that depends on the samples is unknown (RFC 9639, section 8.2).
 fn open_info(rate: u32, bits: u32, channels: u32, block_size: u32) -> StreamInfo
     requires { shape_fault (record { rate = rate; bits = bits; channels = channels; block_size = block_size }) ≡ None }
     ensures { result ≡ open_info (record { rate = rate; bits = bits; channels = channels; block_size = block_size }) }
@@ -130,12 +131,19 @@ fn open_head(
 }
 
 impl<W: Target + Drop> StreamEncoder<W> {
-    /// Writes the marker, STREAMINFO and the blocks of the list, and makes an encoder of blocks of a format: the rate in Hz, the bits of a sample, 1 to 8 channels, and
-    /// 16 to 16384 samples of each channel in a block, at most 4608 at a rate of 48000 Hz or less (RFC 9639, sections 6 to 8).
+    /// Writes the marker, STREAMINFO and the blocks of the list, and makes an encoder for this format (RFC 9639,
+    /// sections 6 to 8):
+    ///
+    /// - the sample rate in Hz, which a frame header can state: 1 to 65535, multiples of 10 up to 655350, or multiples
+    ///   of 1000 up to 255000 (section 9.1.2);
+    /// - 8, 12, 16, 20, 24 or 32 bits per sample;
+    /// - 1 to 8 channels;
+    /// - a block size of 16 to 16384 samples of each channel, at most 4608 if the rate is at most 48000 Hz (section 7).
     ///
     /// # Errors
-    /// [`EncodeFault::Setup`] with `BadRate`, `BadDepth`, `BadChannels` or `BadBlockSize`, the first of these that applies, and [`EncodeFault::Memory`] where the
-    /// buffers are not to be had: then nothing was sent. [`EncodeFault::Write`] where the target answered an error: then it was sent a beginning.
+    /// [`EncodeFault::Setup`] with `BadRate`, `BadDepth`, `BadChannels` or `BadBlockSize`, the first that applies. Else
+    /// [`EncodeFault::Memory`] if an allocation fails, or [`EncodeFault::Write`] if the target returns an error. The
+    /// target is not returned then.
     pub fn new(
         alloc: Global,
         rate: u32,
@@ -182,7 +190,7 @@ impl<W: Target + Drop> StreamEncoder<W> {
             Err(_) => Err(EncodeFault::Write),
         }
     }
-    /// Why a block of so many samples cannot be the next frame, if so.
+    /// Why a block of `len` samples cannot be the next frame, or `None` if it can.
     #[tactic(auto, unfolding(crate::specs::Pushing::size_fault))]
     fn size_fault(&self, len: u64) -> Option<EncodeFault>
         ensures { result ≡ size_fault self.now len }
@@ -199,7 +207,7 @@ impl<W: Target + Drop> StreamEncoder<W> {
         None
     }
 
-    /// The first reason why a block is refused, if there is one.
+    /// The first reason for which a block is refused, or `None`.
     #[tactic(auto, unfolding(crate::specs::Pushing::push_fault))]
     fn push_fault(&self, block: &[&[i32]]) -> Option<EncodeFault>
         ensures { result ≡ push_fault self.now (map (λ c. c.now) block.now) }
@@ -213,15 +221,24 @@ impl<W: Target + Drop> StreamEncoder<W> {
         self.size_fault(block_len(block) as u64)
     }
 
-    /// Writes a block as the next frame: the samples of each channel, 1 to as many as the block size, which are copied. The frame is the least of its family, as in
-    /// [`crate::encode`]. It is sent whole: the encoder holds nothing back. Only the last block may be shorter than the block size (RFC 9639, section 9.1).
+    /// Writes a block as the next frame, and sends all of it. `block` has one slice for each channel, of 1 to as many
+    /// samples as the block size. Only the last block may be shorter than the block size (RFC 9639, section 9.1). The
+    /// frame is as short as one of [`crate::encode`].
     ///
     /// # Errors
-    /// The first of these that applies: [`EncodeFault::Spent`] after a call that answered [`EncodeFault::Write`]; [`EncodeFault::Setup`] with `BadChannels` where there is
-    /// not one slice for each channel, `LengthsDiffer` where they are not of one length, `SampleTooLarge` where a sample does not fit its bits, `TooLong` where there
-    /// would be 2^36 samples of each channel or more than 2^31 frames, `BadBlockSize` where there is no sample or there are more than the block size;
-    /// [`EncodeFault::BlockSize`] where the block before was short. So long as it is none of these, [`EncodeFault::Memory`] where a growth was refused. After each of these the
-    /// encoder is as it was, and nothing was sent. [`EncodeFault::Write`] where the target answered an error: then it was sent a beginning of the frame.
+    /// The first of these that applies:
+    ///
+    /// - [`EncodeFault::Spent`] after a call that returned [`EncodeFault::Write`];
+    /// - [`EncodeFault::Setup`] with `BadChannels` if there is not one slice for each channel, `LengthsDiffer` if they
+    ///   differ in length, `SampleTooLarge` if a sample does not fit its bits;
+    /// - [`EncodeFault::Setup`] with `TooLong` if the stream would have 2^36 samples of each channel or more, or
+    ///   more than 2^31 frames;
+    /// - [`EncodeFault::Setup`] with `BadBlockSize` if the block has no sample, or more than the block size;
+    /// - [`EncodeFault::BlockSize`] if the block before was shorter than the block size;
+    /// - [`EncodeFault::Memory`] if an allocation fails, or [`EncodeFault::Write`] if the target returns an error.
+    ///
+    /// After [`EncodeFault::Write`] the target was sent a prefix of the frame. After each other error the encoder is as
+    /// it was, and nothing was sent.
     pub fn push(&mut self, block: &[&[i32]]) -> Result<(), EncodeFault>
         ensures next { OnOk result (self.new ≡ behind_block self.old (samples_each (map (λ c. c.now) block.now)) self.new.target) }
         ensures written { OnOk result (W.known self.old.target ≡ true → Pushes W.Target (map (λ c. c.now) block.now) self.old self.new) }
@@ -265,10 +282,10 @@ impl<W: Target + Drop> StreamEncoder<W> {
         }
     }
 
-    /// Ends the stream, and gives the target back. Nothing more is sent.
+    /// Returns the target. Nothing more is sent: the stream is complete.
     ///
     /// # Errors
-    /// [`EncodeFault::Spent`] after a call that answered [`EncodeFault::Write`].
+    /// [`EncodeFault::Spent`] after a call that returned [`EncodeFault::Write`].
     pub fn finish(self) -> Result<W, EncodeFault>
         ensures given { IfOk result (λ target. target ≡ self.target) }
         ensures spent { (result ≡ Err EncodeFault.Spent) ↔ (self.spent ≡ true) }

@@ -3,7 +3,7 @@
 ghost use Rattle.std.specs.Prelude.{◌≡◌};
 ghost use Rattle.flac_header.specs.Header.{greatest_block};
 
-/// The greatest block size in samples that the streamable subset allows at a rate (RFC 9639, section 7).
+/// The largest block size in samples that the streamable subset allows at a rate (RFC 9639, section 7).
 pub(crate) fn greatest_block(rate: u32) -> u32
     ensures { result ≡ greatest_block rate }
 {

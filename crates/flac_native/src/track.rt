@@ -1,4 +1,4 @@
-//! What the parts of a stream so far leave for those behind them.
+//! The state of a stream between its parts.
 
 ghost use Rattle.std.specs.Prelude.{◌≡◌, ◌≢◌, ◌≤◌, ◌+◌, cond, OnOk, IfOk, IfErr, Err, Some, is_some, true, ⊤};
 ghost use Rattle.std.specs.Borrow.{sem, follows_so};
@@ -25,9 +25,16 @@ use flac_meta::{Block, Seen, StreamInfo, read_block};
 use md5::{Digest, Md5};
 use std::alloc::Global;
 
-/// What the parts of a stream so far leave for those behind them, with which its blocks and frames are read one by one from any source: a metadata
-/// block by [`Track::block`], and behind the last of them a frame by [`Track::frame`] or [`Track::next_frame`]; where the stream ends [`Track::end`] judges
-/// what STREAMINFO states of all samples (RFC 9639, section 6).
+/// The state of a stream between two of its parts, by which they are read one by one (RFC 9639, section 6): a metadata
+/// block by [`Track::block`]; after the last block a frame by [`Track::frame`] or [`Track::next_frame`]; and at the end
+/// of the stream [`Track::end`], which compares what STREAMINFO states of all samples. [`crate::Decoder`] does all
+/// this.
+///
+/// ```
+/// let mut bits = BitReader::new(source); // after `fLaC`
+/// let mut track = Track::new(rt.alloc(), Profile::Subset);
+/// let (last, info) = track.block(&mut bits)?; // STREAMINFO
+/// ```
 #[derive(Drop)]
 pub struct Track {
     pub(crate) alloc: Global,
@@ -43,7 +50,8 @@ pub struct Track {
 }
 
 impl Track {
-    /// Behind the marker of a stream, where the first metadata block comes next. It takes memory where it reads metadata: at STREAMINFO, for one frame.
+    /// Makes the state after the marker: the first metadata block comes next. It allocates when it reads metadata: for
+    /// the block, and at STREAMINFO for one frame.
     pub fn new(alloc: Global, profile: Profile) -> Track
         ensures { IsAt result (next opening marked) }
     {
@@ -52,7 +60,7 @@ impl Track {
         track
     }
 
-    /// Before the first part of a stream.
+    /// The state before the marker.
     pub(crate) fn opening(alloc: Global, profile: Profile) -> Track
         ensures { IsAt result opening }
     {
@@ -70,7 +78,7 @@ impl Track {
         }
     }
 
-    /// Before the frames of a stream of which STREAMINFO says this. Refuses `Memory` alone.
+    /// The state before a frame of a stream with this STREAMINFO. Its only error is `Memory`: an allocation failed.
     pub(crate) fn resumed(alloc: Global, profile: Profile, info: StreamInfo) -> Result<Track, Why>
         ensures ok { IfOk result (λ t. IsAt t (at_frames info)) }
         ensures err { IfErr result (λ e. e ≡ Why.Memory) }
@@ -82,7 +90,7 @@ impl Track {
         Ok(track)
     }
 
-    /// Notes a block, all but its kind. Refuses `Memory` alone.
+    /// Notes a block that was read. Its only error is `Memory`: an allocation failed.
     fn note(&mut self, last: bool, block: &Block) -> Result<(), Why>
         ensures phase { OnOk result (self.new.phase ≡ phase_behind last) }
         ensures index { OnOk result (self.new.index ≡ cond last 0 (raised self.old.index)) }
@@ -108,18 +116,18 @@ impl Track {
         Ok(())
     }
 
-    /// Reads the next metadata block, and answers whether it is marked as the last (RFC 9639, section 8).
+    /// Reads the next metadata block, and returns whether it is marked last, and the block (RFC 9639, section 8).
     ///
     /// # Errors
-    /// Each reason of a block: [`Why::NotStreamInfoFirst`] and [`Why::RepeatedBlock`] are judged by the blocks that this track read before.
-    /// [`Why::Memory`] where a growth was refused, [`Why::Read`] where the source answered an error. After a refusal the track is of no use any more.
+    /// Those of [`flac_meta::read_block`], which depend on the blocks that this track read before; [`Why::Memory`] also
+    /// if the allocation for a frame fails. The track must not be used to read on then.
     pub fn block<R: Source>(&mut self, bits: &mut BitReader<R>) -> Result<(bool, Block), Why>
         ensures spends { OnOk result (bits.new.most + 32 ≤ bits.old.most) }
         ensures counts { Counts bits.old bits.new result }
         ensures reads { ReadsInRoom (λ x. x) (block_layout (stand_of self.old).seen) bits.old bits.new result }
         ensures means { (result ≡ Err Why.Memory → ⊥) → Means (λ x. x) (block_layout (stand_of self.old).seen) bits.old bits.new result }
         ensures next { IfOk result (λ x. (p : Progress) → IsAt self.old p → IsAt self.new (next p (block_piece x.0 x.1))) }
-        // The block that Track::next_block keeps stays.
+        // The block that Track::next_block keeps does not change.
         ensures last { self.new.last ≡ self.old.last }
         ensures kept { self.new.block ≡ self.old.block }
     {
@@ -128,7 +136,8 @@ impl Track {
         Ok((last, block))
     }
 
-    /// Reads the next metadata block as [`Track::block`] does (RFC 9639, section 8), and keeps it: a [`crate::Container`] calls it.
+    /// Reads the next metadata block as [`Track::block`] does, and keeps it in the track, as [`crate::Container::next`]
+    /// has to do.
     ///
     /// # Errors
     /// Those of [`Track::block`].
@@ -146,12 +155,14 @@ impl Track {
         Ok(())
     }
 
-    /// Reads the next frame, which [`Track::view`] shows then. It has at most 16777215 bytes, and is judged by STREAMINFO and the frames that this track read
-    /// before (RFC 9639, section 9). No fence stands behind it.
+    /// Reads the next frame, which [`Track::view`] lends then (RFC 9639, section 9). It must agree with STREAMINFO and
+    /// follow the frames that this track read before, and has at most 16777215 bytes. No fence is left
+    /// ([`BitReader::fence`]).
     ///
     /// # Errors
-    /// Each reason of a frame, and [`Why::NotStreamInfoFirst`] where no STREAMINFO was read; [`Why::Read`] where the source answered an error, and never
-    /// [`Why::Memory`]. After a refusal the track is of no use any more.
+    /// Those of [`flac_frame::FrameBuffers::fill`]; [`Why::FrameTooLong`] if it has more bytes;
+    /// [`Why::NotStreamInfoFirst`] if no STREAMINFO was read. Never [`Why::Memory`]. The track must not be used to read
+    /// on then.
     #[tactic(auto, unfolding(crate::specs::Stream::frame_behind))]
     pub fn next_frame<R: Source>(&mut self, bits: &mut BitReader<R>) -> Result<(), Why>
         ensures spends { OnOk result (bits.new.most + 40 ≤ bits.old.most) }
@@ -161,7 +172,7 @@ impl Track {
         ensures means { MeansWithin (Some 16777215) (λ _. shown self.new) (frame_behind (stand_of self.old).info (stand_of self.old).before) bits.old bits.new result }
         ensures next { OnOk result ((p : Progress) → IsAt self.old p → IsAt self.new (next p (framed (shown self.new)))) }
         ensures made { OnOk result (is_some (stand_of self.new).info ≡ true) }
-        // The block that Track::next_block keeps stays.
+        // The block that Track::next_block keeps does not change.
         ensures last { self.new.last ≡ self.old.last }
         ensures kept { self.new.block ≡ self.old.block }
     {
@@ -178,7 +189,7 @@ impl Track {
         Ok(())
     }
 
-    /// The frame that was read last, one of no channels where none was. A STREAMINFO was read.
+    /// Lends the frame that was read last; one without channels before the first. STREAMINFO must have been read.
     pub fn view(&self) -> FrameView<'_>
         requires { is_some (stand_of self.now).info ≡ true }
         ensures { frame_of result ≡ shown self.now }
@@ -189,7 +200,10 @@ impl Track {
         }
     }
 
-    /// Reads the next frame as [`Track::next_frame`] does, and lends it. After a refusal nothing is lent.
+    /// Reads the next frame as [`Track::next_frame`] does, and lends it.
+    ///
+    /// # Errors
+    /// Those of [`Track::next_frame`].
     pub fn frame<R: Source>(&mut self, bits: &mut BitReader<R>) -> Result<FrameView<'_>, Why>
         ensures spends { OnOk result (bits.new.most + 40 ≤ bits.old.most) }
         ensures counts { Counts (lifted bits.old) bits.new result }
@@ -203,7 +217,8 @@ impl Track {
         Ok(self.view())
     }
 
-    /// Where the next part stands: the marker, a block, or a frame, counted from 0 up to 2^64 - 1.
+    /// The place of the next part: the marker, a block or a frame. Blocks and frames are counted from 0, up to 2^64 -
+    /// 1.
     pub fn place(&self) -> Place
         ensures { result ≡ place_in (stand_of self.now).phase (stand_of self.now).index }
     {
