@@ -1,4 +1,4 @@
-//! One packet after another.
+//! Reads one packet after another.
 
 ghost use Rattle.std.specs.Prelude.{◌≡◌, ◌≢◌, ◌≤◌, ◌<◌, ◌+◌, ℕ, true, false, length, cond, IfOk, IfErr, IfSome, None, Some};
 ghost use Rattle.flac_bits.specs.Handing.{IsOutside};
@@ -17,7 +17,7 @@ use flac_bits::{Source, Why};
 use flac_native::{Fault, Part, Place, Track};
 use flac_pages::Pages;
 
-/// No packet is left where a block comes next.
+/// The error if no packet is left and a metadata block is missing.
 fn block_due(track: &Track) -> Fault
     ensures at { result.at ≡ place_in (stand_of track.now).phase (stand_of track.now).index }
     ensures why { result.why ≡ Why.PacketLength }
@@ -28,11 +28,10 @@ fn block_due(track: &Track) -> Fault
     }
 }
 
-/// Judges the stream where no packet is left.
+/// Judges the end of the stream, after its last packet.
 ///
 /// # Errors
-///
-/// `PacketLength` where a block is due, and what [`Track::end`] refuses.
+/// `PacketLength` if a metadata block is missing, else those of [`Track::end`].
 fn end_here(track: &mut Track) -> Result<(), Fault>
     ensures memory { IfErr result (λ f. f.why ≢ Why.Memory) }
     ensures quiet { IfErr result (λ f. f.why ≢ Why.Read) }
@@ -51,7 +50,7 @@ fn end_here(track: &mut Track) -> Result<(), Fault>
     }
 }
 
-/// The fault where a byte follows the page marked last: a block that is due comes first.
+/// The error if a byte follows the page marked last: a missing metadata block comes first.
 fn behind_last(track: &Track, page: u64, why: Why) -> Fault
     ensures memory { why ≢ Why.Memory → result.why ≢ Why.Memory }
     ensures met { (old new : ℕ) → Met why old new → Met result.why old new }
@@ -67,7 +66,7 @@ fn behind_last(track: &Track, page: u64, why: Why) -> Fault
     }
 }
 
-/// The fault where no packet is left: of the page that was refused, or of a byte behind the page marked last.
+/// The error if no packet is left: that of the page that was refused, or of a byte after the page marked last.
 fn page_fault(track: &Track, is_last: bool, page: u64, why: Why) -> Fault
     ensures memory { why ≢ Why.Memory → result.why ≢ Why.Memory }
     ensures met { (old new : ℕ) → Met why old new → Met result.why old new }
@@ -83,11 +82,11 @@ fn page_fault(track: &Track, is_last: bool, page: u64, why: Why) -> Fault
     }
 }
 
-/// Reads the next packet's block or frame; `None` at the end of the stream. After an error neither the pages nor the track are of use any more.
+/// Reads the next packet's block or frame; `None` at the end of the stream. After an error neither the pages nor the
+/// track may be used to read on.
 ///
 /// # Errors
-///
-/// The fault of a page, of the packet, or of the stream's end, with its place.
+/// The error of a page, of the packet, or of the stream's end, with its place.
 pub(crate) fn advance<R: Source>(
     pages: &mut Pages<R>,
     track: &mut Track,

@@ -1,4 +1,4 @@
-//! An Ogg stream, item by item.
+//! Makes a decoder of an Ogg stream.
 
 ghost use Rattle.std.specs.Prelude.{◌≡◌, true, List, IfOk, IfErr, None, Some};
 ghost use Rattle.flac_bits.specs.Bits.{bits_of};
@@ -19,13 +19,19 @@ use flac_native::{Decoder, Fault, Place, Profile, Source, Track, Why};
 use flac_pages::Pages;
 use std::alloc::Global;
 
-/// A decoder at the start of an Ogg stream (RFC 9639, section 10.1), which reads it block by block and frame by frame with [`Decoder::next`], or `step` and
-/// `view`. It allocates 65025 bytes for a page here, and when it reads metadata: for one block, and, at STREAMINFO, for one frame. A block or a frame is lent
-/// once its packet has ended.
+/// Makes a decoder of an Ogg stream, whose first page begins at the source's next byte (RFC 9639, section 10.1). It has
+/// the calls of [`Decoder`], and lends a block or a frame once its packet has ended.
+///
+/// It allocates 65025 bytes for a page here. When it reads metadata, it allocates for each block, and at STREAMINFO for
+/// one frame.
+///
+/// ```
+/// let mut decoder = ogg_decoder(rt.alloc(), Memory::new(&stream), Profile::Subset)?;
+/// let found = peaks(&mut decoder)?; // see `Decoder`
+/// ```
 ///
 /// # Errors
-///
-/// `Memory` at the marker if the allocation for a page fails.
+/// [`Why::Memory`] if the allocation for a page fails.
 pub fn ogg_decoder<R: Source + Drop>(
     alloc: Global,
     source: R,
@@ -39,7 +45,7 @@ pub fn ogg_decoder<R: Source + Drop>(
     // What is still to come is what the input is.
     ensures stream { IfOk result (λ d. (items : List Piece) → OggStream (beginning (short_of ((R.behind source).fails))) items (bits_of (R.coming source)) → ItemsCome start (ahead (stage_of d).container.pages) items None) }
     ensures refused { IfOk result (λ d. (items : List Piece) (at : Where) (why : Reason) → OggRefused (beginning (short_of ((R.behind source).fails))) items (bits_of (R.coming source)) at why → ItemsCome start (ahead (stage_of d).container.pages) items (Some (at, why))) }
-    // Read is returned only if the source returned an error in the call, where it foretells none.
+    // Read is returned only if the source returns an error in the call, unless one is announced.
     ensures clear { IfOk result (λ d. (R.behind source).fails ≡ None → IsClear (stage_of d).container.pages (stage_of d).track) }
     ensures memory { IfErr result (λ f. f.why ≡ Why.Memory) }
 {

@@ -78,28 +78,32 @@ fn decode_as<R: Source, S: Sink>(
     }
 }
 
-/// Decodes a stream, and passes its blocks and frames to a sink: an Ogg stream (RFC 9639, section 10.1) if the first byte is that of a page, otherwise a native
-/// one (section 6).
+/// Decodes a stream in either container, and passes its metadata blocks and frames to the sink: an Ogg stream if the
+/// first byte is `O`, that of a page (RFC 9639, section 10.1), a native one otherwise (section 6).
+///
+/// ```
+/// decode_any(rt.alloc(), &mut source, Profile::Subset, &mut sink)?;
+/// ```
 ///
 /// # Errors
-///
-/// `Read` at the marker if the source returns an error for the first byte. Otherwise those of [`decode_ogg`] or of [`decode`].
+/// [`Why::Read`] at the marker if the source returns an error for the first byte. Else those of [`decode_ogg`] or of
+/// [`decode`].
 pub fn decode_any<R: Source, S: Sink>(
     alloc: Global,
     source: &mut R,
     profile: Profile,
     sink: &mut S,
 ) -> Result<(), Fault>
-    // Ok only where the bytes are such a stream, of which the sink took just the items; refused only as the bytes are, behind just the items before;
-    // and whatever ended it, the sink took whole items, from the start.
+    // Ok only if the bytes are such a stream, and the sink took exactly its items; refused only as the bytes are, after
+    // exactly the items before; and in each case the sink took whole items, from the start.
     ensures hands { R.known source.old ≡ true → S.known sink.old ≡ true →
         Hands (read_either (begins_page (R.coming source.old)) (beginning (short_of ((R.behind source.old).fails))) (bits_of (R.coming source.old))) (taken S.takes) S.errors
         ((R.errors source.new ≡ R.errors source.old) × (R.raised source.new ≡ R.raised source.old)) sink.old sink.new (outcome_of told result) }
-    // Such a stream is not refused but for want of memory, and what the bytes show is the place and the reason answered.
+    // Such a stream is not refused, unless memory runs out, and the place and the reason are those that the bytes show.
     ensures decides { R.known source.old ≡ true → S.known sink.old ≡ true → R.errors source.new ≡ R.errors source.old → R.raised source.new ≡ R.raised source.old → S.errors sink.new ≡ S.errors sink.old →
         Decides (read_either (begins_page (R.coming source.old)) (beginning (short_of ((R.behind source.old).fails))) (bits_of (R.coming source.old))) (outcome_of told result) }
     ensures kept { R.errors source.old ≤ R.errors source.new }
-    // Read is told only where the source answered an error in the call, where it foretells none.
+    // Read is returned only if the source returned an error in the call, unless one was announced.
     ensures read { IfErr result (λ f. R.known source.old ≡ true → (R.behind source.old).fails ≡ None → f.why ≡ Why.Read → (R.errors source.old < R.errors source.new) ⊎ (R.raised source.old < R.raised source.new)) }
     // An error of the source and of the sink is counted, if the count can rise, whatever is known of them: no other call returns it.
     ensures risen { IfErr result (λ f. f.why ≡ Why.Read → Rises (R.raised source.old) (R.raised source.new)) }

@@ -1,4 +1,4 @@
-//! The packet that is held back.
+//! The last packet so far of an Ogg stream, of which it is not known yet whether more follow.
 
 ghost use Rattle.std.specs.Prelude.{◌≡◌, true, false, IfOk, IfErr};
 ghost use Rattle.flac_bits.specs.Bits.{bits_of};
@@ -33,8 +33,8 @@ fn packet_pages(alloc: Global, marks: PacketMarks, packet: &[u8]) -> Result<Pack
     }
 }
 
-/// The pages of a packet of which it is not known yet whether it is the last: as they are if more packets follow, as they are if it ends the stream, and the number of
-/// the page after them.
+/// The pages of a packet of which it is not known yet whether more follow: as they are if more follow, as they are if
+/// it ends the stream, and the number of the page after them.
 #[derive(Drop)]
 pub(crate) struct HeldPacket {
     pub(crate) middle: Vec<u8>,

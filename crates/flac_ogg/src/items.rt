@@ -1,4 +1,4 @@
-//! One block or frame in one packet.
+//! Reads a block or a frame of a packet.
 
 ghost use Rattle.std.specs.Prelude.{◌≡◌, ◌≢◌, ◌≤◌, ◌<◌, ◌+◌, true, false, length, OnOk, IfOk, IfErr, None, Err};
 ghost use Rattle.flac_native.specs.Stream.{Progress, next, room_in};
@@ -12,12 +12,11 @@ use flac_bits::{Source, Why};
 use flac_native::{Part, Track};
 use flac_pages::{PacketBytes, Pages, end_item, packet_bits};
 
-/// Reads the packet that was begun, which is to be just the next block or frame.
+/// Reads the packet that was begun: it must be exactly the next block or frame.
 ///
 /// # Errors
-///
-/// The item's own reason. `PacketLength` where the packet ends inside the item, goes on behind it, or is still open at the end of the last page. Where a
-/// refused page breaks the packet off, how many pages came before that page, and its fault.
+/// The item's own error. `PacketLength` if the packet ends inside the item, goes on after it, or is still open at the
+/// end of the last page. If a refused page breaks the packet off, the number of pages before that page, and its error.
 pub(crate) fn read_packet<R: Source>(
     pages: &mut Pages<R>,
     track: &mut Track,
@@ -28,7 +27,7 @@ pub(crate) fn read_packet<R: Source>(
     ensures spends { OnOk result (pages.new.most + length pages.new.body < pages.old.most + length pages.old.body) }
     ensures tells { (stand_of track.old).phase ≢ Opening → pages.old.known ≡ true → pages.new.errors ≡ pages.old.errors → (result ≡ Err (None, Why.Memory) → ⊥) →
         TellsItem (λ part. piece_of track.new part) (room_in (stand_of track.old).phase) (packet_layout (stand_of track.old)) (packet_mark pages.old) (packet_of pages.old) result }
-    // Read is told only where the device answered an error in the call.
+    // Read is returned only if the device returned an error in the call.
     ensures meets { Meets pages.old.raised pages.new.raised result }
     ensures stands { OnOk result ((pages.new.rest ≡ 0) × (pages.new.more ≡ false)) }
     ensures goes { OnOk result ((pages.old.known ≡ true → pages.new.known ≡ true) × (pages.new.errors ≡ pages.old.errors)) }

@@ -1,4 +1,4 @@
-//! Why a block of samples does not have the format.
+//! Why a block of samples does not fit the format.
 
 ghost use Rattle.std.specs.Prelude.{◌≡◌, ◌≤◌, map, IfOk};
 ghost use Rattle.flac_native.specs.Pushing.{block_fault};
@@ -10,7 +10,8 @@ use flac_meta::BlockList;
 use flac_native::{EncodeFault, StreamEncoder};
 use std::alloc::Global;
 
-/// An encoder of a native stream that was pushed a short block of each channel's first sample. It takes no further block, and tells for which first fault it refuses one.
+/// Makes an encoder of a native stream that was pushed a short block of one sample 0 of each channel. It takes no
+/// further block, and its error says first what is wrong with the block itself.
 pub(crate) fn judge_of(
     alloc: Global,
     rate: u32,
@@ -31,7 +32,7 @@ pub(crate) fn judge_of(
     Ok(judge)
 }
 
-/// The fault, if it is one that a block has by itself.
+/// The fault, if it is one of a block by itself.
 fn of_block(fault: SetupFault) -> Option<SetupFault>
     ensures { result ≡ of_block fault }
 {
@@ -43,7 +44,7 @@ fn of_block(fault: SetupFault) -> Option<SetupFault>
     }
 }
 
-/// The fault for which a block was refused, if it is one that a block has by itself.
+/// The fault for which a block was refused, if it is one of a block by itself.
 fn fault_in(outcome: Result<(), EncodeFault>) -> Option<SetupFault>
     ensures { result ≡ fault_in outcome }
 {
@@ -53,7 +54,8 @@ fn fault_in(outcome: Result<(), EncodeFault>) -> Option<SetupFault>
     }
 }
 
-/// Why a block does not have the format of a judge, if so: there is not one slice for each channel, they differ in length, or a sample does not fit its bits.
+/// Why a block does not fit the format: there is not one slice for each channel, they differ in length, or a sample
+/// does not fit its bits. `None` if it fits.
 pub(crate) fn block_fault(
     judge: &mut StreamEncoder<Collected>,
     block: &[&[i32]],

@@ -1,4 +1,17 @@
-//! FLAC in Ogg: metadata blocks and frames, each in a packet of its own (RFC 9639, section 10.1; RFC 3533).
+//! FLAC in Ogg: decoding, encoding, and streams in either container. Each metadata block and each frame is in a packet
+//! of its own (RFC 9639, section 10.1; RFC 3533).
+//!
+//! | To | Begin with |
+//! |---|---|
+//! | decode block by block and frame by frame | [`ogg_decoder`] |
+//! | decode into a [`Sink`] | [`decode_ogg`] |
+//! | decode a native or an Ogg stream into a sink | [`decode_any`] |
+//! | verify a stream in memory | [`verify`] |
+//! | encode samples that are all there | [`Audio`], [`Plan`] and [`encode_ogg`] |
+//! | encode into memory, and decode again | [`encode_and_decode`] |
+//! | encode a block at a time | [`OggEncoder`] |
+//!
+//! It re-exports what its users need from the crates below.
 #![tactic(auto)]
 
 mod advance;

@@ -1,4 +1,4 @@
-//! What stands in the first packet before STREAMINFO.
+//! The bytes of the first packet before STREAMINFO.
 
 ghost use Rattle.std.specs.Prelude.{◌≡◌, ◌≢◌, ◌≤◌, ◌+◌, OnOk, IfErr};
 ghost use Rattle.flac_bits.specs.Reading.{Counts, Reads};
@@ -6,8 +6,8 @@ ghost use Rattle.flac_ogg.specs.Mapping.{mapping};
 
 use flac_bits::{BitReader, Source, Why};
 
-/// Reads what the first packet has before STREAMINFO: the byte 7F and `FLAC`, version 1.0, the number of header packets, which is not looked at, and `fLaC`
-/// (RFC 9639, section 10.1).
+/// Reads what the first packet has before STREAMINFO: the byte 7F and `FLAC`, version 1.0, the number of header
+/// packets, which may be any, and `fLaC` (RFC 9639, section 10.1).
 #[tactic(auto, unfolding(crate::specs::Mapping::mapping))]
 pub(crate) fn read_mapping<R: Source>(bits: &mut BitReader<R>) -> Result<(), Why>
     ensures spends { OnOk result (bits.new.most + 104 ≤ bits.old.most) }

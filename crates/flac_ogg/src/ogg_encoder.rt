@@ -1,4 +1,4 @@
-//! Ogg streams, encoded a block at a time.
+//! Encodes an Ogg stream a block at a time.
 
 ghost use Rattle.std.specs.Prelude.{◌≡◌, ◌≢◌, ◌⊎◌, ◌++◌, ◌≤◌, ◌<◌, ◌+◌, ◌^◌, ◌↔◌, map, cond, option_map, true, false, IfOk, OnOk, IfErr, None, Some, Err};
 ghost use Rattle.std.specs.Option.{option_or};
@@ -30,11 +30,13 @@ use flac_pages::{PacketKind, PacketMarks};
 use std::alloc::Global;
 use std::marker::Model;
 
-/// Encodes an Ogg stream whose samples are not all there yet, as a recorder or a ripper does (RFC 9639, section 10.1). [`OggEncoder::new`] makes the header packets of
-/// STREAMINFO and the metadata blocks; each [`OggEncoder::push`] makes a packet of one frame; [`OggEncoder::finish`] ends the stream and gives the target back.
+/// Encodes an Ogg stream a block at a time, as a recorder does whose samples are not all there yet (RFC 9639, section
+/// 10.1). [`OggEncoder::new`] writes the header packets, of STREAMINFO and the metadata blocks, [`OggEncoder::push`]
+/// makes a packet of one frame, and [`OggEncoder::finish`] ends the stream and returns the target.
 ///
-/// The last packet is held back until the next one or the end is there, since the last page of a stream is marked. Its STREAMINFO tells neither the number of
-/// samples, nor the sizes of the frames, nor the digest, since these are not known when it is written (section 8.2).
+/// The last packet is held back until the next one comes or the stream ends, since the last page of a stream is marked.
+/// STREAMINFO states neither the number of samples nor the sizes of the frames nor the digest, since they are not known
+/// when it is written (section 8.2).
 ///
 /// ```
 /// let mut encoder = OggEncoder::new(alloc, serial, 44100, 16, 2, 4096, &blocks, file)?;
@@ -91,7 +93,8 @@ impl<W: Target> Model for OggEncoder<W> {
     } };
 }
 
-/// What begins a native stream of a format and these blocks, in memory. Of its errors, `Setup` tells why nothing of the format can be encoded.
+/// The marker and the metadata blocks of a native stream of a format, in memory. Its error `Setup` says why nothing of
+/// the format can be encoded.
 fn native_head(
     alloc: Global,
     rate: u32,
@@ -130,7 +133,7 @@ fn listed_fault(fault: EncodeFault, listed: bool) -> EncodeFault
     }
 }
 
-/// The same, where the list begins with a Vorbis comment.
+/// The same, if the list begins with a Vorbis comment.
 fn open_head(
     alloc: Global,
     rate: u32,
@@ -157,7 +160,7 @@ fn open_head(
     }
 }
 
-/// The first reason why a block is refused, if there is one: `size` is why one of its number of samples is, if so.
+/// The first reason for which a block is refused, or `None`. `size` is the reason that its number of samples gives.
 fn push_fault(
     judge: &mut StreamEncoder<Collected>,
     spent: bool,
@@ -177,7 +180,7 @@ fn push_fault(
     }
 }
 
-/// Holds a frame back, up to whose end there are so many samples.
+/// Holds back a frame, up to whose end the stream has `end` samples of each channel.
 fn hold_frame(
     alloc: Global,
     serial: u32,
@@ -203,14 +206,20 @@ fn hold_frame(
 }
 
 impl<W: Target + Drop> OggEncoder<W> {
-    /// Makes an encoder of blocks of a format: the rate in Hz, the bits of a sample, 1 to 8 channels, and 16 to 16384 samples of each channel in a block, at most 4608 at
-    /// a rate of 48000 Hz or less (RFC 9639, sections 6 to 8). `serial` is the number of the stream. It writes the header packets, the mapping with STREAMINFO and each block
-    /// of the list, but holds the last one back (section 10.1; RFC 3533). Each page of them has granule position 0.
+    /// Makes an encoder for this format, and writes the header packets: the mapping with STREAMINFO, and one for each
+    /// block of the list (RFC 9639, section 10.1; RFC 3533). It holds the last of them back. Their pages have granule
+    /// position 0.
+    ///
+    /// - `serial` is the serial number of the stream.
+    /// - The sample rate in Hz, bits per sample, channels and block size are those of
+    ///   [`StreamEncoder::new`](flac_native::StreamEncoder::new).
+    /// - The first block of the list must be a Vorbis comment.
     ///
     /// # Errors
-    /// [`EncodeFault::Setup`] with `BadRate`, `BadDepth`, `BadChannels` or `BadBlockSize`, and [`EncodeFault::BadMapping`] if the list does not begin with a Vorbis comment,
-    /// the first of these that applies, and [`EncodeFault::Memory`] if an allocation fails: then nothing was sent. [`EncodeFault::Write`] if the target returned an error:
-    /// then it was sent a prefix of the pages.
+    /// [`EncodeFault::Setup`] with `BadRate`, `BadDepth`, `BadChannels` or `BadBlockSize`, or
+    /// [`EncodeFault::BadMapping`] if the list does not begin with a Vorbis comment, the first that applies. Else
+    /// [`EncodeFault::Memory`] if an allocation fails, or [`EncodeFault::Write`] if the target returns an error. The
+    /// target is not returned then.
     pub fn new(
         alloc: Global,
         serial: u32,
@@ -263,7 +272,7 @@ impl<W: Target + Drop> OggEncoder<W> {
         }
     }
 
-    /// Why a block of so many samples cannot be the next frame, if so.
+    /// Why a block of `len` samples cannot be the next frame, or `None` if it can.
     #[tactic(auto, unfolding(flac_native::specs::Pushing::size_fault))]
     fn size_fault(&self, len: u64) -> Option<EncodeFault>
         ensures { result ≡ size_fault self.now.pushed len }
@@ -280,16 +289,27 @@ impl<W: Target + Drop> OggEncoder<W> {
         None
     }
 
-    /// Takes a block as the next frame: the samples of each channel, 1 to as many as the block size, which are copied. The frame is the shortest of its family, as in
-    /// [`crate::encode_ogg`]. It is a packet, which begins a page, and is held back; the packet that was held before is written. The last page of the frame has the number of
-    /// samples so far as its granule position, and the pages before it have all ones. Only the last block may be shorter than the block size (RFC 9639, section 9.1).
+    /// Makes a block the next frame and holds its packet back, and writes the packet that was held. `block` has one
+    /// slice for each channel, of 1 to as many samples as the block size. Only the last block may be shorter than the
+    /// block size (RFC 9639, section 9.1). The frame is as short as one of [`crate::encode_ogg`].
+    ///
+    /// Each packet begins a page. The page on which the frame ends has the number of samples so far as its granule
+    /// position; the pages before it have all ones.
     ///
     /// # Errors
-    /// The first of these that applies: [`EncodeFault::Spent`] after a call that returned [`EncodeFault::Write`]; [`EncodeFault::Setup`] with `BadChannels` if there is
-    /// not one slice for each channel, `LengthsDiffer` if they are not of one length, `SampleTooLarge` if a sample does not fit its bits, `TooLong` if there
-    /// would be 2^36 samples of each channel or more than 2^31 frames, `BadBlockSize` if there is no sample or there are more than the block size;
-    /// [`EncodeFault::BlockSize`] if the block before was short. If it is none of these, [`EncodeFault::Memory`] if an allocation fails. After each of these the
-    /// encoder is as it was, and nothing was sent. [`EncodeFault::Write`] if the target returned an error: then it was sent a prefix of the packet that was held.
+    /// The first of these that applies:
+    ///
+    /// - [`EncodeFault::Spent`] after a call that returned [`EncodeFault::Write`];
+    /// - [`EncodeFault::Setup`] with `BadChannels` if there is not one slice for each channel, `LengthsDiffer` if they
+    ///   differ in length, `SampleTooLarge` if a sample does not fit its bits;
+    /// - [`EncodeFault::Setup`] with `TooLong` if the stream would have 2^36 samples of each channel or more, or more
+    ///   than 2^31 frames;
+    /// - [`EncodeFault::Setup`] with `BadBlockSize` if the block has no sample, or more than the block size;
+    /// - [`EncodeFault::BlockSize`] if the block before was shorter than the block size;
+    /// - [`EncodeFault::Memory`] if an allocation fails, or [`EncodeFault::Write`] if the target returns an error.
+    ///
+    /// After [`EncodeFault::Write`] the target was sent a prefix of the packet that was held. After each other error
+    /// the encoder is as it was, and nothing was sent.
     pub fn push(&mut self, block: &[&[i32]]) -> Result<(), EncodeFault>
         ensures next { OnOk result (self.new.pushed ≡ behind_block self.old.pushed (samples_each (map (λ c. c.now) block.now)) self.new.pushed.target) }
         ensures serial { self.new.serial ≡ self.old.serial }
@@ -346,11 +366,12 @@ impl<W: Target + Drop> OggEncoder<W> {
         }
     }
 
-    /// Ends the stream, and gives the target back: the packet that is held is written, and its last page is marked as the stream's last.
+    /// Ends the stream and returns the target: writes the packet that is held, with its last page marked as the
+    /// stream's last.
     ///
     /// # Errors
-    /// [`EncodeFault::Spent`] after a call that returned [`EncodeFault::Write`]; then nothing was sent. [`EncodeFault::Write`] if the target returned an error: then it was sent
-    /// a prefix of the packet.
+    /// [`EncodeFault::Spent`] after a call that returned [`EncodeFault::Write`]. [`EncodeFault::Write`] if the target
+    /// returns an error. The target is not returned then.
     pub fn finish(self) -> Result<W, EncodeFault>
         ensures written { IfOk result (λ target. W.known self.pushed.target ≡ true → EndsOgg W.Target self target) }
         ensures known { IfOk result (λ target. W.known self.pushed.target ≡ true → W.known target ≡ true) }

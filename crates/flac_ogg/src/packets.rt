@@ -11,14 +11,15 @@ use flac_bits::Source;
 use flac_native::{Container, Fault, Part, Track};
 use flac_pages::Pages;
 
-/// The packets of an Ogg stream, each a metadata block or a frame (RFC 9639, section 10.1).
+/// The packets of an Ogg stream, each a metadata block or a frame (RFC 9639, section 10.1): the container of the
+/// decoder that [`crate::ogg_decoder`] makes.
 #[derive(Drop)]
 pub struct OggPackets<R: Source> {
     pages: Pages<R>,
 }
 
 impl<R: Source> OggPackets<R> {
-    /// The packets of pages from here on.
+    /// The packets of these pages, from the next one on.
     pub(crate) fn over(pages: Pages<R>) -> OggPackets<R>
         ensures { result.pages ≡ pages }
     {
@@ -33,7 +34,7 @@ impl<R: Source> OggPackets<R> {
         pages
     }
 
-    /// Gives the source back, after the page that was read last: the bytes that were pulled from it and not read are gone.
+    /// Returns the source. Bytes that were pulled from it and not decoded yet are lost.
     ///
     /// ```
     /// let source = decoder.into_container().into_source();

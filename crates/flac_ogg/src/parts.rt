@@ -1,4 +1,4 @@
-//! The next block or frame, out of the bits of its packet.
+//! Reads the next block or frame from the bits of its packet.
 
 ghost use Rattle.std.specs.Prelude.{◌≡◌, ◌≢◌, ◌≤◌, ◌<◌, ◌+◌, OnOk, IfOk, IfErr, Some};
 ghost use Rattle.flac_bits.specs.Fencing.{lifted};
@@ -27,7 +27,7 @@ fn read_block<R: Source>(bits: &mut BitReader<R>, track: &mut Track) -> Result<P
     Ok(Part::Block)
 }
 
-/// Reads the mapping, and the block behind it.
+/// Reads the mapping, and the block after it.
 fn read_first_block<R: Source>(bits: &mut BitReader<R>, track: &mut Track) -> Result<Part, Why>
     ensures spends { OnOk result (bits.new.most < bits.old.most) }
     ensures counts { Counts bits.old bits.new result }

@@ -1,4 +1,4 @@
-//! Where a stream is refused.
+//! The places at which an Ogg stream is refused.
 
 ghost use Rattle.std.specs.Prelude.{◌≡◌};
 ghost use Rattle.flac_native.specs.Stream.{Stand, place_in};
@@ -22,7 +22,7 @@ pub(crate) fn is_behind_blocks(track: &Track) -> bool
     matches!(track.place(), Place::Frame(_))
 }
 
-/// Where the fault of a page stands.
+/// The place of a page's error.
 pub(crate) fn page_place(page: u64, why: Why) -> Place
     ensures { result ≡ page_place page why }
 {
@@ -33,7 +33,7 @@ pub(crate) fn page_place(page: u64, why: Why) -> Place
     }
 }
 
-/// Where an item is refused that would stand there.
+/// The place of an item's error, if the item has this place.
 fn item_place(at: Place, why: Why) -> Place
     ensures { (s : Stand) → at ≡ place_in s.phase s.index → result ≡ item_place s why }
 {
@@ -43,7 +43,7 @@ fn item_place(at: Place, why: Why) -> Place
     }
 }
 
-/// The fault of a packet that is no item, where the item would stand there: of a page, where a page's fault breaks the packet off.
+/// The fault of a packet that is not the item of this place: that of a page, if a page's error breaks the packet off.
 pub(crate) fn packet_fault(at: Place, told: (Option<u64>, Why)) -> Fault
     ensures place { (s : Stand) → at ≡ place_in s.phase s.index → result.at ≡ packet_place s told }
     ensures why { result.why ≡ told.1 }

@@ -1,4 +1,4 @@
-//! A block of samples that are lent, as a packet in memory.
+//! Encodes a block of samples that are lent as a packet in memory.
 
 ghost use Rattle.std.specs.Prelude.{◌≡◌, ◌≤◌, ◌<◌, ◌^◌, map, IfOk, IfErr, None};
 ghost use Rattle.flac_bits.specs.Bits.{bits_of};
@@ -11,7 +11,7 @@ use flac_bits::Why;
 use flac_frame::{Audio, EncodeBuffers};
 use std::alloc::Global;
 
-/// How many samples the first channel has, 0 where there is none.
+/// How many samples the first channel has; 0 if there is none.
 pub(crate) fn block_len(block: &[&[i32]]) -> usize
     ensures { result ≡ samples_each (map (λ c. c.now) block.now) }
 {
@@ -34,7 +34,7 @@ fn copied(alloc: Global, block: &[&[i32]]) -> Result<Vec<Vec<i32>>, Why>
     Ok(channels)
 }
 
-/// All samples as the frame of a number, in memory. Its only error is `Memory`: an allocation failed.
+/// All samples as the frame of this number, in memory. Its only error is `Memory`: an allocation failed.
 fn whole_packet(
     alloc: Global,
     audio: &Audio,
@@ -54,7 +54,7 @@ fn whole_packet(
     frame_packet(alloc, audio, 0, end, number, buffers)
 }
 
-/// A block of the format as the frame of a number, in memory. Its only error is `Memory`: an allocation failed.
+/// A block of the format as the frame of this number, in memory. Its only error is `Memory`: an allocation failed.
 pub(crate) fn pushed_packet(
     alloc: Global,
     rate: u32,

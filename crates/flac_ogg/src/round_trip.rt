@@ -18,7 +18,7 @@ use flac_meta::BlockList;
 use flac_native::{EncodeFault, Plan, Profile, encode};
 use std::alloc::Global;
 
-/// Why encoding into memory was refused: an error of this target is a failed allocation.
+/// The error of encoding into memory: there an error of the target is a failed allocation.
 pub(crate) fn in_memory(fault: EncodeFault) -> EncodeFault
     ensures write { fault ≡ EncodeFault.Write → result ≡ EncodeFault.Memory }
     ensures others { fault ≢ EncodeFault.Write → result ≡ fault }
@@ -55,7 +55,7 @@ fn native_bytes(
     }
 }
 
-/// Encodes into memory as the Ogg stream of a number.
+/// Encodes into memory as an Ogg stream with this serial number.
 fn ogg_bytes(
     alloc: Global,
     serial: u32,
@@ -92,19 +92,21 @@ fn decode_again(alloc: Global, bytes: &[u8]) -> Result<(), Why>
     }
 }
 
-/// Encodes samples into memory, decodes the stream again, and returns its bytes: an Ogg stream of this number (RFC 9639, section 10.1), or without a number a
-/// native stream (section 6). They are a stream of just what was given: STREAMINFO, the blocks of the list, the seek table if the plan asks for one, and all
-/// samples as frames. No device is written or read, so the contract has no condition but memory.
+/// Encodes samples into memory, decodes the bytes again, and returns them: an Ogg stream with this serial number (RFC
+/// 9639, section 10.1), or without one a native stream (section 6). They are a stream of exactly what was given, as if
+/// by [`encode_ogg`] or [`encode`].
 ///
-/// The plan fits the samples: see [`Plan::fits`].
-///
-/// # Errors
-///
-/// Those of [`encode`] or of [`encode_ogg`] but [`EncodeFault::Write`]. [`EncodeFault::Memory`] if an allocation fails, in encoding or in decoding.
+/// The plan must fit the samples ([`Plan::fits`]).
 ///
 /// ```
 /// let bytes = encode_and_decode(rt.alloc(), None, &plan, &blocks, &audio)?;
 /// ```
+///
+/// # Errors
+/// - [`EncodeFault::BadMapping`] for an Ogg stream, if the list does not begin with a Vorbis comment or the plan asks
+///   for a seek table.
+/// - [`EncodeFault::RepeatedBlock`] for a native stream, if the list has a seek table and the plan asks for one.
+/// - [`EncodeFault::Memory`] if an allocation fails, in encoding or in decoding.
 pub fn encode_and_decode(
     alloc: Global,
     serial: Option<u32>,

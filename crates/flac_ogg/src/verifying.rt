@@ -34,16 +34,17 @@ impl Sink for Anything {
     }
 }
 
-/// Verifies that bytes are one whole stream, Ogg (RFC 9639, section 10.1) or native (section 6): its layout, the checksums of its frames and pages, and the
-/// number and the MD5 of its samples, if it states them. No device is read, so the contract has no condition but memory.
-///
-/// # Errors
-///
-/// The first fault of the bytes and its place, or `Memory`.
+/// Verifies that bytes are exactly one stream: an Ogg stream if the first byte is `O` (RFC 9639, section 10.1), a
+/// native one otherwise (section 6). It checks the layout, the checksums of frames and pages, and the number and the
+/// MD5 digest of the samples, if STREAMINFO states them.
 ///
 /// ```
 /// let outcome = verify(rt.alloc(), &bytes, Profile::Subset);
 /// ```
+///
+/// # Errors
+/// The place and the reason for which the stream is refused: those of [`crate::decode_ogg`] or of [`crate::decode`]. Or
+/// [`Why::Memory`](crate::Why::Memory) if an allocation fails; no device is read.
 pub fn verify(alloc: Global, bytes: &[u8], profile: Profile) -> Result<(), Fault>
     ensures { Verifies bytes.now (outcome_of told result) }
 {
