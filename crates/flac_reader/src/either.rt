@@ -1,4 +1,4 @@
-//! A reader of a stream in either container.
+//! Opens streams in either container.
 
 ghost use Rattle.std.specs.Prelude.{◌≡◌, ◌≢◌, ◌<◌, ◌≤◌, ◌++◌, true, false, [], OnOk, OnErr, IfOk, IfErr, None, Ok};
 ghost use Rattle.flac_bits.specs.Bits.{bits_of};
@@ -18,12 +18,12 @@ use flac_native::{Fault, Place, Profile, Source, Why};
 use flac_ogg::OggPackets;
 use std::alloc::Global;
 
-/// A reader of a native stream or of an Ogg stream: see [`open`].
+/// A reader of a native stream or of an Ogg stream: what [`open`] returns.
 #[derive(Drop)]
 pub enum Opened<N, O> {
     /// Of a native stream (RFC 9639, section 6).
     Native(N),
-    /// Of an Ogg stream (section 10.1).
+    /// Of an Ogg stream (RFC 9639, section 10.1).
     Ogg(O),
 }
 
@@ -60,7 +60,7 @@ fn pull_front<R: Source>(source: &mut R) -> Result<Option<u8>, Fault>
     }
 }
 
-/// Opens a stream as the container that its first byte told.
+/// Opens a stream in the container that its first byte names.
 fn open_as<R: Source + Drop>(
     alloc: Global,
     is_ogg: bool,
@@ -84,12 +84,8 @@ fn open_as<R: Source + Drop>(
     }
 }
 
-/// Opens a stream: an Ogg stream (RFC 9639, section 10.1) if the first byte is that of a page, otherwise a native one (section 6). It reads the metadata, and the
-/// first frame, which [`Reader::next`] lends then.
-///
-/// # Errors
-///
-/// `Read` at the marker if the source returns an error for the first byte. Otherwise those of [`open_ogg`] or of [`open_native`].
+/// Opens a stream in either container: an Ogg stream if the first byte is `O`, that of a page (RFC 9639, section 10.1),
+/// a native one otherwise (section 6). It reads the metadata, and the first frame, which [`Reader::next`] lends then.
 ///
 /// ```
 /// match open(rt.alloc(), Counted::new(file), Profile::Subset, Keep::Tags)? {
@@ -97,15 +93,20 @@ fn open_as<R: Source + Drop>(
 ///     Opened::Ogg(mut reader) => play(&mut reader),
 /// }
 /// ```
+///
+/// # Errors
+/// [`Why::Read`] if the source returns an error for the first byte. Else those of [`open_ogg`] or of [`open_native`].
 pub fn open<R: Source + Drop>(
     alloc: Global,
     source: R,
     profile: Profile,
     keep: Keep,
 ) -> Result<Opened<Reader<BitReader<Fronted<R>>>, Reader<OggPackets<Fronted<R>>>>, Fault>
-    // The blocks that are kept, and the frames to come, are those of the stream that the bytes are in the container that the first of them tells.
+    // The blocks that are kept, and the frames to come, are those of the stream that the bytes are in the container
+    // that the first of them names.
     ensures opens { IfOk result (λ o. R.known source ≡ true → OpensEither (read_either (begins_page (R.coming source)) (beginning (short_of ((R.behind source).fails))) (bits_of (R.coming source))) keep o) }
-    // Refused only as the input is, before its first frame, for want of memory, or for an error of the source, which was left with its counts raised.
+    // Refused only as the input is, before its first frame; or because memory runs out, or because of an error of the
+    // source, which is then counted.
     ensures refused { IfErr result (λ f. f.why ≢ Why.Memory → (left : R) × RefusesInput (read_either (begins_page (R.coming source)) (beginning (short_of ((R.behind source).fails))) (bits_of (R.coming source))) (R.known source) (R.errors source) (R.raised source) (R.errors left) (R.raised left) f) }
 {
     let mut source = source;

@@ -1,4 +1,4 @@
-//! A source whose first byte was looked at.
+//! A source whose first byte was pulled already.
 
 ghost use Rattle.std.specs.Prelude.{◌≡◌, ◌+◌, ◌++◌};
 ghost use Rattle.flac_ogg.specs.Fronts.{front_bytes, front_count};
@@ -6,7 +6,7 @@ ghost use Rattle.flac_ogg.specs.Fronts.{front_bytes, front_count};
 use flac_native::Source;
 use std::io;
 
-/// A byte that was pulled from a source, where there was one, and then what the source still gives.
+/// A source whose first byte was pulled already, and comes again: what the readers of [`crate::open`] read from.
 #[derive(Drop)]
 pub struct Fronted<S: Source> {
     pub(crate) front: Option<u8>,

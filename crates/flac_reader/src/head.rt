@@ -1,4 +1,4 @@
-//! The metadata of a stream.
+//! Reads the metadata of a stream.
 
 ghost use Rattle.std.specs.Prelude.{◌≡◌, ◌++◌, [], ◌∷◌, List, Option, Some, true, false, OnOk, IfOk, IfErr};
 ghost use Rattle.flac_meta.specs.declared.block.Block.{Block as ABlock};
@@ -22,7 +22,8 @@ pub(crate) struct Head {
     pub(crate) start: u64,
 }
 
-/// Reads the next item, keeps a block that is wanted, and counts its bytes; `false` if the item is none.
+/// Reads the next item, keeps it if it is a block that is wanted, and adds its bytes to `size`. False if it is no
+/// block.
 fn take_block<C: Container>(
     decoder: &mut Decoder<C>,
     keep: Keep,
@@ -55,7 +56,7 @@ fn take_block<C: Container>(
     }
 }
 
-/// Reads all metadata blocks as [`read_blocks`] does, and counts their bytes behind those before.
+/// Reads all metadata blocks as [`read_blocks`] does, and adds their bytes to `size`.
 fn read_counted<C: Container>(
     decoder: &mut Decoder<C>,
     keep: Keep,
@@ -82,12 +83,17 @@ fn read_counted<C: Container>(
     })
 }
 
-/// Reads all metadata blocks of a stream from its start, and keeps those that are wanted, in their order (RFC 9639, section 8). It reads the first frame too,
-/// or the end if there is none: [`Decoder::view`] shows it.
+/// Reads all metadata blocks of a stream from its start, and adds those that are wanted to `kept`, which must be empty,
+/// in their order (RFC 9639, section 8). It also reads the first frame, or the end if there is none, which
+/// [`Decoder::view`] lends then.
+///
+/// ```
+/// let mut kept = Vec::new(rt.alloc());
+/// read_blocks(&mut decoder, Keep::All, &mut kept)?;
+/// ```
 ///
 /// # Errors
-///
-/// Those of [`Decoder::next`]. [`Why::Memory`] too if a block that is to be kept cannot be copied.
+/// Those of [`Decoder::next`]. [`Why::Memory`] also if a block that is to be kept cannot be copied.
 pub fn read_blocks<C: Container>(
     decoder: &mut Decoder<C>,
     keep: Keep,
@@ -95,7 +101,8 @@ pub fn read_blocks<C: Container>(
 ) -> Result<(), Fault>
     requires { kept.old.items ≡ [] }
     ensures counts { Counted C.Container (stage_of decoder.old) (stage_of decoder.new) result }
-    // Of a stream that is read so: all its blocks that are wanted are kept, and its frames come next; refused only as the stream is, with no frame before.
+    // Of a stream that is read so, all wanted blocks are kept, and the frames come next; refused only as the stream is,
+    // with no frame before.
     ensures head { IsCalm C.Container (stage_of decoder.old) (stage_of decoder.new) → HadRoom result → (blocks : List ABlock) (frames : List Frame) (end : Option (Place × Why)) → Comes C.Container (stage_of decoder.old) (stream_items blocks frames) end →
         HeadIs C.Container keep blocks frames end kept.new.items result (stage_of decoder.new) }
 {
@@ -117,7 +124,8 @@ fn info_of(blocks: &[Block]) -> Option<StreamInfo>
     None
 }
 
-/// Reads all metadata blocks, finds STREAMINFO, and counts the bytes before the first frame of a native stream: those of the marker are 4.
+/// Reads all metadata blocks, finds STREAMINFO, and counts the bytes before the first frame of a native stream. The
+/// marker has 4 of them.
 pub(crate) fn read_head<C: Container>(
     decoder: &mut Decoder<C>,
     keep: Keep,

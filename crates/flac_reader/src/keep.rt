@@ -8,9 +8,9 @@ use flac_native::{Block, Why};
 /// Which metadata blocks a reader keeps (RFC 9639, section 8.1).
 #[derive(Clone, Copy, Debug, PartialEq, Eq)]
 pub enum Keep {
-    /// All of them.
+    /// All of them. A seek table is needed if samples are to be sought quickly.
     All,
-    /// STREAMINFO and the comments alone: no picture is copied.
+    /// STREAMINFO and the comments only: no picture is copied.
     Tags,
 }
 
@@ -24,7 +24,7 @@ fn is_kept(keep: Keep, block: &Block) -> bool
     }
 }
 
-/// Copies a block behind the others, if it is kept. Refuses `Memory` alone.
+/// Adds a copy of the block, if it is kept. Its only error is `Memory`: an allocation failed.
 pub(crate) fn keep_block(kept: &mut Vec<Block>, keep: Keep, block: &Block) -> Result<(), Why>
     ensures kept { OnOk result (kept.new.items ≡ kept.old.items ++ filter (keeps keep) (block.now ∷ [])) }
     ensures memory { IfErr result (λ e. e ≡ Why.Memory) }

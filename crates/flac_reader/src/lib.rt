@@ -1,4 +1,15 @@
-//! A reader of FLAC streams, native or Ogg: the metadata first, then one frame after another (RFC 9639, sections 6 and 10.1).
+//! Reads FLAC streams, native or Ogg: first the metadata, then frames or samples one after another, or from the frame
+//! on that holds a sample (RFC 9639, sections 6 and 10.1).
+//!
+//! | To | Begin with |
+//! |---|---|
+//! | open a stream in either container | [`open`] |
+//! | open a native stream, or an Ogg stream | [`open_native`], [`open_ogg`] |
+//! | read stream information and comments | [`Reader::info`], [`Reader::comments`] |
+//! | read frame by frame, or sample by sample | [`Reader::next`], [`Reader::into_samples`] |
+//! | go to the frame that holds a sample | [`Reader::seek_in`], [`Reader::seek_file`] |
+//!
+//! It re-exports what its users need from the crates below.
 #![tactic(auto)]
 
 mod either;

@@ -1,4 +1,4 @@
-//! Readers of native and of Ogg streams.
+//! Opens native and Ogg streams.
 
 ghost use Rattle.std.specs.Prelude.{◌≡◌, ◌≢◌, IfOk, IfErr, true};
 ghost use Rattle.flac_bits.specs.Bits.{bits_of};
@@ -17,15 +17,15 @@ use flac_native::{Decoder, Fault, Profile, Source, Why};
 use flac_ogg::{OggPackets, ogg_decoder};
 use std::alloc::Global;
 
-/// Opens a native stream (RFC 9639, section 6): reads its metadata, and the first frame, which [`Reader::next`] lends then.
-///
-/// # Errors
-///
-/// Those of [`Reader::over`].
+/// Opens a native stream (RFC 9639, section 6): reads its metadata, and the first frame, which [`Reader::next`] lends
+/// then.
 ///
 /// ```
 /// let mut reader = open_native(rt.alloc(), Counted::new(file), Profile::Subset, Keep::Tags)?;
 /// ```
+///
+/// # Errors
+/// Those of [`Reader::over`].
 pub fn open_native<R: Source + Drop>(
     alloc: Global,
     source: R,
@@ -34,7 +34,8 @@ pub fn open_native<R: Source + Drop>(
 ) -> Result<Reader<BitReader<R>>, Fault>
     // The blocks that are kept, and the frames to come, are those of the stream that the bytes are.
     ensures opens { IfOk result (λ r. R.known source ≡ true → Opens (by_grammar grammar opening (beginning (short_of ((R.behind source).fails))) (bits_of (R.coming source))) keep r) }
-    // Refused only as the input is, before its first frame, for want of memory, or for an error of the source, which was left with its counts raised.
+    // Refused only as the input is, before its first frame; or because memory runs out, or because of an error of the
+    // source, which is then counted.
     ensures refused { IfErr result (λ f. f.why ≢ Why.Memory → (left : R) × RefusesInput (by_grammar grammar opening (beginning (short_of ((R.behind source).fails))) (bits_of (R.coming source))) (R.known source) (R.errors source) (R.raised source) (R.errors left) (R.raised left) f) }
 {
     match Reader::begin(alloc, Decoder::new(alloc, source, profile), keep) {
@@ -47,15 +48,15 @@ pub fn open_native<R: Source + Drop>(
     }
 }
 
-/// Opens an Ogg stream (RFC 9639, section 10.1): reads its metadata, and the first frame, which [`Reader::next`] lends then.
-///
-/// # Errors
-///
-/// Those of [`Reader::over`], and `Memory` at the marker if the 65025 bytes for a page are not to be had.
+/// Opens an Ogg stream (RFC 9639, section 10.1): reads its metadata, and the first frame, which [`Reader::next`] lends
+/// then.
 ///
 /// ```
 /// let mut reader = open_ogg(rt.alloc(), Counted::new(file), Profile::Subset, Keep::Tags)?;
 /// ```
+///
+/// # Errors
+/// Those of [`Reader::over`], and [`Why::Memory`] if the allocation of 65025 bytes for a page fails.
 pub fn open_ogg<R: Source + Drop>(
     alloc: Global,
     source: R,
@@ -64,7 +65,8 @@ pub fn open_ogg<R: Source + Drop>(
 ) -> Result<Reader<OggPackets<R>>, Fault>
     // The blocks that are kept, and the frames to come, are those of the stream that the bytes are.
     ensures opens { IfOk result (λ r. R.known source ≡ true → Opens (ogg_reading (beginning (short_of ((R.behind source).fails))) (bits_of (R.coming source))) keep r) }
-    // Refused only as the input is, before its first frame, for want of memory, or for an error of the source, which was left with its counts raised.
+    // Refused only as the input is, before its first frame; or because memory runs out, or because of an error of the
+    // source, which is then counted.
     ensures refused { IfErr result (λ f. f.why ≢ Why.Memory → (left : R) × RefusesInput (ogg_reading (beginning (short_of ((R.behind source).fails))) (bits_of (R.coming source))) (R.known source) (R.errors source) (R.raised source) (R.errors left) (R.raised left) f) }
 {
     let decoder = match ogg_decoder(alloc, source, profile) {

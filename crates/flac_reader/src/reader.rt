@@ -1,4 +1,4 @@
-//! A reader.
+//! A reader: metadata at once, then one frame after another.
 
 ghost use Rattle.std.specs.Prelude.{◌≡◌, ◌≢◌, ◌*◌, ◌/◌, ⊤, IfOk, IfErr, List, MatchOption, None, Option, Some, true};
 ghost use Rattle.std.specs.Duration.{as_nanos};
@@ -22,7 +22,21 @@ use flac_native::{
 use std::alloc::Global;
 use std::time::Duration;
 
-/// A reader of a stream: its metadata was read, and its frames come one after another.
+/// Reads a stream whose metadata was read already: [`Reader::info`], [`Reader::comments`] and [`Reader::blocks`] return
+/// it, and [`Reader::next`] lends one frame after another.
+///
+/// [`crate::open`], [`crate::open_native`] and [`crate::open_ogg`] make one.
+///
+/// ```
+/// let mut reader = open_native(rt.alloc(), Counted::new(file), Profile::Subset, Keep::Tags)?;
+/// let rate = reader.info().rate();
+/// for _ in 0..u64::MAX {
+///     match reader.next()? {
+///         Some(frame) => play(&frame),
+///         None => break,
+///     }
+/// }
+/// ```
 #[derive(Drop)]
 pub struct Reader<C: Container> {
     pub(crate) decoder: Decoder<C>,
@@ -52,7 +66,7 @@ impl<C: Container> Refused<C> {
 }
 
 impl<C: Container + Drop> Reader<C> {
-    /// Reads the metadata and the first frame, as [`Reader::over`] does, and gives the decoder back where it is refused.
+    /// Does what [`Reader::over`] does, and returns the decoder with an error.
     pub(crate) fn begin(
         alloc: Global,
         decoder: Decoder<C>,
@@ -71,17 +85,19 @@ impl<C: Container + Drop> Reader<C> {
         }
     }
 
-    /// Reads the metadata of a stream, which a decoder is to begin, and keeps the wanted blocks. It reads the first frame too, which [`Reader::next`] lends then.
+    /// Makes a reader of a decoder of which nothing was read yet. It reads all metadata, of which it keeps the wanted
+    /// blocks, and the first frame, which [`Reader::next`] lends then.
     ///
     /// # Errors
-    ///
-    /// Those of [`crate::read_blocks`], and `NotStreamInfoFirst` if there is no STREAMINFO.
+    /// Those of [`crate::read_blocks`], and [`Why::NotStreamInfoFirst`](crate::Why::NotStreamInfoFirst) if there is no
+    /// STREAMINFO.
     pub fn over(alloc: Global, decoder: Decoder<C>, keep: Keep) -> Result<Reader<C>, Fault>
         ensures info { IfOk result (λ r. first_info r.blocks.items ≡ Some r.info) }
         ensures start { IfOk result (λ r. (r.first ≡ 0) × (r.behind ≡ 0)) }
         // All wanted blocks are kept, and the frames come next: those of the stream that the decoder was to give.
         ensures head { IfOk result (λ r. HeadOf C.Container (stage_of decoder) (stage_of r.decoder) keep r.blocks.items r.ahead r.start) }
-        // Refused only as the stream is that the decoder was to give, before its first frame, or for want of memory.
+        // Refused only as the stream is that the decoder was to give, before its first frame, or because memory runs
+        // out.
         ensures refused { IfErr result (λ f. IsRefusedHead C.Container (stage_of decoder) f) }
     {
         match Reader::begin(alloc, decoder, keep) {
@@ -97,7 +113,8 @@ impl<C: Container> Reader<C> {
     ghost use Rattle.flac_reader.specs.Places.{all_samples};
     ghost use Rattle.flac_reader.specs.Sampling.{SamplesCome};
 
-    /// A reader whose next frame, or the end, was read ahead; that frame's first sample has this number.
+    /// Makes a reader whose decoder has already read the next frame, or the end. That frame's first sample has this
+    /// number.
     pub(crate) fn before_frame(
         decoder: Decoder<C>,
         head: Head,
@@ -121,21 +138,28 @@ impl<C: Container> Reader<C> {
         }
     }
 
-    /// What the stream says of itself: its rate, channels, bits per sample and length (RFC 9639, section 8.2).
+    /// STREAMINFO: sample rate, channels, bits per sample and number of samples (RFC 9639, section 8.2).
     pub fn info(&self) -> &StreamInfo
         ensures { result.now ≡ self.now.info }
     {
         &self.info
     }
 
-    /// The metadata blocks that are kept, in their order.
+    /// The metadata blocks that were kept, in their order (RFC 9639, section 8). See [`Keep`].
     pub fn blocks(&self) -> &[Block]
         ensures { result.now ≡ self.now.blocks.items }
     {
         self.blocks.as_slice()
     }
 
-    /// The comments, `None` if the stream has none (RFC 9639, section 8.6).
+    /// The comments, or `None` if the stream has none (RFC 9639, section 8.6).
+    ///
+    /// ```
+    /// match reader.comments() {
+    ///     Some(comments) => comments.find(b"title") == Some(b"x".as_slice()),
+    ///     None => false,
+    /// }
+    /// ```
     #[tactic(auto, unfolding(crate::specs::Kept::first_comments), using(crate::proofs::Firsts::comments_more))]
     pub fn comments(&self) -> Option<&Comments>
         ensures { MatchOption result (first_comments self.now.blocks.items ≡ None) (λ c. first_comments self.now.blocks.items ≡ Some c.now) }
@@ -149,7 +173,7 @@ impl<C: Container> Reader<C> {
         None
     }
 
-    /// The points of the seek table, if there is one among the blocks that are kept (RFC 9639, section 8.5).
+    /// The points of the seek table, if one is among the blocks that were kept (RFC 9639, section 8.5).
     #[tactic(auto, unfolding(crate::specs::Kept::first_points), using(crate::proofs::Firsts::points_more))]
     pub(crate) fn seek_points(&self) -> &[SeekPoint]
         ensures { result.now ≡ first_points self.now.blocks.items }
@@ -163,8 +187,8 @@ impl<C: Container> Reader<C> {
         &[]
     }
 
-    /// How many bytes a native stream has before its first frame: those of the marker and of the metadata blocks (RFC 9639, section 6). The offsets of a seek table
-    /// count from there.
+    /// How many bytes a native stream has before its first frame: those of the marker and of the metadata blocks (RFC
+    /// 9639, section 6). The offsets of a seek table count from there.
     ///
     /// ```
     /// let frames = &stream[reader.frames_start() as usize..];
@@ -175,16 +199,16 @@ impl<C: Container> Reader<C> {
         self.start
     }
 
-    /// The number of the first sample of the frame that was lent last, counted from 0 in each channel. At the end of the stream it is how many samples each channel
-    /// has. It stops at 2^64 - 1.
+    /// The number of the first sample of the frame that was lent last, counted from 0 in each channel. At the end of
+    /// the stream it is the number of samples of each channel. It stops at 2^64 - 1.
     pub fn first_sample(&self) -> u64
         ensures { result ≡ self.now.first }
     {
         self.first
     }
 
-    /// The time at which the frame begins that was lent last: that of its first sample, from the start of the stream, rounded down to a nanosecond. At the end of
-    /// the stream it is the time that all samples take.
+    /// The time at which the frame that was lent last begins: that of its first sample from the start of the stream,
+    /// rounded down to a nanosecond. At the end of the stream it is the time that all samples take.
     ///
     /// ```
     /// let at = reader.time().as_secs();
@@ -195,7 +219,8 @@ impl<C: Container> Reader<C> {
         time_of(self.first, &self.info)
     }
 
-    /// The time that all samples take, as STREAMINFO states it (RFC 9639, section 8.2), rounded down to a nanosecond; `None` if it does not state their number.
+    /// The time that all samples take, as STREAMINFO states it, rounded down to a nanosecond; `None` if STREAMINFO does
+    /// not state how many samples there are (RFC 9639, section 8.2).
     pub fn duration(&self) -> Option<Duration>
         ensures { MatchOption result (self.now.info.total ≡ 0) (λ d. (self.now.info.total ≢ 0) × (as_nanos d ≡ self.now.info.total * 1000000000 / self.now.info.rate)) }
     {
@@ -205,7 +230,7 @@ impl<C: Container> Reader<C> {
         }
     }
 
-    /// All samples of the frames that [`Reader::next`] has not lent yet, one by one, interleaved.
+    /// An iterator over all samples of the frames that [`Reader::next`] has not lent yet, interleaved.
     ///
     /// ```
     /// let mut peak = 0;
@@ -215,13 +240,14 @@ impl<C: Container> Reader<C> {
     /// ```
     pub fn into_samples(self) -> Samples<C>
         ensures reader { result.reader ≡ self }
-        // Of the frames that are to come all samples come, and then the same end.
+        // All samples of the frames to come are given, and then the same end.
         ensures come { (frames : List Frame) (end : Option (Place × Why)) → FramesCome C.Container self.ahead (stage_of self.decoder) frames end → SamplesCome result (all_samples frames) end }
     {
         Samples::over(self)
     }
 
-    /// The decoder again, from which the source can be had. What [`Reader::next`] has not lent yet may have been read by it: see [`Reader::over`].
+    /// Returns the decoder, which has the source. It may have read a frame already that [`Reader::next`] has not lent
+    /// yet: the first one, see [`Reader::over`].
     ///
     /// ```
     /// let source = reader.into_decoder().into_source();
@@ -252,7 +278,7 @@ impl<C: Container> Reader<C> {
         }
     }
 
-    /// How many samples of each channel the frame has that was read last.
+    /// How many samples of each channel the frame has that was read last; 0 if there is none.
     fn frame_len(&self) -> u64
         ensures { result ≡ size_of (only_frame (held (stage_of self.now.decoder).course (stage_of self.now.decoder).track)) }
     {
@@ -262,7 +288,7 @@ impl<C: Container> Reader<C> {
         }
     }
 
-    /// Reads the next frame, which `frame` shows then.
+    /// Reads the next frame, which [`Reader::frame`] lends then.
     pub(crate) fn step(&mut self) -> Result<(), Fault>
         ensures { Gives self.old self.new (λ _. only_frame (held (stage_of self.new.decoder).course (stage_of self.new.decoder).track)) result }
     {
@@ -275,11 +301,20 @@ impl<C: Container> Reader<C> {
         Ok(())
     }
 
-    /// Reads the next frame, and lends it; `None` at the end of the stream, which each further call returns again.
+    /// Reads the next frame and lends it; `None` at the end of the stream, and in each call after it.
+    ///
+    /// ```
+    /// for _ in 0..u64::MAX {
+    ///     match reader.next()? {
+    ///         Some(frame) => play(&frame),
+    ///         None => break,
+    ///     }
+    /// }
+    /// ```
     ///
     /// # Errors
-    ///
-    /// Those of [`Decoder::next`]. After an error each call returns `Spent` at the place of that error.
+    /// Those of [`Decoder::next`]. After an error each call returns [`Why::Spent`](crate::Why::Spent) at the place of
+    /// that error.
     pub fn next(&mut self) -> Result<Option<FrameView<'_>>, Fault>
         ensures* after { sem 𝓛 (follows_so (the_row C.row C.Container) (the_row C.row C.Container) self.entry.ghost_name none (λ _ _. ⊤)
             (λ last. Gives self.old last lent result)) }

@@ -10,10 +10,18 @@ use crate::reader::Reader;
 use crate::spot::{Spot, sample_at};
 use flac_native::{Container, Fault, Place, Why};
 
-/// The samples of the frames that a reader has still to give, interleaved: those of all channels at one index, channel by channel, then those at the next
-/// (RFC 9639, section 9.2). A sample takes as many bits as STREAMINFO states, at most 32. See [`Reader::into_samples`].
+/// An iterator over the samples of the frames that a reader has not lent yet, interleaved: those of all channels at one
+/// index, channel by channel, then those at the next. [`Reader::into_samples`] makes one.
 ///
-/// An item is a fault where the stream is refused; that is the last one.
+/// An item is a sample, which has as many bits as STREAMINFO states (RFC 9639, section 8.2), or the fault at which the
+/// stream is refused. No item comes after a fault. After 2^64 - 1 steps, of samples and frames, a fault `Memory` ends
+/// the iterator.
+///
+/// ```
+/// for sample in samples {
+///     peak = sample?.unsigned_abs().max(peak);
+/// }
+/// ```
 #[derive(Drop)]
 pub struct Samples<C: Container> {
     reader: Reader<C>,
@@ -25,7 +33,7 @@ impl<C: Container> Samples<C> {
     ghost use Rattle.flac_reader.specs.Giving.{Gives};
     ghost use Rattle.flac_reader.specs.Stepping.{TakesSample, EntersFrame};
 
-    /// The samples of the frames that a reader has still to give.
+    /// The samples of the frames that the reader has not lent yet.
     pub(crate) fn over(reader: Reader<C>) -> Samples<C>
         ensures reader { result.reader ≡ reader }
         ensures spot { result.spot ≡ Spot.Next }
@@ -37,14 +45,14 @@ impl<C: Container> Samples<C> {
         }
     }
 
-    /// The reader, with what the stream says of itself.
+    /// The reader, which has the metadata.
     pub fn reader(&self) -> &Reader<C>
         ensures { result.now ≡ self.now.reader }
     {
         &self.reader
     }
 
-    /// The reader again: it lends the frames behind the one of which a sample was given last.
+    /// Returns the reader. It lends the frames after the one of which a sample was given last.
     pub fn into_reader(self) -> Reader<C>
         ensures { result ≡ self.reader }
     {
@@ -71,7 +79,7 @@ impl<C: Container> Samples<C> {
         Some(sample)
     }
 
-    /// Goes on to the next frame; `false` at the end.
+    /// Goes to the next frame; false at the end.
     fn enter(&mut self) -> Result<bool, Fault>
         ensures gives { Gives self.old.reader self.new.reader (λ _. only_frame (held (stage_of self.new.reader.decoder).course (stage_of self.new.reader.decoder).track)) result }
         ensures left { self.new.left ≡ self.old.left }
@@ -89,7 +97,7 @@ impl<C: Container> Samples<C> {
         Ok(false)
     }
 
-    /// The next sample; `None` behind the last, and behind a refusal.
+    /// The next sample; `None` after the last, and after a fault.
     fn give(&mut self) -> Result<Option<i32>, Fault>
         ensures { GivesSample self.old self.new result }
     {
@@ -123,7 +131,7 @@ impl<C: Container + Drop> Iterator for Samples<C> {
 
     ghost remaining = { λ s. at_most (calls_left s.spot s.left) };
 
-    /// The next sample. Behind the last, and behind a fault, there is none.
+    /// The next sample. After the last, and after a fault, there is none.
     fn next(&mut self) -> Option<Result<i32, Fault>> {
         match self.give() {
             Ok(Some(sample)) => Some(Ok(sample)),

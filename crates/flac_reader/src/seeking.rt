@@ -1,4 +1,4 @@
-//! Seeks a sample.
+//! Finds the frame that holds a sample.
 
 ghost use Rattle.std.specs.Prelude.{◌≡◌, List, Option, IfOk, IfSome, drop, map, true};
 ghost use Rattle.flac_frame.specs.Frame.{Frame};
@@ -24,7 +24,7 @@ pub(crate) fn offset_before(points: &[SeekPoint], sample: u64) -> u64
     offset
 }
 
-/// The bytes from an offset on; none behind their end.
+/// The bytes from an offset on; none if there are not as many.
 pub(crate) fn bytes_from(bytes: &[u8], offset: u64) -> &[u8]
     ensures { result.now ≡ drop offset bytes.now }
 {
@@ -35,7 +35,7 @@ pub(crate) fn bytes_from(bytes: &[u8], offset: u64) -> &[u8]
     }
 }
 
-/// The number of the first sample of a frame, by its header.
+/// The number of the first sample of a frame, by its header (RFC 9639, section 9.1.5).
 fn first_of(info: &StreamInfo, frame: &FrameView<'_>) -> u128
     ensures { result ≡ first_of info.now (frame_of frame.now) }
 {
@@ -47,7 +47,7 @@ fn first_of(info: &StreamInfo, frame: &FrameView<'_>) -> u128
     }
 }
 
-/// The number of the first sample of a frame, if it holds a sample.
+/// The number of the frame's first sample, if the frame holds the sample.
 fn first_if_held(info: &StreamInfo, frame: &FrameView<'_>, sample: u64) -> Option<u64>
     ensures { FirstIfHeld info.now sample (frame_of frame.now) result }
 {
@@ -60,7 +60,7 @@ fn first_if_held(info: &StreamInfo, frame: &FrameView<'_>, sample: u64) -> Optio
     }
 }
 
-/// Reads the next frame: the number of its first sample if it holds the sample; 0 at the end.
+/// Reads the next frame, and returns the number of its first sample if it holds the sample; 0 at the end.
 fn pass_frame<C: Container>(
     decoder: &mut Decoder<C>,
     info: &StreamInfo,
@@ -82,7 +82,8 @@ fn pass_frame<C: Container>(
     }
 }
 
-/// Reads frames up to the first that holds a sample, and returns the number of its first sample; or up to the end.
+/// Reads frames up to the first that holds the sample, or to the end, and returns the number of that frame's first
+/// sample.
 pub(crate) fn find_frame<C: Container>(
     decoder: &mut Decoder<C>,
     info: &StreamInfo,

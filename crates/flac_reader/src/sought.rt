@@ -1,4 +1,4 @@
-//! A reader at the frame that holds a sample.
+//! Readers at the frame that holds a sample.
 
 ghost use Rattle.std.specs.Prelude.{◌≡◌, ◌≢◌, ◌⊎◌, IfOk, IfErr, drop, true, is_some, List};
 ghost use Rattle.flac_bits.specs.Bits.{bits_of};
@@ -23,8 +23,12 @@ use std::alloc::Global;
 use std::io::{Read, Seek, SeekFrom};
 
 impl<C: Container + Drop> Reader<C> {
-    /// Where the search for a sample begins in a native stream, in bytes from its first: at the last point of the seek table at or before the sample, or at the
-    /// first frame if there is no such point (RFC 9639, section 8.5). It stops at 2^64 - 1.
+    /// Where the search for a sample begins in a native stream, in bytes from its first byte: at the last seek point at
+    /// or before the sample, or at the first frame if there is none (RFC 9639, section 8.5). It stops at 2^64 - 1.
+    ///
+    /// ```
+    /// file.seek(SeekFrom::Start(reader.seek_offset(44100)))?;
+    /// ```
     pub fn seek_offset(&self, sample: u64) -> u64
         ensures { result ≡ search_start self.now.start sample (first_points self.now.blocks.items) }
     {
@@ -32,18 +36,21 @@ impl<C: Container + Drop> Reader<C> {
         self.start.saturating_add(offset)
     }
 
-    /// A reader of the same stream, of which these are the bytes from the first frame on, that lends next the frame that holds a sample: the first such frame from
-    /// the last point on of the seek table at or before that sample, or from the first frame on if there is no such point (RFC 9639, section 8.5). A frame holds
-    /// the samples from the number in its header on; if the header has the number of the frame, each frame before it has as many samples as the greatest block.
-    /// If no frame holds the sample, the reader is at the end.
+    /// Makes a reader of the same stream whose next frame holds this sample, counted from 0; if no frame holds it, the
+    /// reader is at the end. `frames` are the bytes of a native stream from its first frame on
+    /// ([`Reader::frames_start`]).
     ///
-    /// # Errors
-    ///
-    /// Those of [`Decoder::resume`] and [`Decoder::next`], with frames counted from the point on.
+    /// The search begins at the last seek point at or before the sample, or at the first frame if there is none (RFC
+    /// 9639, section 8.5): for that, the seek table must have been kept ([`Keep::All`](crate::Keep::All)). A frame
+    /// holds the samples from the number in its header on. If the header has the number of the frame, each frame before
+    /// it counts as many samples as the largest block size of STREAMINFO (section 9.1.5).
     ///
     /// ```
     /// let mut reader = reader.seek(rt.alloc(), &stream[first_frame..], Profile::Subset, 44100)?;
     /// ```
+    ///
+    /// # Errors
+    /// Those of [`Decoder::resume`] and [`Decoder::next`]. Frames are counted from the seek point on.
     pub fn seek<'a>(
         self,
         alloc: Global,
@@ -53,7 +60,8 @@ impl<C: Container + Drop> Reader<C> {
     ) -> Result<Reader<BitReader<Memory<'a>>>, Fault>
         ensures blocks { IfOk result (λ r. (r.blocks ≡ self.blocks) × (r.info ≡ self.info) × (r.start ≡ self.start)) }
         ensures first { IfOk result (λ r. r.behind ≡ number_of self.info (held (stage_of r.decoder).course (stage_of r.decoder).track)) }
-        // Of the frames from that point on, the first that holds the sample comes next, and then all others; refused only as the bytes are, with no such frame before.
+        // Of the frames from that point on, the first that holds the sample comes next, and then all others; refused
+        // only as the bytes are, with no such frame before.
         ensures found { SeeksTo self.info sample (by_grammar grammar (resumed self.info) (beginning Truncated) (bits_of (drop (offset_before sample (first_points self.blocks.items)) frames.now))) result }
     {
         let offset = offset_before(self.seek_points(), sample);
@@ -61,16 +69,15 @@ impl<C: Container + Drop> Reader<C> {
         self.seek_from(alloc, source, profile, sample)
     }
 
-    /// A reader of the same stream as [`Reader::seek`] gives it, where all bytes of the native stream are in memory.
-    ///
-    /// # Errors
-    ///
-    /// Those of [`Reader::seek`].
+    /// Does what [`Reader::seek`] does. `stream` has all bytes of the native stream.
     ///
     /// ```
     /// let reader = open_native(rt.alloc(), Memory::new(&stream), Profile::Subset, Keep::All)?;
     /// let mut reader = reader.seek_in(rt.alloc(), &stream, Profile::Subset, 44100)?;
     /// ```
+    ///
+    /// # Errors
+    /// Those of [`Reader::seek`].
     pub fn seek_in<'a>(
         self,
         alloc: Global,
@@ -80,9 +87,11 @@ impl<C: Container + Drop> Reader<C> {
     ) -> Result<Reader<BitReader<Memory<'a>>>, Fault>
         ensures blocks { IfOk result (λ r. (r.blocks ≡ self.blocks) × (r.info ≡ self.info) × (r.start ≡ self.start)) }
         ensures first { IfOk result (λ r. r.behind ≡ number_of self.info (held (stage_of r.decoder).course (stage_of r.decoder).track)) }
-        // Of the frames from that point on, the first that holds the sample comes next, and then all others; refused only as the bytes are, with no such frame before.
+        // Of the frames from that point on, the first that holds the sample comes next, and then all others; refused
+        // only as the bytes are, with no such frame before.
         ensures found { SeeksTo self.info sample (by_grammar grammar (resumed self.info) (beginning Truncated) (bits_of (drop (search_start self.start sample (first_points self.blocks.items)) stream.now))) result }
-        // If the bytes are a stream of which some frames are left behind that point, just these are searched, and the rest of them is given up to the end of the stream.
+        // If the bytes are a stream with some frames after that point, exactly these are searched, and the rest of them
+        // is given up to the end of the stream.
         ensures whole { (frames : List Frame) → Cuts stream.now self.info (search_start self.start sample (first_points self.blocks.items)) frames → SeeksFrames self.info sample frames result }
     {
         let offset = self.seek_offset(sample);
@@ -90,16 +99,16 @@ impl<C: Container + Drop> Reader<C> {
         self.seek_from(alloc, source, profile, sample)
     }
 
-    /// A reader of the same stream as [`Reader::seek`] gives it, over a source of the bytes from [`Reader::seek_offset`] on, such as a file that was moved there.
-    ///
-    /// # Errors
-    ///
-    /// Those of [`Reader::seek`].
+    /// Does what [`Reader::seek`] does. The source gives the bytes of the native stream from [`Reader::seek_offset`]
+    /// on, such as a file that was moved there.
     ///
     /// ```
     /// file.seek(SeekFrom::Start(reader.seek_offset(44100)))?;
     /// let mut reader = reader.seek_from(rt.alloc(), Counted::new(file), Profile::Subset, 44100)?;
     /// ```
+    ///
+    /// # Errors
+    /// Those of [`Reader::seek`].
     pub fn seek_from<S: Source + Drop>(
         self,
         alloc: Global,
@@ -111,7 +120,8 @@ impl<C: Container + Drop> Reader<C> {
         ensures first { IfOk result (λ r. r.behind ≡ number_of self.info (held (stage_of r.decoder).course (stage_of r.decoder).track)) }
         // Of the frames of the source, the first that holds the sample comes next, and then all others.
         ensures found { IfOk result (λ r. S.known source ≡ true → Sought self.info sample (by_grammar grammar (resumed self.info) (beginning (short_of ((S.behind source).fails))) (bits_of (S.coming source))) r) }
-        // Refused only as the input is, with no such frame before, for want of memory, or for an error of the source, which was left with its counts raised.
+        // Refused only as the input is, with no such frame before; or because memory runs out, or because of an error
+        // of the source, which is then counted.
         ensures refused { IfErr result (λ f. f.why ≢ Why.Memory → (left : S) × RefusesSeek self.info sample (by_grammar grammar (resumed self.info) (beginning (short_of ((S.behind source).fails))) (bits_of (S.coming source))) (S.known source) (S.errors source) (S.raised source) (S.errors left) (S.raised left) f) }
     {
         let Reader {
@@ -139,17 +149,17 @@ impl<C: Container + Drop> Reader<C> {
         }
     }
 
-    /// A reader of the same stream as [`Reader::seek`] gives it, over a device that can be moved, such as a file, whose first byte is the first of a native stream.
-    ///
-    /// # Errors
-    ///
-    /// `Read` at the first frame if the device cannot be moved; otherwise those of [`Reader::seek`].
+    /// Does what [`Reader::seek`] does. The device, such as a file, can be moved, and its first byte is that of the
+    /// native stream.
     ///
     /// ```
     /// let file = File::open(&rt, "music.flac")?;
     /// let reader = open_native(rt.alloc(), Counted::new(&file), Profile::Subset, Keep::All)?;
     /// let mut reader = reader.seek_file(rt.alloc(), &file, Profile::Subset, 44100)?;
     /// ```
+    ///
+    /// # Errors
+    /// [`Why::Read`] at frame 0 if the device cannot be moved. Else those of [`Reader::seek`].
     pub fn seek_file<T: Read + Seek + Drop>(
         self,
         alloc: Global,
@@ -161,7 +171,8 @@ impl<C: Container + Drop> Reader<C> {
         ensures first { IfOk result (λ r. r.behind ≡ number_of self.info (held (stage_of r.decoder).course (stage_of r.decoder).track)) }
         // Of the frames of the device from that point on, the first that holds the sample comes next, and then all others.
         ensures found { IfOk result (λ r. (moved : T) × IsMoved T.stream_position T.stream_bytes device moved (search_start self.start sample (first_points self.blocks.items)) × (is_some (T.remaining moved) ≡ true → Sought self.info sample (read_resumed self.info (T.remaining moved)) r)) }
-        // Refused only if the device cannot be moved, as its bytes from there on are, with no such frame before, for want of memory, or for an error of the device.
+        // Refused only if the device cannot be moved, or as its bytes from there on are, with no such frame before; or
+        // because memory runs out, or because of an error of the device.
         ensures refused { IfErr result (λ f. f.why ≢ Why.Memory → (f ≡ not_moved) ⊎ ((moved : T) × (left : Counted T) × IsMoved T.stream_position T.stream_bytes device moved (search_start self.start sample (first_points self.blocks.items)) × RefusesSeek self.info sample (read_resumed self.info (T.remaining moved)) (is_some (T.remaining moved)) 0 0 left.errors left.errors f)) }
     {
         let mut device = device;

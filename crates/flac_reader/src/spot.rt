@@ -1,4 +1,4 @@
-//! Where the next sample stands.
+//! The place of the next sample.
 
 ghost use Rattle.std.specs.Prelude.{◌≡◌, ◌∷◌, [], MatchOption};
 ghost use Rattle.flac_frame.specs.Lent.{frame_of};
@@ -6,21 +6,21 @@ ghost use Rattle.flac_reader.specs.Places.{samples_from};
 
 use flac_native::FrameView;
 
-/// Where the next sample of a stream stands.
+/// The place of the next sample of a stream.
 #[derive(Clone, Copy, Debug, PartialEq, Eq)]
 pub(crate) enum Spot {
     /// In the next frame.
     Next,
     /// In the frame that was read last: in this channel, at this index.
     Inside(usize, usize),
-    /// Nowhere: the stream is over, or was refused.
+    /// Nowhere: the stream has ended, or was refused.
     Over,
 }
 
 impl Spot {
     ghost use Rattle.flac_reader.specs.Places.{is_over};
 
-    /// Whether nothing more is given.
+    /// Whether no sample comes any more.
     pub(crate) fn is_over(&self) -> bool
         ensures { result ≡ is_over self.now }
     {
@@ -32,7 +32,7 @@ impl Spot {
     }
 }
 
-/// The sample of a frame that stands in a channel at an index, and the channel and the index of the one behind it.
+/// The sample of a frame in a channel at an index, and the channel and the index of the one after it.
 #[tactic(auto, using(crate::proofs::Places::from_no_channel, crate::proofs::Places::from_no_index, crate::proofs::Places::from_channel, crate::proofs::Places::from_last_channel))]
 pub(crate) fn sample_at(
     frame: &FrameView<'_>,

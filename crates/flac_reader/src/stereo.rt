@@ -7,7 +7,7 @@ ghost use Rattle.flac_frame.specs.Lent.{frame_of};
 
 use flac_native::FrameView;
 
-/// The samples of a frame of two channels, in pairs: see [`stereo_samples`].
+/// An iterator over the samples of a frame of two channels, in pairs: see [`stereo_samples`].
 #[derive(Clone, Copy, Debug, Drop)]
 pub struct StereoSamples<'a> {
     left: &'a [i32],
@@ -30,7 +30,8 @@ impl<'a> Iterator for StereoSamples<'a> {
     }
 }
 
-/// The samples of a frame of two channels, left and right (RFC 9639, section 9.1.3), index by index; `None` if it has more channels or one.
+/// An iterator over the samples of a frame of two channels, in pairs of left and right, index by index (RFC 9639,
+/// section 9.1.3). `None` if the frame has not two channels.
 ///
 /// ```
 /// if let Some(pairs) = stereo_samples(&frame) {

@@ -1,4 +1,4 @@
-//! The time of samples.
+//! The time that samples take.
 
 ghost use Rattle.std.specs.Prelude.{◌≡◌, ◌*◌, ◌/◌};
 ghost use Rattle.std.specs.Duration.{as_nanos};
@@ -6,7 +6,7 @@ ghost use Rattle.std.specs.Duration.{as_nanos};
 use flac_native::StreamInfo;
 use std::time::Duration;
 
-/// The time that so many samples of each channel take, rounded down to a nanosecond.
+/// The time that this many samples of each channel take, rounded down to a nanosecond.
 pub(crate) fn time_of(samples: u64, info: &StreamInfo) -> Duration
     ensures { as_nanos result ≡ samples * 1000000000 / info.now.rate }
 {
