@@ -1,4 +1,4 @@
-//! Samples that can be encoded.
+//! Samples to be encoded.
 
 ghost use Rattle.std.specs.Prelude.{◌≡◌, ◌≤◌, ◌<◌, ◌^◌, map, length, nat_eq, MatchResult, Some, None};
 ghost use Rattle.std.specs.List.{list_all};
@@ -10,7 +10,12 @@ use crate::setup::SetupFault;
 use flac_header::{depth_code, rate_code};
 use std::marker::Model;
 
-/// Samples that can be encoded: their rate in Hz, the bits of a sample, and the samples of each of 1 to 8 channels.
+/// Samples to be encoded: their rate in Hz, the bits per sample, and the samples of 1 to 8 channels of one length. They
+/// are always such as can be encoded.
+///
+/// ```
+/// let audio = Audio::new(44100, 16, channels)?;
+/// ```
 #[derive(Debug, Drop)]
 pub struct Audio {
     rate: u32,
@@ -29,7 +34,7 @@ impl Model for Audio {
     ghost invariant = { λ a. audio_fault a.rate a.bits (map (λ c. c.items) a.channels.items) ≡ None };
 }
 
-/// How many samples the first channel has, 0 where there is none.
+/// How many samples the first channel has; 0 if there is none.
 #[tactic(auto, using(crate::proofs::Sounds::samples_in_first))]
 fn samples_each(channels: &[Vec<i32>]) -> usize
     ensures { result ≡ samples_each (map (λ c. c.items) channels.now) }
@@ -40,14 +45,14 @@ fn samples_each(channels: &[Vec<i32>]) -> usize
     channels[0].len()
 }
 
-/// Whether each channel has so many samples.
+/// Whether each channel has `len` samples.
 fn are_long(channels: &[Vec<i32>], len: usize) -> bool
     ensures { result ≡ list_all (λ c. nat_eq (length c.items) len) channels.now }
 {
     channels.iter().all(|c| c.len() == len)
 }
 
-/// Whether each sample fits so many bits.
+/// Whether each sample fits into `bits` bits.
 fn small(samples: &[i32], bits: u32) -> bool
     requires { (1 ≤ bits) × (bits ≤ 32) }
     ensures { result ≡ list_all (fits bits) samples.now }
@@ -55,7 +60,7 @@ fn small(samples: &[i32], bits: u32) -> bool
     samples.iter().all(|s| fits_depth(*s as i64, bits))
 }
 
-/// Whether each sample of each channel fits so many bits.
+/// Whether each sample of each channel fits into `bits` bits.
 fn each_small(channels: &[Vec<i32>], bits: u32) -> bool
     requires { (1 ≤ bits) × (bits ≤ 32) }
     ensures { result ≡ list_all (λ c. list_all (fits bits) c.items) channels.now }
@@ -63,7 +68,7 @@ fn each_small(channels: &[Vec<i32>], bits: u32) -> bool
     channels.iter().all(|c| small(c, bits))
 }
 
-/// Why channels cannot be encoded, if so.
+/// Why channels cannot be encoded, or `None` if they can.
 #[tactic(auto, unfolding(crate::specs::Audio::channels_fault))]
 fn channels_fault(channels: &[Vec<i32>], bits: u32) -> Option<SetupFault>
     requires { (1 ≤ bits) × (bits ≤ 32) }
@@ -86,7 +91,7 @@ fn channels_fault(channels: &[Vec<i32>], bits: u32) -> Option<SetupFault>
     None
 }
 
-/// Why samples cannot be encoded, if so.
+/// Why samples cannot be encoded, or `None` if they can.
 #[tactic(auto, unfolding(crate::specs::Audio::audio_fault), using(crate::proofs::Sounds::depth_small))]
 fn fault_of(rate: u32, bits: u32, channels: &[Vec<i32>]) -> Option<SetupFault>
     ensures { result ≡ audio_fault rate bits (map (λ c. c.items) channels.now) }
@@ -101,9 +106,18 @@ fn fault_of(rate: u32, bits: u32, channels: &[Vec<i32>]) -> Option<SetupFault>
 }
 
 impl Audio {
-    /// The samples of some channels at a rate in Hz, of so many bits each.
+    /// Makes samples of a rate in Hz, of `bits` bits each: one vector for each channel (RFC 9639, sections 9.1.2 to
+    /// 9.1.4).
     ///
-    /// Refuses, in this order, `BadRate`, `BadDepth`, `BadChannels`, `LengthsDiffer`, `SampleTooLarge` and `TooLong` (2^36 samples or more).
+    /// # Errors
+    /// The first of these that applies:
+    ///
+    /// - [`SetupFault::BadRate`] if the rate is neither 1 to 65535 nor a multiple of 10 up to 655350;
+    /// - [`SetupFault::BadDepth`] if `bits` is not 8, 12, 16, 20, 24 or 32;
+    /// - [`SetupFault::BadChannels`] if there is no channel, or there are more than 8;
+    /// - [`SetupFault::LengthsDiffer`] if the channels differ in length;
+    /// - [`SetupFault::SampleTooLarge`] if a sample is below -2^(bits - 1), or is 2^(bits - 1) or more;
+    /// - [`SetupFault::TooLong`] if a channel has 2^36 samples or more.
     pub fn new(rate: u32, bits: u32, channels: Vec<Vec<i32>>) -> Result<Audio, SetupFault>
         ensures { MatchResult result (λ a. a ≡ record { rate = rate; bits = bits; channels = map (λ c. c.items) channels.items }) (λ e. audio_fault rate bits (map (λ c. c.items) channels.items) ≡ Some e) }
     {
@@ -117,21 +131,21 @@ impl Audio {
         })
     }
 
-    /// Samples a second, 1 to 655350.
+    /// The sample rate in Hz, 1 to 655350.
     pub fn rate(&self) -> u32
         ensures { result ≡ self.now.rate }
     {
         self.rate
     }
 
-    /// Bits of a sample: 8, 12, 16, 20, 24 or 32.
+    /// Bits per sample: 8, 12, 16, 20, 24 or 32.
     pub fn bits(&self) -> u32
         ensures { result ≡ self.now.bits }
     {
         self.bits
     }
 
-    /// The samples of each channel.
+    /// The samples of each channel, 1 to 8 channels.
     #[tactic(auto, using(crate::proofs::Sounds::sound_is))]
     pub fn channels(&self) -> &[Vec<i32>]
         ensures items { map (λ c. c.items) result.now ≡ self.now.channels }
@@ -140,7 +154,7 @@ impl Audio {
         self.channels.as_slice()
     }
 
-    /// How many samples each channel has.
+    /// How many samples each channel has, below 2^36.
     pub fn len(&self) -> usize
         ensures { result ≡ samples_each self.now.channels }
     {
@@ -154,7 +168,7 @@ impl Audio {
         self.len() == 0
     }
 
-    /// The samples of each channel, given back.
+    /// Returns the samples of each channel.
     pub fn into_channels(self) -> Vec<Vec<i32>>
         ensures { map (λ c. c.items) result.items ≡ self.channels }
     {

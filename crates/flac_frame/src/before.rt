@@ -1,11 +1,11 @@
-//! What the frames before leave for the next.
+//! What the next frame of a stream depends on.
 
 ghost use Rattle.std.specs.Prelude.{◌≡◌};
 
 use flac_header::FrameHeader;
 
-/// What the frames before leave for the next one: the first block size, the blocking strategy, the number that the next
-/// frame has, and the size of the last block.
+/// What the next frame of a stream depends on: the first block size, the blocking strategy, the number that the next
+/// frame must have, and the size of the last block (RFC 9639, sections 9.1.1 and 9.1.5).
 #[derive(Clone, Copy, Debug)]
 pub struct Before {
     pub(crate) first_size: u32,
@@ -17,7 +17,7 @@ pub struct Before {
 impl Before {
     ghost use Rattle.flac_frame.specs.Frame.{left_by};
 
-    /// What a frame of this header leaves, behind those before it.
+    /// The same after one more frame, with this header.
     pub(crate) fn after(before: &Option<Before>, header: &FrameHeader) -> Before
         ensures { result ≡ left_by before.now header.now.variable header.now.number header.now.size }
     {

@@ -1,4 +1,4 @@
-//! The arrays that frames are read into.
+//! Buffers for the samples of a frame.
 
 ghost use Rattle.std.specs.Prelude.{◌≡◌, ◌≢◌, ◌≤◌, ◌<◌, ◌+◌, ◌*◌, length, min, Some, None, Err, OnOk, OnErr, IfOk, IfErr, ⊤, []};
 ghost use Rattle.flac_bits.specs.Reading.{Counts, Reads, Means};
@@ -20,7 +20,13 @@ use flac_meta::StreamInfo;
 use std::alloc::Global;
 use std::marker::Model;
 
-/// The arrays that frames are read into, made once, and what the frames so far leave for the next.
+/// Buffers that the frames of a stream are read into, one after another. They are allocated once. They also keep what
+/// the next frame depends on: its number, the blocking strategy and the block size must follow from the frames before.
+///
+/// ```
+/// let mut buffers = FrameBuffers::new(alloc, 2, 4096)?;
+/// let frame = buffers.read_frame(&mut bits, &info, Profile::Subset)?;
+/// ```
 #[derive(Drop)]
 pub struct FrameBuffers {
     wide: Vec<i64>,
@@ -59,9 +65,11 @@ impl Model for FrameBuffers {
 }
 
 impl FrameBuffers {
-    /// Buffers for so many channels, 1 to 8, and blocks of at most so many samples, 1 to 65535.
+    /// Allocates buffers for frames of at most `channels` channels, at most 8, and at most `max_block` samples of each
+    /// channel, at most 65535.
     ///
-    /// Refuses [`Why::Memory`] where the arrays are not to be had.
+    /// # Errors
+    /// [`Why::Memory`] if an allocation fails.
     pub fn new(alloc: Global, channels: u32, max_block: u32) -> Result<FrameBuffers, Why>
         requires channels { channels ≤ 8 }
         requires max_block { max_block ≤ 65535 }
@@ -86,10 +94,27 @@ impl FrameBuffers {
         })
     }
 
-    /// Reads the frame that begins here, at a whole byte, into the arrays, and judges it by STREAMINFO and the frames before
-    /// (RFC 9639, section 9). After a refusal the arrays hold no frame, and what the frames before leave is unchanged.
+    /// Reads the next frame into the buffers, where [`FrameBuffers::view`] lends it (RFC 9639, section 9). The reader
+    /// should be at a whole byte: there the checks begin anew. The frame must agree with STREAMINFO and follow the
+    /// frames before.
     ///
-    /// The buffers have room for the channels of STREAMINFO and for its greatest block size or the subset's, whichever is less.
+    /// The buffers must have room for the channels of STREAMINFO, and for its largest block size or the subset's,
+    /// whichever is smaller.
+    ///
+    /// # Errors
+    /// The error of the field that ends first. Then the buffers have no frame, and what the next frame depends on is as
+    /// before.
+    ///
+    /// - Those of [`flac_header::read_header`].
+    /// - [`Why::NotSubset`] if a field is outside the streamable subset (section 7).
+    /// - [`Why::HeaderMismatch`] if the rate, the number of channels or the depth is not that of STREAMINFO.
+    /// - [`Why::Sequence`] if the number does not follow the frame before, or the blocking strategy changes.
+    /// - [`Why::BlockSize`] if the block size does not fit STREAMINFO or the blocks before it.
+    /// - [`Why::BadSubframe`], [`Why::BadPredictor`], [`Why::BadPartition`] or [`Why::ResidualRange`] in a subframe
+    ///   (section 9.2).
+    /// - [`Why::NonzeroPadding`] or [`Why::FrameCheck`] at the end of the frame (section 9.3).
+    /// - [`Why::SampleRange`] if the CRC-16 is right, and a sample does not fit its depth.
+    /// - Those of [`BitReader`]. Never [`Why::Memory`].
     pub fn fill<R: Source>(
         &mut self,
         bits: &mut BitReader<R>,
@@ -110,6 +135,7 @@ impl FrameBuffers {
         self.read_in(bits, info, profile)
     }
 
+    /// Does what [`FrameBuffers::fill`] does.
     fn read_in<R: Source>(
         &mut self,
         bits: &mut BitReader<R>,
@@ -146,7 +172,7 @@ impl FrameBuffers {
         Ok(())
     }
 
-    /// The frame that was read last; one of no channels where it was refused, or none was read.
+    /// Lends the frame that was read last. It has no channels if none was read, or if the last one was refused.
     pub fn view(&self) -> FrameView<'_>
         ensures { frame_of result ≡ self.now.held }
     {
@@ -160,7 +186,10 @@ impl FrameBuffers {
         }
     }
 
-    /// Reads the frame that begins here, as [`FrameBuffers::fill`] does, and lends it. After a refusal nothing is lent.
+    /// Reads the next frame as [`FrameBuffers::fill`] does, and lends it.
+    ///
+    /// # Errors
+    /// Those of [`FrameBuffers::fill`].
     pub fn read_frame<R: Source>(
         &mut self,
         bits: &mut BitReader<R>,

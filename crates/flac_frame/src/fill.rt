@@ -63,7 +63,7 @@ fn read_body<R: Source>(
     Ok(())
 }
 
-/// Reads the frame that begins here, and puts its channels, one after another, into the first places of `out`.
+/// Reads the frame that begins here, and writes its channels, one after another, to the front of `out`.
 pub(crate) fn read_into<R: Source>(
     bits: &mut BitReader<R>,
     info: &StreamInfo,

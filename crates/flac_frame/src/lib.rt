@@ -1,4 +1,5 @@
-//! Whole FLAC frames, read into buffers that lend their samples (RFC 9639, section 9).
+//! Whole FLAC frames: reading them into buffers that lend their samples, and encoding samples as the shortest frame
+//! (RFC 9639, section 9).
 #![tactic(auto)]
 
 mod audio;

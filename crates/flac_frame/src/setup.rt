@@ -1,4 +1,4 @@
-//! Why something cannot be encoded.
+//! Why samples cannot be encoded.
 
 ghost use Rattle.std.specs.Prelude.{◌≡◌, Some};
 ghost use Rattle.flac_frame.specs.Setup.{number_of, text_of};
@@ -6,31 +6,32 @@ ghost use Rattle.flac_frame.specs.Setup.{number_of, text_of};
 use std::fmt;
 use thiserror::Error;
 
-/// Why samples or a plan are refused. Each reason has a number, which [`SetupFault::number`] returns.
+/// Why samples or a plan cannot be encoded. Each reason has a number from 40 to 47, see [`SetupFault::number`].
 ///
-/// It prints as its number and its name: `44 SampleTooLarge`.
+/// It prints as its number and its name: `44 SampleTooLarge`. Sections are those of RFC 9639.
 #[derive(Clone, Copy, Debug, PartialEq, Eq, Error)]
 pub enum SetupFault {
-    /// The rate is 0, or no frame header of the streamable subset can tell it.
+    /// The sample rate is 0, or no frame header of the streamable subset can state it (section 9.1.2).
     BadRate,
-    /// The bits of a sample are not 8, 12, 16, 20, 24 or 32.
+    /// The bits per sample are not 8, 12, 16, 20, 24 or 32 (section 9.1.4).
     BadDepth,
-    /// There is no channel, or there are more than 8.
+    /// There is no channel, or there are more than 8; or a block has not one slice for each channel (section 9.1.3).
     BadChannels,
-    /// The channels have not as many samples each.
+    /// The channels differ in length.
     LengthsDiffer,
     /// A sample does not fit its bits.
     SampleTooLarge,
-    /// There are 2^36 samples a channel or more, or more than 2^31 frames.
+    /// There are 2^36 samples of each channel or more (section 8.2), or more than 2^31 frames (section 9.1.5).
     TooLong,
-    /// The block size is out of its range.
+    /// The block size is out of its range: 16 to 4608 at 48000 Hz or less, else 16 to 16384 (sections 7 and 8.2); or a
+    /// block has no sample, or more than that.
     BadBlockSize,
-    /// A seek table would have more points than a block has room for.
+    /// A seek table would have more than 932067 points, the most that fit into a block (section 8.5).
     TooManyPoints,
 }
 
 impl SetupFault {
-    /// The number of the reason: 40 to 47.
+    /// The number of the reason, 40 to 47, in the order of the variants.
     pub fn number(self) -> u8
         ensures { result ≡ number_of self }
     {

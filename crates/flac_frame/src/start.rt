@@ -1,4 +1,4 @@
-//! The header of a frame in its stream.
+//! Reads the header of a frame of a stream.
 
 ghost use Rattle.std.specs.Prelude.{◌≡◌, ◌≢◌, ◌≤◌, ◌<◌, ◌+◌, ◌^◌, IfOk, OnOk, IfErr};
 ghost use Rattle.flac_bits.specs.Reading.{Counts, Reads};
@@ -11,7 +11,7 @@ use flac_bits::{BitReader, Source, Why};
 use flac_header::{FrameHeader, Profile, read_header, subset_allows};
 use flac_meta::StreamInfo;
 
-/// Whether rate, channel count or depth is not what STREAMINFO says.
+/// Whether the rate, the number of channels or the depth is not that of STREAMINFO.
 fn differs(info: &StreamInfo, header: &FrameHeader) -> bool
     ensures { result ≡ differs info.now header.now }
 {
@@ -20,7 +20,7 @@ fn differs(info: &StreamInfo, header: &FrameHeader) -> bool
         && header.depth() == info.depth() as u32)
 }
 
-/// Whether the blocking strategy changes, or the number does not follow on.
+/// Whether the blocking strategy changes, or the number does not follow.
 fn breaks_sequence(before: &Option<Before>, header: &FrameHeader) -> bool
     ensures { result ≡ breaks_sequence before.now header.now }
 {
@@ -47,7 +47,7 @@ fn breaks_size(info: &StreamInfo, before: &Option<Before>, header: &FrameHeader)
     }
 }
 
-/// Reads the header of the frame that begins here, and judges it by STREAMINFO and the frames before.
+/// Reads the header of the frame that begins here, and compares it with STREAMINFO and the frames before.
 #[tactic(auto, unfolding(crate::specs::Frame::stream_header), using(crate::proofs::Starts::size_allowed, crate::proofs::Starts::size_small))]
 pub(crate) fn read_start<R: Source>(
     bits: &mut BitReader<R>,

@@ -1,4 +1,4 @@
-//! Left and right channels from those that they are kept as.
+//! Left and right from decorrelated stereo channels.
 
 ghost use Rattle.std.specs.Prelude.{◌≡◌, ◌<◌, ◌≤◌, ◌*◌, ◌∷◌, [], length, All, true};
 ghost use Rattle.std.specs.Simd.Lanes.{zip2};
@@ -9,7 +9,7 @@ ghost use Rattle.flac_frame.specs.Frame.{each_fits};
 
 use crate::samples::{excess, lowest, narrow};
 
-/// The left and the right sample that two samples of these channels are kept as (RFC 9639, section 4.2).
+/// The left and the right sample of two samples that were decorrelated under a channel code (RFC 9639, section 4.2).
 #[inline(always)]
 #[tactic(auto, unfolding(crate::specs::Stereo::left_of, crate::specs::Stereo::right_of))]
 pub(crate) fn join_samples(code: u8, first: i64, second: i64) -> (i64, i64)
@@ -28,7 +28,7 @@ pub(crate) fn join_samples(code: u8, first: i64, second: i64) -> (i64, i64)
     }
 }
 
-/// Puts the left and the right samples of two kept channels into places of 32 bits, and answers whether each fits the depth.
+/// Writes the left and the right samples of two decorrelated channels, and returns whether each fits the depth.
 #[inline(always)]
 fn join_two(
     code: u8,
@@ -62,8 +62,8 @@ fn join_two(
     wrong == 0
 }
 
-/// Puts the samples of the channels that are kept as these into places of 32 bits, and answers whether each fits the depth. In both
-/// arrays the channels stand one after another.
+/// Writes the samples of the channels, left and right for decorrelated ones, and returns whether each fits the depth.
+/// In both arrays the channels come one after another.
 #[tactic(auto, unfolding(crate::specs::Stereo::joined), using(crate::proofs::Bodies::each_is))]
 pub(crate) fn join_channels(
     code: u8,

@@ -1,8 +1,16 @@
-//! A frame that is lent.
+//! A frame that its buffers lend.
 
 ghost use Rattle.std.specs.Prelude.{◌≡◌, ◌<◌, ◌≤◌, ◌+◌, ◌*◌, ◌/◌, ◌++◌, min, length, take, drop, slice_index_or, [], nat_eq, pos};
 
-/// A frame, lent by the buffers that it was read into.
+/// A frame, lent by the buffers that it was read into (RFC 9639, section 9).
+///
+/// ```
+/// for i in 0..8 {
+///     if i < frame.channels() {
+///         peaks[i] = peak(frame.channel(i)).max(peaks[i]);
+///     }
+/// }
+/// ```
 #[derive(Clone, Copy, Debug, PartialEq, Eq)]
 pub struct FrameView<'a> {
     pub(crate) samples: &'a [i32],
@@ -19,14 +27,14 @@ impl<'a> FrameView<'a> {
     ghost use Rattle.flac_frame.specs.Lent.{frame_of};
     ghost use Rattle.flac_frame.specs.Interleaved.{row, rows};
 
-    /// Samples a channel.
+    /// How many samples each channel has: the block size, at most 65535.
     pub fn len(&self) -> usize
         ensures { result ≡ (frame_of self.now).size }
     {
         self.block
     }
 
-    /// Whether the frame has no samples.
+    /// Whether the frame has no samples, as before a frame was read.
     pub fn is_empty(&self) -> bool
         ensures { result ≡ nat_eq (frame_of self.now).size 0 }
     {
@@ -40,21 +48,22 @@ impl<'a> FrameView<'a> {
         self.channels
     }
 
-    /// Whether the number is that of the first sample; else it counts the frames.
+    /// The blocking strategy (section 9.1): true if [`FrameView::number`] is that of the first sample, false if it is
+    /// that of the frame.
     pub fn variable(&self) -> bool
         ensures { result ≡ (frame_of self.now).variable }
     {
         self.variable
     }
 
-    /// The number of the frame or of its first sample.
+    /// The number of the frame or of its first sample, counted from 0 (section 9.1.5): see [`FrameView::variable`].
     pub fn number(&self) -> u64
         ensures { result ≡ (frame_of self.now).number }
     {
         self.number
     }
 
-    /// The samples of a channel, the first of which is 0.
+    /// The samples of channel `i`, counted from 0: [`FrameView::len`] of them.
     pub fn channel(&self, i: usize) -> &'a [i32]
         requires { i < length (frame_of self.now).channels }
         ensures value { result.now ≡ slice_index_or (frame_of self.now).channels i [] }
@@ -64,7 +73,7 @@ impl<'a> FrameView<'a> {
         &self.samples[start..start + self.block]
     }
 
-    /// The sample of a channel, the first of which is 0, at an index: a sample takes as many bits as STREAMINFO states, at most 32.
+    /// Sample `i` of a channel, both counted from 0. It has as many bits as STREAMINFO states, at most 32.
     pub fn sample(&self, channel: usize, i: usize) -> i32
         requires channel { channel < length (frame_of self.now).channels }
         requires index { i < (frame_of self.now).size }
@@ -73,7 +82,7 @@ impl<'a> FrameView<'a> {
         self.channel(channel)[i]
     }
 
-    /// Writes the samples of all channels at an index behind the first `at`.
+    /// Writes the samples of all channels at index `i` after the first `at` places.
     #[tactic(auto, unfolding(crate::specs::Interleaved::row), using(crate::proofs::Interleaved::row_more))]
     fn put_row(&self, i: usize, out: &mut [i32], at: usize)
         requires index { i < (frame_of self.now).size }
@@ -86,8 +95,9 @@ impl<'a> FrameView<'a> {
         }
     }
 
-    /// Writes the samples of all channels to the front of `out`: those at the first index, channel by channel, then those at the next, and so on. It stops before
-    /// an index at which not all of them fit, and returns how many samples it wrote; those of `out` behind them stay.
+    /// Writes samples to the front of `out`, interleaved: those of all channels at the first index, channel by channel,
+    /// then those at the next. Returns how many it wrote: all, or as many as fit for whole indices. `out` is unchanged
+    /// after them.
     ///
     /// ```
     /// let mut samples = vec![in rt.alloc(); 0; frame.channels() * frame.len()]?;

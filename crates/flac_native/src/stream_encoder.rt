@@ -134,8 +134,7 @@ impl<W: Target + Drop> StreamEncoder<W> {
     /// Writes the marker, STREAMINFO and the blocks of the list, and makes an encoder for this format (RFC 9639,
     /// sections 6 to 8):
     ///
-    /// - the sample rate in Hz, which a frame header can state: 1 to 65535, multiples of 10 up to 655350, or multiples
-    ///   of 1000 up to 255000 (section 9.1.2);
+    /// - the sample rate in Hz: 1 to 65535, or a multiple of 10 up to 655350 (section 9.1.2);
     /// - 8, 12, 16, 20, 24 or 32 bits per sample;
     /// - 1 to 8 channels;
     /// - a block size of 16 to 16384 samples of each channel, at most 4608 if the rate is at most 48000 Hz (section 7).
