@@ -1,4 +1,4 @@
-//! Channels of interleaved samples.
+//! The channels of interleaved samples.
 
 ghost use Rattle.std.specs.Prelude.{◌≡◌, ◌<◌, ◌≤◌, ◌/◌, map, length, IfOk};
 ghost use Rattle.flac_c.specs.Interleaved.{channel_at, channels_at};

@@ -1,4 +1,4 @@
-//! Where a native stream is read, frame by frame.
+//! A place in a native stream that is read frame by frame.
 
 ghost use Rattle.std.specs.Prelude.{◌≡◌, IfOk, IfErr, drop};
 ghost use Rattle.flac_meta.specs.Info.{KeepsRules};
@@ -10,21 +10,23 @@ use flac_bits::Why;
 use flac_frame::FrameView;
 use flac_meta::StreamInfo;
 
-/// Where the next frame of a native stream begins, and what its frames are read by: plain numbers, which the caller keeps.
+/// Where the next frame of a native stream begins, and the STREAMINFO by which frames are read: plain numbers, which
+/// the caller keeps. `flac_proved_start` and `flac_proved_seek` make one.
 #[repr(C)]
 #[derive(Clone, Copy, Drop)]
 pub struct FlacProvedCursor {
-    /// The bytes from the first byte of the stream to the next frame.
+    /// Bytes from the first byte of the stream to the next frame.
     pub offset: u64,
     /// How many frames were read since the cursor was made.
     pub frames: u64,
-    /// The number of the first sample of the next frame.
+    /// The number of the first sample of the next frame, counted from 0 in each channel.
     pub sample: u64,
     /// STREAMINFO of the stream.
     pub info: FlacProvedInfo,
 }
 
-/// STREAMINFO by which frames are read: without the number of all samples and their MD5.
+/// The STREAMINFO by which frames are read: without the number of all samples and their MD5. Its only error is
+/// `BadStreamInfo`: a field is out of its range.
 pub(crate) fn info_of(info: &FlacProvedInfo) -> Result<StreamInfo, Why>
     ensures value { IfOk result (λ i. i ≡ info_of info.now) }
     ensures rules { IfOk result (λ i. KeepsRules i) }
@@ -52,7 +54,7 @@ pub(crate) fn info_of(info: &FlacProvedInfo) -> Result<StreamInfo, Why>
     Ok(found)
 }
 
-/// The bytes from an offset on; none behind their end.
+/// The bytes from an offset on; none if there are not as many.
 pub(crate) fn bytes_from(bytes: &[u8], offset: u64) -> &[u8]
     ensures { result.now ≡ drop offset bytes.now }
 {
@@ -63,7 +65,7 @@ pub(crate) fn bytes_from(bytes: &[u8], offset: u64) -> &[u8]
     }
 }
 
-/// The cursor behind a frame that ends at an offset.
+/// The cursor after a frame that ends at an offset.
 pub(crate) fn passed(cursor: &FlacProvedCursor, frame: &FrameView<'_>, end: u64) -> FlacProvedCursor
     ensures { result ≡ passed cursor.now (frame_of frame.now) end }
 {

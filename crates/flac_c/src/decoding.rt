@@ -1,4 +1,4 @@
-//! The samples of a stream.
+//! Decodes a stream to bytes.
 
 ghost use Rattle.std.specs.Prelude.{◌≡◌, ◌≢◌, ◌≤◌, ◌++◌, [], nat_lt, length, min, List, OnOk, IfErr, Some, None};
 ghost use Rattle.flac_native.specs.Item.{told};
@@ -19,19 +19,19 @@ use flac_native::{Fault, Place, Profile, Sink, SinkFault, put_rows};
 use flac_ogg::decode_any;
 use std::alloc::{AllocError, Global};
 
-/// How many bytes are put at once at most.
+/// The most bytes that are written at once.
 const ROOM: usize = 32768;
 
-/// How many rows are put at once at most. Each has at most 8 samples of 4 bytes.
+/// The most inter-channel samples that are written at once. Each has at most 8 samples of 4 bytes.
 const ROWS: usize = 1024;
 
 /// Collects the samples of each frame.
 #[derive(Drop)]
 struct Samples {
     bytes: Vec<u8>,
-    /// How many bytes a sample has; 0: the fewest that hold its bits.
+    /// Bytes per sample; 0 for the fewest that hold its bits.
     asked: usize,
-    /// Bits a sample, as STREAMINFO tells them; 0 before it.
+    /// Bits per sample, as STREAMINFO states them; 0 before it.
     depth: u8,
     failures: Failures,
     ghost range: { depth ≤ 32 },
@@ -117,9 +117,13 @@ fn collect_all(alloc: Global, bytes: &[u8], sink: &mut Samples) -> Result<(), Fa
     }
 }
 
-/// Decodes a stream, native or Ogg, and copies its samples to the front of a buffer, as far as there is room: interleaved channel by channel, signed little-endian, each of
-/// `width` bytes, at most 4; 0 stands for the fewest bytes that hold the bits of a sample. Tells how many bytes all samples have. Returns 0, or the number of the fault; the
-/// buffer and the length are then as they were.
+/// Decodes a stream, native or Ogg (RFC 9639, sections 6 and 10.1), and writes its samples as bytes to the front of
+/// `out`, as far as there is room: those of all channels at the first index, channel by channel, then those at the
+/// next. Each has `width` bytes in two's complement, the lowest first; 0 stands for the fewest bytes that hold its
+/// bits, and more than 4 for 4. `len` becomes the number of bytes of all samples.
+///
+/// Returns 0 if the bytes are one whole stream. Otherwise it returns the number of the fault, as `flac_proved_verify`
+/// does, or 2 if an allocation fails; `out` and `len` are unchanged then.
 #[unsafe(no_mangle)]
 pub extern "C" fn flac_proved_decode(
     alloc: Global,

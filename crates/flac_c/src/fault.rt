@@ -1,4 +1,4 @@
-//! Where and why a call refused, in numbers.
+//! Where and why a stream is refused, in numbers.
 
 ghost use Rattle.std.specs.Prelude.{◌≡◌, ◌≢◌, OnErr};
 ghost use Rattle.flac_bits.specs.Handing.{outcome_of};
@@ -7,15 +7,15 @@ ghost use Rattle.flac_c.specs.Answers.{kind_of, index_of, in_c};
 
 use flac_native::{Fault, Place};
 
-/// Where and why a call refused. All fields are 0 if it did not.
+/// Where and why a stream is refused. All fields are 0 if it is not.
 #[repr(C)]
 #[derive(Clone, Copy, Drop)]
 pub struct FlacProvedFault {
-    /// The number of the reason, 1 to 39.
+    /// The number of the reason, 1 to 39, as [`flac_bits::Why::number`].
     pub number: u32,
     /// The kind of the place: 1 the marker, 2 a metadata block, 3 a frame, 4 a page of an Ogg stream, 5 the end.
     pub place: u32,
-    /// Which block, frame or page, counted from 0.
+    /// The index of the block, frame or page, counted from 0; 0 for the marker and the end.
     pub index: u64,
 }
 
@@ -45,7 +45,7 @@ fn index_of(place: Place) -> u64
     }
 }
 
-/// What a call answered, in numbers.
+/// The outcome of a call in numbers.
 #[tactic(auto, using(crate::proofs::Numbered::some_number))]
 pub(crate) fn in_c(outcome: Result<(), Fault>) -> FlacProvedFault
     ensures value { result ≡ in_c (outcome_of told outcome) }

@@ -1,4 +1,4 @@
-//! STREAMINFO and the comments with which a stream begins.
+//! Reads STREAMINFO and the comments at the start of a stream.
 
 ghost use Rattle.std.specs.Prelude.{◌≡◌, ◌≤◌, [], nat_lt, true, length, is_some, List, IfOk, IfErr, OnOk, None, Some};
 ghost use Rattle.flac_native.specs.Item.{told};
@@ -14,10 +14,10 @@ use flac_native::{Fault, Place, Profile, Sink, SinkFault};
 use flac_ogg::decode_any;
 use std::alloc::Global;
 
-/// How many bytes are read at first: metadata mostly has fewer.
+/// How many bytes are read first: most metadata has fewer.
 const FEW: usize = 1 << 16;
 
-/// How many bytes are read next: metadata with a picture mostly has fewer.
+/// How many bytes are read next: most metadata with a picture has fewer.
 const MORE: usize = 1 << 21;
 
 /// Keeps STREAMINFO and the comments of a stream.
@@ -25,7 +25,7 @@ const MORE: usize = 1 << 21;
 pub(crate) struct Head {
     pub(crate) info: Option<StreamInfo>,
     pub(crate) comments: Option<Comments>,
-    /// Whether a frame came, behind all blocks.
+    /// Whether a frame was read, so that no block comes any more.
     pub(crate) is_over: bool,
     pub(crate) failures: Failures,
 }
@@ -80,7 +80,7 @@ impl Sink for Head {
     }
 }
 
-/// Reads a stream, and keeps its head.
+/// Reads a stream, and keeps STREAMINFO and the comments.
 fn decode_head(alloc: Global, bytes: &[u8], head: &mut Head) -> Result<(), Fault>
     requires info { head.old.info ≡ None }
     requires comments { head.old.comments ≡ None }
@@ -93,10 +93,11 @@ fn decode_head(alloc: Global, bytes: &[u8], head: &mut Head) -> Result<(), Fault
     decode_any(alloc, &mut source, Profile::Subset, head)
 }
 
-/// Reads the head of the first bytes anew, and tells whether they are enough: a frame was read, or they are all bytes.
+/// Reads STREAMINFO and the comments from the first `most` bytes, and returns whether these are enough: a frame was
+/// read, or they are all bytes.
 ///
 /// # Errors
-/// `Memory`, and where all bytes are read and no STREAMINFO is found, what is wrong with them.
+/// `Memory` if an allocation fails. If all bytes were read and there is no STREAMINFO, the fault of the stream.
 fn read_front(alloc: Global, bytes: &[u8], most: usize, head: &mut Head) -> Result<bool, Fault>
     ensures begun { IfOk result (λ enough. enough ≡ true → Begins bytes.now head.new.info head.new.comments) }
     ensures found { IfOk result (λ enough. enough ≡ true → is_some head.new.info ≡ true) }
@@ -125,7 +126,7 @@ fn read_front(alloc: Global, bytes: &[u8], most: usize, head: &mut Head) -> Resu
     })
 }
 
-/// Reads STREAMINFO and the comments with which a stream begins.
+/// Reads STREAMINFO and the comments at the start of a stream.
 pub(crate) fn read_head(alloc: Global, bytes: &[u8], head: &mut Head) -> Result<(), Fault>
     ensures begun { OnOk result (Begins bytes.now head.new.info head.new.comments) }
     ensures found { OnOk result (is_some head.new.info ≡ true) }

@@ -1,4 +1,4 @@
-//! What a stream says of itself.
+//! Stream information, the comments, and the name of the program that wrote a stream.
 
 ghost use Rattle.std.specs.Prelude.{◌≡◌, ◌≢◌, Some, Option};
 ghost use Rattle.flac_meta.specs.Info.{Info};
@@ -12,7 +12,7 @@ use crate::texts::copy;
 use flac_meta::{Comments, StreamInfo};
 use std::alloc::Global;
 
-/// What a stream says of itself: STREAMINFO (RFC 9639, section 8.2) and the number of its comments (section 8.6).
+/// STREAMINFO (RFC 9639, section 8.2), and the number of comments (section 8.6).
 #[repr(C)]
 #[derive(Clone, Copy, Drop)]
 pub struct FlacProvedInfo {
@@ -20,19 +20,19 @@ pub struct FlacProvedInfo {
     pub total: u64,
     /// How many comments there are.
     pub comments: u64,
-    /// Samples a second.
+    /// The sample rate in Hz.
     pub rate: u32,
     /// How many channels there are, 1 to 8.
     pub channels: u32,
-    /// Bits a sample, 4 to 32.
+    /// Bits per sample, 4 to 32.
     pub bits: u32,
-    /// The least block size in samples.
+    /// The smallest block size in samples.
     pub least_block: u32,
-    /// The greatest block size in samples.
+    /// The largest block size in samples.
     pub greatest_block: u32,
-    /// The least frame size in bytes, 0 if unknown.
+    /// The smallest frame size in bytes, 0 if unknown.
     pub least_frame: u32,
-    /// The greatest frame size in bytes, 0 if unknown.
+    /// The largest frame size in bytes, 0 if unknown.
     pub greatest_frame: u32,
     /// The MD5 of all samples, zeros if unknown.
     pub digest: [u8; 16],
@@ -48,7 +48,7 @@ fn count_of(comments: &Option<Comments>) -> u64
     }
 }
 
-/// STREAMINFO and a number of comments, in numbers.
+/// STREAMINFO and this number of comments.
 pub(crate) fn info_counted(info: &StreamInfo, comments: u64) -> FlacProvedInfo
     ensures { (found : Option Listed) → comments ≡ count_of found → result ≡ info_in_c info.now found }
 {
@@ -66,7 +66,7 @@ pub(crate) fn info_counted(info: &StreamInfo, comments: u64) -> FlacProvedInfo
     }
 }
 
-/// STREAMINFO and the number of comments, in numbers.
+/// STREAMINFO and the number of these comments.
 fn info_in_c(info: &StreamInfo, comments: &Option<Comments>) -> FlacProvedInfo
     ensures { result ≡ info_in_c info.now comments.now }
 {
@@ -100,8 +100,11 @@ fn copy_vendor(comments: &Option<Comments>, out: &mut [u8]) -> usize
     }
 }
 
-/// Reads STREAMINFO (RFC 9639, section 8.2) at the beginning of a stream, native or Ogg, and counts the comments. Frames are not verified. Returns 0, or the number of
-/// the fault for which there is no STREAMINFO; `info` is then as it was.
+/// Reads STREAMINFO at the start of a stream, native or Ogg, and counts the comments (RFC 9639, sections 8.2 and 8.6).
+/// The stream is not verified, and `bytes` may be a prefix of it.
+///
+/// Returns 0, or the number of the fault for which there is no STREAMINFO, or 2 if an allocation fails; `info` is
+/// unchanged then.
 #[unsafe(no_mangle)]
 pub extern "C" fn flac_proved_info(
     alloc: Global,
@@ -127,8 +130,11 @@ pub extern "C" fn flac_proved_info(
     0
 }
 
-/// Copies the comment of an index, `NAME=VALUE` (RFC 9639, section 8.6), to the front of a buffer, as far as there is room, and tells its length. A comment that there is
-/// none of is empty. Returns 0, or the number of the fault for which there is no STREAMINFO; the buffer and the length are then as they were.
+/// Copies the comment of this index, counted from 0, to the front of `out`, as far as there is room: `NAME=VALUE` (RFC
+/// 9639, section 8.6). `len` becomes its length in bytes. It is empty if there is no such comment.
+///
+/// Returns 0, or the number of the fault for which there is no STREAMINFO, or 2 if an allocation fails; `out` and `len`
+/// are unchanged then.
 #[unsafe(no_mangle)]
 pub extern "C" fn flac_proved_comment(
     alloc: Global,
@@ -153,8 +159,11 @@ pub extern "C" fn flac_proved_comment(
     0
 }
 
-/// Copies the name of the program that wrote a stream (RFC 9639, section 8.6) to the front of a buffer, as far as there is room, and tells its length, 0 if there are no
-/// comments. Returns 0, or the number of the fault for which there is no STREAMINFO; the buffer and the length are then as they were.
+/// Copies the name of the program that wrote the stream to the front of `out`, as far as there is room (RFC 9639,
+/// section 8.6). `len` becomes its length in bytes, 0 if the stream has no comments.
+///
+/// Returns 0, or the number of the fault for which there is no STREAMINFO, or 2 if an allocation fails; `out` and `len`
+/// are unchanged then.
 #[unsafe(no_mangle)]
 pub extern "C" fn flac_proved_vendor(
     alloc: Global,

@@ -1,4 +1,4 @@
-//! The metadata of a native stream, read up to its first frame.
+//! Reads the metadata of a native stream up to its first frame.
 
 ghost use Rattle.std.specs.Prelude.{◌≡◌, ◌≢◌, true, [], None, Some, OnOk, IfOk, IfErr};
 ghost use Rattle.flac_bits.specs.Fence.{StopsIn};
@@ -14,19 +14,19 @@ use flac_meta::{Block, SeekPoint, Seen, StreamInfo, read_block};
 use flac_native::{Fault, Place};
 use std::alloc::Global;
 
-/// What the metadata tells.
+/// What a cursor needs of the metadata.
 #[derive(Drop)]
 pub(crate) struct Metadata {
     pub(crate) info: Option<StreamInfo>,
     /// How many comments there are.
     pub(crate) comments: u64,
-    /// The sample that is sought.
+    /// The number of the sample that is sought.
     pub(crate) sample: u64,
     /// The last seek point at or before it.
     pub(crate) point: Option<SeekPoint>,
 }
 
-/// The last point at or before a sample, or else the one that was there.
+/// The last of these points at or before a sample; `best` if there is none.
 fn point_among(points: &[SeekPoint], sample: u64, best: Option<SeekPoint>) -> Option<SeekPoint>
     ensures { result ≡ point_among sample best points.now }
 {
@@ -51,7 +51,7 @@ impl Metadata {
         }
     }
 
-    /// Notes what a block tells.
+    /// Keeps what a cursor needs of a block.
     fn note(&mut self, block: &Block)
         ensures { Noted self.old block.now self.new }
     {
@@ -81,7 +81,7 @@ fn read_marker(bits: &mut BitReader<Memory<'_>>) -> Result<(), Why>
     Ok(())
 }
 
-/// Reads the next block and notes what it tells. Tells whether it is the last.
+/// Reads the next block, and returns whether it is marked last.
 fn next_block(
     alloc: Global,
     bits: &mut BitReader<Memory<'_>>,
@@ -103,7 +103,7 @@ fn next_block(
     }
 }
 
-/// Reads the marker and all blocks, and notes what they tell.
+/// Reads the marker and all blocks.
 pub(crate) fn read_parts(
     alloc: Global,
     bits: &mut BitReader<Memory<'_>>,

@@ -1,4 +1,4 @@
-//! The samples of a stream as numbers.
+//! Decodes a stream to numbers.
 
 ghost use Rattle.std.specs.Prelude.{◌≡◌, ◌≢◌, ◌<◌, ◌++◌, [], nat_lt, List, OnOk, IfErr, Some, None};
 ghost use Rattle.flac_native.specs.Item.{told};
@@ -96,8 +96,12 @@ fn collect_all(alloc: Global, bytes: &[u8], sink: &mut Numbers) -> Result<(), Fa
     }
 }
 
-/// Decodes a stream, native or Ogg, and copies its samples to the front of a buffer, as far as there is room: interleaved channel by channel. Tells how many they are in
-/// all. Returns 0, or the number of the fault; the buffer and the length are then as they were.
+/// Decodes a stream, native or Ogg (RFC 9639, sections 6 and 10.1), and writes its samples to the front of `out`, as
+/// far as there is room: those of all channels at the first index, channel by channel, then those at the next. `len`
+/// becomes the number of all samples.
+///
+/// Returns 0 if the bytes are one whole stream. Otherwise it returns the number of the fault, as `flac_proved_verify`
+/// does, or 2 if an allocation fails; `out` and `len` are unchanged then.
 #[unsafe(no_mangle)]
 pub extern "C" fn flac_proved_samples(
     alloc: Global,

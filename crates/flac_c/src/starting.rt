@@ -1,4 +1,4 @@
-//! Where the frames of a native stream begin.
+//! Makes cursors in a native stream.
 
 ghost use Rattle.std.specs.Prelude.{◌≡◌, ◌≢◌, [], ℕ, List, IfOk, IfErr, OnOk, Some, None, Option};
 ghost use Rattle.flac_meta.specs.Info.{Info};
@@ -19,7 +19,7 @@ use flac_meta::SeekPoint;
 use flac_native::{Fault, Place};
 use std::alloc::Global;
 
-/// Reads the marker and all blocks, and tells how many bytes they have.
+/// Reads the marker and all blocks, and returns how many bytes they have.
 fn read_front(alloc: Global, bytes: &[u8], found: &mut Metadata) -> Result<u64, Fault>
     requires { IsFound found.old.sample [] found.old }
     ensures read { IfOk result (λ n. (parts : List Piece) × IsHead bytes.now n parts × IsFound found.old.sample parts found.new) }
@@ -36,7 +36,7 @@ fn read_front(alloc: Global, bytes: &[u8], found: &mut Metadata) -> Result<u64, 
     }
 }
 
-/// A cursor at the first frame. What is sought is found in the seek table.
+/// Makes a cursor at the first frame. `found` gets the seek point at or before the sample that is sought.
 fn read_start(alloc: Global, bytes: &[u8], found: &mut Metadata) -> Result<FlacProvedCursor, Fault>
     requires { IsFound found.old.sample [] found.old }
     ensures read { IfOk result (λ c. (parts : List Piece) × (n : ℕ) × (i : Info) × IsHead bytes.now n parts × ((after grammar opening parts).stand.info ≡ Some i)
@@ -61,7 +61,7 @@ fn read_start(alloc: Global, bytes: &[u8], found: &mut Metadata) -> Result<FlacP
     }
 }
 
-/// A cursor at the frame that a seek point names, whose offset is counted from the first frame.
+/// The cursor at the frame that a seek point names. Its offset is counted from the first frame.
 fn at_point(point: Option<SeekPoint>, first: FlacProvedCursor) -> FlacProvedCursor
     ensures { result ≡ at_point point first }
 {
@@ -76,8 +76,11 @@ fn at_point(point: Option<SeekPoint>, first: FlacProvedCursor) -> FlacProvedCurs
     }
 }
 
-/// Reads the metadata of a native stream (RFC 9639, sections 6 and 8), and makes a cursor at its first frame, for `flac_proved_next`. Returns 0, or the number of the
-/// fault for which there is none; the cursor is then as it was. An Ogg stream is refused at the marker.
+/// Reads the metadata of a native stream, and makes a cursor at its first frame, for `flac_proved_next` (RFC 9639,
+/// sections 6 and 8). An Ogg stream is refused at the marker.
+///
+/// Returns 0, or the number of the fault of the marker or of a block, or 2 if an allocation fails; `cursor` is
+/// unchanged then.
 #[unsafe(no_mangle)]
 pub extern "C" fn flac_proved_start(
     alloc: Global,
@@ -104,9 +107,13 @@ pub extern "C" fn flac_proved_start(
     }
 }
 
-/// Reads the metadata of a native stream, and makes a cursor where its seek table says that a frame is, at or before the sample of this number, the last such (RFC 9639,
-/// section 8.5); at the first frame where the table names none. That a frame is there, and with this sample, is shown by `flac_proved_next` alone. Returns 0, or the
-/// number of the fault for which there is no cursor; it is then as it was.
+/// Reads the metadata of a native stream, and makes a cursor at the frame that the last seek point at or before this
+/// sample names, or at the first frame if there is no such point (RFC 9639, section 8.5). A seek table may be wrong:
+/// whether a frame is there, and has this sample, shows when `flac_proved_next` reads it. An Ogg stream is refused at
+/// the marker.
+///
+/// Returns 0, or the number of the fault of the marker or of a block, or 2 if an allocation fails; `cursor` is
+/// unchanged then.
 #[unsafe(no_mangle)]
 pub extern "C" fn flac_proved_seek(
     alloc: Global,

@@ -1,4 +1,4 @@
-//! One frame of a native stream after another.
+//! Decodes one frame of a native stream after another.
 
 ghost use Rattle.std.specs.Prelude.{◌≡◌, ◌≢◌, ◌≤◌, ◌<◌, ◌+◌, ◌⊎◌, ◌∷◌, List, ℕ, IfOk, IfErr, IsOkAnd, None, Some, drop};
 ghost use Rattle.flac_meta.specs.Info.{KeepsRules};
@@ -16,10 +16,10 @@ use flac_meta::StreamInfo;
 use flac_native::{Fault, Place, Profile};
 use std::alloc::Global;
 
-/// How many bytes a frame has at most: STREAMINFO tells the sizes of frames in 24 bits (RFC 9639, section 8.2).
+/// The most bytes that a frame can have: STREAMINFO states the sizes of frames in 24 bits (RFC 9639, section 8.2).
 const LONGEST_FRAME: u64 = 16777215;
 
-/// Reads the frame with which these bytes begin, whatever its number is, and tells how many bytes it has.
+/// Reads the frame with which these bytes begin, whatever its number is, and returns how many bytes it has.
 fn fill_frame(bytes: &[u8], info: &StreamInfo, buffers: &mut FrameBuffers) -> Result<u64, Why>
     requires rules { KeepsRules info.now }
     requires channels { info.now.channels ≤ buffers.old.channels }
@@ -42,7 +42,8 @@ fn fill_frame(bytes: &[u8], info: &StreamInfo, buffers: &mut FrameBuffers) -> Re
     }
 }
 
-/// Copies the samples of a frame that ends at an offset, if there is room for all of them, and moves the cursor behind it. Returns how many they are.
+/// Writes the samples of a frame that ends at an offset, if there is room for all of them, and moves the cursor after
+/// it. Returns how many samples it has.
 fn hand_over(
     frame: &FrameView<'_>,
     end: u64,
@@ -59,7 +60,7 @@ fn hand_over(
     count
 }
 
-/// Reads the frame at a cursor into buffers, and hands it over.
+/// Reads the frame at a cursor into buffers, and writes its samples.
 fn step(
     bytes: &[u8],
     info: &StreamInfo,
@@ -86,7 +87,7 @@ fn step(
     Ok(hand_over(&buffers.view(), end, cursor, out))
 }
 
-/// The same with buffers of its own.
+/// Does what [`step`] does, and allocates the buffers.
 fn step_alone(
     alloc: Global,
     bytes: &[u8],
@@ -109,10 +110,16 @@ fn step_alone(
     step(bytes, &info, &mut buffers, cursor, out)
 }
 
-/// Reads the frame of a native stream that begins at a cursor, and copies its samples to the front of a buffer, channel by channel at each index: if there is room for
-/// all of them, and then the cursor goes behind the frame. Tells how many samples it has. At the end of the bytes there are none, and the cursor stays. The number of
-/// the frame may be any; neither the number of all samples nor their MD5 is judged. Returns 0, or the number of the fault, at the place of the frame, counted from where
-/// the cursor was made; the cursor, the buffer and the length are then as they were.
+/// Decodes the frame at a cursor, and writes its samples to the front of `out`: those of all channels at the first
+/// index, channel by channel, then those at the next. `len` becomes the number of its samples. If there is room for all
+/// of them, the cursor moves to the next frame; otherwise nothing is written, and the cursor stays. At the end of the
+/// bytes `len` becomes 0, and the cursor stays.
+///
+/// The frame must agree with STREAMINFO. It may have any number, and neither the number of all samples nor their MD5 is
+/// compared (RFC 9639, sections 8.2 and 9).
+///
+/// Returns 0, or the number of the fault of the frame, or 2 if an allocation fails. The fault's place is the frame,
+/// counted from where the cursor was made. The cursor, `out` and `len` are unchanged then.
 #[unsafe(no_mangle)]
 pub extern "C" fn flac_proved_next(
     alloc: Global,

@@ -10,7 +10,7 @@ use flac_bits::Why;
 use flac_meta::{Block, BlockList, Bytes, Comments, Texts};
 use std::alloc::{AllocError, Global};
 
-/// A text: bytes of UTF-8, without a zero at the end.
+/// A text: bytes of UTF-8, without a byte 0 at its end. That they are UTF-8 is not checked.
 #[repr(C)]
 #[derive(Clone, Copy, Drop)]
 pub struct FlacProvedText<'a> {
@@ -48,10 +48,10 @@ fn comments_of(alloc: Global, tags: &FlacProvedTags<'_>) -> Result<Comments, All
     Ok(Comments { vendor, list })
 }
 
-/// The one block behind STREAMINFO: the comments.
+/// The one block after STREAMINFO: the comments.
 ///
 /// # Errors
-/// `Memory`: an allocation failed. `BlockLength`: the comments have more bytes than a block has room for.
+/// `Memory` if an allocation fails. `BlockLength` if the comments have more bytes than a block has room for.
 pub(crate) fn blocks_of(alloc: Global, tags: &FlacProvedTags<'_>) -> Result<BlockList, Why>
     ensures blocks { IfOk result (λ list. list ≡ blocks_of tags.now) }
     ensures accepted { OnOk result (list_fault info_seen (blocks_of tags.now) ≡ None) }

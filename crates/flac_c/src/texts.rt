@@ -26,7 +26,7 @@ pub(crate) fn copy_numbers(numbers: &[i32], out: &mut [i32]) -> usize
     numbers.len()
 }
 
-/// The reason of a number, 1 to 39.
+/// The reason with this number, 1 to 39.
 fn reason_of(number: u32) -> Option<Why>
     ensures each { (why : Why) → number_of why ≡ number → result ≡ Some why }
     ensures other { (number ≡ 0) ⊎ (39 < number) → result ≡ None }
@@ -78,7 +78,7 @@ fn reason_of(number: u32) -> Option<Why>
     Some(reasons[number as usize - 1])
 }
 
-/// The reason of a number, 40 to 47.
+/// The reason with this number, 40 to 47.
 fn setup_of(number: u32) -> Option<SetupFault>
     ensures each { (fault : SetupFault) → setup_number fault ≡ number → result ≡ Some fault }
     ensures other { (number < 40) ⊎ (47 < number) → result ≡ None }
@@ -99,8 +99,9 @@ fn setup_of(number: u32) -> Option<SetupFault>
     Some(faults[number as usize - 40])
 }
 
-/// Copies number and name of a reason to the front of a buffer, as `26 FrameCheck`, as far as there is room, and returns the length of this text. The rest of the
-/// buffer stays as it is. Numbers that are no reason have the empty text.
+/// Copies the number and the name of a reason, as `26 FrameCheck`, to the front of `out`, as far as there is room, and
+/// returns the length of this text in bytes. The rest of `out` is unchanged. The text is empty for 0 and for numbers
+/// above 47.
 #[unsafe(no_mangle)]
 pub extern "C" fn flac_proved_strerror(number: u32, out: &mut [u8]) -> usize
     ensures reason { (why : Why) → number_of why ≡ number → IsCopied (text_of why) out.old out.new result }
@@ -116,8 +117,9 @@ pub extern "C" fn flac_proved_strerror(number: u32, out: &mut [u8]) -> usize
     copy(&[], out)
 }
 
-/// Copies the name of a kind of place to the front of a buffer, as `frame`, as far as there is room, and returns the length of this text. The rest of the buffer
-/// stays as it is. Numbers that are no kind have the empty text.
+/// Copies the name of a kind of place ([`FlacProvedFault::place`](crate::fault::FlacProvedFault)), as `frame`, to the
+/// front of `out`, as far as there is room, and returns the length of this text in bytes. The rest of `out` is
+/// unchanged. The text is empty for numbers that are no kind.
 #[unsafe(no_mangle)]
 pub extern "C" fn flac_proved_place(kind: u32, out: &mut [u8]) -> usize
     ensures { IsCopied (place_text kind) out.old out.new result }

@@ -9,8 +9,11 @@ use flac_native::Profile;
 use flac_ogg::verify;
 use std::alloc::Global;
 
-/// Verifies that bytes are one whole stream, native or Ogg (RFC 9639, sections 6 and 10.1), by its layout, its checks, and the number and the MD5 of its
-/// samples. Returns 0 or the number of the first fault, 1 to 39, and fills in its place.
+/// Verifies that bytes are exactly one stream, native or Ogg (RFC 9639, sections 6 and 10.1): its layout, the checksums
+/// of frames and pages, and the number and the MD5 of its samples, if STREAMINFO states them.
+///
+/// Returns 0 if they are, the number of the reason for which the stream is refused, 1 to 39, or 2 if an allocation
+/// fails. `fault` becomes the number and the place.
 #[unsafe(no_mangle)]
 pub extern "C" fn flac_proved_verify(
     alloc: Global,
