@@ -1,11 +1,11 @@
-//! How the values of one partition are written.
+//! How the values of a partition are coded.
 
-/// How the values of one partition are written (RFC 9639, section 9.2.7.1).
+/// How the values of a partition are coded (RFC 9639, section 9.2.7.1).
 #[derive(Clone, Copy, PartialEq, Eq, Debug)]
 pub enum Coding {
-    /// As folded numbers under a Rice parameter, 0 to 30.
+    /// A Rice code with this parameter, 0 to 30.
     Rice(u8),
-    /// As signed numbers of this many bits each, 0 to 31.
+    /// Signed numbers of this many bits each, 0 to 31.
     Escape(u8),
 }
 

@@ -1,4 +1,4 @@
-//! What the values of a partition cost under a parameter, and how wide they are.
+//! The bits of a partition's values under a parameter, and their width.
 
 ghost use Rattle.std.specs.Prelude.{◌≡◌, ◌<◌, ◌≤◌, ◌^◌, ◌*◌, ◌/◌, ◌+◌, ◌↔◌, ℕ, length, All};
 ghost use Rattle.std.specs.List.{sum_by};

@@ -1,10 +1,10 @@
-//! Signed residual values as unsigned numbers.
+//! Signed residual values as unsigned numbers (RFC 9639, section 9.2.7.2).
 
 ghost use Rattle.std.specs.Prelude.{◌≡◌, ◌<◌, ◌+◌, ◌^◌, neg_ℤ, pos, ◌<ℤ◌, length, map, All};
 ghost use Rattle.flac_subframe.specs.Spelling.{folded};
 ghost use Rattle.flac_bits.specs.Rice.{IsResidual};
 
-/// 2r where r is not negative, else -2r - 1.
+/// The folded number of a residual value r: 2r if r is not negative, else -2r - 1 (RFC 9639, section 9.2.7.2).
 pub(crate) fn fold(value: i64) -> u64
     requires { IsResidual value }
     ensures value { result ≡ folded value }
@@ -17,7 +17,8 @@ pub(crate) fn fold(value: i64) -> u64
     }
 }
 
-/// The same in 32 bits: the double, and where the value is negative its complement, which the compiler makes three operations of.
+/// The same in 32 bits: the double, or its complement if the value is negative. The compiler makes three operations of
+/// it.
 #[inline(always)]
 pub(crate) fn fold_narrow(value: i32) -> u32
     requires { IsResidual value }
@@ -29,7 +30,7 @@ pub(crate) fn fold_narrow(value: i32) -> u32
     if value < 0 { u32::MAX - twice } else { twice }
 }
 
-/// Each value in 32 bits, and as an unsigned number.
+/// Each value in 32 bits, and its folded number.
 pub(crate) fn fold_each(wide: &[i64], values: &mut [i32], folds: &mut [u32])
     requires range { All IsResidual wide.now }
     requires places { length values.old ≡ length wide.now }

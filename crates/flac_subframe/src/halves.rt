@@ -1,5 +1,5 @@
-//! The cost of each partition at each partition order, where each value's cost is worked out once for each parameter: a partition costs as much
-//! as its two halves.
+//! The cost of each partition at each partition order. The cost of each value is computed once for each parameter: a
+//! partition costs as much as its two halves.
 
 ghost use Rattle.std.specs.Prelude.{◌≡◌, ◌<◌, ◌≤◌, ◌^◌, ◌+◌, ◌-◌, ◌*◌, ◌/◌, ℕ, true, false, length, map, min, All, IsTrue, slice_index, ◌⊎◌};
 ghost use Rattle.std.specs.List.{sum_by};

@@ -3,8 +3,8 @@
 ghost use Rattle.std.specs.Prelude.{◌≡◌, ◌≤◌, ◌^◌, ◌↔◌, pos, length, replicate, IsTrue};
 ghost use Rattle.flac_bits.specs.Signed.{FitsBits};
 
-/// Whether a number has a two's complement form of `bits` bits. Moved up by half the range it is within the range, so one comparison
-/// decides, and its limit is the same for each number of a loop.
+/// Whether a number has a two's complement form of `bits` bits. The number is moved up by half the range, so that a
+/// single comparison decides, whose limit is the same for each number of a loop.
 #[inline(always)]
 pub(crate) fn fits_bits(number: i64, bits: u32) -> bool
     requires positive { 1 ≤ bits }
@@ -15,7 +15,7 @@ pub(crate) fn fits_bits(number: i64, bits: u32) -> bool
     number.wrapping_add(limit).cast_unsigned() <= u64::MAX >> (64 - bits)
 }
 
-/// Two to the power of so much.
+/// Two to the power of the exponent.
 #[inline(always)]
 pub(crate) fn power_of_two(exponent: u32) -> i64
     requires { exponent ≤ 33 }
@@ -24,7 +24,7 @@ pub(crate) fn power_of_two(exponent: u32) -> i64
     1 << exponent
 }
 
-/// Fills the places with one number.
+/// Writes one number to all places.
 pub(crate) fn repeat(number: i64, places: &mut [i64])
     ensures { places.new ≡ replicate (length places.old) number }
 {

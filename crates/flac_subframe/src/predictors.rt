@@ -1,11 +1,11 @@
-//! Prediction of a sample from those before it.
+//! Predicts a sample from those before it.
 
 ghost use Rattle.std.specs.Prelude.{◌≡◌, ◌<◌, ◌≤◌, ◌^◌, length, All};
 ghost use Rattle.std.specs.Int.RustNames.{unsigned_abs};
 ghost use Rattle.flac_bits.specs.Signed.{FitsBits};
 ghost use Rattle.flac_subframe.specs.Prediction.{prediction, weighted, fixed_coefficients};
 
-/// The coefficients of the fixed predictor of an order, for the nearest sample first (RFC 9639, section 9.2.5).
+/// The coefficients of the fixed predictor of an order, that of the nearest sample first (RFC 9639, section 9.2.5).
 pub(crate) fn fixed_coefficients(order: u32) -> &'static [i32]
     requires { order ≤ 4 }
     ensures { result.now ≡ fixed_coefficients order }
@@ -19,10 +19,16 @@ pub(crate) fn fixed_coefficients(order: u32) -> &'static [i32]
     }
 }
 
-/// What a linear predictor says of the sample after the slice: the sum of products of its coefficients, the one for the
-/// nearest sample first, shifted to the right and rounded down (RFC 9639, section 9.2.6).
+/// The prediction of a linear predictor for the sample after these: the sum of the products of coefficients and
+/// samples, shifted to the right, rounded down (RFC 9639, section 9.2.6). The first coefficient is that of the nearest,
+/// the last sample.
 ///
-/// At most 32 coefficients of 15 bits, a shift of 0 to 15, and at least as many samples, of 33 bits.
+/// There are at most 32 coefficients, of at most 15 bits each; at least as many samples, of at most 33 bits each; and
+/// the shift is 0 to 15.
+///
+/// ```
+/// let next = predict_linear(&[1], 1, &[-3]); // -2
+/// ```
 pub fn predict_linear(coefficients: &[i32], shift: u32, samples: &[i64]) -> i64
     requires few { length coefficients.now ≤ 32 }
     requires small { All (FitsBits 15) coefficients.now }
@@ -42,9 +48,12 @@ pub fn predict_linear(coefficients: &[i32], shift: u32, samples: &[i64]) -> i64
     sum >> shift
 }
 
-/// What the fixed predictor of an order, 0 to 4, says of the sample after the slice (RFC 9639, section 9.2.5).
+/// The prediction of the fixed predictor of an order, 0 to 4, for the sample after these (RFC 9639, section 9.2.5).
+/// There are at least as many samples as the order, of at most 33 bits each.
 ///
-/// At least as many samples as the order, of 33 bits.
+/// ```
+/// let next = predict_fixed(2, &[0, 1]); // 2
+/// ```
 pub fn predict_fixed(order: u32, samples: &[i64]) -> i64
     requires order { order ≤ 4 }
     requires enough { order ≤ length samples.now }

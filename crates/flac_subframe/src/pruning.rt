@@ -10,7 +10,7 @@ use crate::cost::quotients;
 use crate::halving::power;
 use crate::view::ResidualView;
 
-/// A shift that brings the bits of values near their count.
+/// A shift that brings the number of bits near the number of values.
 fn shift_to(count: u64, bits: u64) -> u32
     ensures { result ≤ 40 }
 {
@@ -25,7 +25,8 @@ fn shift_to(count: u64, bits: u64) -> u32
     }
 }
 
-/// What sixteen values take at least under any coding, by the bits that they take under parameter 0 and by their width: with no branch.
+/// A lower bound on the bits of sixteen values under any coding, from their bits under parameter 0 and their width,
+/// without a branch.
 #[inline(always)]
 fn bound_sixteen(values: &[i32], bits: u64, width: u8) -> u64
     requires long { length values.now ≡ 16 }
@@ -41,7 +42,8 @@ fn bound_sixteen(values: &[i32], bits: u64, width: u8) -> u64
     rice.min(16 * u64::from(width))
 }
 
-/// What the values of a partition take at least under any coding, by the bits that they take under parameter 0 and by their width.
+/// A lower bound on the bits of a partition's values under any coding, from their bits under parameter 0 and their
+/// width.
 fn bound_part(values: &[i32], bits: u64, width: u8) -> u64
     requires few { length values.now ≤ 65535 }
     requires bits { bits ≡ sum_by (value_cost 0) values.now }
@@ -64,7 +66,8 @@ fn bound_part(values: &[i32], bits: u64, width: u8) -> u64
     rice.min(count * u64::from(width))
 }
 
-/// The same by the values' exact cost under two parameters, the least of all where the quotients' sum falls between them below the count.
+/// A closer lower bound, from the values' exact bits under two parameters: the best is one of these if the sum of the
+/// quotients is the number of values or more under the first, and at most that under the second.
 fn bound_closely(values: &[i32], folds: &[u32], bits: u64, width: u8) -> u64
     requires few { length values.now ≤ 65535 }
     requires folded { folds.now ≡ map folded values.now }
@@ -90,7 +93,7 @@ fn bound_closely(values: &[i32], folds: &[u32], bits: u64, width: u8) -> u64
     under.min(over).min(count * u64::from(width))
 }
 
-/// What the values of a partition take at least, closely or roughly.
+/// A lower bound on the bits of a partition's values, the closer or the rougher one.
 #[inline(always)]
 fn bound_values(values: &[i32], folds: &[u32], bits: u64, width: u8, closely: bool) -> u64
     requires few { length values.now ≤ 65535 }
@@ -111,7 +114,7 @@ fn bound_values(values: &[i32], folds: &[u32], bits: u64, width: u8, closely: bo
     }
 }
 
-/// What the finest partitions take at least, one after another.
+/// The sum of the lower bounds of the finest partitions.
 fn bound_parts(residual: &ResidualView<'_>, sums: &[u64], widths: &[u8], closely: bool) -> u64
     requires places { 2 ^ residual.now.halvings ≤ length sums.now }
     requires costs { (j : ℕ) → j < 2 ^ residual.now.halvings → slice_index sums.now j ≡ sum_by (value_cost 0) (part residual.now.order residual.now.values.now residual.now.halvings j) }
@@ -136,7 +139,8 @@ fn bound_parts(residual: &ResidualView<'_>, sums: &[u64], widths: &[u8], closely
     bits
 }
 
-/// Whether the close bound shows that the residual takes `below` bits or more. It is worked out only if the rough bound is near that.
+/// Whether the closer bound shows that the residual takes `below` bits or more. It is computed only if the rougher
+/// bound is at least half of that.
 fn reaches(residual: &ResidualView<'_>, sums: &[u64], widths: &[u8], bound: u64, below: u64) -> bool
     requires sums { 2 ^ residual.now.halvings ≤ length sums.now }
     requires costs { (j : ℕ) → j < 2 ^ residual.now.halvings → slice_index sums.now j ≡ sum_by (value_cost 0) (part residual.now.order residual.now.values.now residual.now.halvings j) }
@@ -150,8 +154,8 @@ fn reaches(residual: &ResidualView<'_>, sums: &[u64], widths: &[u8], bound: u64,
     bound_parts(residual, sums, widths, true) >= below
 }
 
-/// Whether lower bounds show that the residual takes `below` bits or more in any form, by what the finest partitions cost under
-/// parameter 0.
+/// Whether lower bounds show that the residual takes `below` bits or more in any form. `sums` has what the finest
+/// partitions take under parameter 0.
 pub(crate) fn is_too_dear(
     residual: &ResidualView<'_>,
     sums: &[u64],

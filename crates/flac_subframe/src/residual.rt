@@ -1,4 +1,4 @@
-//! The residual, read into the places of the samples that it restores.
+//! Reads a residual, to the places of the samples that it restores.
 
 ghost use Rattle.std.specs.Prelude.{◌≡◌, ◌≢◌, ◌≤◌, ◌<◌, ◌+◌, ◌-◌, ◌*◌, ◌^◌, ◌/◌, ◌⊎◌, OnOk, IfOk, IfSome, length, All, IfErr};
 ghost use Rattle.flac_bits.specs.Layout.{bind, done, zeros_at};
@@ -11,7 +11,7 @@ ghost use Rattle.flac_subframe.specs.Residual.{partition, partitions, residual_h
 use crate::numbers::repeat;
 use flac_bits::{BitReader, Source, Why};
 
-/// Fills the places with the values of one partition.
+/// Reads the values of one partition.
 #[tactic(auto, unfolding(crate::specs::Residual::partition, crate::specs::Residual::escaped, crate::specs::Residual::coded), using(crate::proofs::Bounds::all_fit_32, crate::proofs::Bounds::residuals_fit, crate::proofs::Samples::no_bits))]
 fn read_partition<R: Source>(
     bits: &mut BitReader<R>,
@@ -39,8 +39,8 @@ fn read_partition<R: Source>(
     Ok(())
 }
 
-/// Fills the places with the values of the partitions of a block, of which each has `size` values but the first, which lacks those
-/// of the warm-up samples.
+/// Reads the values of the partitions of a block. Each has `size` values, but the first has fewer by those of the
+/// warm-up samples.
 #[tactic(auto, using(crate::proofs::Parts::gathers_nothing))]
 fn read_partitions<R: Source>(
     bits: &mut BitReader<R>,
@@ -81,7 +81,7 @@ fn partition_count(times: u32) -> usize
     1 << times
 }
 
-/// The coding method and the partition order of a residual (RFC 9639, section 9.2.7).
+/// Reads the coding method and the partition order of a residual (RFC 9639, section 9.2.7).
 #[tactic(auto, unfolding(crate::specs::Residual::residual_header))]
 fn read_residual_header<R: Source>(
     bits: &mut BitReader<R>,
@@ -114,7 +114,8 @@ fn read_residual_header<R: Source>(
     Ok((method, times))
 }
 
-/// Fills the places after the warm-up samples of a block with the residual of a predictor of an order (RFC 9639, section 9.2.7).
+/// Reads the residual of a predictor of this order, to the places after the warm-up samples of a block (RFC 9639,
+/// section 9.2.7).
 #[tactic(auto, unfolding(crate::specs::Residual::residual))]
 pub(crate) fn read_residual<R: Source>(
     bits: &mut BitReader<R>,

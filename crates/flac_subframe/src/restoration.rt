@@ -1,4 +1,4 @@
-//! Restoration of samples in the residual's own places.
+//! Restores samples in the places of the residual.
 
 ghost use Rattle.std.specs.Prelude.{◌≡◌, ◌∷◌, [], ◌+◌, ◌-◌, ◌<◌, ◌≤◌, ◌^◌, ◌+ℤ◌, ◌-ℤ◌, ℤ, List, length, All, IsTrue};
 ghost use Rattle.std.specs.List.{AllWithin};
@@ -10,7 +10,7 @@ ghost use Rattle.flac_subframe.specs.Sums.{second_of, third_of, fourth_of};
 
 use crate::numbers::fits_bits;
 
-/// What the fixed predictor of an order says after four samples, the nearest first (RFC 9639, section 9.2.5).
+/// The prediction of the fixed predictor of an order after four samples, the nearest first (RFC 9639, section 9.2.5).
 #[inline(always)]
 pub(crate) fn predict_after(order: usize, first: i64, second: i64, third: i64, fourth: i64) -> i64
     requires order { order ≤ 4 }
@@ -139,7 +139,8 @@ pub(crate) fn restore_fixed(order: usize, bits: u32, samples: &mut [i64]) -> boo
     }
 }
 
-/// What a linear predictor says of the sample at an index, where the nearest sample is at hand (RFC 9639, section 9.2.6).
+/// The prediction of a linear predictor for the sample at an index, of which the nearest sample is known (RFC 9639,
+/// section 9.2.6).
 #[inline(always)]
 fn predict_at(
     order: usize,

@@ -1,4 +1,4 @@
-//! A subframe, read into its samples' places.
+//! Reads a subframe.
 
 ghost use Rattle.std.specs.Prelude.{◌≡◌, ◌≢◌, ◌≤◌, ◌<◌, ◌+◌, ◌-◌, OnOk, IfOk, IfSome, length, cond, Some, None, All, IsTrue, map, replicate, ℤ, pos, ◌*ℤ◌, ◌^◌, IfErr};
 ghost use Rattle.flac_bits.specs.Reading.{Counts, Gives, Reads, Means};
@@ -13,7 +13,7 @@ use crate::restoration::{restore_fixed, restore_linear};
 use arrayvec::ArrayVec;
 use flac_bits::{BitReader, Source, Why};
 
-/// The type of a subframe, and how many of its lowest bits are zeros and left out.
+/// The type of a subframe, and its number of wasted bits.
 #[derive(Clone, Copy)]
 struct Header {
     kind: u64,
@@ -61,7 +61,7 @@ fn predictor_order(kind: u64) -> u32
     }
 }
 
-/// The header of a subframe.
+/// Reads the header of a subframe.
 #[tactic(auto, unfolding(crate::specs::Subframe::header))]
 fn read_header<R: Source>(
     bits: &mut BitReader<R>,
@@ -94,7 +94,7 @@ fn read_header<R: Source>(
     Ok(Header { kind, wasted })
 }
 
-/// One sample for all (RFC 9639, section 9.2.3).
+/// Reads one sample for all (RFC 9639, section 9.2.3).
 #[tactic(auto, unfolding(crate::specs::Subframe::constant))]
 fn read_constant<R: Source>(
     bits: &mut BitReader<R>,
@@ -114,7 +114,7 @@ fn read_constant<R: Source>(
     Ok(true)
 }
 
-/// Each sample (RFC 9639, section 9.2.4).
+/// Reads each sample (RFC 9639, section 9.2.4).
 #[tactic(auto, unfolding(crate::specs::Subframe::verbatim), using(crate::proofs::Samples::fitting_is))]
 fn read_verbatim<R: Source>(
     bits: &mut BitReader<R>,
@@ -133,7 +133,7 @@ fn read_verbatim<R: Source>(
     Ok(true)
 }
 
-/// A fixed predictor (RFC 9639, section 9.2.5).
+/// Reads the samples of a fixed predictor (RFC 9639, section 9.2.5).
 #[tactic(auto, unfolding(crate::specs::Subframe::fixed))]
 fn read_fixed<R: Source>(
     bits: &mut BitReader<R>,
@@ -159,7 +159,7 @@ fn read_fixed<R: Source>(
     Ok(restore_fixed(places, depth, samples))
 }
 
-/// The precision and the shift of a linear predictor, and its coefficients into their places (RFC 9639, section 9.2.6).
+/// Reads the precision, the shift and the coefficients of a linear predictor (RFC 9639, section 9.2.6).
 #[tactic(auto, unfolding(crate::specs::Subframe::predictor))]
 fn read_predictor<R: Source>(
     bits: &mut BitReader<R>,
@@ -184,7 +184,7 @@ fn read_predictor<R: Source>(
     Ok((low + 1, shift))
 }
 
-/// A linear predictor, with places for its coefficients (RFC 9639, section 9.2.6).
+/// Reads the samples of a linear predictor, with places for its coefficients (RFC 9639, section 9.2.6).
 #[tactic(auto, unfolding(crate::specs::Subframe::linear))]
 fn read_linear_into<R: Source>(
     bits: &mut BitReader<R>,
@@ -211,7 +211,7 @@ fn read_linear_into<R: Source>(
     Ok(restore_linear(coefficients, shift, depth, samples))
 }
 
-/// A linear predictor of an order.
+/// Reads the samples of a linear predictor of this order.
 fn read_linear<R: Source>(
     bits: &mut BitReader<R>,
     depth: u32,
@@ -235,7 +235,7 @@ fn read_linear<R: Source>(
     read_linear_into(bits, depth, limit, coefficients.as_mut_slice(), samples)
 }
 
-/// The samples of a content before the wasted bits are put back, where each fits; else `false`.
+/// Reads the samples before the wasted bits are put back, and returns whether each fits.
 #[tactic(auto, unfolding(crate::specs::Subframe::content_samples, crate::specs::Subframe::content))]
 fn read_content<R: Source>(
     bits: &mut BitReader<R>,
@@ -282,10 +282,32 @@ fn scale(samples: &mut [i64], wasted: u32)
     }
 }
 
-/// Reads the subframe of a block of as many samples as there are places, and puts its samples there (RFC 9639, section 9.2).
+/// Reads a subframe, and writes its samples to `samples`, of which there are `block`, 1 to 65535 (RFC 9639, section
+/// 9.2). `depth` is the depth of this subframe, 1 to 33 bits: a side channel has one bit more than the frame (section
+/// 4.2).
 ///
-/// `depth` is the subframe's own depth in bits, 1 to 33. The answer is whether each sample fits it; where it is `false` the places
-/// hold no samples. Errors: `NotSubset`, `BadSubframe`, `BadPredictor`, `BadPartition`, `ResidualRange`, and those of the reader.
+/// Returns whether each sample fits the depth. If one does not, the values of `samples` are not specified.
+///
+/// ```
+/// let limits = Limits {
+///     partition: 8,
+///     linear,
+/// };
+/// let mut bits = BitReader::new(Memory::new(bytes));
+/// read_subframe(&mut bits, depth, samples.len() as u32, &limits, samples)
+/// ```
+///
+/// # Errors
+/// The error of the field that ends first:
+///
+/// - [`Why::BadSubframe`] if the first bit is set, the type is reserved, or there are too many wasted bits (sections
+///   9.2.1 and 9.2.2);
+/// - [`Why::NotSubset`] if the order of a linear predictor or the partition order is above its limit;
+/// - [`Why::BadPredictor`] if a linear predictor has a forbidden precision or shift (section 9.2.6);
+/// - [`Why::BadPartition`] if the order of a predictor or the partition order does not fit the block, or the coding
+///   method is reserved (section 9.2.7);
+/// - [`Why::ResidualRange`] if a residual value is not strictly between -2^31 and 2^31 (section 9.2.7.3);
+/// - those of [`BitReader`].
 pub fn read_subframe<R: Source>(
     bits: &mut BitReader<R>,
     depth: u32,
@@ -307,6 +329,7 @@ pub fn read_subframe<R: Source>(
     read_here(bits, depth, block, limits, samples)
 }
 
+/// Does what [`read_subframe`] does.
 fn read_here<R: Source>(
     bits: &mut BitReader<R>,
     depth: u32,

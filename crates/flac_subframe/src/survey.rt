@@ -1,4 +1,5 @@
-//! The way to write a residual in the fewest bits: tables give each partition's cost, and the codings are gathered once, for the best.
+//! The search for the form of a residual with the fewest bits: tables have the cost of each partition, and only the
+//! codings of the best form are listed.
 
 ghost use Rattle.std.specs.Prelude.{◌≡◌, ◌≢◌, ◌<◌, ◌≤◌, ◌^◌, ◌+◌, ◌-◌, ◌*◌, ◌/◌, ℕ, length, map, All, IsTrue, ◌⊎◌, []};
 ghost use Rattle.flac_bits.specs.Rice.{IsResidual};
@@ -15,16 +16,19 @@ use crate::view::ResidualView;
 use crate::widths::measure;
 use arrayvec::ArrayVec;
 
-/// How a residual is written but for its codings, and how many bits it takes.
+/// The form of a residual without its codings, and how many bits it takes.
 #[derive(Clone, Copy)]
 pub struct Found {
+    /// Bits of a Rice parameter: 4 or 5, as the coding method says (RFC 9639, section 9.2.7).
     pub parameter_bits: u8,
+    /// The partition order, at most 8.
     pub halvings: u8,
+    /// Bits of the residual.
     pub bits: u64,
 }
 
-/// The working arrays of a search, for partition orders up to 8: what each of the finest partitions costs under a parameter, the best
-/// parameter of each partition by the first and by the second method, and the width of each.
+/// The working arrays of a search, for partition orders up to 8: the cost of each of the finest partitions under a
+/// parameter, the best parameter of each partition by the first and by the second coding method, and the width of each.
 #[derive(Drop)]
 pub(crate) struct Tables {
     pub(crate) sums: [u64; 256],
@@ -33,7 +37,7 @@ pub(crate) struct Tables {
     pub(crate) widths: [u8; 512],
 }
 
-/// How often the block can be halved.
+/// The largest partition order that fits the block, at most `most`.
 pub(crate) fn greatest_halvings(values: &[i32], order: usize, most: u8) -> u8
     requires few { length values.now + order ≤ 65535 }
     requires room { 0 < length values.now }
@@ -51,7 +55,7 @@ pub(crate) fn greatest_halvings(values: &[i32], order: usize, most: u8) -> u8
     most
 }
 
-/// The least coding of a partition, from its entry in the table and its width.
+/// The coding of a partition with the fewest bits, from its entry in the table and its width.
 fn finish(values: &[i32], parameter_bits: u8, best: u64, width: u8) -> Priced
     requires few { length values.now ≤ 65535 }
     requires range { All IsResidual values.now }
@@ -78,7 +82,7 @@ fn finish(values: &[i32], parameter_bits: u8, best: u64, width: u8) -> Priced
     }
 }
 
-/// What the least codings at one partition order cost.
+/// How many bits the best codings at one partition order take.
 fn total(
     residual: &ResidualView<'_>,
     halvings: u8,
@@ -110,7 +114,7 @@ fn total(
     bits
 }
 
-/// The least codings at one partition order, from the table.
+/// Lists the best codings at one partition order, from the table.
 fn gather(
     residual: &ResidualView<'_>,
     halvings: u8,
@@ -146,7 +150,7 @@ fn gather(
     bits
 }
 
-/// The best partition order of a method.
+/// The best partition order of a coding method.
 fn best_order(
     residual: &ResidualView<'_>,
     parameter_bits: u8,
@@ -182,7 +186,7 @@ fn best_order(
     best
 }
 
-/// A parameter near the best one of most partitions, by what the finest take under parameter 0.
+/// A parameter near the best one of most partitions, from the bits of the finest under parameter 0.
 fn middle(sums: &[u64], count: usize) -> u8
     ensures { result ≤ 15 }
 {

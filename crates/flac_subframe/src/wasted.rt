@@ -1,4 +1,4 @@
-//! The lowest bits that all samples lack.
+//! Wasted bits: the lowest bits that are zero in all samples (RFC 9639, section 9.2.2).
 
 ghost use Rattle.std.specs.Prelude.{◌≡◌, ◌<◌, ◌≤◌, ◌+ℤ◌, ℕ, length, All, IsTrue, map};
 ghost use Rattle.std.specs.Int.{int_shr};
@@ -6,7 +6,7 @@ ghost use Rattle.flac_bits.specs.Signed.{FitsBits};
 ghost use Rattle.flac_subframe.specs.Numbers.{sample_at};
 ghost use Rattle.flac_subframe.specs.Wasted.{IsWasted, times_power};
 
-/// Whether each sample is twice a number.
+/// Whether each sample is even.
 fn all_even(samples: &[i64]) -> bool
     requires { All (FitsBits 33) samples.now }
     ensures even { IsTrue result → (i : ℕ) → i < length samples.now → int_shr (sample_at samples.now i) 1 +ℤ int_shr (sample_at samples.now i) 1 ≡ sample_at samples.now i }
@@ -33,7 +33,7 @@ fn halve(samples: &mut [i64])
     }
 }
 
-/// How many low bits all samples lack, and the samples without them.
+/// Counts the wasted bits, and writes the samples without them to `shortened`.
 pub(crate) fn drop_wasted(samples: &[i64], bits: u32, shortened: &mut [i64]) -> u32
     requires positive { 1 ≤ bits }
     requires bits { bits ≤ 33 }

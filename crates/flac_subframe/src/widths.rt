@@ -1,4 +1,4 @@
-//! The width of each partition at each partition order, and what the finest cost under parameter 0.
+//! The width of each partition at each partition order, and the bits of the finest under parameter 0.
 
 ghost use Rattle.std.specs.Prelude.{◌≡◌, ◌<◌, ◌≤◌, ◌^◌, ◌+◌, ◌*◌, ℕ, length, map, All, slice_index};
 ghost use Rattle.std.specs.List.{sum_by};
@@ -9,7 +9,7 @@ use crate::cost::{rice_bits, width};
 use crate::halving::power;
 use crate::view::ResidualView;
 
-/// The width of each partition at the finest partition order, and what it costs under parameter 0.
+/// The width of each partition at the finest partition order, and its bits under parameter 0.
 fn leaves(residual: &ResidualView<'_>, widths: &mut [u8], sums: &mut [u64])
     requires places { length widths.old ≡ 2 ^ residual.now.halvings }
     requires sums { length sums.old ≡ 2 ^ residual.now.halvings }
@@ -30,7 +30,7 @@ fn leaves(residual: &ResidualView<'_>, widths: &mut [u8], sums: &mut [u64])
     }
 }
 
-/// The same, each width at its place after the coarser ones.
+/// The same, with each width at its place after those of the coarser partitions.
 fn lowest(residual: &ResidualView<'_>, widths: &mut [u8], sums: &mut [u64])
     requires places { 2 * 2 ^ residual.now.halvings ≤ length widths.old }
     requires sums { 2 ^ residual.now.halvings ≤ length sums.old }
@@ -43,7 +43,8 @@ fn lowest(residual: &ResidualView<'_>, widths: &mut [u8], sums: &mut [u64])
     leaves(residual, &mut widths[first..2 * first], row);
 }
 
-/// The width of each partition at each partition order, the greater of its two halves', and what each of the finest costs under parameter 0.
+/// The width of each partition at each partition order, the larger of its two halves', and the bits of each of the
+/// finest under parameter 0.
 pub(crate) fn measure(residual: &ResidualView<'_>, widths: &mut [u8], sums: &mut [u64])
     requires places { 2 * 2 ^ residual.now.halvings ≤ length widths.old }
     requires sums { 2 ^ residual.now.halvings ≤ length sums.old }
