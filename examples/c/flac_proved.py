@@ -1,6 +1,6 @@
 """The calls of flac_proved.h for Python: FLAC streams in memory are verified, described, decoded and encoded by proved code.
 
-    library = flac_proved.load("libflac_proved.so")     # the shared library that the Makefile builds
+    library = flac_proved.load("./libflac_proved.so")   # the shared library that the Makefile builds
     stream = library.encode(array.array("i", [1, -1, 2, -2]), rate=44100, channels=2, bits=16, comments=["TITLE=x"])
     library.verify(stream)
     assert library.info(stream).total == 2
