@@ -38,7 +38,6 @@ int main(int count, char **words)
     static char stream[1 << 24], out[1 << 16], error[1 << 16];
     check(count == 3, "usage: answers PROGRAM COMMAND");
     int given = memfd_create("stream", MFD_CLOEXEC), printed = memfd_create("out", MFD_CLOEXEC), told = memfd_create("error", MFD_CLOEXEC);
-    setrlimit(RLIMIT_CPU, &(struct rlimit){ 20, 20 });
     posix_spawn_file_actions_t files;
     posix_spawn_file_actions_init(&files);
     posix_spawn_file_actions_addopen(&files, 0, "/dev/null", O_RDONLY, 0);
@@ -52,6 +51,8 @@ int main(int count, char **words)
         int status;
         pid_t child;
         check(posix_spawn(&child, words[1], &files, NULL, (char *[]){ words[1], words[2], "/dev/fd/3", NULL }, environ) == 0, words[1]);
+        /* of the child alone: what this process does for some hundred thousand streams takes longer */
+        check(prlimit(child, RLIMIT_CPU, &(struct rlimit){ 20, 20 }, NULL) == 0, "limit");
         check(waitpid(child, &status, 0) == child, "wait");
         uint32_t head[3] = { WIFEXITED(status) ? WEXITSTATUS(status) : 256 + WTERMSIG(status), taken(printed, out, sizeof out),
                              taken(told, error, sizeof error) };
