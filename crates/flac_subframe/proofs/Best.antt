@@ -1,11 +1,14 @@
 -- One predictor more.
-use Rattle.std.proofs.Common.{◌≡◌, ◌∙◌, inl, inr, sym, ℕ, ◌+◌, ◌*◌, ◌≤◌, arith, ℤ, List, [], ◌∷◌, ◌++◌, take}
+use Rattle.std.proofs.Common.{◌≡◌, ◌∙◌, inl, inr, sym, ap, ℕ, ◌+◌, ◌*◌, ◌≤◌, ◌<◌, arith, ℤ, List, [], ◌∷◌, ◌++◌, length, map, take, get_or, append_assoc}
+use Rattle.std.proofs.lemmas.List.{take_more, map-append}
 use Rattle.std.proofs.lemmas.List.FromFn.{map-range_with_len_more}
 use Rattle.flac_subframe.specs.declared.halving.ResidualChoice.{ResidualChoice}
 use Rattle.flac_subframe.specs.Cost.{codings_of}
 use Rattle.flac_subframe.specs.Cost.{Codings, MayWrite}
 use Rattle.flac_subframe.specs.Cost.{residual_cost}
 use Rattle.flac_subframe.specs.declared.choice.PricedChoice.{PricedChoice}
+use Rattle.flac_subframe.specs.declared.linear.LinearPredictor.{LinearPredictor}
+use Rattle.flac_subframe.specs.Handed.{predictor_of}
 use Rattle.flac_subframe.specs.Bodies.{fields_cost, Chooses, fixed, coefficients_of, shift_of, order_of, differences, Among, Body, constant, verbatim, predicted, StandsFor}
 use Rattle.flac_subframe.specs.Chosen.{IsBest, IsLeastOf, HasNone, body_of, body_by, fixed_below}
 use Rattle.flac_subframe.proofs.Bodies.{among_more, among_split, least_kept, least_taken, body_stands, body_costs, body_least, none_stands, residual_is, length-predicted, method_bits}
@@ -83,3 +86,13 @@ module _ (most d : ℕ) (s : List ℤ) (best : PricedChoice) where
 
   pub all_tried : (first : ℕ) → Among (fixed first) (fixed_below 5) → IsBest most d s (fixed first ∷ fixed_below 5) best → IsBest most d s (fixed_below 5) best
   all_tried first one so = same_best most d s (fixed first ∷ fixed_below 5) (fixed_below 5) best (λ p h. elim h [ inl e ↦ rw e one | inr b ↦ b ]) (λ p h. inr h) so
+
+-- ---- a linear predictor more
+
+pub one_linear_more : (tried : List Chooses) (ps : List LinearPredictor) (i : ℕ) (p : LinearPredictor) → i < length ps → p ≡ get_or ps i p →
+    tried ++ map predictor_of (take (i + 1) ps) ≡ (tried ++ map predictor_of (take i ps)) ++ predictor_of p ∷ []
+one_linear_more tried ps i p within is =
+    ap (λ (l : List LinearPredictor). tried ++ map predictor_of l) (take_more ps i p within)
+    ∙ ap (λ (q : LinearPredictor). tried ++ map predictor_of (take i ps ++ q ∷ [])) (sym is)
+    ∙ ap (λ (l : List Chooses). tried ++ l) (map-append predictor_of (take i ps) (p ∷ []))
+    ∙ sym (append_assoc tried (map predictor_of (take i ps)) (predictor_of p ∷ []))

@@ -1,5 +1,5 @@
 -- What a choice of the code stands for.
-use Rattle.std.specs.Prelude.{ℕ, ℤ, List, take, length, map, ◌≡◌, ◌<◌, ◌≤◌, ◌^◌, ◌⊎◌, All}
+use Rattle.std.specs.Prelude.{ℕ, ℤ, List, ◌++◌, take, length, map, ◌≡◌, ◌<◌, ◌≤◌, ◌^◌, ◌⊎◌, All}
 use Rattle.std.specs.List.{range_with_len}
 use Rattle.flac_subframe.specs.declared.halving.ResidualChoice.{ResidualChoice}
 use Rattle.flac_subframe.specs.Least.{IsLeast}
@@ -9,16 +9,22 @@ use Rattle.flac_subframe.specs.Cost.{residual_cost}
 use Rattle.flac_subframe.specs.Cost.{codings_of}
 use Rattle.flac_subframe.specs.declared.choice.PricedChoice.{PricedChoice}
 use Rattle.flac_subframe.specs.declared.choice.Kind.{Kind}
-use Rattle.flac_subframe.specs.declared.choice.Kind.TheVariants.{Constant, Verbatim, Fixed}
+use Rattle.flac_subframe.specs.declared.choice.Kind.TheVariants.{Constant, Verbatim, Fixed, Linear}
 use Rattle.flac_subframe.specs.declared.choice.HeldKind.{HeldKind}
-use Rattle.flac_subframe.specs.declared.choice.HeldKind.TheVariants.{AsConstant, AsVerbatim, AsFixed}
+use Rattle.flac_subframe.specs.declared.choice.HeldKind.TheVariants.{AsConstant, AsVerbatim, AsFixed, AsLinear}
 use Rattle.flac_subframe.specs.declared.choice.Held.{Held}
+use Rattle.flac_subframe.specs.declared.linear.LinearPredictor.{LinearPredictor}
+use Rattle.flac_subframe.specs.Handed.{predictor_of}
 use Rattle.flac_subframe.specs.Numbers.{sample_at}
 use Rattle.flac_subframe.specs.Bodies.{Chooses, fixed, coefficients_of, shift_of, Body, constant, verbatim, predicted, differences, StandsFor, spelled}
 
 -- the fixed predictors of the orders below n
 abbrev pub fixed_below : ℕ → List Chooses
 fixed_below n = map fixed (range_with_len 0 n)
+
+-- the fixed predictors of the orders 0 to 4, and behind them linear ones that are handed in
+abbrev pub offered : List LinearPredictor → List Chooses
+offered ps = fixed_below 5 ++ map predictor_of ps
 
 -- the body of a predictor
 abbrev pub body_by : Chooses → ResidualChoice → List ℤ → Body
@@ -28,12 +34,14 @@ abbrev pub body_of : Kind → List ℤ → Body
 body_of Constant s = constant (sample_at s 0)
 body_of Verbatim s = verbatim s
 body_of (Fixed order residual) s = body_by (fixed order) residual s
+body_of (Linear predictor residual) s = body_by (predictor_of predictor) residual s
 
 -- the choice that is held
 abbrev pub kind_by : HeldKind → ResidualChoice → Kind
 kind_by AsConstant r = Constant
 kind_by AsVerbatim r = Verbatim
 kind_by (AsFixed order) r = Fixed order r
+kind_by (AsLinear predictor) r = Linear predictor r
 
 abbrev pub priced_as : Held → PricedChoice
 priced_as h = record { kind = kind_by h.kind h.residual; bits = h.bits }

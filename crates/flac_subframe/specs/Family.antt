@@ -1,10 +1,11 @@
 -- The forms of a subframe for some samples, and the form that a choice stands for.
-use Rattle.std.specs.Prelude.{ℕ, ℤ, ◌≡◌, ◌≤◌, ◌+◌, List, map}
+use Rattle.std.specs.Prelude.{ℕ, ℤ, ◌≡◌, ◌≤◌, ◌+◌, List, length, map}
 use Rattle.flac_subframe.specs.declared.chosen.Choice.{Choice}
 use Rattle.flac_subframe.specs.Bodies.{Chooses, Body, content_of, StandsFor}
 use Rattle.flac_subframe.specs.declared.choice.Kind.{Kind}
-use Rattle.flac_subframe.specs.declared.choice.Kind.TheVariants.{Constant, Verbatim, Fixed}
-use Rattle.flac_subframe.specs.Chosen.{body_of, fixed_below}
+use Rattle.flac_subframe.specs.declared.choice.Kind.TheVariants.{Constant, Verbatim, Fixed, Linear}
+use Rattle.flac_subframe.specs.declared.linear.LinearPredictor.{LinearPredictor}
+use Rattle.flac_subframe.specs.Chosen.{body_of, offered}
 use Rattle.flac_subframe.specs.Subframe.{Form}
 use Rattle.flac_subframe.specs.Wasted.{IsWasted, times_power, shortened}
 
@@ -17,20 +18,22 @@ pub record Stands (most : ℕ) (predictors : List Chooses) (f : Form) (s : List 
 abbrev pub form_of : Choice → List ℤ → Form
 form_of c s = record { wasted = c.wasted; content = content_of (body_of c.kind (shortened c.wasted s)) }
 
--- the choice was made of these samples
+-- the choice was made of these samples, by a fixed predictor or by one of some linear ones if it has one
 pub record IsMadeOf (c : Choice) (s : List ℤ) : Type 0 where
   pub wasted : IsWasted c.wasted s
   pub times : s ≡ map (times_power c.wasted) (shortened c.wasted s)
-  pub stands : StandsFor 8 (fixed_below 5) (body_of c.kind (shortened c.wasted s)) (shortened c.wasted s)
+  pub stands : (ps : List LinearPredictor) × StandsFor 8 (offered ps) (body_of c.kind (shortened c.wasted s)) (shortened c.wasted s)
 
 -- the order of a fixed predictor
 abbrev pub OrderIsFew : Kind → Type 0
 OrderIsFew Constant = Unit {0}
 OrderIsFew Verbatim = Unit {0}
 OrderIsFew (Fixed order residual) = order ≤ 4
+OrderIsFew (Linear predictor residual) = Unit {0}
 
 -- the type of a subframe (RFC 9639, section 9.2.1)
 abbrev pub kind_number : Kind → ℕ
 kind_number Constant = 0
 kind_number Verbatim = 1
 kind_number (Fixed order residual) = 8 + order
+kind_number (Linear predictor residual) = 31 + length predictor.coefficients.items

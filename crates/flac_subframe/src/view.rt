@@ -6,6 +6,16 @@ ghost use Rattle.flac_bits.specs.Rice.{IsResidual};
 ghost use Rattle.flac_subframe.specs.Spelling.{folded};
 ghost use Rattle.flac_subframe.specs.Halves.{Halves};
 
+use crate::linear::LinearPredictor;
+
+/// What the search covers: partition orders up to the greatest, and linear predictors beside the fixed ones.
+#[derive(Drop)]
+pub(crate) struct Scope<'a> {
+    pub(crate) most: u8,
+    pub(crate) predictors: &'a [LinearPredictor],
+    ghost halved: { most ≤ 8 },
+}
+
 /// A residual whose codings are searched: its values, the same as unsigned numbers, the order of its predictor, and how often its block
 /// can be halved.
 #[derive(Drop)]

@@ -1,21 +1,24 @@
 //! Subframes, written.
 
-ghost use Rattle.std.specs.Prelude.{◌≡◌, ◌≤◌, ◌<◌, ◌+◌, ◌*◌, ◌-◌, ◌^◌, ◌⊎◌, length, All, flat_map, take};
+ghost use Rattle.std.specs.Prelude.{◌≡◌, ◌≤◌, ◌<◌, ◌+◌, ◌*◌, ◌-◌, ◌^◌, ◌⊎◌, ◌++◌, List, length, All, flat_map, take};
 ghost use Rattle.flac_bits.specs.Rice.{IsResidual};
 ghost use Rattle.flac_bits.specs.Signed.{signed, FitsBits};
 ghost use Rattle.flac_bits.specs.Written.{Writes};
-ghost use Rattle.flac_subframe.specs.Bodies.{cut, residual_of, content_of, Predicts, fixed, order_of, coefficients_of, differences, StandsFor};
-ghost use Rattle.flac_subframe.specs.Chosen.{body_by, body_of, fixed_below};
+ghost use Rattle.flac_subframe.specs.Bodies.{cut, residual_of, content_of, Predicts, fixed, order_of, coefficients_of, shift_of, differences, StandsFor};
+ghost use Rattle.flac_subframe.specs.Chosen.{body_by, body_of, offered};
 ghost use Rattle.flac_subframe.specs.Family.{form_of, IsMadeOf, OrderIsFew, kind_number};
+ghost use Rattle.flac_subframe.specs.Handed.{predictor_of, handed};
+ghost use Rattle.flac_subframe.specs.declared.linear.LinearPredictor.{LinearPredictor};
 ghost use Rattle.flac_subframe.specs.Cost.{MayCode, MayCodeEach, MayWrite, codings_of};
-ghost use Rattle.flac_subframe.specs.Spelling.{value_spelling, coding_spelling, partition_spelling, residual_spelling, content_spelling, header_spelling, subframe_spelling};
+ghost use Rattle.flac_subframe.specs.Spelling.{value_spelling, coding_spelling, partition_spelling, residual_spelling, predictor_spelling, content_spelling, header_spelling, subframe_spelling};
 
 use crate::choice::Kind;
 use crate::chosen::{Choice, MOST_SAMPLES};
 use crate::coding::Coding;
 use crate::folding::fold;
 use crate::halving::{ResidualChoice, power};
-use crate::leaving::take_fixed;
+use crate::leaving::{take_fixed, take_linear};
+use crate::linear::LinearPredictor;
 use crate::predictors::fixed_coefficients;
 use crate::wasted::drop_wasted;
 use flac_bits::{BitWriter, Target, Why};
@@ -161,6 +164,75 @@ fn write_fixed<W: Target>(
     write_residual(writer, residual, count, places)
 }
 
+/// Writes coefficients of n bits each.
+fn write_coefficients<W: Target>(
+    writer: &mut BitWriter<W>,
+    n: u32,
+    coefficients: &[i32],
+) -> Result<(), Why>
+    requires some { 1 ≤ n }
+    requires few { n ≤ 15 }
+    requires range { All (FitsBits 15) coefficients.now }
+    ensures { Writes (flat_map (signed n) coefficients.now) writer.old writer.new result }
+{
+    for coefficient in coefficients {
+        writer.put_signed(n, i64::from(*coefficient))?;
+    }
+    Ok(())
+}
+
+/// Writes the precision less one, the shift and the coefficients of a linear predictor.
+fn write_predictor<W: Target>(
+    writer: &mut BitWriter<W>,
+    predictor: &LinearPredictor,
+) -> Result<(), Why>
+    ensures { Writes (predictor_spelling (handed predictor.now)) writer.old writer.new result }
+{
+    let precision = predictor.precision();
+    let field = (precision as u64 - 1) * 32 + predictor.shift() as u64;
+    writer.put(9, field)?;
+    write_coefficients(writer, precision, predictor.coefficients())
+}
+
+/// Writes a linear predictor and the residual that it left.
+fn write_rest<W: Target>(
+    writer: &mut BitWriter<W>,
+    predictor: &LinearPredictor,
+    residual: &ResidualChoice,
+    values: &[i64],
+) -> Result<(), Why>
+    requires few { length values.now + length predictor.now.coefficients.items ≤ 65535 }
+    requires may { MayWrite 8 (length predictor.now.coefficients.items) values.now (codings_of residual.now) }
+    requires range { All IsResidual values.now }
+    ensures { Writes (predictor_spelling (handed predictor.now) ++ residual_spelling (residual_of (length predictor.now.coefficients.items) values.now (codings_of residual.now))) writer.old writer.new result }
+{
+    write_predictor(writer, predictor)?;
+    write_residual(writer, residual, predictor.order(), values)
+}
+
+/// Writes the content of a linear predictor; the places are overwritten.
+fn write_linear<W: Target>(
+    writer: &mut BitWriter<W>,
+    predictor: &LinearPredictor,
+    residual: &ResidualChoice,
+    depth: u32,
+    samples: &[i64],
+    values: &mut [i64],
+) -> Result<(), Why>
+    requires few { length samples.now ≤ 65535 }
+    requires depth { (1 ≤ depth) × (depth ≤ 33) }
+    requires fits { All (FitsBits 33) samples.now }
+    requires places { length samples.now ≤ length values.old }
+    requires predicts { let p = predictor_of predictor.now in Predicts 8 p (take (order_of p) samples.now) (codings_of residual.now) (differences (coefficients_of p) (shift_of p) samples.now) samples.now }
+    ensures { Writes (content_spelling depth (content_of (body_by (predictor_of predictor.now) residual.now samples.now))) writer.old writer.new result }
+{
+    let order = predictor.order();
+    let places = &mut values[..samples.len() - order];
+    take_linear(predictor.coefficients(), predictor.shift(), samples, places);
+    write_signed(writer, depth, &samples[..order])?;
+    write_rest(writer, predictor, residual, places)
+}
+
 /// Writes the content of a subframe; the places are overwritten.
 fn write_content<W: Target>(
     writer: &mut BitWriter<W>,
@@ -174,7 +246,7 @@ fn write_content<W: Target>(
     requires depth { (1 ≤ depth) × (depth ≤ 33) }
     requires fits { All (FitsBits 33) samples.now }
     requires places { length samples.now ≤ length values.old }
-    requires stands { StandsFor 8 (fixed_below 5) (body_of kind.now samples.now) samples.now }
+    requires stands { (ps : List LinearPredictor) × StandsFor 8 (offered ps) (body_of kind.now samples.now) samples.now }
     ensures { Writes (content_spelling depth (content_of (body_of kind.now samples.now))) writer.old writer.new result }
 {
     match kind {
@@ -183,6 +255,10 @@ fn write_content<W: Target>(
         Kind::Fixed { order, residual } => {
             write_fixed(writer, *order, residual, depth, samples, values)
         }
+        Kind::Linear {
+            predictor,
+            residual,
+        } => write_linear(writer, predictor, residual, depth, samples, values),
     }
 }
 
@@ -208,6 +284,10 @@ fn type_of_kind(kind: &Kind) -> u64
         Kind::Constant => 0,
         Kind::Verbatim => 1,
         Kind::Fixed { order, residual: _ } => 8 + *order as u64,
+        Kind::Linear {
+            predictor,
+            residual: _,
+        } => 31 + predictor.order() as u64,
     }
 }
 

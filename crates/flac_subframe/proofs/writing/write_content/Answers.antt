@@ -1,6 +1,7 @@
 use Rattle.std.proofs.Common.{pos}
 use Rattle.flac_subframe.specs.Numbers.{sample_at}
 use Rattle.flac_subframe.proofs.Bounds.{back_33}
+use Rattle.flac_subframe.proofs.Made.{among_few}
 use Rattle.flac_subframe.proofs.WriteSteps.{constant_text, verbatim_text}
 use Rattle.flac_subframe.proofs.writing.write_content.Goals as goal
 
@@ -13,3 +14,12 @@ returns-in-Constant g c =
 
 pub returns-in-Verbatim : goal.returns-in-Verbatim
 returns-in-Verbatim g c = rw (c.in-Verbatim.is, verbatim_text c.args.depth c.args.samples.now) c.write_signed.ensures
+
+pub write_fixed-requires-clause-order : goal.write_fixed-requires-clause-order
+write_fixed-requires-clause-order g c = let stands = rw c.in-Fixed.is at c.requires.stands.1 in among_few _ c.requires.stands.0 stands.0
+
+pub write_fixed-requires-clause-predicts : goal.write_fixed-requires-clause-predicts
+write_fixed-requires-clause-predicts g c = let stands = rw c.in-Fixed.is at c.requires.stands.1 in stands.1
+
+pub write_linear-requires-clause-predicts : goal.write_linear-requires-clause-predicts
+write_linear-requires-clause-predicts g c = let stands = rw c.in-Linear.is at c.requires.stands.1 in stands.1
