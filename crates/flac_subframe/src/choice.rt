@@ -8,7 +8,8 @@ ghost use Rattle.flac_subframe.specs.Least.{IsLeast};
 ghost use Rattle.flac_bits.specs.Rice.{IsResidual};
 ghost use Rattle.flac_subframe.specs.Bodies.{Chooses, fixed, differences, StandsFor, spelled};
 ghost use Rattle.flac_subframe.specs.Chosen.{body_of, IsBest, fixed_below, offered, priced_as};
-ghost use Rattle.flac_subframe.specs.Handed.{predictor_of};
+ghost use Rattle.flac_subframe.specs.Handed.{predictor_of, handed_at};
+ghost use Rattle.flac_subframe.specs.declared.linear.LinearPredictor.{LinearPredictor};
 
 use crate::chosen::MOST_SAMPLES;
 use crate::folding::fold_each;
@@ -20,7 +21,7 @@ use crate::survey::{Tables, greatest_halvings, least_residual_into};
 use crate::view::{ResidualView, SampleView, Scope};
 use arrayvec::ArrayVec;
 
-/// How the samples of a subframe are written.
+/// How the samples of a subframe are written. A linear predictor is named by its place in the list that was handed in.
 #[derive(Drop, Clone, Debug, PartialEq, Eq)]
 pub enum Kind {
     Constant,
@@ -30,7 +31,7 @@ pub enum Kind {
         residual: ResidualChoice,
     },
     Linear {
-        predictor: LinearPredictor,
+        index: usize,
         residual: ResidualChoice,
     },
 }
@@ -41,7 +42,7 @@ pub enum HeldKind {
     AsConstant,
     AsVerbatim,
     AsFixed(usize),
-    AsLinear(LinearPredictor),
+    AsLinear(usize),
 }
 
 /// The best so far. Its residual stays in place and is overwritten only by a better one.
@@ -166,7 +167,7 @@ fn better_fixed(
     requires places { length subject.now.samples.now ≤ length values.old }
     requires folds { length subject.now.samples.now ≤ length folds.old }
     requires small { best.old.bits ≤ 2 ^ 60 }
-    ensures { (tried : List Chooses) → IsBest subject.now.most subject.now.bits subject.now.samples.now tried (priced_as best.old) → IsBest subject.now.most subject.now.bits subject.now.samples.now (tried ++ fixed order ∷ []) (priced_as best.new) }
+    ensures { (tried : List Chooses) → IsBest subject.now.predictors.now subject.now.most subject.now.bits subject.now.samples.now tried (priced_as best.old) → IsBest subject.now.predictors.now subject.now.most subject.now.bits subject.now.samples.now (tried ++ fixed order ∷ []) (priced_as best.new) }
 {
     let samples = subject.samples;
     if order >= samples.len() {
@@ -221,24 +222,27 @@ fn take_handed(
     true
 }
 
-/// Replaces the best so far by a linear predictor, if that takes fewer bits.
+/// Replaces the best so far by the linear predictor at a place of the list, if that takes fewer bits.
 fn better_linear(
     subject: &SampleView<'_>,
-    predictor: &LinearPredictor,
+    index: usize,
     wide: &mut [i64],
     values: &mut [i32],
     folds: &mut [u32],
     tables: &mut Tables,
     best: &mut Held,
 )
+    requires index { index < length subject.now.predictors.now }
     requires wide { length subject.now.samples.now ≤ length wide.old }
     requires places { length subject.now.samples.now ≤ length values.old }
     requires folds { length subject.now.samples.now ≤ length folds.old }
     requires small { best.old.bits ≤ 2 ^ 60 }
-    ensures best { (tried : List Chooses) → IsBest subject.now.most subject.now.bits subject.now.samples.now tried (priced_as best.old) → IsBest subject.now.most subject.now.bits subject.now.samples.now (tried ++ predictor_of predictor.now ∷ []) (priced_as best.new) }
+    ensures best { (tried : List Chooses) → IsBest subject.now.predictors.now subject.now.most subject.now.bits subject.now.samples.now tried (priced_as best.old) → IsBest subject.now.predictors.now subject.now.most subject.now.bits subject.now.samples.now (tried ++ handed_at subject.now.predictors.now index ∷ []) (priced_as best.new) }
     ensures less { best.new.bits ≤ best.old.bits }
 {
     let samples = subject.samples;
+    let predictors = subject.predictors;
+    let predictor = &predictors[index];
     let order = predictor.order();
     if order >= samples.len() {
         return;
@@ -260,15 +264,14 @@ fn better_linear(
         halvings,
     };
     if least_residual_into(&residual, tables, best.bits - before, &mut best.residual) {
-        best.kind = HeldKind::AsLinear(predictor.copy());
+        best.kind = HeldKind::AsLinear(index);
         best.bits = before + best.residual.bits;
     }
 }
 
-/// Tries linear predictors one after another.
+/// Tries the linear predictors of the list one after another.
 fn better_of_each(
     subject: &SampleView<'_>,
-    predictors: &[LinearPredictor],
     wide: &mut [i64],
     values: &mut [i32],
     folds: &mut [u32],
@@ -279,10 +282,10 @@ fn better_of_each(
     requires places { length subject.now.samples.now ≤ length values.old }
     requires folds { length subject.now.samples.now ≤ length folds.old }
     requires small { best.old.bits ≤ 2 ^ 60 }
-    ensures { (tried : List Chooses) → IsBest subject.now.most subject.now.bits subject.now.samples.now tried (priced_as best.old) → IsBest subject.now.most subject.now.bits subject.now.samples.now (tried ++ map predictor_of predictors.now) (priced_as best.new) }
+    ensures { (tried : List Chooses) → IsBest subject.now.predictors.now subject.now.most subject.now.bits subject.now.samples.now tried (priced_as best.old) → IsBest subject.now.predictors.now subject.now.most subject.now.bits subject.now.samples.now (tried ++ map predictor_of subject.now.predictors.now) (priced_as best.new) }
 {
-    for predictor in predictors {
-        better_linear(subject, predictor, wide, values, folds, tables, best);
+    for index in 0..subject.predictors.len() {
+        better_linear(subject, index, wide, values, folds, tables, best);
     }
 }
 
@@ -291,7 +294,7 @@ fn begin(samples: &[i64], bits: u32) -> Held
     requires some { 0 < length samples.now }
     requires few { length samples.now ≤ 65535 }
     requires bits { bits ≤ 33 }
-    ensures { (most : ℕ) → IsBest most bits samples.now (fixed_below 0) (priced_as result) }
+    ensures { (handed : List LinearPredictor) (most : ℕ) → IsBest handed most bits samples.now (fixed_below 0) (priced_as result) }
 {
     let residual = ResidualChoice {
         parameter_bits: 4,
@@ -331,11 +334,8 @@ fn release(held: Held) -> PricedChoice
             kind: Kind::Fixed { order, residual },
             bits,
         },
-        HeldKind::AsLinear(predictor) => PricedChoice {
-            kind: Kind::Linear {
-                predictor,
-                residual,
-            },
+        HeldKind::AsLinear(index) => PricedChoice {
+            kind: Kind::Linear { index, residual },
             bits,
         },
     }
@@ -367,7 +367,7 @@ fn choose_among(
     requires wide { length samples.now ≤ length wide.old }
     requires places { length samples.now ≤ length values.old }
     requires folds { length samples.now ≤ length folds.old }
-    ensures { IsBest scope.now.most bits samples.now (offered scope.now.predictors.now) result }
+    ensures { IsBest scope.now.predictors.now scope.now.most bits samples.now (offered scope.now.predictors.now) result }
 {
     let mut tables = Tables {
         sums: [0; 256],
@@ -384,6 +384,7 @@ fn choose_among(
         narrowed,
         bits,
         most: scope.most,
+        predictors: scope.predictors,
         narrow,
     };
     better_fixed(&subject, first, wide, values, folds, &mut tables, &mut best);
@@ -392,15 +393,7 @@ fn choose_among(
             better_fixed(&subject, order, wide, values, folds, &mut tables, &mut best);
         }
     }
-    better_of_each(
-        &subject,
-        scope.predictors,
-        wide,
-        values,
-        folds,
-        &mut tables,
-        &mut best,
-    );
+    better_of_each(&subject, wide, values, folds, &mut tables, &mut best);
     release(best)
 }
 
@@ -422,7 +415,7 @@ fn choose_of_few(
     requires fits { All (FitsBits 33) samples.now }
     requires wide { length samples.now ≤ length wide.old }
     requires folds { length samples.now ≤ length folds.old }
-    ensures { IsBest scope.now.most bits samples.now (offered scope.now.predictors.now) result }
+    ensures { IsBest scope.now.predictors.now scope.now.most bits samples.now (offered scope.now.predictors.now) result }
 {
     let mut narrowed = [0; FEW_SAMPLES];
     let mut values = [0; FEW_SAMPLES];
@@ -452,7 +445,7 @@ fn choose_of_many(
     requires fits { All (FitsBits 33) samples.now }
     requires wide { length samples.now ≤ length wide.old }
     requires folds { length samples.now ≤ length folds.old }
-    ensures { IsBest scope.now.most bits samples.now (offered scope.now.predictors.now) result }
+    ensures { IsBest scope.now.predictors.now scope.now.most bits samples.now (offered scope.now.predictors.now) result }
 {
     let mut narrowed = [0; MOST_SAMPLES];
     let mut values = [0; MOST_SAMPLES];
@@ -482,7 +475,7 @@ pub(crate) fn choose_body(
     requires fits { All (FitsBits 33) samples.now }
     requires places { length samples.now ≤ length values.old }
     requires folds { length samples.now ≤ length folds.old }
-    ensures { IsBest scope.now.most bits samples.now (offered scope.now.predictors.now) result }
+    ensures { IsBest scope.now.predictors.now scope.now.most bits samples.now (offered scope.now.predictors.now) result }
 {
     if samples.len() <= FEW_SAMPLES {
         choose_of_few(samples, bits, scope, values, folds)

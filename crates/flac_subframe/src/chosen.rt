@@ -4,7 +4,7 @@ ghost use Rattle.std.specs.Prelude.{◌≡◌, ◌<◌, ◌≤◌, ◌^◌, leng
 ghost use Rattle.flac_bits.specs.Signed.{FitsBits};
 ghost use Rattle.flac_subframe.specs.Least.{IsLeast};
 ghost use Rattle.flac_subframe.specs.Chosen.{fixed_below, offered};
-ghost use Rattle.flac_subframe.specs.Family.{Stands, IsMadeOf, form_of};
+ghost use Rattle.flac_subframe.specs.Family.{Stands, IsMadeOf, IsMadeWith, form_of, form_with};
 ghost use Rattle.flac_subframe.specs.Handed.{AreWithin};
 ghost use Rattle.flac_subframe.specs.Spelling.{subframe_spelling, IsSubframe};
 ghost use Rattle.flac_subframe.specs.Subframe.{samples_of};
@@ -18,6 +18,9 @@ use crate::view::Scope;
 use crate::wasted::drop_wasted;
 
 /// How a subframe is written: how many lowest bits are left out, how the rest is written, and how many bits it all takes.
+///
+/// A linear predictor is named by its place in the list that was handed in, so a choice takes no more memory where there are such lists.
+/// Two choices are equal if they are written in the same way with the same list.
 #[derive(Drop, Clone, Debug, PartialEq, Eq)]
 pub struct Choice {
     pub(crate) wasted: u32,
@@ -122,11 +125,11 @@ pub fn choose_with(
     requires fits { All (FitsBits depth) samples.now }
     requires partition { limits.now.partition ≤ 8 }
     requires orders { AreWithin limits.now.linear predictors.now }
-    ensures least { IsLeast (λ f. Stands limits.now.partition (offered predictors.now) f samples.now) (λ f. length (subframe_spelling depth f)) (form_of result samples.now) }
-    ensures bits { result.bits ≡ length (subframe_spelling depth (form_of result samples.now)) }
-    ensures made { IsMadeOf result samples.now }
-    ensures valid { (most : Limits) → limits.now.partition ≤ most.partition → limits.now.linear ≤ most.linear → IsSubframe depth (length samples.now) most (form_of result samples.now) }
-    ensures restored { samples_of depth (length samples.now) (form_of result samples.now) ≡ Some samples.now }
+    ensures least { IsLeast (λ f. Stands limits.now.partition (offered predictors.now) f samples.now) (λ f. length (subframe_spelling depth f)) (form_with predictors.now result samples.now) }
+    ensures bits { result.bits ≡ length (subframe_spelling depth (form_with predictors.now result samples.now)) }
+    ensures made { IsMadeWith predictors.now result samples.now }
+    ensures valid { (most : Limits) → limits.now.partition ≤ most.partition → limits.now.linear ≤ most.linear → IsSubframe depth (length samples.now) most (form_with predictors.now result samples.now) }
+    ensures restored { samples_of depth (length samples.now) (form_with predictors.now result samples.now) ≡ Some samples.now }
     ensures small { result.bits ≤ 2 ^ 61 }
 {
     let mut shortened = [0; MOST_SAMPLES];
@@ -168,11 +171,11 @@ pub fn choose_with_into(
     requires places { length samples.now ≤ length shortened.old }
     requires values { length samples.now ≤ length values.old }
     requires folds { length samples.now ≤ length folds.old }
-    ensures least { IsLeast (λ f. Stands limits.now.partition (offered predictors.now) f samples.now) (λ f. length (subframe_spelling depth f)) (form_of result samples.now) }
-    ensures bits { result.bits ≡ length (subframe_spelling depth (form_of result samples.now)) }
-    ensures made { IsMadeOf result samples.now }
-    ensures valid { (most : Limits) → limits.now.partition ≤ most.partition → limits.now.linear ≤ most.linear → IsSubframe depth (length samples.now) most (form_of result samples.now) }
-    ensures restored { samples_of depth (length samples.now) (form_of result samples.now) ≡ Some samples.now }
+    ensures least { IsLeast (λ f. Stands limits.now.partition (offered predictors.now) f samples.now) (λ f. length (subframe_spelling depth f)) (form_with predictors.now result samples.now) }
+    ensures bits { result.bits ≡ length (subframe_spelling depth (form_with predictors.now result samples.now)) }
+    ensures made { IsMadeWith predictors.now result samples.now }
+    ensures valid { (most : Limits) → limits.now.partition ≤ most.partition → limits.now.linear ≤ most.linear → IsSubframe depth (length samples.now) most (form_with predictors.now result samples.now) }
+    ensures restored { samples_of depth (length samples.now) (form_with predictors.now result samples.now) ≡ Some samples.now }
     ensures small { result.bits ≤ 2 ^ 61 }
 {
     let places = &mut shortened[..samples.len()];

@@ -34,4 +34,6 @@ pub use promises::{
     widened_family_is_plain,
 };
 pub use subframe::read_subframe;
-pub use writing::{write_subframe, write_subframe_into};
+pub use writing::{
+    write_subframe, write_subframe_into, write_subframe_with, write_subframe_with_into,
+};

@@ -33,14 +33,16 @@ pub(crate) struct ResidualView<'a> {
     ghost halves: { Halves order values.now halvings },
 }
 
-/// The samples of a subframe without its wasted bits: how many bits each has, the greatest partition order that is tried, and whether
-/// each has so few bits that what a fixed predictor leaves is in the range of a residual; if so, also the samples in 32 bits each.
+/// The samples of a subframe without its wasted bits: how many bits each has, the greatest partition order and the linear predictors
+/// that are tried, and whether each sample has so few bits that what a fixed predictor leaves is in the range of a residual; if so, also
+/// the samples in 32 bits each.
 #[derive(Drop)]
 pub(crate) struct SampleView<'a> {
     pub(crate) samples: &'a [i64],
     pub(crate) narrowed: &'a [i32],
     pub(crate) bits: u32,
     pub(crate) most: u8,
+    pub(crate) predictors: &'a [LinearPredictor],
     pub(crate) narrow: bool,
     ghost few: { length samples.now ≤ 65535 },
     ghost depth: { bits ≤ 33 },

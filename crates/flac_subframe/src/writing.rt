@@ -5,10 +5,9 @@ ghost use Rattle.flac_bits.specs.Rice.{IsResidual};
 ghost use Rattle.flac_bits.specs.Signed.{signed, FitsBits};
 ghost use Rattle.flac_bits.specs.Written.{Writes};
 ghost use Rattle.flac_subframe.specs.Bodies.{cut, residual_of, content_of, Predicts, fixed, order_of, coefficients_of, shift_of, differences, StandsFor};
-ghost use Rattle.flac_subframe.specs.Chosen.{body_by, body_of, offered};
-ghost use Rattle.flac_subframe.specs.Family.{form_of, IsMadeOf, OrderIsFew, kind_number};
+ghost use Rattle.flac_subframe.specs.Chosen.{body_by, body_of, IsHanded, offered};
+ghost use Rattle.flac_subframe.specs.Family.{form_of, form_with, IsMadeOf, IsMadeWith, OrderIsFew, kind_number};
 ghost use Rattle.flac_subframe.specs.Handed.{predictor_of, handed};
-ghost use Rattle.flac_subframe.specs.declared.linear.LinearPredictor.{LinearPredictor};
 ghost use Rattle.flac_subframe.specs.Cost.{MayCode, MayCodeEach, MayWrite, codings_of};
 ghost use Rattle.flac_subframe.specs.Spelling.{value_spelling, coding_spelling, partition_spelling, residual_spelling, predictor_spelling, content_spelling, header_spelling, subframe_spelling};
 
@@ -237,6 +236,7 @@ fn write_linear<W: Target>(
 fn write_content<W: Target>(
     writer: &mut BitWriter<W>,
     kind: &Kind,
+    predictors: &[LinearPredictor],
     depth: u32,
     samples: &[i64],
     values: &mut [i64],
@@ -246,8 +246,9 @@ fn write_content<W: Target>(
     requires depth { (1 ≤ depth) × (depth ≤ 33) }
     requires fits { All (FitsBits 33) samples.now }
     requires places { length samples.now ≤ length values.old }
-    requires stands { (ps : List LinearPredictor) × StandsFor 8 (offered ps) (body_of kind.now samples.now) samples.now }
-    ensures { Writes (content_spelling depth (content_of (body_of kind.now samples.now))) writer.old writer.new result }
+    requires handed { IsHanded predictors.now kind.now }
+    requires stands { StandsFor 8 (offered predictors.now) (body_of predictors.now kind.now samples.now) samples.now }
+    ensures { Writes (content_spelling depth (content_of (body_of predictors.now kind.now samples.now))) writer.old writer.new result }
 {
     match kind {
         Kind::Constant => writer.put_signed(depth, samples[0]),
@@ -255,10 +256,10 @@ fn write_content<W: Target>(
         Kind::Fixed { order, residual } => {
             write_fixed(writer, *order, residual, depth, samples, values)
         }
-        Kind::Linear {
-            predictor,
-            residual,
-        } => write_linear(writer, predictor, residual, depth, samples, values),
+        Kind::Linear { index, residual } => {
+            let predictor = &predictors[*index];
+            write_linear(writer, predictor, residual, depth, samples, values)
+        }
     }
 }
 
@@ -276,18 +277,19 @@ fn write_header<W: Target>(writer: &mut BitWriter<W>, kind: u64, wasted: u32) ->
 }
 
 /// The type of a subframe (RFC 9639, section 9.2.1).
-fn type_of_kind(kind: &Kind) -> u64
-    requires { OrderIsFew kind.now }
-    ensures { result ≡ kind_number kind.now }
+fn type_of_kind(kind: &Kind, predictors: &[LinearPredictor]) -> u64
+    requires order { OrderIsFew kind.now }
+    requires handed { IsHanded predictors.now kind.now }
+    ensures { result ≡ kind_number predictors.now kind.now }
 {
     match kind {
         Kind::Constant => 0,
         Kind::Verbatim => 1,
         Kind::Fixed { order, residual: _ } => 8 + *order as u64,
-        Kind::Linear {
-            predictor,
-            residual: _,
-        } => 31 + predictor.order() as u64,
+        Kind::Linear { index, residual: _ } => {
+            let predictor = &predictors[*index];
+            31 + predictor.order() as u64
+        }
     }
 }
 
@@ -333,8 +335,71 @@ pub fn write_subframe_into<W: Target>(
     requires made { IsMadeOf choice.now samples.now }
     ensures { Writes (subframe_spelling depth (form_of choice.now samples.now)) writer.old writer.new result }
 {
+    write_subframe_with_into(choice, &[], samples, depth, shortened, values, writer)
+}
+
+/// Writes the subframe that was chosen for samples of a depth with linear predictors beside the fixed ones (RFC 9639, section 9.2).
+///
+/// The choice is one that was made of these samples at this depth with just these predictors. The work is done in arrays of 1 MB on the
+/// stack; for many blocks [`write_subframe_with_into`] takes arrays that are used again. Errors: `Write`.
+pub fn write_subframe_with<W: Target>(
+    choice: &Choice,
+    predictors: &[LinearPredictor],
+    samples: &[i64],
+    depth: u32,
+    bits: &mut BitWriter<W>,
+) -> Result<(), Why>
+    requires some { 0 < length samples.now }
+    requires few { length samples.now ≤ 65535 }
+    requires depth { (1 ≤ depth) × (depth ≤ 33) }
+    requires fits { All (FitsBits depth) samples.now }
+    requires made { IsMadeWith predictors.now choice.now samples.now }
+    ensures { Writes (subframe_spelling depth (form_with predictors.now choice.now samples.now)) bits.old bits.new result }
+{
+    let mut places = [0; MOST_SAMPLES];
+    let mut values = [0; MOST_SAMPLES];
+    write_subframe_with_into(
+        choice,
+        predictors,
+        samples,
+        depth,
+        &mut places,
+        &mut values,
+        bits,
+    )
+}
+
+/// Writes the subframe that was chosen for samples of a depth with linear predictors beside the fixed ones, with places for the samples
+/// and for the residual, which are overwritten.
+///
+/// The choice is one that was made of these samples at this depth with just these predictors. Errors: `Write`.
+pub fn write_subframe_with_into<W: Target>(
+    choice: &Choice,
+    predictors: &[LinearPredictor],
+    samples: &[i64],
+    depth: u32,
+    shortened: &mut [i64],
+    values: &mut [i64],
+    writer: &mut BitWriter<W>,
+) -> Result<(), Why>
+    requires some { 0 < length samples.now }
+    requires few { length samples.now ≤ 65535 }
+    requires depth { (1 ≤ depth) × (depth ≤ 33) }
+    requires fits { All (FitsBits depth) samples.now }
+    requires places { length samples.now ≤ length shortened.old }
+    requires values { length samples.now ≤ length values.old }
+    requires made { IsMadeWith predictors.now choice.now samples.now }
+    ensures { Writes (subframe_spelling depth (form_with predictors.now choice.now samples.now)) writer.old writer.new result }
+{
     let places = &mut shortened[..samples.len()];
     let wasted = drop_wasted(samples, depth, places);
-    write_header(writer, type_of_kind(&choice.kind), wasted)?;
-    write_content(writer, &choice.kind, depth - wasted, places, values)
+    write_header(writer, type_of_kind(&choice.kind, predictors), wasted)?;
+    write_content(
+        writer,
+        &choice.kind,
+        predictors,
+        depth - wasted,
+        places,
+        values,
+    )
 }

@@ -4,7 +4,7 @@ use crate::subframes::all_fit;
 use flac_bits::{BitWriter, Collected, Why};
 use flac_subframe::{
     Choice, Limits, LinearPredictor, choose, choose_with, choose_with_into,
-    widened_family_is_plain, write_subframe,
+    widened_family_is_plain, write_subframe_with, write_subframe_with_into,
 };
 use std::alloc::Global;
 use std::process::Abort;
@@ -95,7 +95,52 @@ fn written(
     };
     let choice = choose_with(samples, depth, &limits, predictors);
     let mut writer = BitWriter::new(Collected::new(alloc));
-    write_subframe(&choice, samples, depth, &mut writer)?;
+    write_subframe_with(&choice, predictors, samples, depth, &mut writer)?;
+    writer.align()?;
+    writer.finish()?;
+    Ok(writer.into_target().into_bytes())
+}
+
+/// The same for 1 to 16 samples, in arrays of the caller's.
+fn written_into(
+    alloc: Global,
+    samples: &[i64],
+    depth: u32,
+    predictors: &[LinearPredictor],
+) -> Result<Vec<u8>, Why> {
+    let limits = Limits {
+        partition: 8,
+        linear: 32,
+    };
+    let len = samples.len();
+    if len == 0 || len > 16 || depth == 0 || depth > 33 {
+        return Err(Why::BlockSize);
+    }
+    if !all_fit(samples, depth) || !LinearPredictor::are_within(predictors, 32) {
+        return Err(Why::SampleRange);
+    }
+    let mut shortened = [0i64; 16];
+    let mut values = [0i64; 16];
+    let mut folds = [0u32; 16];
+    let choice = choose_with_into(
+        samples,
+        depth,
+        &limits,
+        predictors,
+        &mut shortened,
+        &mut values,
+        &mut folds,
+    );
+    let mut writer = BitWriter::new(Collected::new(alloc));
+    write_subframe_with_into(
+        &choice,
+        predictors,
+        samples,
+        depth,
+        &mut shortened,
+        &mut values,
+        &mut writer,
+    )?;
     writer.align()?;
     writer.finish()?;
     Ok(writer.into_target().into_bytes())
@@ -122,6 +167,7 @@ fn writes_by_a_predictor(rt: HostRuntime) -> Result<(), Fail> {
     assert!(rt; bits_of(&WAVE[..1], 16, &list) == 24);
     let bytes = written(rt.alloc(), &WAVE, 16, &list)?;
     assert!(rt; bytes.as_slice() == [0x40, 0x03, 0xE9, 0x00, 0x40, 0xF0, 0x00].as_slice());
+    assert!(rt; written_into(rt.alloc(), &WAVE, 16, &list)? == bytes);
     let bytes = written(rt.alloc(), &WAVE, 16, &[])?;
     assert!(rt; bytes.len() == 25 && bytes.as_slice()[0] == 0x10);
     Ok(())
@@ -159,24 +205,53 @@ fn keeps_the_range(rt: HostRuntime) {
     assert!(rt; bits_of(&samples, 32, &list) == 520);
 }
 
-/// Of equals the fixed forms come first, and of predictors the first of the list.
+/// The first byte is the subframe's type, after a zero and before the flag of wasted bits.
+fn first_byte(
+    alloc: Global,
+    samples: &[i64],
+    depth: u32,
+    predictors: &[LinearPredictor],
+) -> Result<u8, Why> {
+    let bytes = written(alloc, samples, depth, predictors)?;
+    Ok(bytes.as_slice().first().copied().unwrap_or(255))
+}
+
+/// Of equals the verbatim and the fixed forms come first. Of two samples in 21 bits the linear form takes 21 bits for the warm-up sample
+/// and 21 beside it, as many as the verbatim one does without its header. Of sixteen in 22 bits it takes 22 and 25, the fixed one 6, 9 for
+/// an escape, and 2 for each.
 #[test]
-fn takes_the_first_of_equals(rt: HostRuntime) {
+fn takes_the_plain_one_of_equals(rt: HostRuntime) -> Result<(), Fail> {
+    let alloc = rt.alloc();
+    let Some(predictor) = LinearPredictor::new(1, 0, &[-1]) else {
+        assert!(rt; false);
+        return Ok(());
+    };
+    let list = [predictor];
+    let two = [1000001, -1000001];
+    assert!(rt; bits_of(&two, 21, &list) == 50 && first_byte(alloc, &two, 21, &list)? == 0x02);
+    assert!(rt; bits_of(&two, 22, &list) == 51 && first_byte(alloc, &two, 22, &list)? == 0x40);
+    let ones = [1, -1, 1, -1, 1, -1, 1, -1, 1, -1, 1, -1, 1, -1, 1, -1];
+    assert!(rt; bits_of(&ones, 22, &list) == 55 && first_byte(alloc, &ones, 22, &list)? == 0x10);
+    assert!(rt; bits_of(&ones, 21, &list) == 54 && first_byte(alloc, &ones, 21, &list)? == 0x40);
+    Ok(())
+}
+
+/// Of predictors that take as many bits the first of the list comes first: a coefficient of -1, and one of -2 with a shift of 1.
+#[test]
+fn takes_the_first_of_equals(rt: HostRuntime) -> Result<(), Fail> {
+    let alloc = rt.alloc();
     let one = LinearPredictor::new(3, 0, &[-1]);
     let two = LinearPredictor::new(3, 1, &[-2]);
     let (Some(one), Some(two)) = (one, two) else {
-        return assert!(rt; false);
+        assert!(rt; false);
+        return Ok(());
     };
-    let first = [one];
-    let second = [two];
-    let choice = chosen(&WAVE, 16, &first);
-    let other = chosen(&WAVE, 16, &second);
-    assert!(rt; choice != other);
-    let [one] = first;
-    let [two] = second;
     let both = [one, two];
-    assert!(rt; chosen(&WAVE, 16, &both) == choice);
+    let bytes = written(alloc, &WAVE, 16, &both)?;
+    assert!(rt; bytes.as_slice() == [0x40, 0x03, 0xE9, 0x20, 0x70, 0x3C, 0x00].as_slice());
     let [one, two] = both;
-    assert!(rt; chosen(&WAVE, 16, &[two, one]) == other);
+    let bytes = written(alloc, &WAVE, 16, &[two, one])?;
+    assert!(rt; bytes.as_slice() == [0x40, 0x03, 0xE9, 0x20, 0xE0, 0x3C, 0x00].as_slice());
     assert!(rt; chosen(&[0; 8], 16, &[]) == Some(choose(&[0; 8], 16)));
+    Ok(())
 }

@@ -4,17 +4,17 @@ use Rattle.flac_subframe.specs.Handed.{predictor_of}
 use Rattle.flac_subframe.proofs.Best.{one_linear_more}
 use Rattle.flac_subframe.proofs.choice.better_of_each.Goals as goal
 
-pub loop-predictor-init : goal.loop-predictor-init
-loop-predictor-init c = record { best = λ tried so. rw (append-nil tried) so; small = c.requires.small; wide = refl; values = refl; folds = refl }
+pub loop-index-init : goal.loop-index-init
+loop-index-init c = record { best = λ tried so. rw (append-nil tried) so; small = c.requires.small; wide = refl; values = refl; folds = refl }
 
-pub loop-predictor-preserved : goal.loop-predictor-preserved
-loop-predictor-preserved c =
-    let i = c.loop-predictor.predictor-index in
-    let ps = c.args.predictors.now in
-    let so = c.loop-predictor.invariant in
+pub loop-index-preserved : goal.loop-index-preserved
+loop-index-preserved c =
+    let i = c.loop-index.index in
+    let ps = c.args.subject.now.predictors.now in
+    let so = c.loop-index.invariant in
     let new = c.better_linear in
     record {
-      best = λ tried was. rw (one_linear_more tried ps i c.predictor-item.result c.loop-predictor-test.true c.predictor-item.is) (new.ensures.best (tried ++ map predictor_of (take i ps)) (so.best tried was));
+      best = λ tried was. rw (one_linear_more tried ps i (omega (arith, c.loop-index-test.true))) (new.ensures.best (tried ++ map predictor_of (take i ps)) (so.best tried was));
       small = omega (arith, new.ensures.less, so.small);
       wide = new.auto.wide ∙ so.wide;
       values = new.auto.values ∙ so.values;
@@ -22,4 +22,4 @@ loop-predictor-preserved c =
     }
 
 pub returns : goal.returns
-returns c = λ tried so. rw (take_all c.loop-predictor.predictor-index c.args.predictors.now c.loop-predictor-test.false) at (c.loop-predictor.invariant.best tried so)
+returns c = λ tried so. rw (take_all c.loop-index.index c.args.subject.now.predictors.now (omega (arith, c.loop-index-test.false))) at (c.loop-index.invariant.best tried so)

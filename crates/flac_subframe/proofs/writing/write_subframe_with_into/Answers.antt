@@ -10,17 +10,18 @@ use Rattle.flac_subframe.proofs.WholeLeast.{wasted_once}
 use Rattle.flac_subframe.specs.Wasted.{shortened}
 use Rattle.flac_subframe.proofs.Made.{kind_is, kind_few, order_few}
 use Rattle.flac_subframe.proofs.WriteSteps.{subframe_text}
-use Rattle.flac_subframe.proofs.writing.write_subframe_into.Goals as goal
+use Rattle.flac_subframe.proofs.writing.write_subframe_with_into.Goals as goal
 
-pub type_of_kind-requires : goal.type_of_kind-requires
-type_of_kind-requires g c =
+pub type_of_kind-requires-clause-order : goal.type_of_kind-requires-clause-order
+type_of_kind-requires-clause-order g c =
     let choice = c.args.choice.now in
-    order_few choice.kind (shortened choice.wasted c.args.samples.now) c.requires.made.stands.0 c.requires.made.stands.1
+    order_few c.args.predictors.now choice.kind (shortened choice.wasted c.args.samples.now) c.requires.made.stands
 
 pub write_header-requires-clause-kind : goal.write_header-requires-clause-kind
 write_header-requires-clause-kind g c =
     let choice = c.args.choice.now in
-    rw c.type_of_kind.ensures (kind_few choice.kind (order_few choice.kind (shortened choice.wasted c.args.samples.now) c.requires.made.stands.0 c.requires.made.stands.1))
+    let hs = c.args.predictors.now in
+    rw c.type_of_kind.ensures (kind_few hs choice.kind (order_few hs choice.kind (shortened choice.wasted c.args.samples.now) c.requires.made.stands) c.requires.made.within)
 
 pub write_content-requires-clause-stands : goal.write_content-requires-clause-stands
 write_content-requires-clause-stands g c =
@@ -29,7 +30,7 @@ write_content-requires-clause-stands g c =
     let dropped = c.drop_wasted-wasted.ensures in
     let e : c.drop_wasted-wasted.result ≡ w = wasted_once _ w s dropped.wasted c.requires.made.wasted in
     let same = shortened_is w s c.drop_wasted-wasted.new.shortened (rw e at dropped.shortened) in
-    (c.requires.made.stands.0, rw same at c.requires.made.stands.1)
+    rw same at c.requires.made.stands
 
 pub returns-in_err-write_header : goal.returns-in_err-write_header
 returns-in_err-write_header g c =
@@ -39,10 +40,10 @@ returns-in_err-write_header g c =
     let dropped = c.drop_wasted-wasted.ensures in
     let e : c.drop_wasted-wasted.result ≡ w = wasted_once _ w s dropped.wasted c.requires.made.wasted in
     let same = shortened_is w s t (rw e at dropped.shortened) in
-    let stands = rw same at c.requires.made.stands.1 in
-    let content : Content = content_of (body_of c.args.choice.now.kind t) in
+    let stands = rw same at c.requires.made.stands in
+    let content : Content = content_of (body_of c.args.predictors.now c.args.choice.now.kind t) in
     let form : Form = record { wasted = w; content = content } in
-    let kind : c.type_of_kind.result ≡ type_of content = c.type_of_kind.ensures ∙ kind_is c.args.choice.now.kind t c.requires.made.stands.0 stands in
+    let kind : c.type_of_kind.result ≡ type_of content = c.type_of_kind.ensures ∙ kind_is c.args.predictors.now c.args.choice.now.kind t c.requires.made.within stands in
     let head = rw (kind, e) at c.in_err-write_header.ensures in
     let p = err_from_is_err_and c.from_residual.result c.from_residual.ensures.1 in
     rw (p.1, p.2, same, subframe_text c.args.depth form) (fails_first (header_spelling (type_of content) w) (content_spelling (c.args.depth - w) content) head)
@@ -55,10 +56,10 @@ returns g c =
     let dropped = c.drop_wasted-wasted.ensures in
     let e : c.drop_wasted-wasted.result ≡ w = wasted_once _ w s dropped.wasted c.requires.made.wasted in
     let same = shortened_is w s t (rw e at dropped.shortened) in
-    let stands = rw same at c.requires.made.stands.1 in
-    let content : Content = content_of (body_of c.args.choice.now.kind t) in
+    let stands = rw same at c.requires.made.stands in
+    let content : Content = content_of (body_of c.args.predictors.now c.args.choice.now.kind t) in
     let form : Form = record { wasted = w; content = content } in
-    let kind : c.type_of_kind.result ≡ type_of content = c.type_of_kind.ensures ∙ kind_is c.args.choice.now.kind t c.requires.made.stands.0 stands in
+    let kind : c.type_of_kind.result ≡ type_of content = c.type_of_kind.ensures ∙ kind_is c.args.predictors.now c.args.choice.now.kind t c.requires.made.within stands in
     let head = rw (kind, e) at c.in_ok-write_header.ensures in
     let rest = rw e at c.write_content.ensures in
     rw (same, subframe_text c.args.depth form) (writes_then (content_spelling (c.args.depth - w) content) c.write_content.new.writer c.write_content.result head rest)
