@@ -1,4 +1,4 @@
-use Rattle.std.proofs.Common.{arith, ◌≡◌, ◌∙◌, ◌++◌, map, take, refl}
+use Rattle.std.proofs.Common.{arith, ◌∙◌, ◌++◌, map, take, refl}
 use Rattle.std.proofs.lemmas.List.{take_all, append-nil}
 use Rattle.flac_subframe.specs.Handed.{predictor_of}
 use Rattle.flac_subframe.proofs.Best.{one_linear_more}

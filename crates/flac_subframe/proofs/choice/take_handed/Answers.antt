@@ -1,4 +1,4 @@
-use Rattle.std.proofs.Common.{◌≡◌, ◌∙◌, refl}
+use Rattle.std.proofs.Common.{◌∙◌, refl}
 use Rattle.flac_subframe.proofs.Folds.{folds_small}
 use Rattle.flac_subframe.proofs.choice.take_handed.Goals as goal
 

@@ -1,4 +1,4 @@
-use Rattle.std.proofs.Common.{arith, ◌≡◌, ℤ, List, ap, ◌++◌, ◌-◌, length, take, flat_map}
+use Rattle.std.proofs.Common.{arith, ℤ, List, ap, ◌++◌, ◌-◌, length, take, flat_map}
 use Rattle.std.proofs.lemmas.List.{length-take}
 use Rattle.std.proofs.lemmas.Result.{err_from_is_err_and}
 use Rattle.flac_bits.specs.Signed.{signed}

@@ -1,4 +1,4 @@
-use Rattle.std.proofs.Common.{arith, ◌≡◌, ◌≤◌, length, get_or, refl}
+use Rattle.std.proofs.Common.{arith, ◌≤◌, length, get_or, refl}
 use Rattle.std.proofs.lemmas.List.{take_all}
 use Rattle.flac_subframe.specs.declared.linear.LinearPredictor.{LinearPredictor}
 use Rattle.flac_subframe.proofs.Digits.{All_step}
