@@ -1,45 +1,52 @@
 -- One predictor more.
-use Rattle.std.proofs.Common.{◌≡◌, ◌∙◌, inl, inr, sym, ℕ, ◌+◌, ◌*◌, ◌≤◌, arith, ℤ, List, [], ◌∷◌, ◌++◌, take}
+use Rattle.std.proofs.Common.{◌≡◌, ◌∙◌, inl, inr, sym, ap, ℕ, ◌+◌, ◌*◌, ◌≤◌, ◌<◌, arith, ℤ, List, [], ◌∷◌, ◌++◌, length, map, take, get_or, append_assoc}
+use Rattle.std.proofs.lemmas.List.{get_or-map, map_more}
 use Rattle.std.proofs.lemmas.List.FromFn.{map-range_with_len_more}
 use Rattle.flac_subframe.specs.declared.halving.ResidualChoice.{ResidualChoice}
 use Rattle.flac_subframe.specs.Cost.{codings_of}
 use Rattle.flac_subframe.specs.Cost.{Codings, MayWrite}
 use Rattle.flac_subframe.specs.Cost.{residual_cost}
 use Rattle.flac_subframe.specs.declared.choice.PricedChoice.{PricedChoice}
+use Rattle.flac_subframe.specs.declared.linear.LinearPredictor.{LinearPredictor}
+use Rattle.flac_subframe.specs.Handed.{predictor_of, handed_at}
 use Rattle.flac_subframe.specs.Bodies.{fields_cost, Chooses, fixed, coefficients_of, shift_of, order_of, differences, Among, Body, constant, verbatim, predicted, StandsFor}
-use Rattle.flac_subframe.specs.Chosen.{IsBest, IsLeastOf, HasNone, body_of, body_by, fixed_below}
+use Rattle.flac_subframe.specs.Chosen.{IsBest, IsHanded, IsLeastOf, HasNone, body_of, body_by, fixed_below}
 use Rattle.flac_subframe.proofs.Bodies.{among_more, among_split, least_kept, least_taken, body_stands, body_costs, body_least, none_stands, residual_is, length-predicted, method_bits}
 
-module _ (most d : ℕ) (s : List ℤ) (ps : List Chooses) (p : Chooses) (best : PricedChoice) (so : IsBest most d s ps best) where
-  pub best_none : HasNone (coefficients_of p) (shift_of p) s → IsBest most d s (ps ++ p ∷ []) best
+module _ (hs : List LinearPredictor) (most d : ℕ) (s : List ℤ) (ps : List Chooses) (p : Chooses) (best : PricedChoice) (so : IsBest hs most d s ps best) where
+  pub best_none : HasNone (coefficients_of p) (shift_of p) s → IsBest hs most d s (ps ++ p ∷ []) best
   best_none none = record {
-    least = least_kept most d s ps p (body_of best.kind s) so.least (λ ws f rs stands. absurd (none_stands most d s ps p none ws f rs stands));
+    within = so.within;
+    least = least_kept most d s ps p (body_of hs best.kind s) so.least (λ ws f rs stands. absurd (none_stands most d s ps p none ws f rs stands));
     priced = so.priced;
     small = so.small;
   }
 
-  pub best_kept : (r : ResidualChoice) → IsLeastOf most (coefficients_of p) (shift_of p) s r → best.bits ≤ d * order_of p + fields_cost p + r.bits → IsBest most d s (ps ++ p ∷ []) best
+  pub best_kept : (r : ResidualChoice) → IsLeastOf most (coefficients_of p) (shift_of p) s r → best.bits ≤ d * order_of p + fields_cost p + r.bits → IsBest hs most d s (ps ++ p ∷ []) best
   best_kept r is less = record {
-    least = least_kept most d s ps p (body_of best.kind s) so.least (λ ws f rs stands. omega (arith, body_least most d s ps p r is ws f rs stands, body_costs most d s ps p r is, so.priced));
+    within = so.within;
+    least = least_kept most d s ps p (body_of hs best.kind s) so.least (λ ws f rs stands. omega (arith, body_least most d s ps p r is ws f rs stands, body_costs most d s ps p r is, so.priced));
     priced = so.priced;
     small = so.small;
   }
 
-  pub best_taken : (r : ResidualChoice) (new : PricedChoice) → IsLeastOf most (coefficients_of p) (shift_of p) s r → new.bits ≡ d * order_of p + fields_cost p + r.bits → new.bits ≤ best.bits → body_of new.kind s ≡ body_by p r s → IsBest most d s (ps ++ p ∷ []) new
-  best_taken r new is bits less body = record {
-    least = rw body (least_taken most d s ps p (body_of best.kind s) (take (order_of p) s) (codings_of r) (differences (coefficients_of p) (shift_of p) s) so.least
+  pub best_taken : (r : ResidualChoice) (new : PricedChoice) → IsLeastOf most (coefficients_of p) (shift_of p) s r → new.bits ≡ d * order_of p + fields_cost p + r.bits → new.bits ≤ best.bits → IsHanded hs new.kind → body_of hs new.kind s ≡ body_by p r s → IsBest hs most d s (ps ++ p ∷ []) new
+  best_taken r new is bits less within body = record {
+    within = within;
+    least = rw body (least_taken most d s ps p (body_of hs best.kind s) (take (order_of p) s) (codings_of r) (differences (coefficients_of p) (shift_of p) s) so.least
         (body_stands most d s ps p r is) (omega (arith, body_costs most d s ps p r is, so.priced)) (body_least most d s ps p r is));
     priced = rw body (bits ∙ sym (body_costs most d s ps p r is));
     small = omega (arith, so.small);
   }
 
-module _ (most d : ℕ) (s : List ℤ) (ps : List Chooses) (p : Chooses) (best : PricedChoice) (so : IsBest most d s ps best) where
+module _ (hs : List LinearPredictor) (most d : ℕ) (s : List ℤ) (ps : List Chooses) (p : Chooses) (best : PricedChoice) (so : IsBest hs most d s ps best) where
   -- where no form of the predictor costs less
   pub best_above : (n : ℕ) → best.bits ≤ d * order_of p + fields_cost p + n →
       ((f : Codings) → MayWrite most (order_of p) (differences (coefficients_of p) (shift_of p) s) f → n ≤ residual_cost (order_of p) (differences (coefficients_of p) (shift_of p) s) f) →
-      IsBest most d s (ps ++ p ∷ []) best
+      IsBest hs most d s (ps ++ p ∷ []) best
   best_above n less each = record {
-    least = least_kept most d s ps p (body_of best.kind s) so.least (λ ws f rs stands.
+    within = so.within;
+    least = least_kept most d s ps p (body_of hs best.kind s) so.least (λ ws f rs stands.
         let e = residual_is (coefficients_of p) (shift_of p) s ws rs stands.long stands.restored in
         let may : MayWrite most (order_of p) (differences (coefficients_of p) (shift_of p) s) f = rw e at stands.written in
         rw (← so.priced, length-predicted d p ws f rs (method_bits f.parameter_bits stands.written.method) stands.long, stands.long, e) (omega (arith, each f may)));
@@ -58,19 +65,20 @@ stands_by most ps qs to (verbatim vs) s h = h
 stands_by most ps qs to (predicted p ws f rs) s h = (to p h.0, h.1)
 
 -- what is the best by some predictors is so by the same in another order
-same_best : (most d : ℕ) (s : List ℤ) (ps qs : List Chooses) (best : PricedChoice) → ((p : Chooses) → Among p ps → Among p qs) → ((p : Chooses) → Among p qs → Among p ps) → IsBest most d s ps best → IsBest most d s qs best
-same_best most d s ps qs best to from so = record {
-  least = record { member = stands_by most ps qs to (body_of best.kind s) s so.least.member; least = λ b h. so.least.least b (stands_by most qs ps from b s h) };
+same_best : (hs : List LinearPredictor) (most d : ℕ) (s : List ℤ) (ps qs : List Chooses) (best : PricedChoice) → ((p : Chooses) → Among p ps → Among p qs) → ((p : Chooses) → Among p qs → Among p ps) → IsBest hs most d s ps best → IsBest hs most d s qs best
+same_best hs most d s ps qs best to from so = record {
+  within = so.within;
+  least = record { member = stands_by most ps qs to (body_of hs best.kind s) s so.least.member; least = λ b h. so.least.least b (stands_by most qs ps from b s h) };
   priced = so.priced;
   small = so.small;
 }
 
-module _ (most d : ℕ) (s : List ℤ) (best : PricedChoice) where
-  pub next_tried : (first order : ℕ) → IsBest most d s ((fixed first ∷ fixed_below order) ++ fixed order ∷ []) best → IsBest most d s (fixed first ∷ fixed_below (order + 1)) best
+module _ (hs : List LinearPredictor) (most d : ℕ) (s : List ℤ) (best : PricedChoice) where
+  pub next_tried : (first order : ℕ) → IsBest hs most d s ((fixed first ∷ fixed_below order) ++ fixed order ∷ []) best → IsBest hs most d s (fixed first ∷ fixed_below (order + 1)) best
   next_tried first order so = rw (one_fixed_more order) so
 
-  pub first_tried : (order : ℕ) → IsBest most d s (fixed order ∷ fixed_below order) best → IsBest most d s (fixed order ∷ fixed_below (order + 1)) best
-  first_tried order so = same_best most d s (fixed order ∷ fixed_below order) (fixed order ∷ fixed_below (order + 1)) best to from so
+  pub first_tried : (order : ℕ) → IsBest hs most d s (fixed order ∷ fixed_below order) best → IsBest hs most d s (fixed order ∷ fixed_below (order + 1)) best
+  first_tried order so = same_best hs most d s (fixed order ∷ fixed_below order) (fixed order ∷ fixed_below (order + 1)) best to from so
     where
       to : (p : Chooses) → Among p (fixed order ∷ fixed_below order) → Among p (fixed order ∷ fixed_below (order + 1))
       to p h = elim h [ inl e ↦ inl e | inr b ↦ inr (rw (one_fixed_more order) (among_more (fixed order) p (fixed_below order) b)) ]
@@ -81,5 +89,22 @@ module _ (most d : ℕ) (s : List ℤ) (best : PricedChoice) where
         | inr b ↦ let b' : Among p (fixed_below order ++ fixed order ∷ []) = rw (one_fixed_more order) at b in elim (among_split (fixed order) p (fixed_below order) b') [ inl c ↦ inr c | inr e ↦ inl e ]
       ]
 
-  pub all_tried : (first : ℕ) → Among (fixed first) (fixed_below 5) → IsBest most d s (fixed first ∷ fixed_below 5) best → IsBest most d s (fixed_below 5) best
-  all_tried first one so = same_best most d s (fixed first ∷ fixed_below 5) (fixed_below 5) best (λ p h. elim h [ inl e ↦ rw e one | inr b ↦ b ]) (λ p h. inr h) so
+  pub all_tried : (first : ℕ) → Among (fixed first) (fixed_below 5) → IsBest hs most d s (fixed first ∷ fixed_below 5) best → IsBest hs most d s (fixed_below 5) best
+  all_tried first one so = same_best hs most d s (fixed first ∷ fixed_below 5) (fixed_below 5) best (λ p h. elim h [ inl e ↦ rw e one | inr b ↦ b ]) (λ p h. inr h) so
+
+-- ---- a linear predictor more
+
+-- the one at a place of the list
+pub at_place : (ps : List LinearPredictor) (i : ℕ) (p : LinearPredictor) → i < length ps → p ≡ get_or ps i p → handed_at ps i ≡ predictor_of p
+at_place ps i p within is = get_or-map predictor_of ps i p (fixed 0) within ∙ ap predictor_of (sym is)
+
+linear_more : (ps : List LinearPredictor) (i : ℕ) → i < length ps → map predictor_of (take (i + 1) ps) ≡ map predictor_of (take i ps) ++ handed_at ps i ∷ []
+linear_more [] i within = absurd (omega (arith, within))
+linear_more (q ∷ qs) i within =
+    map_more predictor_of (q ∷ qs) i q within
+    ∙ ap (λ (x : Chooses). map predictor_of (take i (q ∷ qs)) ++ x ∷ []) (sym (get_or-map predictor_of (q ∷ qs) i q (fixed 0) within))
+
+pub one_linear_more : (tried : List Chooses) (ps : List LinearPredictor) (i : ℕ) → i < length ps → tried ++ map predictor_of (take (i + 1) ps) ≡ (tried ++ map predictor_of (take i ps)) ++ handed_at ps i ∷ []
+one_linear_more tried ps i within =
+    ap (λ (l : List Chooses). tried ++ l) (linear_more ps i within)
+    ∙ sym (append_assoc tried (map predictor_of (take i ps)) (handed_at ps i ∷ []))

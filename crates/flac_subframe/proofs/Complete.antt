@@ -11,14 +11,16 @@ use Rattle.flac_bits.specs.Rice.{IsResidual}
 use Rattle.flac_subframe.specs.declared.coding.Coding.{Coding}
 use Rattle.flac_subframe.specs.declared.coding.Coding.TheVariants.{Rice, Escape}
 use Rattle.flac_subframe.specs.declared.limits.Limits.{Limits}
-use Rattle.flac_subframe.specs.Bodies.{fixed, Among, Body, constant, verbatim, predicted, StandsFor, content_of, cut, residual_of}
-use Rattle.flac_subframe.specs.Chosen.{fixed_below}
+use Rattle.flac_subframe.specs.declared.linear.LinearPredictor.{LinearPredictor}
+use Rattle.flac_subframe.specs.Bodies.{fixed, linear, Among, Body, constant, verbatim, predicted, StandsFor, content_of, cut, residual_of}
+use Rattle.flac_subframe.specs.Chosen.{offered}
+use Rattle.flac_subframe.specs.Handed.{predictor_of}
 use Rattle.flac_subframe.specs.Cost.{Codings, MayCode, MayCodeEach, MayWrite}
-use Rattle.flac_subframe.specs.Laws.{WithoutLinear, FamilyIsWhole}
+use Rattle.flac_subframe.specs.Laws.{WithoutLinear, FamilyIsWhole, IsOneOf, WithLinear, WidenedIsWhole}
 use Rattle.flac_subframe.specs.Prediction.{fixed_coefficients, Restored}
 use Rattle.flac_subframe.specs.Residual.{Partition, Residual, all_values, residual_values}
 use Rattle.flac_subframe.specs.Spelling.{FitsWidth, IsCoded, ArePartitions, MayLeave, MayHold, IsSubframe}
-use Rattle.flac_subframe.specs.Subframe.{Content, Constant, Verbatim, Fixed, Linear, Form, restored_samples, samples_of, scaled, fitting}
+use Rattle.flac_subframe.specs.Subframe.{Content, Constant, Verbatim, Fixed, Linear, Predictor, Form, restored_samples, samples_of, scaled, fitting}
 use Rattle.flac_subframe.specs.Wasted.{times_power}
 use Rattle.flac_subframe.proofs.Predicted.{fixed_length}
 use Rattle.flac_subframe.proofs.Whole.{samples_restored}
@@ -81,7 +83,7 @@ and_true false b e = (e, absurd (no e))
 
 -- ---- a residual that a predictor may leave is one that may be written
 
-module _ (limit order block : ℕ) (r : Residual) (small : limit ≤ 8) (left : MayLeave limit order block r) where
+module _ (most limit order block : ℕ) (r : Residual) (small : limit ≤ most) (left : MayLeave limit order block r) where
   abbrev pub codings_in : Codings
   codings_in = record { parameter_bits = 4 + r.method; halvings = r.order; codings = map coding_of r.partitions }
 
@@ -103,7 +105,7 @@ module _ (limit order block : ℕ) (r : Residual) (small : limit ≤ 8) (left : 
   either (suc zero) lt = inr refl
   either (suc (suc m)) lt = absurd (omega (arith, lt))
 
-  pub may_write : MayWrite 8 order (residual_values r) codings_in
+  pub may_write : MayWrite most order (residual_values r) codings_in
   may_write = record {
     method = either r.method left.method;
     few = omega (arith, left.allowed, small);
@@ -123,42 +125,72 @@ module _ (limit order block : ℕ) (r : Residual) (small : limit ≤ 8) (left : 
 
 -- ---- a content
 
-pub among : (n : ℕ) → n ≤ 4 → Among (fixed n) (fixed_below 5)
-among zero le = inl refl
-among (suc zero) le = inr (inl refl)
-among (suc (suc zero)) le = inr (inr (inl refl))
-among (suc (suc (suc zero))) le = inr (inr (inr (inl refl)))
-among (suc (suc (suc (suc zero)))) le = inr (inr (inr (inr (inl refl))))
-among (suc (suc (suc (suc (suc n))))) le = absurd (omega (arith, le))
+pub among : (n : ℕ) (ps : List LinearPredictor) → n ≤ 4 → Among (fixed n) (offered ps)
+among zero ps le = inl refl
+among (suc zero) ps le = inr (inl refl)
+among (suc (suc zero)) ps le = inr (inr (inl refl))
+among (suc (suc (suc zero))) ps le = inr (inr (inr (inl refl)))
+among (suc (suc (suc (suc zero)))) ps le = inr (inr (inr (inr (inl refl))))
+among (suc (suc (suc (suc (suc n))))) ps le = absurd (omega (arith, le))
 
-body_in : (depth block : ℕ) (limits : Limits) (c : Content) → limits.partition ≤ 8 → MayHold depth block limits c → WithoutLinear c
-    → (b : Body) × (c ≡ content_of b) × StandsFor 8 (fixed_below 5) b (restored_samples block c)
-body_in depth block limits (Constant v) small may plain = (constant v, refl, rw (length-replicate block v) refl)
-body_in depth block limits (Verbatim vs) small may plain = (verbatim vs, refl, refl)
-body_in depth block limits (Fixed ws rest) small may plain =
-    let n : ℕ = length ws in
-    let cs : List ℤ = fixed_coefficients n in
-    let rs : List ℤ = residual_values rest in
-    let leave = may.3 in
-    let size : length cs ≡ n = fixed_length n may.0 in
-    let restored' : Restored cs 0 (ws ++ rs) (restored_samples block (Fixed ws rest)) = (samples_restored block (Fixed ws rest) (restored_samples block (Fixed ws rest)) tt).1 refl in
-    let long : length rs + n ≡ block = whole limits.partition n block rest small leave in
-    let written : MayWrite 8 (length cs) rs (codings_in limits.partition n block rest small leave) = rw size (may_write limits.partition n block rest small leave) in
-    let same : residual_of (length cs) rs (codings_in limits.partition n block rest small leave) ≡ rest = rw size (same_residual limits.partition n block rest small leave) in (
-      predicted (fixed n) ws (codings_in limits.partition n block rest small leave) rs,
-      ap (Fixed ws) (sym same),
-      (
-        among n may.0,
-        record {
-          room = omega (arith, size, may.1, restored'.long, length-append ws rs, long);
-          long = sym size;
-          restored = restored';
-          range = values_range limits.partition n block rest small leave;
-          written = written;
-        },
-      ),
-    )
-body_in depth block limits (Linear ws chosen rest) small may plain = absurd plain
+as_handed : (p : Predictor) (ps : List LinearPredictor) → IsOneOf p ps → Among (linear p.precision p.shift p.coefficients) (map predictor_of ps)
+as_handed p [] h = h
+as_handed p (q ∷ ps) (inl e) = inl (ap (λ (x : Predictor). linear x.precision x.shift x.coefficients) e)
+as_handed p (q ∷ ps) (inr h) = inr (as_handed p ps h)
+
+module _ (most depth block : ℕ) (limits : Limits) (ps : List LinearPredictor) (small : limits.partition ≤ most) where
+  body_in : (c : Content) → MayHold depth block limits c → WithLinear ps c → (b : Body) × (c ≡ content_of b) × StandsFor most (offered ps) b (restored_samples block c)
+  body_in (Constant v) may plain = (constant v, refl, rw (length-replicate block v) refl)
+  body_in (Verbatim vs) may plain = (verbatim vs, refl, refl)
+  body_in (Fixed ws rest) may plain =
+      let n : ℕ = length ws in
+      let cs : List ℤ = fixed_coefficients n in
+      let rs : List ℤ = residual_values rest in
+      let leave = may.3 in
+      let size : length cs ≡ n = fixed_length n may.0 in
+      let restored' : Restored cs 0 (ws ++ rs) (restored_samples block (Fixed ws rest)) = (samples_restored block (Fixed ws rest) (restored_samples block (Fixed ws rest)) tt).1 refl in
+      let long : length rs + n ≡ block = whole most limits.partition n block rest small leave in
+      let f : Codings = codings_in most limits.partition n block rest small leave in
+      let written : MayWrite most (length cs) rs f = rw size (may_write most limits.partition n block rest small leave) in
+      let same : residual_of (length cs) rs f ≡ rest = rw size (same_residual most limits.partition n block rest small leave) in (
+        predicted (fixed n) ws f rs,
+        ap (Fixed ws) (sym same),
+        (
+          among n ps may.0,
+          record {
+            room = omega (arith, size, may.1, restored'.long, length-append ws rs, long);
+            long = sym size;
+            restored = restored';
+            range = values_range most limits.partition n block rest small leave;
+            written = written;
+          },
+        ),
+      )
+  body_in (Linear ws chosen rest) may plain =
+      let n : ℕ = length ws in
+      let cs : List ℤ = chosen.coefficients in
+      let rs : List ℤ = residual_values rest in
+      let leave = may.5 in
+      let size : length cs ≡ n = may.4.many in
+      let c : Content = Linear ws chosen rest in
+      let restored' : Restored cs chosen.shift (ws ++ rs) (restored_samples block c) = (samples_restored block c (restored_samples block c) (sym size)).1 refl in
+      let long : length rs + n ≡ block = whole most limits.partition n block rest small leave in
+      let f : Codings = codings_in most limits.partition n block rest small leave in
+      let written : MayWrite most (length cs) rs f = rw size (may_write most limits.partition n block rest small leave) in
+      let same : residual_of (length cs) rs f ≡ rest = rw size (same_residual most limits.partition n block rest small leave) in (
+        predicted (linear chosen.precision chosen.shift cs) ws f rs,
+        ap (Linear ws chosen) (sym same),
+        (
+          inr (inr (inr (inr (inr (as_handed chosen ps plain))))),
+          record {
+            room = omega (arith, size, may.2, restored'.long, length-append ws rs, long);
+            long = sym size;
+            restored = restored';
+            range = values_range most limits.partition n block rest small leave;
+            written = written;
+          },
+        ),
+      )
 
 -- ---- a form
 
@@ -172,23 +204,33 @@ scaled_is k false t s e = absurd (no e)
     no : {xs : List ℤ} → None ≡ Some xs → ⊥
     no z = cc
 
-pub family_whole : FamilyIsWhole
+pub widened_whole : WidenedIsWhole
 unfolding fitting
-family_whole depth block limits f s small valid samples family =
-    let b = body_in (depth - f.wasted) block limits f.content small valid.content family.plain in
+widened_whole most depth block limits ps f s small valid samples family =
+    let b = body_in most (depth - f.wasted) block limits ps small f.content valid.content family.plain in
     record { wasted = family.wasted; body = (b.0, restored_samples block f.content, b.1, scaled_is f.wasted _ (restored_samples block f.content) s samples, b.2) }
+
+none_linear : (c : Content) → WithoutLinear c → WithLinear [] c
+none_linear (Constant v) h = tt
+none_linear (Verbatim vs) h = tt
+none_linear (Fixed ws rest) h = tt
+none_linear (Linear ws chosen rest) h = h
+
+pub family_whole : FamilyIsWhole
+family_whole depth block limits f s small valid samples family =
+    widened_whole 8 depth block limits [] f s small valid samples (record { plain = none_linear f.content family.plain; wasted = family.wasted })
 
 body_long : (depth block : ℕ) (limits : Limits) (c : Content) → limits.partition ≤ 8 → MayHold depth block limits c → length (restored_samples block c) ≡ block
 body_long depth block limits (Constant v) small may = length-replicate block v
 body_long depth block limits (Verbatim vs) small may = may.many
 body_long depth block limits (Fixed ws rest) small may =
     let restored' : Restored (fixed_coefficients (length ws)) 0 (ws ++ residual_values rest) (restored_samples block (Fixed ws rest)) = (samples_restored block (Fixed ws rest) (restored_samples block (Fixed ws rest)) tt).1 refl in
-    omega (arith, restored'.long, length-append ws (residual_values rest), whole limits.partition (length ws) block rest small may.3)
+    omega (arith, restored'.long, length-append ws (residual_values rest), whole 8 limits.partition (length ws) block rest small may.3)
 body_long depth block limits (Linear ws chosen rest) small may =
     let c : Content = Linear ws chosen rest in
     let predict = may.4 in
     let restored' : Restored chosen.coefficients chosen.shift (ws ++ residual_values rest) (restored_samples block c) = (samples_restored block c (restored_samples block c) (sym predict.many)).1 refl in
-    omega (arith, restored'.long, length-append ws (residual_values rest), whole limits.partition (length ws) block rest small may.5)
+    omega (arith, restored'.long, length-append ws (residual_values rest), whole 8 limits.partition (length ws) block rest small may.5)
 
 -- the samples of a form are as many as the block has
 pub samples_long : (depth block : ℕ) (limits : Limits) (f : Form) (s : List ℤ) → limits.partition ≤ 8 → IsSubframe depth block limits f → samples_of depth block f ≡ Some s → length s ≡ block

@@ -1,21 +1,24 @@
 -- A form that stands for samples may be spelled, has these samples, and is of the family in plain words.
-use Rattle.std.proofs.Common.{◌≡◌, ◌∙◌, inl, inr, sym, ap, subst, ℕ, ◌+◌, ◌-◌, ◌^◌, ◌≤◌, ◌<◌, arith, ℤ, pos, List, length, map, get_or, Some, All}
+use Rattle.std.proofs.Common.{◌≡◌, ◌∙◌, inl, inr, sym, ap, subst, ℕ, ◌+◌, ◌-◌, ◌^◌, ◌≤◌, ◌<◌, arith, ℤ, pos, List, [], ◌∷◌, length, map, get_or, Some, All}
 use Rattle.std.proofs.lemmas.Bool.{cases_lt}
 use Rattle.std.proofs.lemmas.Int.{ints}
 use Rattle.std.proofs.lemmas.List.{length-map, get_or-map, get_or_default}
 use Rattle.std.proofs.Math.Nat.{pow-le-pow_right}
 use Rattle.flac_bits.specs.Signed.{FitsBits}
 use Rattle.flac_subframe.specs.declared.limits.Limits.{Limits}
-use Rattle.flac_subframe.specs.Bodies.{fixed, linear, Body, constant, verbatim, predicted, StandsFor, content_of}
-use Rattle.flac_subframe.specs.Chosen.{fixed_below}
+use Rattle.flac_subframe.specs.declared.linear.LinearPredictor.{LinearPredictor}
+use Rattle.flac_subframe.specs.Bodies.{fixed, linear, Among, Body, constant, verbatim, predicted, StandsFor, content_of}
+use Rattle.flac_subframe.specs.Chosen.{fixed_below, offered}
+use Rattle.flac_subframe.specs.Handed.{predictor_of, AreWithin}
 use Rattle.flac_subframe.specs.Family.{Stands}
-use Rattle.flac_subframe.specs.Laws.{WithoutLinear, InFamily, FamilyIsPlain}
+use Rattle.flac_subframe.specs.Laws.{WithoutLinear, InFamily, FamilyIsPlain, IsOneOf, WithLinear, InWidened, WidenedIsPlain}
 use Rattle.flac_subframe.specs.Numbers.{sample_at}
 use Rattle.flac_subframe.specs.Spelling.{IsSubframe}
-use Rattle.flac_subframe.specs.Subframe.{Content, Form, samples_of}
+use Rattle.flac_subframe.specs.Subframe.{Content, Constant, Verbatim, Fixed, Linear, Form, samples_of}
 use Rattle.flac_subframe.specs.Wasted.{times_power, Multiple, IsWasted}
 use Rattle.flac_subframe.proofs.Powers.{silent}
-use Rattle.flac_subframe.proofs.Valid.{not_linear, may_be, are_samples}
+use Rattle.flac_subframe.proofs.Made.{among_handed}
+use Rattle.flac_subframe.proofs.Valid.{may_be, are_samples}
 
 -- ---- one bit at least is left of samples that lack some
 
@@ -47,26 +50,55 @@ module _ (depth k : ℕ) (s t : List ℤ) (deep : 1 ≤ depth) (fits : All (Fits
 
 -- ---- a form
 
-without_linear : (b : Body) (t : List ℤ) → StandsFor 8 (fixed_below 5) b t → WithoutLinear (content_of b)
-without_linear (constant v) t h = tt
-without_linear (verbatim vs) t h = tt
-without_linear (predicted (fixed order) ws f rs) t h = tt
-without_linear (predicted (linear precision shift cs) ws f rs) t h = absurd (not_linear precision shift cs h.0)
+as_one : (precision shift : ℕ) (cs : List ℤ) (ps : List LinearPredictor) → Among (linear precision shift cs) (map predictor_of ps) → IsOneOf (record { precision = precision; shift = shift; coefficients = cs }) ps
+as_one precision shift cs [] h = h
+as_one precision shift cs (q ∷ ps) (inl e) = inl cc
+as_one precision shift cs (q ∷ ps) (inr h) = inr (as_one precision shift cs ps h)
 
-pub in_family : (f : Form) (s : List ℤ) → Stands 8 (fixed_below 5) f s → InFamily f s
-in_family f s h = let body = h.body in record { plain = subst WithoutLinear (sym body.2) (without_linear body.0 body.1 body.4); wasted = h.wasted }
+with_linear : (most : ℕ) (ps : List LinearPredictor) (b : Body) (t : List ℤ) → StandsFor most (offered ps) b t → WithLinear ps (content_of b)
+with_linear most ps (constant v) t h = tt
+with_linear most ps (verbatim vs) t h = tt
+with_linear most ps (predicted (fixed order) ws f rs) t h = tt
+with_linear most ps (predicted (linear precision shift cs) ws f rs) t h = as_one precision shift cs ps (among_handed precision shift cs ps h.0)
 
-module _ (depth : ℕ) (limits : Limits) (f : Form) (s : List ℤ) (deep : 1 ≤ depth) (some : 0 < length s) (orders : 8 ≤ limits.partition) (fits : All (FitsBits depth) s) (h : Stands 8 (fixed_below 5) f s) where
+pub in_widened : (most : ℕ) (ps : List LinearPredictor) (f : Form) (s : List ℤ) → Stands most (offered ps) f s → InWidened ps f s
+in_widened most ps f s h = let body = h.body in record { plain = subst (WithLinear ps) (sym body.2) (with_linear most ps body.0 body.1 body.4); wasted = h.wasted }
+
+module _ (most depth : ℕ) (limits : Limits) (ps : List LinearPredictor) (f : Form) (s : List ℤ) (deep : 1 ≤ depth) (some : 0 < length s) (orders : most ≤ limits.partition) (few : most ≤ 15) (within : AreWithin limits.linear ps)
+    (fits : All (FitsBits depth) s) (h : Stands most (offered ps) f s) where
   abbrev form_with : Content → Form
   form_with c = record { wasted = f.wasted; content = c }
 
-  pub may_stand : IsSubframe depth (length s) limits f × (samples_of depth (length s) f ≡ Some s)
-  may_stand =
+  pub widened_stand : IsSubframe depth (length s) limits f × (samples_of depth (length s) f ≡ Some s)
+  widened_stand =
       let body = h.body in
       let left : f.wasted < depth = wasted_less depth f.wasted s body.1 deep fits body.3 h.wasted in (
-        subst (λ c. IsSubframe depth (length s) limits (form_with c)) (sym body.2) (may_be 8 depth f.wasted s body.1 left body.3 fits limits body.0 some orders (omega arith) body.4),
-        subst (λ c. samples_of depth (length s) (form_with c) ≡ Some s) (sym body.2) (are_samples 8 depth f.wasted s body.1 left body.3 fits body.0 body.4),
+        subst (λ c. IsSubframe depth (length s) limits (form_with c)) (sym body.2) (may_be most depth f.wasted s body.1 left body.3 fits limits ps body.0 some orders few within body.4),
+        subst (λ c. samples_of depth (length s) (form_with c) ≡ Some s) (sym body.2) (are_samples most depth f.wasted s body.1 left body.3 fits ps body.0 body.4),
       )
+
+pub widened_plain : WidenedIsPlain
+widened_plain most depth limits ps f s deep some orders few within fits h =
+    let both = widened_stand most depth limits ps f s deep some orders few within fits h in
+    (both.0, both.1, in_widened most ps f s h)
+
+-- ---- a form without linear predictors
+
+none_within : (limit : ℕ) → AreWithin limit []
+none_within limit = λ i d lt. absurd (omega (arith, lt))
+
+no_linear : (c : Content) → WithLinear [] c → WithoutLinear c
+no_linear (Constant v) h = tt
+no_linear (Verbatim vs) h = tt
+no_linear (Fixed ws rest) h = tt
+no_linear (Linear ws chosen rest) h = h
+
+pub in_family : (f : Form) (s : List ℤ) → Stands 8 (fixed_below 5) f s → InFamily f s
+in_family f s h = let so = in_widened 8 [] f s h in record { plain = no_linear f.content so.plain; wasted = so.wasted }
+
+module _ (depth : ℕ) (limits : Limits) (f : Form) (s : List ℤ) (deep : 1 ≤ depth) (some : 0 < length s) (orders : 8 ≤ limits.partition) (fits : All (FitsBits depth) s) (h : Stands 8 (fixed_below 5) f s) where
+  pub may_stand : IsSubframe depth (length s) limits f × (samples_of depth (length s) f ≡ Some s)
+  may_stand = widened_stand 8 depth limits [] f s deep some orders (omega arith) (none_within limits.linear) fits h
 
 pub family_plain : FamilyIsPlain
 family_plain depth limits f s deep some orders fits h = let both = may_stand depth limits f s deep some orders fits h in (both.0, both.1, in_family f s h)

@@ -1,41 +1,102 @@
 -- A choice that was made of samples.
-use Rattle.std.proofs.Common.{◌≡◌, inl, inr, refl, ℕ, ◌≤◌, ◌<◌, arith, ℤ, List, length, take}
-use Rattle.std.proofs.lemmas.List.{length-take-le}
+use Rattle.std.proofs.Common.{◌≡◌, inl, inr, refl, sym, subst, ℕ, suc, ◌+◌, ◌≤◌, ◌<◌, arith, ℤ, List, [], ◌∷◌, length, take, map, get_or}
+use Rattle.std.proofs.lemmas.List.{length-take-le, get_or_default}
 use Rattle.flac_subframe.specs.declared.choice.Kind.{Kind}
-use Rattle.flac_subframe.specs.declared.choice.Kind.TheVariants.{Constant, Verbatim, Fixed}
-use Rattle.flac_subframe.specs.Bodies.{fixed, Among, StandsFor, content_of}
-use Rattle.flac_subframe.specs.Chosen.{body_of, fixed_below}
+use Rattle.flac_subframe.specs.declared.choice.Kind.TheVariants.{Constant, Verbatim, Fixed, Linear}
+use Rattle.flac_subframe.specs.declared.linear.LinearPredictor.{LinearPredictor}
+use Rattle.flac_subframe.specs.Bodies.{Chooses, fixed, linear, order_of, Among, Body, constant, verbatim, predicted, StandsFor, content_of}
+use Rattle.flac_subframe.specs.Cost.{MayWrite}
+use Rattle.flac_subframe.specs.declared.halving.ResidualChoice.{ResidualChoice}
+use Rattle.flac_subframe.specs.Chosen.{body_by, body_of, IsHanded, offered}
+use Rattle.flac_subframe.specs.Handed.{predictor_of, handed_at, AreWithin}
 use Rattle.flac_subframe.specs.Family.{OrderIsFew, kind_number}
 use Rattle.flac_subframe.specs.Spelling.{type_of}
 use Rattle.flac_subframe.specs.Prediction.{fixed_coefficients}
+use Rattle.flac_subframe.proofs.Best.{at_place}
 use Rattle.flac_subframe.proofs.Differences.{length-fixed}
 
 order_is : (a b : ℕ) → fixed a ≡ fixed b → a ≡ b
 order_is a b e = cc
 
-pub among_few : (order : ℕ) → Among (fixed order) (fixed_below 5) → order ≤ 4
-among_few order (inl e) = omega (arith, order_is order 0 e)
-among_few order (inr (inl e)) = omega (arith, order_is order 1 e)
-among_few order (inr (inr (inl e))) = omega (arith, order_is order 2 e)
-among_few order (inr (inr (inr (inl e)))) = omega (arith, order_is order 3 e)
-among_few order (inr (inr (inr (inr (inl e))))) = omega (arith, order_is order 4 e)
-among_few order (inr (inr (inr (inr (inr h))))) = absurd h
+-- no linear predictor is a fixed one
+not_fixed : (order : ℕ) (ps : List LinearPredictor) → Among (fixed order) (map predictor_of ps) → ⊥
+not_fixed order [] h = h
+not_fixed order (p ∷ ps) (inl e) = cc
+not_fixed order (p ∷ ps) (inr h) = not_fixed order ps h
 
-pub order_few : (k : Kind) (t : List ℤ) → StandsFor 8 (fixed_below 5) (body_of k t) t → OrderIsFew k
-order_few Constant t h = tt
-order_few Verbatim t h = tt
-order_few (Fixed order residual) t h = among_few order h.0
+pub among_few : (order : ℕ) (ps : List LinearPredictor) → Among (fixed order) (offered ps) → order ≤ 4
+among_few order ps (inl e) = omega (arith, order_is order 0 e)
+among_few order ps (inr (inl e)) = omega (arith, order_is order 1 e)
+among_few order ps (inr (inr (inl e))) = omega (arith, order_is order 2 e)
+among_few order ps (inr (inr (inr (inl e)))) = omega (arith, order_is order 3 e)
+among_few order ps (inr (inr (inr (inr (inl e))))) = omega (arith, order_is order 4 e)
+among_few order ps (inr (inr (inr (inr (inr h))))) = absurd (not_fixed order ps h)
 
-pub kind_is : (k : Kind) (t : List ℤ) → StandsFor 8 (fixed_below 5) (body_of k t) t → kind_number k ≡ type_of (content_of (body_of k t))
-kind_is Constant t h = refl
-kind_is Verbatim t h = refl
-kind_is (Fixed order residual) t h =
-    let few = length-fixed order (among_few order h.0) in
-    let room = h.1.room in
-    let e : length (take (length (fixed_coefficients order)) t) ≡ length (fixed_coefficients order) = length-take-le (length (fixed_coefficients order)) t (omega (arith, room)) in
-    omega (arith, e, few)
+-- a linear predictor is one of those that were handed in
+pub among_handed : (precision shift : ℕ) (cs : List ℤ) (ps : List LinearPredictor) → Among (linear precision shift cs) (offered ps) → Among (linear precision shift cs) (map predictor_of ps)
+among_handed precision shift cs ps (inl e) = cc
+among_handed precision shift cs ps (inr (inl e)) = cc
+among_handed precision shift cs ps (inr (inr (inl e))) = cc
+among_handed precision shift cs ps (inr (inr (inr (inl e)))) = cc
+among_handed precision shift cs ps (inr (inr (inr (inr (inl e))))) = cc
+among_handed precision shift cs ps (inr (inr (inr (inr (inr h))))) = h
 
-pub kind_few : (k : Kind) → OrderIsFew k → kind_number k < 64
-kind_few Constant h = omega arith
-kind_few Verbatim h = omega arith
-kind_few (Fixed order residual) h = omega (arith, h)
+-- which of them it is
+pub handed_one : (limit : ℕ) (p : Chooses) (ps : List LinearPredictor) → AreWithin limit ps → Among p (map predictor_of ps) → (q : LinearPredictor) × (p ≡ predictor_of q) × (length q.coefficients.items ≤ limit)
+handed_one limit p [] within h = absurd h
+handed_one limit p (q ∷ ps) within (inl e) = (q, e, within 0 q (omega arith))
+handed_one limit p (q ∷ ps) within (inr h) = handed_one limit p ps (λ i d lt. within (suc i) d (omega arith)) h
+
+-- the one at a place of the list
+linear_type : (x : Chooses) (q : LinearPredictor) (r : ResidualChoice) (t : List ℤ) → x ≡ predictor_of q → order_of x ≤ length t → 31 + order_of x ≡ type_of (content_of (body_by x r t))
+linear_type x q r t e room =
+    let P : Chooses → Type 0 = λ y. order_of y ≤ length t → 31 + order_of y ≡ type_of (content_of (body_by y r t)) in
+    subst P (sym e) (λ few. omega (arith, length-take-le (length q.coefficients.items) t few)) room
+
+one_type : (hs : List LinearPredictor) (i : ℕ) (r : ResidualChoice) (t : List ℤ) → i < length hs → order_of (handed_at hs i) ≤ length t → 31 + order_of (handed_at hs i) ≡ type_of (content_of (body_by (handed_at hs i) r t))
+one_type [] i r t within room = absurd (omega (arith, within))
+one_type (q ∷ qs) i r t within room = linear_type (handed_at (q ∷ qs) i) (get_or (q ∷ qs) i q) r t (at_place (q ∷ qs) i (get_or (q ∷ qs) i q) within (get_or_default (q ∷ qs) i q (get_or (q ∷ qs) i q) within)) room
+
+one_few : (hs : List LinearPredictor) (i : ℕ) → i < length hs → order_of (handed_at hs i) ≤ 32
+one_few [] i within = absurd (omega (arith, within))
+one_few (q ∷ qs) i within =
+    let p : LinearPredictor = get_or (q ∷ qs) i q in
+    subst (λ (x : Chooses). order_of x ≤ 32) (sym (at_place (q ∷ qs) i p within (get_or_default (q ∷ qs) i q p within))) p.few
+
+module _ (hs : List LinearPredictor) where
+  pub order_few : (k : Kind) (t : List ℤ) → StandsFor 8 (offered hs) (body_of hs k t) t → OrderIsFew k
+  order_few Constant t h = tt
+  order_few Verbatim t h = tt
+  order_few (Fixed order residual) t h = among_few order hs h.0
+  order_few (Linear index residual) t h = tt
+
+  pub kind_is : (k : Kind) (t : List ℤ) → IsHanded hs k → StandsFor 8 (offered hs) (body_of hs k t) t → kind_number hs k ≡ type_of (content_of (body_of hs k t))
+  kind_is Constant t within h = refl
+  kind_is Verbatim t within h = refl
+  kind_is (Fixed order residual) t within h =
+      let few = length-fixed order (among_few order hs h.0) in
+      let room = h.1.room in
+      let e : length (take (length (fixed_coefficients order)) t) ≡ length (fixed_coefficients order) = length-take-le (length (fixed_coefficients order)) t (omega (arith, room)) in
+      omega (arith, e, few)
+  kind_is (Linear index residual) t within h =
+      let room = h.1.room in
+      one_type hs index residual t within (omega (arith, room))
+
+  pub kind_few : (k : Kind) → OrderIsFew k → IsHanded hs k → kind_number hs k < 64
+  kind_few Constant h within = omega arith
+  kind_few Verbatim h within = omega arith
+  kind_few (Fixed order residual) h within = omega (arith, h)
+  kind_few (Linear index residual) h within = omega (arith, one_few hs index within)
+
+-- what stands with few partition orders stands with more
+pub fewer_orders : (most more : ℕ) (ps : List Chooses) (b : Body) (t : List ℤ) → most ≤ more → StandsFor most ps b t → StandsFor more ps b t
+fewer_orders most more ps (constant v) t le h = h
+fewer_orders most more ps (verbatim vs) t le h = h
+fewer_orders most more ps (predicted p ws f rs) t le h =
+    let so = h.1 in
+    let w = so.written in
+    let written : MayWrite more (order_of p) rs f = record { method = w.method; few = omega (arith, w.few, le); even = w.even; room = w.room; each = w.each; codings = w.codings } in
+    (h.0, record { room = so.room; long = so.long; restored = so.restored; range = so.range; written = written })
+
+pub within_more : (limit more : ℕ) (ps : List LinearPredictor) → limit ≤ more → AreWithin limit ps → AreWithin more ps
+within_more limit more ps le within = λ i d lt. omega (arith, le, within i d lt)

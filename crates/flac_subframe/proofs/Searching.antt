@@ -6,34 +6,35 @@ use Rattle.flac_subframe.specs.Cost.{MayWrite}
 use Rattle.flac_subframe.specs.Cost.{residual_cost}
 use Rattle.flac_subframe.specs.declared.choice.PricedChoice.{PricedChoice}
 use Rattle.flac_subframe.specs.Bodies.{coefficients_of, shift_of, order_of, differences}
-use Rattle.flac_subframe.specs.Chosen.{IsBest, IsLeastOf, body_of, body_by}
+use Rattle.flac_subframe.specs.declared.linear.LinearPredictor.{LinearPredictor}
+use Rattle.flac_subframe.specs.Chosen.{IsBest, IsHanded, IsLeastOf, body_of, body_by}
 use Rattle.flac_subframe.proofs.Best.{best_none, best_above, best_taken}
 use Rattle.flac_subframe.specs.Bodies.{Chooses, fields_cost}
 use Rattle.flac_bits.specs.Rice.{IsResidual}
 use Rattle.flac_subframe.specs.Cost.{codings_of, Codings}
 
-module _ (most d : ℕ) (s : List ℤ) (ps qs : List Chooses) (p : Chooses) (step : qs ≡ ps ++ p ∷ []) (cs : List ℤ) (shift order before : ℕ)
-    (e : cs ≡ coefficients_of p) (e₂ : shift ≡ shift_of p) (e₃ : order ≡ order_of p) (e₄ : before ≡ d * order_of p + fields_cost p) (best : PricedChoice) (so : IsBest most d s ps best) where
-  pub too_long : length s ≤ order → IsBest most d s qs best
-  too_long h = rw step (best_none most d s ps p best so (inl (omega (arith, e₃))))
+module _ (hs : List LinearPredictor) (most d : ℕ) (s : List ℤ) (ps qs : List Chooses) (p : Chooses) (step : qs ≡ ps ++ p ∷ []) (cs : List ℤ) (shift order before : ℕ)
+    (e : cs ≡ coefficients_of p) (e₂ : shift ≡ shift_of p) (e₃ : order ≡ order_of p) (e₄ : before ≡ d * order_of p + fields_cost p) (best : PricedChoice) (so : IsBest hs most d s ps best) where
+  pub too_long : length s ≤ order → IsBest hs most d s qs best
+  too_long h = rw step (best_none hs most d s ps p best so (inl (omega (arith, e₃))))
 
-  pub out_of_range : (All IsResidual (differences cs shift s) → ⊥) → IsBest most d s qs best
-  out_of_range h = rw step (best_none most d s ps p best so (inr (rw (e, e₂) at h)))
+  pub out_of_range : (All IsResidual (differences cs shift s) → ⊥) → IsBest hs most d s qs best
+  out_of_range h = rw step (best_none hs most d s ps p best so (inr (rw (e, e₂) at h)))
 
-  pub too_dear : best.bits ≤ before → IsBest most d s qs best
-  too_dear h = rw step (best_above most d s ps p best so 0 (omega (arith, e₄)) (λ f m. omega arith))
+  pub too_dear : best.bits ≤ before → IsBest hs most d s qs best
+  too_dear h = rw step (best_above hs most d s ps p best so 0 (omega (arith, e₄)) (λ f m. omega arith))
 
-  pub no_better : (below : ℕ) → best.bits ≤ before + below → ((f : Codings) → MayWrite most order (differences cs shift s) f → below ≤ residual_cost order (differences cs shift s) f) → IsBest most d s qs best
+  pub no_better : (below : ℕ) → best.bits ≤ before + below → ((f : Codings) → MayWrite most order (differences cs shift s) f → below ≤ residual_cost order (differences cs shift s) f) → IsBest hs most d s qs best
   no_better below h each =
       let each' = rw (e, e₂, e₃) at each in
-      rw step (best_above most d s ps p best so below (omega (arith, e₄)) each')
+      rw step (best_above hs most d s ps p best so below (omega (arith, e₄)) each')
 
   pub better : (r : ResidualChoice) (new : PricedChoice) → order < length s → All IsResidual (differences cs shift s) →
       IsLeast (MayWrite most order (differences cs shift s)) (residual_cost order (differences cs shift s)) (codings_of r) → r.bits ≡ residual_cost order (differences cs shift s) (codings_of r) → r.bits ≤ 2 ^ 49 →
-      new.bits ≡ before + r.bits → new.bits ≤ best.bits → body_of new.kind s ≡ body_by p r s → IsBest most d s qs new
-  better r new room range least bits small is less body =
+      new.bits ≡ before + r.bits → new.bits ≤ best.bits → IsHanded hs new.kind → body_of hs new.kind s ≡ body_by p r s → IsBest hs most d s qs new
+  better r new room range least bits small is less within body =
       let range' = rw (e, e₂) at range in
       let least' = rw (e, e₂, e₃) at least in
       let bits' = rw (e, e₂, e₃) at bits in
       let of : IsLeastOf most (coefficients_of p) (shift_of p) s r = record { room = omega (arith, e₃); range = range'; least = least'; bits = bits'; small = small } in
-      rw step (best_taken most d s ps p best so r new of (omega (arith, e₄)) less body)
+      rw step (best_taken hs most d s ps p best so r new of (omega (arith, e₄)) less within body)

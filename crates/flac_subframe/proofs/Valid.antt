@@ -1,5 +1,5 @@
 -- What was chosen for samples may be spelled, and its samples are those.
-use Rattle.std.proofs.Common.{◌≡◌, ◌∙◌, inl, inr, refl, sym, ap, ℕ, zero, suc, ◌+◌, ◌-◌, ◌*◌, ◌^◌, ◌≤◌, ◌<◌, arith, ℤ, pos, negsuc, List, ◌++◌, Option, Some, length, take, map, All, get_or, length-append}
+use Rattle.std.proofs.Common.{◌≡◌, ◌∙◌, refl, sym, ap, subst, ℕ, zero, suc, ◌+◌, ◌-◌, ◌*◌, ◌^◌, ◌≤◌, ◌<◌, arith, ℤ, pos, negsuc, List, ◌++◌, Option, Some, length, take, map, All, get_or, length-append}
 use Rattle.std.specs.Int.RustNames.{unsigned_abs}
 use Rattle.std.proofs.lemmas.Int.{ints, unsigned_abs-mul}
 use Rattle.std.proofs.lemmas.Nat.{pow-add, pow_pos}
@@ -8,8 +8,11 @@ use Rattle.std.proofs.lemmas.List.{length-map, get_or-map}
 use Rattle.std.proofs.lemmas.List.Elements.{All-take}
 use Rattle.flac_bits.specs.Signed.{FitsBits}
 use Rattle.flac_subframe.specs.declared.limits.Limits.{Limits}
-use Rattle.flac_subframe.specs.Bodies.{fixed, linear, Among, Body, constant, verbatim, predicted, StandsFor, content_of}
-use Rattle.flac_subframe.specs.Chosen.{fixed_below}
+use Rattle.flac_subframe.specs.declared.linear.LinearPredictor.{LinearPredictor}
+use Rattle.flac_subframe.specs.Bodies.{Chooses, fixed, linear, Body, constant, verbatim, predicted, Predicts, StandsFor, content_of}
+use Rattle.flac_subframe.specs.Chosen.{offered}
+use Rattle.flac_subframe.specs.Handed.{predictor_of, AreWithin}
+use Rattle.flac_subframe.specs.Cost.{Codings}
 use Rattle.flac_subframe.specs.Prediction.{fixed_coefficients, restored}
 use Rattle.flac_subframe.specs.Spelling.{FitsWidth, MayHold, IsSubframe}
 use Rattle.flac_subframe.specs.Subframe.{restored_samples, samples_of, fitting}
@@ -17,7 +20,7 @@ use Rattle.flac_subframe.specs.Wasted.{times_power}
 use Rattle.flac_subframe.proofs.Bodies.{warm_up_is}
 use Rattle.flac_subframe.proofs.Cuts.{may_leave, values_are}
 use Rattle.flac_subframe.proofs.Differences.{first_all}
-use Rattle.flac_subframe.proofs.Made.{among_few}
+use Rattle.flac_subframe.proofs.Made.{among_few, among_handed, handed_one}
 use Rattle.flac_subframe.proofs.Predicted.{fixed_length}
 use Rattle.flac_subframe.proofs.Samples.{all_fit_is}
 use Rattle.flac_subframe.proofs.Unique.{only_one, restored_is}
@@ -47,15 +50,6 @@ fits_width (suc n) z some f = f
 pub all_width : (n : ℕ) (zs : List ℤ) → 1 ≤ n → All (FitsBits n) zs → All (FitsWidth n) zs
 all_width n zs some all = λ i d h. fits_width n _ some (all i d h)
 
--- no fixed predictor is a linear one
-pub not_linear : (precision shift : ℕ) (cs : List ℤ) → Among (linear precision shift cs) (fixed_below 5) → ⊥
-not_linear precision shift cs (inl e) = cc
-not_linear precision shift cs (inr (inl e)) = cc
-not_linear precision shift cs (inr (inr (inl e))) = cc
-not_linear precision shift cs (inr (inr (inr (inl e)))) = cc
-not_linear precision shift cs (inr (inr (inr (inr (inl e))))) = cc
-not_linear precision shift cs (inr (inr (inr (inr (inr h))))) = h
-
 module _ (most d k : ℕ) (s t : List ℤ) (left : k < d) (times : s ≡ map (times_power k) t) (fits : All (FitsBits d) s) where
   long : length s ≡ length t
   long = ap length times ∙ length-map t (times_power k)
@@ -66,13 +60,32 @@ module _ (most d k : ℕ) (s t : List ℤ) (left : k < d) (times : s ≡ map (ti
       let e : get_or s i (pos 0) ≡ times_power k (get_or t i x) = ap (λ (l : List ℤ). get_or l i (pos 0)) times ∙ get_or-map (times_power k) t i x (pos 0) h in
       unscaled d k (get_or t i x) left (rw e at f)
 
-  may_hold : (limits : Limits) (b : Body) → 0 < length s → most ≤ limits.partition → most ≤ 15 → StandsFor most (fixed_below 5) b t → MayHold (d - k) (length s) limits (content_of b)
-  may_hold limits (constant v) some le few stands =
+  -- by a linear predictor
+  may_linear : (limits : Limits) (q : LinearPredictor) (ws : List ℤ) (f : Codings) (rs : List ℤ) → most ≤ limits.partition → most ≤ 15 → length q.coefficients.items ≤ limits.linear → Predicts most (predictor_of q) ws f rs t
+      → MayHold (d - k) (length s) limits (content_of (predicted (predictor_of q) ws f rs))
+  may_linear limits q ws f rs le few within h =
+      let cs : List ℤ = q.coefficients.items in
+      let ws_is : ws ≡ take (length cs) t = warm_up_is cs q.shift t ws rs h.long h.restored in
+      let all : length t ≡ length ws + length rs = h.restored.long ∙ length-append ws rs in
+      let warm : All (FitsBits (d - k)) ws = rw ws_is (All-take (FitsBits (d - k)) (length cs) t fit) in
+      let room = h.room in
+      let many = h.long in
+      let block : length s ≡ length rs + length cs = omega (arith, long, all, many) in (
+        omega (arith, many, q.some),
+        omega (arith, many, within),
+        omega (arith, many, room, long),
+        record { many = refl; fit = all_width (d - k) ws (omega (arith, left)) warm },
+        record { some = q.some_bits; few = q.few_bits; shift = q.small_shift; many = sym many; fit = all_width q.precision cs q.some_bits q.fit },
+        rw (block, many) (may_leave most (length cs) rs f h.written limits.partition le few h.range),
+      )
+
+  may_hold : (limits : Limits) (ps : List LinearPredictor) (b : Body) → 0 < length s → most ≤ limits.partition → most ≤ 15 → AreWithin limits.linear ps → StandsFor most (offered ps) b t → MayHold (d - k) (length s) limits (content_of b)
+  may_hold limits ps (constant v) some le few within stands =
       let h : 0 < length t = omega (arith, some, long) in
       fits_width (d - k) v (omega (arith, left)) (rw (first_all t v stands 0 h) at (fit 0 (pos 0) h))
-  may_hold limits (verbatim vs) some le few stands = record { many = ap length stands ∙ sym long; fit = rw stands (all_width (d - k) t (omega (arith, left)) fit) }
-  may_hold limits (predicted (fixed order) ws f rs) some le few stands =
-      let four = among_few order stands.0 in
+  may_hold limits ps (verbatim vs) some le few within stands = record { many = ap length stands ∙ sym long; fit = rw stands (all_width (d - k) t (omega (arith, left)) fit) }
+  may_hold limits ps (predicted (fixed order) ws f rs) some le few within stands =
+      let four = among_few order ps stands.0 in
       let h = stands.1 in
       let size = fixed_length order four in
       let cs : List ℤ = fixed_coefficients order in
@@ -87,25 +100,32 @@ module _ (most d k : ℕ) (s t : List ℤ) (left : k < d) (times : s ≡ map (ti
         record { many = refl; fit = all_width (d - k) ws (omega (arith, left)) warm },
         rw (block, many) (may_leave most (length cs) rs f h.written limits.partition le few h.range),
       )
-  may_hold limits (predicted (linear precision shift cs) ws f rs) some le few stands = absurd (not_linear precision shift cs stands.0)
+  may_hold limits ps (predicted (linear precision shift cs) ws f rs) some le few within stands =
+      let p : Chooses = linear precision shift cs in
+      let one = handed_one limits.linear p ps within (among_handed precision shift cs ps stands.0) in
+      let P : Chooses → Type 0 = λ x. Predicts most x ws f rs t → MayHold (d - k) (length s) limits (content_of (predicted x ws f rs)) in
+      subst P (sym one.1) (may_linear limits one.0 ws f rs le few one.2) stands.1
 
-  pub may_be : (limits : Limits) (b : Body) → 0 < length s → most ≤ limits.partition → most ≤ 15 → StandsFor most (fixed_below 5) b t → IsSubframe d (length s) limits (record { wasted = k; content = content_of b })
-  may_be limits b some le few stands = record { left = left; content = may_hold limits b some le few stands }
+  pub may_be : (limits : Limits) (ps : List LinearPredictor) (b : Body) → 0 < length s → most ≤ limits.partition → most ≤ 15 → AreWithin limits.linear ps → StandsFor most (offered ps) b t → IsSubframe d (length s) limits (record { wasted = k; content = content_of b })
+  may_be limits ps b some le few within stands = record { left = left; content = may_hold limits ps b some le few within stands }
 
-  are_restored : (b : Body) → StandsFor most (fixed_below 5) b t → restored_samples (length s) (content_of b) ≡ t
-  are_restored (constant v) stands = rw long (sym stands)
-  are_restored (verbatim vs) stands = stands
-  are_restored (predicted (fixed order) ws f rs) stands =
+  are_restored : (ps : List LinearPredictor) (b : Body) → StandsFor most (offered ps) b t → restored_samples (length s) (content_of b) ≡ t
+  are_restored ps (constant v) stands = rw long (sym stands)
+  are_restored ps (verbatim vs) stands = stands
+  are_restored ps (predicted (fixed order) ws f rs) stands =
       let h = stands.1 in
       let cs : List ℤ = fixed_coefficients order in
-      let e : length ws ≡ order = h.long ∙ fixed_length order (among_few order stands.0) in
+      let e : length ws ≡ order = h.long ∙ fixed_length order (among_few order ps stands.0) in
       let many = h.long in
       rw (e, values_are most (length cs) rs f h.written) (only_one cs 0 (ws ++ rs) (restored cs 0 (ws ++ rs)) t (restored_is cs 0 (ws ++ rs) (omega (arith, many, length-append ws rs))) h.restored)
-  are_restored (predicted (linear precision shift cs) ws f rs) stands = absurd (not_linear precision shift cs stands.0)
+  are_restored ps (predicted (linear precision shift cs) ws f rs) stands =
+      let h = stands.1 in
+      let many = h.long in
+      rw (values_are most (length cs) rs f h.written) (only_one cs shift (ws ++ rs) (restored cs shift (ws ++ rs)) t (restored_is cs shift (ws ++ rs) (omega (arith, many, length-append ws rs))) h.restored)
 
   some_of : List ℤ → Option (List ℤ)
   some_of l = Some l
 
-  pub are_samples : (b : Body) → StandsFor most (fixed_below 5) b t → samples_of d (length s) (record { wasted = k; content = content_of b }) ≡ Some s
+  pub are_samples : (ps : List LinearPredictor) (b : Body) → StandsFor most (offered ps) b t → samples_of d (length s) (record { wasted = k; content = content_of b }) ≡ Some s
   unfolding fitting some_of
-  are_samples b stands = rw (are_restored b stands, all_fit_is (d - k) t fit) (ap some_of (sym times))
+  are_samples ps b stands = rw (are_restored ps b stands, all_fit_is (d - k) t fit) (ap some_of (sym times))

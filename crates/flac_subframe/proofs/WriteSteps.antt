@@ -16,9 +16,9 @@ use Rattle.flac_subframe.specs.declared.coding.Coding.TheVariants.{Rice, Escape}
 use Rattle.flac_subframe.specs.Numbers.{sample_at}
 use Rattle.flac_subframe.specs.Bodies.{cut, residual_of}
 use Rattle.flac_subframe.specs.Cost.{MayCodeEach, Codings}
-use Rattle.flac_subframe.specs.Spelling.{folded, value_spelling, coding_spelling, partition_spelling, residual_spelling, flag_of, type_of, wasted_spelling, header_spelling, content_spelling, subframe_spelling}
+use Rattle.flac_subframe.specs.Spelling.{folded, value_spelling, coding_spelling, partition_spelling, residual_spelling, predictor_spelling, flag_of, type_of, wasted_spelling, header_spelling, content_spelling, subframe_spelling}
 use Rattle.flac_subframe.specs.Residual.{Residual}
-use Rattle.flac_subframe.specs.Subframe.{Form, Constant, Verbatim, Fixed}
+use Rattle.flac_subframe.specs.Subframe.{Form, Constant, Verbatim, Fixed, Linear, Predictor}
 
 -- two fields as one
 pub two_fields : (n m a b : ℕ) → b < 2 ^ m → unsigned (n + m) (a * 2 ^ m + b) ≡ unsigned n a ++ unsigned m b
@@ -128,6 +128,20 @@ verbatim_text d vs = refl
 pub fixed_text : (d : ℕ) (ws : List ℤ) (r : Residual) → content_spelling d (Fixed ws r) ≡ flat_map (signed d) ws ++ residual_spelling r
 unfolding content_spelling
 fixed_text d ws r = ap (λ (t : List Bool). flat_map (signed d) ws ++ t) (append-nil (residual_spelling r))
+
+-- the precision less one and the shift as one field
+pub predictor_text : (p : Predictor) (field : ℕ) → p.shift < 32 → field ≡ (p.precision - 1) * 32 + p.shift → predictor_spelling p ≡ unsigned 9 field ++ flat_map (signed p.precision) p.coefficients
+unfolding predictor_spelling
+predictor_text p field small is =
+    let a : List Bool = unsigned 4 (p.precision - 1) in
+    let b : List Bool = unsigned 5 p.shift in
+    let cs : List Bool = flat_map (signed p.precision) p.coefficients in
+    let fields : unsigned 9 field ≡ a ++ b = ap (unsigned 9) is ∙ two_fields 4 5 (p.precision - 1) p.shift small in
+    ap (λ (t : List Bool). a ++ (b ++ t)) (append-nil cs) ∙ sym (append_assoc a b cs) ∙ ap (λ (t : List Bool). t ++ cs) (sym fields)
+
+pub linear_text : (d : ℕ) (ws : List ℤ) (p : Predictor) (r : Residual) → content_spelling d (Linear ws p r) ≡ flat_map (signed d) ws ++ (predictor_spelling p ++ residual_spelling r)
+unfolding content_spelling
+linear_text d ws p r = ap (λ (t : List Bool). flat_map (signed d) ws ++ (predictor_spelling p ++ t)) (append-nil (residual_spelling r))
 
 pub subframe_text : (d : ℕ) (f : Form) → subframe_spelling d f ≡ header_spelling (type_of f.content) f.wasted ++ content_spelling (d - f.wasted) f.content
 unfolding subframe_spelling

@@ -1,17 +1,19 @@
 -- What the samples of a form are, as equations, and the laws.
-use Rattle.std.specs.Prelude.{◌≡◌, ℕ, ◌<◌, ◌≤◌, ◌↔◌, Bool, ℤ, List, ◌++◌, length, Ok, Some, All}
+use Rattle.std.specs.Prelude.{◌≡◌, ℕ, ◌<◌, ◌≤◌, ◌↔◌, ◌⊎◌, Bool, ℤ, List, [], ◌∷◌, ◌++◌, length, Ok, Some, All}
 use Rattle.flac_bits.specs.State.{Mark, past}
 use Rattle.flac_bits.specs.Layout.{run}
 use Rattle.flac_bits.specs.Meaning.{Spells}
 use Rattle.flac_bits.specs.Signed.{FitsBits}
 use Rattle.flac_subframe.specs.declared.limits.Limits.{Limits}
-use Rattle.flac_subframe.specs.Chosen.{fixed_below}
+use Rattle.flac_subframe.specs.declared.linear.LinearPredictor.{LinearPredictor}
+use Rattle.flac_subframe.specs.Chosen.{fixed_below, offered}
+use Rattle.flac_subframe.specs.Handed.{handed, AreWithin}
 use Rattle.flac_subframe.specs.Family.{Stands}
 use Rattle.flac_subframe.specs.Spelling.{subframe_spelling, IsSubframe}
 use Rattle.flac_subframe.specs.Numbers.{sample_at}
 use Rattle.flac_subframe.specs.Prediction.{fixed_coefficients, Restored}
 use Rattle.flac_subframe.specs.Residual.{residual_values}
-use Rattle.flac_subframe.specs.Subframe.{Content, Constant, Verbatim, Fixed, Linear, Form, subframe, restored_samples, samples_of}
+use Rattle.flac_subframe.specs.Subframe.{Content, Constant, Verbatim, Fixed, Linear, Predictor, Form, subframe, restored_samples, samples_of}
 use Rattle.flac_subframe.specs.Wasted.{IsWasted}
 
 -- s are the samples of a content in a block of a size, before the wasted bits are put back (RFC 9639, sections 9.2.3 to 9.2.6).
@@ -65,3 +67,32 @@ FamilyIsWhole = (depth block : ℕ) (limits : Limits) (f : Form) (s : List ℤ) 
 abbrev pub FamilyIsPlain : Type 0
 FamilyIsPlain = (depth : ℕ) (limits : Limits) (f : Form) (s : List ℤ) → 1 ≤ depth → 0 < length s → 8 ≤ limits.partition → All (FitsBits depth) s → Stands 8 (fixed_below 5) f s
     → IsSubframe depth (length s) limits f × (samples_of depth (length s) f ≡ Some s) × InFamily f s
+
+-- ---- the family that linear predictors widen
+
+-- the predictor is one of those that are handed in
+abbrev pub IsOneOf : Predictor → List LinearPredictor → Type 0
+IsOneOf p [] = ⊥
+IsOneOf p (q ∷ qs) = (p ≡ handed q) ⊎ IsOneOf p qs
+
+-- one sample for all, all samples, a fixed predictor, or just one of those that are handed in
+abbrev pub WithLinear : List LinearPredictor → Content → Type 0
+WithLinear ps (Constant sample) = Unit {0}
+WithLinear ps (Verbatim samples) = Unit {0}
+WithLinear ps (Fixed warm_up rest) = Unit {0}
+WithLinear ps (Linear warm_up chosen rest) = IsOneOf chosen ps
+
+-- a form of the widened family, for its samples: it leaves out as many lowest bits as they all lack
+pub record InWidened (ps : List LinearPredictor) (f : Form) (s : List ℤ) : Type 0 where
+  pub plain : WithLinear ps f.content
+  pub wasted : IsWasted f.wasted s
+
+-- each form of the widened family that may be spelled, with partition orders up to the greatest, stands for its samples
+abbrev pub WidenedIsWhole : Type 0
+WidenedIsWhole = (most depth block : ℕ) (limits : Limits) (ps : List LinearPredictor) (f : Form) (s : List ℤ) → limits.partition ≤ most → IsSubframe depth block limits f → samples_of depth block f ≡ Some s
+    → InWidened ps f s → Stands most (offered ps) f s
+
+-- and the other way, where the order of each predictor is within the limit
+abbrev pub WidenedIsPlain : Type 0
+WidenedIsPlain = (most depth : ℕ) (limits : Limits) (ps : List LinearPredictor) (f : Form) (s : List ℤ) → 1 ≤ depth → 0 < length s → most ≤ limits.partition → most ≤ 15 → AreWithin limits.linear ps
+    → All (FitsBits depth) s → Stands most (offered ps) f s → IsSubframe depth (length s) limits f × (samples_of depth (length s) f ≡ Some s) × InWidened ps f s

@@ -7,24 +7,31 @@ ghost use Rattle.flac_subframe.specs.Spelling.{folded};
 ghost use Rattle.flac_subframe.specs.Least.{IsLeast};
 ghost use Rattle.flac_bits.specs.Rice.{IsResidual};
 ghost use Rattle.flac_subframe.specs.Bodies.{Chooses, fixed, differences, StandsFor, spelled};
-ghost use Rattle.flac_subframe.specs.Chosen.{body_of, IsBest, fixed_below, priced_as};
+ghost use Rattle.flac_subframe.specs.Chosen.{body_of, IsBest, fixed_below, offered, priced_as};
+ghost use Rattle.flac_subframe.specs.Handed.{predictor_of, handed_at};
+ghost use Rattle.flac_subframe.specs.declared.linear.LinearPredictor.{LinearPredictor};
 
 use crate::chosen::MOST_SAMPLES;
 use crate::folding::fold_each;
 use crate::halving::ResidualChoice;
-use crate::leaving::take_differences;
+use crate::leaving::{take_differences, take_weighed};
+use crate::linear::LinearPredictor;
 use crate::narrowed::{narrow, take_narrow};
 use crate::survey::{Tables, greatest_halvings, least_residual_into};
-use crate::view::{ResidualView, SampleView};
+use crate::view::{ResidualView, SampleView, Scope};
 use arrayvec::ArrayVec;
 
-/// How the samples of a subframe are written.
+/// How the samples of a subframe are written. A linear predictor is named by its place in the list that was handed in.
 #[derive(Drop, Clone, Debug, PartialEq, Eq)]
 pub enum Kind {
     Constant,
     Verbatim,
     Fixed {
         order: usize,
+        residual: ResidualChoice,
+    },
+    Linear {
+        index: usize,
         residual: ResidualChoice,
     },
 }
@@ -35,6 +42,7 @@ pub enum HeldKind {
     AsConstant,
     AsVerbatim,
     AsFixed(usize),
+    AsLinear(usize),
 }
 
 /// The best so far. Its residual stays in place and is overwritten only by a better one.
@@ -159,7 +167,7 @@ fn better_fixed(
     requires places { length subject.now.samples.now ≤ length values.old }
     requires folds { length subject.now.samples.now ≤ length folds.old }
     requires small { best.old.bits ≤ 2 ^ 60 }
-    ensures { (tried : List Chooses) → IsBest subject.now.most subject.now.bits subject.now.samples.now tried (priced_as best.old) → IsBest subject.now.most subject.now.bits subject.now.samples.now (tried ++ fixed order ∷ []) (priced_as best.new) }
+    ensures { (tried : List Chooses) → IsBest subject.now.predictors.now subject.now.most subject.now.bits subject.now.samples.now tried (priced_as best.old) → IsBest subject.now.predictors.now subject.now.most subject.now.bits subject.now.samples.now (tried ++ fixed order ∷ []) (priced_as best.new) }
 {
     let samples = subject.samples;
     if order >= samples.len() {
@@ -188,12 +196,105 @@ fn better_fixed(
     }
 }
 
+/// What a linear predictor leaves of the samples, and the same as unsigned numbers, if a residual may have it all.
+fn take_handed(
+    samples: &[i64],
+    predictor: &LinearPredictor,
+    wide: &mut [i64],
+    values: &mut [i32],
+    folds: &mut [u32],
+) -> bool
+    requires fits { All (FitsBits 33) samples.now }
+    requires places { length values.old + length predictor.now.coefficients.items ≡ length samples.now }
+    requires wide { length samples.now ≤ length wide.old }
+    requires folds { length folds.old ≡ length values.old }
+    ensures values { IsTrue result → values.new ≡ differences predictor.now.coefficients.items predictor.now.shift samples.now }
+    ensures range { IsTrue result → All IsResidual values.new }
+    ensures unsigned { IsTrue result → folds.new ≡ map folded values.new }
+    ensures small { IsTrue result → All (λ n. n < 2 ^ 32) folds.new }
+    ensures all { All IsResidual (differences predictor.now.coefficients.items predictor.now.shift samples.now) → IsTrue result }
+{
+    let wide = &mut wide[..values.len()];
+    if !take_weighed(predictor.coefficients(), predictor.shift(), samples, wide) {
+        return false;
+    }
+    fold_each(wide, values, folds);
+    true
+}
+
+/// Replaces the best so far by the linear predictor at a place of the list, if that takes fewer bits.
+fn better_linear(
+    subject: &SampleView<'_>,
+    index: usize,
+    wide: &mut [i64],
+    values: &mut [i32],
+    folds: &mut [u32],
+    tables: &mut Tables,
+    best: &mut Held,
+)
+    requires index { index < length subject.now.predictors.now }
+    requires wide { length subject.now.samples.now ≤ length wide.old }
+    requires places { length subject.now.samples.now ≤ length values.old }
+    requires folds { length subject.now.samples.now ≤ length folds.old }
+    requires small { best.old.bits ≤ 2 ^ 60 }
+    ensures best { (tried : List Chooses) → IsBest subject.now.predictors.now subject.now.most subject.now.bits subject.now.samples.now tried (priced_as best.old) → IsBest subject.now.predictors.now subject.now.most subject.now.bits subject.now.samples.now (tried ++ handed_at subject.now.predictors.now index ∷ []) (priced_as best.new) }
+    ensures less { best.new.bits ≤ best.old.bits }
+{
+    let samples = subject.samples;
+    let predictors = subject.predictors;
+    let predictor = &predictors[index];
+    let order = predictor.order();
+    if order >= samples.len() {
+        return;
+    }
+    let before = u64::from(subject.bits) * order as u64 + predictor.field_bits();
+    if best.bits <= before {
+        return;
+    }
+    let places = &mut values[..samples.len() - order];
+    let folds = &mut folds[..places.len()];
+    if !take_handed(samples, predictor, wide, places, folds) {
+        return;
+    }
+    let halvings = greatest_halvings(places, order, subject.most);
+    let residual = ResidualView {
+        values: places,
+        folds,
+        order,
+        halvings,
+    };
+    if least_residual_into(&residual, tables, best.bits - before, &mut best.residual) {
+        best.kind = HeldKind::AsLinear(index);
+        best.bits = before + best.residual.bits;
+    }
+}
+
+/// Tries the linear predictors of the list one after another.
+fn better_of_each(
+    subject: &SampleView<'_>,
+    wide: &mut [i64],
+    values: &mut [i32],
+    folds: &mut [u32],
+    tables: &mut Tables,
+    best: &mut Held,
+)
+    requires wide { length subject.now.samples.now ≤ length wide.old }
+    requires places { length subject.now.samples.now ≤ length values.old }
+    requires folds { length subject.now.samples.now ≤ length folds.old }
+    requires small { best.old.bits ≤ 2 ^ 60 }
+    ensures { (tried : List Chooses) → IsBest subject.now.predictors.now subject.now.most subject.now.bits subject.now.samples.now tried (priced_as best.old) → IsBest subject.now.predictors.now subject.now.most subject.now.bits subject.now.samples.now (tried ++ map predictor_of subject.now.predictors.now) (priced_as best.new) }
+{
+    for index in 0..subject.predictors.len() {
+        better_linear(subject, index, wide, values, folds, tables, best);
+    }
+}
+
 /// The first choice to compare with.
 fn begin(samples: &[i64], bits: u32) -> Held
     requires some { 0 < length samples.now }
     requires few { length samples.now ≤ 65535 }
     requires bits { bits ≤ 33 }
-    ensures { (most : ℕ) → IsBest most bits samples.now (fixed_below 0) (priced_as result) }
+    ensures { (handed : List LinearPredictor) (most : ℕ) → IsBest handed most bits samples.now (fixed_below 0) (priced_as result) }
 {
     let residual = ResidualChoice {
         parameter_bits: 4,
@@ -233,6 +334,10 @@ fn release(held: Held) -> PricedChoice
             kind: Kind::Fixed { order, residual },
             bits,
         },
+        HeldKind::AsLinear(index) => PricedChoice {
+            kind: Kind::Linear { index, residual },
+            bits,
+        },
     }
 }
 
@@ -243,12 +348,12 @@ fn plain(kind: Kind, _residual: ResidualChoice, bits: u64) -> PricedChoice
     PricedChoice { kind, bits }
 }
 
-/// The content of the fewest bits: constant, verbatim, or a fixed predictor with a partition order up to the greatest, worked out in
-/// arrays that are each at least as long as the samples.
+/// The content of the fewest bits: constant, verbatim, a fixed predictor or one of the linear ones, with a partition order up to the
+/// greatest, worked out in arrays that are each at least as long as the samples.
 fn choose_among(
     samples: &[i64],
     bits: u32,
-    most: u8,
+    scope: &Scope<'_>,
     narrowed: &mut [i32],
     wide: &mut [i64],
     values: &mut [i32],
@@ -256,14 +361,13 @@ fn choose_among(
 ) -> PricedChoice
     requires some { 0 < length samples.now }
     requires few { length samples.now ≤ 65535 }
-    requires most { most ≤ 8 }
     requires bits { bits ≤ 33 }
     requires fits { All (FitsBits 33) samples.now }
     requires narrowed { length samples.now ≤ length narrowed.old }
     requires wide { length samples.now ≤ length wide.old }
     requires places { length samples.now ≤ length values.old }
     requires folds { length samples.now ≤ length folds.old }
-    ensures { IsBest most bits samples.now (fixed_below 5) result }
+    ensures { IsBest scope.now.predictors.now scope.now.most bits samples.now (offered scope.now.predictors.now) result }
 {
     let mut tables = Tables {
         sums: [0; 256],
@@ -279,7 +383,8 @@ fn choose_among(
         samples,
         narrowed,
         bits,
-        most,
+        most: scope.most,
+        predictors: scope.predictors,
         narrow,
     };
     better_fixed(&subject, first, wide, values, folds, &mut tables, &mut best);
@@ -288,6 +393,7 @@ fn choose_among(
             better_fixed(&subject, order, wide, values, folds, &mut tables, &mut best);
         }
     }
+    better_of_each(&subject, wide, values, folds, &mut tables, &mut best);
     release(best)
 }
 
@@ -299,22 +405,29 @@ const FEW_SAMPLES: usize = 4608;
 fn choose_of_few(
     samples: &[i64],
     bits: u32,
-    most: u8,
+    scope: &Scope<'_>,
     wide: &mut [i64],
     folds: &mut [u32],
 ) -> PricedChoice
     requires some { 0 < length samples.now }
     requires few { length samples.now ≤ 4608 }
-    requires most { most ≤ 8 }
     requires bits { bits ≤ 33 }
     requires fits { All (FitsBits 33) samples.now }
     requires wide { length samples.now ≤ length wide.old }
     requires folds { length samples.now ≤ length folds.old }
-    ensures { IsBest most bits samples.now (fixed_below 5) result }
+    ensures { IsBest scope.now.predictors.now scope.now.most bits samples.now (offered scope.now.predictors.now) result }
 {
     let mut narrowed = [0; FEW_SAMPLES];
     let mut values = [0; FEW_SAMPLES];
-    choose_among(samples, bits, most, &mut narrowed, wide, &mut values, folds)
+    choose_among(
+        samples,
+        bits,
+        scope,
+        &mut narrowed,
+        wide,
+        &mut values,
+        folds,
+    )
 }
 
 /// The same for many samples.
@@ -322,44 +435,51 @@ fn choose_of_few(
 fn choose_of_many(
     samples: &[i64],
     bits: u32,
-    most: u8,
+    scope: &Scope<'_>,
     wide: &mut [i64],
     folds: &mut [u32],
 ) -> PricedChoice
     requires some { 0 < length samples.now }
     requires few { length samples.now ≤ 65535 }
-    requires most { most ≤ 8 }
     requires bits { bits ≤ 33 }
     requires fits { All (FitsBits 33) samples.now }
     requires wide { length samples.now ≤ length wide.old }
     requires folds { length samples.now ≤ length folds.old }
-    ensures { IsBest most bits samples.now (fixed_below 5) result }
+    ensures { IsBest scope.now.predictors.now scope.now.most bits samples.now (offered scope.now.predictors.now) result }
 {
     let mut narrowed = [0; MOST_SAMPLES];
     let mut values = [0; MOST_SAMPLES];
-    choose_among(samples, bits, most, &mut narrowed, wide, &mut values, folds)
+    choose_among(
+        samples,
+        bits,
+        scope,
+        &mut narrowed,
+        wide,
+        &mut values,
+        folds,
+    )
 }
 
-/// The content of the fewest bits: constant, verbatim, or a fixed predictor with a partition order up to the greatest.
+/// The content of the fewest bits: constant, verbatim, a fixed predictor or one of the linear ones, with a partition order up to the
+/// greatest.
 pub(crate) fn choose_body(
     samples: &[i64],
     bits: u32,
-    most: u8,
+    scope: &Scope<'_>,
     values: &mut [i64],
     folds: &mut [u32],
 ) -> PricedChoice
     requires some { 0 < length samples.now }
     requires few { length samples.now ≤ 65535 }
-    requires most { most ≤ 8 }
     requires bits { bits ≤ 33 }
     requires fits { All (FitsBits 33) samples.now }
     requires places { length samples.now ≤ length values.old }
     requires folds { length samples.now ≤ length folds.old }
-    ensures { IsBest most bits samples.now (fixed_below 5) result }
+    ensures { IsBest scope.now.predictors.now scope.now.most bits samples.now (offered scope.now.predictors.now) result }
 {
     if samples.len() <= FEW_SAMPLES {
-        choose_of_few(samples, bits, most, values, folds)
+        choose_of_few(samples, bits, scope, values, folds)
     } else {
-        choose_of_many(samples, bits, most, values, folds)
+        choose_of_many(samples, bits, scope, values, folds)
     }
 }

@@ -25,12 +25,15 @@ mod wasted;
 mod widths;
 mod writing;
 
-pub use chosen::{Choice, choose, choose_into};
+pub use chosen::{Choice, choose, choose_into, choose_with, choose_with_into};
 pub use limits::Limits;
 pub use linear::LinearPredictor;
 pub use predictors::{predict_fixed, predict_linear};
 pub use promises::{
     family_is_plain, samples_are_restored, subframes_are_read_again, subframes_are_spelled,
+    widened_family_is_plain,
 };
 pub use subframe::read_subframe;
-pub use writing::{write_subframe, write_subframe_into};
+pub use writing::{
+    write_subframe, write_subframe_into, write_subframe_with, write_subframe_with_into,
+};

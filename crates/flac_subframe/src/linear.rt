@@ -53,7 +53,7 @@ fn copied(coefficients: &[i32]) -> ArrayVec<i32, 32>
 
 impl LinearPredictor {
     ghost use Rattle.flac_subframe.specs.Bodies.{linear, fields_cost};
-    ghost use Rattle.flac_subframe.specs.Handed.{predictor_of};
+    ghost use Rattle.flac_subframe.specs.Handed.{predictor_of, AreWithin};
 
     /// A predictor of a precision of 1 to 15 bits, a shift of 0 to 15, and 1 to 32 coefficients that have a two's complement form of as
     /// many bits as the precision, the one for the nearest sample first (RFC 9639, section 9.2.6). `None` if one of these does not hold.
@@ -84,6 +84,18 @@ impl LinearPredictor {
             shift: shift as u8,
             coefficients: copied(coefficients),
         })
+    }
+
+    /// Whether the order of each predictor is within a limit.
+    pub fn are_within(predictors: &[LinearPredictor], limit: u32) -> bool
+        ensures { IsTrue result ↔ AreWithin limit predictors.now }
+    {
+        for predictor in predictors {
+            if predictor.order() > limit as usize {
+                return false;
+            }
+        }
+        true
     }
 
     /// How many coefficients it has, 1 to 32: as many as it has warm-up samples.

@@ -1,6 +1,6 @@
 //! Laws of the definitions, each on a function that does nothing.
 
-ghost use Rattle.flac_subframe.specs.Laws.{SamplesAreRestored, SubframesAreSpelled, SubframesAreReadAgain, FamilyIsWhole, FamilyIsPlain};
+ghost use Rattle.flac_subframe.specs.Laws.{SamplesAreRestored, SubframesAreSpelled, SubframesAreReadAgain, FamilyIsWhole, FamilyIsPlain, WidenedIsWhole, WidenedIsPlain};
 
 /// The samples of a form are the one list that its equations allow: each later sample is its prediction plus its residual value.
 pub fn samples_are_restored()
@@ -22,4 +22,12 @@ pub fn subframes_are_read_again()
 pub fn family_is_plain()
     ensures whole { FamilyIsWhole }
     ensures plain { FamilyIsPlain }
+{}
+
+/// The same if linear predictors are handed in: the forms among which a choice with them is the least are just those that may be spelled, have
+/// these samples, are constant, verbatim, by a fixed predictor or by one of these linear ones, and leave out all the lowest bits that the
+/// samples lack.
+pub fn widened_family_is_plain()
+    ensures whole { WidenedIsWhole }
+    ensures plain { WidenedIsPlain }
 {}

@@ -6,6 +6,16 @@ ghost use Rattle.flac_bits.specs.Rice.{IsResidual};
 ghost use Rattle.flac_subframe.specs.Spelling.{folded};
 ghost use Rattle.flac_subframe.specs.Halves.{Halves};
 
+use crate::linear::LinearPredictor;
+
+/// What the search covers: partition orders up to the greatest, and linear predictors beside the fixed ones.
+#[derive(Drop)]
+pub(crate) struct Scope<'a> {
+    pub(crate) most: u8,
+    pub(crate) predictors: &'a [LinearPredictor],
+    ghost halved: { most ≤ 8 },
+}
+
 /// A residual whose codings are searched: its values, the same as unsigned numbers, the order of its predictor, and how often its block
 /// can be halved.
 #[derive(Drop)]
@@ -23,14 +33,16 @@ pub(crate) struct ResidualView<'a> {
     ghost halves: { Halves order values.now halvings },
 }
 
-/// The samples of a subframe without its wasted bits: how many bits each has, the greatest partition order that is tried, and whether
-/// each has so few bits that what a fixed predictor leaves is in the range of a residual; if so, also the samples in 32 bits each.
+/// The samples of a subframe without its wasted bits: how many bits each has, the greatest partition order and the linear predictors
+/// that are tried, and whether each sample has so few bits that what a fixed predictor leaves is in the range of a residual; if so, also
+/// the samples in 32 bits each.
 #[derive(Drop)]
 pub(crate) struct SampleView<'a> {
     pub(crate) samples: &'a [i64],
     pub(crate) narrowed: &'a [i32],
     pub(crate) bits: u32,
     pub(crate) most: u8,
+    pub(crate) predictors: &'a [LinearPredictor],
     pub(crate) narrow: bool,
     ghost few: { length samples.now ≤ 65535 },
     ghost depth: { bits ≤ 33 },

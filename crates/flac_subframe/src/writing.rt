@@ -1,21 +1,23 @@
 //! Subframes, written.
 
-ghost use Rattle.std.specs.Prelude.{◌≡◌, ◌≤◌, ◌<◌, ◌+◌, ◌*◌, ◌-◌, ◌^◌, ◌⊎◌, length, All, flat_map, take};
+ghost use Rattle.std.specs.Prelude.{◌≡◌, ◌≤◌, ◌<◌, ◌+◌, ◌*◌, ◌-◌, ◌^◌, ◌⊎◌, ◌++◌, List, length, All, flat_map, take};
 ghost use Rattle.flac_bits.specs.Rice.{IsResidual};
 ghost use Rattle.flac_bits.specs.Signed.{signed, FitsBits};
 ghost use Rattle.flac_bits.specs.Written.{Writes};
-ghost use Rattle.flac_subframe.specs.Bodies.{cut, residual_of, content_of, Predicts, fixed, order_of, coefficients_of, differences, StandsFor};
-ghost use Rattle.flac_subframe.specs.Chosen.{body_by, body_of, fixed_below};
-ghost use Rattle.flac_subframe.specs.Family.{form_of, IsMadeOf, OrderIsFew, kind_number};
+ghost use Rattle.flac_subframe.specs.Bodies.{cut, residual_of, content_of, Predicts, fixed, order_of, coefficients_of, shift_of, differences, StandsFor};
+ghost use Rattle.flac_subframe.specs.Chosen.{body_by, body_of, IsHanded, offered};
+ghost use Rattle.flac_subframe.specs.Family.{form_of, form_with, IsMadeOf, IsMadeWith, OrderIsFew, kind_number};
+ghost use Rattle.flac_subframe.specs.Handed.{predictor_of, handed};
 ghost use Rattle.flac_subframe.specs.Cost.{MayCode, MayCodeEach, MayWrite, codings_of};
-ghost use Rattle.flac_subframe.specs.Spelling.{value_spelling, coding_spelling, partition_spelling, residual_spelling, content_spelling, header_spelling, subframe_spelling};
+ghost use Rattle.flac_subframe.specs.Spelling.{value_spelling, coding_spelling, partition_spelling, residual_spelling, predictor_spelling, content_spelling, header_spelling, subframe_spelling};
 
 use crate::choice::Kind;
 use crate::chosen::{Choice, MOST_SAMPLES};
 use crate::coding::Coding;
 use crate::folding::fold;
 use crate::halving::{ResidualChoice, power};
-use crate::leaving::take_fixed;
+use crate::leaving::{take_fixed, take_linear};
+use crate::linear::LinearPredictor;
 use crate::predictors::fixed_coefficients;
 use crate::wasted::drop_wasted;
 use flac_bits::{BitWriter, Target, Why};
@@ -161,10 +163,80 @@ fn write_fixed<W: Target>(
     write_residual(writer, residual, count, places)
 }
 
+/// Writes coefficients of n bits each.
+fn write_coefficients<W: Target>(
+    writer: &mut BitWriter<W>,
+    n: u32,
+    coefficients: &[i32],
+) -> Result<(), Why>
+    requires some { 1 ≤ n }
+    requires few { n ≤ 15 }
+    requires range { All (FitsBits 15) coefficients.now }
+    ensures { Writes (flat_map (signed n) coefficients.now) writer.old writer.new result }
+{
+    for coefficient in coefficients {
+        writer.put_signed(n, i64::from(*coefficient))?;
+    }
+    Ok(())
+}
+
+/// Writes the precision less one, the shift and the coefficients of a linear predictor.
+fn write_predictor<W: Target>(
+    writer: &mut BitWriter<W>,
+    predictor: &LinearPredictor,
+) -> Result<(), Why>
+    ensures { Writes (predictor_spelling (handed predictor.now)) writer.old writer.new result }
+{
+    let precision = predictor.precision();
+    let field = (precision as u64 - 1) * 32 + predictor.shift() as u64;
+    writer.put(9, field)?;
+    write_coefficients(writer, precision, predictor.coefficients())
+}
+
+/// Writes a linear predictor and the residual that it left.
+fn write_rest<W: Target>(
+    writer: &mut BitWriter<W>,
+    predictor: &LinearPredictor,
+    residual: &ResidualChoice,
+    values: &[i64],
+) -> Result<(), Why>
+    requires few { length values.now + length predictor.now.coefficients.items ≤ 65535 }
+    requires may { MayWrite 8 (length predictor.now.coefficients.items) values.now (codings_of residual.now) }
+    requires range { All IsResidual values.now }
+    ensures { Writes (predictor_spelling (handed predictor.now) ++ residual_spelling (residual_of (length predictor.now.coefficients.items) values.now (codings_of residual.now))) writer.old writer.new result }
+{
+    write_predictor(writer, predictor)?;
+    write_residual(writer, residual, predictor.order(), values)
+}
+
+/// Writes the content of a linear predictor; the places are overwritten.
+fn write_linear<W: Target>(
+    writer: &mut BitWriter<W>,
+    predictor: &LinearPredictor,
+    residual: &ResidualChoice,
+    depth: u32,
+    samples: &[i64],
+    values: &mut [i64],
+) -> Result<(), Why>
+    requires few { length samples.now ≤ 65535 }
+    requires depth { (1 ≤ depth) × (depth ≤ 33) }
+    requires fits { All (FitsBits 33) samples.now }
+    requires places { length samples.now ≤ length values.old }
+    requires predicts { let p = predictor_of predictor.now in Predicts 8 p (take (order_of p) samples.now) (codings_of residual.now) (differences (coefficients_of p) (shift_of p) samples.now) samples.now }
+    ensures { Writes (content_spelling depth (content_of (body_by (predictor_of predictor.now) residual.now samples.now))) writer.old writer.new result }
+{
+    let order = predictor.order();
+    let places = &mut values[..samples.len() - order];
+    take_linear(predictor.coefficients(), predictor.shift(), samples, places);
+    write_signed(writer, depth, &samples[..order])?;
+    write_rest(writer, predictor, residual, places)
+}
+
 /// Writes the content of a subframe; the places are overwritten.
 fn write_content<W: Target>(
     writer: &mut BitWriter<W>,
     kind: &Kind,
+    predictors: &[LinearPredictor],
     depth: u32,
     samples: &[i64],
     values: &mut [i64],
@@ -174,14 +246,19 @@ fn write_content<W: Target>(
     requires depth { (1 ≤ depth) × (depth ≤ 33) }
     requires fits { All (FitsBits 33) samples.now }
     requires places { length samples.now ≤ length values.old }
-    requires stands { StandsFor 8 (fixed_below 5) (body_of kind.now samples.now) samples.now }
-    ensures { Writes (content_spelling depth (content_of (body_of kind.now samples.now))) writer.old writer.new result }
+    requires handed { IsHanded predictors.now kind.now }
+    requires stands { StandsFor 8 (offered predictors.now) (body_of predictors.now kind.now samples.now) samples.now }
+    ensures { Writes (content_spelling depth (content_of (body_of predictors.now kind.now samples.now))) writer.old writer.new result }
 {
     match kind {
         Kind::Constant => writer.put_signed(depth, samples[0]),
         Kind::Verbatim => write_signed(writer, depth, samples),
         Kind::Fixed { order, residual } => {
             write_fixed(writer, *order, residual, depth, samples, values)
+        }
+        Kind::Linear { index, residual } => {
+            let predictor = &predictors[*index];
+            write_linear(writer, predictor, residual, depth, samples, values)
         }
     }
 }
@@ -200,14 +277,19 @@ fn write_header<W: Target>(writer: &mut BitWriter<W>, kind: u64, wasted: u32) ->
 }
 
 /// The type of a subframe (RFC 9639, section 9.2.1).
-fn type_of_kind(kind: &Kind) -> u64
-    requires { OrderIsFew kind.now }
-    ensures { result ≡ kind_number kind.now }
+fn type_of_kind(kind: &Kind, predictors: &[LinearPredictor]) -> u64
+    requires order { OrderIsFew kind.now }
+    requires handed { IsHanded predictors.now kind.now }
+    ensures { result ≡ kind_number predictors.now kind.now }
 {
     match kind {
         Kind::Constant => 0,
         Kind::Verbatim => 1,
         Kind::Fixed { order, residual: _ } => 8 + *order as u64,
+        Kind::Linear { index, residual: _ } => {
+            let predictor = &predictors[*index];
+            31 + predictor.order() as u64
+        }
     }
 }
 
@@ -253,8 +335,71 @@ pub fn write_subframe_into<W: Target>(
     requires made { IsMadeOf choice.now samples.now }
     ensures { Writes (subframe_spelling depth (form_of choice.now samples.now)) writer.old writer.new result }
 {
+    write_subframe_with_into(choice, &[], samples, depth, shortened, values, writer)
+}
+
+/// Writes the subframe that was chosen for samples of a depth with linear predictors beside the fixed ones (RFC 9639, section 9.2).
+///
+/// The choice is one that was made of these samples at this depth with just these predictors. The work is done in arrays of 1 MB on the
+/// stack; for many blocks [`write_subframe_with_into`] takes arrays that are used again. Errors: `Write`.
+pub fn write_subframe_with<W: Target>(
+    choice: &Choice,
+    predictors: &[LinearPredictor],
+    samples: &[i64],
+    depth: u32,
+    bits: &mut BitWriter<W>,
+) -> Result<(), Why>
+    requires some { 0 < length samples.now }
+    requires few { length samples.now ≤ 65535 }
+    requires depth { (1 ≤ depth) × (depth ≤ 33) }
+    requires fits { All (FitsBits depth) samples.now }
+    requires made { IsMadeWith predictors.now choice.now samples.now }
+    ensures { Writes (subframe_spelling depth (form_with predictors.now choice.now samples.now)) bits.old bits.new result }
+{
+    let mut places = [0; MOST_SAMPLES];
+    let mut values = [0; MOST_SAMPLES];
+    write_subframe_with_into(
+        choice,
+        predictors,
+        samples,
+        depth,
+        &mut places,
+        &mut values,
+        bits,
+    )
+}
+
+/// Writes the subframe that was chosen for samples of a depth with linear predictors beside the fixed ones, with places for the samples
+/// and for the residual, which are overwritten.
+///
+/// The choice is one that was made of these samples at this depth with just these predictors. Errors: `Write`.
+pub fn write_subframe_with_into<W: Target>(
+    choice: &Choice,
+    predictors: &[LinearPredictor],
+    samples: &[i64],
+    depth: u32,
+    shortened: &mut [i64],
+    values: &mut [i64],
+    writer: &mut BitWriter<W>,
+) -> Result<(), Why>
+    requires some { 0 < length samples.now }
+    requires few { length samples.now ≤ 65535 }
+    requires depth { (1 ≤ depth) × (depth ≤ 33) }
+    requires fits { All (FitsBits depth) samples.now }
+    requires places { length samples.now ≤ length shortened.old }
+    requires values { length samples.now ≤ length values.old }
+    requires made { IsMadeWith predictors.now choice.now samples.now }
+    ensures { Writes (subframe_spelling depth (form_with predictors.now choice.now samples.now)) writer.old writer.new result }
+{
     let places = &mut shortened[..samples.len()];
     let wasted = drop_wasted(samples, depth, places);
-    write_header(writer, type_of_kind(&choice.kind), wasted)?;
-    write_content(writer, &choice.kind, depth - wasted, places, values)
+    write_header(writer, type_of_kind(&choice.kind, predictors), wasted)?;
+    write_content(
+        writer,
+        &choice.kind,
+        predictors,
+        depth - wasted,
+        places,
+        values,
+    )
 }

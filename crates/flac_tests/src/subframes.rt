@@ -141,7 +141,7 @@ fn fits_bits(number: i64, bits: u32) -> bool
     -limit <= number && number < limit
 }
 
-fn all_fit(samples: &[i64], depth: u32) -> bool
+pub(crate) fn all_fit(samples: &[i64], depth: u32) -> bool
     requires { (1 ≤ depth) × (depth ≤ 33) }
     ensures { IsTrue result → All (FitsBits depth) samples.now }
 {

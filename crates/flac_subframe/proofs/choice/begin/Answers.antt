@@ -5,14 +5,16 @@ use Rattle.flac_subframe.proofs.Bodies.{constant_least, verbatim_least, length-c
 use Rattle.flac_subframe.proofs.choice.begin.Goals as goal
 
 pub returns-then-all_equal : goal.returns-then-all_equal
-returns-then-all_equal c = λ most. record {
+returns-then-all_equal c = λ handed most. record {
+  within = tt;
   least = constant_least most c.args.bits c.args.samples.now c.requires.some (c.all_equal.ensures.0 c.if-all_equal.true);
   priced = c.from-width.ensures ∙ sym (length-constant c.args.bits (sample_at c.args.samples.now 0));
   small = omega arith;
 }
 
 pub returns-else-all_equal : goal.returns-else-all_equal
-returns-else-all_equal c = λ most. record {
+returns-else-all_equal c = λ handed most. record {
+  within = tt;
   least = verbatim_least most c.args.bits c.args.samples.now c.requires.some (λ same. cc (c.all_equal.ensures.1 same, c.if-all_equal.false));
   priced = rw c.from-width.ensures (sym (length-verbatim c.args.bits c.args.samples.now));
   small = omega (arith, mul-le c.from-width.result (length c.args.samples.now) 33 65535 (omega arith) (omega arith));

@@ -1,35 +1,20 @@
-use Rattle.std.proofs.Common.{arith, sym}
-use Rattle.flac_subframe.specs.Bodies.{content_of}
-use Rattle.flac_subframe.specs.Chosen.{body_of, fixed_below}
-use Rattle.flac_subframe.proofs.Powers.{shortened_is}
-use Rattle.flac_subframe.proofs.WholeLeast.{whole_least, length-subframe}
-use Rattle.flac_subframe.proofs.Valid.{may_be, are_samples}
+use Rattle.std.proofs.Common.{arith}
 use Rattle.flac_subframe.proofs.chosen.choose_into.Goals as goal
 
+pub choose_with_into-requires-clause-orders : goal.choose_with_into-requires-clause-orders
+choose_with_into-requires-clause-orders c = λ i d lt. absurd (omega (arith, lt))
+
 pub returns-clause-least : goal.returns-clause-least
-returns-clause-least c =
-    let k = c.drop_wasted-wasted.result in let s = c.args.samples.now in let t = c.drop_wasted-wasted.new.shortened in let dropped = c.drop_wasted-wasted.ensures in
-    rw (shortened_is k s t dropped.shortened) (whole_least 8 c.args.depth k (fixed_below 5) s t (body_of c.choose_body-best.result.kind t) dropped.wasted dropped.shortened c.choose_body-best.ensures.least)
+returns-clause-least c = c.choose_with_into.ensures.least
 
 pub returns-clause-bits : goal.returns-clause-bits
-returns-clause-bits c =
-    let k = c.drop_wasted-wasted.result in let s = c.args.samples.now in let t = c.drop_wasted-wasted.new.shortened in let dropped = c.drop_wasted-wasted.ensures in
-    rw (shortened_is k s t dropped.shortened, c.from.ensures, c.choose_body-best.ensures.priced) (sym (length-subframe c.args.depth (record { wasted = k; content = content_of (body_of c.choose_body-best.result.kind t) })))
+returns-clause-bits c = c.choose_with_into.ensures.bits
 
 pub returns-clause-made : goal.returns-clause-made
-returns-clause-made c =
-    let k = c.drop_wasted-wasted.result in let s = c.args.samples.now in let t = c.drop_wasted-wasted.new.shortened in let dropped = c.drop_wasted-wasted.ensures in
-    let same = shortened_is k s t dropped.shortened in
-    record { wasted = dropped.wasted; times = rw same dropped.shortened; stands = rw same c.choose_body-best.ensures.least.member }
+returns-clause-made c = c.choose_with_into.ensures.made
 
 pub returns-clause-valid : goal.returns-clause-valid
-returns-clause-valid c = λ limits le.
-    let k = c.drop_wasted-wasted.result in let s = c.args.samples.now in let t = c.drop_wasted-wasted.new.shortened in let dropped = c.drop_wasted-wasted.ensures in
-    let b = body_of c.choose_body-best.result.kind t in
-    rw (shortened_is k s t dropped.shortened) (may_be 8 c.args.depth k s t dropped.some dropped.shortened c.requires.fits limits b c.requires.some le (omega arith) c.choose_body-best.ensures.least.member)
+returns-clause-valid c = λ limits le. c.choose_with_into.ensures.valid limits le (omega arith)
 
 pub returns-clause-restored : goal.returns-clause-restored
-returns-clause-restored c =
-    let k = c.drop_wasted-wasted.result in let s = c.args.samples.now in let t = c.drop_wasted-wasted.new.shortened in let dropped = c.drop_wasted-wasted.ensures in
-    let b = body_of c.choose_body-best.result.kind t in
-    rw (shortened_is k s t dropped.shortened) (are_samples 8 c.args.depth k s t dropped.some dropped.shortened c.requires.fits b c.choose_body-best.ensures.least.member)
+returns-clause-restored c = c.choose_with_into.ensures.restored

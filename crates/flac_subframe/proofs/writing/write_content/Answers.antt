@@ -1,6 +1,8 @@
 use Rattle.std.proofs.Common.{pos}
 use Rattle.flac_subframe.specs.Numbers.{sample_at}
+use Rattle.flac_subframe.proofs.Best.{at_place}
 use Rattle.flac_subframe.proofs.Bounds.{back_33}
+use Rattle.flac_subframe.proofs.Made.{among_few}
 use Rattle.flac_subframe.proofs.WriteSteps.{constant_text, verbatim_text}
 use Rattle.flac_subframe.proofs.writing.write_content.Goals as goal
 
@@ -13,3 +15,20 @@ returns-in-Constant g c =
 
 pub returns-in-Verbatim : goal.returns-in-Verbatim
 returns-in-Verbatim g c = rw (c.in-Verbatim.is, verbatim_text c.args.depth c.args.samples.now) c.write_signed.ensures
+
+pub write_fixed-requires-clause-order : goal.write_fixed-requires-clause-order
+write_fixed-requires-clause-order g c = let stands = rw c.in-Fixed.is at c.requires.stands in among_few _ c.args.predictors.now stands.0
+
+pub write_fixed-requires-clause-predicts : goal.write_fixed-requires-clause-predicts
+write_fixed-requires-clause-predicts g c = let stands = rw c.in-Fixed.is at c.requires.stands in stands.1
+
+pub write_linear-requires-clause-predicts : goal.write_linear-requires-clause-predicts
+write_linear-requires-clause-predicts g c =
+    let stands = rw c.in-Linear.is at c.requires.stands in
+    let within = rw c.in-Linear.is at c.requires.handed in
+    rw (at_place c.args.predictors.now _ c.index-predictors-index.result within c.index-predictors-index.is) at stands.1
+
+pub returns-in-Linear : goal.returns-in-Linear
+returns-in-Linear g c =
+    let within = rw c.in-Linear.is at c.requires.handed in
+    rw (c.in-Linear.is, at_place c.args.predictors.now _ c.index-predictors-index.result within c.index-predictors-index.is) c.write_linear.ensures
