@@ -1,6 +1,7 @@
 -- What a reader finds in a stream that encoding wrote.
 use Rattle.std.proofs.Common.{◌≡◌, ℕ, zero, suc, ◌+◌, ◌-◌, ◌*◌, ◌/◌, ◌^◌, ◌<◌, ◌≤◌, min, Bool, true, false, cond, ◌&&◌, nat_le, nat_lt, List, [], ◌∷◌, ◌++◌, length, map, Option, Some, None, Result, Ok, Err, refl, sym, ap, subst, ◌∙◌, arith}
 use Rattle.std.specs.List.{fold, filter}
+use Rattle.std.proofs.lemmas.Bool.{and_parts}
 use Rattle.std.proofs.lemmas.Bool.Decides.{nat_tests}
 use Rattle.std.proofs.lemmas.Nat.{div-mul-add}
 use Rattle.std.proofs.Math.Nat.{mul_comm, mul-suc}
@@ -22,7 +23,7 @@ use Rattle.flac_native.specs.Points.{NamesFrame}
 use Rattle.flac_native.specs.Giving.{stage_of}
 use Rattle.flac_native.specs.declared.fault.Fault.{Fault}
 use Rattle.flac_native.specs.declared.container.Container as container
-use Rattle.flac_native.proofs.Planned.{both_true, either_false, not_less, planned, fit}
+use Rattle.flac_native.proofs.Planned.{either_false, not_less, planned, fit}
 use Rattle.flac_native.proofs.Encoded.{all_parts}
 use Rattle.flac_native.proofs.Onwards.{same_info}
 use Rattle.flac_reader.specs.Kept.{keeps, first_info, first_points}
@@ -49,7 +50,7 @@ under : (s z : ℕ) → nat_lt s z ≡ true → s < z
 under s z e = grind (arith, nat_tests)
 
 held_between : (x s z : ℕ) → (nat_le x s && nat_lt s z) ≡ true → (x ≤ s) × (s < z)
-held_between x s z e = let k = both_true _ _ e in (at_most x s k.0, under s z k.1)
+held_between x s z e = let k = and_parts _ _ e in (at_most x s k.0, under s z k.1)
 
 not_between : (x s z : ℕ) → (nat_le x s && nat_lt s z) ≡ false → x ≤ s → z ≤ s
 not_between x s z e h = not_less s z (subst (λ k. (k && nat_lt s z) ≡ false) (is_at_most x s h) e)
@@ -147,7 +148,7 @@ record IsFrameBefore {p : Cut} {list : List Block} {a : Sound} {stream : List �
 module _ (p : Cut) (list : List Block) (a : Sound) (stream : List ℕ) (e : IsEncoded p list a stream) (sample : ℕ) where
   point_before : (x : SeekPoint) → NamesFrame p e.written.frames x → is_before sample x ≡ true → IsFrameBefore e sample x.offset
   point_before x n h =
-      let low = at_most x.sample sample (both_true _ _ h).0 in
+      let low = at_most x.sample sample (and_parts _ _ h).0 in
       record { number = n.number; among = let k = n.among in omega (arith, k); is = offset_is p list a stream e x n; first = subst (λ k. k ≤ sample) n.sample low }
 
   before_all : (points : List SeekPoint) (offset : ℕ) → AllAre (NamesFrame p e.written.frames) points → IsFrameBefore e sample offset → IsFrameBefore e sample (fold (λ offset x. cond (is_before sample x) x.offset offset) offset points)
