@@ -1,5 +1,5 @@
 -- What a reader finds in a stream that encoding wrote.
-use Rattle.std.proofs.Common.{◌≡◌, ℕ, zero, suc, ◌+◌, ◌-◌, ◌*◌, ◌/◌, ◌^◌, ◌<◌, ◌≤◌, min, Bool, true, false, cond, ◌&&◌, nat_le, nat_lt, List, [], ◌∷◌, ◌++◌, length, map, Option, Some, None, Result, Ok, Err, refl, sym, ap, subst, ◌∙◌, arith}
+use Rattle.std.proofs.Common.{◌≡◌, ℕ, zero, suc, ◌+◌, ◌-◌, ◌*◌, ◌/◌, ◌<◌, ◌≤◌, min, Bool, true, false, cond, ◌&&◌, nat_le, nat_lt, List, [], ◌∷◌, ◌++◌, length, Some, None, Result, Ok, Err, refl, sym, ap, subst, ◌∙◌, arith}
 use Rattle.std.specs.List.{fold, filter}
 use Rattle.std.proofs.lemmas.Bool.{and_parts}
 use Rattle.std.proofs.lemmas.Bool.Decides.{nat_tests}
@@ -7,7 +7,7 @@ use Rattle.std.proofs.lemmas.Nat.{div-mul-add}
 use Rattle.std.proofs.Math.Nat.{mul_comm, mul-suc}
 use Rattle.flac_bits.specs.Bits.{bits_of}
 use Rattle.flac_bits.specs.Handing.{by_grammar}
-use Rattle.flac_bits.specs.declared.why.Why.TheVariants.{Memory, Truncated}
+use Rattle.flac_bits.specs.declared.why.Why.TheVariants.{Truncated}
 use Rattle.flac_meta.specs.Info.{Info}
 use Rattle.flac_meta.specs.Valid.{AllAre}
 use Rattle.flac_meta.specs.declared.seek_table.SeekPoint.{SeekPoint}
@@ -30,7 +30,7 @@ use Rattle.flac_reader.specs.Kept.{keeps, first_info, first_points}
 use Rattle.flac_reader.specs.Starting.{frames_start}
 use Rattle.flac_reader.specs.Coming.{FramesCome}
 use Rattle.flac_reader.specs.Opening.{IsReadAs, Opens}
-use Rattle.flac_reader.specs.Seeking.{is_before, offset_before, search_start, holds, PassedBy, HoldsFirst, Finds, Cuts, SeeksFrames}
+use Rattle.flac_reader.specs.Seeking.{is_before, offset_before, search_start, holds, PassedBy, HoldsFirst, Cuts, SeeksFrames}
 use Rattle.flac_reader.specs.Encoded.{IsEncoded, stream_info, all_blocks, frame_count, frames_at, bytes_before, IsSoughtFrom, SearchesAreCut, frames_holding, GivesFrames, SamplesAreFound}
 use Rattle.flac_reader.specs.declared.keep.Keep.{Keep}
 use Rattle.flac_reader.specs.declared.keep.Keep.TheVariants.{All, Tags}

@@ -1,5 +1,5 @@
 -- Where a stream that encoding wrote is cut, and which frames a reader gives that seeks a sample in it (RFC 9639, sections 8.5 and 9.1.5).
-use Rattle.std.specs.Prelude.{◌≡◌, ◌≢◌, ◌≤◌, ◌<◌, ◌^◌, ℕ, ◌+◌, ◌-◌, ◌*◌, ◌/◌, Bool, true, false, nat_lt, cond, List, [], ◌∷◌, ◌++◌, length, take, None, Result, Ok, Err}
+use Rattle.std.specs.Prelude.{◌≡◌, ◌≢◌, ◌≤◌, ◌<◌, ◌^◌, ℕ, ◌+◌, ◌-◌, ◌*◌, ◌/◌, true, false, nat_lt, cond, List, [], ◌∷◌, ◌++◌, length, take, None, Result, Ok, Err}
 use Rattle.flac_bits.specs.Bits.{bits_of}
 use Rattle.flac_bits.specs.Forms.{joined}
 use Rattle.flac_bits.specs.Handing.{by_grammar}

@@ -54,7 +54,11 @@ fn title_and_peak_of_files(rt: HostRuntime) -> Result<(), Fail> {
     fs::write(&rt, "from.flac", &stream)?;
     let found = title_and_peak(rt.alloc(), File::open(&rt, "from.flac")?)?;
     assert!(rt; found.as_str() == "x: 25588");
-    copy(rt.alloc(), File::open(&rt, "from.flac")?, File::create(&rt, "to.flac")?)?;
+    copy(
+        rt.alloc(),
+        File::open(&rt, "from.flac")?,
+        File::create(&rt, "to.flac")?,
+    )?;
     let found = title_and_peak(rt.alloc(), File::open(&rt, "to.flac")?)?;
     assert!(rt; found.as_str() == "none: 25588");
     Ok(())
