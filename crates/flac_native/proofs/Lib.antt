@@ -17,6 +17,7 @@ pub mod BlocksWritten
 pub mod Gathered
 pub mod Sought
 pub mod Resumed
+pub mod FrameCuts
 pub mod Sendings
 pub mod Metadata
 pub mod Renewing

@@ -46,7 +46,7 @@ no_bound Blocks m text e = tt
 no_bound Opening m text e = tt
 no_bound Frames m text e = absurd cc
 
-spelled_blocks : (p : Progress) (m : Mark) (b : Block) (bs : List Block) → p.stand.phase ≡ Blocks → m.unread ≡ 0 → AllBlocks p.stand.seen (b ∷ bs) → Joined grammar p m (closing (b ∷ bs)) (blocks_spelling (b ∷ bs))
+pub spelled_blocks : (p : Progress) (m : Mark) (b : Block) (bs : List Block) → p.stand.phase ≡ Blocks → m.unread ≡ 0 → AllBlocks p.stand.seen (b ∷ bs) → Joined grammar p m (closing (b ∷ bs)) (blocks_spelling (b ∷ bs))
 spelled_blocks p m b [] phase z (is, rest) = (block_spelling true b, [], refl, block_here p.stand (fresh m) true b phase is, no_bound p.stand.phase (fresh m) (block_spelling true b) phase, refl)
 spelled_blocks p m b (c ∷ cs) phase z (is, rest) =
     let whole = block_whole false b in (

@@ -1,5 +1,5 @@
 -- The bytes of a stream from one of its frames on.
-use Rattle.std.proofs.Common.{◌≡◌, ℕ, suc, ◌+◌, ◌-◌, ◌*◌, ◌%◌, ◌<◌, Bool, true, false, List, [], ◌∷◌, ◌++◌, length, map, drop, Option, Some, None, inl, refl, sym, ap, subst, ◌∙◌, arith}
+use Rattle.std.proofs.Common.{◌≡◌, ℕ, suc, ◌+◌, ◌-◌, ◌*◌, ◌%◌, ◌<◌, ◌≤◌, Bool, true, false, List, [], ◌∷◌, ◌++◌, length, map, drop, Option, Some, None, inl, refl, sym, ap, subst, ◌∙◌, arith}
 use Rattle.std.specs.Prelude.{slice_index_or}
 use Rattle.std.proofs.lemmas.List.{get_or-drop, length-drop}
 use Rattle.flac_bits.specs.State.{Mark, past, fresh}
@@ -29,7 +29,7 @@ use Rattle.flac_native.proofs.Encoded.{least_part}
 use Rattle.flac_native.proofs.Streams.{least_small}
 
 -- among the frames of this STREAMINFO
-record Among (i : Info) (s : Progress) : Type 0 where
+pub record Among (i : Info) (s : Progress) : Type 0 where
   pub phase : s.stand.phase ≡ Frames
   pub info : s.stand.info ≡ Some i
 
@@ -40,8 +40,8 @@ module _ (p : Cut) (a : Sound) (info : Info) (q : Planned p) (f : Fit p a) (suit
   abbrev total : ℕ
   total = samples_each a.channels
 
-  frames_on : (texts : List (List Bool)) (number index samples : ℕ) (seen : Seen) (before : Option Before) (message : List ℕ) (m : Mark) → m.unread ≡ 0
-      → number + length texts ≡ blocks_in b total → Left p a info q f suits number before
+  pub frames_on : (texts : List (List Bool)) (number index samples : ℕ) (seen : Seen) (before : Option Before) (message : List ℕ) (m : Mark) → m.unread ≡ 0
+      → number + length texts ≤ blocks_in b total → Left p a info q f suits number before
       → ((j : ℕ) → j < length texts → SpellsFrame a (frame_of b a (number + j)) (slice_index_or texts j []))
       → Joined grammar (at_frame p a info q f suits index seen before samples message) m (map framed (frames_from b a (length texts) number)) (joined texts)
       × Among info (after grammar (at_frame p a info q f suits index seen before samples message) (map framed (frames_from b a (length texts) number)))

@@ -30,7 +30,7 @@ frame_items : (frames : List Frame) → items_of (map framed frames) ≡ map fra
 frame_items [] = refl
 frame_items (f ∷ fs) = ap (λ k. frame f ∷ k) (frame_items fs)
 
-split : (at : ℕ) (stream : List ℕ) → bits_of stream ≡ bits_of (take at stream) ++ bits_of (drop at stream)
+pub split : (at : ℕ) (stream : List ℕ) → bits_of stream ≡ bits_of (take at stream) ++ bits_of (drop at stream)
 split at stream = ap bits_of (sym (take-append-drop at stream)) ∙ bits_of-append (take at stream) (drop at stream)
 
 abbrev Rest : List ℕ → ℕ → Info → List Frame → Type 0

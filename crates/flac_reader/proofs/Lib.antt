@@ -10,3 +10,5 @@ pub mod Searches
 pub mod Cuts
 pub mod Starts
 pub mod Moved
+pub mod EncodedCuts
+pub mod EncodedFinds

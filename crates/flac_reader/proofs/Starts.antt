@@ -267,7 +267,7 @@ frames_handed : (fs : List Frame) → items_of (map framed fs) ≡ map frame fs
 frames_handed [] = refl
 frames_handed (f ∷ fs) = ap (λ k. frame f ∷ k) (frames_handed fs)
 
-parts_handed : (bs : List Block) (fs : List Frame) → items_of (closing bs ++ map framed fs) ≡ items bs fs
+pub parts_handed : (bs : List Block) (fs : List Frame) → items_of (closing bs ++ map framed fs) ≡ items bs fs
 parts_handed [] fs = frames_handed fs
 parts_handed (b ∷ bs) fs = ap (λ k. metadata b ∷ k) (parts_handed bs fs)
 
@@ -276,7 +276,7 @@ parts_handed (b ∷ bs) fs = ap (λ k. metadata b ∷ k) (parts_handed bs fs)
 abbrev first : Mark
 first = beginning Truncated
 
-head_long : (info : Info) (list : List Block) (head : List Bool) → Joined grammar opening first (head_parts info list) head → length head < 8 * 2 ^ 64 → 8 * frames_start (block_of.StreamInfo info ∷ list) ≡ length head
+pub head_long : (info : Info) (list : List Block) (head : List Bool) → Joined grammar opening first (head_parts info list) head → length head < 8 * 2 ^ 64 → 8 * frames_start (block_of.StreamInfo info ∷ list) ≡ length head
 head_long info list head (front, rest, split, spelled, fits, more) few =
     let blocks : List Block = block_of.StreamInfo info ∷ list in
     let c = closed (block_of.StreamInfo info) list in
@@ -290,7 +290,7 @@ head_long info list head (front, rest, split, spelled, fits, more) few =
     let last : 8 * 4 + length rest ≡ length head = omega (arith, four, whole) in
     ap (λ k. 8 * and_blocks 4 k) (sym c.blocks) ∙ n ∙ last
 
-same_front : (xs ys us vs : List Bool) → xs ++ ys ≡ us ++ vs → length xs ≡ length us → xs ≡ us
+pub same_front : (xs ys us vs : List Bool) → xs ++ ys ≡ us ++ vs → length xs ≡ length us → xs ≡ us
 same_front xs ys us vs e long = sym (take-append_seam xs ys) ∙ ap (take (length xs)) e ∙ ap (λ n. take n (us ++ vs)) long ∙ take-append_seam us vs
 
 pub frames_start_there : FramesStart

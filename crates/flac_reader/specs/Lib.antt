@@ -11,3 +11,4 @@ pub mod Stepping
 pub mod Refusing
 pub mod Seeking
 pub mod Moved
+pub mod Encoded

@@ -1,6 +1,9 @@
 //! What holds of the definitions of seeking.
 
 ghost use Rattle.flac_reader.specs.Seeking.{FramesStart, CutsAreRead};
+ghost use Rattle.flac_reader.specs.Encoded.{FramesAreCut, PointsAreCut, SearchesAreCut, SamplesAreFound};
+
+use flac_native::Container;
 
 /// A native stream in memory is cut where its frames start, which is what [`crate::Reader::frames_start`] counts: the bytes before are the marker and the blocks.
 /// Wherever it is cut at a frame, the bytes from there on are read by [`crate::Decoder::resume`] as just that frame, those behind it, and the end (RFC 9639,
@@ -8,4 +11,20 @@ ghost use Rattle.flac_reader.specs.Seeking.{FramesStart, CutsAreRead};
 pub fn streams_are_cut()
     ensures start { FramesStart }
     ensures read { CutsAreRead }
+{}
+
+/// A stream that [`flac_native::encode`] wrote, with nothing before it, is cut at each of its frames: as many bytes behind its first frame's first as the frames
+/// before have. So it is at the offset of each point of the seek table that the plan asked for (RFC 9639, section 8.5.1).
+pub fn encoded_are_cut()
+    ensures frames { FramesAreCut }
+    ensures points { PointsAreCut }
+{}
+
+/// A reader that opened such a stream seeks a sample from a cut on, that of the last point at or before the sample, or of the first frame; and
+/// [`crate::Reader::seek_in`] over the bytes of the stream gives just the frame that holds the sample, all frames behind it and the end, or nothing but the end if
+/// the stream does not have so many samples, unless memory runs out (RFC 9639, sections 8.5 and 9.1.5). No seek table was among the given blocks; the reader may keep
+/// any.
+pub fn encoded_are_sought<C: Container, D: Container>()
+    ensures cut { SearchesAreCut C.Container }
+    ensures found { SamplesAreFound C.Container D.Container }
 {}

@@ -34,7 +34,7 @@ pub use flac_native::{
 pub use fronted::Fronted;
 pub use head::read_blocks;
 pub use keep::Keep;
-pub use laws::streams_are_cut;
+pub use laws::{encoded_are_cut, encoded_are_sought, streams_are_cut};
 pub use opening::{open_native, open_ogg};
 pub use reader::Reader;
 pub use samples::Samples;

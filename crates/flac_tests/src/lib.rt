@@ -19,6 +19,8 @@ mod parts;
 #[cfg(test)]
 mod predictors;
 #[cfg(test)]
+mod programs;
+#[cfg(test)]
 mod pushing;
 #[cfg(test)]
 mod pushing_ogg;

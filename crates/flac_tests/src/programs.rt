@@ -1,0 +1,65 @@
+//! The programs of the README, which read files. The stream is the example of RFC 9639, appendix D.1, with the comment TITLE=x, its digest unknown.
+
+use flac_meta::BlockList;
+use flac_native::StreamEncoder;
+use flac_reader::{Container, Counted, Fault, Keep, Profile, Samples, open_native};
+use flac_vectors::EXAMPLE_TAGGED;
+use std::alloc::Global;
+use std::fs;
+use std::fs::File;
+use std::mem::drop;
+use std::test::Fail;
+
+/// The peak of the samples that come.
+fn peak_of<C: Container + Drop>(samples: &mut Samples<C>) -> Result<u32, Fault> {
+    let mut peak = 0;
+    for sample in samples {
+        peak = sample?.unsigned_abs().max(peak);
+    }
+    Ok(peak)
+}
+
+/// The title of a native stream and its peak, as text.
+fn title_and_peak(alloc: Global, file: File) -> Result<String, Fail> {
+    let reader = open_native(alloc, Counted::new(file), Profile::Subset, Keep::Tags)?;
+    let title = reader.comments().and_then(|list| list.find(b"TITLE"));
+    let title = String::from_utf8_lossy(alloc, title.unwrap_or(b"none"));
+    let mut samples = reader.into_samples();
+    let peak = peak_of(&mut samples);
+    drop(samples);
+    Ok(format!(in alloc; "{}: {}", title?, peak?)?)
+}
+
+/// Copies a native stream of two channels, frame by frame, through decoder and encoder.
+fn copy(alloc: Global, from: File, to: File) -> Result<(), Fail> {
+    let mut reader = open_native(alloc, Counted::new(from), Profile::Subset, Keep::Tags)?;
+    let rate = reader.info().rate();
+    let list = BlockList::new(Vec::new(alloc))?;
+    let mut encoder = StreamEncoder::new(alloc, rate, 16, 2, 4096, &list, Counted::new(to))?;
+    for _ in 0..u64::MAX {
+        match reader.next()? {
+            Some(frame) if frame.channels() == 2 => {
+                encoder.push(&[frame.channel(0), frame.channel(1)])?;
+            }
+            _ => break,
+        }
+    }
+    let _file = encoder.finish()?;
+    Ok(())
+}
+
+#[test]
+fn title_and_peak_of_files(rt: HostRuntime) -> Result<(), Fail> {
+    let stream = hex::decode(rt.alloc(), EXAMPLE_TAGGED)?;
+    fs::write(&rt, "from.flac", &stream)?;
+    let found = title_and_peak(rt.alloc(), File::open(&rt, "from.flac")?)?;
+    assert!(rt; found.as_str() == "x: 25588");
+    copy(
+        rt.alloc(),
+        File::open(&rt, "from.flac")?,
+        File::create(&rt, "to.flac")?,
+    )?;
+    let found = title_and_peak(rt.alloc(), File::open(&rt, "to.flac")?)?;
+    assert!(rt; found.as_str() == "none: 25588");
+    Ok(())
+}
