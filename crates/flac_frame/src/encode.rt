@@ -397,7 +397,7 @@ pub fn choose_frame(
 /// ```
 /// let mut choice = FrameChoice::new(alloc, audio.channels().len())?;
 /// choose_frame(&audio, start..end, number, &mut buffers, &mut choice);
-/// let bytes = choice.frame_bytes(alloc, &audio, end - start, number)?;
+/// let bytes = choice.frame_bytes(&audio, end - start, number);
 /// write_frame(&audio, start..end, number, &choice, &mut buffers, &mut writer)?;
 /// ```
 ///

@@ -109,7 +109,7 @@ impl ChosenFrames {
             let end = start + size.min(total - start);
             plan.note_point(number, offset, &mut points)?;
             choose_frame(audio, start..end, number, buffers, &mut choice);
-            let bytes = choice.frame_bytes(alloc, audio, end - start, number)?;
+            let bytes = choice.frame_bytes(audio, end - start, number);
             choice = keep(alloc, channels, &mut choices, choice, most)?;
             least = least_with(number, least, bytes);
             greatest = greatest_with(greatest, bytes);
