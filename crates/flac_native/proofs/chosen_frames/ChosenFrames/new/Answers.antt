@@ -6,9 +6,10 @@ use Rattle.flac_meta.specs.Listed.{block_fault}
 use Rattle.flac_meta.specs.declared.seek_table.SeekPoint.{SeekPoint}
 use Rattle.flac_meta.specs.declared.block.Block.TheVariants as block_of
 use Rattle.flac_frame.specs.Audio.{Sound, samples_each}
-use Rattle.flac_native.specs.Given.{Cut, blocks_in}
+use Rattle.flac_native.specs.Given.{Cut, blocks_in, sound_message}
 use Rattle.flac_native.specs.Seeking.{point_at}
 use Rattle.flac_native.specs.Writing.{AreChoices, AreCounted}
+use Rattle.flac_native.proofs.Messages.{fed_none, fed_more, fed_all}
 use Rattle.flac_native.proofs.Planned.{Planned, planned, fit, block_small}
 use Rattle.flac_native.proofs.Tables.{table_good}
 use Rattle.flac_native.proofs.Gathered.{Gathered, least_with, gathered_none, gathered_more, choice_of, no_choices, choices_more, still_some, all_gathered, all_counted}
@@ -23,6 +24,7 @@ loop-start-init c = record {
   choices = subst (AreChoices c.args.plan.now c.args.audio.now) (sym c.new-choices.ensures.items) (no_choices c.args.plan.now c.args.audio.now);
   kept = omega (arith, ap length c.new-choices.ensures.items);
   places = c.in_ok-choice.ensures.places;
+  fed = fed_none c.args.audio.now c.new-hasher.result c.new-hasher.ensures;
   buffers = c.requires.room;
   start = omega arith;
   few = omega arith;
@@ -102,6 +104,7 @@ loop-start-preserved c =
       choices = kept.0;
       kept = kept.1;
       places = c.in_ok-choice-2.ensures.places;
+      fed = fed_more a c.loop-start.hasher c.feed_block.new.hasher c.loop-start.start c.min.result _ (omega (arith, step)) c.feed_block.ensures inv.fed;
       buffers = c.choose_frame.ensures.kept ∙ inv.buffers;
       start = omega (arith, at, step, up, more, size_is, total_is);
       few = omega (arith, few);
@@ -113,6 +116,13 @@ pub loop-start-smaller : goal.loop-start-smaller
 loop-start-smaller c =
     let q = planned c.args.plan.now c.block_size-size.ensures.good in
     omega (arith, c.min.ensures, c.loop-start-test.true, c.block_size-size.ensures.value, q.least)
+
+pub returns-clause-digest : goal.returns-clause-digest
+returns-clause-digest c =
+    let a = c.args.audio.now in
+    let inv = c.loop-start.invariant in
+    let all : c.loop-start.start ≡ samples_each a.channels = omega (arith, inv.start, c.loop-start-test.false, c.len-total.ensures) in
+    c.finalize.ensures (sound_message a) (fed_all a c.loop-start.hasher c.loop-start.start all inv.fed)
 
 all_frames : (p : Cut) (a : Sound) (number offset least greatest start : ℕ) (points : List SeekPoint) → Planned p → Gathered p a number offset least greatest points → number ≤ blocks_in p.block_size (samples_each a.channels)
     → start ≡ min (samples_each a.channels) (p.block_size * number) → samples_each a.channels ≤ start → AreCounted p a least greatest points
