@@ -5,9 +5,8 @@ ghost use Rattle.flac_meta.specs.Listed.{block_fault};
 ghost use Rattle.flac_meta.specs.declared.block.Block.TheVariants as block_of;
 ghost use Rattle.flac_bits.specs.Bits.{bits_of};
 ghost use Rattle.flac_frame.specs.Audio.{samples_each};
-ghost use Rattle.flac_native.specs.Given.{fits_plan, blocks_in, info_of, sound_message};
-ghost use Rattle.flac_native.specs.Writing.{AreCounted, AreChoices, HasRoom, IsSpelled};
-ghost use Rattle.md5.specs.Md5.{md5};
+ghost use Rattle.flac_native.specs.Given.{fits_plan, blocks_in, info_of};
+ghost use Rattle.flac_native.specs.Writing.{AreCounted, AreChoices, HasRoom, IsDigest, IsSpelled};
 
 use crate::digest::feed_block;
 use crate::encoded_info::info_with;
@@ -97,7 +96,7 @@ impl ChosenFrames {
         ensures choices { IfOk result (λ f. AreChoices plan.now audio.now f.choices.items) }
         ensures table { IfOk result (λ f. block_fault (block_of.SeekTable f.points.items) ≡ None) }
         ensures sizes { IfOk result (λ f. (f.least ≤ f.greatest) × (f.greatest < 2 ^ 24)) }
-        ensures digest { IfOk result (λ f. f.digest ≡ md5 (sound_message audio.now)) }
+        ensures digest { IfOk result (λ f. IsDigest audio.now f.digest) }
         ensures memory { IfErr result (λ e. e ≡ Why.Memory) }
     {
         let size = plan.block_size() as usize;
@@ -140,7 +139,7 @@ impl ChosenFrames {
     pub fn info(&self, plan: &Plan, audio: &Audio) -> StreamInfo
         requires fits { fits_plan plan.now audio.now ≡ true }
         requires sizes { (self.now.least ≤ self.now.greatest) × (self.now.greatest < 2 ^ 24) }
-        requires digest { self.now.digest ≡ md5 (sound_message audio.now) }
+        requires digest { IsDigest audio.now self.now.digest }
         ensures { result ≡ info_of plan.now audio.now self.now.least self.now.greatest }
     {
         info_with(plan, audio, self.least, self.greatest, self.digest)

@@ -1,8 +1,8 @@
 //! STREAMINFO of samples that are encoded.
 
 ghost use Rattle.std.specs.Prelude.{◌≡◌, ◌<◌, ◌≤◌, ◌^◌, true};
-ghost use Rattle.flac_native.specs.Given.{fits_plan, info_of, sound_message};
-ghost use Rattle.md5.specs.Md5.{md5};
+ghost use Rattle.flac_native.specs.Given.{fits_plan, info_of};
+ghost use Rattle.flac_native.specs.Writing.{IsDigest};
 
 use crate::digest::digest_of;
 use crate::plan::Plan;
@@ -21,7 +21,7 @@ pub(crate) fn info_with(
     requires fits { fits_plan plan.now audio.now ≡ true }
     requires least { least ≤ greatest }
     requires greatest { greatest < 2 ^ 24 }
-    requires digest { digest ≡ md5 (sound_message audio.now) }
+    requires digest { IsDigest audio.now digest }
     ensures { result ≡ info_of plan.now audio.now least greatest }
 {
     let size = plan.block_size() as u16;

@@ -8,9 +8,9 @@ ghost use Rattle.flac_meta.specs.Listed.{block_fault};
 ghost use Rattle.flac_meta.specs.Spelling.{block_spelling};
 ghost use Rattle.flac_meta.specs.declared.block.Block.TheVariants as block_of;
 ghost use Rattle.flac_frame.specs.Audio.{samples_each};
-ghost use Rattle.flac_native.specs.Given.{fits_plan, info_of, sound_message};
+ghost use Rattle.flac_native.specs.Given.{fits_plan, info_of};
 ghost use Rattle.flac_native.specs.Numbers.{is_of_whole};
-ghost use Rattle.md5.specs.Md5.{md5};
+ghost use Rattle.flac_native.specs.Writing.{IsDigest};
 ghost use Rattle.flac_ogg.specs.Headers.{AreHeaders};
 ghost use Rattle.flac_ogg.specs.Native.{mapping_spelling, packet_spellings};
 ghost use Rattle.flac_ogg.specs.Writing.{begins_with_comment, may_be_ogg, header_count, IsFrameText, EncodesOgg, BeginsOgg};
@@ -133,7 +133,7 @@ fn header_packets(
 ) -> Result<Headers, Why>
     requires fits { fits_plan plan.now audio.now ≡ true }
     requires sizes { (frames.now.least ≤ frames.now.greatest) × (frames.now.greatest < 2 ^ 24) }
-    requires digest { frames.now.digest ≡ md5 (sound_message audio.now) }
+    requires digest { IsDigest audio.now frames.now.digest }
     ensures made { IfOk result (λ h. AreHeaders (packet_spellings (header_count (length list.now)) (info_of plan.now audio.now frames.now.least frames.now.greatest) list.now []) h) }
     ensures serial { IfOk result (λ h. h.serial ≡ serial) }
     ensures memory { IfErr result (λ e. e ≡ Why.Memory) }
