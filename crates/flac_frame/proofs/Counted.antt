@@ -1,5 +1,6 @@
 -- How long a frame is that is not written yet.
 use Rattle.std.proofs.Common.{◌≡◌, ◌∙◌, sym, ap, subst, ℕ, ◌+◌, ◌*◌, ◌-◌, ◌/◌, ◌%◌, ◌^◌, ◌≤◌, arith, Bool, true, false, cond, ◌||◌, nat_eq, nat_lt, nat_le, List, [], ◌++◌, length, length-append, Option, Some, None, IfSome, refl}
+use Rattle.std.proofs.lemmas.Bool.Decides.{nat_tests}
 use Rattle.flac_bits.specs.Bits.{unsigned}
 use Rattle.flac_bits.specs.Coded.{six_bits, in_bytes, number_spelling}
 use Rattle.flac_bits.proofs.Words.{length-unsigned}
@@ -44,6 +45,9 @@ nothing = []
 no_bits : length nothing ≡ 8 * 0
 no_bits = refl
 
+abbrev pub some_code : ℕ → Option ℕ
+some_code c = Some c
+
 -- the bytes of a block size under a code, and of a rate
 abbrev pub size_bytes : ℕ → ℕ
 size_bytes code = cond (nat_eq code 6) 1 (cond (nat_eq code 7) 2 0)
@@ -62,22 +66,66 @@ rate_long code rate =
     let b = either_long (nat_eq code 13) _ _ 2 _ (length-unsigned 16 rate) c in
     either_long (nat_eq code 12) _ _ 1 _ (length-unsigned 8 (rate / 1000)) b
 
--- so many of them under the code that there is
-pub size_is : (o : Option ℕ) (size n : ℕ) → IfSome o (λ code. size_bytes code ≡ n) → IfSome o (λ code. length (size_spelling code size) ≡ 8 * n)
-size_is None size n e = tt
-size_is (Some code) size n e = size_long code size ∙ ap (λ k. 8 * k) e
+-- under the code that there is
+abbrev Takes : ℕ → Option ℕ → Type 0
+Takes n o = IfSome o (λ code. size_bytes code ≡ n)
 
-pub rate_is : (o : Option ℕ) (rate n : ℕ) → IfSome o (λ code. rate_bytes code ≡ n) → IfSome o (λ code. length (rate_spelling code rate) ≡ 8 * n)
-rate_is None rate n e = tt
-rate_is (Some code) rate n e = rate_long code rate ∙ ap (λ k. 8 * k) e
+takes_or : (b : Bool) (code n m : ℕ) (o : Option ℕ) → size_bytes code ≡ n → Takes m o → Takes (cond b n m) (cond b (Some code) o)
+takes_or true code n m o h k = h
+takes_or false code n m o h k = k
+
+takes_none : (b : Bool) (n : ℕ) (o : Option ℕ) → Takes n o → Takes n (cond b None o)
+takes_none true n o h = tt
+takes_none false n o h = h
+
+-- the bytes of a block size: none if a code names it
+abbrev pub field_of : ℕ → ℕ
+field_of size = cond (nat_eq size 192) 0 (cond (nat_eq size 576) 0 (cond (nat_eq size 1152) 0 (cond (nat_eq size 2304) 0 (cond (nat_eq size 4608) 0 (cond (nat_eq size 256) 0 (cond (nat_eq size 512) 0 (cond (nat_eq size 1024) 0 (cond (nat_eq size 2048) 0 (cond (nat_eq size 4096) 0 (cond (nat_eq size 8192) 0 (cond (nat_eq size 16384) 0 (cond (nat_eq size 32768) 0 (cond (nat_le size 256) 1 2)))))))))))))
+
+takes_field : (size : ℕ) → Takes (field_of size) (size_choice size)
+unfolding size_choice
+takes_field size =
+    let last : Takes 2 (cond (nat_le size 65535) (Some 7) None) = takes_end (nat_le size 65535) in
+    let few = takes_none (nat_eq size 0) _ _ (takes_or (nat_le size 256) 6 1 2 _ refl last) in
+    let s32768 = takes_or (nat_eq size 32768) 15 0 _ _ refl few in
+    let s16384 = takes_or (nat_eq size 16384) 14 0 _ _ refl s32768 in
+    let s8192 = takes_or (nat_eq size 8192) 13 0 _ _ refl s16384 in
+    let s4096 = takes_or (nat_eq size 4096) 12 0 _ _ refl s8192 in
+    let s2048 = takes_or (nat_eq size 2048) 11 0 _ _ refl s4096 in
+    let s1024 = takes_or (nat_eq size 1024) 10 0 _ _ refl s2048 in
+    let s512 = takes_or (nat_eq size 512) 9 0 _ _ refl s1024 in
+    let s256 = takes_or (nat_eq size 256) 8 0 _ _ refl s512 in
+    let s4608 = takes_or (nat_eq size 4608) 5 0 _ _ refl s256 in
+    let s2304 = takes_or (nat_eq size 2304) 4 0 _ _ refl s4608 in
+    let s1152 = takes_or (nat_eq size 1152) 3 0 _ _ refl s2304 in
+    let s576 = takes_or (nat_eq size 576) 2 0 _ _ refl s1152 in
+    takes_or (nat_eq size 192) 1 0 _ _ refl s576
+  where
+    takes_end : (b : Bool) → Takes 2 (cond b (Some 7) None)
+    takes_end true = refl
+    takes_end false = tt
+
+counted_of : (o : Option ℕ) (size n : ℕ) → Takes n o → IfSome o (λ code. length (size_spelling code size) ≡ 8 * n)
+counted_of None size n e = tt
+counted_of (Some code) size n e = size_long code size ∙ ap (λ k. 8 * k) e
+
+pub size_counted : (size n : ℕ) → field_of size ≡ n → IfSome (size_choice size) (λ code. length (size_spelling code size) ≡ 8 * n)
+size_counted size n e = counted_of (size_choice size) size n (subst (λ k. Takes k (size_choice size)) e (takes_field size))
+
+pub rate_counted : (rate code n : ℕ) → some_code code ≡ rate_choice rate → rate_bytes code ≡ n → IfSome (rate_choice rate) (λ k. length (rate_spelling k rate) ≡ 8 * n)
+rate_counted rate code n is e = subst (λ o. IfSome o (λ k. length (rate_spelling k rate) ≡ 8 * n)) is (rate_long code rate ∙ ap (λ k. 8 * k) e)
+
+pub no_rate : (code : ℕ) → (code ≡ 12 → ⊥) → (code ≡ 13 → ⊥) → (code ≡ 14 → ⊥) → rate_bytes code ≡ 0
+no_rate code p q r =
+    let a : nat_eq code 12 ≡ false = grind (arith, nat_tests) in
+    let b : nat_eq code 13 ≡ false = grind (arith, nat_tests) in
+    let d : nat_eq code 14 ≡ false = grind (arith, nat_tests) in
+    rw (a, b, d) refl
 
 -- ---- a header
 
 abbrev some_header : Header → Option Header
 some_header h = Some h
-
-abbrev some_code : ℕ → Option ℕ
-some_code c = Some c
 
 same_header : (a b : Header) → some_header a ≡ some_header b → a ≡ b
 same_header a b e = cc
