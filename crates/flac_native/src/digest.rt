@@ -1,6 +1,6 @@
 //! The digest of samples that are to be encoded (RFC 9639, section 8.2).
 
-ghost use Rattle.std.specs.Prelude.{◌≡◌, ◌≤◌, ◌<◌, ◌+◌, ◌++◌, List, ℕ, [], length, map, pos, slice_index_or};
+ghost use Rattle.std.specs.Prelude.{◌≡◌, ◌≤◌, ◌<◌, ◌+◌, ◌∷◌, ◌++◌, List, ℕ, [], length, map, pos, slice_index_or};
 ghost use Rattle.flac_frame.specs.Audio.{samples_each};
 ghost use Rattle.flac_native.specs.Given.{sound_message};
 ghost use Rattle.flac_native.specs.Message.{sample_width, rows_bytes};
@@ -41,6 +41,27 @@ impl Channels for Audio {
     }
 }
 
+/// The samples of two channels, lent by themselves, so that the loop over them keeps where they are.
+struct Pair<'a> {
+    left: &'a [i32],
+    right: &'a [i32],
+}
+
+impl<'a> Channels for Pair<'a> {
+    ghost lists = { λ p. p.left.now ∷ p.right.now ∷ [] };
+
+    ghost size = { λ p. length p.left.now };
+
+    #[inline(always)]
+    fn sample(&self, channel: usize, index: usize) -> i32 {
+        if channel == 0 {
+            sample_at(self.left, index)
+        } else {
+            sample_at(self.right, index)
+        }
+    }
+}
+
 /// Feeds so many samples of each channel from one on to a digest, as STREAMINFO's is of all samples (RFC 9639, section 8.2).
 pub(crate) fn feed_block(hasher: &mut Md5, audio: &Audio, start: usize, size: usize)
     requires { start + size ≤ samples_each audio.now.channels }
@@ -48,6 +69,14 @@ pub(crate) fn feed_block(hasher: &mut Md5, audio: &Audio, start: usize, size: us
 {
     let width = (audio.bits() as usize + 7) / 8;
     let channels = audio.channels();
+    if channels.len() == 2 {
+        let pair = Pair {
+            left: &channels[0][start..start + size],
+            right: &channels[1][start..start + size],
+        };
+        feed_rows(hasher, &pair, 2, 0, size, width);
+        return;
+    }
     feed_rows(hasher, audio, channels.len(), start, size, width);
 }
 
