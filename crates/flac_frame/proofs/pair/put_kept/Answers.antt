@@ -22,12 +22,12 @@ pub returns-then-code-eq9-clause-kept : goal.returns-then-code-eq9-clause-kept
 returns-then-code-eq9-clause-kept c =
     let l = c.args.left.now in
     let r = c.args.right.now in
-    ap (λ k. kept_as k (l ∷ r ∷ [])) c.if-code-eq9.true ∙ kept_9 l r ∙ ap (λ (k : List ℤ). k ∷ r ∷ []) (sym c.put_side-2.ensures) ∙ ap (λ (k : List ℤ). c.put_side-2.new.side ∷ k ∷ []) (sym c.widen-2.ensures)
+    ap (λ k. kept_as k (l ∷ r ∷ [])) c.if-code-eq9.true ∙ kept_9 l r ∙ ap (λ (k : List ℤ). k ∷ r ∷ []) (sym c.put_side-then-code-eq9.ensures) ∙ ap (λ (k : List ℤ). c.put_side-then-code-eq9.new.side ∷ k ∷ []) (sym c.widen-then-code-eq9.ensures)
 
 pub returns-then-code-eq9-clause-fits : goal.returns-then-code-eq9-clause-fits
 returns-then-code-eq9-clause-fits c = λ depth deep l r. (
-  side_at c.args.code 0 depth c.put_side-2.new.side c.args.left.now c.args.right.now (ap (λ k. side_bit k 0) c.if-code-eq9.true ∙ bits_9.0) c.put_side-2.ensures c.requires.long deep l r,
-  plain_at c.args.code 1 depth c.widen-2.new.out (ap (λ k. side_bit k 1) c.if-code-eq9.true ∙ bits_9.1) (subst (All (FitsBits depth)) (sym c.widen-2.ensures) r),
+  side_at c.args.code 0 depth c.put_side-then-code-eq9.new.side c.args.left.now c.args.right.now (ap (λ k. side_bit k 0) c.if-code-eq9.true ∙ bits_9.0) c.put_side-then-code-eq9.ensures c.requires.long deep l r,
+  plain_at c.args.code 1 depth c.widen-then-code-eq9.new.out (ap (λ k. side_bit k 1) c.if-code-eq9.true ∙ bits_9.1) (subst (All (FitsBits depth)) (sym c.widen-then-code-eq9.ensures) r),
 )
 
 pub returns-then-code-eq10-clause-kept : goal.returns-then-code-eq10-clause-kept
@@ -47,9 +47,9 @@ returns-clause-kept c =
     let one = only_1 c.args.code c.requires.code c.if-code-eq8.false c.if-code-eq9.false c.if-code-eq10.false in
     let l = c.args.left.now in
     let r = c.args.right.now in
-    ap (λ k. kept_as k (l ∷ r ∷ [])) one ∙ kept_1 l r ∙ ap (λ (k : List ℤ). k ∷ r ∷ []) (sym c.widen-3.ensures) ∙ ap (λ (k : List ℤ). c.widen-3.new.out ∷ k ∷ []) (sym c.widen-4.ensures)
+    ap (λ k. kept_as k (l ∷ r ∷ [])) one ∙ kept_1 l r ∙ ap (λ (k : List ℤ). k ∷ r ∷ []) (sym c.widen-2.ensures) ∙ ap (λ (k : List ℤ). c.widen-2.new.out ∷ k ∷ []) (sym c.widen-3.ensures)
 
 pub returns-clause-fits : goal.returns-clause-fits
 returns-clause-fits c = λ depth deep l r.
     let one = only_1 c.args.code c.requires.code c.if-code-eq8.false c.if-code-eq9.false c.if-code-eq10.false in
-    (plain_at c.args.code 0 depth c.widen-3.new.out (ap (λ k. side_bit k 0) one ∙ bits_1.0) (subst (All (FitsBits depth)) (sym c.widen-3.ensures) l), plain_at c.args.code 1 depth c.widen-4.new.out (ap (λ k. side_bit k 1) one ∙ bits_1.1) (subst (All (FitsBits depth)) (sym c.widen-4.ensures) r))
+    (plain_at c.args.code 0 depth c.widen-2.new.out (ap (λ k. side_bit k 0) one ∙ bits_1.0) (subst (All (FitsBits depth)) (sym c.widen-2.ensures) l), plain_at c.args.code 1 depth c.widen-3.new.out (ap (λ k. side_bit k 1) one ∙ bits_1.1) (subst (All (FitsBits depth)) (sym c.widen-3.ensures) r))
