@@ -1,5 +1,5 @@
 -- Samples that are written one after another.
-use Rattle.std.proofs.Common.{◌≡◌, ℕ, zero, suc, ℤ, pos, ◌+◌, ◌-◌, ◌<◌, List, [], ◌∷◌, ◌++◌, length, take, sym, ap, ◌∙◌, append_assoc, subst, arith}
+use Rattle.std.proofs.Common.{◌≡◌, ℕ, zero, suc, ℤ, pos, ◌+◌, ◌-◌, ◌<◌, List, [], ◌∷◌, ◌++◌, length, take, get_or, All, ◌≤◌, sym, ap, ◌∙◌, append_assoc, subst, arith}
 use Rattle.std.proofs.lemmas.List.{append-nil}
 use Rattle.std.specs.Prelude.{slice_index_or}
 use Rattle.flac_frame.specs.Audio.{Sound, samples_each}
@@ -63,3 +63,7 @@ fed_more a h k start more size e feeds held =
 pub fed_all : (a : Sound) (h : Md5) (start : ℕ) → start ≡ samples_each a.channels → Holds h (fed_rows a start 0) → Holds h (sound_message a)
 unfolding sound_message
 fed_all a h start e held = subst (λ n. Holds h (fed_rows a n 0)) e held
+
+-- a channel of vectors that are all so long
+pub long_of : {V : Type 0} (items : V → List ℤ) (xs : List V) (n i : ℕ) (x : V) → All (λ v. n ≤ length (items v)) xs → i < length xs → x ≡ get_or xs i x → n ≤ length (items x)
+long_of items xs n i x all lt is = subst (λ v. n ≤ length (items v)) (sym is) (all i x lt)

@@ -1,6 +1,6 @@
 //! The digest of samples that are to be encoded (RFC 9639, section 8.2).
 
-ghost use Rattle.std.specs.Prelude.{◌≡◌, ◌≤◌, ◌<◌, ◌+◌, ◌∷◌, ◌++◌, List, ℕ, [], length, map, pos, slice_index_or};
+ghost use Rattle.std.specs.Prelude.{◌≡◌, ◌≤◌, ◌<◌, ◌+◌, ◌∷◌, ◌++◌, List, ℕ, [], length, map, take, drop, pos, slice_index_or};
 ghost use Rattle.flac_frame.specs.Audio.{samples_each};
 ghost use Rattle.flac_native.specs.Given.{sound_message};
 ghost use Rattle.flac_native.specs.Message.{sample_width, rows_bytes};
@@ -42,6 +42,7 @@ impl Channels for Audio {
 }
 
 /// The samples of two channels, lent by themselves, so that the loop over them keeps where they are.
+#[derive(Drop)]
 struct Pair<'a> {
     left: &'a [i32],
     right: &'a [i32],
@@ -55,11 +56,19 @@ impl<'a> Channels for Pair<'a> {
     #[inline(always)]
     fn sample(&self, channel: usize, index: usize) -> i32 {
         if channel == 0 {
-            sample_at(self.left, index)
-        } else {
-            sample_at(self.right, index)
+            return sample_at(self.left, index);
         }
+        sample_at(self.right, index)
     }
+}
+
+/// So many samples of a channel from one on.
+fn part_of(channel: &[i32], start: usize, size: usize) -> &[i32]
+    requires { start + size ≤ length channel.now }
+    ensures part { result.now ≡ take size (drop start channel.now) }
+    ensures long { length result.now ≡ size }
+{
+    &channel[start..start + size]
 }
 
 /// Feeds so many samples of each channel from one on to a digest, as STREAMINFO's is of all samples (RFC 9639, section 8.2).
@@ -70,10 +79,9 @@ pub(crate) fn feed_block(hasher: &mut Md5, audio: &Audio, start: usize, size: us
     let width = (audio.bits() as usize + 7) / 8;
     let channels = audio.channels();
     if channels.len() == 2 {
-        let pair = Pair {
-            left: &channels[0][start..start + size],
-            right: &channels[1][start..start + size],
-        };
+        let left = part_of(&channels[0], start, size);
+        let right = part_of(&channels[1], start, size);
+        let pair = Pair { left, right };
         feed_rows(hasher, &pair, 2, 0, size, width);
         return;
     }
