@@ -1,4 +1,4 @@
-//! How much room an encoded stream wants.
+//! How much room an encoded stream needs.
 
 ghost use Rattle.std.specs.Prelude.{◌≡◌, ◌≤◌, ◌*◌, length};
 ghost use Rattle.flac_c.specs.Bound.{text_bytes, texts_bytes, raw_bytes, parts_of, table_bytes, native_bytes, bytes_among, bound_of};
@@ -6,7 +6,7 @@ ghost use Rattle.flac_c.specs.Bound.{text_bytes, texts_bytes, raw_bytes, parts_o
 use crate::encoding::FlacProvedSettings;
 use crate::tags::{FlacProvedTags, FlacProvedText};
 
-/// Bytes of a text and its length. Longer texts than a block has room for count as if they had 2^24 bytes.
+/// Bytes of a text and its length. A text that is longer than a block counts as 2^24 bytes.
 fn text_bytes(text: &FlacProvedText<'_>) -> u64
     ensures value { result ≡ text_bytes text.now }
     ensures few { result ≤ 16777220 }
@@ -26,7 +26,7 @@ fn texts_bytes(texts: &[FlacProvedText<'_>]) -> u128
     sum
 }
 
-/// Bytes of samples as they are.
+/// Bytes of `count` samples of `bits` bits, in whole bytes.
 fn raw_bytes(bits: u32, count: u64) -> u128
     ensures value { result ≡ raw_bytes bits count }
     ensures few { result ≤ 4 * count }
@@ -43,7 +43,7 @@ fn raw_bytes(bits: u32, count: u64) -> u128
     }
 }
 
-/// How many parts of a size there are at most.
+/// An upper bound of how many parts of this size there are.
 fn parts_of(each: u64, size: u32) -> u128
     ensures value { result ≡ parts_of each size }
     ensures few { result ≤ 18446744073709551616 }
@@ -63,7 +63,7 @@ fn table_bytes(each: u64, every: u32) -> u128
     }
 }
 
-/// Bytes of a native stream at most.
+/// An upper bound of the bytes of a native stream.
 fn native_bytes(
     settings: &FlacProvedSettings,
     count: u64,

@@ -1,6 +1,9 @@
-//! FLAC for programs in C: streams in memory are verified, described, decoded and encoded.
+//! FLAC for programs in C: streams in memory are verified, described, decoded frame by frame or as a whole, and
+//! encoded.
 //!
-//! Each export says again, over the bytes that it is given and the memory that it fills, what the call of the crate below promises.
+//! The header is `examples/c/flac_proved.h`, and `docs/c.md` has worked examples. A pointer and a length in C are a
+//! slice here. Each call returns 0 or the number of a reason (`docs/errors.md`), frees what it allocates, and keeps no
+//! pointer.
 #![tactic(auto)]
 
 mod bound;

@@ -1,4 +1,4 @@
-//! The subframes of a frame.
+//! Reads the subframes of a frame.
 
 ghost use Rattle.std.specs.Prelude.{◌≡◌, ◌≢◌, ◌≤◌, ◌<◌, ◌+◌, ◌*◌, OnOk, IfOk, length, cond, Some, None, [], nat_le, All, IsTrue, IfErr};
 ghost use Rattle.flac_bits.specs.Signed.{FitsBits};
@@ -21,7 +21,8 @@ pub(crate) fn limits_of(info: &StreamInfo) -> Limits
     }
 }
 
-/// How many bits the samples of a channel have more than those of the stream.
+/// How many bits the samples of a channel have more than those of the stream: 1 for a side channel (RFC 9639, section
+/// 4.2).
 #[tactic(auto, unfolding(crate::specs::Frame::side_bit))]
 pub(crate) fn side_bit(code: u8, channel: usize) -> u32
     ensures bit { result ≡ side_bit code channel }
@@ -34,7 +35,8 @@ pub(crate) fn side_bit(code: u8, channel: usize) -> u32
     }
 }
 
-/// Reads a subframe for each channel into the channels' places, one channel after another; `false` where a sample does not fit.
+/// Reads a subframe for each channel into the channels' places, one channel after another, and returns whether each
+/// sample fits.
 #[tactic(auto, using(crate::proofs::Subframes::subframes_more))]
 pub(crate) fn read_subframes<R: Source>(
     bits: &mut BitReader<R>,

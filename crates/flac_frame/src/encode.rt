@@ -1,4 +1,4 @@
-//! Frames, written.
+//! Encodes blocks of samples as frames.
 
 ghost use Rattle.std.specs.Prelude.{◌≡◌, ◌≤◌, ◌<◌, ◌+◌, ◌-◌, ◌*◌, ◌^◌, true, map, length, flat_map, All, IfOk, IfErr};
 ghost use Rattle.flac_bits.specs.Signed.{FitsBits};
@@ -19,7 +19,11 @@ use std::alloc::Global;
 use std::marker::Model;
 use std::ops::Range;
 
-/// The arrays that frames are encoded with, made once.
+/// The working arrays of encoding, which are allocated once.
+///
+/// ```
+/// let mut buffers = EncodeBuffers::new(alloc, plan.block_size())?;
+/// ```
 #[derive(Drop)]
 pub struct EncodeBuffers {
     samples: Vec<i64>,
@@ -54,9 +58,10 @@ impl Model for EncodeBuffers {
 }
 
 impl EncodeBuffers {
-    /// Buffers for blocks of at most so many samples, 1 to 65535. Contracts see how many.
+    /// Allocates arrays for blocks of at most `max_block` samples of each channel, 1 to 65535.
     ///
-    /// Refuses [`Why::Memory`] where the arrays are not to be had.
+    /// # Errors
+    /// [`Why::Memory`] if an allocation fails.
     pub fn new(alloc: Global, max_block: u32) -> Result<EncodeBuffers, Why>
         requires { max_block ≤ 65535 }
         ensures ok { IfOk result (λ b. b ≡ max_block) }
@@ -85,7 +90,7 @@ impl EncodeBuffers {
     }
 }
 
-/// Puts samples into places of 64 bits.
+/// Writes samples to places of 64 bits.
 pub(crate) fn widen(samples: &[i32], out: &mut [i64])
     requires { length out.old ≡ length samples.now }
     ensures { out.new ≡ samples.now }
@@ -346,13 +351,15 @@ fn write_first<W: Target>(
     )
 }
 
-/// Chooses how a block of the samples is written as the frame of a number (RFC 9639, section 9), before anything of it is written. [`FrameChoice::frame_bytes`] then
-/// counts its bytes, and [`write_frame`] writes it.
+/// Chooses how samples `range` of each channel are written as frame `number`, before anything of it is written (RFC
+/// 9639, section 9). [`FrameChoice::frame_bytes`] then counts its bytes, and [`write_frame`] writes it.
 ///
-/// Each subframe is the least of its family. Two channels are kept as they are, as left and side, as side and right, or as middle and side
-/// (section 9.1.3), whichever takes the fewest bits; among equals the first of these.
+/// Each subframe is a shortest one over constant, verbatim and fixed predictors. Two channels are written as left and
+/// right, left and side, side and right, or mid and side (section 9.1.3), whichever takes the fewest bits; among equals
+/// the first.
 ///
-/// The range lies in the samples and has 1 sample at least, and as many as the buffers have places for at most; the number is below 2^31. There is a place for the choice of each channel.
+/// The range is within the samples, not empty, and no longer than the buffers' blocks; the number is below 2^31. The
+/// choice has a place for each channel.
 pub fn choose_frame(
     audio: &Audio,
     range: Range<usize>,
@@ -386,7 +393,8 @@ pub fn choose_frame(
     );
 }
 
-/// Writes the frame that [`choose_frame`] chose for this block of the samples and this number, at a whole byte (RFC 9639, section 9).
+/// Writes the frame that [`choose_frame`] chose for this range of the samples and this number (RFC 9639, section 9).
+/// The writer is at a whole byte.
 ///
 /// ```
 /// let mut choice = FrameChoice::new(alloc, audio.channels().len())?;
@@ -396,7 +404,7 @@ pub fn choose_frame(
 /// ```
 ///
 /// # Errors
-/// [`Why::Write`] alone, if the target returns an error.
+/// [`Why::Write`] if the target returns an error.
 pub fn write_frame<W: Target>(
     audio: &Audio,
     range: Range<usize>,
@@ -429,13 +437,11 @@ pub fn write_frame<W: Target>(
     )
 }
 
-/// Writes a block of the samples as the frame of a number, at a whole byte (RFC 9639, section 9), as [`choose_frame`] chooses it.
-///
-/// The range lies in the samples and has 1 sample at least, and as many as the buffers have places for at most; the number is below 2^31.
-/// Returns how many bytes the frame has, 1 to 16777215.
+/// Chooses how samples `range` of each channel are written as frame `number`, as [`choose_frame`] does, and writes it.
+/// The writer is at a whole byte. Returns how many bytes the frame has, 1 to 16777215.
 ///
 /// # Errors
-/// [`Why::Write`] alone, if the target returns an error.
+/// [`Why::Write`] if the target returns an error.
 pub fn encode_frame<W: Target>(
     audio: &Audio,
     range: Range<usize>,

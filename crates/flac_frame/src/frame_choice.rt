@@ -13,8 +13,9 @@ use flac_header::rate_code;
 use flac_subframe::Choice;
 use std::alloc::Global;
 
-/// How a block of samples is written as a frame (RFC 9639, section 9), as [`crate::choose_frame`] chooses it: the channel code, and the subframe of each channel. It
-/// holds no samples, and takes some 560 bytes for each channel, whatever the size of the block.
+/// How a block of samples is written as a frame, as [`crate::choose_frame`] chooses it: the channel code, and the
+/// subframe of each channel (RFC 9639, section 9). It has no samples, and takes some 560 bytes for each channel,
+/// whatever the block size.
 #[derive(Drop)]
 pub struct FrameChoice {
     pub(crate) code: u8,
@@ -93,10 +94,10 @@ fn rate_bytes(rate: u32) -> u64
 }
 
 impl FrameChoice {
-    /// Makes places for the subframes of so many channels at most. Nothing is chosen yet.
+    /// Allocates places for the subframes of at most `channels` channels. Nothing is chosen yet.
     ///
     /// # Errors
-    /// [`Why::Memory`] alone, if an allocation fails.
+    /// [`Why::Memory`] if the allocation fails.
     pub fn new(alloc: Global, channels: usize) -> Result<FrameChoice, Why>
         ensures places { IfOk result (λ choice. length choice.subframes.items ≡ channels) }
         ensures memory { IfErr result (λ e. e ≡ Why.Memory) }
@@ -113,7 +114,8 @@ impl FrameChoice {
         })
     }
 
-    /// Counts the bytes of the frame that was chosen for a block of so many samples of each channel and this number, without writing it: 1 to 16777215.
+    /// How many bytes the frame has that was chosen for a block of `size` samples of each channel and this number, 1 to
+    /// 16777215. Nothing is written.
     pub fn frame_bytes(&self, audio: &Audio, size: usize, number: u64) -> u64
         requires few { size ≤ 65535 }
         requires chosen { (block : List (List ℤ)) × IsFrameChoice audio.now size number block self.now }

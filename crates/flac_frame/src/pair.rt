@@ -1,4 +1,4 @@
-//! Two channels, kept in the way that takes the fewest bits.
+//! Two channels in the decorrelation that takes the fewest bits (RFC 9639, section 4.2).
 
 ghost use Rattle.std.specs.Prelude.{◌≡◌, ◌<◌, ◌≤◌, ◌+◌, ◌^◌, ◌-ℤ◌, ◌+ℤ◌, ◌∷◌, [], ℕ, length, take, drop, slice_set, All};
 ghost use Rattle.std.specs.Int.{int_shr};

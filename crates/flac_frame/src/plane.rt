@@ -1,4 +1,4 @@
-//! A channel as it is kept, and its least subframe.
+//! A channel as a frame has it, and its shortest subframe.
 
 ghost use Rattle.std.specs.Prelude.{◌≡◌, ◌<◌, ◌≤◌, ◌^◌, length, All};
 ghost use Rattle.flac_bits.specs.Signed.{FitsBits};
@@ -7,7 +7,7 @@ ghost use Rattle.flac_frame.specs.Pair.{IsChosen};
 
 use flac_subframe::{Choice, choose_into};
 
-/// A channel as it is kept: its samples, their depth, and how they are written.
+/// A channel as a frame has it: its samples, their depth, and how they are written.
 #[derive(Drop)]
 pub(crate) struct Plane<'a> {
     pub(crate) samples: &'a [i64],

@@ -1,4 +1,4 @@
-//! Samples of the depth of the stream.
+//! Samples of the stream's depth.
 
 ghost use Rattle.std.specs.Prelude.{◌≡◌, ◌≤◌, length, true, FitsSigned};
 ghost use Rattle.std.specs.Int.{w32};
@@ -20,7 +20,7 @@ pub(crate) fn fits_depth(sample: i64, depth: u32) -> bool
     true
 }
 
-/// A number that is 0 just where a sample fits the depth.
+/// A number that is 0 exactly if a sample fits the depth.
 #[inline(always)]
 pub(crate) fn excess(sample: i64, depth: u32) -> u64
     requires depth { (1 ≤ depth) × (depth ≤ 32) }
@@ -30,7 +30,7 @@ pub(crate) fn excess(sample: i64, depth: u32) -> u64
     sample.cast_unsigned().wrapping_add(1 << (depth - 1)) >> depth
 }
 
-/// The lowest 32 bits of a sample, which are the sample again where it fits them.
+/// The lowest 32 bits of a sample, which are the sample if it fits them.
 #[inline(always)]
 pub(crate) fn lowest(sample: i64) -> i32
     ensures { FitsSigned w32 sample → result ≡ sample }
@@ -38,7 +38,7 @@ pub(crate) fn lowest(sample: i64) -> i32
     ((sample.cast_unsigned() & 0xFFFF_FFFF) as u32).cast_signed()
 }
 
-/// Puts the samples into places of 32 bits, and answers whether each fits the depth.
+/// Writes the samples to places of 32 bits, and returns whether each fits the depth.
 pub(crate) fn narrow(samples: &[i64], depth: u32, out: &mut [i32]) -> bool
     requires depth { (1 ≤ depth) × (depth ≤ 32) }
     requires places { length out.old ≡ length samples.now }

@@ -1,4 +1,4 @@
-//! A block of samples that are lent, encoded into memory.
+//! Encodes a block of samples that are lent, into memory.
 
 ghost use Rattle.std.specs.Prelude.{◌≡◌, ◌≤◌, ◌<◌, ◌^◌, map, length, nat_eq, IfOk, IfErr, Some, None};
 ghost use Rattle.std.specs.List.{list_all};
@@ -13,7 +13,7 @@ use flac_bits::{BitWriter, Collected, Why};
 use flac_frame::{Audio, EncodeBuffers, SetupFault, encode_frame};
 use std::alloc::Global;
 
-/// Whether a sample fits so many bits.
+/// Whether a sample fits into `bits` bits.
 fn fits(sample: i32, bits: u32) -> bool
     requires { (1 ≤ bits) × (bits ≤ 32) }
     ensures { result ≡ fits bits sample }
@@ -29,7 +29,7 @@ fn fits(sample: i32, bits: u32) -> bool
     true
 }
 
-/// Whether each sample fits so many bits.
+/// Whether each sample fits into `bits` bits.
 fn small(samples: &[i32], bits: u32) -> bool
     requires { (1 ≤ bits) × (bits ≤ 32) }
     ensures { result ≡ list_all (fits bits) samples.now }
@@ -37,7 +37,7 @@ fn small(samples: &[i32], bits: u32) -> bool
     samples.iter().all(|s| fits(*s, bits))
 }
 
-/// Whether each sample of each channel fits so many bits.
+/// Whether each sample of each channel fits into `bits` bits.
 fn each_small(block: &[&[i32]], bits: u32) -> bool
     requires { (1 ≤ bits) × (bits ≤ 32) }
     ensures { result ≡ list_all (λ c. list_all (fits bits) c.now) block.now }
@@ -45,14 +45,14 @@ fn each_small(block: &[&[i32]], bits: u32) -> bool
     block.iter().all(|c| small(c, bits))
 }
 
-/// Whether each channel has so many samples.
+/// Whether each channel has `len` samples.
 fn are_long(block: &[&[i32]], len: usize) -> bool
     ensures { result ≡ list_all (λ c. nat_eq (length c.now) len) block.now }
 {
     block.iter().all(|c| c.len() == len)
 }
 
-/// How many samples the first channel has, 0 where there is none.
+/// How many samples the first channel has; 0 if there is none.
 pub(crate) fn block_len(block: &[&[i32]]) -> usize
     ensures { result ≡ samples_each (map (λ c. c.now) block.now) }
 {
@@ -62,7 +62,7 @@ pub(crate) fn block_len(block: &[&[i32]]) -> usize
     block[0].len()
 }
 
-/// Why a block does not have the format, if so.
+/// Why a block does not fit the format, or `None` if it does.
 pub(crate) fn block_fault(channels: u32, bits: u32, block: &[&[i32]]) -> Option<SetupFault>
     requires { (1 ≤ bits) × (bits ≤ 32) }
     ensures { result ≡ block_fault channels bits (map (λ c. c.now) block.now) }
@@ -92,7 +92,7 @@ fn copied(alloc: Global, block: &[&[i32]]) -> Result<Vec<Vec<i32>>, Why>
     Ok(channels)
 }
 
-/// All samples as the frame of a number, in memory. Its only error is `Memory`: an allocation failed.
+/// All samples as frame `number`, in memory. Its only error is `Memory`: an allocation failed.
 fn frame_bytes(
     alloc: Global,
     audio: &Audio,
@@ -116,7 +116,7 @@ fn frame_bytes(
     }
 }
 
-/// A block of the format as the frame of a number, in memory. Its only error is `Memory`: an allocation failed.
+/// A block of the format as frame `number`, in memory. Its only error is `Memory`: an allocation failed.
 pub(crate) fn block_bytes(
     alloc: Global,
     rate: u32,

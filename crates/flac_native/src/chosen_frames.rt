@@ -1,4 +1,4 @@
-//! The frames of samples, chosen before any of them is written.
+//! The frames of a stream, chosen before any of them is written.
 
 ghost use Rattle.std.specs.Prelude.{◌≡◌, [], ◌∷◌, ◌++◌, ◌≤◌, ◌<◌, ◌^◌, length, min, max, cond, nat_eq, nat_lt, true, IfOk, IfErr, OnOk, None};
 ghost use Rattle.flac_meta.specs.Listed.{block_fault};
@@ -19,12 +19,15 @@ use flac_meta::{SeekPoint, StreamInfo};
 use md5::{Digest, Md5};
 use std::alloc::Global;
 
-/// How many samples of each channel there are for each choice that is kept: a choice takes some 560 bytes a channel.
+/// One choice is kept for each 1000 samples of each channel: a choice takes some 560 bytes for each channel.
 const KEPT: usize = 1000;
 
-/// The frames that a plan cuts samples into, chosen before any of them is written (RFC 9639, section 9). It knows how long each is, and how the first ones are written:
-/// of as many as there are thousands of samples, and of one more, since that takes a seventh of the memory of the samples at most. So these are all frames of 1000
-/// samples or more. The others are chosen again when they are written; each choice is a least frame of its block, and these are equally long.
+/// How the frames of a plan are written, chosen before any of them is written: the sizes of the frames, and the choices
+/// of the first ones (RFC 9639, section 9).
+///
+/// As many choices are kept as there are thousands of samples, and one more: all, if blocks have 1000 samples or more.
+/// They take at most a seventh of the memory of the samples. Frames without a choice are chosen again when they are
+/// written; each choice is a shortest frame of its block, so the sizes are the same.
 ///
 /// ```
 /// let mut buffers = EncodeBuffers::new(alloc, plan.block_size())?;
@@ -42,21 +45,21 @@ pub struct ChosenFrames {
     pub(crate) digest: [u8; 16],
 }
 
-/// The least size with one more, which is that of the first where there was none.
+/// The smallest size after one more, which is that one if there was none.
 fn least_with(count: u64, least: u64, bytes: u64) -> u64
     ensures { result ≡ cond (nat_eq count 0) bytes (min least bytes) }
 {
     if count == 0 { bytes } else { least.min(bytes) }
 }
 
-/// The greatest size with one more.
+/// The largest size after one more.
 fn greatest_with(greatest: u64, bytes: u64) -> u64
     ensures { result ≡ max greatest bytes }
 {
     if greatest < bytes { bytes } else { greatest }
 }
 
-/// Keeps how a frame is written, where fewer than so many are kept, and gives places for the next.
+/// Keeps a choice if fewer than `most` are kept, and returns one to fill next.
 fn keep(
     alloc: Global,
     channels: usize,
@@ -78,11 +81,11 @@ fn keep(
 }
 
 impl ChosenFrames {
-    /// Chooses how each frame is written, counts its bytes, and works out the digest of the samples. The plan fits the samples, and the buffers are made for its block
-    /// size.
+    /// Chooses how each frame is written, counts its bytes, and computes the digest of the samples. The plan must fit
+    /// the samples, and the buffers must have the plan's block size.
     ///
     /// # Errors
-    /// [`Why::Memory`] alone, if an allocation fails.
+    /// [`Why::Memory`] if an allocation fails.
     pub fn new(
         alloc: Global,
         plan: &Plan,
@@ -134,8 +137,8 @@ impl ChosenFrames {
         })
     }
 
-    /// STREAMINFO of the samples that the frames were chosen of: it states the sizes of the frames, and the digest (RFC 9639, section 8.2). The plan and the samples are
-    /// those of the choice.
+    /// STREAMINFO of the samples, with the sizes of the frames and the MD5 digest (RFC 9639, section 8.2). The plan and
+    /// the samples must be those of the choice.
     pub fn info(&self, plan: &Plan, audio: &Audio) -> StreamInfo
         requires fits { fits_plan plan.now audio.now ≡ true }
         requires sizes { (self.now.least ≤ self.now.greatest) × (self.now.greatest < 2 ^ 24) }
@@ -145,24 +148,24 @@ impl ChosenFrames {
         info_with(plan, audio, self.least, self.greatest, self.digest)
     }
 
-    /// The number of bytes of the shortest frame, 0 where there is none.
+    /// The number of bytes of the shortest frame, below 2^24; 0 if there is no frame.
     pub fn least(&self) -> u32
         ensures { result ≡ self.now.least }
     {
         self.least
     }
 
-    /// The number of bytes of the longest frame, 0 where there is none.
+    /// The number of bytes of the longest frame, below 2^24; 0 if there is no frame.
     pub fn greatest(&self) -> u32
         ensures { result ≡ self.now.greatest }
     {
         self.greatest
     }
 
-    /// Makes a place for the longest frame.
+    /// Allocates a place for the longest frame.
     ///
     /// # Errors
-    /// [`Why::Memory`] alone, if an allocation fails.
+    /// [`Why::Memory`] if the allocation fails.
     pub fn room(&self, alloc: Global) -> Result<Room, Why>
         ensures places { IfOk result (λ room. room.places ≡ self.now.greatest) }
         ensures memory { IfErr result (λ e. e ≡ Why.Memory) }
@@ -170,8 +173,8 @@ impl ChosenFrames {
         Room::new(alloc, self.greatest as usize)
     }
 
-    /// Writes the frame of a number, counted from 0, into a place for the longest frame, in place of what is in it. The plan, the samples and the block size of the
-    /// buffers are those of the choice.
+    /// Writes frame `number`, counted from 0, into a place for the longest frame, in place of what is there. The plan,
+    /// the samples and the block size of the buffers must be those of the choice.
     pub fn write(
         &self,
         plan: &Plan,

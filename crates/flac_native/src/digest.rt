@@ -1,4 +1,4 @@
-//! The digest of samples that are to be encoded (RFC 9639, section 8.2).
+//! The MD5 digest of samples that are to be encoded (RFC 9639, section 8.2).
 
 ghost use Rattle.std.specs.Prelude.{◌≡◌, ◌≤◌, ◌<◌, ◌+◌, ◌∷◌, ◌++◌, List, ℕ, [], length, map, take, drop, pos, slice_index_or};
 ghost use Rattle.flac_frame.specs.Audio.{samples_each};
@@ -10,7 +10,7 @@ use crate::rows::{Channels, feed_rows};
 use flac_frame::Audio;
 use md5::{Digest, Md5};
 
-/// The sample at an index, 0 where there is none.
+/// The sample at an index; 0 if there is none.
 #[inline(always)]
 fn sample_at(samples: &[i32], index: usize) -> i32
     ensures { result ≡ slice_index_or samples.now index (pos 0) }
@@ -21,7 +21,7 @@ fn sample_at(samples: &[i32], index: usize) -> i32
     }
 }
 
-/// The sample of a channel at an index, 0 where there is none.
+/// The sample of a channel at an index; 0 if there is none.
 #[inline(always)]
 fn sample_of(channels: &[Vec<i32>], channel: usize, index: usize) -> i32
     requires { channel < length channels.now }

@@ -45,7 +45,13 @@ pub(crate) fn info_with(
     }
 }
 
-/// STREAMINFO of samples that a plan was made for, where the least and the greatest frame have so many bytes, below 2^24; 0 where there is no frame.
+/// STREAMINFO of samples that a plan was made for: `least` and `greatest` are the sizes of the shortest and the longest
+/// frame in bytes, below 2^24, 0 if there is no frame (RFC 9639, section 8.2). It states the number of samples and
+/// their MD5 digest.
+///
+/// ```
+/// let info = info_of(&plan, &audio, 14, 15);
+/// ```
 pub fn info_of(plan: &Plan, audio: &Audio, least: u32, greatest: u32) -> StreamInfo
     requires fits { fits_plan plan.now audio.now ≡ true }
     requires least { least ≤ greatest }

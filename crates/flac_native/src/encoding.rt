@@ -1,4 +1,4 @@
-//! Writes native streams.
+//! Encodes samples as a native stream.
 
 ghost use Rattle.std.specs.Prelude.{◌≡◌, ◌≢◌, ◌∷◌, ◌++◌, ◌<◌, ◌↔◌, length, true, IfOk, IfErr, OnOk, None, Err};
 ghost use Rattle.flac_bits.specs.Bits.{bits_of};
@@ -23,7 +23,7 @@ use flac_frame::{Audio, EncodeBuffers, FrameChoice};
 use flac_meta::{Block, BlockList, SeekPoint, SeekTable, StreamInfo, write_block};
 use std::alloc::Global;
 
-/// Writes the seek table of these points as the last block, where there are some (RFC 9639, section 8.5).
+/// Writes the seek table of these points as the last block, if there are points (RFC 9639, section 8.5).
 fn write_table<W: Target>(points: Vec<SeekPoint>, writer: &mut BitWriter<W>) -> Result<(), Why>
     requires { block_fault (block_of.SeekTable points.items) ≡ None }
     ensures { Writes (blocks_spelling (table_of points.items)) writer.old writer.new result }
@@ -44,7 +44,8 @@ fn count_with_table(blocks: &[Block], points: &[SeekPoint]) -> usize
     blocks.len() + 1
 }
 
-/// Writes STREAMINFO, the blocks behind it and the seek table of these points, where there are some. The last of them is marked (RFC 9639, section 8.1).
+/// Writes STREAMINFO, the blocks of the list, and the seek table of these points, if there are points. The last block
+/// is marked (RFC 9639, section 8.1).
 pub(crate) fn write_blocks<W: Target>(
     info: StreamInfo,
     list: &BlockList,
@@ -61,7 +62,8 @@ pub(crate) fn write_blocks<W: Target>(
     write_table(points, writer)
 }
 
-/// Writes what stands before the frames: the marker fLaC, STREAMINFO, the blocks and the seek table (RFC 9639, section 6).
+/// Writes what comes before the frames: the marker fLaC, STREAMINFO, the blocks and the seek table (RFC 9639, section
+/// 6).
 fn write_head<W: Target>(
     info: StreamInfo,
     list: &BlockList,
@@ -93,13 +95,14 @@ pub(crate) fn head_of(
     }
 }
 
+/// Whether a block is a seek table.
 fn is_table(block: &Block) -> bool
     ensures { result ≡ is_table block.now }
 {
     matches!(block, Block::SeekTable(_))
 }
 
-/// Whether there is a seek table among blocks.
+/// Whether a seek table is among the blocks.
 fn has_table(blocks: &[Block]) -> bool
     ensures { result ≡ has_table blocks.now }
 {
@@ -118,7 +121,7 @@ fn repeats_table(plan: &Plan, list: &BlockList) -> bool
     plan.seek_every() > 0 && has_table(list.blocks())
 }
 
-/// Sends the bytes before the frames, and then the frames. After an error a beginning of them was sent.
+/// Sends the bytes before the frames, and then the frames. After an error a prefix of them was sent.
 fn send_stream<W: Target>(
     head: &[u8],
     plan: &Plan,
@@ -138,18 +141,28 @@ fn send_stream<W: Target>(
     send_frames(plan, audio, choices, buffers, room, target)
 }
 
-/// Writes samples as a native stream: STREAMINFO with the number of samples, the sizes of the frames and the digest, the blocks of the list, the seek table
-/// where the plan asks for one and there is a sample, and a frame for each block of the plan (RFC 9639, section 6).
+/// Encodes samples as a native stream: STREAMINFO with the number of samples, the sizes of the frames and the MD5
+/// digest, the blocks of the list, the seek table if the plan asks for one and there are samples, and a frame for each
+/// block of the plan (RFC 9639, section 6). Each frame is a shortest one over constant, verbatim and fixed predictors.
 ///
-/// It goes over the samples twice: first it chooses how each frame is written, which tells its length, and then it writes one frame after another. Beside the samples it
-/// holds the bytes before the frames, one frame, and for each frame how it is written, some 560 bytes for each channel. Where blocks have fewer than 1000 samples, that
-/// would take more than a seventh of the memory of the samples: then it keeps what was chosen of the first frames, and chooses the others again.
+/// The plan must fit the samples ([`Plan::fits`]).
 ///
-/// The plan fits the samples: see [`Plan::fits`].
+/// It goes over the samples twice: first it chooses how each frame is written, then it writes one after another. Beside
+/// the samples it holds the bytes before the frames, one frame, and some 560 bytes for each channel of each frame. If
+/// blocks have fewer than 1000 samples, it keeps the choices of the first frames only, and makes the others again.
+///
+/// ```
+/// let plan = Plan::new(4096, &audio, 0)?;
+/// let list = BlockList::new(Vec::new(rt.alloc()))?;
+/// let mut target = Collected::new(rt.alloc());
+/// encode(rt.alloc(), &plan, &list, &audio, &mut target)?;
+/// let bytes = target.into_bytes();
+/// ```
 ///
 /// # Errors
-/// [`EncodeFault::RepeatedBlock`] where the list has a seek table and the plan asks for one; then nothing was sent. [`EncodeFault::Memory`] where a growth was refused; then nothing was sent. [`EncodeFault::Write`] where the target answered an error; then it was sent a
-/// beginning of the stream, behind what it had.
+/// - [`EncodeFault::RepeatedBlock`] if the list has a seek table and the plan asks for one. Nothing was sent.
+/// - [`EncodeFault::Memory`] if an allocation fails. Nothing was sent.
+/// - [`EncodeFault::Write`] if the target returns an error. It was sent a prefix of the stream, after what it had.
 pub fn encode<W: Target>(
     alloc: Global,
     plan: &Plan,

@@ -1,4 +1,4 @@
-//! The frames of a stream, written one after another.
+//! Writes the frames of a stream one after another.
 
 ghost use Rattle.std.specs.Prelude.{◌≡◌, ◌≤◌, ◌<◌, ◌+◌, ◌-◌, ◌*◌, ◌^◌, true, length, IfErr};
 ghost use Rattle.flac_bits.specs.Bits.{bits_of};
@@ -13,7 +13,7 @@ use flac_bits::{BitWriter, Target, Why, send_all};
 use flac_frame::{Audio, EncodeBuffers, FrameChoice, encode_frame, write_frame};
 use std::ops::Range;
 
-/// Writes the frame of a number as it was chosen, or as it is chosen now where that was not kept.
+/// Writes frame `number` as it was chosen; if the choice was not kept, it is made again.
 fn write_chosen<W: Target>(
     plan: &Plan,
     audio: &Audio,
@@ -45,7 +45,7 @@ fn write_chosen<W: Target>(
     }
 }
 
-/// Writes the frame of a number, and sends what is held.
+/// Writes frame `number`, and sends what the writer holds.
 fn write_next<W: Target>(
     plan: &Plan,
     audio: &Audio,
@@ -70,7 +70,7 @@ fn write_next<W: Target>(
     writer.finish()
 }
 
-/// The bytes of the frame of a number, in a place that has room for them.
+/// The bytes of frame `number`, in a place that has room for them.
 pub(crate) fn spell_next(
     plan: &Plan,
     audio: &Audio,
@@ -102,7 +102,7 @@ pub(crate) fn spell_next(
     }
 }
 
-/// Sends all frames, one after another. After an error a beginning of them was sent.
+/// Sends all frames, one after another. After an error a prefix of them was sent.
 pub(crate) fn send_frames<W: Target>(
     plan: &Plan,
     audio: &Audio,

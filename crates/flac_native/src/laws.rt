@@ -1,4 +1,4 @@
-//! What holds of the definitions.
+//! Laws: what holds of the definitions. Calling them does nothing; a proof may name them.
 
 ghost use Rattle.flac_bits.specs.Handing.{OneReading, SomeReading};
 ghost use Rattle.flac_native.specs.Stream.{grammar};
@@ -7,40 +7,44 @@ ghost use Rattle.flac_native.specs.Whole.{StreamsAreWhole};
 ghost use Rattle.flac_native.specs.BlockOrder.{BlocksAreInOrder};
 ghost use Rattle.flac_native.specs.Ordered.{StreamsAreOrdered};
 
-/// No input has two readings: it is one stream, or is refused at one place and for one reason.
+/// No input has two readings: it is one stream, or it is refused at one place for one reason.
 pub fn only_one_way()
     ensures { OneReading grammar }
 {}
 
-/// Each input has a reading: it is a stream, or is refused at a place and for a reason.
+/// Each input has a reading: it is a stream, or it is refused at a place for a reason.
 pub fn some_way()
     ensures { SomeReading grammar }
 {}
 
-/// A stream is just this: the marker, STREAMINFO, other blocks, and frames to the end of the input, whose headers keep the rules on the list of all headers;
-/// STREAMINFO's number of samples and digest, where it states them, are those of all frames (RFC 9639, sections 6, 8.2 and 9.1).
+/// A stream is exactly this: the marker, STREAMINFO, other blocks, and frames to the end of the input, whose headers
+/// keep the rules on the list of all headers. The number of samples and the digest, if STREAMINFO states them, are
+/// those of all frames (RFC 9639, sections 6, 8.2 and 9.1).
 pub fn streams_are_whole()
     ensures { StreamsAreWhole }
 {}
 
-/// The metadata blocks of a stream are in order: STREAMINFO is the first and the only one, one block at most is a seek table and one at most a Vorbis comment, and the
-/// last alone is marked as the last; frames come after them. Such blocks, each valid by itself, and no others are read one after another (RFC 9639, section 8).
+/// The metadata blocks of a stream are in order: STREAMINFO is the first, and there is no other; at most one is a seek
+/// table and at most one a Vorbis comment; only the last is marked last; and frames come after them. Such blocks, each
+/// valid by itself, and no others are read one after another (RFC 9639, section 8).
 pub fn blocks_are_in_order()
     ensures { BlocksAreInOrder }
 {}
 
-/// A stream, said without a state: the marker, blocks in order, and frames to the end whose headers follow one another, with the number of samples and the digest that
-/// STREAMINFO states, if it states them (RFC 9639, sections 6, 8 and 9.1).
+/// A stream, said without a state: the marker, blocks in order, and frames to the end whose headers follow one another,
+/// with the number of samples and the digest that STREAMINFO states, if it states them (RFC 9639, sections 6, 8 and
+/// 9.1).
 pub fn streams_are_ordered()
     ensures { StreamsAreOrdered }
 {}
 
-/// No input has two heads, the marker and the blocks before the frames: it begins with one, or is refused there at one place and for one reason.
+/// No input has two heads, that is the marker and the blocks before the frames: it begins with one, or it is refused
+/// there at one place for one reason.
 pub fn only_one_head()
     ensures { HeadsAreOne }
 {}
 
-/// What a stream with other comments begins with is read as the same STREAMINFO, these comments and the other blocks.
+/// A stream with other comments begins with what is read as the same STREAMINFO, these comments and the other blocks.
 pub fn retagged_are_read()
     ensures { RetaggedAreRead }
 {}

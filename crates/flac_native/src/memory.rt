@@ -5,7 +5,7 @@ ghost use Rattle.flac_bits.specs.Bits.{bits_of};
 
 use flac_bits::{BitWriter, Collected, Why};
 
-/// Why writing into memory was refused: an error of this target is a growth that was refused.
+/// The error of writing into memory: there an error of the target is a failed allocation.
 pub(crate) fn in_memory(why: Why) -> Why
     ensures target { why ≡ Why.Write → result ≡ Why.Memory }
     ensures others { why ≢ Why.Write → result ≡ why }
@@ -17,7 +17,7 @@ pub(crate) fn in_memory(why: Why) -> Why
     }
 }
 
-/// The bytes that were written. Refuses where a growth is.
+/// The bytes that were written. Its only error is `Memory`: an allocation failed.
 pub(crate) fn collect(writer: BitWriter<Collected>) -> Result<Vec<u8>, Why>
     ensures bytes { IfOk result (λ bytes. writer.known ≡ true → writer.mark.unread ≡ 0 → bits_of bytes.items ≡ writer.bits) }
     ensures memory { IfErr result (λ e. e ≡ Why.Memory) }

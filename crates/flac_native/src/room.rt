@@ -1,4 +1,4 @@
-//! A place for bytes, which is made once.
+//! A place for bytes, which is allocated once.
 
 ghost use Rattle.std.specs.Prelude.{◌≡◌, ◌≤◌, ◌<◌, ◌+◌, ◌-◌, ◌^◌, [], length, nat_lt, vec_capacity, IfOk, IfErr};
 ghost use Rattle.flac_native.specs.Room.{placed};
@@ -7,11 +7,11 @@ use flac_bits::{Target, Why};
 use std::alloc::Global;
 use std::io;
 
-/// How many bytes are taken at once, at most, and how many places there are beside those that were asked for.
+/// The most bytes that are taken at once, and how many places there are beside those that were asked for.
 const PIECE: usize = 4096;
 
-/// A place in memory for so many bytes, which is made once and then filled and emptied as often as needed. It is a [`Target`] that keeps what it is sent: up to so many
-/// bytes it never needs an allocation, and never returns an error.
+/// A place in memory for a number of bytes, which is allocated once, and then filled and emptied as often as needed. It
+/// is a [`Target`] that keeps what it is sent: up to that number of bytes it needs no allocation and returns no error.
 #[derive(Drop)]
 pub struct Room {
     bytes: Vec<u8>,
@@ -22,10 +22,10 @@ pub struct Room {
 }
 
 impl Room {
-    /// Makes a place for so many bytes, 2^32 at most. Nothing is in it.
+    /// Allocates an empty place for `places` bytes, at most 2^32.
     ///
     /// # Errors
-    /// [`Why::Memory`] alone, if an allocation fails.
+    /// [`Why::Memory`] if the allocation fails.
     pub fn new(alloc: Global, places: usize) -> Result<Room, Why>
         requires { places ≤ 2 ^ 32 }
         ensures places { IfOk result (λ room. room.places ≡ places) }
@@ -47,7 +47,7 @@ impl Room {
         self.bytes.as_slice()
     }
 
-    /// Gives the same place with no bytes in it, and no error counted.
+    /// Returns the same place without bytes, and with no error counted.
     pub fn emptied(self) -> Room
         ensures places { result.places ≡ self.places }
         ensures none { result.bytes.items ≡ [] }

@@ -230,8 +230,8 @@ impl<W: Target + Drop> StreamEncoder<W> {
     /// - [`EncodeFault::Spent`] after a call that returned [`EncodeFault::Write`];
     /// - [`EncodeFault::Setup`] with `BadChannels` if there is not one slice for each channel, `LengthsDiffer` if they
     ///   differ in length, `SampleTooLarge` if a sample does not fit its bits;
-    /// - [`EncodeFault::Setup`] with `TooLong` if the stream would have 2^36 samples of each channel or more, or
-    ///   more than 2^31 frames;
+    /// - [`EncodeFault::Setup`] with `TooLong` if the stream would have 2^36 samples of each channel or more, or more
+    ///   than 2^31 frames;
     /// - [`EncodeFault::Setup`] with `BadBlockSize` if the block has no sample, or more than the block size;
     /// - [`EncodeFault::BlockSize`] if the block before was shorter than the block size;
     /// - [`EncodeFault::Memory`] if an allocation fails, or [`EncodeFault::Write`] if the target returns an error.

@@ -1,4 +1,4 @@
-//! Writes Ogg streams.
+//! Encodes samples as an Ogg stream.
 
 ghost use Rattle.std.specs.Prelude.{◌≡◌, ◌≢◌, [], ◌++◌, ◌≤◌, ◌<◌, ◌-◌, ◌^◌, ◌↔◌, length, nat_eq, true, false, IfOk, IfErr, OnOk, None, Err};
 ghost use Rattle.flac_bits.specs.Bits.{bits_of};
@@ -34,14 +34,14 @@ pub(crate) fn begins_with_comment(blocks: &[Block]) -> bool
     }
 }
 
-/// Whether these blocks can stand in an Ogg stream, and the plan asks for no seek table.
+/// Whether these blocks can be in an Ogg stream, and the plan asks for no seek table.
 fn may_be_ogg(plan: &Plan, list: &BlockList) -> bool
     ensures { result ≡ may_be_ogg plan.now list.now }
 {
     plan.seek_every() == 0 && begins_with_comment(list.blocks())
 }
 
-/// How many header packets follow the first one, 0 where 16 bits cannot tell it.
+/// How many header packets follow the first one; 0 if 16 bits cannot hold it (RFC 9639, section 10.1).
 pub(crate) fn header_count(blocks: usize) -> u64
     ensures value { result ≡ header_count blocks }
     ensures small { result < 2 ^ 16 }
@@ -49,7 +49,7 @@ pub(crate) fn header_count(blocks: usize) -> u64
     if blocks > 65535 { 0 } else { blocks as u64 }
 }
 
-/// Writes what stands in the first packet before STREAMINFO (RFC 9639, section 10.1).
+/// Writes what the first packet has before STREAMINFO (RFC 9639, section 10.1).
 fn write_mapping<W: Target>(count: u64, writer: &mut BitWriter<W>) -> Result<(), Why>
     requires { count < 2 ^ 16 }
     ensures { Writes (mapping_spelling count) writer.old writer.new result }
@@ -61,7 +61,7 @@ fn write_mapping<W: Target>(count: u64, writer: &mut BitWriter<W>) -> Result<(),
     Ok(())
 }
 
-/// Writes the first packet: the mapping and STREAMINFO, which is the last block if there are no others.
+/// Writes the first packet: the mapping, and STREAMINFO, which is marked last if there are no other blocks.
 fn write_first<W: Target>(
     info: StreamInfo,
     blocks: usize,
@@ -98,7 +98,7 @@ pub(crate) fn block_packet(alloc: Global, block: &Block, last: bool) -> Result<V
     }
 }
 
-/// The samples from one place to another as the frame of a number, in memory. Its only error is `Memory`: an allocation failed.
+/// Samples `start` to `end` as frame `number`, in memory. Its only error is `Memory`: an allocation failed.
 pub(crate) fn frame_packet(
     alloc: Global,
     audio: &Audio,
@@ -146,19 +146,26 @@ fn header_packets(
     Ok(headers)
 }
 
-/// Writes samples as an Ogg stream of FLAC (RFC 9639, section 10.1; RFC 3533): the mapping with STREAMINFO, each block of the list, of which the last is marked,
-/// and a frame for each block of the plan, each in a packet of its own that begins a page. Each page of a header packet has granule position 0. A page on which
-/// a frame ends has the number of samples so far, and the pages before it have all ones.
+/// Encodes samples as an Ogg stream with this serial number: the mapping with STREAMINFO, the blocks of the list, and a
+/// frame for each block of the plan, each in a packet of its own that begins a page (RFC 9639, section 10.1; RFC 3533).
+/// The frames are those of [`flac_native::encode`].
 ///
-/// It goes over the samples twice, as [`flac_native::encode`] does. Beside the samples, and how frames are written, it holds the pages of the header packets, and one
-/// frame with its pages.
+/// Pages of header packets have granule position 0. A page on which a frame ends has the number of samples so far; the
+/// pages before it have all ones.
 ///
-/// The plan fits the samples: see [`Plan::fits`]. `serial` is the number of the stream.
+/// The plan must fit the samples ([`Plan::fits`]). It goes over the samples twice, as [`flac_native::encode`] does.
+/// Beside the samples and the choices of the frames it holds the pages of the header packets, and one frame with its
+/// pages.
+///
+/// ```
+/// encode_ogg(rt.alloc(), 1, &plan, &list, &audio, &mut target)?;
+/// ```
 ///
 /// # Errors
-/// [`EncodeFault::BadMapping`] where the list does not begin with a Vorbis comment, or the plan asks for a seek table; then nothing was sent.
-/// [`EncodeFault::Memory`] where a growth was refused; then nothing was sent. [`EncodeFault::Write`] where the target answered an error; then it was sent a
-/// beginning of the stream, behind what it had.
+/// - [`EncodeFault::BadMapping`] if the list does not begin with a Vorbis comment, or the plan asks for a seek table.
+///   Nothing was sent.
+/// - [`EncodeFault::Memory`] if an allocation fails. Nothing was sent.
+/// - [`EncodeFault::Write`] if the target returns an error. It was sent a prefix of the stream, after what it had.
 pub fn encode_ogg<W: Target>(
     alloc: Global,
     serial: u32,

@@ -19,7 +19,8 @@ use flac_meta::BlockList;
 use flac_pages::{PacketKind, PacketMarks};
 use std::alloc::Global;
 
-/// Header packets of the stream of a number: the pages of all but the last, and the last, which is held back.
+/// The header packets of a stream with this serial number: the pages of all but the last, and the last, which is held
+/// back.
 #[derive(Drop)]
 pub(crate) struct Headers {
     pub(crate) serial: u32,
@@ -47,7 +48,7 @@ impl Headers {
         Ok(Headers { serial, sent, held })
     }
 
-    /// Puts a header packet after the others. Its only error is `Memory`: an allocation failed. After it the packets are of no use.
+    /// Adds a header packet. Its only error is `Memory`: an allocation failed; the packets are of no use then.
     fn push(&mut self, alloc: Global, packet: &[u8]) -> Result<(), Why>
         ensures put { OnOk result ((first : List Bool) (texts : List (List Bool)) → AreHeaders (first ∷ texts) self.old → AreHeaders ((first ∷ texts) ++ bits_of packet.now ∷ []) self.new) }
         ensures serial { OnOk result (self.new.serial ≡ self.old.serial) }
@@ -67,7 +68,7 @@ impl Headers {
         Ok(())
     }
 
-    /// Puts each block after the others. Its only error is `Memory`: an allocation failed.
+    /// Adds a packet for each block. Its only error is `Memory`: an allocation failed.
     pub(crate) fn push_blocks(&mut self, alloc: Global, list: &BlockList) -> Result<(), Why>
         ensures put { OnOk result ((first : List Bool) → AreHeaders (first ∷ []) self.old → AreHeaders (first ∷ block_spellings list.now) self.new) }
         ensures serial { OnOk result (self.new.serial ≡ self.old.serial) }
@@ -83,7 +84,7 @@ impl Headers {
     }
 }
 
-/// Writes the mapping in front of what begins with the marker (RFC 9639, section 10.1).
+/// Writes the mapping before what begins with the marker (RFC 9639, section 10.1).
 fn write_mapped<W: Target>(count: u64, head: &[u8], writer: &mut BitWriter<W>) -> Result<(), Why>
     requires { count < 2 ^ 16 }
     ensures { Writes (joined (unsigned 40 0x7F464C4143 ∷ unsigned 16 0x0100 ∷ unsigned 16 count ∷ bits_of head.now ∷ [])) writer.old writer.new result }
@@ -95,8 +96,8 @@ fn write_mapped<W: Target>(count: u64, head: &[u8], writer: &mut BitWriter<W>) -
     Ok(())
 }
 
-/// The first packet, of a stream with so many blocks after STREAMINFO: the mapping, and then the marker and STREAMINFO, as they begin a native stream. Its only error
-/// is `Memory`: an allocation failed.
+/// The first packet of a stream with `blocks` blocks after STREAMINFO: the mapping, and then the marker and STREAMINFO
+/// as they begin a native stream. Its only error is `Memory`: an allocation failed.
 fn mapped(alloc: Global, blocks: usize, head: &[u8]) -> Result<Vec<u8>, Why>
     ensures packet { IfOk result (λ packet. bits_of packet.items ≡ joined (unsigned 40 0x7F464C4143 ∷ unsigned 16 0x0100 ∷ unsigned 16 (header_count blocks) ∷ bits_of head.now ∷ [])) }
     ensures memory { IfErr result (λ e. e ≡ Why.Memory) }
@@ -108,8 +109,8 @@ fn mapped(alloc: Global, blocks: usize, head: &[u8]) -> Result<Vec<u8>, Why>
     }
 }
 
-/// The header packets of the blocks that begin a native stream: STREAMINFO, behind the mapping, and those of the list. Its only error is `Memory`: an allocation
-/// failed.
+/// The header packets of the blocks with which a native stream begins: STREAMINFO, after the mapping, and those of the
+/// list. Its only error is `Memory`: an allocation failed.
 pub(crate) fn headers_of(
     alloc: Global,
     serial: u32,

@@ -1,4 +1,4 @@
-//! The packets of a stream, sent one after another.
+//! Sends the packets of a stream one after another.
 
 ghost use Rattle.std.specs.Prelude.{◌≡◌, ◌∷◌, ◌≤◌, ◌<◌, ◌+◌, ◌*◌, ◌/◌, List, Bool, length, true, IfOk, IfErr};
 ghost use Rattle.flac_bits.specs.Bits.{bits_of};
@@ -18,7 +18,8 @@ use flac_native::{ChosenFrames, Plan, Room};
 use flac_pages::{PacketKind, PacketMarks, write_packet};
 use std::alloc::Global;
 
-/// A place for the pages of a packet of so many bytes, each of 65307 bytes at most (RFC 3533, section 6). Its only error is `Memory`: an allocation failed.
+/// A place for the pages of a packet of `packet` bytes, each of at most 65307 bytes (RFC 3533, section 6). Its only
+/// error is `Memory`: an allocation failed.
 pub(crate) fn page_room(alloc: Global, packet: u32) -> Result<Room, Why>
     requires { packet ≤ 16777215 }
     ensures places { IfOk result (λ room. 65307 * (packet / 65025 + 1) ≤ room.places) }
@@ -27,7 +28,7 @@ pub(crate) fn page_room(alloc: Global, packet: u32) -> Result<Room, Why>
     Room::new(alloc, 65307 * (packet as usize / 65025 + 1))
 }
 
-/// Writes the pages of a packet, and sends what is held. Answers the number of the page behind them.
+/// Writes the pages of a packet, and sends what the writer holds. Returns the number of the page after them.
 fn write_pages<W: Target>(
     marks: PacketMarks,
     packet: &[u8],
@@ -42,7 +43,7 @@ fn write_pages<W: Target>(
     Ok(next)
 }
 
-/// The pages of a packet, in a place that has room for them, and the number of the page behind them.
+/// The pages of a packet, in a place that has room for them, and the number of the page after them.
 fn paged(marks: PacketMarks, packet: &[u8], place: Room) -> (Room, u32)
     requires { 65307 * (length packet.now / 65025 + 1) ≤ place.places }
     ensures places { result.0.places ≡ place.places }
@@ -58,7 +59,7 @@ fn paged(marks: PacketMarks, packet: &[u8], place: Room) -> (Room, u32)
     }
 }
 
-/// Sends all frames, each in a packet, from the page of a number on. After an error a beginning of them was sent.
+/// Sends all frames, each in a packet, from page `from` on. After an error a prefix of them was sent.
 fn send_frames<W: Target>(
     serial: u32,
     from: u32,
@@ -108,7 +109,7 @@ fn send_frames<W: Target>(
     Ok(())
 }
 
-/// Sends the header packets and then the frames. After an error a beginning of them was sent.
+/// Sends the header packets, and then the frames. After an error a prefix of them was sent.
 pub(crate) fn send_stream<W: Target>(
     headers: &Headers,
     plan: &Plan,

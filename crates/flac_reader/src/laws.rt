@@ -1,13 +1,13 @@
-//! What holds of the definitions of seeking.
+//! Laws: what holds of the definitions of seeking. Calling them does nothing; a proof may name them.
 
 ghost use Rattle.flac_reader.specs.Seeking.{FramesStart, CutsAreRead};
 ghost use Rattle.flac_reader.specs.Encoded.{FramesAreCut, PointsAreCut, SearchesAreCut, SamplesAreFound};
 
 use flac_native::Container;
 
-/// A native stream in memory is cut where its frames start, which is what [`crate::Reader::frames_start`] counts: the bytes before are the marker and the blocks.
-/// Wherever it is cut at a frame, the bytes from there on are read by [`crate::Decoder::resume`] as just that frame, those behind it, and the end (RFC 9639,
-/// sections 6 and 8.5).
+/// [`crate::Reader::frames_start`] is where the frames of a native stream in memory begin: the bytes before are the
+/// marker and the blocks. The bytes from any frame on are read by [`crate::Decoder::resume`] as exactly that frame, all
+/// later ones, and the end (RFC 9639, sections 6 and 8.5).
 pub fn streams_are_cut()
     ensures start { FramesStart }
     ensures read { CutsAreRead }

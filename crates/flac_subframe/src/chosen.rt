@@ -1,4 +1,4 @@
-//! The least subframe for some samples.
+//! The shortest subframe of some samples.
 
 ghost use Rattle.std.specs.Prelude.{◌≡◌, ◌<◌, ◌≤◌, ◌^◌, length, All};
 ghost use Rattle.flac_bits.specs.Signed.{FitsBits};
@@ -29,7 +29,8 @@ pub struct Choice {
 }
 
 impl Choice {
-    /// The constant subframe of samples that are all 0, of a depth of one bit: what a place for a choice has before one is made.
+    /// The constant subframe of samples that are all 0 and have one bit: what a place for a choice has before one is
+    /// made.
     pub fn silence() -> Choice
         ensures { result ≡ record { wasted = 0; kind = Constant; bits = 9 } }
     {

@@ -1,4 +1,4 @@
-//! Subframes: the residual, the predictors, and the samples that they restore (RFC 9639, section 9.2).
+//! Subframes: reading them, and the search for the shortest one (RFC 9639, section 9.2).
 #![tactic(auto)]
 
 mod choice;

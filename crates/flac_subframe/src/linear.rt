@@ -55,10 +55,9 @@ impl LinearPredictor {
     ghost use Rattle.flac_subframe.specs.Bodies.{linear, fields_cost};
     ghost use Rattle.flac_subframe.specs.Handed.{predictor_of, AreWithin};
 
-    /// A predictor of a precision of 1 to 15 bits, a shift of 0 to 15, and 1 to 32 coefficients that have a two's complement form of as
-    /// many bits as the precision, the one for the nearest sample first (RFC 9639, section 9.2.6). `None` if one of these does not hold.
-    ///
-    /// It allocates nothing.
+    /// Makes a predictor of a precision of 1 to 15 bits, a shift of 0 to 15, and 1 to 32 coefficients that fit into as
+    /// many bits as the precision, that of the nearest sample first (RFC 9639, section 9.2.6). `None` if one of these
+    /// does not hold. It allocates nothing.
     ///
     /// ```
     /// let doubled = LinearPredictor::new(3, 0, &[2, -1]);
@@ -98,7 +97,7 @@ impl LinearPredictor {
         true
     }
 
-    /// How many coefficients it has, 1 to 32: as many as it has warm-up samples.
+    /// How many coefficients it has, 1 to 32, and how many warm-up samples.
     pub fn order(&self) -> usize
         ensures value { result ≡ length self.now.coefficients.items }
         ensures some { 0 < result }
@@ -124,7 +123,7 @@ impl LinearPredictor {
         u32::from(self.shift)
     }
 
-    /// The coefficients, the one for the nearest sample first.
+    /// The coefficients, that of the nearest sample first.
     pub fn coefficients(&self) -> &[i32]
         ensures value { result.now ≡ self.now.coefficients.items }
         ensures few { length result.now ≤ 32 }

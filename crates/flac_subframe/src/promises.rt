@@ -1,13 +1,14 @@
-//! Laws of the definitions, each on a function that does nothing.
+//! Laws: what holds of the definitions. Calling them does nothing; a proof may name them.
 
 ghost use Rattle.flac_subframe.specs.Laws.{SamplesAreRestored, SubframesAreSpelled, SubframesAreReadAgain, FamilyIsWhole, FamilyIsPlain, WidenedIsWhole, WidenedIsPlain};
 
-/// The samples of a form are the one list that its equations allow: each later sample is its prediction plus its residual value.
+/// The samples of a form are the only list that its equations allow: each later sample is its prediction plus its
+/// residual value.
 pub fn samples_are_restored()
     ensures { SamplesAreRestored }
 {}
 
-/// The layout of a subframe spells just the forms that may be, each in one way.
+/// The layout of a subframe spells exactly the forms that are allowed, each in one way.
 pub fn subframes_are_spelled()
     ensures { SubframesAreSpelled }
 {}
@@ -17,8 +18,9 @@ pub fn subframes_are_read_again()
     ensures { SubframesAreReadAgain }
 {}
 
-/// The forms among which a choice for some samples is the least are just those that may be spelled, with a partition order of at most 8, have these samples, are
-/// constant, verbatim or by a fixed predictor, and leave out all the lowest bits that the samples lack.
+/// The forms that a choice compares are exactly those that can be spelled with a partition order of at most 8, have
+/// these samples, are constant, verbatim or by a fixed predictor, and leave out all the lowest bits that the samples
+/// lack.
 pub fn family_is_plain()
     ensures whole { FamilyIsWhole }
     ensures plain { FamilyIsPlain }
