@@ -109,6 +109,17 @@ side_all left right side middle i long over so = taken i side (side_of left righ
 pub middle_all : (left right side middle : List ℤ) (i : ℕ) → length right ≡ length left → length left ≤ i → SplitTo left right side middle i → middle ≡ middle_of left right
 middle_all left right side middle i long over so = taken i middle (middle_of left right) (omega (arith, so.middle_long, over)) (omega (arith, middle_long left right long, over)) so.middle_is
 
+-- ---- the side alone
+
+pub side_more : (left right side : List ℤ) (i : ℕ) (u : ℤ) → length right ≡ length left → length side ≡ length left → i < length left → take i side ≡ take i (side_of left right) → u ≡ sample_at left i -ℤ sample_at right i
+    → take (i + 1) (set side i u) ≡ take (i + 1) (side_of left right)
+side_more left right side i u long places within so is =
+    let s = side_long left right long in
+    widen_more (side_of left right) side i u (omega (arith, s, within)) (places ∙ sym s) (is ∙ sym (side_at left right long i within)) so
+
+pub side_done : (left right side : List ℤ) (i : ℕ) → length right ≡ length left → length side ≡ length left → length left ≤ i → take i side ≡ take i (side_of left right) → side ≡ side_of left right
+side_done left right side i long places over so = taken i side (side_of left right) (omega (arith, places, over)) (omega (arith, side_long left right long, over)) so
+
 -- what is read is what stands there
 pub less_read : (x l r u v : ℤ) → u ≡ l → v ≡ r → x ≡ u -ℤ v → x ≡ l -ℤ r
 less_read x l r u v a b e = e ∙ ap (λ k. k -ℤ v) a ∙ ap (λ k. l -ℤ k) b

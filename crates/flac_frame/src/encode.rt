@@ -304,8 +304,6 @@ fn write_first<W: Target>(
     choice: &FrameChoice,
     samples: &mut [i64],
     right: &mut [i64],
-    side: &mut [i64],
-    middle: &mut [i64],
     shortened: &mut [i64],
     values: &mut [i64],
     writer: &mut BitWriter<W>,
@@ -315,8 +313,6 @@ fn write_first<W: Target>(
     requires within { start + size ≤ samples_each audio.now.channels }
     requires samples { size ≤ length samples.old }
     requires right { size ≤ length right.old }
-    requires side { size ≤ length side.old }
-    requires middle { size ≤ length middle.old }
     requires places { size ≤ length shortened.old }
     requires values { size ≤ length values.old }
     requires choices { length audio.now.channels ≤ length choice.now.subframes.items }
@@ -343,8 +339,6 @@ fn write_first<W: Target>(
         start,
         samples,
         &mut right[..size],
-        &mut side[..size],
-        &mut middle[..size],
         shortened,
         values,
         subframes,
@@ -397,7 +391,7 @@ pub fn choose_frame(
 /// ```
 /// let mut choice = FrameChoice::new(alloc, audio.channels().len())?;
 /// choose_frame(&audio, start..end, number, &mut buffers, &mut choice);
-/// let bytes = choice.frame_bytes(alloc, &audio, end - start, number)?;
+/// let bytes = choice.frame_bytes(&audio, end - start, number);
 /// write_frame(&audio, start..end, number, &choice, &mut buffers, &mut writer)?;
 /// ```
 ///
@@ -429,8 +423,6 @@ pub fn write_frame<W: Target>(
         choice,
         &mut buffers.samples,
         &mut buffers.right,
-        &mut buffers.side,
-        &mut buffers.middle,
         &mut buffers.shortened,
         &mut buffers.values,
         writer,
@@ -488,8 +480,6 @@ pub fn encode_frame<W: Target>(
         &buffers.choice,
         &mut buffers.samples,
         &mut buffers.right,
-        &mut buffers.side,
-        &mut buffers.middle,
         &mut buffers.shortened,
         &mut buffers.values,
         writer,

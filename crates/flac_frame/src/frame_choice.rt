@@ -1,13 +1,15 @@
 //! How a block of samples is written as a frame.
 
-ghost use Rattle.std.specs.Prelude.{◌≡◌, ◌≤◌, ◌<◌, ◌+◌, ◌*◌, ◌^◌, List, ℤ, length, IfOk, IfErr};
-ghost use Rattle.flac_frame.specs.Audio.{IsSound};
+ghost use Rattle.std.specs.Prelude.{◌≡◌, ◌≤◌, ◌*◌, List, ℤ, length, IfOk, IfErr, IfSome};
+ghost use Rattle.flac_bits.specs.Coded.{number_spelling};
+ghost use Rattle.flac_header.specs.Choice.{size_choice, rate_choice};
+ghost use Rattle.flac_header.specs.Spelling.{size_spelling, rate_spelling};
 ghost use Rattle.flac_frame.specs.Chosen.{IsFrameChoice};
 ghost use Rattle.flac_frame.specs.Spelling.{frame_spelling};
 
 use crate::audio::Audio;
-use flac_bits::{BitWriter, Collected, Why};
-use flac_header::{FrameHeader, write_header};
+use flac_bits::Why;
+use flac_header::rate_code;
 use flac_subframe::Choice;
 use std::alloc::Global;
 
@@ -18,6 +20,76 @@ pub struct FrameChoice {
     pub(crate) code: u8,
     pub(crate) bits: u64,
     pub(crate) subframes: Vec<Choice>,
+}
+
+/// How many bytes a frame number takes in a header (RFC 9639, section 9.1.5).
+fn number_bytes(number: u64) -> u64
+    ensures long { length (number_spelling number) ≡ 8 * result }
+    ensures few { result ≤ 7 }
+{
+    if number < 0x80 {
+        return 1;
+    }
+    if number < 0x800 {
+        return 2;
+    }
+    if number < 0x1_0000 {
+        return 3;
+    }
+    if number < 0x20_0000 {
+        return 4;
+    }
+    if number < 0x400_0000 {
+        return 5;
+    }
+    if number < 0x8000_0000 {
+        return 6;
+    }
+    7
+}
+
+/// How many bytes a block size takes in a header: none if a code names it (RFC 9639, section 9.1.6).
+fn size_bytes(size: u32) -> u64
+    ensures long { IfSome (size_choice size) (λ code. length (size_spelling code size) ≡ 8 * result) }
+    ensures few { result ≤ 2 }
+{
+    match size {
+        192 => 0,
+        576 => 0,
+        1152 => 0,
+        2304 => 0,
+        4608 => 0,
+        256 => 0,
+        512 => 0,
+        1024 => 0,
+        2048 => 0,
+        4096 => 0,
+        8192 => 0,
+        16384 => 0,
+        32768 => 0,
+        0..=256 => 1,
+        _ => 2,
+    }
+}
+
+/// How many bytes a sample rate takes in a header: none if a code names it (RFC 9639, section 9.1.7).
+fn rate_bytes(rate: u32) -> u64
+    ensures long { IfSome (rate_choice rate) (λ code. length (rate_spelling code rate) ≡ 8 * result) }
+    ensures few { result ≤ 2 }
+{
+    let Some(code) = rate_code(rate) else {
+        return 0;
+    };
+    if code == 12 {
+        return 1;
+    }
+    if code == 13 {
+        return 2;
+    }
+    if code == 14 {
+        return 2;
+    }
+    0
 }
 
 impl FrameChoice {
@@ -42,35 +114,16 @@ impl FrameChoice {
     }
 
     /// Counts the bytes of the frame that was chosen for a block of so many samples of each channel and this number, without writing it: 1 to 16777215.
-    ///
-    /// # Errors
-    /// [`Why::Memory`] alone, if an allocation fails.
-    pub fn frame_bytes(
-        &self,
-        alloc: Global,
-        audio: &Audio,
-        size: usize,
-        number: u64,
-    ) -> Result<u64, Why>
+    pub fn frame_bytes(&self, audio: &Audio, size: usize, number: u64) -> u64
         requires few { size ≤ 65535 }
         requires chosen { (block : List (List ℤ)) × IsFrameChoice audio.now size number block self.now }
-        ensures bytes { IfOk result (λ bytes. (block : List (List ℤ)) (is : IsFrameChoice audio.now size number block self.now) → length (frame_spelling audio.now.bits is.form) ≡ 8 * bytes) }
-        ensures memory { IfErr result (λ e. e ≡ Why.Memory) }
+        ensures bytes { (block : List (List ℤ)) (is : IsFrameChoice audio.now size number block self.now) → length (frame_spelling audio.now.bits is.form) ≡ 8 * result }
+        ensures few { (1 ≤ result) × (result ≤ 16777215) }
     {
-        let header = FrameHeader::chosen(
-            size as u32,
-            audio.rate(),
-            self.code,
-            audio.bits(),
-            number,
-        );
-        let Some(header) = header else {
-            unreachable!();
-        };
-        let mut writer = BitWriter::new(Collected::new(alloc));
-        match write_header(&header, &mut writer) {
-            Ok(()) => Ok(writer.bytes_written() + (self.bits + 7) / 8 + 2),
-            Err(_) => Err(Why::Memory),
-        }
+        let coded = number_bytes(number);
+        let sized = size_bytes(size as u32);
+        let rated = rate_bytes(audio.rate());
+        let header = 5 + coded + sized + rated;
+        header + (self.bits + 7) / 8 + 2
     }
 }

@@ -24,31 +24,44 @@ use flac_bits::{BitWriter, Target, Why};
 use flac_header::{FrameHeader, write_header};
 use flac_subframe::{Choice, write_subframe_into};
 
-/// The side and the middle of two samples (RFC 9639, section 4.2).
+/// The side of two samples (RFC 9639, section 4.2).
 #[inline(always)]
-fn split_samples(left: i64, right: i64) -> (i64, i64)
-    requires left { FitsBits 34 left }
-    requires right { FitsBits 34 right }
-    ensures side { result.0 ≡ left -ℤ right }
-    ensures middle { result.1 ≡ int_shr (left +ℤ right) 1 }
+fn side_of_samples(left: i32, right: i32) -> i64
+    ensures { result ≡ left -ℤ right }
 {
-    (left - right, (left + right) >> 1)
+    left as i64 - right as i64
+}
+
+/// The middle of two samples: half their sum, rounded down (RFC 9639, section 4.2).
+#[inline(always)]
+fn middle_of_samples(left: i32, right: i32) -> i64
+    ensures { result ≡ int_shr (left +ℤ right) 1 }
+{
+    (left as i64 + right as i64) >> 1
+}
+
+/// Puts the side of two channels into places.
+fn put_side(left: &[i32], right: &[i32], side: &mut [i64])
+    requires right { length right.now ≡ length left.now }
+    requires side { length side.old ≡ length left.now }
+    ensures { side.new ≡ side_of left.now right.now }
+{
+    for i in 0..left.len() {
+        side[i] = side_of_samples(left[i], right[i]);
+    }
 }
 
 /// Puts the side and the middle of two channels into places.
-fn split_channels(left: &[i64], right: &[i64], side: &mut [i64], middle: &mut [i64])
+fn split_channels(left: &[i32], right: &[i32], side: &mut [i64], middle: &mut [i64])
     requires right { length right.now ≡ length left.now }
     requires side { length side.old ≡ length left.now }
     requires middle { length middle.old ≡ length left.now }
-    requires left_fits { All (FitsBits 34) left.now }
-    requires right_fits { All (FitsBits 34) right.now }
     ensures side { side.new ≡ side_of left.now right.now }
     ensures middle { middle.new ≡ middle_of left.now right.now }
 {
     for i in 0..left.len() {
-        let (difference, half) = split_samples(left[i], right[i]);
-        side[i] = difference;
-        middle[i] = half;
+        side[i] = side_of_samples(left[i], right[i]);
+        middle[i] = middle_of_samples(left[i], right[i]);
     }
 }
 
@@ -151,13 +164,12 @@ fn choose_kept<'a>(
     }
 }
 
-/// Puts samples of a channel from one on into places of 64 bits.
-fn widen_from(channel: &[i32], start: usize, out: &mut [i64])
-    requires { start + length out.old ≤ length channel.now }
-    ensures { out.new ≡ take (length out.old) (drop start channel.now) }
+/// So many samples of a channel from one on.
+fn part_of(channel: &[i32], start: usize, size: usize) -> &[i32]
+    requires { start + size ≤ length channel.now }
+    ensures { result.now ≡ take size (drop start channel.now) }
 {
-    let end = start + out.len();
-    widen(&channel[start..end], out);
+    &channel[start..start + size]
 }
 
 /// Puts so many samples of two channels from one on into places, and their side and middle.
@@ -181,9 +193,12 @@ fn split_pair(
     ensures right_fits { All (FitsBits audio.now.bits) right.new }
 {
     let channels = audio.channels();
-    widen_from(&channels[0], start, left);
-    widen_from(&channels[1], start, right);
-    split_channels(left, right, side, middle);
+    let size = left.len();
+    let lefts = part_of(&channels[0], start, size);
+    let rights = part_of(&channels[1], start, size);
+    widen(lefts, left);
+    widen(rights, right);
+    split_channels(lefts, rights, side, middle);
 }
 
 /// Puts two subframes into the first places.
@@ -240,32 +255,48 @@ pub(crate) fn choose_pair(
     place_two(&mut choice.subframes, first.choice, second.choice);
 }
 
-/// What a channel code keeps of two channels, whose side and middle are given.
-fn kept_of<'a>(
-    code: u8,
-    left: &'a [i64],
-    right: &'a [i64],
-    side: &'a [i64],
-    middle: &'a [i64],
-) -> (&'a [i64], &'a [i64])
+/// Puts what a channel code keeps of two channels into places of 64 bits (RFC 9639, section 9.1.3).
+fn put_kept(code: u8, left: &[i32], right: &[i32], first: &mut [i64], second: &mut [i64])
     requires code { IsPairCode code }
-    requires side { side.now ≡ side_of left.now right.now }
-    requires middle { middle.now ≡ middle_of left.now right.now }
     requires long { length right.now ≡ length left.now }
-    ensures kept { kept_as code (left.now ∷ right.now ∷ []) ≡ result.0.now ∷ result.1.now ∷ [] }
-    ensures long { (length result.0.now ≡ length left.now) × (length result.1.now ≡ length left.now) }
-    ensures fits { (depth : ℕ) → 1 ≤ depth → All (FitsBits depth) left.now → All (FitsBits depth) right.now → All (FitsBits (depth + side_bit code 0)) result.0.now × All (FitsBits (depth + side_bit code 1)) result.1.now }
+    requires first { length first.old ≡ length left.now }
+    requires second { length second.old ≡ length left.now }
+    ensures kept { kept_as code (left.now ∷ right.now ∷ []) ≡ first.new ∷ second.new ∷ [] }
+    ensures fits { (depth : ℕ) → 1 ≤ depth → All (FitsBits depth) left.now → All (FitsBits depth) right.now → All (FitsBits (depth + side_bit code 0)) first.new × All (FitsBits (depth + side_bit code 1)) second.new }
 {
     if code == 8 {
-        return (left, side);
+        widen(left, first);
+        put_side(left, right, second);
+        return;
     }
     if code == 9 {
-        return (side, right);
+        put_side(left, right, first);
+        widen(right, second);
+        return;
     }
     if code == 10 {
-        return (middle, side);
+        split_channels(left, right, second, first);
+        return;
     }
-    (left, right)
+    widen(left, first);
+    widen(right, second);
+}
+
+/// Puts what a channel code keeps of so many samples of two channels from one on into places of 64 bits.
+fn keep_pair(code: u8, audio: &Audio, start: usize, first: &mut [i64], second: &mut [i64])
+    requires code { IsPairCode code }
+    requires two { length audio.now.channels ≡ 2 }
+    requires within { start + length first.old ≤ samples_each audio.now.channels }
+    requires second { length second.old ≡ length first.old }
+    ensures kept { kept_as code (block_of start (length first.old) audio.now.channels) ≡ first.new ∷ second.new ∷ [] }
+    ensures first_fits { All (FitsBits (audio.now.bits + side_bit code 0)) first.new }
+    ensures second_fits { All (FitsBits (audio.now.bits + side_bit code 1)) second.new }
+{
+    let channels = audio.channels();
+    let size = first.len();
+    let left = part_of(&channels[0], start, size);
+    let right = part_of(&channels[1], start, size);
+    put_kept(code, left, right, first, second);
 }
 
 /// Writes the subframes that were chosen of two channels as a channel code keeps them, behind their header.
@@ -318,33 +349,28 @@ pub(crate) fn write_pair<W: Target>(
     header: &FrameHeader,
     audio: &Audio,
     start: usize,
-    left: &mut [i64],
-    right: &mut [i64],
-    side: &mut [i64],
-    middle: &mut [i64],
+    first: &mut [i64],
+    second: &mut [i64],
     shortened: &mut [i64],
     values: &mut [i64],
     subframes: &[Choice],
     writer: &mut BitWriter<W>,
 ) -> Result<(), Why>
     requires two { length audio.now.channels ≡ 2 }
-    requires some { 0 < length left.old }
-    requires few { length left.old ≤ 65535 }
-    requires within { start + length left.old ≤ samples_each audio.now.channels }
-    requires right { length right.old ≡ length left.old }
-    requires side { length side.old ≡ length left.old }
-    requires middle { length middle.old ≡ length left.old }
-    requires places { length left.old ≤ length shortened.old }
-    requires values { length left.old ≤ length values.old }
+    requires some { 0 < length first.old }
+    requires few { length first.old ≤ 65535 }
+    requires within { start + length first.old ≤ samples_each audio.now.channels }
+    requires second { length second.old ≡ length first.old }
+    requires places { length first.old ≤ length shortened.old }
+    requires values { length first.old ≤ length values.old }
     requires code { IsPairCode header.now.channel_code }
-    requires made { AreMade subframes.now (kept_as header.now.channel_code (block_of start (length left.old) audio.now.channels)) }
+    requires made { AreMade subframes.now (kept_as header.now.channel_code (block_of start (length first.old) audio.now.channels)) }
     requires choices { 2 ≤ length subframes.now }
     requires whole { writer.old.mark.unread ≡ 0 }
-    ensures { Writes (behind_header header.now (subframes_spelling audio.now.bits header.now.channel_code 0 (forms_of subframes.now (kept_as header.now.channel_code (block_of start (length left.old) audio.now.channels)))) writer.old.mark) (restarted writer.old) writer.new result }
+    ensures { Writes (behind_header header.now (subframes_spelling audio.now.bits header.now.channel_code 0 (forms_of subframes.now (kept_as header.now.channel_code (block_of start (length first.old) audio.now.channels)))) writer.old.mark) (restarted writer.old) writer.new result }
 {
     let _channels = audio.channels();
-    split_pair(audio, start, left, right, side, middle);
-    let (first, second) = kept_of(header.channel_code(), left, right, side, middle);
+    keep_pair(header.channel_code(), audio, start, first, second);
     write_kept(
         header,
         first,

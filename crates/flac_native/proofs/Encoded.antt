@@ -52,7 +52,7 @@ part_row width start size k [] h = refl
 part_row width start size k (c ∷ cs) h =
     ap (λ z. sample_bytes width z ++ row_bytes width (block_of start size cs) k) (part_at start size k c h) ∙ ap (λ r. sample_bytes width (slice_index_or c (start + k) (pos 0)) ++ r) (part_row width start size k cs h)
 
-part_rows : (width start size n k : ℕ) (channels : List (List ℤ)) → k + n ≤ size → rows_bytes width (block_of start size channels) n k ≡ rows_bytes width channels n (start + k)
+pub part_rows : (width start size n k : ℕ) (channels : List (List ℤ)) → k + n ≤ size → rows_bytes width (block_of start size channels) n k ≡ rows_bytes width channels n (start + k)
 unfolding rows_bytes
 part_rows width start size zero k channels h = refl
 part_rows width start size (suc n) k channels h =

@@ -1,8 +1,12 @@
 -- Samples that are written one after another.
-use Rattle.std.proofs.Common.{◌≡◌, ℕ, zero, suc, ℤ, pos, ◌+◌, ◌<◌, List, [], ◌∷◌, ◌++◌, length, take, sym, ap, ◌∙◌, append_assoc, arith}
+use Rattle.std.proofs.Common.{◌≡◌, ℕ, zero, suc, ℤ, pos, ◌+◌, ◌-◌, ◌<◌, List, [], ◌∷◌, ◌++◌, length, take, get_or, All, ◌≤◌, sym, ap, ◌∙◌, append_assoc, subst, arith}
 use Rattle.std.proofs.lemmas.List.{append-nil}
 use Rattle.std.specs.Prelude.{slice_index_or}
-use Rattle.flac_native.specs.Message.{sample_bytes, row_bytes, rows_bytes}
+use Rattle.flac_frame.specs.Audio.{Sound, samples_each}
+use Rattle.flac_native.specs.Given.{sound_message}
+use Rattle.flac_native.specs.Message.{sample_width, sample_bytes, row_bytes, rows_bytes}
+use Rattle.md5.specs.Md5.{Holds}
+use Rattle.md5.specs.declared.Md5.{Md5}
 
 -- the samples of one more channel
 pub row_more : (width : ℕ) (channels : List (List ℤ)) (i c : ℕ) → c < length channels
@@ -37,3 +41,29 @@ rows_split width channels (suc n) k i =
     let e : i + 1 + n ≡ i + suc n = omega arith in
     let s : suc n + k ≡ suc (n + k) = omega arith in
     rw s (ap (λ r. row_bytes width channels i ++ r) (more ∙ ap (λ j. rows_bytes width channels n (i + 1) ++ rows_bytes width channels k j) e) ∙ sym (append_assoc (row_bytes width channels i) (rows_bytes width channels n (i + 1)) (rows_bytes width channels k (i + suc n))))
+
+-- ---- samples that are fed block by block
+
+abbrev pub fed_rows : Sound → (n start : ℕ) → List ℕ
+fed_rows a n start = rows_bytes (sample_width a.bits) a.channels n start
+
+pub fed_none : (a : Sound) (h : Md5) → Holds h [] → Holds h (fed_rows a 0 0)
+unfolding rows_bytes
+fed_none a h e = e
+
+-- a block of so many more behind the first ones
+pub fed_more : (a : Sound) (h k : Md5) (start more size : ℕ) → size ≡ more → ((m : List ℕ) → Holds h m → Holds k (m ++ fed_rows a size start)) → Holds h (fed_rows a start 0) → Holds k (fed_rows a (start + more) 0)
+fed_more a h k start more size e feeds held =
+    let so : Holds k (fed_rows a start 0 ++ fed_rows a more start) = subst (λ n. Holds k (fed_rows a start 0 ++ fed_rows a n start)) e (feeds (fed_rows a start 0) held) in
+    let z : 0 + start ≡ start = omega arith in
+    let rows : fed_rows a (start + more) 0 ≡ fed_rows a start 0 ++ fed_rows a more start = rows_split (sample_width a.bits) a.channels start more 0 ∙ ap (λ j. fed_rows a start 0 ++ fed_rows a more j) z in
+    subst (Holds k) (sym rows) so
+
+-- all blocks
+pub fed_all : (a : Sound) (h : Md5) (start : ℕ) → start ≡ samples_each a.channels → Holds h (fed_rows a start 0) → Holds h (sound_message a)
+unfolding sound_message
+fed_all a h start e held = subst (λ n. Holds h (fed_rows a n 0)) e held
+
+-- a channel of vectors that are all so long
+pub long_of : {V : Type 0} (items : V → List ℤ) (xs : List V) (n i : ℕ) (x : V) → All (λ v. n ≤ length (items v)) xs → i < length xs → x ≡ get_or xs i x → n ≤ length (items x)
+long_of items xs n i x all lt is = subst (λ v. n ≤ length (items v)) (sym is) (all i x lt)

@@ -23,8 +23,9 @@ use Rattle.flac_frame.specs.Frame.{Frame}
 use Rattle.flac_frame.specs.Spelling.{FrameForm, frame_spelling}
 use Rattle.flac_native.specs.Decoding.{beginning}
 use Rattle.flac_native.specs.Stream.{grammar, opening}
-use Rattle.flac_native.specs.Given.{Cut, fits_plan, blocks_in, plan_fault, info_of, frame_of, given}
+use Rattle.flac_native.specs.Given.{Cut, fits_plan, blocks_in, plan_fault, info_of, sound_message, frame_of, given}
 use Rattle.flac_native.specs.Seeking.{points_of, table_of}
+use Rattle.md5.specs.Md5.{md5}
 
 -- ---- frames
 
@@ -88,6 +89,10 @@ pub record AreCounted (p : Cut) (a : Sound) (least greatest : ℕ) (points : Lis
   pub are_least : AreLeastFrames p a frames
   pub sizes : AreSizes frames least greatest
   pub pointed : points ≡ points_of p frames
+
+-- these bytes are the digest of all samples (RFC 9639, section 8.2)
+abbrev pub IsDigest : Sound → List ℕ → Type 0
+IsDigest a digest = digest ≡ md5 (sound_message a)
 
 -- the bits are those of the least frame of a number, and a short one
 pub record IsSpelled (p : Cut) (a : Sound) (number : ℕ) (text : List Bool) : Type 0 where

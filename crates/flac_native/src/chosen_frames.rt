@@ -5,15 +5,18 @@ ghost use Rattle.flac_meta.specs.Listed.{block_fault};
 ghost use Rattle.flac_meta.specs.declared.block.Block.TheVariants as block_of;
 ghost use Rattle.flac_bits.specs.Bits.{bits_of};
 ghost use Rattle.flac_frame.specs.Audio.{samples_each};
-ghost use Rattle.flac_native.specs.Given.{fits_plan, blocks_in};
-ghost use Rattle.flac_native.specs.Writing.{AreCounted, AreChoices, HasRoom, IsSpelled};
+ghost use Rattle.flac_native.specs.Given.{fits_plan, blocks_in, info_of};
+ghost use Rattle.flac_native.specs.Writing.{AreCounted, AreChoices, HasRoom, IsDigest, IsSpelled};
 
+use crate::digest::feed_block;
+use crate::encoded_info::info_with;
 use crate::frames::spell_next;
 use crate::plan::Plan;
 use crate::room::Room;
 use flac_bits::Why;
 use flac_frame::{Audio, EncodeBuffers, FrameChoice, choose_frame};
-use flac_meta::SeekPoint;
+use flac_meta::{SeekPoint, StreamInfo};
+use md5::{Digest, Md5};
 use std::alloc::Global;
 
 /// How many samples of each channel there are for each choice that is kept: a choice takes some 560 bytes a channel.
@@ -36,6 +39,7 @@ pub struct ChosenFrames {
     pub(crate) greatest: u32,
     pub(crate) points: Vec<SeekPoint>,
     pub(crate) choices: Vec<FrameChoice>,
+    pub(crate) digest: [u8; 16],
 }
 
 /// The least size with one more, which is that of the first where there was none.
@@ -74,7 +78,8 @@ fn keep(
 }
 
 impl ChosenFrames {
-    /// Chooses how each frame is written, and counts its bytes. The plan fits the samples, and the buffers are made for its block size.
+    /// Chooses how each frame is written, counts its bytes, and works out the digest of the samples. The plan fits the samples, and the buffers are made for its block
+    /// size.
     ///
     /// # Errors
     /// [`Why::Memory`] alone, if an allocation fails.
@@ -91,6 +96,7 @@ impl ChosenFrames {
         ensures choices { IfOk result (λ f. AreChoices plan.now audio.now f.choices.items) }
         ensures table { IfOk result (λ f. block_fault (block_of.SeekTable f.points.items) ≡ None) }
         ensures sizes { IfOk result (λ f. (f.least ≤ f.greatest) × (f.greatest < 2 ^ 24)) }
+        ensures digest { IfOk result (λ f. IsDigest audio.now f.digest) }
         ensures memory { IfErr result (λ e. e ≡ Why.Memory) }
     {
         let size = plan.block_size() as usize;
@@ -102,14 +108,16 @@ impl ChosenFrames {
         let mut points = Vec::new(alloc);
         let mut least = 0;
         let mut greatest = 0;
+        let mut hasher = Md5::new();
         let mut offset = 0;
         let mut number = 0;
         let mut start = 0;
         while start < total {
             let end = start + size.min(total - start);
             plan.note_point(number, offset, &mut points)?;
+            feed_block(&mut hasher, audio, start, end - start);
             choose_frame(audio, start..end, number, buffers, &mut choice);
-            let bytes = choice.frame_bytes(alloc, audio, end - start, number)?;
+            let bytes = choice.frame_bytes(audio, end - start, number);
             choice = keep(alloc, channels, &mut choices, choice, most)?;
             least = least_with(number, least, bytes);
             greatest = greatest_with(greatest, bytes);
@@ -122,7 +130,19 @@ impl ChosenFrames {
             greatest: greatest as u32,
             points,
             choices,
+            digest: hasher.finalize(),
         })
+    }
+
+    /// STREAMINFO of the samples that the frames were chosen of: it states the sizes of the frames, and the digest (RFC 9639, section 8.2). The plan and the samples are
+    /// those of the choice.
+    pub fn info(&self, plan: &Plan, audio: &Audio) -> StreamInfo
+        requires fits { fits_plan plan.now audio.now ≡ true }
+        requires sizes { (self.now.least ≤ self.now.greatest) × (self.now.greatest < 2 ^ 24) }
+        requires digest { IsDigest audio.now self.now.digest }
+        ensures { result ≡ info_of plan.now audio.now self.now.least self.now.greatest }
+    {
+        info_with(plan, audio, self.least, self.greatest, self.digest)
     }
 
     /// The number of bytes of the shortest frame, 0 where there is none.

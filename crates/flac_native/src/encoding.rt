@@ -13,7 +13,6 @@ ghost use Rattle.flac_native.specs.Writing.{blocks_spelling, head_spelling, AreC
 
 use crate::chosen_frames::ChosenFrames;
 use crate::encode_fault::EncodeFault;
-use crate::encoded_info::info_of;
 use crate::frames::send_frames;
 use crate::in_order::write_each;
 use crate::memory::{collect, in_memory};
@@ -184,7 +183,7 @@ pub fn encode<W: Target>(
     let Ok(room) = frames.room(alloc) else {
         return Err(EncodeFault::Memory);
     };
-    let info = info_of(plan, audio, frames.least, frames.greatest);
+    let info = frames.info(plan, audio);
     let Ok(head) = head_of(alloc, info, list, frames.points) else {
         return Err(EncodeFault::Memory);
     };

@@ -45,5 +45,5 @@ pub(crate) fn feed(hasher: &mut Md5, view: &FrameView<'_>, width: usize)
     ensures { (m : List ℕ) → Holds hasher.old m → Holds hasher.new (m ++ rows_bytes width (frame_of view.now).channels (frame_of view.now).size 0) }
 {
     let view = *view;
-    feed_rows(hasher, &view, view.channels(), view.len(), width);
+    feed_rows(hasher, &view, view.channels(), 0, view.len(), width);
 }

@@ -163,28 +163,30 @@ pub(crate) fn put_rows_in<C: Channels>(
     }
 }
 
-/// Feeds so many samples of each channel to a digest, interleaved, each in its lowest `width` bytes.
+/// Feeds so many samples of each channel from one on to a digest, interleaved, each in its lowest `width` bytes.
 #[inline(always)]
 #[tactic(auto, unfolding(crate::specs::Message::rows_bytes), using(crate::proofs::Messages::rows_split))]
 pub(crate) fn feed_rows<C: Channels>(
     hasher: &mut Md5,
     samples: &C,
     channels: usize,
+    start: usize,
     len: usize,
     width: usize,
 )
     requires channels { channels ≡ length (C.lists samples.now) }
     requires few { channels ≤ 8 }
     requires width { width ≤ 4 }
-    requires len { len ≤ C.size samples.now }
-    ensures { (m : List ℕ) → Holds hasher.old m → Holds hasher.new (m ++ rows_bytes width (C.lists samples.now) len 0) }
+    requires rows { start + len ≤ C.size samples.now }
+    requires end { start + len ≤ usize.MAX }
+    ensures { (m : List ℕ) → Holds hasher.old m → Holds hasher.new (m ++ rows_bytes width (C.lists samples.now) len start) }
 {
     let mut chunk = [0u8; CHUNK];
-    let mut start = 0;
-    while start < len {
-        let count = (len - start).min(ROWS);
-        let end = put_rows_in(samples, channels, width, start, count, &mut chunk);
+    let mut fed = 0;
+    while fed < len {
+        let count = (len - fed).min(ROWS);
+        let end = put_rows_in(samples, channels, width, start + fed, count, &mut chunk);
         hasher.update(&chunk[..end]);
-        start += count;
+        fed += count;
     }
 }

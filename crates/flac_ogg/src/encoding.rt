@@ -10,6 +10,7 @@ ghost use Rattle.flac_meta.specs.declared.block.Block.TheVariants as block_of;
 ghost use Rattle.flac_frame.specs.Audio.{samples_each};
 ghost use Rattle.flac_native.specs.Given.{fits_plan, info_of};
 ghost use Rattle.flac_native.specs.Numbers.{is_of_whole};
+ghost use Rattle.flac_native.specs.Writing.{IsDigest};
 ghost use Rattle.flac_ogg.specs.Headers.{AreHeaders};
 ghost use Rattle.flac_ogg.specs.Native.{mapping_spelling, packet_spellings};
 ghost use Rattle.flac_ogg.specs.Writing.{begins_with_comment, may_be_ogg, header_count, IsFrameText, EncodesOgg, BeginsOgg};
@@ -20,7 +21,7 @@ use crate::sending::{page_room, send_stream};
 use flac_bits::{BitWriter, Collected, Target, Why};
 use flac_frame::{Audio, EncodeBuffers, encode_frame};
 use flac_meta::{Block, BlockList, StreamInfo, write_block};
-use flac_native::{ChosenFrames, EncodeFault, Plan, info_of};
+use flac_native::{ChosenFrames, EncodeFault, Plan};
 use std::alloc::Global;
 
 /// Whether the first block is a Vorbis comment.
@@ -121,25 +122,23 @@ pub(crate) fn frame_packet(
     }
 }
 
-/// The header packets: the mapping with STREAMINFO, where the least and the greatest frame have so many bytes, and a block each. Its only error is `Memory`: an
-/// allocation failed.
+/// The header packets: the mapping with STREAMINFO, which is that of frames that were chosen, and a block each. Its only error is `Memory`: an allocation failed.
 fn header_packets(
     alloc: Global,
     serial: u32,
     plan: &Plan,
     list: &BlockList,
     audio: &Audio,
-    least: u32,
-    greatest: u32,
+    frames: &ChosenFrames,
 ) -> Result<Headers, Why>
     requires fits { fits_plan plan.now audio.now ≡ true }
-    requires least { least ≤ greatest }
-    requires greatest { greatest < 2 ^ 24 }
-    ensures made { IfOk result (λ h. AreHeaders (packet_spellings (header_count (length list.now)) (info_of plan.now audio.now least greatest) list.now []) h) }
+    requires sizes { (frames.now.least ≤ frames.now.greatest) × (frames.now.greatest < 2 ^ 24) }
+    requires digest { IsDigest audio.now frames.now.digest }
+    ensures made { IfOk result (λ h. AreHeaders (packet_spellings (header_count (length list.now)) (info_of plan.now audio.now frames.now.least frames.now.greatest) list.now []) h) }
     ensures serial { IfOk result (λ h. h.serial ≡ serial) }
     ensures memory { IfErr result (λ e. e ≡ Why.Memory) }
 {
-    let info = info_of(plan, audio, least, greatest);
+    let info = frames.info(plan, audio);
     let blocks = list.blocks();
     let first = first_packet(alloc, info, blocks.len())?;
     let mut headers = Headers::new(alloc, serial, first.as_slice())?;
@@ -191,15 +190,13 @@ pub fn encode_ogg<W: Target>(
     let Ok(frames) = ChosenFrames::new(alloc, plan, audio, &mut buffers) else {
         return Err(EncodeFault::Memory);
     };
-    let least = frames.least();
-    let greatest = frames.greatest();
-    let Ok(headers) = header_packets(alloc, serial, plan, list, audio, least, greatest) else {
+    let Ok(headers) = header_packets(alloc, serial, plan, list, audio, &frames) else {
         return Err(EncodeFault::Memory);
     };
     let Ok(room) = frames.room(alloc) else {
         return Err(EncodeFault::Memory);
     };
-    let Ok(pages) = page_room(alloc, greatest) else {
+    let Ok(pages) = page_room(alloc, frames.greatest()) else {
         return Err(EncodeFault::Memory);
     };
     match send_stream(

@@ -204,13 +204,13 @@ fn write_chosen<W: Target>(
     let mut buffers = EncodeBuffers::new(alloc, 16)?;
     let mut choice = FrameChoice::new(alloc, audio.channels().len())?;
     choose_frame(audio, 0..len, 0, &mut buffers, &mut choice);
-    let bytes = choice.frame_bytes(alloc, audio, len, 0);
+    let bytes = choice.frame_bytes(audio, len, 0);
     let outcome = write_frame(audio, 0..len, 0, &choice, &mut buffers, writer);
     drop(buffers);
     drop(choice);
     outcome?;
     writer.finish()?;
-    bytes
+    Ok(bytes)
 }
 
 /// Sample rate and bit depth; the channels, each after a `;`; and the frame that is written of them.

@@ -1,4 +1,4 @@
-use Rattle.std.proofs.Common.{◌≡◌, ◌∙◌, ℤ, pos, get_or, SFits, to_z, of_z, w64, rules, arith}
+use Rattle.std.proofs.Common.{◌≡◌, ◌∙◌, ℤ, pos, get_or, SFits, to_z, of_z, w32, w64, rules, arith}
 use Rattle.std.proofs.lemmas.Int.{to_z-of_z}
 use Rattle.flac_frame.proofs.Pairs.{side_all, middle_all, split_more, less_read, half_read}
 use Rattle.flac_frame.proofs.pair.split_channels.Goals as goal
@@ -13,13 +13,13 @@ pub loop-i-preserved : goal.loop-i-preserved
 loop-i-preserved c =
     let l : ℤ = get_or c.args.left.now c.loop-i.i (pos 0) in
     let r : ℤ = get_or c.args.right.now c.loop-i.i (pos 0) in
-    let x : ℤ = c.split_samples-difference.result.0 in
-    let y : ℤ = c.split_samples-difference.result.1 in
-    let lf : SFits w64 l = search rules in
-    let rf : SFits w64 r = search rules in
+    let x : ℤ = c.side_of_samples.result in
+    let y : ℤ = c.middle_of_samples.result in
+    let lf : SFits w32 l = search rules in
+    let rf : SFits w32 r = search rules in
     let xf : SFits w64 x = search rules in
     let yf : SFits w64 y = search rules in
-    let le : to_z w64 (of_z w64 l) ≡ l = to_z-of_z w64 l lf in
-    let re : to_z w64 (of_z w64 r) ≡ r = to_z-of_z w64 r rf in
+    let le : to_z w32 (of_z w32 l) ≡ l = to_z-of_z w32 l lf in
+    let re : to_z w32 (of_z w32 r) ≡ r = to_z-of_z w32 r rf in
     split_more c.args.left.now c.args.right.now c.loop-i.side c.loop-i.middle c.loop-i.i _ _ c.requires.right c.loop-i-test.true c.loop-i.invariant
-    (to_z-of_z w64 x xf ∙ less_read x l r _ _ le re c.split_samples-difference.ensures.side) (to_z-of_z w64 y yf ∙ half_read y l r _ _ le re c.split_samples-difference.ensures.middle)
+    (to_z-of_z w64 x xf ∙ less_read x l r _ _ le re c.side_of_samples.ensures) (to_z-of_z w64 y yf ∙ half_read y l r _ _ le re c.middle_of_samples.ensures)

@@ -21,7 +21,7 @@ returns-in-Ok-send_stream-clause-written g c = λ known.
     let s = c.in-Ok-new.frames in
     let once = sym c.repeats_table.ensures ∙ c.if-repeats_table.false in
     let old = bits_of (g.W.Target.sent c.args.target.now) in
-    let head = ap bits_of c.as_slice.ensures.value ∙ c.in-Ok-head_of.ensures.head ∙ ap (λ i. head_spelling i (list ++ table_of s.points.items)) c.info_of-info.ensures in
+    let head = ap bits_of c.as_slice.ensures.value ∙ c.in-Ok-head_of.ensures.head ∙ ap (λ i. head_spelling i (list ++ table_of s.points.items)) c.info-info.ensures in
     let w = c.in-Ok-send_stream.ensures in
     let whole = given_encodes p list a s.least s.greatest s.points.items (bits_of c.as_slice.result.now) w.0 old c.block_size-size.ensures.good c.requires c.blocks-blocks.ensures.good c.blocks-blocks.ensures.fits once head c.in-Ok-new.ensures.counted w.1 w.2 in
     all_sent p list a _ old _ whole (w.3.sent known)
@@ -34,7 +34,7 @@ returns-clause-begun g c = λ is known.
     let s = c.in-Ok-new.frames in
     let once = sym c.repeats_table.ensures ∙ c.if-repeats_table.false in
     let old = bits_of (g.W.Target.sent c.args.target.now) in
-    let head = ap bits_of c.as_slice.ensures.value ∙ c.in-Ok-head_of.ensures.head ∙ ap (λ i. head_spelling i (list ++ table_of s.points.items)) c.info_of-info.ensures in
+    let head = ap bits_of c.as_slice.ensures.value ∙ c.in-Ok-head_of.ensures.head ∙ ap (λ i. head_spelling i (list ++ table_of s.points.items)) c.info-info.ensures in
     let w = c.in-Err.ensures in
     let whole = given_encodes p list a s.least s.greatest s.points.items (bits_of c.as_slice.result.now) w.0 old c.block_size-size.ensures.good c.requires c.blocks-blocks.ensures.good c.blocks-blocks.ensures.fits once head c.in-Ok-new.ensures.counted w.1 w.2 in
     let begun = w.3.begun known in

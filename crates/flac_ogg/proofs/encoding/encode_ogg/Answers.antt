@@ -19,7 +19,7 @@ pub send_stream-requires-clause-room : goal.send_stream-requires-clause-room
 send_stream-requires-clause-room g c = room_of c.args.plan.now c.args.audio.now _ _ _ _ c.in-Ok-new.ensures.counted c.in-Ok-room.ensures.places
 
 pub send_stream-requires-clause-pages : goal.send_stream-requires-clause-pages
-send_stream-requires-clause-pages g c = subst (λ n. 65307 * (n / 65025 + 1) ≤ c.in-Ok-page_room.pages.places) c.greatest-greatest.ensures c.in-Ok-page_room.ensures.places
+send_stream-requires-clause-pages g c = subst (λ n. 65307 * (n / 65025 + 1) ≤ c.in-Ok-page_room.pages.places) c.greatest.ensures c.in-Ok-page_room.ensures.places
 
 pub returns-in-Ok-send_stream-clause-written : goal.returns-in-Ok-send_stream-clause-written
 returns-in-Ok-send_stream-clause-written g c = λ known.
@@ -30,10 +30,9 @@ returns-in-Ok-send_stream-clause-written g c = λ known.
     let h = c.in-Ok-header_packets.headers in
     let old = bits_of (g.W.Target.sent c.args.target.now) in
     let serial_is = c.in-Ok-header_packets.ensures.serial in
-    let least = c.least-least.result in
-    let greatest = c.greatest-greatest.result in
-    let counted : AreCounted p a least greatest s.points.items =
-    subst (λ n. AreCounted p a n greatest s.points.items) (sym c.least-least.ensures) (subst (λ n. AreCounted p a s.least n s.points.items) (sym c.greatest-greatest.ensures) c.in-Ok-new.ensures.counted) in
+    let least = s.least in
+    let greatest = s.greatest in
+    let counted : AreCounted p a least greatest s.points.items = c.in-Ok-new.ensures.counted in
     let made = c.in-Ok-header_packets.ensures.made in
     let first : List Bool = mapping_spelling (header_count (length list)) ++ block_spelling (is_nil list) (block_of.StreamInfo (info_of p a least greatest)) in
     let w = c.in-Ok-send_stream.ensures first (block_spellings list ++ []) made in
@@ -50,10 +49,9 @@ returns-clause-begun g c = λ wrong known.
     let h = c.in-Ok-header_packets.headers in
     let old = bits_of (g.W.Target.sent c.args.target.now) in
     let serial_is = c.in-Ok-header_packets.ensures.serial in
-    let least = c.least-least.result in
-    let greatest = c.greatest-greatest.result in
-    let counted : AreCounted p a least greatest s.points.items =
-    subst (λ n. AreCounted p a n greatest s.points.items) (sym c.least-least.ensures) (subst (λ n. AreCounted p a s.least n s.points.items) (sym c.greatest-greatest.ensures) c.in-Ok-new.ensures.counted) in
+    let least = s.least in
+    let greatest = s.greatest in
+    let counted : AreCounted p a least greatest s.points.items = c.in-Ok-new.ensures.counted in
     let made = c.in-Ok-header_packets.ensures.made in
     let first : List Bool = mapping_spelling (header_count (length list)) ++ block_spelling (is_nil list) (block_of.StreamInfo (info_of p a least greatest)) in
     let w = c.in-Err.ensures first (block_spellings list ++ []) made in
@@ -65,27 +63,27 @@ returns-clause-begun g c = λ wrong known.
 pub returns-clause-failed : goal.returns-clause-failed
 returns-clause-failed g c = λ wrong known.
     let list = c.args.list.now in
-    let first : List Bool = mapping_spelling (header_count (length list)) ++ block_spelling (is_nil list) (block_of.StreamInfo (info_of c.args.plan.now c.args.audio.now c.least-least.result c.greatest-greatest.result)) in
+    let first : List Bool = mapping_spelling (header_count (length list)) ++ block_spelling (is_nil list) (block_of.StreamInfo (info_of c.args.plan.now c.args.audio.now c.in-Ok-new.frames.least c.in-Ok-new.frames.greatest)) in
     let w = c.in-Err.ensures first (block_spellings list ++ []) c.in-Ok-header_packets.ensures.made in
     w.sends.rises known
 
 pub returns-clause-risen : goal.returns-clause-risen
 returns-clause-risen g c = λ wrong.
     let list = c.args.list.now in
-    let first : List Bool = mapping_spelling (header_count (length list)) ++ block_spelling (is_nil list) (block_of.StreamInfo (info_of c.args.plan.now c.args.audio.now c.least-least.result c.greatest-greatest.result)) in
+    let first : List Bool = mapping_spelling (header_count (length list)) ++ block_spelling (is_nil list) (block_of.StreamInfo (info_of c.args.plan.now c.args.audio.now c.in-Ok-new.frames.least c.in-Ok-new.frames.greatest)) in
     let w = c.in-Err.ensures first (block_spellings list ++ []) c.in-Ok-header_packets.ensures.made in
     w.sends.risen
 
 pub returns-clause-names : goal.returns-clause-names
 returns-clause-names g c =
     let list = c.args.list.now in
-    let first : List Bool = mapping_spelling (header_count (length list)) ++ block_spelling (is_nil list) (block_of.StreamInfo (info_of c.args.plan.now c.args.audio.now c.least-least.result c.greatest-greatest.result)) in
+    let first : List Bool = mapping_spelling (header_count (length list)) ++ block_spelling (is_nil list) (block_of.StreamInfo (info_of c.args.plan.now c.args.audio.now c.in-Ok-new.frames.least c.in-Ok-new.frames.greatest)) in
     let w = c.in-Err.ensures first (block_spellings list ++ []) c.in-Ok-header_packets.ensures.made in
     w.sends.names
 
 pub returns-in-Ok-send_stream-clause-names : goal.returns-in-Ok-send_stream-clause-names
 returns-in-Ok-send_stream-clause-names g c =
     let list = c.args.list.now in
-    let first : List Bool = mapping_spelling (header_count (length list)) ++ block_spelling (is_nil list) (block_of.StreamInfo (info_of c.args.plan.now c.args.audio.now c.least-least.result c.greatest-greatest.result)) in
+    let first : List Bool = mapping_spelling (header_count (length list)) ++ block_spelling (is_nil list) (block_of.StreamInfo (info_of c.args.plan.now c.args.audio.now c.in-Ok-new.frames.least c.in-Ok-new.frames.greatest)) in
     let w = c.in-Ok-send_stream.ensures first (block_spellings list ++ []) c.in-Ok-header_packets.ensures.made in
     w.sends.names

@@ -13,9 +13,9 @@ use Rattle.flac_ogg.proofs.encoding.header_packets.Goals as goal
 pub returns-clause-made : goal.returns-clause-made
 returns-clause-made c =
     let list = c.args.list.now in
-    let info = info_of c.args.plan.now c.args.audio.now c.args.least c.args.greatest in
+    let info = info_of c.args.plan.now c.args.audio.now c.args.frames.now.least c.args.frames.now.greatest in
     let text = bits_of c.as_slice.result.now in
     let first : List Bool = mapping_spelling (header_count (length list)) ++ block_spelling (is_nil list) (block_of.StreamInfo info) in
-    let is = first_text c.blocks-blocks.result.now list c.info_of-info.result info text c.blocks-blocks.ensures.items c.info_of-info.ensures (ap bits_of c.as_slice.ensures.value ∙ c.in_ok-first.ensures.packet) in
+    let is = first_text c.blocks-blocks.result.now list c.info-info.result info text c.blocks-blocks.ensures.items c.info-info.ensures (ap bits_of c.as_slice.ensures.value ∙ c.in_ok-first.ensures.packet) in
     subst (λ (t : List (List Bool)). AreHeaders t c.push_blocks.new.self) (ap (λ (t : List Bool). t ∷ block_spellings list) is ∙ ap (λ (t : List (List Bool)). first ∷ t) (sym (append-nil (block_spellings list))))
     (c.in_ok-push_blocks.ensures.put text c.in_ok-headers.ensures.made)

@@ -6,9 +6,10 @@ use Rattle.flac_meta.specs.Listed.{block_fault}
 use Rattle.flac_meta.specs.declared.seek_table.SeekPoint.{SeekPoint}
 use Rattle.flac_meta.specs.declared.block.Block.TheVariants as block_of
 use Rattle.flac_frame.specs.Audio.{Sound, samples_each}
-use Rattle.flac_native.specs.Given.{Cut, blocks_in}
+use Rattle.flac_native.specs.Given.{Cut, blocks_in, sound_message}
 use Rattle.flac_native.specs.Seeking.{point_at}
 use Rattle.flac_native.specs.Writing.{AreChoices, AreCounted}
+use Rattle.flac_native.proofs.Messages.{fed_none, fed_more, fed_all}
 use Rattle.flac_native.proofs.Planned.{Planned, planned, fit, block_small}
 use Rattle.flac_native.proofs.Tables.{table_good}
 use Rattle.flac_native.proofs.Gathered.{Gathered, least_with, gathered_none, gathered_more, choice_of, no_choices, choices_more, still_some, all_gathered, all_counted}
@@ -23,6 +24,7 @@ loop-start-init c = record {
   choices = subst (AreChoices c.args.plan.now c.args.audio.now) (sym c.new-choices.ensures.items) (no_choices c.args.plan.now c.args.audio.now);
   kept = omega (arith, ap length c.new-choices.ensures.items);
   places = c.in_ok-choice.ensures.places;
+  fed = fed_none c.args.audio.now c.new-hasher.result c.new-hasher.ensures;
   buffers = c.requires.room;
   start = omega arith;
   few = omega arith;
@@ -50,13 +52,13 @@ choose_frame-requires-clause-places c =
     let many : length c.channels-channels.result.now ≡ length c.args.audio.now.channels = sym (length-map c.channels-channels.result.now (λ v. v.items)) ∙ ap length c.channels-channels.ensures.items in
     omega (arith, c.loop-start.invariant.places, many)
 
-pub frame_bytes-requires-clause-few : goal.frame_bytes-requires-clause-few
-frame_bytes-requires-clause-few c =
+pub frame_bytes-bytes-requires-clause-few : goal.frame_bytes-bytes-requires-clause-few
+frame_bytes-bytes-requires-clause-few c =
     let p = c.args.plan.now in
     omega (arith, c.min.ensures, c.block_size-size.ensures.value, block_small p (planned p c.block_size-size.ensures.good))
 
-pub frame_bytes-requires-clause-chosen : goal.frame_bytes-requires-clause-chosen
-frame_bytes-requires-clause-chosen c = (_, c.choose_frame.ensures.chosen)
+pub frame_bytes-bytes-requires-clause-chosen : goal.frame_bytes-bytes-requires-clause-chosen
+frame_bytes-bytes-requires-clause-chosen c = (_, c.choose_frame.ensures.chosen)
 
 pub overflow_add-offset : goal.overflow_add-offset
 overflow_add-offset c =
@@ -67,7 +69,7 @@ overflow_add-offset c =
     let more : p.block_size * c.loop-start.number < total = omega (arith, c.loop-start.invariant.start, c.loop-start-test.true, c.len-total.ensures) in
     let f = fit p c.args.audio.now c.requires.fits in
     let blocks : blocks_in p.block_size total ≤ 2 ^ 31 = subst (λ t. blocks_in p.block_size t ≤ 2 ^ 31) f.total q.blocks in
-    omega (arith, c.in_ok-bytes.ensures.bytes _ is, is.short, c.loop-start.invariant.gathered.count, still_some p.block_size total c.loop-start.number q.least more, blocks)
+    omega (arith, c.frame_bytes-bytes.ensures.bytes _ is, is.short, c.loop-start.invariant.gathered.count, still_some p.block_size total c.loop-start.number q.least more, blocks)
 
 pub loop-start-preserved : goal.loop-start-preserved
 loop-start-preserved c =
@@ -89,9 +91,9 @@ loop-start-preserved c =
     let part : c.loop-start.start + c.min.result - c.loop-start.start ≡ min b (total - b * n) = omega (arith, step, at, size_is, total_is) in
     let is = c.choose_frame.ensures.chosen in
     let choice = c.choose_frame.new.choice in
-    let bytes : ℕ = c.in_ok-bytes.bytes in
+    let bytes : ℕ = c.frame_bytes-bytes.result in
     let now = c.note_point.new.points.items in
-    let g = gathered_more p a n c.loop-start.offset c.loop-start.least c.loop-start.greatest bytes c.loop-start.start _ choice c.loop-start.points.items now inv.gathered c.in_ok-note_point.ensures.noted at part is (c.in_ok-bytes.ensures.bytes _ is) in
+    let g = gathered_more p a n c.loop-start.offset c.loop-start.least c.loop-start.greatest bytes c.loop-start.start _ choice c.loop-start.points.items now inv.gathered c.in_ok-note_point.ensures.noted at part is (c.frame_bytes-bytes.ensures.bytes _ is) in
     let many : length c.channels-channels.result.now ≡ length a.channels = sym (length-map c.channels-channels.result.now (λ v. v.items)) ∙ ap length c.channels-channels.ensures.items in
     let kept = choices_more p a c.loop-start.choices.items c.keep.new.choices.items choice n _ inv.choices inv.kept (record { chosen = choice_of p a n c.loop-start.start _ choice at part is; places = omega (arith, c.choose_frame.ensures.places, inv.places, many) }) c.in_ok-choice-2.ensures.kept in
     let max_is : c.greatest_with-greatest.result ≡ max c.loop-start.greatest bytes = c.greatest_with-greatest.ensures in
@@ -102,6 +104,7 @@ loop-start-preserved c =
       choices = kept.0;
       kept = kept.1;
       places = c.in_ok-choice-2.ensures.places;
+      fed = fed_more a c.loop-start.hasher c.feed_block.new.hasher c.loop-start.start c.min.result (c.loop-start.start + c.min.result - c.loop-start.start) (omega arith) c.feed_block.ensures inv.fed;
       buffers = c.choose_frame.ensures.kept ∙ inv.buffers;
       start = omega (arith, at, step, up, more, size_is, total_is);
       few = omega (arith, few);
@@ -113,6 +116,13 @@ pub loop-start-smaller : goal.loop-start-smaller
 loop-start-smaller c =
     let q = planned c.args.plan.now c.block_size-size.ensures.good in
     omega (arith, c.min.ensures, c.loop-start-test.true, c.block_size-size.ensures.value, q.least)
+
+pub returns-clause-digest : goal.returns-clause-digest
+returns-clause-digest c =
+    let a = c.args.audio.now in
+    let inv = c.loop-start.invariant in
+    let all : c.loop-start.start ≡ samples_each a.channels = omega (arith, inv.start, c.loop-start-test.false, c.len-total.ensures) in
+    c.finalize.ensures (sound_message a) (fed_all a c.loop-start.hasher c.loop-start.start all inv.fed)
 
 all_frames : (p : Cut) (a : Sound) (number offset least greatest start : ℕ) (points : List SeekPoint) → Planned p → Gathered p a number offset least greatest points → number ≤ blocks_in p.block_size (samples_each a.channels)
     → start ≡ min (samples_each a.channels) (p.block_size * number) → samples_each a.channels ≤ start → AreCounted p a least greatest points

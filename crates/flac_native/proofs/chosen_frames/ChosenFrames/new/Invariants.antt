@@ -1,8 +1,10 @@
 use Rattle.std.proofs.Common.{◌≡◌, ◌≤◌, ◌-◌, ◌*◌, min, length}
 use Rattle.flac_frame.specs.Audio.{samples_each}
 use Rattle.flac_native.specs.Given.{blocks_in}
+use Rattle.flac_native.specs.Message.{sample_width, rows_bytes}
 use Rattle.flac_native.specs.Writing.{AreChoices}
 use Rattle.flac_native.proofs.Gathered.{Gathered}
+use Rattle.md5.specs.Md5.{Holds}
 use Rattle.flac_native.proofs.chosen_frames.ChosenFrames.new.Given as goal
 
 abbrev pub invariant-loop-start : goal.invariant-loop-start
@@ -11,6 +13,7 @@ invariant-loop-start l = record {
   choices : AreChoices l.plan l.audio l.choices.items;
   kept : length l.choices.items ≡ min l.number l.most;
   places : length l.choice.subframes.items ≡ l.channels;
+  fed : Holds l.hasher (rows_bytes (sample_width l.audio.bits) l.audio.channels l.start 0);
   buffers : l.buffers ≡ l.plan.block_size;
   start : l.start ≡ min (samples_each l.audio.channels) (l.plan.block_size * l.number);
   few : l.number ≤ blocks_in l.plan.block_size (samples_each l.audio.channels);

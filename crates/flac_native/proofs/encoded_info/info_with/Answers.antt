@@ -1,7 +1,7 @@
 use Rattle.std.proofs.Common.{◌≡◌, length, arith, ap, sym, ◌∙◌}
 use Rattle.std.proofs.lemmas.List.{length-map}
 use Rattle.flac_native.proofs.Planned.{planned, fit, block_small, keeps_rules}
-use Rattle.flac_native.proofs.encoded_info.info_of.Goals as goal
+use Rattle.flac_native.proofs.encoded_info.info_with.Goals as goal
 
 pub overflow_cast-size : goal.overflow_cast-size
 overflow_cast-size c =
@@ -21,19 +21,6 @@ overflow_cast-bits c =
     let f = fit c.args.plan.now c.args.audio.now c.requires.fits in
     let k = keeps_rules c.args.plan.now c.args.audio.now c.args.least c.args.greatest q f (omega (arith, c.requires.least, c.requires.greatest)) c.requires.greatest in
     omega (arith, c.bits-bits.ensures, k.depth)
-
-pub digest_of-digest-requires-clause-few : goal.digest_of-digest-requires-clause-few
-digest_of-digest-requires-clause-few c =
-    let q = planned c.args.plan.now c.block_size-size.ensures.good in
-    let f = fit c.args.plan.now c.args.audio.now c.requires.fits in
-    omega (arith, f.channels, q.few)
-
-pub digest_of-digest-requires-clause-bits : goal.digest_of-digest-requires-clause-bits
-digest_of-digest-requires-clause-bits c =
-    let q = planned c.args.plan.now c.block_size-size.ensures.good in
-    let f = fit c.args.plan.now c.args.audio.now c.requires.fits in
-    let k = keeps_rules c.args.plan.now c.args.audio.now c.args.least c.args.greatest q f (omega (arith, c.requires.least, c.requires.greatest)) c.requires.greatest in
-    k.depth
 
 pub unreachable-requires : goal.unreachable-requires
 unreachable-requires c =

@@ -1,0 +1,73 @@
+//! Frames that are chosen before they are written, and the place that they are written into: the sample of `ONE_SAMPLE`, whose frame begins at byte 42.
+
+ghost use Rattle.std.specs.Prelude.{◌≡◌, true};
+ghost use Rattle.flac_native.specs.Given.{fits_plan};
+
+use crate::ogg::sample;
+use flac_bits::{Target, send_all};
+use flac_frame::{Audio, EncodeBuffers};
+use flac_native::{ChosenFrames, Plan, Room, Why};
+use flac_vectors::ONE_SAMPLE;
+use std::alloc::Global;
+use std::process::Abort;
+use std::test::Fail;
+
+/// What is known of frames before they are written, and the first of them.
+struct Chosen {
+    least: u32,
+    greatest: u32,
+    digest: [u8; 16],
+    room: Room,
+}
+
+/// Chooses the frames of samples, and writes the first one, if there is one.
+fn chosen(
+    alloc: Global,
+    plan: &Plan,
+    audio: &Audio,
+    buffers: &mut EncodeBuffers,
+) -> Result<Chosen, Why>
+    requires fits { fits_plan plan.now audio.now ≡ true }
+    requires room { buffers.old ≡ plan.now.block_size }
+{
+    let _size = plan.block_size();
+    let frames = ChosenFrames::new(alloc, plan, audio, buffers)?;
+    let mut room = frames.room(alloc)?;
+    if !audio.is_empty() {
+        room = frames.write(plan, audio, 0, buffers, room);
+    }
+    Ok(Chosen {
+        least: frames.least(),
+        greatest: frames.greatest(),
+        digest: frames.info(plan, audio).digest(),
+        room,
+    })
+}
+
+/// The frame of the sample is 15 bytes long, its digest is the MD5 of F4 63 B0 28, and its bytes are those of the stream.
+#[test]
+fn chosen_frames(rt: HostRuntime) -> Result<(), Fail> {
+    let stream = hex::decode(rt.alloc(), ONE_SAMPLE)?;
+    let audio = sample(rt.alloc())?;
+    let plan = Plan::new(4096, &audio, 0)?;
+    let mut buffers = EncodeBuffers::new(rt.alloc(), 4096)?;
+    let chosen = chosen(rt.alloc(), &plan, &audio, &mut buffers)?;
+    assert!(rt; (chosen.least, chosen.greatest) == (15, 15));
+    assert!(rt; Some(chosen.digest.as_slice()) == stream.get(26..42));
+    assert!(rt; Some(chosen.room.bytes()) == stream.get(42..));
+    Ok(())
+}
+
+/// A place keeps the bytes that it is sent until it is emptied, and is then filled again.
+#[test]
+fn room(rt: HostRuntime) -> Result<(), Fail> {
+    let stream = hex::decode(rt.alloc(), ONE_SAMPLE)?;
+    let mut room = Room::new(rt.alloc(), 57)?;
+    assert!(rt; send_all(&mut room, &stream).is_ok());
+    assert!(rt; room.bytes() == stream.as_slice());
+    let mut room = room.emptied();
+    assert!(rt; room.bytes().is_empty());
+    assert!(rt; send_all(&mut room, &stream).is_ok());
+    assert!(rt; room.bytes() == stream.as_slice());
+    Ok(())
+}
