@@ -21,11 +21,11 @@ mod view;
 pub use audio::Audio;
 pub use before::Before;
 pub use buffers::FrameBuffers;
-pub use encode::{EncodeBuffers, choose_frame, encode_frame, write_frame};
+pub use encode::{EncodeBuffers, choose_frame, encode_frame, encode_frame_with, write_frame};
 pub use frame_choice::FrameChoice;
 pub use promises::{
     channels_are_joined, encodings_are_frames, forms_stand_for_samples, frame_family_is_plain,
-    frames_are_spelled, frames_follow,
+    frame_widened_is_plain, frames_are_spelled, frames_follow,
 };
 pub use setup::SetupFault;
 pub use view::FrameView;
