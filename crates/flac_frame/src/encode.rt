@@ -493,7 +493,7 @@ pub fn encode_frame<W: Target>(
 /// number of samples and each residual value is above -2^31 and below 2^31. Of equals it comes after the fixed ones, by its place in the list. With an empty list
 /// it writes what [`encode_frame`] does.
 ///
-/// The order of each predictor is at most 12 at rates up to 48000 Hz and at most 32 above, as the streamable subset allows ([`LinearPredictor::are_within`] is the test).
+/// The order of each predictor is at most 12 at rates up to 48000 Hz and at most 32 above, as the streamable subset allows: [`crate::greatest_order`] says it, and [`LinearPredictor::are_within`] is the test.
 /// The range lies in the samples and has 1 sample at least, and as many as the buffers have places for at most; the number is below 2^31.
 /// Returns how many bytes the frame has, 1 to 16777215. It takes no memory.
 ///
