@@ -22,7 +22,7 @@ part_of-right-requires c =
     let n : ℕ = c.args.start + c.args.size in
     let all = each_long (λ v. v.items) c.channels-channels.result.now c.args.audio.now e.sound e.items c.args.start c.args.size c.requires in
     let long : n ≤ length c.index-channels-1.result.items = long_of (λ v. v.items) c.channels-channels.result.now n 1 c.index-channels-1.result all (omega (arith, c.if-channels-eq2.true)) c.index-channels-1.is in
-    omega (arith, long, ap length c.deref-2.ensures.value)
+    omega (arith, long, ap length c.deref-then-channels-eq2.ensures.value)
 
 pub feed_rows-requires-clause-rows : goal.feed_rows-requires-clause-rows
 feed_rows-requires-clause-rows c = omega (arith, c.part_of-left.ensures.long)
@@ -44,7 +44,7 @@ returns-then-channels-eq2 c = λ m holds.
     let r : List ℤ = c.part_of-right.result.now in
     let many : length a.channels ≡ 2 = ap length (sym e.items) ∙ length-map c.channels-channels.result.now (λ v. v.items) ∙ c.if-channels-eq2.true in
     let left : l ≡ take n (drop start c.index-channels-0.result.items) = c.part_of-left.ensures.part ∙ ap (λ k. take n (drop start k)) c.deref.ensures.value in
-    let right : r ≡ take n (drop start c.index-channels-1.result.items) = c.part_of-right.ensures.part ∙ ap (λ k. take n (drop start k)) c.deref-2.ensures.value in
+    let right : r ≡ take n (drop start c.index-channels-1.result.items) = c.part_of-right.ensures.part ∙ ap (λ k. take n (drop start k)) c.deref-then-channels-eq2.ensures.value in
     let block = two_blocks (λ v. v.items) c.channels-channels.result.now a e.sound e.items start n c.index-channels-0.result c.index-channels-1.result many c.index-channels-0.is c.index-channels-1.is in
     let both : l ∷ r ∷ [] ≡ block_of start n a.channels = ap (λ (k : List ℤ). k ∷ r ∷ []) left ∙ ap (λ (k : List ℤ). take n (drop start c.index-channels-0.result.items) ∷ k ∷ []) right ∙ block in
     let w : (c.bits.result + 7) / 8 ≡ width = ap (λ b. (b + 7) / 8) c.bits.ensures in
