@@ -2,6 +2,7 @@
 use Rattle.std.proofs.Common.{◌≡◌, ◌∙◌, sym, ap, ℕ, zero, suc, ◌+◌, ◌≤◌, ◌<◌, arith, ℤ, pos, List, [], ◌∷◌, ◌++◌, length, take, drop, map, get_or, set, Result, Ok, Err, All}
 use Rattle.std.proofs.lemmas.List.{take_more, take_more_set, length-take-le, length-drop, map-append, take-append-drop}
 use Rattle.std.proofs.lemmas.List.Elements.{All-take, All-head, All-tail, All-cons, All-nil}
+use Rattle.flac_subframe.specs.declared.linear.LinearPredictor.{LinearPredictor}
 use Rattle.flac_bits.specs.Signed.{FitsBits}
 use Rattle.flac_bits.specs.declared.why.Why.{Why}
 use Rattle.flac_subframe.specs.Subframe.{Form}
@@ -25,13 +26,14 @@ module _ (depth size : ℕ) (deep : 1 ≤ depth) (some : 1 ≤ size) where
   abbrev pub IsBlock : List (List ℤ) → Type 0
   IsBlock block = All (λ s. length s ≡ size) block × All (λ s. All (FitsBits depth) s) block
 
-  pub forms-append : (fs gs : List Form) (a b : List (List ℤ)) → AreForms depth size fs a → AreForms depth size gs b → AreForms depth size (fs ++ gs) (a ++ b)
+module _ (ps : List LinearPredictor) (depth size : ℕ) (deep : 1 ≤ depth) (some : 1 ≤ size) where
+  pub forms-append : (fs gs : List Form) (a b : List (List ℤ)) → AreForms ps depth size fs a → AreForms ps depth size gs b → AreForms ps depth size (fs ++ gs) (a ++ b)
   forms-append [] gs [] b h k = k
   forms-append [] gs (s ∷ ss) b h k = absurd h
   forms-append (f ∷ fs) gs [] b h k = absurd h
   forms-append (f ∷ fs) gs (s ∷ ss) b h k = (h.0, h.1, forms-append fs gs ss b h.2 k)
 
-  pub least-append : (fs gs : List Form) (a b : List (List ℤ)) → AreLeast depth fs a → AreLeast depth gs b → AreLeast depth (fs ++ gs) (a ++ b)
+  pub least-append : (fs gs : List Form) (a b : List (List ℤ)) → AreLeast ps depth fs a → AreLeast ps depth gs b → AreLeast ps depth (fs ++ gs) (a ++ b)
   least-append [] gs [] b h k = k
   least-append [] gs (s ∷ ss) b h k = absurd h
   least-append (f ∷ fs) gs [] b h k = absurd h

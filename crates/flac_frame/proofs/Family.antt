@@ -1,13 +1,14 @@
 -- The frames of the family, and the least of them.
 use Rattle.std.proofs.Common.{◌≡◌, ◌∙◌, refl, sym, ap, subst, ℕ, ◌+◌, ◌-◌, ◌%◌, ◌≤◌, ◌<◌, ◌^◌, arith, ℤ, Bool, true, false, cond, ◌||◌, nat_lt, nat_le, List, [], ◌∷◌, ◌++◌, length, length-append, Option, Some, None, flat_map}
 use Rattle.std.proofs.lemmas.Bool.Decides.{nat_tests}
+use Rattle.flac_subframe.specs.declared.linear.LinearPredictor.{LinearPredictor}
 use Rattle.flac_header.specs.Header.{Header}
 use Rattle.flac_header.specs.Choice.{size_choice, rate_choice, depth_choice, with_codes, chosen_header}
 use Rattle.flac_header.specs.Spelling.{header_spelling}
 use Rattle.flac_subframe.specs.Spelling.{subframe_spelling}
 use Rattle.flac_subframe.specs.Subframe.{Form}
 use Rattle.flac_frame.specs.Audio.{Sound}
-use Rattle.flac_frame.specs.Encoding.{IsEncoding, AreLeast, EachStands, IsOfFamily, IsLeastFrame, subframes_cost}
+use Rattle.flac_frame.specs.Encoding.{IsEncoding, AreLeast, EachStands, IsOfWidened, IsLeastWith, subframes_cost}
 use Rattle.flac_frame.specs.Spelling.{FrameForm, frame_spelling, subframes_spelling}
 use Rattle.flac_frame.specs.Stereo.{kept_as}
 use Rattle.flac_frame.proofs.Short.{header_long, whole_long}
@@ -56,12 +57,12 @@ frame_less depth f g e le =
     let few : a ≤ b = omega (arith, length-append (header_spelling f.header) p, length-append (header_spelling g.header) q, e, le) in
     omega (arith, whole_long (header_spelling f.header ++ p), whole_long (header_spelling g.header ++ q), filled_less a b few)
 
-module _ (sound : Sound) (size number : ℕ) (block : List (List ℤ)) where
+module _ (ps : List LinearPredictor) (sound : Sound) (size number : ℕ) (block : List (List ℤ)) where
   abbrev pub IsBelow : FrameForm → Type 0
-  IsBelow f = (g : FrameForm) → IsOfFamily sound size number block g
+  IsBelow f = (g : FrameForm) → IsOfWidened ps sound size number block g
       → (subframes_cost sound.bits f ≤ subframes_cost sound.bits g) × (g.header.channel_code < f.header.channel_code → subframes_cost sound.bits f < subframes_cost sound.bits g)
 
-  pub least_frame : (f : FrameForm) → IsOfFamily sound size number block f → IsBelow f → IsLeastFrame sound size number block f
+  pub least_frame : (f : FrameForm) → IsOfWidened ps sound size number block f → IsBelow f → IsLeastWith ps sound size number block f
   least_frame f m below = record {
     least = record {
       member = m;
@@ -80,38 +81,38 @@ pub kept_same : (code : ℕ) (block : List (List ℤ)) → code ≤ 7 → kept_a
 unfolding kept_as
 kept_same code block few = let a : nat_lt code 8 ≡ true = grind (arith, nat_tests) in rw a refl
 
-all_less : (depth : ℕ) (fs gs : List Form) (block : List (List ℤ)) → AreLeast depth fs block → EachStands gs block → length (flat_map (subframe_spelling depth) fs) ≤ length (flat_map (subframe_spelling depth) gs)
-all_less depth [] [] [] a b = omega arith
-all_less depth [] (g ∷ gs) [] a b = absurd b
-all_less depth (f ∷ fs) gs [] a b = absurd a
-all_less depth [] gs (s ∷ ss) a b = absurd a
-all_less depth (f ∷ fs) [] (s ∷ ss) a b = absurd b
-all_less depth (f ∷ fs) (g ∷ gs) (s ∷ ss) a b =
+all_less : (ps : List LinearPredictor) (depth : ℕ) (fs gs : List Form) (block : List (List ℤ)) → AreLeast ps depth fs block → EachStands ps gs block → length (flat_map (subframe_spelling depth) fs) ≤ length (flat_map (subframe_spelling depth) gs)
+all_less ps depth [] [] [] a b = omega arith
+all_less ps depth [] (g ∷ gs) [] a b = absurd b
+all_less ps depth (f ∷ fs) gs [] a b = absurd a
+all_less ps depth [] gs (s ∷ ss) a b = absurd a
+all_less ps depth (f ∷ fs) [] (s ∷ ss) a b = absurd b
+all_less ps depth (f ∷ fs) (g ∷ gs) (s ∷ ss) a b =
     let one : length (subframe_spelling depth f) ≤ length (subframe_spelling depth g) = a.0.least g b.0 in
-    let rest = all_less depth fs gs ss a.1 b.1 in
+    let rest = all_less ps depth fs gs ss a.1 b.1 in
     omega (arith, length-append (subframe_spelling depth f) (flat_map (subframe_spelling depth) fs), length-append (subframe_spelling depth g) (flat_map (subframe_spelling depth) gs), one, rest)
 
-stands_of : (depth : ℕ) (fs : List Form) (block : List (List ℤ)) → AreLeast depth fs block → EachStands fs block
-stands_of depth [] [] a = tt
-stands_of depth [] (s ∷ ss) a = absurd a
-stands_of depth (f ∷ fs) [] a = absurd a
-stands_of depth (f ∷ fs) (s ∷ ss) a = (a.0.member, stands_of depth fs ss a.1)
+stands_of : (ps : List LinearPredictor) (depth : ℕ) (fs : List Form) (block : List (List ℤ)) → AreLeast ps depth fs block → EachStands ps fs block
+stands_of ps depth [] [] a = tt
+stands_of ps depth [] (s ∷ ss) a = absurd a
+stands_of ps depth (f ∷ fs) [] a = absurd a
+stands_of ps depth (f ∷ fs) (s ∷ ss) a = (a.0.member, stands_of ps depth fs ss a.1)
 
 pub code_once : (b : Bool) (c n : ℕ) → cond b (c + 1) 2 ≡ n → (n ≡ 2 → ⊥) → c + 1 ≡ n
 code_once true c n e other = e
 code_once false c n e other = absurd (other (sym e))
 
-pub independent_least : (sound : Sound) (size number : ℕ) (block : List (List ℤ)) (f : FrameForm) → (length block ≡ 2 → ⊥) → length block ≤ 8 → IsEncoding sound size number block f → AreLeast sound.bits f.subframes block
-    → IsLeastFrame sound size number block f
-independent_least sound size number block f other few encoding least =
+pub independent_least : (ps : List LinearPredictor) (sound : Sound) (size number : ℕ) (block : List (List ℤ)) (f : FrameForm) → (length block ≡ 2 → ⊥) → length block ≤ 8 → IsEncoding sound size number block f → AreLeast ps sound.bits f.subframes block
+    → IsLeastWith ps sound size number block f
+independent_least ps sound size number block f other few encoding least =
     let depth : ℕ = sound.bits in
     let code = code_once (nat_lt f.header.channel_code 8) f.header.channel_code (length block) encoding.channels other in
     let low : f.header.channel_code ≤ 7 = omega (arith, code, few) in
     let cost : subframes_cost depth f ≡ length (flat_map (subframe_spelling depth) f.subframes) = ap (λ (t : List Bool). length t) (texts_are depth f.header.channel_code size low 0 f.subframes) in
-    least_frame sound size number block f (record { encoding = encoding; stand = subst (EachStands f.subframes) (sym (kept_same f.header.channel_code block low)) (stands_of depth f.subframes block least) })
+    least_frame ps sound size number block f (record { encoding = encoding; stand = subst (EachStands ps f.subframes) (sym (kept_same f.header.channel_code block low)) (stands_of ps depth f.subframes block least) })
     (λ g m.
     let code' = code_once (nat_lt g.header.channel_code 8) g.header.channel_code (length block) m.encoding.channels other in
     let low' : g.header.channel_code ≤ 7 = omega (arith, code', few) in
     let cost' : subframes_cost depth g ≡ length (flat_map (subframe_spelling depth) g.subframes) = ap (λ (t : List Bool). length t) (texts_are depth g.header.channel_code size low' 0 g.subframes) in
-    let less = all_less depth f.subframes g.subframes block least (subst (EachStands g.subframes) (kept_same g.header.channel_code block low') m.stand) in
+    let less = all_less ps depth f.subframes g.subframes block least (subst (EachStands ps g.subframes) (kept_same g.header.channel_code block low') m.stand) in
     (omega (arith, cost, cost', less), λ lower. absurd (omega (arith, lower, code, code'))))

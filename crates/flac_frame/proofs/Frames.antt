@@ -3,6 +3,8 @@ use Rattle.std.proofs.Common.{◌≡◌, ◌∙◌, refl, sym, ap, subst, ℕ, �
 use Rattle.std.proofs.lemmas.Bool.Decides.{nat_tests}
 use Rattle.std.proofs.lemmas.List.Elements.{All-nil, All-cons, All-head, All-tail}
 use Rattle.std.proofs.lemmas.List.{length-map}
+use Rattle.flac_subframe.specs.declared.linear.LinearPredictor.{LinearPredictor}
+use Rattle.flac_subframe.specs.Handed.{AreWithin}
 use Rattle.flac_bits.specs.Signed.{FitsBits}
 use Rattle.flac_header.specs.Header.{Header, IsHeader, channels_of}
 use Rattle.flac_header.specs.Choice.{size_choice, rate_choice, depth_choice, chosen_header}
@@ -14,8 +16,8 @@ use Rattle.flac_frame.specs.Audio.{Sound, IsSound, samples_each}
 use Rattle.flac_frame.specs.Frame.{limits_at}
 use Rattle.flac_frame.specs.Stereo.{joined, kept_as}
 use Rattle.flac_frame.specs.Spelling.{FrameForm, subframes_spelling, HaveSamples}
-use Rattle.flac_frame.specs.Chosen.{forms_of, AreMade, AreChosen, IsFrameChoice}
-use Rattle.flac_frame.specs.Encoding.{block_of, AreForms, AreLeast, IsEncoding, IsLeastFrame, IsShort, subframes_cost}
+use Rattle.flac_frame.specs.Chosen.{forms_of, AreMade, AreChosen, IsChoiceWith}
+use Rattle.flac_frame.specs.Encoding.{block_of, AreForms, AreLeast, IsEncoding, IsLeastWith, IsShort, subframes_cost}
 use Rattle.flac_frame.specs.declared.frame_choice.FrameChoice.{FrameChoice}
 use Rattle.flac_frame.proofs.Encoded.{is_block, part_fits}
 use Rattle.flac_frame.proofs.Short.{all_short, parts_few, frame_short}
@@ -28,26 +30,26 @@ use Rattle.flac_frame.proofs.Wholes.{texts_are, subframes_are, samples_are, as_m
 as_coded : (code : ℕ) → code ≤ 7 → channels_of code ≡ code + 1
 as_coded code few = let a : nat_lt code 8 ≡ true = grind (arith, nat_tests) in rw a refl
 
-pub frame_encoded : (sound : Sound) (code size number : ℕ) (block : List (List ℤ)) (fs : List Form) (h : Header) → (length block ≡ 2 → ⊥) → code ≤ 7 → number < 2 ^ 31
+pub frame_encoded : (ps : List LinearPredictor) (sound : Sound) → AreWithin (limits_at sound.rate).linear ps → (code size number : ℕ) (block : List (List ℤ)) (fs : List Form) (h : Header) → (length block ≡ 2 → ⊥) → code ≤ 7 → number < 2 ^ 31
     → (1 ≤ sound.bits) × (sound.bits ≤ 32) → 1 ≤ size → size ≤ 65535 → All (λ s. length s ≡ size) block → chosen_header size sound.rate code sound.bits number ≡ Some h → IsHeader h → code + 1 ≡ length block → All (λ s. All (FitsBits sound.bits) s) block
-    → AreForms sound.bits size fs block → AreLeast sound.bits fs block → (f : FrameForm) → f ≡ record { header = h; subframes = fs }
-    → IsEncoding sound size number block f × IsLeastFrame sound size number block f × IsShort sound.bits f × (subframes_cost sound.bits f ≡ length (flat_map (subframe_spelling sound.bits) fs))
-frame_encoded sound code size number block fs h other independent small deep some few long chosen valid each fits are least f is =
+    → AreForms ps sound.bits size fs block → AreLeast ps sound.bits fs block → (f : FrameForm) → f ≡ record { header = h; subframes = fs }
+    → IsEncoding sound size number block f × IsLeastWith ps sound size number block f × IsShort sound.bits f × (subframes_cost sound.bits f ≡ length (flat_map (subframe_spelling sound.bits) fs))
+frame_encoded ps sound within code size number block fs h other independent small deep some few long chosen valid each fits are least f is =
     let depth : ℕ = sound.bits in
     let codes = codes_are (size_choice size) (rate_choice sound.rate) (depth_choice depth) size sound.rate code number h (sym (chosen_as size sound.rate code depth number (omega (arith, independent)) small) ∙ chosen) in
     let parts_are : flat_map (subframe_spelling depth) fs ≡ subframes_spelling depth h.channel_code 0 fs = sym (ap (λ k. subframes_spelling depth k 0 fs) codes.0 ∙ texts_are depth code size independent 0 fs) in
     let limits : Limits = limits_at sound.rate in
-    let have = subst (λ k. HaveSamples depth k h.size 0 fs block) (sym codes.0) (subst (λ n. HaveSamples depth code n 0 fs block) (sym codes.1) (samples_are depth code size independent 0 fs block are)) in
+    let have = subst (λ k. HaveSamples depth k h.size 0 fs block) (sym codes.0) (subst (λ n. HaveSamples depth code n 0 fs block) (sym codes.1) (samples_are depth code size independent ps 0 fs block are)) in
     let short : IsShort depth (record { header = h; subframes = fs }) = frame_short depth (record { header = h; subframes = fs })
-    (omega (arith, ap (λ (t : List Bool). length t) parts_are, all_short depth deep.0 size fs block some long fits least, parts_few (length block) depth size (omega (arith, independent, each)) deep.1 few)) in
+    (omega (arith, ap (λ (t : List Bool). length t) parts_are, all_short ps depth deep.0 size fs block some long fits least, parts_few (length block) depth size (omega (arith, independent, each)) deep.1 few)) in
     let encoding : IsEncoding sound size number block (record { header = h; subframes = fs }) =
     record {
       code = code;
       header = chosen;
       valid = valid;
       channels = ap channels_of codes.0 ∙ as_coded code independent ∙ each;
-      many = as_many depth code size independent fs block are;
-      subframes = subframes_are depth code size independent limits (omega arith) 0 fs block are;
+      many = as_many depth code size independent ps fs block are;
+      subframes = subframes_are depth code size independent ps limits (omega arith) within 0 fs block are;
       samples = record {
         kept = block;
         subframes = have;
@@ -55,7 +57,7 @@ frame_encoded sound code size number block fs h other independent small deep som
         fit = all_fit_in depth code size independent block fits;
       };
     } in
-    rw is (encoding, independent_least sound size number block (record { header = h; subframes = fs }) other (omega (arith, independent, each)) encoding least, short, ap (λ (t : List Bool). length t) (sym parts_are))
+    rw is (encoding, independent_least ps sound size number block (record { header = h; subframes = fs }) other (omega (arith, independent, each)) encoding least, short, ap (λ (t : List Bool). length t) (sym parts_are))
 
 -- ---- the samples of vectors
 
@@ -86,12 +88,12 @@ module _ {V : Type 0} (items : V → List ℤ) (xs : List V) (sound : Sound) (go
       chosen_there size rate code bits number some few (ap (λ k. is_some (rate_choice k)) r ∙ good.rate) (ap (λ k. is_some (depth_choice k)) b ∙ good.bits) c small (sym is ∙ none)
 
   -- what was chosen of each channel by itself makes a frame
-  pub apart_choice : (start size rate code bits depth number : ℕ) (o : Option Header) (c : FrameChoice) → rate ≡ sound.rate → bits ≡ sound.bits → depth ≡ sound.bits → (length sound.channels ≡ 2 → ⊥) → code ≡ length xs - 1 → c.code ≡ code
+  pub apart_choice : (ps : List LinearPredictor) → AreWithin (limits_at sound.rate).linear ps → (start size rate code bits depth number : ℕ) (o : Option Header) (c : FrameChoice) → rate ≡ sound.rate → bits ≡ sound.bits → depth ≡ sound.bits → (length sound.channels ≡ 2 → ⊥) → code ≡ length xs - 1 → c.code ≡ code
       → 1 ≤ size → size ≤ 65535 → start + size ≤ samples_each sound.channels → number < 2 ^ 31 → o ≡ chosen_header size rate code bits number → IfSome o IsHeader
-      → AreChosen depth size c.subframes.items (block_of start size (map items xs)) → c.bits ≡ length (flat_map (subframe_spelling depth) (forms_of c.subframes.items (block_of start size (map items xs))))
-      → IsFrameChoice sound size number (block_of start size sound.channels) c
-  apart_choice start size rate code bits depth number None c r b d other n coded some few within small is valid chose cost = absurd (never_none size rate code bits number None r b (omega (arith, n, few_channels.1)) some few small is refl)
-  apart_choice start size rate code bits depth number (Some h) c r b d other n coded some few within small is valid chose cost =
+      → AreChosen ps depth size c.subframes.items (block_of start size (map items xs)) → c.bits ≡ length (flat_map (subframe_spelling depth) (forms_of ps c.subframes.items (block_of start size (map items xs))))
+      → IsChoiceWith ps sound size number (block_of start size sound.channels) c
+  apart_choice ps orders start size rate code bits depth number None c r b d other n coded some few within small is valid chose cost = absurd (never_none size rate code bits number None r b (omega (arith, n, few_channels.1)) some few small is refl)
+  apart_choice ps orders start size rate code bits depth number (Some h) c r b d other n coded some few within small is valid chose cost =
       let deep = bits_small sound.bits refl in
       let chosen : chosen_header size sound.rate code sound.bits number ≡ Some h = ap (λ k. chosen_header size k code sound.bits number) (sym r) ∙ ap (λ k. chosen_header size rate code k number) (sym b) ∙ sym is in
       let block = is_block items sound.bits start size deep.0 some xs (each_long start size within, each_fits_in sound.bits refl) in
@@ -100,18 +102,18 @@ module _ {V : Type 0} (items : V → List ℤ) (xs : List V) (sound : Sound) (go
       let long = subst (λ k. All (λ s. length s ≡ size) (block_of start size k)) are block.0 in
       let block_long : length all ≡ length xs = length-map sound.channels (λ c. take size (drop start c)) ∙ ap (λ (l : List (List ℤ)). length l) (sym are) ∙ length-map xs items in
       let lengths_are : length sound.channels ≡ length xs = ap (λ (l : List (List ℤ)). length l) (sym are) ∙ length-map xs items in
-      let chose' : AreChosen sound.bits size c.subframes.items all = subst (λ k. AreChosen sound.bits size c.subframes.items (block_of start size k)) are (subst (λ k. AreChosen k size c.subframes.items (block_of start size (map items xs))) d chose) in
-      let cost' : c.bits ≡ length (flat_map (subframe_spelling sound.bits) (forms_of c.subframes.items all)) =
-      cost ∙ ap (λ k. length (flat_map (subframe_spelling k) (forms_of c.subframes.items (block_of start size (map items xs))))) d ∙ ap (λ k. length (flat_map (subframe_spelling sound.bits) (forms_of c.subframes.items (block_of start size k)))) are in
+      let chose' : AreChosen ps sound.bits size c.subframes.items all = subst (λ k. AreChosen ps sound.bits size c.subframes.items (block_of start size k)) are (subst (λ k. AreChosen ps k size c.subframes.items (block_of start size (map items xs))) d chose) in
+      let cost' : c.bits ≡ length (flat_map (subframe_spelling sound.bits) (forms_of ps c.subframes.items all)) =
+      cost ∙ ap (λ k. length (flat_map (subframe_spelling k) (forms_of ps c.subframes.items (block_of start size (map items xs))))) d ∙ ap (λ k. length (flat_map (subframe_spelling sound.bits) (forms_of ps c.subframes.items (block_of start size k)))) are in
       let low : code ≤ 7 = omega (arith, n, few_channels.1) in
-      let form : FrameForm = record { header = h; subframes = forms_of c.subframes.items all } in
-      let p = frame_encoded sound code size number all (forms_of c.subframes.items all) h (λ e. other (omega (arith, e, block_long, lengths_are))) low small deep some few long chosen valid (omega (arith, n, few_channels.0, block_long)) fits chose'.are chose'.least form refl in
+      let form : FrameForm = record { header = h; subframes = forms_of ps c.subframes.items all } in
+      let p = frame_encoded ps sound orders code size number all (forms_of ps c.subframes.items all) h (λ e. other (omega (arith, e, block_long, lengths_are))) low small deep some few long chosen valid (omega (arith, n, few_channels.0, block_long)) fits chose'.are chose'.least form refl in
       let keeps : kept_as c.code all ≡ all = kept_same c.code all (omega (arith, coded, low)) in
       record {
         form = form;
         header = ap (λ k. chosen_header size sound.rate k sound.bits number) coded ∙ chosen;
-        subframes = ap (forms_of c.subframes.items) (sym keeps);
-        made = subst (AreMade c.subframes.items) (sym keeps) chose'.made;
+        subframes = ap (forms_of ps c.subframes.items) (sym keeps);
+        made = subst (AreMade ps c.subframes.items) (sym keeps) chose'.made;
         encoding = p.0;
         least = p.1;
         short = p.2;

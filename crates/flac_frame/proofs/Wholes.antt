@@ -2,6 +2,8 @@
 use Rattle.std.proofs.Common.{◌≡◌, ◌∙◌, refl, sym, ap, subst, ℕ, suc, ◌+◌, ◌≤◌, ◌<◌, ◌^◌, arith, ℤ, Bool, true, false, cond, nat_eq, nat_lt, nat_le, List, [], ◌∷◌, ◌++◌, append_assoc, length, Option, Some, None, is_some, Result, All, flat_map}
 use Rattle.std.proofs.lemmas.Bool.Decides.{nat_tests}
 use Rattle.std.proofs.lemmas.List.Elements.{All-head, All-tail}
+use Rattle.flac_subframe.specs.declared.linear.LinearPredictor.{LinearPredictor}
+use Rattle.flac_subframe.specs.Handed.{AreWithin}
 use Rattle.flac_bits.specs.State.{Mark, past, fresh}
 use Rattle.flac_bits.specs.Signed.{FitsBits}
 use Rattle.flac_bits.specs.Written.{Written, Adds, Fails, Writes}
@@ -71,23 +73,23 @@ module _ (depth code size : ℕ) (independent : code ≤ 7) where
   texts_are channel [] = refl
   texts_are channel (f ∷ fs) = ap (λ n. subframe_spelling n f ++ subframes_spelling depth code (channel + 1) fs) (no_side channel) ∙ ap (λ t. subframe_spelling depth f ++ t) (texts_are (channel + 1) fs)
 
-  pub subframes_are : (limits : Limits) → 8 ≤ limits.partition → (channel : ℕ) (fs : List Form) (block : List (List ℤ)) → AreForms depth size fs block → AreSubframes depth code size limits channel fs
-  subframes_are limits few channel [] [] h = tt
-  subframes_are limits few channel [] (s ∷ ss) h = absurd h
-  subframes_are limits few channel (f ∷ fs) [] h = absurd h
-  subframes_are limits few channel (f ∷ fs) (s ∷ ss) h = (subst (λ n. IsSubframe n size limits f) (sym (no_side channel)) (h.0 limits few), subframes_are limits few (channel + 1) fs ss h.2)
+  pub subframes_are : (ps : List LinearPredictor) (limits : Limits) → 8 ≤ limits.partition → AreWithin limits.linear ps → (channel : ℕ) (fs : List Form) (block : List (List ℤ)) → AreForms ps depth size fs block → AreSubframes depth code size limits channel fs
+  subframes_are ps limits few within channel [] [] h = tt
+  subframes_are ps limits few within channel [] (s ∷ ss) h = absurd h
+  subframes_are ps limits few within channel (f ∷ fs) [] h = absurd h
+  subframes_are ps limits few within channel (f ∷ fs) (s ∷ ss) h = (subst (λ n. IsSubframe n size limits f) (sym (no_side channel)) (h.0 limits few within), subframes_are ps limits few within (channel + 1) fs ss h.2)
 
-  pub samples_are : (channel : ℕ) (fs : List Form) (block : List (List ℤ)) → AreForms depth size fs block → HaveSamples depth code size channel fs block
-  samples_are channel [] [] h = tt
-  samples_are channel [] (s ∷ ss) h = absurd h
-  samples_are channel (f ∷ fs) [] h = absurd h
-  samples_are channel (f ∷ fs) (s ∷ ss) h = (subst (λ n. samples_of n size f ≡ Some s) (sym (no_side channel)) h.1, samples_are (channel + 1) fs ss h.2)
+  pub samples_are : (ps : List LinearPredictor) (channel : ℕ) (fs : List Form) (block : List (List ℤ)) → AreForms ps depth size fs block → HaveSamples depth code size channel fs block
+  samples_are ps channel [] [] h = tt
+  samples_are ps channel [] (s ∷ ss) h = absurd h
+  samples_are ps channel (f ∷ fs) [] h = absurd h
+  samples_are ps channel (f ∷ fs) (s ∷ ss) h = (subst (λ n. samples_of n size f ≡ Some s) (sym (no_side channel)) h.1, samples_are ps (channel + 1) fs ss h.2)
 
-  pub as_many : (fs : List Form) (block : List (List ℤ)) → AreForms depth size fs block → length fs ≡ length block
-  as_many [] [] h = refl
-  as_many [] (s ∷ ss) h = absurd h
-  as_many (f ∷ fs) [] h = absurd h
-  as_many (f ∷ fs) (s ∷ ss) h = ap suc (as_many fs ss h.2)
+  pub as_many : (ps : List LinearPredictor) (fs : List Form) (block : List (List ℤ)) → AreForms ps depth size fs block → length fs ≡ length block
+  as_many ps [] [] h = refl
+  as_many ps [] (s ∷ ss) h = absurd h
+  as_many ps (f ∷ fs) [] h = absurd h
+  as_many ps (f ∷ fs) (s ∷ ss) h = ap suc (as_many ps fs ss h.2)
 
   pub not_joined : (block : List (List ℤ)) → joined code block ≡ block
   unfolding joined

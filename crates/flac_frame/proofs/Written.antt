@@ -1,5 +1,6 @@
 -- A frame that was chosen, as it is written.
 use Rattle.std.proofs.Common.{◌≡◌, ◌∙◌, sym, ap, subst, ℕ, ◌≤◌, ◌<◌, arith, ℤ, Bool, List, length, Some, Result, nat_lt, flat_map}
+use Rattle.flac_subframe.specs.declared.linear.LinearPredictor.{LinearPredictor}
 use Rattle.flac_bits.specs.Written.{Written, Writes}
 use Rattle.flac_bits.specs.declared.why.Why.{Why}
 use Rattle.flac_header.specs.Header.{Header}
@@ -9,8 +10,8 @@ use Rattle.flac_subframe.specs.declared.chosen.Choice.{Choice}
 use Rattle.flac_subframe.specs.Spelling.{subframe_spelling}
 use Rattle.flac_subframe.specs.Subframe.{Form}
 use Rattle.flac_frame.specs.Audio.{Sound}
-use Rattle.flac_frame.specs.Chosen.{forms_of, AreMade, IsFrameChoice}
-use Rattle.flac_frame.specs.Encoding.{WritesFrame, behind_header}
+use Rattle.flac_frame.specs.Chosen.{forms_of, AreMade, IsChoiceWith}
+use Rattle.flac_frame.specs.Encoding.{WritesFrameWith, behind_header}
 use Rattle.flac_frame.specs.Pair.{IsPairCode}
 use Rattle.flac_frame.specs.Spelling.{FrameForm, frame_spelling, subframes_spelling}
 use Rattle.flac_frame.specs.Stereo.{kept_as}
@@ -22,9 +23,9 @@ use Rattle.flac_frame.proofs.Wholes.{text_is, texts_are}
 inner : (a b : Header) → Some a ≡ Some b → a ≡ b
 inner a b e = cc
 
-module _ (sound : Sound) (size number : ℕ) (block : List (List ℤ)) (c : FrameChoice) (is : IsFrameChoice sound size number block c) (h : Header) (there : chosen_header size sound.rate c.code sound.bits number ≡ Some h) where
+module _ (ps : List LinearPredictor) (sound : Sound) (size number : ℕ) (block : List (List ℤ)) (c : FrameChoice) (is : IsChoiceWith ps sound size number block c) (h : Header) (there : chosen_header size sound.rate c.code sound.bits number ≡ Some h) where
   abbrev forms : List Form
-  forms = forms_of c.subframes.items (kept_as c.code block)
+  forms = forms_of ps c.subframes.items (kept_as c.code block)
 
   header_is : is.form.header ≡ h
   header_is = inner is.form.header h (sym is.header ∙ there)
@@ -39,7 +40,7 @@ module _ (sound : Sound) (size number : ℕ) (block : List (List ℤ)) (c : Fram
   form_is = ap (λ k. made_form k forms) (sym header_is) ∙ ap (made_form is.form.header) (sym is.subframes)
 
   pub frame_written : {X : Type 0} (parts : List Bool) (old new : Written) (result : Result X Why) → old.mark.unread ≡ 0 → parts ≡ subframes_spelling sound.bits h.channel_code 0 forms → Writes (behind_header h parts old.mark) (restarted old) new result
-      → WritesFrame sound size number block old new result
+      → WritesFrameWith ps sound size number block old new result
   frame_written parts old new result whole at writes =
       (is.form, is.encoding, (is.least, is.short), subst (λ t. Writes t (restarted old) new result) (text_is sound.bits h parts forms old.mark whole at ∙ ap (frame_spelling sound.bits) form_is) writes)
 
@@ -60,16 +61,16 @@ module _ (sound : Sound) (size number : ℕ) (block : List (List ℤ)) (c : Fram
   pub apart_keeps : (length block ≡ 2 → ⊥) → length block ≤ 8 → kept_as c.code block ≡ block
   apart_keeps other many = kept_same c.code block (apart_low other many)
 
-  pub apart_made : (cs : List Choice) → cs ≡ c.subframes.items → (length block ≡ 2 → ⊥) → length block ≤ 8 → AreMade cs block
-  apart_made cs same other many = subst (λ ds. AreMade ds block) (sym same) (subst (AreMade c.subframes.items) (apart_keeps other many) is.made)
+  pub apart_made : (cs : List Choice) → cs ≡ c.subframes.items → (length block ≡ 2 → ⊥) → length block ≤ 8 → AreMade ps cs block
+  apart_made cs same other many = subst (λ ds. AreMade ps ds block) (sym same) (subst (AreMade ps c.subframes.items) (apart_keeps other many) is.made)
 
-  pub pair_made : (cs : List Choice) → cs ≡ c.subframes.items → AreMade cs (kept_as h.channel_code block)
-  pair_made cs same = subst (λ ds. AreMade ds (kept_as h.channel_code block)) (sym same) (subst (λ k. AreMade c.subframes.items (kept_as k block)) (sym code_is) is.made)
+  pub pair_made : (cs : List Choice) → cs ≡ c.subframes.items → AreMade ps cs (kept_as h.channel_code block)
+  pair_made cs same = subst (λ ds. AreMade ps ds (kept_as h.channel_code block)) (sym same) (subst (λ k. AreMade ps c.subframes.items (kept_as k block)) (sym code_is) is.made)
 
-  pub apart_parts : (cs : List Choice) → cs ≡ c.subframes.items → (length block ≡ 2 → ⊥) → length block ≤ 8 → flat_map (subframe_spelling sound.bits) (forms_of cs block) ≡ subframes_spelling sound.bits h.channel_code 0 forms
+  pub apart_parts : (cs : List Choice) → cs ≡ c.subframes.items → (length block ≡ 2 → ⊥) → length block ≤ 8 → flat_map (subframe_spelling sound.bits) (forms_of ps cs block) ≡ subframes_spelling sound.bits h.channel_code 0 forms
   apart_parts cs same other many =
-      ap (λ ds. flat_map (subframe_spelling sound.bits) (forms_of ds block)) same ∙ ap (λ b. flat_map (subframe_spelling sound.bits) (forms_of c.subframes.items b)) (sym (apart_keeps other many))
+      ap (λ ds. flat_map (subframe_spelling sound.bits) (forms_of ps ds block)) same ∙ ap (λ b. flat_map (subframe_spelling sound.bits) (forms_of ps c.subframes.items b)) (sym (apart_keeps other many))
       ∙ sym (texts_are sound.bits h.channel_code size (let low = apart_low other many in omega (arith, low, code_is)) 0 forms)
 
-  pub pair_parts : (cs : List Choice) → cs ≡ c.subframes.items → subframes_spelling sound.bits h.channel_code 0 (forms_of cs (kept_as h.channel_code block)) ≡ subframes_spelling sound.bits h.channel_code 0 forms
-  pair_parts cs same = ap (λ ds. subframes_spelling sound.bits h.channel_code 0 (forms_of ds (kept_as h.channel_code block))) same ∙ ap (λ k. subframes_spelling sound.bits h.channel_code 0 (forms_of c.subframes.items (kept_as k block))) code_is
+  pub pair_parts : (cs : List Choice) → cs ≡ c.subframes.items → subframes_spelling sound.bits h.channel_code 0 (forms_of ps cs (kept_as h.channel_code block)) ≡ subframes_spelling sound.bits h.channel_code 0 forms
+  pair_parts cs same = ap (λ ds. subframes_spelling sound.bits h.channel_code 0 (forms_of ps ds (kept_as h.channel_code block))) same ∙ ap (λ k. subframes_spelling sound.bits h.channel_code 0 (forms_of ps c.subframes.items (kept_as k block))) code_is

@@ -11,9 +11,11 @@ use Rattle.flac_header.specs.Header.{Header, IsHeader, channels_of, greatest_blo
 use Rattle.flac_header.specs.Choice.{chosen_header}
 use Rattle.flac_header.specs.Spelling.{restarted, header_spelling}
 use Rattle.flac_subframe.specs.declared.limits.Limits.{Limits}
-use Rattle.flac_subframe.specs.Chosen.{fixed_below}
+use Rattle.flac_subframe.specs.declared.linear.LinearPredictor.{LinearPredictor}
+use Rattle.flac_subframe.specs.Chosen.{fixed_below, offered}
 use Rattle.flac_subframe.specs.Family.{Stands}
-use Rattle.flac_subframe.specs.Laws.{InFamily}
+use Rattle.flac_subframe.specs.Handed.{AreWithin}
+use Rattle.flac_subframe.specs.Laws.{InFamily, InWidened}
 use Rattle.flac_subframe.specs.Least.{IsLeast}
 use Rattle.flac_subframe.specs.Spelling.{subframe_spelling, IsSubframe}
 use Rattle.flac_subframe.specs.Subframe.{Form, samples_of}
@@ -47,33 +49,36 @@ pub record IsEncoding (sound : Sound) (size number : ℕ) (block : List (List �
   pub samples : FrameSamples sound.bits f block
 
 -- no form in the family takes fewer bits for the samples: constant, verbatim, or a fixed predictor of order 0 to 4 with either coding method, partition orders
--- up to 8 and any parameter or escape, and as many wasted bits as all samples lack
-abbrev pub IsLeastFor : ℕ → List ℤ → Form → Type 0
-IsLeastFor depth s f = IsLeast (λ g. Stands 8 (fixed_below 5) g s) (λ g. length (subframe_spelling depth g)) f
+-- up to 8 and any parameter or escape, and as many wasted bits as all samples lack; and behind these the linear predictors that are handed in
+abbrev pub IsLeastFor : List LinearPredictor → ℕ → List ℤ → Form → Type 0
+IsLeastFor ps depth s f = IsLeast (λ g. Stands 8 (offered ps) g s) (λ g. length (subframe_spelling depth g)) f
 
 -- each channel's subframe is the least by itself
-abbrev pub AreLeast : ℕ → List Form → List (List ℤ) → Type 0
-AreLeast depth [] [] = ⊤
-AreLeast depth [] (s ∷ ss) = ⊥
-AreLeast depth (f ∷ fs) [] = ⊥
-AreLeast depth (f ∷ fs) (s ∷ ss) = IsLeastFor depth s f × AreLeast depth fs ss
+abbrev pub AreLeast : List LinearPredictor → ℕ → List Form → List (List ℤ) → Type 0
+AreLeast ps depth [] [] = ⊤
+AreLeast ps depth [] (s ∷ ss) = ⊥
+AreLeast ps depth (f ∷ fs) [] = ⊥
+AreLeast ps depth (f ∷ fs) (s ∷ ss) = IsLeastFor ps depth s f × AreLeast ps depth fs ss
 
 -- a frame of at most 16777215 bytes
 abbrev pub IsShort : ℕ → FrameForm → Type 0
 IsShort depth f = length (frame_spelling depth f) ≤ 8 * 16777215
 
 -- each form stands for one of the channels, in the family above
-abbrev pub EachStands : List Form → List (List ℤ) → Type 0
-EachStands [] [] = ⊤
-EachStands [] (s ∷ ss) = ⊥
-EachStands (f ∷ fs) [] = ⊥
-EachStands (f ∷ fs) (s ∷ ss) = Stands 8 (fixed_below 5) f s × EachStands fs ss
+abbrev pub EachStands : List LinearPredictor → List Form → List (List ℤ) → Type 0
+EachStands ps [] [] = ⊤
+EachStands ps [] (s ∷ ss) = ⊥
+EachStands ps (f ∷ fs) [] = ⊥
+EachStands ps (f ∷ fs) (s ∷ ss) = Stands 8 (offered ps) f s × EachStands ps fs ss
 
 -- The frames of a block among which the least is chosen: under any channel code for as many channels, the subframes are forms of the family for what the code
--- keeps of the block.
-pub record IsOfFamily (sound : Sound) (size number : ℕ) (block : List (List ℤ)) (f : FrameForm) : Type 0 where
+-- keeps of the block. Linear predictors that are handed in widen it by just their forms.
+pub record IsOfWidened (ps : List LinearPredictor) (sound : Sound) (size number : ℕ) (block : List (List ℤ)) (f : FrameForm) : Type 0 where
   pub encoding : IsEncoding sound size number block f
-  pub stand : EachStands f.subframes (kept_as f.header.channel_code block)
+  pub stand : EachStands ps f.subframes (kept_as f.header.channel_code block)
+
+abbrev pub IsOfFamily : Sound → (size number : ℕ) → List (List ℤ) → FrameForm → Type 0
+IsOfFamily sound size number block f = IsOfWidened [] sound size number block f
 
 -- the subframes are of the family, each for its samples: constant, verbatim or by a fixed predictor, and without all the bits that these lack
 abbrev pub EachInFamily : List Form → List (List ℤ) → Type 0
@@ -82,24 +87,41 @@ EachInFamily [] (s ∷ ss) = ⊥
 EachInFamily (f ∷ fs) [] = ⊥
 EachInFamily (f ∷ fs) (s ∷ ss) = InFamily f s × EachInFamily fs ss
 
+-- the same where linear predictors are handed in: also by just one of these
+abbrev pub EachInWidened : List LinearPredictor → List Form → List (List ℤ) → Type 0
+EachInWidened ps [] [] = ⊤
+EachInWidened ps [] (s ∷ ss) = ⊥
+EachInWidened ps (f ∷ fs) [] = ⊥
+EachInWidened ps (f ∷ fs) (s ∷ ss) = InWidened ps f s × EachInWidened ps fs ss
+
 -- these frames are just the encodings of a block, under any channel code, whose subframes are of the family, each for the samples that it has
 abbrev pub FrameFamilyIsPlain : Type 0
 FrameFamilyIsPlain = (sound : Sound) (size number : ℕ) (block : List (List ℤ)) (f : FrameForm)
     → IsOfFamily sound size number block f ↔ ((e : IsEncoding sound size number block f) × EachInFamily f.subframes e.samples.kept)
+
+abbrev pub FrameWidenedIsPlain : Type 0
+FrameWidenedIsPlain = (ps : List LinearPredictor) (sound : Sound) (size number : ℕ) (block : List (List ℤ)) (f : FrameForm)
+    → IsOfWidened ps sound size number block f ↔ ((e : IsEncoding sound size number block f) × EachInWidened ps f.subframes e.samples.kept)
 
 -- the bits of the subframes
 abbrev pub subframes_cost : ℕ → FrameForm → ℕ
 subframes_cost depth f = length (subframes_spelling depth f.header.channel_code 0 f.subframes)
 
 -- No frame of the family is shorter; none takes fewer bits for its subframes, which the zeros up to a whole byte may hide; and where the channel code is lower, they take more.
-pub record IsLeastFrame (sound : Sound) (size number : ℕ) (block : List (List ℤ)) (f : FrameForm) : Type 0 where
-  pub least : IsLeast (IsOfFamily sound size number block) (λ g. length (frame_spelling sound.bits g)) f
-  pub fewest : (g : FrameForm) → IsOfFamily sound size number block g → subframes_cost sound.bits f ≤ subframes_cost sound.bits g
-  pub first : (g : FrameForm) → IsOfFamily sound size number block g → g.header.channel_code < f.header.channel_code → subframes_cost sound.bits f < subframes_cost sound.bits g
+pub record IsLeastWith (ps : List LinearPredictor) (sound : Sound) (size number : ℕ) (block : List (List ℤ)) (f : FrameForm) : Type 0 where
+  pub least : IsLeast (IsOfWidened ps sound size number block) (λ g. length (frame_spelling sound.bits g)) f
+  pub fewest : (g : FrameForm) → IsOfWidened ps sound size number block g → subframes_cost sound.bits f ≤ subframes_cost sound.bits g
+  pub first : (g : FrameForm) → IsOfWidened ps sound size number block g → g.header.channel_code < f.header.channel_code → subframes_cost sound.bits f < subframes_cost sound.bits g
+
+abbrev pub IsLeastFrame : Sound → (size number : ℕ) → List (List ℤ) → FrameForm → Type 0
+IsLeastFrame sound size number block f = IsLeastWith [] sound size number block f
 
 -- at a whole byte, where the checks begin, the spelling of such a frame was written, the least of the family, and short
+abbrev pub WritesFrameWith : {X : Type 0} → List LinearPredictor → Sound → (size number : ℕ) → List (List ℤ) → Written → Written → Result X Why → Type 0
+WritesFrameWith ps sound size number block old new result = (f : FrameForm) × IsEncoding sound size number block f × (IsLeastWith ps sound size number block f × IsShort sound.bits f) × Writes (frame_spelling sound.bits f) (restarted old) new result
+
 abbrev pub WritesFrame : {X : Type 0} → Sound → (size number : ℕ) → List (List ℤ) → Written → Written → Result X Why → Type 0
-WritesFrame sound size number block old new result = (f : FrameForm) × IsEncoding sound size number block f × (IsLeastFrame sound size number block f × IsShort sound.bits f) × Writes (frame_spelling sound.bits f) (restarted old) new result
+WritesFrame sound size number block old new result = WritesFrameWith [] sound size number block old new result
 
 -- What is encoded of samples of the format that STREAMINFO tells has a header of that format, which the subset allows where the block is not too long for its
 -- rate; and where the header keeps the rules behind what the frames before leave, it is a frame of the block.
@@ -117,12 +139,12 @@ EncodingsAreFrames = (sound : Sound) (size number : ℕ) (block : List (List ℤ
 
 -- ---- its parts
 
--- forms that may be spelled have the samples of channels, each by itself
-abbrev pub AreForms : (depth size : ℕ) → List Form → List (List ℤ) → Type 0
-AreForms depth size [] [] = ⊤
-AreForms depth size [] (s ∷ ss) = ⊥
-AreForms depth size (f ∷ fs) [] = ⊥
-AreForms depth size (f ∷ fs) (s ∷ ss) = ((limits : Limits) → 8 ≤ limits.partition → IsSubframe depth size limits f) × (samples_of depth size f ≡ Some s) × AreForms depth size fs ss
+-- forms that may be spelled, where the orders of the predictors are within the limit, have the samples of channels, each by itself
+abbrev pub AreForms : List LinearPredictor → (depth size : ℕ) → List Form → List (List ℤ) → Type 0
+AreForms ps depth size [] [] = ⊤
+AreForms ps depth size [] (s ∷ ss) = ⊥
+AreForms ps depth size (f ∷ fs) [] = ⊥
+AreForms ps depth size (f ∷ fs) (s ∷ ss) = ((limits : Limits) → 8 ≤ limits.partition → AreWithin limits.linear ps → IsSubframe depth size limits f) × (samples_of depth size f ≡ Some s) × AreForms ps depth size fs ss
 
 -- zeros up to a whole byte behind a mark, and CRC-16
 abbrev pub end_spelling : Mark → List Bool

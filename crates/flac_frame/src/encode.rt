@@ -6,15 +6,17 @@ ghost use Rattle.flac_bits.specs.Written.{Writes};
 ghost use Rattle.flac_header.specs.Spelling.{restarted};
 ghost use Rattle.flac_subframe.specs.Spelling.{subframe_spelling};
 ghost use Rattle.flac_frame.specs.Audio.{samples_each};
-ghost use Rattle.flac_frame.specs.Chosen.{forms_of, AreMade, AreChosen, IsFrameChoice};
-ghost use Rattle.flac_frame.specs.Encoding.{block_of, behind_header, end_spelling, WritesFrame};
+ghost use Rattle.flac_subframe.specs.Handed.{AreWithin};
+ghost use Rattle.flac_frame.specs.Chosen.{forms_of, AreMade, AreChosen, IsChoiceWith, IsFrameChoice};
+ghost use Rattle.flac_frame.specs.Encoding.{block_of, behind_header, end_spelling, WritesFrame, WritesFrameWith};
+ghost use Rattle.flac_frame.specs.Frame.{limits_at};
 
 use crate::audio::Audio;
 use crate::frame_choice::FrameChoice;
 use crate::pair::{choose_pair, write_pair};
 use flac_bits::{BitWriter, Target, Why};
 use flac_header::{FrameHeader, write_header};
-use flac_subframe::{Choice, choose_into, write_subframe_into};
+use flac_subframe::{Choice, Limits, LinearPredictor, choose_with_into, write_subframe_with_into};
 use std::alloc::Global;
 use std::marker::Model;
 use std::ops::Range;
@@ -105,6 +107,7 @@ fn choose_channels(
     channels: &[Vec<i32>],
     start: usize,
     depth: u32,
+    predictors: &[LinearPredictor],
     samples: &mut [i64],
     shortened: &mut [i64],
     values: &mut [i64],
@@ -121,15 +124,21 @@ fn choose_channels(
     requires values { length samples.old ≤ length values.old }
     requires folds { length samples.old ≤ length folds.old }
     requires choices { length channels.now ≤ length subframes.old }
-    ensures chosen { AreChosen depth (length samples.old) subframes.new (block_of start (length samples.old) (map (λ c. c.items) channels.now)) }
-    ensures bits { result ≡ length (flat_map (subframe_spelling depth) (forms_of subframes.new (block_of start (length samples.old) (map (λ c. c.items) channels.now)))) }
+    ensures chosen { AreChosen predictors.now depth (length samples.old) subframes.new (block_of start (length samples.old) (map (λ c. c.items) channels.now)) }
+    ensures bits { result ≡ length (flat_map (subframe_spelling depth) (forms_of predictors.now subframes.new (block_of start (length samples.old) (map (λ c. c.items) channels.now)))) }
 {
     let size = samples.len();
+    let limits = Limits {
+        partition: 8,
+        linear: 32,
+    };
     let mut bits = 0;
     for i in 0..channels.len() {
         let channel = &channels[i];
         widen(&channel[start..start + size], samples);
-        let choice = choose_into(samples, depth, shortened, values, folds);
+        let choice = choose_with_into(
+            samples, depth, &limits, predictors, shortened, values, folds,
+        );
         let more = choice.bits();
         bits += more;
         subframes[i] = choice;
@@ -142,6 +151,7 @@ fn choose_apart(
     audio: &Audio,
     start: usize,
     number: u64,
+    predictors: &[LinearPredictor],
     samples: &mut [i64],
     shortened: &mut [i64],
     values: &mut [i64],
@@ -157,7 +167,8 @@ fn choose_apart(
     requires folds { length samples.old ≤ length folds.old }
     requires choices { length audio.now.channels ≤ length choice.old.subframes.items }
     requires number { number < 2 ^ 31 }
-    ensures chosen { IsFrameChoice audio.now (length samples.old) number (block_of start (length samples.old) audio.now.channels) choice.new }
+    requires orders { AreWithin (limits_at audio.now.rate).linear predictors.now }
+    ensures chosen { IsChoiceWith predictors.now audio.now (length samples.old) number (block_of start (length samples.old) audio.now.channels) choice.new }
     ensures places { length choice.new.subframes.items ≡ length choice.old.subframes.items }
 {
     let size = samples.len() as u32;
@@ -168,6 +179,7 @@ fn choose_apart(
         channels,
         start,
         depth,
+        predictors,
         samples,
         shortened,
         values,
@@ -183,6 +195,7 @@ fn choose_first(
     start: usize,
     size: usize,
     number: u64,
+    predictors: &[LinearPredictor],
     samples: &mut [i64],
     right: &mut [i64],
     side: &mut [i64],
@@ -204,13 +217,14 @@ fn choose_first(
     requires folds { size ≤ length folds.old }
     requires choices { length audio.now.channels ≤ length choice.old.subframes.items }
     requires number { number < 2 ^ 31 }
-    ensures chosen { IsFrameChoice audio.now size number (block_of start size audio.now.channels) choice.new }
+    requires orders { AreWithin (limits_at audio.now.rate).linear predictors.now }
+    ensures chosen { IsChoiceWith predictors.now audio.now size number (block_of start size audio.now.channels) choice.new }
     ensures places { length choice.new.subframes.items ≡ length choice.old.subframes.items }
 {
     let samples = &mut samples[..size];
     if audio.channels().len() != 2 {
         choose_apart(
-            audio, start, number, samples, shortened, values, folds, choice,
+            audio, start, number, predictors, samples, shortened, values, folds, choice,
         );
         return;
     }
@@ -218,6 +232,7 @@ fn choose_first(
         audio,
         start,
         number,
+        predictors,
         samples,
         &mut right[..size],
         &mut side[..size],
@@ -234,6 +249,7 @@ fn write_channels<W: Target>(
     channels: &[Vec<i32>],
     start: usize,
     depth: u32,
+    predictors: &[LinearPredictor],
     samples: &mut [i64],
     shortened: &mut [i64],
     values: &mut [i64],
@@ -248,14 +264,22 @@ fn write_channels<W: Target>(
     requires places { length samples.old ≤ length shortened.old }
     requires values { length samples.old ≤ length values.old }
     requires choices { length channels.now ≤ length subframes.now }
-    requires made { AreMade subframes.now (block_of start (length samples.old) (map (λ c. c.items) channels.now)) }
-    ensures { Writes (flat_map (subframe_spelling depth) (forms_of subframes.now (block_of start (length samples.old) (map (λ c. c.items) channels.now)))) writer.old writer.new result }
+    requires made { AreMade predictors.now subframes.now (block_of start (length samples.old) (map (λ c. c.items) channels.now)) }
+    ensures { Writes (flat_map (subframe_spelling depth) (forms_of predictors.now subframes.now (block_of start (length samples.old) (map (λ c. c.items) channels.now)))) writer.old writer.new result }
 {
     let size = samples.len();
     for i in 0..channels.len() {
         let own = &channels[i];
         widen(&own[start..start + size], samples);
-        write_subframe_into(&subframes[i], samples, depth, shortened, values, writer)?;
+        write_subframe_with_into(
+            &subframes[i],
+            predictors,
+            samples,
+            depth,
+            shortened,
+            values,
+            writer,
+        )?;
     }
     Ok(())
 }
@@ -275,6 +299,7 @@ fn write_apart<W: Target>(
     channels: &[Vec<i32>],
     start: usize,
     depth: u32,
+    predictors: &[LinearPredictor],
     samples: &mut [i64],
     shortened: &mut [i64],
     values: &mut [i64],
@@ -289,13 +314,13 @@ fn write_apart<W: Target>(
     requires places { length samples.old ≤ length shortened.old }
     requires values { length samples.old ≤ length values.old }
     requires choices { length channels.now ≤ length subframes.now }
-    requires made { AreMade subframes.now (block_of start (length samples.old) (map (λ c. c.items) channels.now)) }
+    requires made { AreMade predictors.now subframes.now (block_of start (length samples.old) (map (λ c. c.items) channels.now)) }
     requires whole { writer.old.mark.unread ≡ 0 }
-    ensures { Writes (behind_header header.now (flat_map (subframe_spelling depth) (forms_of subframes.now (block_of start (length samples.old) (map (λ c. c.items) channels.now)))) writer.old.mark) (restarted writer.old) writer.new result }
+    ensures { Writes (behind_header header.now (flat_map (subframe_spelling depth) (forms_of predictors.now subframes.now (block_of start (length samples.old) (map (λ c. c.items) channels.now)))) writer.old.mark) (restarted writer.old) writer.new result }
 {
     write_header(header, writer)?;
     write_channels(
-        channels, start, depth, samples, shortened, values, subframes, writer,
+        channels, start, depth, predictors, samples, shortened, values, subframes, writer,
     )?;
     write_end(writer)
 }
@@ -307,6 +332,7 @@ fn write_first<W: Target>(
     size: usize,
     number: u64,
     choice: &FrameChoice,
+    predictors: &[LinearPredictor],
     samples: &mut [i64],
     right: &mut [i64],
     shortened: &mut [i64],
@@ -321,9 +347,9 @@ fn write_first<W: Target>(
     requires places { size ≤ length shortened.old }
     requires values { size ≤ length values.old }
     requires choices { length audio.now.channels ≤ length choice.now.subframes.items }
-    requires chosen { IsFrameChoice audio.now size number (block_of start size audio.now.channels) choice.now }
+    requires chosen { IsChoiceWith predictors.now audio.now size number (block_of start size audio.now.channels) choice.now }
     requires whole { writer.old.mark.unread ≡ 0 }
-    ensures { WritesFrame audio.now size number (block_of start size audio.now.channels) writer.old writer.new result }
+    ensures { WritesFrameWith predictors.now audio.now size number (block_of start size audio.now.channels) writer.old writer.new result }
 {
     let depth = audio.bits();
     let header = FrameHeader::chosen(size as u32, audio.rate(), choice.code, depth, number);
@@ -335,13 +361,15 @@ fn write_first<W: Target>(
     let channels = audio.channels();
     if channels.len() != 2 {
         return write_apart(
-            &header, channels, start, depth, samples, shortened, values, subframes, writer,
+            &header, channels, start, depth, predictors, samples, shortened, values, subframes,
+            writer,
         );
     }
     write_pair(
         &header,
         audio,
         start,
+        predictors,
         samples,
         &mut right[..size],
         shortened,
@@ -382,6 +410,7 @@ pub fn choose_frame(
         first,
         range.end - first,
         number,
+        &[],
         &mut buffers.samples,
         &mut buffers.right,
         &mut buffers.side,
@@ -429,6 +458,7 @@ pub fn write_frame<W: Target>(
         range.end - begin,
         number,
         choice,
+        &[],
         &mut buffers.samples,
         &mut buffers.right,
         &mut buffers.shortened,
@@ -460,6 +490,41 @@ pub fn encode_frame<W: Target>(
     // The count of the writer stops at 2^64 - 1.
     ensures bytes { IfOk result (λ bytes. writer.old.known ≡ true → writer.new.mark.bytes < 2 ^ 64 - 1 → length writer.new.bits ≡ length writer.old.bits + 8 * bytes) }
 {
+    encode_frame_with(audio, range, number, &[], buffers, writer)
+}
+
+/// Writes a block of the samples as the frame of a number, at a whole byte (RFC 9639, section 9), with linear predictors beside the fixed ones.
+///
+/// The frame is the least over the family of [`choose_frame`] that the predictors widen: each subframe may also be by one of them, if its order is below the
+/// number of samples and each residual value is above -2^31 and below 2^31. Of equals it comes after the fixed ones, by its place in the list. With an empty list
+/// it writes what [`encode_frame`] does.
+///
+/// The order of each predictor is at most 12 at rates up to 48000 Hz and at most 32 above, as the streamable subset allows: [`crate::greatest_order`] says it, and [`LinearPredictor::are_within`] is the test.
+/// The range lies in the samples and has 1 sample at least, and as many as the buffers have places for at most; the number is below 2^31.
+/// Returns how many bytes the frame has, 1 to 16777215. It takes no memory.
+///
+/// # Errors
+/// [`Why::Write`] alone, if the target returns an error.
+pub fn encode_frame_with<W: Target>(
+    audio: &Audio,
+    range: Range<usize>,
+    number: u64,
+    predictors: &[LinearPredictor],
+    buffers: &mut EncodeBuffers,
+    writer: &mut BitWriter<W>,
+) -> Result<u64, Why>
+    requires some { range.start < range.end }
+    requires within { range.end ≤ samples_each audio.now.channels }
+    requires room { range.end - range.start ≤ buffers.old }
+    requires number { number < 2 ^ 31 }
+    requires orders { AreWithin (limits_at audio.now.rate).linear predictors.now }
+    requires whole { writer.old.mark.unread ≡ 0 }
+    ensures kept { buffers.new ≡ buffers.old }
+    ensures wrote { WritesFrameWith predictors.now audio.now (range.end - range.start) number (block_of range.start (range.end - range.start) audio.now.channels) writer.old writer.new result }
+    ensures counted { IfOk result (λ bytes. writer.new.mark.bytes ≡ writer.old.mark.bytes + bytes) }
+    // The count of the writer stops at 2^64 - 1.
+    ensures bytes { IfOk result (λ bytes. writer.old.known ≡ true → writer.new.mark.bytes < 2 ^ 64 - 1 → length writer.new.bits ≡ length writer.old.bits + 8 * bytes) }
+{
     let _channels = audio.channels();
     let before = writer.bytes_written();
     let start = range.start;
@@ -469,6 +534,7 @@ pub fn encode_frame<W: Target>(
         start,
         size,
         number,
+        predictors,
         &mut buffers.samples,
         &mut buffers.right,
         &mut buffers.side,
@@ -484,6 +550,7 @@ pub fn encode_frame<W: Target>(
         size,
         number,
         &buffers.choice,
+        predictors,
         &mut buffers.samples,
         &mut buffers.right,
         &mut buffers.shortened,

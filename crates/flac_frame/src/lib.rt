@@ -10,6 +10,7 @@ mod encode;
 mod end;
 mod fill;
 mod frame_choice;
+mod orders;
 mod pair;
 mod plane;
 mod promises;
@@ -22,11 +23,12 @@ mod view;
 pub use audio::Audio;
 pub use before::Before;
 pub use buffers::FrameBuffers;
-pub use encode::{EncodeBuffers, choose_frame, encode_frame, write_frame};
+pub use encode::{EncodeBuffers, choose_frame, encode_frame, encode_frame_with, write_frame};
 pub use frame_choice::FrameChoice;
+pub use orders::greatest_order;
 pub use promises::{
     channels_are_joined, encodings_are_frames, forms_stand_for_samples, frame_family_is_plain,
-    frames_are_spelled, frames_follow,
+    frame_widened_is_plain, frames_are_spelled, frames_follow,
 };
 pub use setup::SetupFault;
 pub use view::FrameView;

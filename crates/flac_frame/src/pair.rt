@@ -5,12 +5,13 @@ ghost use Rattle.std.specs.Int.{int_shr};
 ghost use Rattle.flac_bits.specs.Signed.{FitsBits};
 ghost use Rattle.flac_bits.specs.Written.{Writes};
 ghost use Rattle.flac_header.specs.Spelling.{restarted};
-ghost use Rattle.flac_subframe.specs.Family.{IsMadeOf, form_of};
+ghost use Rattle.flac_subframe.specs.Family.{IsMadeWith, form_with};
+ghost use Rattle.flac_subframe.specs.Handed.{AreWithin};
 ghost use Rattle.flac_subframe.specs.Spelling.{subframe_spelling};
 ghost use Rattle.flac_frame.specs.Audio.{samples_each};
-ghost use Rattle.flac_frame.specs.Chosen.{forms_of, AreMade, IsFrameChoice};
+ghost use Rattle.flac_frame.specs.Chosen.{forms_of, AreMade, IsChoiceWith};
 ghost use Rattle.flac_frame.specs.Encoding.{block_of, behind_header};
-ghost use Rattle.flac_frame.specs.Frame.{side_bit};
+ghost use Rattle.flac_frame.specs.Frame.{side_bit, limits_at};
 ghost use Rattle.flac_frame.specs.Pair.{IsPairCode, IsFirstLeast, IsKept, pair_cost};
 ghost use Rattle.flac_frame.specs.Spelling.{subframes_spelling};
 ghost use Rattle.flac_frame.specs.Stereo.{side_of, middle_of, kept_as};
@@ -22,7 +23,7 @@ use crate::frame_choice::FrameChoice;
 use crate::plane::{Plane, choose_plane};
 use flac_bits::{BitWriter, Target, Why};
 use flac_header::{FrameHeader, write_header};
-use flac_subframe::{Choice, write_subframe_into};
+use flac_subframe::{Choice, LinearPredictor, write_subframe_with_into};
 
 /// The side of two samples (RFC 9639, section 4.2).
 #[inline(always)]
@@ -105,6 +106,7 @@ fn choose_kept<'a>(
     side: &'a [i64],
     middle: &'a [i64],
     depth: u32,
+    predictors: &[LinearPredictor],
     shortened: &mut [i64],
     values: &mut [i64],
     folds: &mut [u32],
@@ -120,16 +122,16 @@ fn choose_kept<'a>(
     requires places { length left.now ≤ length shortened.old }
     requires values { length left.now ≤ length values.old }
     requires folds { length left.now ≤ length folds.old }
-    ensures kept { IsKept depth left.now right.now result.code result.first.depth result.second.depth result.first.samples.now result.second.samples.now (form_of result.first.choice result.first.samples.now) (form_of result.second.choice result.second.samples.now) }
-    ensures bits { (result.first.choice.bits ≡ length (subframe_spelling result.first.depth (form_of result.first.choice result.first.samples.now))) × (result.second.choice.bits ≡ length (subframe_spelling result.second.depth (form_of result.second.choice result.second.samples.now))) }
+    ensures kept { IsKept predictors.now depth left.now right.now result.code result.first.depth result.second.depth result.first.samples.now result.second.samples.now (form_with predictors.now result.first.choice result.first.samples.now) (form_with predictors.now result.second.choice result.second.samples.now) }
+    ensures bits { (result.first.choice.bits ≡ length (subframe_spelling result.first.depth (form_with predictors.now result.first.choice result.first.samples.now))) × (result.second.choice.bits ≡ length (subframe_spelling result.second.depth (form_with predictors.now result.second.choice result.second.samples.now))) }
     ensures small { (result.first.choice.bits ≤ 2 ^ 61) × (result.second.choice.bits ≤ 2 ^ 61) }
-    ensures first_made { IsMadeOf result.first.choice result.first.samples.now }
-    ensures second_made { IsMadeOf result.second.choice result.second.samples.now }
+    ensures first_made { IsMadeWith predictors.now result.first.choice result.first.samples.now }
+    ensures second_made { IsMadeWith predictors.now result.second.choice result.second.samples.now }
 {
-    let lefts = choose_plane(left, depth, shortened, values, folds);
-    let rights = choose_plane(right, depth, shortened, values, folds);
-    let sides = choose_plane(side, depth + 1, shortened, values, folds);
-    let middles = choose_plane(middle, depth, shortened, values, folds);
+    let lefts = choose_plane(left, depth, predictors, shortened, values, folds);
+    let rights = choose_plane(right, depth, predictors, shortened, values, folds);
+    let sides = choose_plane(side, depth + 1, predictors, shortened, values, folds);
+    let middles = choose_plane(middle, depth, predictors, shortened, values, folds);
     let code = least_code(
         lefts.choice.bits(),
         rights.choice.bits(),
@@ -215,6 +217,7 @@ pub(crate) fn choose_pair(
     audio: &Audio,
     start: usize,
     number: u64,
+    predictors: &[LinearPredictor],
     left: &mut [i64],
     right: &mut [i64],
     side: &mut [i64],
@@ -236,14 +239,17 @@ pub(crate) fn choose_pair(
     requires folds { length left.old ≤ length folds.old }
     requires choices { 2 ≤ length choice.old.subframes.items }
     requires number { number < 2 ^ 31 }
-    ensures chosen { IsFrameChoice audio.now (length left.old) number (block_of start (length left.old) audio.now.channels) choice.new }
+    requires orders { AreWithin (limits_at audio.now.rate).linear predictors.now }
+    ensures chosen { IsChoiceWith predictors.now audio.now (length left.old) number (block_of start (length left.old) audio.now.channels) choice.new }
     ensures places { length choice.new.subframes.items ≡ length choice.old.subframes.items }
 {
     let size = left.len() as u32;
     let depth = audio.bits();
     let _channels = audio.channels();
     split_pair(audio, start, left, right, side, middle);
-    let kept = choose_kept(left, right, side, middle, depth, shortened, values, folds);
+    let kept = choose_kept(
+        left, right, side, middle, depth, predictors, shortened, values, folds,
+    );
     let _header = FrameHeader::chosen(size, audio.rate(), kept.code, depth, number);
     let KeptPair {
         code,
@@ -305,6 +311,7 @@ fn write_kept<W: Target>(
     first: &[i64],
     second: &[i64],
     depth: u32,
+    predictors: &[LinearPredictor],
     shortened: &mut [i64],
     values: &mut [i64],
     subframes: &[Choice],
@@ -318,23 +325,25 @@ fn write_kept<W: Target>(
     requires second_fits { All (FitsBits (depth + side_bit header.now.channel_code 1)) second.now }
     requires places { length first.now ≤ length shortened.old }
     requires values { length first.now ≤ length values.old }
-    requires made { AreMade subframes.now (first.now ∷ second.now ∷ []) }
+    requires made { AreMade predictors.now subframes.now (first.now ∷ second.now ∷ []) }
     requires choices { 2 ≤ length subframes.now }
     requires whole { writer.old.mark.unread ≡ 0 }
-    ensures { Writes (behind_header header.now (subframes_spelling depth header.now.channel_code 0 (forms_of subframes.now (first.now ∷ second.now ∷ []))) writer.old.mark) (restarted writer.old) writer.new result }
+    ensures { Writes (behind_header header.now (subframes_spelling depth header.now.channel_code 0 (forms_of predictors.now subframes.now (first.now ∷ second.now ∷ []))) writer.old.mark) (restarted writer.old) writer.new result }
 {
     let code = header.channel_code();
     write_header(header, writer)?;
-    write_subframe_into(
+    write_subframe_with_into(
         &subframes[0],
+        predictors,
         first,
         depth + side_bit(code, 0),
         shortened,
         values,
         writer,
     )?;
-    write_subframe_into(
+    write_subframe_with_into(
         &subframes[1],
+        predictors,
         second,
         depth + side_bit(code, 1),
         shortened,
@@ -349,6 +358,7 @@ pub(crate) fn write_pair<W: Target>(
     header: &FrameHeader,
     audio: &Audio,
     start: usize,
+    predictors: &[LinearPredictor],
     first: &mut [i64],
     second: &mut [i64],
     shortened: &mut [i64],
@@ -364,10 +374,10 @@ pub(crate) fn write_pair<W: Target>(
     requires places { length first.old ≤ length shortened.old }
     requires values { length first.old ≤ length values.old }
     requires code { IsPairCode header.now.channel_code }
-    requires made { AreMade subframes.now (kept_as header.now.channel_code (block_of start (length first.old) audio.now.channels)) }
+    requires made { AreMade predictors.now subframes.now (kept_as header.now.channel_code (block_of start (length first.old) audio.now.channels)) }
     requires choices { 2 ≤ length subframes.now }
     requires whole { writer.old.mark.unread ≡ 0 }
-    ensures { Writes (behind_header header.now (subframes_spelling audio.now.bits header.now.channel_code 0 (forms_of subframes.now (kept_as header.now.channel_code (block_of start (length first.old) audio.now.channels)))) writer.old.mark) (restarted writer.old) writer.new result }
+    ensures { Writes (behind_header header.now (subframes_spelling audio.now.bits header.now.channel_code 0 (forms_of predictors.now subframes.now (kept_as header.now.channel_code (block_of start (length first.old) audio.now.channels)))) writer.old.mark) (restarted writer.old) writer.new result }
 {
     let _channels = audio.channels();
     keep_pair(header.channel_code(), audio, start, first, second);
@@ -376,6 +386,7 @@ pub(crate) fn write_pair<W: Target>(
         first,
         second,
         audio.bits(),
+        predictors,
         shortened,
         values,
         subframes,

@@ -2,10 +2,10 @@
 
 ghost use Rattle.std.specs.Prelude.{◌≡◌, ◌<◌, ◌≤◌, ◌^◌, length, All};
 ghost use Rattle.flac_bits.specs.Signed.{FitsBits};
-ghost use Rattle.flac_subframe.specs.Family.{IsMadeOf, form_of};
+ghost use Rattle.flac_subframe.specs.Family.{IsMadeWith, form_with};
 ghost use Rattle.flac_frame.specs.Pair.{IsChosen};
 
-use flac_subframe::{Choice, choose_into};
+use flac_subframe::{Choice, Limits, LinearPredictor, choose_with_into};
 
 /// A channel as a frame has it: its samples, their depth, and how they are written.
 #[derive(Drop)]
@@ -19,10 +19,11 @@ pub(crate) struct Plane<'a> {
     ghost fits: { All (FitsBits depth) samples.now },
 }
 
-/// Chooses the least subframe of some samples.
+/// Chooses the least subframe of some samples, with linear predictors beside the fixed ones.
 pub(crate) fn choose_plane<'a>(
     samples: &'a [i64],
     depth: u32,
+    predictors: &[LinearPredictor],
     shortened: &mut [i64],
     values: &mut [i64],
     folds: &mut [u32],
@@ -36,11 +37,17 @@ pub(crate) fn choose_plane<'a>(
     requires folds { length samples.now ≤ length folds.old }
     ensures samples { result.samples.now ≡ samples.now }
     ensures depth { result.depth ≡ depth }
-    ensures chosen { IsChosen result.depth result.samples.now (form_of result.choice result.samples.now) result.choice.bits }
-    ensures made { IsMadeOf result.choice result.samples.now }
+    ensures chosen { IsChosen predictors.now result.depth result.samples.now (form_with predictors.now result.choice result.samples.now) result.choice.bits }
+    ensures made { IsMadeWith predictors.now result.choice result.samples.now }
     ensures small { result.choice.bits ≤ 2 ^ 61 }
 {
-    let choice = choose_into(samples, depth, shortened, values, folds);
+    let limits = Limits {
+        partition: 8,
+        linear: 32,
+    };
+    let choice = choose_with_into(
+        samples, depth, &limits, predictors, shortened, values, folds,
+    );
     Plane {
         samples,
         depth,

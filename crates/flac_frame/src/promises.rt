@@ -1,6 +1,6 @@
 //! Laws: what holds of the definitions. Calling them does nothing; a proof may name them.
 
-ghost use Rattle.flac_frame.specs.Encoding.{FormsStand, EncodingsAreFrames, FrameFamilyIsPlain};
+ghost use Rattle.flac_frame.specs.Encoding.{FormsStand, EncodingsAreFrames, FrameFamilyIsPlain, FrameWidenedIsPlain};
 ghost use Rattle.flac_frame.specs.Follows.{AcceptedFollow, FramesFollow};
 ghost use Rattle.flac_frame.specs.Spelling.{FramesAreSpelled, FramesAreReadAgain, FramesAreBytes};
 ghost use Rattle.flac_frame.specs.Stereo.{ChannelsAreJoined, ChannelsAreKept};
@@ -42,4 +42,9 @@ pub fn encodings_are_frames()
 /// are constant, verbatim or by a fixed predictor, and leave out all the lowest bits that their samples lack.
 pub fn frame_family_is_plain()
     ensures { FrameFamilyIsPlain }
+{}
+
+/// The same if linear predictors are handed in: subframes may also be by one of these.
+pub fn frame_widened_is_plain()
+    ensures { FrameWidenedIsPlain }
 {}

@@ -210,7 +210,7 @@ widened_whole most depth block limits ps f s small valid samples family =
     let b = body_in most (depth - f.wasted) block limits ps small f.content valid.content family.plain in
     record { wasted = family.wasted; body = (b.0, restored_samples block f.content, b.1, scaled_is f.wasted _ (restored_samples block f.content) s samples, b.2) }
 
-none_linear : (c : Content) → WithoutLinear c → WithLinear [] c
+pub none_linear : (c : Content) → WithoutLinear c → WithLinear [] c
 none_linear (Constant v) h = tt
 none_linear (Verbatim vs) h = tt
 none_linear (Fixed ws rest) h = tt

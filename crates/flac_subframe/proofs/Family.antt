@@ -84,10 +84,10 @@ widened_plain most depth limits ps f s deep some orders few within fits h =
 
 -- ---- a form without linear predictors
 
-none_within : (limit : ℕ) → AreWithin limit []
+pub none_within : (limit : ℕ) → AreWithin limit []
 none_within limit = λ i d lt. absurd (omega (arith, lt))
 
-no_linear : (c : Content) → WithLinear [] c → WithoutLinear c
+pub no_linear : (c : Content) → WithLinear [] c → WithoutLinear c
 no_linear (Constant v) h = tt
 no_linear (Verbatim vs) h = tt
 no_linear (Fixed ws rest) h = tt

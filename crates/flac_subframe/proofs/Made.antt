@@ -98,5 +98,6 @@ fewer_orders most more ps (predicted p ws f rs) t le h =
     let written : MayWrite more (order_of p) rs f = record { method = w.method; few = omega (arith, w.few, le); even = w.even; room = w.room; each = w.each; codings = w.codings } in
     (h.0, record { room = so.room; long = so.long; restored = so.restored; range = so.range; written = written })
 
-pub within_more : (limit more : ℕ) (ps : List LinearPredictor) → limit ≤ more → AreWithin limit ps → AreWithin more ps
-within_more limit more ps le within = λ i d lt. omega (arith, le, within i d lt)
+-- no order is above 32
+pub all_within : (ps : List LinearPredictor) → AreWithin 32 ps
+all_within ps = λ i d lt. (get_or ps i d).few

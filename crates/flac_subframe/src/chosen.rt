@@ -129,7 +129,7 @@ pub fn choose_with(
     ensures least { IsLeast (λ f. Stands limits.now.partition (offered predictors.now) f samples.now) (λ f. length (subframe_spelling depth f)) (form_with predictors.now result samples.now) }
     ensures bits { result.bits ≡ length (subframe_spelling depth (form_with predictors.now result samples.now)) }
     ensures made { IsMadeWith predictors.now result samples.now }
-    ensures valid { (most : Limits) → limits.now.partition ≤ most.partition → limits.now.linear ≤ most.linear → IsSubframe depth (length samples.now) most (form_with predictors.now result samples.now) }
+    ensures valid { (most : Limits) → limits.now.partition ≤ most.partition → AreWithin most.linear predictors.now → IsSubframe depth (length samples.now) most (form_with predictors.now result samples.now) }
     ensures restored { samples_of depth (length samples.now) (form_with predictors.now result samples.now) ≡ Some samples.now }
     ensures small { result.bits ≤ 2 ^ 61 }
 {
@@ -175,7 +175,7 @@ pub fn choose_with_into(
     ensures least { IsLeast (λ f. Stands limits.now.partition (offered predictors.now) f samples.now) (λ f. length (subframe_spelling depth f)) (form_with predictors.now result samples.now) }
     ensures bits { result.bits ≡ length (subframe_spelling depth (form_with predictors.now result samples.now)) }
     ensures made { IsMadeWith predictors.now result samples.now }
-    ensures valid { (most : Limits) → limits.now.partition ≤ most.partition → limits.now.linear ≤ most.linear → IsSubframe depth (length samples.now) most (form_with predictors.now result samples.now) }
+    ensures valid { (most : Limits) → limits.now.partition ≤ most.partition → AreWithin most.linear predictors.now → IsSubframe depth (length samples.now) most (form_with predictors.now result samples.now) }
     ensures restored { samples_of depth (length samples.now) (form_with predictors.now result samples.now) ≡ Some samples.now }
     ensures small { result.bits ≤ 2 ^ 61 }
 {

@@ -1,7 +1,8 @@
 //! Linear predictors that are handed in, worked by hand from RFC 9639.
 
 use crate::subframes::all_fit;
-use flac_bits::{BitWriter, Collected, Why};
+use flac_bits::{BitWriter, Collected, Target, Why};
+use flac_frame::{Audio, EncodeBuffers, encode_frame_with, frame_widened_is_plain, greatest_order};
 use flac_subframe::{
     Choice, Limits, LinearPredictor, choose, choose_with, choose_with_into,
     widened_family_is_plain, write_subframe_with, write_subframe_with_into,
@@ -254,4 +255,80 @@ fn takes_the_first_of_equals(rt: HostRuntime) -> Result<(), Fail> {
     assert!(rt; bytes.as_slice() == [0x40, 0x03, 0xE9, 0x20, 0xE0, 0x3C, 0x00].as_slice());
     assert!(rt; chosen(&[0; 8], 16, &[]) == Some(choose(&[0; 8], 16)));
     Ok(())
+}
+
+/// Writes 1 to 16 samples as frame 0 with predictors, and returns how many bytes it has.
+fn write_frame_of<W: Target>(
+    alloc: Global,
+    audio: &Audio,
+    predictors: &[LinearPredictor],
+    writer: &mut BitWriter<W>,
+) -> Result<u64, Why>
+    requires { writer.old.mark.unread ≡ 0 }
+{
+    let len = audio.len();
+    if len == 0 || len > 16 {
+        return Err(Why::BlockSize);
+    }
+    if !LinearPredictor::are_within(predictors, greatest_order(audio.rate())) {
+        return Err(Why::NotSubset);
+    }
+    let mut buffers = EncodeBuffers::new(alloc, 16)?;
+    let bytes = encode_frame_with(audio, 0..len, 0, predictors, &mut buffers, writer);
+    drop(buffers);
+    let bytes = bytes?;
+    writer.finish()?;
+    Ok(bytes)
+}
+
+/// The frame of two channels or one, each of the same 16 samples at 44100 Hz.
+fn frame_of(
+    alloc: Global,
+    channels: usize,
+    predictors: &[LinearPredictor],
+) -> Result<Vec<u8>, Fail> {
+    let mut lists = Vec::new(alloc);
+    for channel in 0..channels {
+        let _channel = channel;
+        let mut samples = Vec::new(alloc);
+        for sample in WAVE {
+            samples.push(sample as i32)?;
+        }
+        lists.push(samples)?;
+    }
+    let audio = Audio::new(44100, 16, lists)?;
+    let mut writer = BitWriter::new(Collected::new(alloc));
+    let bytes = write_frame_of(alloc, &audio, predictors, &mut writer)?;
+    let written = writer.into_target().into_bytes();
+    if bytes != written.len() as u64 {
+        return Err(Fail::new("another length"));
+    }
+    Ok(written)
+}
+
+/// A frame of the wave, which a predictor foretells. Without it the residual is written as it is: 9 bytes around 199 bits.
+#[test]
+fn writes_a_frame(rt: HostRuntime) -> Result<(), Fail> {
+    frame_widened_is_plain();
+    let Some(predictor) = LinearPredictor::new(1, 0, &[-1]) else {
+        assert!(rt; false);
+        return Ok(());
+    };
+    let list = [predictor];
+    let bytes = frame_of(rt.alloc(), 1, &list)?;
+    let wanted = [
+        0xFF, 0xF8, 0x69, 0x08, 0x00, 0x0F, 0x30, 0x40, 0x03, 0xE9, 0x00, 0x40, 0xF0, 0x00, 0xB5,
+        0xAA,
+    ];
+    assert!(rt; bytes.as_slice() == wanted.as_slice());
+    assert!(rt; frame_of(rt.alloc(), 1, &[])?.len() == 34);
+    // Two channels that are the same: left and side, whose side is constant in 8 + 17 bits.
+    assert!(rt; frame_of(rt.alloc(), 2, &list)?.as_slice()[3] == 0x88);
+    Ok(())
+}
+
+#[test]
+fn knows_the_greatest_order(rt: HostRuntime) {
+    assert!(rt; greatest_order(1) == 12 && greatest_order(48000) == 12);
+    assert!(rt; greatest_order(48001) == 32 && greatest_order(655350) == 32);
 }

@@ -24,7 +24,7 @@ returns-clause-chosen c =
     let made : FrameChoice = record { code = length c.channels-channels.result.now - 1; bits = c.choose_channels-choice.result; subframes = with_items c.args.choice.now.subframes c.choose_channels-choice.new.subframes } in
     let long : length c.choose_channels-choice.new.subframes ≡ c.args.choice.now.subframes.len = c.choose_channels-choice.auto.subframes ∙ ap length c.deref_mut.ensures.value ∙ sym c.args.choice.now.subframes.ok.0 in
     let back : made.subframes.items ≡ c.choose_channels-choice.new.subframes = with_items_is c.args.choice.now.subframes c.choose_channels-choice.new.subframes long in
-    apart_choice (λ v. v.items) c.channels-channels.result.now c.args.audio.now e.sound e.items c.args.start n c.rate.result (length c.channels-channels.result.now - 1) c.bits-depth.result c.bits-depth.result c.args.number c.chosen-header.result made
+    apart_choice (λ v. v.items) c.channels-channels.result.now c.args.audio.now e.sound e.items c.args.predictors.now c.requires.orders c.args.start n c.rate.result (length c.channels-channels.result.now - 1) c.bits-depth.result c.bits-depth.result c.args.number c.chosen-header.result made
     c.rate.ensures c.bits-depth.ensures c.bits-depth.ensures c.requires.other refl refl (omega (arith, c.requires.some)) c.requires.few c.requires.within c.requires.number c.chosen-header.ensures.chosen c.chosen-header.ensures.valid
-    (subst (λ l. AreChosen c.bits-depth.result n l (block_of c.args.start n (map (λ v. v.items) c.channels-channels.result.now))) (sym back) c.choose_channels-choice.ensures.chosen)
-    (c.choose_channels-choice.ensures.bits ∙ ap (λ l. length (flat_map (subframe_spelling c.bits-depth.result) (forms_of l (block_of c.args.start n (map (λ v. v.items) c.channels-channels.result.now))))) (sym back))
+    (subst (λ l. AreChosen c.args.predictors.now c.bits-depth.result n l (block_of c.args.start n (map (λ v. v.items) c.channels-channels.result.now))) (sym back) c.choose_channels-choice.ensures.chosen)
+    (c.choose_channels-choice.ensures.bits ∙ ap (λ l. length (flat_map (subframe_spelling c.bits-depth.result) (forms_of c.args.predictors.now l (block_of c.args.start n (map (λ v. v.items) c.channels-channels.result.now))))) (sym back))

@@ -5,6 +5,6 @@ use Rattle.flac_frame.proofs.encode.choose_channels.Given as goal
 
 abbrev pub invariant-loop-i : goal.invariant-loop-i
 invariant-loop-i l = record {
-  first : FirstChosen l.depth l.size l.subframes l.i (block_of l.start l.size (map (λ c. c.items) (take l.i l.channels))) l.bits;
+  first : FirstChosen l.predictors l.depth l.size l.subframes l.i (block_of l.start l.size (map (λ c. c.items) (take l.i l.channels))) l.bits;
   few : l.bits ≤ l.i * 2097160;
 }

@@ -7,7 +7,7 @@ use Rattle.flac_frame.proofs.encode.write_channels.Given as goal
 
 abbrev pub invariant-loop-i : goal.invariant-loop-i
 invariant-loop-i g l = record {
-  made : AreMade (drop l.i l.subframes) (block_of l.start l.size (map (λ c. c.items) (drop l.i l.channels)));
-  towards : Towards (flat_map (subframe_spelling l.depth) (forms_of (drop l.i l.subframes) (block_of l.start l.size (map (λ c. c.items) (drop l.i l.channels)))))
-      (flat_map (subframe_spelling l.depth) (forms_of l.subframes (block_of l.start l.size (map (λ c. c.items) l.channels)))) l.fn.writer l.writer;
+  made : AreMade l.predictors (drop l.i l.subframes) (block_of l.start l.size (map (λ c. c.items) (drop l.i l.channels)));
+  towards : Towards (flat_map (subframe_spelling l.depth) (forms_of l.predictors (drop l.i l.subframes) (block_of l.start l.size (map (λ c. c.items) (drop l.i l.channels)))))
+      (flat_map (subframe_spelling l.depth) (forms_of l.predictors l.subframes (block_of l.start l.size (map (λ c. c.items) l.channels)))) l.fn.writer l.writer;
 }

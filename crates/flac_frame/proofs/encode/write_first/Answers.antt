@@ -30,8 +30,8 @@ write_apart-requires-clause-made g c =
     let block : List (List ℤ) = block_of c.args.start c.args.size a.channels in
     let there = header_at a c.args.size c.rate.result c.args.choice.now.code c.bits-depth.result c.args.number c.chosen-header.result c.in-Some.header c.rate.ensures c.bits-depth.ensures c.chosen-header.ensures.chosen c.in-Some.is in
     let many : length block ≡ length c.channels-channels.result.now = block_many c.args.start c.args.size a.channels ∙ ap (λ (l : List (List ℤ)). length l) (sym e.items) ∙ length-map c.channels-channels.result.now (λ v. v.items) in
-    let made = apart_made a c.args.size c.args.number block c.args.choice.now c.requires.chosen c.in-Some.header there c.as_slice-subframes.result.now c.as_slice-subframes.ensures.value (λ two. c.if-channels-ne2.true (sym many ∙ two)) (omega (arith, many, few.1)) in
-    rw (length-take-le c.args.size c.args.samples.now c.requires.samples) (subst (λ k. AreMade c.as_slice-subframes.result.now (block_of c.args.start c.args.size k)) (sym e.items) made)
+    let made = apart_made c.args.predictors.now a c.args.size c.args.number block c.args.choice.now c.requires.chosen c.in-Some.header there c.as_slice-subframes.result.now c.as_slice-subframes.ensures.value (λ two. c.if-channels-ne2.true (sym many ∙ two)) (omega (arith, many, few.1)) in
+    rw (length-take-le c.args.size c.args.samples.now c.requires.samples) (subst (λ k. AreMade c.args.predictors.now c.as_slice-subframes.result.now (block_of c.args.start c.args.size k)) (sym e.items) made)
 
 pub returns-then-channels-ne2 : goal.returns-then-channels-ne2
 returns-then-channels-ne2 g c =
@@ -41,8 +41,8 @@ returns-then-channels-ne2 g c =
     let block : List (List ℤ) = block_of c.args.start c.args.size a.channels in
     let there = header_at a c.args.size c.rate.result c.args.choice.now.code c.bits-depth.result c.args.number c.chosen-header.result c.in-Some.header c.rate.ensures c.bits-depth.ensures c.chosen-header.ensures.chosen c.in-Some.is in
     let many : length block ≡ length c.channels-channels.result.now = block_many c.args.start c.args.size a.channels ∙ ap (λ (l : List (List ℤ)). length l) (sym e.items) ∙ length-map c.channels-channels.result.now (λ v. v.items) in
-    let parts = apart_parts a c.args.size c.args.number block c.args.choice.now c.requires.chosen c.in-Some.header there c.as_slice-subframes.result.now c.as_slice-subframes.ensures.value (λ two. c.if-channels-ne2.true (sym many ∙ two)) (omega (arith, many, few.1)) in
-    frame_written a c.args.size c.args.number block c.args.choice.now c.requires.chosen c.in-Some.header there _ c.args.writer.now c.write_apart.new.writer c.write_apart.result c.requires.whole parts
+    let parts = apart_parts c.args.predictors.now a c.args.size c.args.number block c.args.choice.now c.requires.chosen c.in-Some.header there c.as_slice-subframes.result.now c.as_slice-subframes.ensures.value (λ two. c.if-channels-ne2.true (sym many ∙ two)) (omega (arith, many, few.1)) in
+    frame_written c.args.predictors.now a c.args.size c.args.number block c.args.choice.now c.requires.chosen c.in-Some.header there _ c.args.writer.now c.write_apart.new.writer c.write_apart.result c.requires.whole parts
     (rw (length-take-le c.args.size c.args.samples.now c.requires.samples, c.bits-depth.ensures, e.items) at c.write_apart.ensures)
 
 pub write_pair-requires-clause-made : goal.write_pair-requires-clause-made
@@ -50,13 +50,13 @@ write_pair-requires-clause-made g c =
     let a = c.args.audio.now in
     let block : List (List ℤ) = block_of c.args.start c.args.size a.channels in
     let there = header_at a c.args.size c.rate.result c.args.choice.now.code c.bits-depth.result c.args.number c.chosen-header.result c.in-Some.header c.rate.ensures c.bits-depth.ensures c.chosen-header.ensures.chosen c.in-Some.is in
-    rw (length-take-le c.args.size c.args.samples.now c.requires.samples) (pair_made a c.args.size c.args.number block c.args.choice.now c.requires.chosen c.in-Some.header there c.as_slice-subframes.result.now c.as_slice-subframes.ensures.value)
+    rw (length-take-le c.args.size c.args.samples.now c.requires.samples) (pair_made c.args.predictors.now a c.args.size c.args.number block c.args.choice.now c.requires.chosen c.in-Some.header there c.as_slice-subframes.result.now c.as_slice-subframes.ensures.value)
 
 pub returns : goal.returns
 returns g c =
     let a = c.args.audio.now in
     let block : List (List ℤ) = block_of c.args.start c.args.size a.channels in
     let there = header_at a c.args.size c.rate.result c.args.choice.now.code c.bits-depth.result c.args.number c.chosen-header.result c.in-Some.header c.rate.ensures c.bits-depth.ensures c.chosen-header.ensures.chosen c.in-Some.is in
-    let parts = pair_parts a c.args.size c.args.number block c.args.choice.now c.requires.chosen c.in-Some.header there c.as_slice-subframes.result.now c.as_slice-subframes.ensures.value in
-    frame_written a c.args.size c.args.number block c.args.choice.now c.requires.chosen c.in-Some.header there _ c.args.writer.now c.write_pair.new.writer c.write_pair.result c.requires.whole parts
+    let parts = pair_parts c.args.predictors.now a c.args.size c.args.number block c.args.choice.now c.requires.chosen c.in-Some.header there c.as_slice-subframes.result.now c.as_slice-subframes.ensures.value in
+    frame_written c.args.predictors.now a c.args.size c.args.number block c.args.choice.now c.requires.chosen c.in-Some.header there _ c.args.writer.now c.write_pair.new.writer c.write_pair.result c.requires.whole parts
     (rw (length-take-le c.args.size c.args.samples.now c.requires.samples) at c.write_pair.ensures)

@@ -19,6 +19,6 @@ returns-clause-chosen c =
     let back : made.subframes.items ≡ c.place_two.new.places = with_items_is c.args.choice.now.subframes c.place_two.new.places (c.place_two.auto.places ∙ ap length c.deref_mut.ensures.value ∙ sym c.args.choice.now.subframes.ok.0) in
     let long : length s.new.left ≡ n = omega (arith, s.auto.left) in
     let block : s.new.left ∷ s.new.right ∷ [] ≡ block_of c.args.start n c.args.audio.now.channels = search rules in
-    pair_choice c.args.audio.now c.args.number n s.new.left s.new.right (block_of c.args.start n c.args.audio.now.channels) (rw c.bits-depth.ensures at k.kept) c.channels-channels.ensures.sound (omega (arith, c.requires.some)) c.requires.few long (omega (arith, s.auto.left, s.auto.right, c.requires.right)) s.ensures.left_fits s.ensures.right_fits block
+    pair_choice c.args.audio.now c.args.number n s.new.left s.new.right (block_of c.args.start n c.args.audio.now.channels) (rw c.bits-depth.ensures at k.kept) c.channels-channels.ensures.sound c.requires.orders (omega (arith, c.requires.some)) c.requires.few long (omega (arith, s.auto.left, s.auto.right, c.requires.right)) s.ensures.left_fits s.ensures.right_fits block
     c.rate.result c.bits-depth.result c.chosen-header.result c.rate.ensures c.bits-depth.ensures c.chosen-header.ensures.chosen c.chosen-header.ensures.valid c.requires.number made c.choose_kept-kept.result.first.choice c.choose_kept-kept.result.second.choice c.deref_mut.result.now (omega (arith, c.requires.choices, ap length c.deref_mut.ensures.value)) refl (back ∙ c.place_two.ensures) refl refl
     k.first_made k.second_made k.bits.0 k.bits.1 (omega (arith, c.bits.ensures, c.bits-2.ensures))

@@ -1,8 +1,9 @@
 use Rattle.std.proofs.Common.{arith}
+use Rattle.flac_subframe.proofs.Family.{none_within}
 use Rattle.flac_subframe.proofs.chosen.choose_into.Goals as goal
 
 pub choose_with_into-requires-clause-orders : goal.choose_with_into-requires-clause-orders
-choose_with_into-requires-clause-orders c = λ i d lt. absurd (omega (arith, lt))
+choose_with_into-requires-clause-orders c = none_within 0
 
 pub returns-clause-least : goal.returns-clause-least
 returns-clause-least c = c.choose_with_into.ensures.least
@@ -14,7 +15,7 @@ pub returns-clause-made : goal.returns-clause-made
 returns-clause-made c = c.choose_with_into.ensures.made
 
 pub returns-clause-valid : goal.returns-clause-valid
-returns-clause-valid c = λ limits le. c.choose_with_into.ensures.valid limits le (omega arith)
+returns-clause-valid c = λ limits le. c.choose_with_into.ensures.valid limits le (none_within limits.linear)
 
 pub returns-clause-restored : goal.returns-clause-restored
 returns-clause-restored c = c.choose_with_into.ensures.restored

@@ -4,7 +4,7 @@ use Rattle.flac_subframe.specs.Chosen.{body_of, offered}
 use Rattle.flac_subframe.proofs.Powers.{shortened_is}
 use Rattle.flac_subframe.proofs.WholeLeast.{whole_least, length-subframe}
 use Rattle.flac_subframe.proofs.Valid.{may_be, are_samples}
-use Rattle.flac_subframe.proofs.Made.{fewer_orders, within_more}
+use Rattle.flac_subframe.proofs.Made.{fewer_orders}
 use Rattle.flac_subframe.proofs.chosen.choose_with_into.Goals as goal
 
 pub returns-clause-least : goal.returns-clause-least
@@ -27,7 +27,7 @@ pub returns-clause-valid : goal.returns-clause-valid
 returns-clause-valid c = λ limits le within.
     let k = c.drop_wasted-wasted.result in let s = c.args.samples.now in let t = c.drop_wasted-wasted.new.shortened in let dropped = c.drop_wasted-wasted.ensures in
     let b = body_of c.args.predictors.now c.choose_body-best.result.kind t in
-    rw (shortened_is k s t dropped.shortened) (may_be c.args.limits.now.partition c.args.depth k s t dropped.some dropped.shortened c.requires.fits limits c.args.predictors.now b c.requires.some le (omega arith) (within_more c.args.limits.now.linear limits.linear c.args.predictors.now within c.requires.orders) c.choose_body-best.ensures.least.member)
+    rw (shortened_is k s t dropped.shortened) (may_be c.args.limits.now.partition c.args.depth k s t dropped.some dropped.shortened c.requires.fits limits c.args.predictors.now b c.requires.some le (omega arith) within c.choose_body-best.ensures.least.member)
 
 pub returns-clause-restored : goal.returns-clause-restored
 returns-clause-restored c =
