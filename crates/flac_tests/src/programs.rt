@@ -1,9 +1,10 @@
-//! The programs of the README, which read files. The stream is the example of RFC 9639, appendix D.1, with the comment TITLE=x, its digest unknown.
+//! The programs of the README, which read files: the example of RFC 9639, appendix D.1, with the comment TITLE=x, its digest unknown; and the samples 0, 1, .., 9999 of
+//! one channel in frames of 4096, 4096 and 1808 samples.
 
 use flac_meta::BlockList;
 use flac_native::StreamEncoder;
 use flac_reader::{Container, Counted, Fault, Keep, Profile, Samples, open_native};
-use flac_vectors::EXAMPLE_TAGGED;
+use flac_vectors::{EXAMPLE_TAGGED, TEN_THOUSAND};
 use std::alloc::Global;
 use std::fs;
 use std::fs::File;
@@ -30,17 +31,20 @@ fn title_and_peak(alloc: Global, file: File) -> Result<String, Fail> {
     Ok(format!(in alloc; "{}: {}", title?, peak?)?)
 }
 
-/// Copies a native stream of two channels, frame by frame, through decoder and encoder.
+/// Copies a native stream of one or two channels, frame by frame, through decoder and encoder.
 fn copy(alloc: Global, from: File, to: File) -> Result<(), Fail> {
     let mut reader = open_native(alloc, Counted::new(from), Profile::Subset, Keep::Tags)?;
-    let rate = reader.info().rate();
-    let list = BlockList::new(Vec::new(alloc))?;
-    let mut encoder = StreamEncoder::new(alloc, rate, 16, 2, 4096, &list, Counted::new(to))?;
+    let info = reader.info();
+    let (rate, bits) = (info.rate(), u32::from(info.depth()));
+    let (count, block) = (u32::from(info.channels()), u32::from(info.greatest_block()));
+    let (list, to) = (BlockList::new(Vec::new(alloc))?, Counted::new(to));
+    let mut encoder = StreamEncoder::new(alloc, rate, bits, count, block, &list, to)?;
     for _ in 0..u64::MAX {
         match reader.next()? {
-            Some(frame) if frame.channels() == 2 => {
+            Some(frame) if frame.channels() > 1 => {
                 encoder.push(&[frame.channel(0), frame.channel(1)])?;
             }
+            Some(frame) if frame.channels() > 0 => encoder.push(&[frame.channel(0)])?,
             _ => break,
         }
     }
@@ -49,17 +53,25 @@ fn copy(alloc: Global, from: File, to: File) -> Result<(), Fail> {
 }
 
 #[test]
-fn title_and_peak_of_files(rt: HostRuntime) -> Result<(), Fail> {
+fn two_channels(rt: HostRuntime) -> Result<(), Fail> {
     let stream = hex::decode(rt.alloc(), EXAMPLE_TAGGED)?;
-    fs::write(&rt, "from.flac", &stream)?;
-    let found = title_and_peak(rt.alloc(), File::open(&rt, "from.flac")?)?;
+    fs::write(&rt, "two.flac", &stream)?;
+    let found = title_and_peak(rt.alloc(), File::open(&rt, "two.flac")?)?;
     assert!(rt; found.as_str() == "x: 25588");
-    copy(
-        rt.alloc(),
-        File::open(&rt, "from.flac")?,
-        File::create(&rt, "to.flac")?,
-    )?;
-    let found = title_and_peak(rt.alloc(), File::open(&rt, "to.flac")?)?;
+    let to = File::create(&rt, "two_again.flac")?;
+    copy(rt.alloc(), File::open(&rt, "two.flac")?, to)?;
+    let found = title_and_peak(rt.alloc(), File::open(&rt, "two_again.flac")?)?;
     assert!(rt; found.as_str() == "none: 25588");
+    Ok(())
+}
+
+#[test]
+fn one_channel(rt: HostRuntime) -> Result<(), Fail> {
+    let stream = hex::decode(rt.alloc(), TEN_THOUSAND)?;
+    fs::write(&rt, "one.flac", &stream)?;
+    let to = File::create(&rt, "one_again.flac")?;
+    copy(rt.alloc(), File::open(&rt, "one.flac")?, to)?;
+    let found = title_and_peak(rt.alloc(), File::open(&rt, "one_again.flac")?)?;
+    assert!(rt; found.as_str() == "none: 9999");
     Ok(())
 }
