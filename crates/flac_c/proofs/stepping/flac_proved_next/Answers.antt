@@ -16,6 +16,9 @@ returns-then-cursor-bytes-clause-frames c = λ rules f n there.
 pub returns-then-cursor-bytes-clause-streams : goal.returns-then-cursor-bytes-clause-streams
 returns-then-cursor-bytes-clause-streams c = goes_on c.args.bytes.now c.args.cursor.now c.args.cursor.now c.args.out.now c.args.out.now 0 0 (returns-then-cursor-bytes-clause-frames c)
 
+pub returns-in-Ok-clause-given : goal.returns-in-Ok-clause-given
+returns-in-Ok-clause-given c = λ zero. inr c.in-Ok.ensures.found
+
 pub returns-in-Ok-clause-frames : goal.returns-in-Ok-clause-frames
 returns-in-Ok-clause-frames c = λ rules f n there. elim (c.in-Ok.ensures.only rules f n there) [ inl bad ↦ absurd cc | inr over ↦ inr (refl, over) ]
 

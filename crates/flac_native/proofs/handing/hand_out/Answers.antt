@@ -1,4 +1,4 @@
-use Rattle.std.proofs.Common.{◌∙◌, sym, ap, Some}
+use Rattle.std.proofs.Common.{rules, ◌∙◌, sym, ap, Some}
 use Rattle.flac_bits.specs.State.{without_fence}
 use Rattle.flac_native.specs.Track.{piece_of}
 use Rattle.flac_native.specs.Decoding.{taken}
@@ -36,3 +36,6 @@ loop-part-preserved g c =
           one_more (C.gives c.loop-part.container) (C.gives c.next.new.self) (taken g.S.Sink.takes) g.S.Sink.errors p parts end c.loop-part.track c.next.new.track c.args.sink.now c.loop-part.sink c.hand_at.new.sink (piece_of c.next.new.track) c.in-Ok-Some.part far
           (step.gives far.q far.at (inv.knows known) step.counts.1 step.counts.2 (no_fault (Some c.in-Ok-Some.part)) far.left end far.comes) (step.next far.q far.at) took.counted (took.takes (inv.known receives));
     }
+
+pub returns-in-Err-clause-met : goal.returns-in-Err-clause-met
+returns-in-Err-clause-met g c = search rules

@@ -1,4 +1,4 @@
-use Rattle.std.proofs.Common.{◌++◌, ℕ, Option, Result, Ok, ap, sym}
+use Rattle.std.proofs.Common.{rules, ◌++◌, ℕ, Option, Result, Ok, ap, sym}
 use Rattle.std.proofs.lemmas.Result.{IfErr-weaker}
 use Rattle.flac_bits.specs.Bits.{bits_of}
 use Rattle.flac_bits.specs.State.{Behind, short_of}
@@ -37,3 +37,6 @@ returns-in-Err-clause-refused g c = λ other.
     let mid = c.pull_front.new.source in
     let told = c.in-Err.ensures in
     (mid, refuses_unread _ (R.known old) (R.errors old) (R.raised old) (R.errors mid) (R.raised mid) c.in-Err.fault told.kept told.risen told.rises)
+
+pub returns-in-Ok-clause-opens : goal.returns-in-Ok-clause-opens
+returns-in-Ok-clause-opens g c = search rules

@@ -6,3 +6,6 @@ pub returns-clause-bytes : goal.returns-clause-bytes
 returns-clause-bytes g c = λ known.
     let some : 0 < length c.args.buf.now = search (rules, arith, c.is_empty.ensures, c.if-is_empty.ensures) in
     rw (front_put c.args.buf.now c.in-Some.byte some) (rw c.in-Some.is refl)
+
+pub returns-clause-most : goal.returns-clause-most
+returns-clause-most g c = search rules

@@ -16,3 +16,6 @@ returns g c =
       info = refl;
       start = refl;
     }
+
+pub returns-in-Err : goal.returns-in-Err
+returns-in-Err g c = search rules

@@ -1,0 +1,11 @@
+use Rattle.std.proofs.Common.{rules}
+use Rattle.flac_ogg.proofs.packets.OggPackets.into_source.Goals as goal
+
+pub returns-clause-known : goal.returns-clause-known
+returns-clause-known g c = search rules
+
+pub returns-clause-errors : goal.returns-clause-errors
+returns-clause-errors g c = search rules
+
+pub returns-clause-raised : goal.returns-clause-raised
+returns-clause-raised g c = search rules

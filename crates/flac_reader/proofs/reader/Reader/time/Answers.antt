@@ -1,0 +1,5 @@
+use Rattle.std.proofs.Common.{rules}
+use Rattle.flac_reader.proofs.reader.Reader.time.Goals as goal
+
+pub returns : goal.returns
+returns g c = search rules
