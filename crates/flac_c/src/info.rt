@@ -1,9 +1,9 @@
 //! What a stream says of itself.
 
-ghost use Rattle.std.specs.Prelude.{◌≡◌, ◌≢◌, Some, Option};
+ghost use Rattle.std.specs.Prelude.{◌≡◌, ◌≢◌, Some, Option, None};
 ghost use Rattle.flac_meta.specs.Info.{Info};
 ghost use Rattle.flac_meta.specs.declared.comments.Comments.{Comments as Listed};
-ghost use Rattle.flac_c.specs.Answers.{IsAnswered, IsCopied};
+ghost use Rattle.flac_c.specs.Answers.{IsAnswered, IsCopied, in_c};
 ghost use Rattle.flac_c.specs.Heads.{Begins, Lacks, count_of, comment_of, vendor_of, info_in_c};
 
 use crate::fault::{FlacProvedFault, in_c};
@@ -113,6 +113,7 @@ pub extern "C" fn flac_proved_info(
     ensures refused { result ≢ 0 → IsAnswered (Lacks bytes.now) fault.new }
     ensures kept { result ≢ 0 → info.new ≡ info.old }
     ensures number { result ≡ fault.new.number }
+    ensures clear { result ≡ 0 → fault.new ≡ in_c None }
 {
     let mut head = Head::new();
     if let Err(told) = read_head(alloc, bytes, &mut head) {
@@ -142,6 +143,7 @@ pub extern "C" fn flac_proved_comment(
     ensures refused { result ≢ 0 → IsAnswered (Lacks bytes.now) fault.new }
     ensures kept { result ≢ 0 → (out.new ≡ out.old) × (len.new ≡ len.old) }
     ensures number { result ≡ fault.new.number }
+    ensures clear { result ≡ 0 → fault.new ≡ in_c None }
 {
     let mut head = Head::new();
     if let Err(told) = read_head(alloc, bytes, &mut head) {
@@ -167,6 +169,7 @@ pub extern "C" fn flac_proved_vendor(
     ensures refused { result ≢ 0 → IsAnswered (Lacks bytes.now) fault.new }
     ensures kept { result ≢ 0 → (out.new ≡ out.old) × (len.new ≡ len.old) }
     ensures number { result ≡ fault.new.number }
+    ensures clear { result ≡ 0 → fault.new ≡ in_c None }
 {
     let mut head = Head::new();
     if let Err(told) = read_head(alloc, bytes, &mut head) {

@@ -5,7 +5,7 @@ ghost use Rattle.flac_meta.specs.Info.{Info};
 ghost use Rattle.flac_native.specs.Item.{told};
 ghost use Rattle.flac_native.specs.Stream.{Piece, grammar, opening};
 ghost use Rattle.flac_bits.specs.Items.{after};
-ghost use Rattle.flac_c.specs.Answers.{IsAnswered};
+ghost use Rattle.flac_c.specs.Answers.{IsAnswered, in_c};
 ghost use Rattle.flac_c.specs.Blocks.{IsFound};
 ghost use Rattle.flac_c.specs.Heads.{comments_from};
 ghost use Rattle.flac_c.specs.Starts.{IsHead, point_from, first_frame, at_point, StandsFirst, StandsBefore, RefusesHead};
@@ -89,6 +89,7 @@ pub extern "C" fn flac_proved_start(
     ensures refused { result ≢ 0 → IsAnswered (RefusesHead bytes.now) fault.new }
     ensures kept { result ≢ 0 → cursor.new ≡ cursor.old }
     ensures number { result ≡ fault.new.number }
+    ensures clear { result ≡ 0 → fault.new ≡ in_c None }
 {
     let mut found = Metadata::new(0);
     match read_start(alloc, bytes, &mut found) {
@@ -119,6 +120,7 @@ pub extern "C" fn flac_proved_seek(
     ensures refused { result ≢ 0 → IsAnswered (RefusesHead bytes.now) fault.new }
     ensures kept { result ≢ 0 → cursor.new ≡ cursor.old }
     ensures number { result ≡ fault.new.number }
+    ensures clear { result ≡ 0 → fault.new ≡ in_c None }
 {
     let mut found = Metadata::new(sample);
     match read_start(alloc, bytes, &mut found) {
