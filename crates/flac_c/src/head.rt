@@ -1,10 +1,10 @@
 //! STREAMINFO and the comments with which a stream begins.
 
-ghost use Rattle.std.specs.Prelude.{◌≡◌, ◌≤◌, [], nat_lt, true, length, is_some, List, IfOk, IfErr, OnOk, None, Some};
+ghost use Rattle.std.specs.Prelude.{◌≡◌, ◌≢◌, ◌≤◌, [], nat_lt, true, false, length, is_some, List, IfOk, IfErr, OnOk, None, Some};
 ghost use Rattle.flac_native.specs.Item.{told};
 ghost use Rattle.flac_native.specs.Stream.{Piece};
 ghost use Rattle.flac_ogg.specs.Verifying.{Verifies, bytes_reading};
-ghost use Rattle.flac_c.specs.Heads.{info_behind, comments_behind, info_from, BeginsBy, Begins, Lacks};
+ghost use Rattle.flac_c.specs.Heads.{info_behind, comments_behind, frames_behind, info_from, BeginsBy, EndsBy, Begins, Lacks};
 
 use crate::failures::Failures;
 use flac_bits::{Memory, Why};
@@ -34,6 +34,7 @@ impl Head {
     pub(crate) fn new() -> Head
         ensures info { result.info ≡ None }
         ensures comments { result.comments ≡ None }
+        ensures over { result.is_over ≡ false }
         ensures failures { result.failures.count ≡ 0 }
     {
         Head {
@@ -49,6 +50,7 @@ impl Sink for Head {
     ghost takes = { λ old item new. record {
       info : new.info ≡ info_behind old.info item;
       comments : new.comments ≡ comments_behind old.comments item;
+      over : new.is_over ≡ frames_behind old.is_over item;
     } };
 
     ghost known = { λ s. nat_lt s.failures.count 18446744073709551615 };
@@ -84,8 +86,11 @@ impl Sink for Head {
 fn decode_head(alloc: Global, bytes: &[u8], head: &mut Head) -> Result<(), Fault>
     requires info { head.old.info ≡ None }
     requires comments { head.old.comments ≡ None }
+    requires over { head.old.is_over ≡ false }
     requires failures { head.old.failures.count ≡ 0 }
-    ensures begun { head.new.failures.count ≡ 0 → BeginsBy bytes.now head.new.info head.new.comments }
+    ensures begun { head.new.failures.count ≡ 0 → BeginsBy bytes.now head.new.is_over head.new.info head.new.comments }
+    ensures ended { head.new.failures.count ≡ 0 → OnOk result (EndsBy bytes.now head.new.info head.new.comments) }
+    ensures stopped { head.new.failures.count ≡ 0 → IfErr result (λ f. f.why ≢ Why.Memory → EndsBy bytes.now head.new.info head.new.comments) }
     ensures refused { head.new.failures.count ≡ 0 → IfErr result (λ f. Verifies bytes.now (Some (told f))) }
     ensures whole { OnOk result ((items : List Piece) × (bytes_reading bytes.now).whole items × (head.new.info ≡ info_from None items)) }
 {
@@ -96,7 +101,7 @@ fn decode_head(alloc: Global, bytes: &[u8], head: &mut Head) -> Result<(), Fault
 /// Reads the head of the first bytes anew, and tells whether they are enough: a frame was read, or they are all bytes.
 ///
 /// # Errors
-/// `Memory`, and where all bytes are read and no STREAMINFO is found, what is wrong with them.
+/// `Memory`, where it ran out before a frame; and where all bytes are read and no STREAMINFO is found, what is wrong with them.
 fn read_front(alloc: Global, bytes: &[u8], most: usize, head: &mut Head) -> Result<bool, Fault>
     ensures begun { IfOk result (λ enough. enough ≡ true → Begins bytes.now head.new.info head.new.comments) }
     ensures found { IfOk result (λ enough. enough ≡ true → is_some head.new.info ≡ true) }
@@ -112,17 +117,32 @@ fn read_front(alloc: Global, bytes: &[u8], most: usize, head: &mut Head) -> Resu
             why: Why::Memory,
         });
     }
-    if n < bytes.len() {
-        return Ok(head.is_over && head.info.is_some());
-    }
-    if head.info.is_some() {
+    if head.is_over && head.info.is_some() {
         return Ok(true);
     }
-    outcome?;
-    Err(Fault {
-        at: Place::Marker,
-        why: Why::NotStreamInfoFirst,
-    })
+    if n < bytes.len() {
+        return Ok(false);
+    }
+    match outcome {
+        Ok(()) => {
+            if head.info.is_some() {
+                return Ok(true);
+            }
+            Err(Fault {
+                at: Place::Marker,
+                why: Why::NotStreamInfoFirst,
+            })
+        }
+        Err(fault) => match fault.why {
+            Why::Memory => Err(fault),
+            _ => {
+                if head.info.is_some() {
+                    return Ok(true);
+                }
+                Err(fault)
+            }
+        },
+    }
 }
 
 /// Reads STREAMINFO and the comments with which a stream begins.

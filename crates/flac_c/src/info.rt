@@ -139,7 +139,7 @@ pub extern "C" fn flac_proved_comment(
     len: &mut usize,
     fault: &mut FlacProvedFault,
 ) -> u32
-    ensures found { result ≡ 0 → (i : Option Info) × (comments : Option Listed) × Begins bytes.now i comments × IsCopied (comment_of comments index) out.old out.new len.new }
+    ensures found { result ≡ 0 → (i : Info) × (comments : Option Listed) × Begins bytes.now (Some i) comments × IsCopied (comment_of comments index) out.old out.new len.new }
     ensures refused { result ≢ 0 → IsAnswered (Lacks bytes.now) fault.new }
     ensures kept { result ≢ 0 → (out.new ≡ out.old) × (len.new ≡ len.old) }
     ensures number { result ≡ fault.new.number }
@@ -165,7 +165,7 @@ pub extern "C" fn flac_proved_vendor(
     len: &mut usize,
     fault: &mut FlacProvedFault,
 ) -> u32
-    ensures found { result ≡ 0 → (i : Option Info) × (comments : Option Listed) × Begins bytes.now i comments × IsCopied (vendor_of comments) out.old out.new len.new }
+    ensures found { result ≡ 0 → (i : Info) × (comments : Option Listed) × Begins bytes.now (Some i) comments × IsCopied (vendor_of comments) out.old out.new len.new }
     ensures refused { result ≢ 0 → IsAnswered (Lacks bytes.now) fault.new }
     ensures kept { result ≢ 0 → (out.new ≡ out.old) × (len.new ≡ len.old) }
     ensures number { result ≡ fault.new.number }
