@@ -7,6 +7,7 @@ pub mod Heading
 pub mod HeadBytes
 pub mod HandedOver
 pub mod InStreams
+pub mod StreamStarts
 pub mod Verbatims
 pub mod LongestFrames
 pub mod LongestHeads

@@ -129,7 +129,8 @@ ogg_few s t samples can some none serial packets are bytes long =
     let second = block_spelling true (VorbisComment (comments_of t)) in
     let few = frames_few s samples can are.frames some are.are are.are_least in
     let all : length (joined (texts_of packets)) ≡ length (joined (first ∷ second ∷ are.frames)) = ap (λ (ts : List (List Bool)). length (joined ts)) are.texts in
-    let many : length (texts_of packets) ≡ 2 + length are.frames = ap (λ (ts : List (List Bool)). length ts) are.texts in
+    let many_texts = ap (λ (ts : List (List Bool)). length ts) are.texts in
+    let many : length (texts_of packets) ≡ 2 + length are.frames = omega (arith, many_texts) in
     let inner : length (joined (first ∷ second ∷ are.frames)) ≡ 408 + (32 + 8 * comments_length (comments_of t)) + length (joined are.frames) =
     omega (
       arith,

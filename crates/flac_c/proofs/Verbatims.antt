@@ -56,8 +56,8 @@ each_even_or_not (x ∷ xs) = go (even_or_not x) (each_even_or_not xs)
   where
     go : IsEven x ⊎ (IsEven x → ⊥) → EachEven xs ⊎ (EachEven xs → ⊥) → EachEven (x ∷ xs) ⊎ (EachEven (x ∷ xs) → ⊥)
     go (inl a) (inl b) = inl (even_cons x xs a b)
-    go (inl a) (inr no) = inr (λ all. no (even_tail x xs all))
-    go (inr no) b = inr (λ all. no (even_head x xs all))
+    go (inl a) (inr never) = inr (λ all. never (even_tail x xs all))
+    go (inr never) b = inr (λ all. never (even_head x xs all))
 
 -- ---- the bits that all samples lack
 
@@ -92,7 +92,7 @@ module _ (depth : ℕ) (deep : 1 ≤ depth) (s : List ℤ) (fits : All (FitsBits
 
   most : (k : ℕ) (t : List ℤ) (long : length t ≡ length s) (so : (i : ℕ) → i < length s → sample_at s i ≡ times_power k (sample_at t i)) → (EachEven t → ⊥)
       → (j : ℕ) → All (Multiple j) s → j ≤ k
-  most k t long so no j all = elim (cases_lt k j) [ inl lt ↦ absurd (no (even k s t long so j lt all)) | inr b ↦ b ]
+  most k t long so never j all = elim (cases_lt k j) [ inl lt ↦ absurd (never (even k s t long so j lt all)) | inr b ↦ b ]
 
   search : (n k : ℕ) (t : List ℤ) → n + k ≡ depth → length t ≡ length s → ((i : ℕ) → i < length s → sample_at s i ≡ times_power k (sample_at t i)) → Dropped s
   search zero k t e long so = silence k t (omega (arith, e)) long so
@@ -100,7 +100,7 @@ module _ (depth : ℕ) (deep : 1 ≤ depth) (s : List ℤ) (fits : All (FitsBits
     where
       go : EachEven t ⊎ (EachEven t → ⊥) → (EachEven t → Dropped s) → Dropped s
       go (inl all) more = more all
-      go (inr no) more = record { wasted = k; rest = t; is = none_wasted k s t long so (most k t long so no); times = all_times k s t long so }
+      go (inr never) more = record { wasted = k; rest = t; is = none_wasted k s t long so (most k t long so never); times = all_times k s t long so }
 
   pub dropped : Dropped s
   dropped = search depth 0 s (omega arith) refl (λ i h. sym (none_times (sample_at s i)))

@@ -1,9 +1,10 @@
 //! Encodes samples.
 
-ghost use Rattle.std.specs.Prelude.{◌≡◌, ◌≢◌, ◌⊎◌, ◌%◌, ℕ, length, IfOk, IfErr, OnOk, Some, None, List, option_map};
+ghost use Rattle.std.specs.Prelude.{◌≡◌, ◌≢◌, ◌≤◌, ◌⊎◌, ◌%◌, ℕ, length, IfOk, IfErr, OnOk, Some, None, List, option_map};
 ghost use Rattle.flac_frame.specs.Setup.{number_of};
 ghost use Rattle.flac_ogg.specs.RoundTrip.{EncodedBytes};
 ghost use Rattle.flac_c.specs.Answers.{IsCopied};
+ghost use Rattle.flac_c.specs.Bound.{bound_of};
 ghost use Rattle.flac_c.specs.Encoded.{sound_of, plan_of, blocks_of, serial_of, samples_fault, stream_fault, CanBeEncoded, IsEncoded, IsRefused};
 
 use crate::channels::channels_of;
@@ -125,8 +126,8 @@ fn encoded(
 }
 
 /// Encodes samples, which are interleaved channel by channel, as a stream of these settings with these comments, and copies it to the front of a buffer, as far as there is
-/// room; tells how many bytes it has. It was decoded again. Returns 0, or the number of the first reason why it is not encoded; the buffer and the length are then as they
-/// were.
+/// room; tells how many bytes it has, which are no more than `flac_proved_bound` tells. It was decoded again. Returns 0, or the number of the first reason why it is not
+/// encoded; the buffer and the length are then as they were.
 #[unsafe(no_mangle)]
 pub extern "C" fn flac_proved_encode(
     alloc: Global,
@@ -137,6 +138,7 @@ pub extern "C" fn flac_proved_encode(
     len: &mut usize,
 ) -> u32
     ensures encoded { result ≡ 0 → (stream : List ℕ) × IsEncoded settings.now samples.now tags.now stream × IsCopied stream out.old out.new len.new }
+    ensures fits { result ≡ 0 → bound_of settings.now (length samples.now) tags.now ≤ length out.old → len.new ≤ length out.old }
     ensures refused { result ≢ 0 → IsRefused settings.now samples.now tags.now result }
     ensures kept { result ≢ 0 → (out.new ≡ out.old) × (len.new ≡ len.old) }
 {
