@@ -1,6 +1,6 @@
 //! STREAMINFO and the comments with which a stream begins.
 
-ghost use Rattle.std.specs.Prelude.{◌≡◌, ◌≢◌, ◌≤◌, [], nat_lt, true, false, length, is_some, List, IfOk, IfErr, OnOk, None, Some};
+ghost use Rattle.std.specs.Prelude.{◌≡◌, ◌≢◌, [], nat_lt, true, false, is_some, List, IfErr, OnOk, None, Some};
 ghost use Rattle.flac_native.specs.Item.{told};
 ghost use Rattle.flac_native.specs.Stream.{Piece};
 ghost use Rattle.flac_ogg.specs.Verifying.{Verifies, bytes_reading};
@@ -98,51 +98,56 @@ fn decode_head(alloc: Global, bytes: &[u8], head: &mut Head) -> Result<(), Fault
     decode_any(alloc, &mut source, Profile::Subset, head)
 }
 
-/// Reads the head of the first bytes anew, and tells whether they are enough: a frame was read, or they are all bytes.
+/// Reads the head of the first bytes of more, and tells whether it is whole: a frame was read behind all blocks.
+fn read_front(alloc: Global, bytes: &[u8], most: usize, head: &mut Head) -> bool
+    ensures begun { result ≡ true → Begins bytes.now head.new.info head.new.comments }
+    ensures found { result ≡ true → is_some head.new.info ≡ true }
+{
+    if bytes.len() <= most {
+        return false;
+    }
+    *head = Head::new();
+    let _outcome = decode_head(alloc, &bytes[..most], head);
+    head.failures.count == 0 && head.is_over && head.info.is_some()
+}
+
+/// Reads the head of all bytes.
 ///
 /// # Errors
-/// `Memory`, where it ran out before a frame; and where all bytes are read and no STREAMINFO is found, what is wrong with them.
-fn read_front(alloc: Global, bytes: &[u8], most: usize, head: &mut Head) -> Result<bool, Fault>
-    ensures begun { IfOk result (λ enough. enough ≡ true → Begins bytes.now head.new.info head.new.comments) }
-    ensures found { IfOk result (λ enough. enough ≡ true → is_some head.new.info ≡ true) }
-    ensures all { length bytes.now ≤ most → IfOk result (λ enough. enough ≡ true) }
+/// `Memory`; and where no STREAMINFO is found, what is wrong with the bytes.
+fn read_all(alloc: Global, bytes: &[u8], head: &mut Head) -> Result<(), Fault>
+    ensures begun { OnOk result (Begins bytes.now head.new.info head.new.comments) }
+    ensures found { OnOk result (is_some head.new.info ≡ true) }
     ensures refused { IfErr result (λ f. Lacks bytes.now (Some (told f))) }
 {
     *head = Head::new();
-    let n = bytes.len().min(most);
-    let outcome = decode_head(alloc, &bytes[..n], head);
+    let outcome = decode_head(alloc, bytes, head);
     if head.failures.count != 0 {
         return Err(Fault {
             at: Place::Marker,
             why: Why::Memory,
         });
     }
-    if head.is_over && head.info.is_some() {
-        return Ok(true);
-    }
-    if n < bytes.len() {
-        return Ok(false);
-    }
-    match outcome {
-        Ok(()) => {
-            if head.info.is_some() {
-                return Ok(true);
-            }
-            Err(Fault {
-                at: Place::Marker,
-                why: Why::NotStreamInfoFirst,
-            })
+    if let Err(fault) = outcome {
+        if is_memory(fault.why) || head.info.is_none() {
+            return Err(fault);
         }
-        Err(fault) => match fault.why {
-            Why::Memory => Err(fault),
-            _ => {
-                if head.info.is_some() {
-                    return Ok(true);
-                }
-                Err(fault)
-            }
-        },
+        return Ok(());
     }
+    if head.info.is_some() {
+        return Ok(());
+    }
+    Err(Fault {
+        at: Place::Marker,
+        why: Why::NotStreamInfoFirst,
+    })
+}
+
+/// Whether memory ran out.
+fn is_memory(why: Why) -> bool
+    ensures other { result ≡ false → why ≢ Why.Memory }
+{
+    matches!(why, Why::Memory)
 }
 
 /// Reads STREAMINFO and the comments with which a stream begins.
@@ -151,12 +156,11 @@ pub(crate) fn read_head(alloc: Global, bytes: &[u8], head: &mut Head) -> Result<
     ensures found { OnOk result (is_some head.new.info ≡ true) }
     ensures refused { IfErr result (λ f. Lacks bytes.now (Some (told f))) }
 {
-    if read_front(alloc, bytes, FEW, head)? {
+    if read_front(alloc, bytes, FEW, head) {
         return Ok(());
     }
-    if read_front(alloc, bytes, MORE, head)? {
+    if read_front(alloc, bytes, MORE, head) {
         return Ok(());
     }
-    let _all = read_front(alloc, bytes, bytes.len(), head)?;
-    Ok(())
+    read_all(alloc, bytes, head)
 }

@@ -122,6 +122,7 @@ pub extern "C" fn flac_proved_seek(
     fault: &mut FlacProvedFault,
 ) -> u32
     ensures before { result ≡ 0 → StandsBefore bytes.now sample cursor.new }
+    ensures streams { (items : List Piece) → Stream grammar opening (beginning Truncated) items (bits_of bytes.now) → (result ≡ 2) ⊎ (result ≡ 0) }
     ensures refused { result ≢ 0 → IsAnswered (RefusesHead bytes.now) fault.new }
     ensures kept { result ≢ 0 → cursor.new ≡ cursor.old }
     ensures number { result ≡ fault.new.number }
