@@ -373,17 +373,11 @@ static uint64_t mixed(uint64_t sum, const void *from, size_t len) {
     return sum;
 }
 
-static uint64_t mixed_info(uint64_t sum, const struct flac_proved_stream_info *info) {
-    const uint64_t counts[2] = {info->total, info->comments};
-    const uint32_t rest[7] = {info->rate, info->channels, info->bits, info->least_block, info->greatest_block, info->least_frame, info->greatest_frame};
-    return mixed(mixed(mixed(sum, counts, sizeof counts), rest, sizeof rest), info->digest, sizeof info->digest);
-}
-
-/* A sum of all that a call has filled in, but for the bytes between the fields. */
+/* A sum of all that a call has filled in, but for the bytes that only fill it up. */
 static uint64_t sum_given(void) {
-    const uint64_t places[3] = {given.cursor.offset, given.cursor.frames, given.cursor.sample};
-    uint64_t sum = mixed(mixed(mixed(14695981039346656037u, given.text, sizeof given.text), given.numbers, sizeof given.numbers), &given.len, sizeof given.len);
-    return mixed_info(mixed(mixed_info(sum, &given.info), places, sizeof places), &given.cursor.info);
+    const uint64_t places[4] = {given.cursor.offset, given.cursor.frames, given.cursor.sample, given.len};
+    uint64_t sum = mixed(mixed(14695981039346656037u, given.text, sizeof given.text), given.numbers, sizeof given.numbers);
+    return mixed(mixed(mixed(sum, places, sizeof places), &given.info, INFO_BYTES), &given.cursor.info, INFO_BYTES);
 }
 
 /* Refuses each request of each call: the call answers 2 and frees all, or it answers and fills in what it does without a refusal. */

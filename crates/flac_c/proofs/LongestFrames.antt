@@ -156,8 +156,8 @@ add_up most w b total number (t ∷ ts) h =
     let at : number + 0 ≡ number = omega arith in
     let first : length t ≤ most + w * size_of b total number = subst (λ k. length t ≤ most + w * size_of b total k) at (h 0 (omega arith)) in
     let rest = add_up most w b total (number + 1) ts (λ i lt.
-        let next : number + suc i ≡ number + 1 + i = omega arith in
-        subst (λ k. length (get_or ts i []) ≤ most + w * size_of b total k) next (h (suc i) (omega (arith, lt)))) in
+    let next : number + suc i ≡ number + 1 + i = omega arith in
+    subst (λ k. length (get_or ts i []) ≤ most + w * size_of b total k) next (h (suc i) (omega (arith, lt)))) in
     let sum = spread w (size_of b total number) (total - b * (number + 1)) (total - b * number) (parts b total number) in
     omega (arith, length-append t (joined ts), first, rest, sum, mul-suc most (length ts))
 
