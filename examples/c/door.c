@@ -323,56 +323,80 @@ static void put_lines(const char *path) {
 
 static const char *const names[] = {"verify", "info", "comment", "vendor", "decode", "samples", "encode", "encode_ogg", "start", "seek", "next"};
 
+/* What the calls fill in. */
+static struct {
+    uint8_t text[100000];
+    int32_t numbers[25000];
+    struct flac_proved_stream_info info;
+    struct flac_proved_cursor cursor;
+    size_t len;
+} given;
+
 /* One of the calls. Its length is 99 if the call has not changed it. */
-static uint32_t call(size_t which, struct file file, size_t *len) {
-    static uint8_t text[100000];
-    static int32_t numbers[25000];
+static uint32_t call(size_t which, struct file file) {
     static const struct flac_proved_text list[2] = {{(const uint8_t *)"TITLE=a", 7}, {(const uint8_t *)"ARTIST=b", 8}};
     const struct flac_proved_tags tags = {{(const uint8_t *)"door", 4}, list, 2};
     struct flac_proved_settings settings = {44100, 2, 16, 64, 100, 0, 0};
-    struct flac_proved_stream_info info;
-    struct flac_proved_cursor cursor;
     struct flac_proved_fault fault;
     int32_t samples[200];
     uint32_t number;
     int i;
-    *len = 99;
+    memset(&given, 0, sizeof given);
+    given.len = 99;
     switch (which) {
     case 0: return flac_proved_verify(file.bytes, file.len, &fault);
-    case 1: return flac_proved_info(file.bytes, file.len, &info, &fault);
-    case 2: return flac_proved_comment(file.bytes, file.len, 0, text, sizeof text, len, &fault);
-    case 3: return flac_proved_vendor(file.bytes, file.len, text, sizeof text, len, &fault);
-    case 4: return flac_proved_decode(file.bytes, file.len, 0, text, sizeof text, len, &fault);
-    case 5: return flac_proved_samples(file.bytes, file.len, numbers, 25000, len, &fault);
-    case 8: return flac_proved_start(file.bytes, file.len, &cursor, &fault);
-    case 9: return flac_proved_seek(file.bytes, file.len, 1000, &cursor, &fault);
+    case 1: return flac_proved_info(file.bytes, file.len, &given.info, &fault);
+    case 2: return flac_proved_comment(file.bytes, file.len, 0, given.text, sizeof given.text, &given.len, &fault);
+    case 3: return flac_proved_vendor(file.bytes, file.len, given.text, sizeof given.text, &given.len, &fault);
+    case 4: return flac_proved_decode(file.bytes, file.len, 0, given.text, sizeof given.text, &given.len, &fault);
+    case 5: return flac_proved_samples(file.bytes, file.len, given.numbers, 25000, &given.len, &fault);
+    case 8: return flac_proved_start(file.bytes, file.len, &given.cursor, &fault);
+    case 9: return flac_proved_seek(file.bytes, file.len, 1000, &given.cursor, &fault);
     case 10:
-        number = flac_proved_start(file.bytes, file.len, &cursor, &fault);
-        return number != 0 ? number : flac_proved_next(file.bytes, file.len, &cursor, numbers, 25000, len, &fault);
+        number = flac_proved_start(file.bytes, file.len, &given.cursor, &fault);
+        return number != 0 ? number : flac_proved_next(file.bytes, file.len, &given.cursor, given.numbers, 25000, &given.len, &fault);
     }
     for (i = 0; i < 200; i++) {
         samples[i] = i * i % 1000 - 17 * i;
     }
     settings.ogg = which == 7;
     settings.seek_every = which == 7 ? 0 : 100;
-    return flac_proved_encode(&settings, samples, 200, &tags, text, sizeof text, len);
+    return flac_proved_encode(&settings, samples, 200, &tags, given.text, sizeof given.text, &given.len);
 }
 
-/* Refuses each request of each call: the call answers 2 and frees all, or what it answers without a refusal. */
+static uint64_t mixed(uint64_t sum, const void *from, size_t len) {
+    const uint8_t *bytes = from;
+    size_t i;
+    for (i = 0; i < len; i++) {
+        sum = (sum ^ bytes[i]) * 1099511628211u;
+    }
+    return sum;
+}
+
+/* A sum of all that a call has filled in, but for the bytes that only fill it up. */
+static uint64_t sum_given(void) {
+    const uint64_t places[4] = {given.cursor.offset, given.cursor.frames, given.cursor.sample, given.len};
+    uint64_t sum = mixed(mixed(14695981039346656037u, given.text, sizeof given.text), given.numbers, sizeof given.numbers);
+    return mixed(mixed(mixed(sum, places, sizeof places), &given.info, INFO_BYTES), &given.cursor.info, INFO_BYTES);
+}
+
+/* Refuses each request of each call: the call answers 2 and frees all, or it answers and fills in what it does without a refusal. */
 static void refuse_each(const char *path) {
     struct file file = read_file(path);
-    size_t which, len;
+    size_t which;
     printf("%s refused", path);
     for (which = 0; which < sizeof names / sizeof *names; which++) {
         unsigned long cases = 0, memory = 0;
+        uint64_t sum;
         uint32_t due, found;
         refused = 0;
-        due = call(which, file, &len);
+        due = call(which, file);
+        sum = sum_given();
         must(due != 2, 9);
         for (refused = 1;; refused++) {
             asked = 0;
-            found = call(which, file, &len);
-            must(live == 0 && (found == due || (found == 2 && len == 99)), 9);
+            found = call(which, file);
+            must(live == 0 && ((found == due && sum_given() == sum) || (found == 2 && given.len == 99)), 9);
             if (asked < refused) {
                 break;
             }

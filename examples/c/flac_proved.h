@@ -159,9 +159,9 @@ struct flac_proved_tags {
 uint32_t flac_proved_encode(const struct flac_proved_settings *settings, const int32_t *samples, size_t count,
                             const struct flac_proved_tags *tags, uint8_t *out, size_t room, size_t *len);
 
-/* A number of bytes for the buffer of flac_proved_encode, by plain arithmetic: that of the samples as they are, and of what stands around
- * them. In all tests it was enough. That it always is, is not proved: *len > room says so if it is not. Settings that are refused may have
- * any bound; it stops at 2^64 - 1. */
+/* A number of bytes that is enough for the buffer of flac_proved_encode: no stream of `count` samples with these settings and these comments
+ * has more. It is computed by plain arithmetic: the bytes of the samples as they are, and of what is around them. Settings that are refused
+ * may have any bound; it stops at 2^64 - 1. */
 uint64_t flac_proved_bound(const struct flac_proved_settings *settings, size_t count, const struct flac_proved_tags *tags);
 
 #ifdef __cplusplus

@@ -69,6 +69,7 @@ head_is bytes start now sample found few is h =
       record {
         within = omega (arith, long, all);
         spelled = subst (λ (t : List Bool). Joined grammar opening (beginning Truncated) r.parts t) front joined;
+        metadata = r.metadata;
         behind = h.phase;
       },
       r.tells,

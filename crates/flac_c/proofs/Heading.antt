@@ -26,7 +26,7 @@ use Rattle.flac_native.specs.declared.fault.Place.TheVariants as place
 use Rattle.flac_native.specs.declared.phase.Phase.{Phase}
 use Rattle.flac_native.specs.declared.phase.Phase.TheVariants.{Opening, Blocks, Frames}
 use Rattle.flac_c.specs.Heads.{comments_from, comments_after, count_of}
-use Rattle.flac_c.specs.Starts.{point_after, point_from}
+use Rattle.flac_c.specs.Starts.{are_metadata, point_after, point_from}
 use Rattle.flac_c.specs.Blocks.{Noted, IsFound, BlockRead, PartsRead, BlocksCome, HeadRead, IsRefusedAt}
 use Rattle.flac_c.specs.declared.metadata.Metadata.{Metadata}
 
@@ -46,6 +46,12 @@ point_more sample i [] last b = refl
 point_more sample i (marked ∷ xs) last b = point_more sample i xs last b
 point_more sample i (block l c ∷ xs) last b = point_more sample (point_after sample i c) xs last b
 point_more sample i (framed f ∷ xs) last b = point_more sample i xs last b
+
+metadata_more : (xs : List Piece) (last : Bool) (b : Block) → are_metadata xs ≡ true → are_metadata (xs ++ block last b ∷ []) ≡ true
+metadata_more [] last b e = refl
+metadata_more (marked ∷ xs) last b e = metadata_more xs last b e
+metadata_more (block l c ∷ xs) last b e = metadata_more xs last b e
+metadata_more (framed f ∷ xs) last b e = absurd cc
 
 found_more : (sample : ℕ) (parts : List Piece) (found noted : Metadata) (last : Bool) (b : Block) → IsFound sample parts found → Noted found b noted → IsFound sample (parts ++ block last b ∷ []) noted
 found_more sample parts found noted last b f n = record {
@@ -112,6 +118,7 @@ marker_read start new sample found u ran none known same =
     record {
       read = record {
         parts = marked ∷ [];
+        metadata = refl;
         text = t.0;
         stands = t.1;
         spelled = (t.0, [], sym (append-nil t.0), h, tt, refl);
@@ -155,6 +162,7 @@ module _ (start old : State) (sample : ℕ) (found : Metadata) (seen : Seen) (in
         let j = Joined-append grammar opening start.cursor.mark c.read.parts x c.read.text r.text c.read.spelled spelled_here room_here in
         record {
           parts = parts_more;
+          metadata = metadata_more c.read.parts last r.is c.read.metadata;
           text = c.read.text ++ r.text;
           stands = c.read.stands ∙ ap (λ l. c.read.text ++ l) r.stands ∙ sym (append_assoc c.read.text r.text new.cursor.left);
           spelled = j.0;

@@ -1,5 +1,5 @@
 -- What a sink has kept that keeps STREAMINFO and the comments.
-use Rattle.std.proofs.Common.{◌≡◌, ◌≢◌, ℕ, List, [], ◌∷◌, nat_lt, true, None, Some, Option, Result, Ok, Err, OnOk, IfErr, ap, sym, refl, subst, ◌∙◌}
+use Rattle.std.proofs.Common.{◌≡◌, ◌≢◌, ℕ, Bool, List, [], ◌∷◌, nat_lt, true, false, is_some, None, Some, Option, Result, Ok, Err, OnOk, IfErr, ap, sym, refl, subst, ◌∙◌}
 use Rattle.flac_bits.specs.declared.why.Why.{Why}
 use Rattle.flac_bits.specs.declared.why.Why.TheVariants.{Memory}
 use Rattle.flac_native.specs.declared.fault.Place.{Place}
@@ -10,7 +10,7 @@ use Rattle.flac_bits.specs.Handing.{TakesAll, outcome_of}
 use Rattle.flac_native.specs.Stream.{Piece, marked, block, framed}
 use Rattle.flac_native.specs.Item.{Item, told}
 use Rattle.flac_native.specs.Decoding.{taken}
-use Rattle.flac_c.specs.Heads.{info_from, comments_from, info_behind, comments_behind}
+use Rattle.flac_c.specs.Heads.{info_from, comments_from, frames_from, info_behind, comments_behind, frames_behind}
 
 -- What holds of a count that is 0.
 pub can_rise : (n : ℕ) → n ≡ 0 → nat_lt n 18446744073709551615 ≡ true
@@ -30,36 +30,42 @@ pub at_err : {A : Type 0} (X : Place → Why → Type 0) (r : Result A Fault) �
 at_err X (Ok a) h = tt
 at_err X (Err e) h = λ other. h e.at e.why refl other
 
-module _ {S : Type 0} (info : S → Option Info) (comments : S → Option Comments) where
+-- What holds of a STREAMINFO that is there.
+pub found_one : (P : Option Info → Type 0) (o : Option Info) → is_some o ≡ true → P o → (i : Info) × P (Some i)
+found_one P None e h = absurd cc
+found_one P (Some i) e h = (i, h)
+
+module _ {S : Type 0} (info : S → Option Info) (comments : S → Option Comments) (over : S → Bool) where
   -- what such a sink makes of an item
   abbrev pub Keeps : S → Item → S → Type 0
   Keeps s x t = record {
     info : info t ≡ info_behind (info s) x;
     comments : comments t ≡ comments_behind (comments s) x;
+    over : over t ≡ frames_behind (over s) x;
   }
 
   -- It has kept what the items have.
   pub all_kept : (old : S) (xs : List Piece) (new : S) → TakesAll (taken Keeps) old xs new
-      → (info new ≡ info_from (info old) xs) × (comments new ≡ comments_from (comments old) xs)
-  all_kept old [] new h = (ap info (sym h), ap comments (sym h))
+      → (info new ≡ info_from (info old) xs) × (comments new ≡ comments_from (comments old) xs) × (over new ≡ frames_from (over old) xs)
+  all_kept old [] new h = (ap info (sym h), ap comments (sym h), ap over (sym h))
   all_kept old (marked ∷ xs) new h =
       let more = all_kept h.0 xs new h.2 in
-      (more.0 ∙ ap (λ o. info_from o xs) (ap info (sym h.1)), more.1 ∙ ap (λ o. comments_from o xs) (ap comments (sym h.1)))
+      (more.0 ∙ ap (λ o. info_from o xs) (ap info (sym h.1)), more.1 ∙ ap (λ o. comments_from o xs) (ap comments (sym h.1)), more.2 ∙ ap (λ o. frames_from o xs) (ap over (sym h.1)))
   all_kept old (block last b ∷ xs) new h =
       let more = all_kept h.0 xs new h.2 in
-      (more.0 ∙ ap (λ o. info_from o xs) h.1.info, more.1 ∙ ap (λ o. comments_from o xs) h.1.comments)
+      (more.0 ∙ ap (λ o. info_from o xs) h.1.info, more.1 ∙ ap (λ o. comments_from o xs) h.1.comments, more.2 ∙ ap (λ o. frames_from o xs) h.1.over)
   all_kept old (framed f ∷ xs) new h =
       let more = all_kept h.0 xs new h.2 in
-      (more.0 ∙ ap (λ o. info_from o xs) h.1.info, more.1 ∙ ap (λ o. comments_from o xs) h.1.comments)
+      (more.0 ∙ ap (λ o. info_from o xs) h.1.info, more.1 ∙ ap (λ o. comments_from o xs) h.1.comments, more.2 ∙ ap (λ o. frames_from o xs) h.1.over)
 
   -- So has one that began with neither.
-  pub kept_from_none : (old : S) (xs : List Piece) (new : S) → TakesAll (taken Keeps) old xs new → info old ≡ None → comments old ≡ None
-      → (info new ≡ info_from None xs) × (comments new ≡ comments_from None xs)
-  kept_from_none old xs new h i c =
+  pub kept_from_none : (old : S) (xs : List Piece) (new : S) → TakesAll (taken Keeps) old xs new → info old ≡ None → comments old ≡ None → over old ≡ false
+      → (info new ≡ info_from None xs) × (comments new ≡ comments_from None xs) × (over new ≡ frames_from false xs)
+  kept_from_none old xs new h i c o =
       let all = all_kept old xs new h in
-      (all.0 ∙ ap (λ o. info_from o xs) i, all.1 ∙ ap (λ o. comments_from o xs) c)
+      (all.0 ∙ ap (λ k. info_from k xs) i, all.1 ∙ ap (λ k. comments_from k xs) c, all.2 ∙ ap (λ k. frames_from k xs) o)
 
   -- And so has one that stands where such a one stood.
-  pub begun_kept : (old : S) (xs : List Piece) (mid new : S) → TakesAll (taken Keeps) old xs mid → mid ≡ new → info old ≡ None → comments old ≡ None
-      → (info new ≡ info_from None xs) × (comments new ≡ comments_from None xs)
-  begun_kept old xs mid new h same i c = kept_from_none old xs new (subst (λ s. TakesAll (taken Keeps) old xs s) same h) i c
+  pub begun_kept : (old : S) (xs : List Piece) (mid new : S) → TakesAll (taken Keeps) old xs mid → mid ≡ new → info old ≡ None → comments old ≡ None → over old ≡ false
+      → (info new ≡ info_from None xs) × (comments new ≡ comments_from None xs) × (over new ≡ frames_from false xs)
+  begun_kept old xs mid new h same i c o = kept_from_none old xs new (subst (λ s. TakesAll (taken Keeps) old xs s) same h) i c o

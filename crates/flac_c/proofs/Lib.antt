@@ -7,3 +7,10 @@ pub mod Heading
 pub mod HeadBytes
 pub mod HandedOver
 pub mod InStreams
+pub mod StreamStarts
+pub mod Verbatims
+pub mod LongestFrames
+pub mod LongestHeads
+pub mod LongestStreams
+pub mod LongestPages
+pub mod Enough

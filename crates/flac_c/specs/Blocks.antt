@@ -16,7 +16,7 @@ use Rattle.flac_native.specs.declared.fault.Place.TheVariants as place
 use Rattle.flac_native.specs.declared.phase.Phase.{Phase}
 use Rattle.flac_native.specs.declared.phase.Phase.TheVariants.{Blocks, Frames}
 use Rattle.flac_c.specs.Heads.{comments_from, comments_after, count_of}
-use Rattle.flac_c.specs.Starts.{point_after, point_from}
+use Rattle.flac_c.specs.Starts.{are_metadata, point_after, point_from}
 use Rattle.flac_c.specs.declared.metadata.Metadata.{Metadata}
 
 -- what a block tells is kept
@@ -48,6 +48,7 @@ pub record BlockRead (seen left : Seen) (old new : State) (found noted : Metadat
 -- these parts were read from the start on
 pub record PartsRead (start now : State) (sample : ℕ) (found : Metadata) : Type 0 where
   pub parts : List Piece
+  pub metadata : are_metadata parts ≡ true
   pub text : List Bool
   pub stands : start.cursor.left ≡ text ++ now.cursor.left
   pub spelled : Joined grammar opening start.cursor.mark parts text

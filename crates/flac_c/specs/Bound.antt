@@ -1,9 +1,10 @@
--- A number of bytes that is meant to have room for an encoded stream. No clause says that a stream is never longer.
-use Rattle.std.specs.Prelude.{ℕ, ◌+◌, ◌*◌, ◌/◌, min, max, cond, nat_eq, nat_le, List, length}
+-- A number of bytes that has room for an encoded stream.
+use Rattle.std.specs.Prelude.{◌≡◌, ℕ, ◌+◌, ◌*◌, ◌/◌, ◌≤◌, min, max, cond, nat_eq, nat_le, ℤ, List, length}
 use Rattle.std.specs.List.{fold}
 use Rattle.flac_c.specs.declared.tags.FlacProvedText.{FlacProvedText}
 use Rattle.flac_c.specs.declared.tags.FlacProvedTags.{FlacProvedTags}
 use Rattle.flac_c.specs.declared.encoding.FlacProvedSettings.{FlacProvedSettings}
+use Rattle.flac_c.specs.Encoded.{IsEncoded}
 
 -- a text and its length; longer ones are refused
 abbrev pub text_bytes : FlacProvedText → ℕ
@@ -37,3 +38,7 @@ bytes_among s count each t = native_bytes s count each t + page_bytes s each (na
 
 abbrev pub bound_of : FlacProvedSettings → (count : ℕ) → FlacProvedTags → ℕ
 bound_of s count t = min (bytes_among s count (count / max s.channels 1) t) 18446744073709551615
+
+-- no stream of so many samples by these settings and with these comments has more bytes
+abbrev pub IsEnough : FlacProvedSettings → (count : ℕ) → FlacProvedTags → ℕ → Type 0
+IsEnough s count t bytes = (samples : List ℤ) (stream : List ℕ) → length samples ≡ count → IsEncoded s samples t stream → length stream ≤ bytes

@@ -1,5 +1,5 @@
 -- Where a native stream is read, frame by frame (RFC 9639, sections 8.2, 8.5 and 9).
-use Rattle.std.specs.Prelude.{◌≡◌, ◌⊎◌, ℕ, ◌+◌, ◌*◌, ◌<◌, ◌≤◌, min, cond, Bool, ℤ, List, [], ◌∷◌, ◌++◌, length, take, drop, replicate, Option, Some, None}
+use Rattle.std.specs.Prelude.{◌≡◌, ◌⊎◌, ℕ, ◌+◌, ◌*◌, ◌<◌, ◌≤◌, min, cond, Bool, true, ℤ, List, [], ◌∷◌, ◌++◌, length, take, drop, replicate, Option, Some, None}
 use Rattle.flac_bits.specs.Bits.{bits_of}
 use Rattle.flac_bits.specs.Items.{Joined, Stream, after}
 use Rattle.flac_bits.specs.Meaning.{Spells}
@@ -15,6 +15,7 @@ use Rattle.flac_native.specs.Stream.{Piece, framed, grammar, opening}
 use Rattle.flac_native.specs.declared.fault.Place.{Place}
 use Rattle.flac_native.specs.declared.fault.Place.TheVariants as place
 use Rattle.flac_c.specs.Answers.{copied}
+use Rattle.flac_c.specs.Starts.{are_metadata}
 use Rattle.flac_c.specs.declared.info.FlacProvedInfo.{FlacProvedInfo}
 use Rattle.flac_c.specs.declared.cursor.FlacProvedCursor.{FlacProvedCursor}
 
@@ -92,6 +93,10 @@ pub record StandsIn (bytes : List ℕ) (c : FlacProvedCursor) (front more : List
   pub info : Info
   pub told : (after grammar opening front).stand.info ≡ Some info
   pub same : info_of c.info ≡ untold info
+
+-- The bytes are a native stream of these items, and the cursor stands in it behind just the metadata.
+abbrev pub StartsIn : List ℕ → FlacProvedCursor → List Piece → Type 0
+StartsIn bytes c items = (front : List Piece) × (more : List Piece) × (items ≡ front ++ more) × (are_metadata front ≡ true) × StandsIn bytes c front more
 
 -- Of a stream the next frame is handed over, and the cursor behind it stands in the same stream.
 abbrev pub GoesOn : List ℕ → (old new : FlacProvedCursor) → (out written : List ℤ) → ℕ → (front more : List Piece) → Frame → Type 0

@@ -1,5 +1,5 @@
 -- What a stream begins with: STREAMINFO and comments.
-use Rattle.std.specs.Prelude.{◌≡◌, ◌⊎◌, ℕ, List, [], ◌∷◌, take, length, slice_index_or, Option, Some, None}
+use Rattle.std.specs.Prelude.{◌≡◌, ◌⊎◌, ℕ, Bool, true, false, List, [], ◌∷◌, take, length, slice_index_or, Option, Some, None}
 use Rattle.flac_bits.specs.declared.why.Why.{Why}
 use Rattle.flac_bits.specs.declared.why.Why.TheVariants.{NotStreamInfoFirst}
 use Rattle.flac_meta.specs.Info.{Info}
@@ -40,13 +40,29 @@ abbrev pub comments_behind : Option Comments → Item → Option Comments
 comments_behind comments (metadata b) = comments_after comments b
 comments_behind comments (frame f) = comments
 
--- bytes that begin with items of this STREAMINFO and these comments
-abbrev pub BeginsBy : List ℕ → Option Info → Option Comments → Type 0
-BeginsBy bytes info comments = (items : List Piece) × (bytes_reading bytes).begins items × (info ≡ info_from None items) × (comments ≡ comments_from None items)
+-- whether a frame is among items, or else was before; no metadata block comes behind one
+abbrev pub frames_from : Bool → List Piece → Bool
+frames_from over [] = over
+frames_from over (marked ∷ xs) = frames_from over xs
+frames_from over (block last b ∷ xs) = frames_from over xs
+frames_from over (framed f ∷ xs) = frames_from true xs
 
--- so do the first n of these bytes
+abbrev pub frames_behind : Bool → Item → Bool
+frames_behind over (metadata b) = over
+frames_behind over (frame f) = true
+
+-- bytes that begin with items of this STREAMINFO and these comments, of which one is a frame or none is
+abbrev pub BeginsBy : List ℕ → Bool → Option Info → Option Comments → Type 0
+BeginsBy bytes over info comments = (items : List Piece) × (bytes_reading bytes).begins items × (over ≡ frames_from false items) × (info ≡ info_from None items) × (comments ≡ comments_from None items)
+
+-- bytes that are items of this STREAMINFO and these comments, or are refused behind just these
+abbrev pub EndsBy : List ℕ → Option Info → Option Comments → Type 0
+EndsBy bytes info comments =
+    (items : List Piece) × ((bytes_reading bytes).whole items ⊎ ((at : Place) × (why : Why) × (bytes_reading bytes).refused items at why)) × (info ≡ info_from None items) × (comments ≡ comments_from None items)
+
+-- All blocks before the first frame tell this STREAMINFO and these comments; or, where no frame comes, all blocks that are there.
 abbrev pub Begins : List ℕ → Option Info → Option Comments → Type 0
-Begins bytes info comments = (n : ℕ) × BeginsBy (take n bytes) info comments
+Begins bytes info comments = ((n : ℕ) × BeginsBy (take n bytes) true info comments) ⊎ EndsBy bytes info comments
 
 -- the bytes are refused so, or they are a stream without STREAMINFO, which none is
 abbrev pub Lacks : List ℕ → Option (Place × Why) → Type 0

@@ -1,5 +1,5 @@
 -- Where the frames of a native stream begin, and where its seek table says that one begins (RFC 9639, sections 6, 8 and 8.5).
-use Rattle.std.specs.Prelude.{◌≡◌, ◌≢◌, ◌⊎◌, ℕ, ◌+◌, ◌≤◌, min, Bool, not, ◌&&◌, cond, nat_eq, nat_le, List, [], ◌∷◌, length, take, Option, Some, None}
+use Rattle.std.specs.Prelude.{◌≡◌, ◌≢◌, ◌⊎◌, ℕ, ◌+◌, ◌≤◌, min, Bool, true, false, not, ◌&&◌, cond, nat_eq, nat_le, List, [], ◌∷◌, length, take, Option, Some, None}
 use Rattle.std.specs.List.{fold}
 use Rattle.flac_bits.specs.Bits.{bits_of}
 use Rattle.flac_bits.specs.Items.{Joined, Refused, after}
@@ -13,16 +13,25 @@ use Rattle.flac_meta.specs.declared.seek_table.SeekPoint.{SeekPoint}
 use Rattle.flac_native.specs.Decoding.{beginning}
 use Rattle.flac_native.specs.Stream.{Piece, marked, block, framed, grammar, opening}
 use Rattle.flac_native.specs.declared.fault.Place.{Place}
+use Rattle.flac_native.specs.declared.fault.Place.TheVariants as place
 use Rattle.flac_native.specs.declared.phase.Phase.TheVariants.{Frames}
 use Rattle.flac_c.specs.Heads.{comments_from, info_in_c}
 use Rattle.flac_c.specs.declared.cursor.FlacProvedCursor.{FlacProvedCursor}
 
 -- ---- the metadata
 
+-- no part is a frame
+abbrev pub are_metadata : List Piece → Bool
+are_metadata [] = true
+are_metadata (marked ∷ xs) = are_metadata xs
+are_metadata (block last b ∷ xs) = are_metadata xs
+are_metadata (framed f ∷ xs) = false
+
 -- The first n bytes are these parts: the marker and all metadata blocks. Frames come behind them.
 pub record IsHead (bytes : List ℕ) (n : ℕ) (parts : List Piece) : Type 0 where
   pub within : n ≤ length bytes
   pub spelled : Joined grammar opening (beginning Truncated) parts (bits_of (take n bytes))
+  pub metadata : are_metadata parts ≡ true
   pub behind : (after grammar opening parts).stand.phase ≡ Frames
 
 -- ---- the seek table
@@ -66,9 +75,9 @@ StandsBefore bytes sample c =
     (parts : List Piece) × (n : ℕ) × (i : Info) × IsHead bytes n parts × ((after grammar opening parts).stand.info ≡ Some i)
     × (c ≡ at_point (point_from sample None parts) (first_frame i (comments_from None parts) n))
 
--- The marker or a block is refused there, as the stream is; or there are blocks without STREAMINFO, which no stream has; unless memory ran out.
+-- The marker or a block is refused there, as the stream is; or, at the marker, there are blocks without STREAMINFO, which no stream has; unless memory ran out.
 abbrev pub RefusesHead : List ℕ → Option (Place × Why) → Type 0
 RefusesHead bytes outcome =
     (at : Place) × (why : Why) × (outcome ≡ Some (at, why))
     × (why ≢ Memory → ((parts : List Piece) × Refused grammar opening (beginning Truncated) parts (bits_of bytes) at why)
-    ⊎ ((why ≡ NotStreamInfoFirst) × ((parts : List Piece) × (n : ℕ) × IsHead bytes n parts × ((after grammar opening parts).stand.info ≡ None))))
+    ⊎ ((why ≡ NotStreamInfoFirst) × (at ≡ place.Marker) × ((parts : List Piece) × (n : ℕ) × IsHead bytes n parts × ((after grammar opening parts).stand.info ≡ None))))

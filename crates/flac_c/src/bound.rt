@@ -1,7 +1,7 @@
 //! How much room an encoded stream needs.
 
 ghost use Rattle.std.specs.Prelude.{◌≡◌, ◌≤◌, ◌*◌, length};
-ghost use Rattle.flac_c.specs.Bound.{text_bytes, texts_bytes, raw_bytes, parts_of, table_bytes, native_bytes, bytes_among, bound_of};
+ghost use Rattle.flac_c.specs.Bound.{text_bytes, texts_bytes, raw_bytes, parts_of, table_bytes, native_bytes, bytes_among, bound_of, IsEnough};
 
 use crate::encoding::FlacProvedSettings;
 use crate::tags::{FlacProvedTags, FlacProvedText};
@@ -95,15 +95,16 @@ fn bytes_among(
     }
 }
 
-/// A number of bytes for the buffer of `flac_proved_encode`, by plain arithmetic: no stream in the tests was longer, but that none ever is, is not proved. It is at most
-/// 2^64 - 1.
+/// A number of bytes that is enough for the buffer of `flac_proved_encode`: no stream of `count` samples by these settings and with these comments is longer. It is at
+/// most 2^64 - 1, and tells nothing of settings that are refused.
 #[unsafe(no_mangle)]
 pub extern "C" fn flac_proved_bound(
     settings: &FlacProvedSettings,
     count: usize,
     tags: &FlacProvedTags<'_>,
 ) -> u64
-    ensures { result ≡ bound_of settings.now count tags.now }
+    ensures value { result ≡ bound_of settings.now count tags.now }
+    ensures enough { IsEnough settings.now count tags.now result }
 {
     let count = count as u64;
     let each = count / u64::from(settings.channels.max(1));

@@ -1,9 +1,10 @@
 //! Encodes samples.
 
-ghost use Rattle.std.specs.Prelude.{◌≡◌, ◌≢◌, ◌⊎◌, ◌%◌, ℕ, length, IfOk, IfErr, OnOk, Some, None, List, option_map};
+ghost use Rattle.std.specs.Prelude.{◌≡◌, ◌≢◌, ◌≤◌, ◌⊎◌, ◌%◌, ℕ, length, IfOk, IfErr, OnOk, Some, None, List, option_map};
 ghost use Rattle.flac_frame.specs.Setup.{number_of};
 ghost use Rattle.flac_ogg.specs.RoundTrip.{EncodedBytes};
 ghost use Rattle.flac_c.specs.Answers.{IsCopied};
+ghost use Rattle.flac_c.specs.Bound.{bound_of};
 ghost use Rattle.flac_c.specs.Encoded.{sound_of, plan_of, blocks_of, serial_of, samples_fault, stream_fault, CanBeEncoded, IsEncoded, IsRefused};
 
 use crate::channels::channels_of;
@@ -19,15 +20,15 @@ use std::alloc::Global;
 #[repr(C)]
 #[derive(Clone, Copy, Drop)]
 pub struct FlacProvedSettings {
-    /// The sample rate in Hz: 1 to 65535, or a multiple of 10 up to 655350 (RFC 9639, section 9.1.2).
+    /// Samples a second, 1 to 655350.
     pub rate: u32,
     /// How many channels there are, 1 to 8.
     pub channels: u32,
-    /// Bits per sample: 8, 12, 16, 20, 24 or 32.
+    /// Bits a sample: 8, 12, 16, 20, 24 or 32.
     pub bits: u32,
     /// How many samples of each channel a frame has: 16 to 4608, or to 16384 above 48000 Hz.
     pub block_size: u32,
-    /// The distance of seek points in samples of each channel; 0: there is no seek table.
+    /// How many samples of each channel stand from one point of the seek table to the next; 0: there is no seek table.
     pub seek_every: u32,
     /// 0: a native stream; any other number: an Ogg stream.
     pub ogg: u32,
@@ -35,7 +36,7 @@ pub struct FlacProvedSettings {
     pub serial: u32,
 }
 
-/// The serial number of an Ogg stream; `None` for a native one.
+/// The number of an Ogg stream, none of a native one.
 fn serial_of(settings: &FlacProvedSettings) -> Option<u32>
     ensures { result ≡ serial_of settings.now }
 {
@@ -48,7 +49,7 @@ fn serial_of(settings: &FlacProvedSettings) -> Option<u32>
 /// The channels of interleaved samples.
 ///
 /// # Errors
-/// The number of the reason for which they cannot be encoded, or 2 if an allocation fails.
+/// The number of the reason: 2, or why they are no samples of these settings.
 #[tactic(auto, using(crate::proofs::Encodings::some_setup))]
 fn audio_of(alloc: Global, settings: &FlacProvedSettings, samples: &[i32]) -> Result<Audio, u32>
     ensures sound { IfOk result (λ a. a ≡ sound_of settings.now samples.now) }
@@ -78,7 +79,7 @@ fn audio_of(alloc: Global, settings: &FlacProvedSettings, samples: &[i32]) -> Re
 /// Encodes channels.
 ///
 /// # Errors
-/// The number of the reason for which these settings or comments are refused, or 2 if an allocation fails.
+/// The number of the reason: 2, or why they are not encoded by these settings.
 #[tactic(auto, using(crate::proofs::Encodings::some_setup, crate::proofs::Encodings::some_encode, crate::proofs::Numbered::some_number))]
 fn stream_of(
     alloc: Global,
@@ -106,10 +107,10 @@ fn stream_of(
     }
 }
 
-/// Encodes interleaved samples.
+/// Encodes samples.
 ///
 /// # Errors
-/// The number of the first reason for which they are refused, or 2 if an allocation fails.
+/// The number of the reason: 2, or the first for which they are not encoded so.
 fn encoded(
     alloc: Global,
     settings: &FlacProvedSettings,
@@ -124,19 +125,9 @@ fn encoded(
     stream_of(alloc, settings, tags, &audio)
 }
 
-/// Encodes samples with comments as a stream of these settings, native or Ogg, decodes it again, and writes its bytes
-/// to the front of `out`, as far as there is room. The samples are interleaved: those of all channels at the first
-/// index, channel by channel, then those at the next. `len` becomes the number of bytes of the stream.
-///
-/// Returns 0, or the number of the first reason for which they are not encoded; `out` and `len` are unchanged then:
-///
-/// - 42 if `channels` is 0 or above 8, 43 if the number of samples is no multiple of it;
-/// - 40, 41, 44 or 45 for the rate, the bits, a sample, or the length, as [`Audio::new`] refuses them;
-/// - 46, 45 or 47 for the block size, the number of frames, or the seek points, as [`Plan::new`] refuses them;
-/// - 7 if the comments are longer than 16777215 bytes;
-/// - 37 if a seek table is asked for in an Ogg stream.
-///
-/// Or 2 if an allocation fails.
+/// Encodes samples, which are interleaved channel by channel, as a stream of these settings with these comments, and copies it to the front of a buffer, as far as there is
+/// room; tells how many bytes it has, which are no more than `flac_proved_bound` tells. It was decoded again. Returns 0, or the number of the first reason why it is not
+/// encoded; the buffer and the length are then as they were.
 #[unsafe(no_mangle)]
 pub extern "C" fn flac_proved_encode(
     alloc: Global,
@@ -147,6 +138,7 @@ pub extern "C" fn flac_proved_encode(
     len: &mut usize,
 ) -> u32
     ensures encoded { result ≡ 0 → (stream : List ℕ) × IsEncoded settings.now samples.now tags.now stream × IsCopied stream out.old out.new len.new }
+    ensures fits { result ≡ 0 → bound_of settings.now (length samples.now) tags.now ≤ length out.old → len.new ≤ length out.old }
     ensures refused { result ≢ 0 → IsRefused settings.now samples.now tags.now result }
     ensures kept { result ≢ 0 → (out.new ≡ out.old) × (len.new ≡ len.old) }
 {

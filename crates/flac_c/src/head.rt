@@ -1,10 +1,10 @@
-//! Reads STREAMINFO and the comments at the start of a stream.
+//! STREAMINFO and the comments with which a stream begins.
 
-ghost use Rattle.std.specs.Prelude.{◌≡◌, ◌≤◌, [], nat_lt, true, length, is_some, List, IfOk, IfErr, OnOk, None, Some};
+ghost use Rattle.std.specs.Prelude.{◌≡◌, ◌≢◌, [], nat_lt, true, false, is_some, List, IfErr, OnOk, None, Some};
 ghost use Rattle.flac_native.specs.Item.{told};
 ghost use Rattle.flac_native.specs.Stream.{Piece};
 ghost use Rattle.flac_ogg.specs.Verifying.{Verifies, bytes_reading};
-ghost use Rattle.flac_c.specs.Heads.{info_behind, comments_behind, info_from, BeginsBy, Begins, Lacks};
+ghost use Rattle.flac_c.specs.Heads.{info_behind, comments_behind, frames_behind, info_from, BeginsBy, EndsBy, Begins, Lacks};
 
 use crate::failures::Failures;
 use flac_bits::{Memory, Why};
@@ -14,10 +14,10 @@ use flac_native::{Fault, Place, Profile, Sink, SinkFault};
 use flac_ogg::decode_any;
 use std::alloc::Global;
 
-/// How many bytes are read first: most metadata has fewer.
+/// How many bytes are read at first: metadata mostly has fewer.
 const FEW: usize = 1 << 16;
 
-/// How many bytes are read next: most metadata with a picture has fewer.
+/// How many bytes are read next: metadata with a picture mostly has fewer.
 const MORE: usize = 1 << 21;
 
 /// Keeps STREAMINFO and the comments of a stream.
@@ -25,7 +25,7 @@ const MORE: usize = 1 << 21;
 pub(crate) struct Head {
     pub(crate) info: Option<StreamInfo>,
     pub(crate) comments: Option<Comments>,
-    /// Whether a frame was read, so that no block comes any more.
+    /// Whether a frame came, behind all blocks.
     pub(crate) is_over: bool,
     pub(crate) failures: Failures,
 }
@@ -34,6 +34,7 @@ impl Head {
     pub(crate) fn new() -> Head
         ensures info { result.info ≡ None }
         ensures comments { result.comments ≡ None }
+        ensures over { result.is_over ≡ false }
         ensures failures { result.failures.count ≡ 0 }
     {
         Head {
@@ -49,6 +50,7 @@ impl Sink for Head {
     ghost takes = { λ old item new. record {
       info : new.info ≡ info_behind old.info item;
       comments : new.comments ≡ comments_behind old.comments item;
+      over : new.is_over ≡ frames_behind old.is_over item;
     } };
 
     ghost known = { λ s. nat_lt s.failures.count 18446744073709551615 };
@@ -80,12 +82,15 @@ impl Sink for Head {
     }
 }
 
-/// Reads a stream, and keeps STREAMINFO and the comments.
+/// Reads a stream, and keeps its head.
 fn decode_head(alloc: Global, bytes: &[u8], head: &mut Head) -> Result<(), Fault>
     requires info { head.old.info ≡ None }
     requires comments { head.old.comments ≡ None }
+    requires over { head.old.is_over ≡ false }
     requires failures { head.old.failures.count ≡ 0 }
-    ensures begun { head.new.failures.count ≡ 0 → BeginsBy bytes.now head.new.info head.new.comments }
+    ensures begun { head.new.failures.count ≡ 0 → BeginsBy bytes.now head.new.is_over head.new.info head.new.comments }
+    ensures ended { head.new.failures.count ≡ 0 → OnOk result (EndsBy bytes.now head.new.info head.new.comments) }
+    ensures stopped { head.new.failures.count ≡ 0 → IfErr result (λ f. f.why ≢ Why.Memory → EndsBy bytes.now head.new.info head.new.comments) }
     ensures refused { head.new.failures.count ≡ 0 → IfErr result (λ f. Verifies bytes.now (Some (told f))) }
     ensures whole { OnOk result ((items : List Piece) × (bytes_reading bytes.now).whole items × (head.new.info ≡ info_from None items)) }
 {
@@ -93,51 +98,69 @@ fn decode_head(alloc: Global, bytes: &[u8], head: &mut Head) -> Result<(), Fault
     decode_any(alloc, &mut source, Profile::Subset, head)
 }
 
-/// Reads STREAMINFO and the comments from the first `most` bytes, and returns whether these are enough: a frame was
-/// read, or they are all bytes.
+/// Reads the head of the first bytes of more, and tells whether it is whole: a frame was read behind all blocks.
+fn read_front(alloc: Global, bytes: &[u8], most: usize, head: &mut Head) -> bool
+    ensures begun { result ≡ true → Begins bytes.now head.new.info head.new.comments }
+    ensures found { result ≡ true → is_some head.new.info ≡ true }
+{
+    if bytes.len() <= most {
+        return false;
+    }
+    *head = Head::new();
+    let _outcome = decode_head(alloc, &bytes[..most], head);
+    head.failures.count == 0 && head.is_over && head.info.is_some()
+}
+
+/// Reads the head of all bytes.
 ///
 /// # Errors
-/// `Memory` if an allocation fails. If all bytes were read and there is no STREAMINFO, the fault of the stream.
-fn read_front(alloc: Global, bytes: &[u8], most: usize, head: &mut Head) -> Result<bool, Fault>
-    ensures begun { IfOk result (λ enough. enough ≡ true → Begins bytes.now head.new.info head.new.comments) }
-    ensures found { IfOk result (λ enough. enough ≡ true → is_some head.new.info ≡ true) }
-    ensures all { length bytes.now ≤ most → IfOk result (λ enough. enough ≡ true) }
+/// `Memory`; and where no STREAMINFO is found, what is wrong with the bytes.
+fn read_all(alloc: Global, bytes: &[u8], head: &mut Head) -> Result<(), Fault>
+    ensures begun { OnOk result (Begins bytes.now head.new.info head.new.comments) }
+    ensures found { OnOk result (is_some head.new.info ≡ true) }
     ensures refused { IfErr result (λ f. Lacks bytes.now (Some (told f))) }
 {
     *head = Head::new();
-    let n = bytes.len().min(most);
-    let outcome = decode_head(alloc, &bytes[..n], head);
+    let outcome = decode_head(alloc, bytes, head);
     if head.failures.count != 0 {
         return Err(Fault {
             at: Place::Marker,
             why: Why::Memory,
         });
     }
-    if n < bytes.len() {
-        return Ok(head.is_over && head.info.is_some());
+    if let Err(fault) = outcome {
+        if is_memory(fault.why) || head.info.is_none() {
+            return Err(fault);
+        }
+        return Ok(());
     }
     if head.info.is_some() {
-        return Ok(true);
+        return Ok(());
     }
-    outcome?;
     Err(Fault {
         at: Place::Marker,
         why: Why::NotStreamInfoFirst,
     })
 }
 
-/// Reads STREAMINFO and the comments at the start of a stream.
+/// Whether memory ran out.
+fn is_memory(why: Why) -> bool
+    ensures other { result ≡ false → why ≢ Why.Memory }
+{
+    matches!(why, Why::Memory)
+}
+
+/// Reads STREAMINFO and the comments with which a stream begins.
 pub(crate) fn read_head(alloc: Global, bytes: &[u8], head: &mut Head) -> Result<(), Fault>
     ensures begun { OnOk result (Begins bytes.now head.new.info head.new.comments) }
     ensures found { OnOk result (is_some head.new.info ≡ true) }
     ensures refused { IfErr result (λ f. Lacks bytes.now (Some (told f))) }
 {
-    if read_front(alloc, bytes, FEW, head)? {
+    if read_front(alloc, bytes, FEW, head) {
         return Ok(());
     }
-    if read_front(alloc, bytes, MORE, head)? {
+    if read_front(alloc, bytes, MORE, head) {
         return Ok(());
     }
-    let _all = read_front(alloc, bytes, bytes.len(), head)?;
-    Ok(())
+    read_all(alloc, bytes, head)
 }

@@ -1,9 +1,9 @@
 //! Stream information, the comments, and the name of the program that wrote a stream.
 
-ghost use Rattle.std.specs.Prelude.{◌≡◌, ◌≢◌, Some, Option};
+ghost use Rattle.std.specs.Prelude.{◌≡◌, ◌≢◌, Some, Option, None};
 ghost use Rattle.flac_meta.specs.Info.{Info};
 ghost use Rattle.flac_meta.specs.declared.comments.Comments.{Comments as Listed};
-ghost use Rattle.flac_c.specs.Answers.{IsAnswered, IsCopied};
+ghost use Rattle.flac_c.specs.Answers.{IsAnswered, IsCopied, in_c};
 ghost use Rattle.flac_c.specs.Heads.{Begins, Lacks, count_of, comment_of, vendor_of, info_in_c};
 
 use crate::fault::{FlacProvedFault, in_c};
@@ -116,6 +116,7 @@ pub extern "C" fn flac_proved_info(
     ensures refused { result ≢ 0 → IsAnswered (Lacks bytes.now) fault.new }
     ensures kept { result ≢ 0 → info.new ≡ info.old }
     ensures number { result ≡ fault.new.number }
+    ensures clear { result ≡ 0 → fault.new ≡ in_c None }
 {
     let mut head = Head::new();
     if let Err(told) = read_head(alloc, bytes, &mut head) {
@@ -144,10 +145,11 @@ pub extern "C" fn flac_proved_comment(
     len: &mut usize,
     fault: &mut FlacProvedFault,
 ) -> u32
-    ensures found { result ≡ 0 → (i : Option Info) × (comments : Option Listed) × Begins bytes.now i comments × IsCopied (comment_of comments index) out.old out.new len.new }
+    ensures found { result ≡ 0 → (i : Info) × (comments : Option Listed) × Begins bytes.now (Some i) comments × IsCopied (comment_of comments index) out.old out.new len.new }
     ensures refused { result ≢ 0 → IsAnswered (Lacks bytes.now) fault.new }
     ensures kept { result ≢ 0 → (out.new ≡ out.old) × (len.new ≡ len.old) }
     ensures number { result ≡ fault.new.number }
+    ensures clear { result ≡ 0 → fault.new ≡ in_c None }
 {
     let mut head = Head::new();
     if let Err(told) = read_head(alloc, bytes, &mut head) {
@@ -172,10 +174,11 @@ pub extern "C" fn flac_proved_vendor(
     len: &mut usize,
     fault: &mut FlacProvedFault,
 ) -> u32
-    ensures found { result ≡ 0 → (i : Option Info) × (comments : Option Listed) × Begins bytes.now i comments × IsCopied (vendor_of comments) out.old out.new len.new }
+    ensures found { result ≡ 0 → (i : Info) × (comments : Option Listed) × Begins bytes.now (Some i) comments × IsCopied (vendor_of comments) out.old out.new len.new }
     ensures refused { result ≢ 0 → IsAnswered (Lacks bytes.now) fault.new }
     ensures kept { result ≢ 0 → (out.new ≡ out.old) × (len.new ≡ len.old) }
     ensures number { result ≡ fault.new.number }
+    ensures clear { result ≡ 0 → fault.new ≡ in_c None }
 {
     let mut head = Head::new();
     if let Err(told) = read_head(alloc, bytes, &mut head) {

@@ -6,7 +6,7 @@ ghost use Rattle.flac_native.specs.Stream.{Piece};
 ghost use Rattle.flac_frame.specs.Lent.{frame_of};
 ghost use Rattle.flac_frame.specs.Interleaved.{interleaved, row};
 ghost use Rattle.flac_ogg.specs.Verifying.{Verifies, bytes_reading};
-ghost use Rattle.flac_c.specs.Answers.{IsAnswered, IsCopied};
+ghost use Rattle.flac_c.specs.Answers.{IsAnswered, IsCopied, in_c};
 ghost use Rattle.flac_c.specs.Sampled.{numbers_in, numbers_from};
 
 use crate::failures::Failures;
@@ -114,6 +114,7 @@ pub extern "C" fn flac_proved_samples(
     ensures refused { result ≢ 0 → IsAnswered (Verifies bytes.now) fault.new }
     ensures kept { result ≢ 0 → (out.new ≡ out.old) × (len.new ≡ len.old) }
     ensures number { result ≡ fault.new.number }
+    ensures clear { result ≡ 0 → fault.new ≡ in_c None }
 {
     let mut sink = Numbers {
         list: Vec::new(alloc),

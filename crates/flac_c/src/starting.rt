@@ -1,11 +1,15 @@
 //! Makes cursors in a native stream.
 
-ghost use Rattle.std.specs.Prelude.{◌≡◌, ◌≢◌, [], ℕ, List, IfOk, IfErr, OnOk, Some, None, Option};
+ghost use Rattle.std.specs.Prelude.{◌≡◌, ◌≢◌, ◌⊎◌, [], ℕ, List, IfOk, IfErr, OnOk, Some, None, Option};
 ghost use Rattle.flac_meta.specs.Info.{Info};
 ghost use Rattle.flac_native.specs.Item.{told};
 ghost use Rattle.flac_native.specs.Stream.{Piece, grammar, opening};
-ghost use Rattle.flac_bits.specs.Items.{after};
-ghost use Rattle.flac_c.specs.Answers.{IsAnswered};
+ghost use Rattle.flac_bits.specs.Bits.{bits_of};
+ghost use Rattle.flac_bits.specs.Items.{Stream, after};
+ghost use Rattle.flac_bits.specs.declared.why.Why.TheVariants.{Truncated};
+ghost use Rattle.flac_native.specs.Decoding.{beginning};
+ghost use Rattle.flac_c.specs.Cursors.{StartsIn};
+ghost use Rattle.flac_c.specs.Answers.{IsAnswered, in_c};
 ghost use Rattle.flac_c.specs.Blocks.{IsFound};
 ghost use Rattle.flac_c.specs.Heads.{comments_from};
 ghost use Rattle.flac_c.specs.Starts.{IsHead, point_from, first_frame, at_point, StandsFirst, StandsBefore, RefusesHead};
@@ -89,9 +93,11 @@ pub extern "C" fn flac_proved_start(
     fault: &mut FlacProvedFault,
 ) -> u32
     ensures first { result ≡ 0 → StandsFirst bytes.now cursor.new }
+    ensures streams { (items : List Piece) → Stream grammar opening (beginning Truncated) items (bits_of bytes.now) → (result ≡ 2) ⊎ ((result ≡ 0) × StartsIn bytes.now cursor.new items) }
     ensures refused { result ≢ 0 → IsAnswered (RefusesHead bytes.now) fault.new }
     ensures kept { result ≢ 0 → cursor.new ≡ cursor.old }
     ensures number { result ≡ fault.new.number }
+    ensures clear { result ≡ 0 → fault.new ≡ in_c None }
 {
     let mut found = Metadata::new(0);
     match read_start(alloc, bytes, &mut found) {
@@ -123,9 +129,11 @@ pub extern "C" fn flac_proved_seek(
     fault: &mut FlacProvedFault,
 ) -> u32
     ensures before { result ≡ 0 → StandsBefore bytes.now sample cursor.new }
+    ensures streams { (items : List Piece) → Stream grammar opening (beginning Truncated) items (bits_of bytes.now) → (result ≡ 2) ⊎ (result ≡ 0) }
     ensures refused { result ≢ 0 → IsAnswered (RefusesHead bytes.now) fault.new }
     ensures kept { result ≢ 0 → cursor.new ≡ cursor.old }
     ensures number { result ≡ fault.new.number }
+    ensures clear { result ≡ 0 → fault.new ≡ in_c None }
 {
     let mut found = Metadata::new(sample);
     match read_start(alloc, bytes, &mut found) {

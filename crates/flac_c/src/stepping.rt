@@ -5,7 +5,7 @@ ghost use Rattle.flac_meta.specs.Info.{KeepsRules};
 ghost use Rattle.flac_frame.specs.Frame.{Frame};
 ghost use Rattle.flac_frame.specs.Lent.{frame_of};
 ghost use Rattle.flac_native.specs.Stream.{Piece, framed};
-ghost use Rattle.flac_c.specs.Answers.{IsAnswered};
+ghost use Rattle.flac_c.specs.Answers.{IsAnswered, in_c};
 ghost use Rattle.flac_c.specs.Cursors.{info_of, IsFrameAt, NoFrameAt, HandsOver, GivesNext, RefusesNext, StandsIn, GoesOn};
 
 use crate::cursor::{FlacProvedCursor, bytes_from, info_of, passed};
@@ -137,6 +137,7 @@ pub extern "C" fn flac_proved_next(
         → (result ≡ 2) ⊎ ((result ≡ 0) × GoesOn bytes.now cursor.old cursor.new out.old out.new len.new front more f) }
     ensures kept { result ≢ 0 → (cursor.new ≡ cursor.old) × (out.new ≡ out.old) × (len.new ≡ len.old) }
     ensures number { result ≡ fault.new.number }
+    ensures clear { result ≡ 0 → fault.new ≡ in_c None }
 {
     if cursor.offset == bytes.len() as u64 {
         *fault = in_c(Ok(()));
