@@ -20,15 +20,15 @@ use std::alloc::Global;
 #[repr(C)]
 #[derive(Clone, Copy, Drop)]
 pub struct FlacProvedSettings {
-    /// Samples a second, 1 to 655350.
+    /// The sample rate in Hz: 1 to 65535, or a multiple of 10 up to 655350 (RFC 9639, section 9.1.2).
     pub rate: u32,
     /// How many channels there are, 1 to 8.
     pub channels: u32,
-    /// Bits a sample: 8, 12, 16, 20, 24 or 32.
+    /// Bits per sample: 8, 12, 16, 20, 24 or 32.
     pub bits: u32,
     /// How many samples of each channel a frame has: 16 to 4608, or to 16384 above 48000 Hz.
     pub block_size: u32,
-    /// How many samples of each channel stand from one point of the seek table to the next; 0: there is no seek table.
+    /// The distance of seek points in samples of each channel; 0: there is no seek table.
     pub seek_every: u32,
     /// 0: a native stream; any other number: an Ogg stream.
     pub ogg: u32,
@@ -36,7 +36,7 @@ pub struct FlacProvedSettings {
     pub serial: u32,
 }
 
-/// The number of an Ogg stream, none of a native one.
+/// The serial number of an Ogg stream; `None` for a native one.
 fn serial_of(settings: &FlacProvedSettings) -> Option<u32>
     ensures { result ≡ serial_of settings.now }
 {
@@ -49,7 +49,7 @@ fn serial_of(settings: &FlacProvedSettings) -> Option<u32>
 /// The channels of interleaved samples.
 ///
 /// # Errors
-/// The number of the reason: 2, or why they are no samples of these settings.
+/// The number of the reason for which they cannot be encoded, or 2 if an allocation fails.
 #[tactic(auto, using(crate::proofs::Encodings::some_setup))]
 fn audio_of(alloc: Global, settings: &FlacProvedSettings, samples: &[i32]) -> Result<Audio, u32>
     ensures sound { IfOk result (λ a. a ≡ sound_of settings.now samples.now) }
@@ -79,7 +79,7 @@ fn audio_of(alloc: Global, settings: &FlacProvedSettings, samples: &[i32]) -> Re
 /// Encodes channels.
 ///
 /// # Errors
-/// The number of the reason: 2, or why they are not encoded by these settings.
+/// The number of the reason for which these settings or comments are refused, or 2 if an allocation fails.
 #[tactic(auto, using(crate::proofs::Encodings::some_setup, crate::proofs::Encodings::some_encode, crate::proofs::Numbered::some_number))]
 fn stream_of(
     alloc: Global,
@@ -107,10 +107,10 @@ fn stream_of(
     }
 }
 
-/// Encodes samples.
+/// Encodes interleaved samples.
 ///
 /// # Errors
-/// The number of the reason: 2, or the first for which they are not encoded so.
+/// The number of the first reason for which they are refused, or 2 if an allocation fails.
 fn encoded(
     alloc: Global,
     settings: &FlacProvedSettings,
@@ -125,9 +125,20 @@ fn encoded(
     stream_of(alloc, settings, tags, &audio)
 }
 
-/// Encodes samples, which are interleaved channel by channel, as a stream of these settings with these comments, and copies it to the front of a buffer, as far as there is
-/// room; tells how many bytes it has, which are no more than `flac_proved_bound` tells. It was decoded again. Returns 0, or the number of the first reason why it is not
-/// encoded; the buffer and the length are then as they were.
+/// Encodes samples with comments as a stream of these settings, native or Ogg, decodes it again, and writes its bytes
+/// to the front of `out`, as far as there is room. The samples are interleaved: those of all channels at the first
+/// index, channel by channel, then those at the next. `len` becomes the number of bytes of the stream, at most what
+/// `flac_proved_bound` returns.
+///
+/// Returns 0, or the number of the first reason for which they are not encoded; `out` and `len` are unchanged then:
+///
+/// - 42 if `channels` is 0 or above 8, 43 if the number of samples is no multiple of it;
+/// - 40, 41, 44 or 45 for the rate, the bits, a sample, or the length, as [`Audio::new`] refuses them;
+/// - 46, 45 or 47 for the block size, the number of frames, or the seek points, as [`Plan::new`] refuses them;
+/// - 7 if the comments are longer than 16777215 bytes;
+/// - 37 if a seek table is asked for in an Ogg stream.
+///
+/// Or 2 if an allocation fails.
 #[unsafe(no_mangle)]
 pub extern "C" fn flac_proved_encode(
     alloc: Global,

@@ -1,4 +1,4 @@
-//! STREAMINFO and the comments with which a stream begins.
+//! Reads STREAMINFO and the comments at the start of a stream.
 
 ghost use Rattle.std.specs.Prelude.{◌≡◌, ◌≢◌, [], nat_lt, true, false, is_some, List, IfErr, OnOk, None, Some};
 ghost use Rattle.flac_native.specs.Item.{told};
@@ -14,10 +14,10 @@ use flac_native::{Fault, Place, Profile, Sink, SinkFault};
 use flac_ogg::decode_any;
 use std::alloc::Global;
 
-/// How many bytes are read at first: metadata mostly has fewer.
+/// How many bytes are read first: most metadata has fewer.
 const FEW: usize = 1 << 16;
 
-/// How many bytes are read next: metadata with a picture mostly has fewer.
+/// How many bytes are read next: most metadata with a picture has fewer.
 const MORE: usize = 1 << 21;
 
 /// Keeps STREAMINFO and the comments of a stream.
@@ -25,7 +25,7 @@ const MORE: usize = 1 << 21;
 pub(crate) struct Head {
     pub(crate) info: Option<StreamInfo>,
     pub(crate) comments: Option<Comments>,
-    /// Whether a frame came, behind all blocks.
+    /// Whether a frame was read, so that no block comes any more.
     pub(crate) is_over: bool,
     pub(crate) failures: Failures,
 }
@@ -82,7 +82,7 @@ impl Sink for Head {
     }
 }
 
-/// Reads a stream, and keeps its head.
+/// Reads a stream, and keeps STREAMINFO and the comments.
 fn decode_head(alloc: Global, bytes: &[u8], head: &mut Head) -> Result<(), Fault>
     requires info { head.old.info ≡ None }
     requires comments { head.old.comments ≡ None }
@@ -150,7 +150,7 @@ fn is_memory(why: Why) -> bool
     matches!(why, Why::Memory)
 }
 
-/// Reads STREAMINFO and the comments with which a stream begins.
+/// Reads STREAMINFO and the comments at the start of a stream.
 pub(crate) fn read_head(alloc: Global, bytes: &[u8], head: &mut Head) -> Result<(), Fault>
     ensures begun { OnOk result (Begins bytes.now head.new.info head.new.comments) }
     ensures found { OnOk result (is_some head.new.info ≡ true) }
