@@ -9,6 +9,7 @@ use Rattle.flac_header.specs.Choice.{size_choice, rate_choice, depth_choice, wit
 use Rattle.flac_header.specs.Spelling.{header_spelling}
 use Rattle.flac_subframe.specs.declared.limits.Limits.{Limits}
 use Rattle.flac_subframe.specs.Spelling.{subframe_spelling}
+use Rattle.flac_subframe.proofs.Family.{none_within}
 use Rattle.flac_frame.specs.Audio.{Sound, IsSound, samples_each}
 use Rattle.flac_frame.specs.Encoding.{block_of, EachStands, IsEncoding, IsOfFamily, IsLeastFrame, subframes_cost}
 use Rattle.flac_frame.specs.Frame.{limits_at, Frame}
@@ -84,7 +85,7 @@ module _ (sound : Sound) (size number : ℕ) (block : List (List ℤ)) (f : Fram
       let h : Header = record f.header { channel_code = c } in
       let chosen : chosen_header size sound.rate c depth number ≡ Some h = recoded size sound.rate own.code c depth number f.header (omega (arith, low)) own.header in
       let sized : f.header.size ≡ size = (coded_as size sound.rate own.code depth number f.header own.header).1 in
-      let have : HaveSamples depth c f.header.size 0 plain.forms block = subst (λ n. HaveSamples depth c n 0 plain.forms block) (sym sized) (samples_are depth c size low 0 plain.forms block plain.are) in
+      let have : HaveSamples depth c f.header.size 0 plain.forms block = subst (λ n. HaveSamples depth c n 0 plain.forms block) (sym sized) (samples_are depth c size low [] 0 plain.forms block plain.are) in
       let limits : Limits = limits_at sound.rate in
       let cost : length (subframes_spelling depth c 0 plain.forms) ≤ length block * (8 + depth * size) = omega (arith, ap (λ (t : List Bool). length t) (texts_are depth c size low 0 plain.forms), plain.few) in
       let encoding : IsEncoding sound size number block (record { header = h; subframes = plain.forms }) =
@@ -93,11 +94,11 @@ module _ (sound : Sound) (size number : ℕ) (block : List (List ℤ)) (f : Fram
         header = chosen;
         valid = still_header f.header c (omega (arith, low)) own.valid;
         channels = as_coded c low ∙ each;
-        many = as_many depth c size low plain.forms block plain.are;
-        subframes = subframes_are depth c size low limits (omega arith) 0 plain.forms block plain.are;
+        many = as_many depth c size low [] plain.forms block plain.are;
+        subframes = subframes_are depth c size low [] limits (omega arith) (none_within limits.linear) 0 plain.forms block plain.are;
         samples = record { kept = block; subframes = have; joined = not_joined depth c size low block; fit = all_fit_in depth c size low block fits };
       } in
-      rw is (record { encoding = encoding; stand = subst (EachStands plain.forms) (sym (kept_same c block low)) plain.stand }, cost)
+      rw is (record { encoding = encoding; stand = subst (EachStands [] plain.forms) (sym (kept_same c block low)) plain.stand }, cost)
 
   pub least_cost : subframes_cost sound.bits f ≤ length block * (8 + sound.bits * size)
   least_cost =

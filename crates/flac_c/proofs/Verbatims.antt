@@ -141,8 +141,8 @@ verbatim_few depth deep s fits some =
 -- forms of the channels of a block, which take few bits
 pub record Plain (depth size : ℕ) (block : List (List ℤ)) : Type 0 where
   pub forms : List Form
-  pub are : AreForms depth size forms block
-  pub stand : EachStands forms block
+  pub are : AreForms [] depth size forms block
+  pub stand : EachStands [] forms block
   pub few : length (flat_map (subframe_spelling depth) forms) ≤ length block * (8 + depth * size)
 
 one_more : (n m a b c : ℕ) → c ≡ a + b → a ≤ m → b ≤ n * m → c ≤ suc n * m
@@ -162,7 +162,7 @@ plain_block depth size deep some (s ∷ ss) long fits =
     let few : length (subframe_spelling depth f) ≤ 8 + depth * size = subst (λ n. length (subframe_spelling depth f) ≤ 8 + depth * n) here (verbatim_few depth deep s fit (omega (arith, some'))) in
     record {
       forms = f ∷ rest.forms;
-      are = (valid, samples, rest.are);
+      are = (λ limits enough within. valid limits enough, samples, rest.are);
       stand = (stands, rest.stand);
       few = one_more (length ss) (8 + depth * size) _ _ _ (length-append (subframe_spelling depth f) (flat_map (subframe_spelling depth) rest.forms)) few rest.few;
     }

@@ -13,7 +13,8 @@ use std::process::Abort;
 use std::test::Fail;
 
 /// What is known of frames before they are written, and the first of them.
-struct Chosen {
+#[derive(Drop)]
+struct FirstFrame {
     least: u32,
     greatest: u32,
     digest: [u8; 16],
@@ -26,7 +27,7 @@ fn chosen(
     plan: &Plan,
     audio: &Audio,
     buffers: &mut EncodeBuffers,
-) -> Result<Chosen, Why>
+) -> Result<FirstFrame, Why>
     requires fits { fits_plan plan.now audio.now ≡ true }
     requires room { buffers.old ≡ plan.now.block_size }
 {
@@ -36,7 +37,7 @@ fn chosen(
     if !audio.is_empty() {
         room = frames.write(plan, audio, 0, buffers, room);
     }
-    Ok(Chosen {
+    Ok(FirstFrame {
         least: frames.least(),
         greatest: frames.greatest(),
         digest: frames.info(plan, audio).digest(),

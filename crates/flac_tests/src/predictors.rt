@@ -1,5 +1,7 @@
 //! Linear predictors that are handed in, worked by hand from RFC 9639.
 
+ghost use Rattle.std.specs.Prelude.{◌≡◌};
+
 use crate::subframes::all_fit;
 use flac_bits::{BitWriter, Collected, Target, Why};
 use flac_frame::{Audio, EncodeBuffers, encode_frame_with, frame_widened_is_plain, greatest_order};
