@@ -3,8 +3,6 @@
 #![tactic(auto)]
 
 #[cfg(test)]
-mod chosen;
-#[cfg(test)]
 mod decoding;
 #[cfg(test)]
 mod encoding;
