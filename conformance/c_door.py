@@ -107,6 +107,12 @@ def due_lines(path, folder):
         yield f"decode {len(data)} {zlib.crc32(data):08x}"
 
 
+def no_frames(name):
+    """The samples, of 0, 10, 20, 30 and 41, that no frame is found for: the table of `every-block` is made up, and says that sample 32 is at byte 70 behind the first
+    frame, where none begins."""
+    return ["no frame at the seek point before 41"] if name == "every-block" else []
+
+
 def listed(made):
     """The sounds of a run."""
     return made.sounds[:12] if made.quick else made.sounds
@@ -288,7 +294,8 @@ def main():
                 with open(paths[-1], "wb") as file:
                     file.write(data)
         for path, told in zip(paths, door.lines(paths)):
-            door.expect(os.path.basename(path), told, list(due_lines(path, folder)))
+            name = os.path.basename(path)
+            door.expect(name, told, [*due_lines(path, folder), *no_frames(name.partition("-")[2])])
         few = [path for path in paths if os.path.getsize(path) < 20000]
         few = few[::max(1, len(few) // 12)]
         checked_runs(door, few, not given.no_valgrind)

@@ -223,12 +223,46 @@ static int32_t *stepped(struct file file, struct flac_proved_cursor *cursor, siz
     return samples;
 }
 
-/* Seeks a sample: the frame that holds it is found, and is that of all samples. */
-static void sought(struct file file, uint64_t sample, const int32_t *all, size_t count) {
+/* Where frames begin, and the end, as they were found one after another. */
+struct starts {
+    uint64_t *offsets;
+    size_t len, room;
+};
+
+static void add_start(struct starts *starts, uint64_t offset) {
+    if (starts->len == starts->room) {
+        size_t i;
+        uint64_t *more = room_for(2 * starts->room + 16, sizeof *more);
+        for (i = 0; i < starts->len; i++) {
+            more[i] = starts->offsets[i];
+        }
+        __real_free(starts->offsets);
+        starts->offsets = more;
+        starts->room = 2 * starts->room + 16;
+    }
+    starts->offsets[starts->len++] = offset;
+}
+
+static int is_start(const struct starts *starts, uint64_t offset) {
+    size_t i;
+    for (i = 0; i < starts->len; i++) {
+        if (starts->offsets[i] == offset) {
+            return 1;
+        }
+    }
+    return 0;
+}
+
+/* Seeks a sample: the frame that holds it is found, and is that of all samples. A seek table may be wrong, which is told. */
+static void sought(struct file file, uint64_t sample, const int32_t *all, size_t count, const struct starts *starts) {
     struct flac_proved_cursor cursor;
     struct flac_proved_fault fault;
     size_t len, channels;
     must(flac_proved_seek(file.bytes, file.len, sample, &cursor, &fault) == 0 && cursor.sample <= sample, 14);
+    if (!is_start(starts, cursor.offset)) {
+        printf(" no frame at the seek point before %lu\n", (unsigned long)sample);
+        return;
+    }
     channels = cursor.info.channels;
     while (cursor.offset < file.len) {
         uint64_t first = cursor.sample;
@@ -259,6 +293,7 @@ static void step_through(struct file file, const struct flac_proved_fault *due) 
     struct flac_proved_cursor cursor;
     struct flac_proved_stream_info info;
     struct flac_proved_fault fault;
+    struct starts starts = {NULL, 0, 0};
     int32_t *all = NULL, *samples;
     size_t len, count = 0, done = 0, i;
     int is_numbered = 1;
@@ -280,11 +315,13 @@ static void step_through(struct file file, const struct flac_proved_fault *due) 
     if (due->number == 0) {
         all = all_samples(file, &count);
     }
+    add_start(&starts, cursor.offset);
     while ((samples = stepped(file, &cursor, &len, &fault)) != NULL && len > 0) {
         if (due->number == 0) {
             must(len <= count - done && memcmp(samples, all + done, len * sizeof *samples) == 0, 13);
         }
         done += len;
+        add_start(&starts, cursor.offset);
         /* headers may number frames from any number on, and may be numbered by another block size than that of the frames */
         is_numbered &= cursor.sample == done / cursor.info.channels;
         __real_free(samples);
@@ -299,10 +336,11 @@ static void step_through(struct file file, const struct flac_proved_fault *due) 
     if (due->number == 0) {
         must(done == count, 13);
         for (i = 0; is_numbered && i < 5; i++) {
-            sought(file, i * count / info.channels / 4, all, count);
+            sought(file, i * count / info.channels / 4, all, count, &starts);
         }
         __real_free(all);
     }
+    __real_free(starts.offsets);
 }
 
 static void put_lines(const char *path) {
