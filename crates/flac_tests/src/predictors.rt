@@ -325,7 +325,8 @@ fn writes_a_frame(rt: HostRuntime) -> Result<(), Fail> {
     assert!(rt; bytes.as_slice() == wanted.as_slice());
     assert!(rt; frame_of(rt.alloc(), 1, &[])?.len() == 34);
     // Two channels that are the same: left and side, whose side is constant in 8 + 17 bits.
-    assert!(rt; frame_of(rt.alloc(), 2, &list)?.as_slice()[3] == 0x88);
+    let both = frame_of(rt.alloc(), 2, &list)?;
+    assert!(rt; both.get(3..4) == Some([0x88].as_slice()));
     Ok(())
 }
 
