@@ -99,6 +99,9 @@ def due_lines(path, folder):
     vendor = [line[2:] for line in listed if line.startswith("  vendor ")]
     yield from info + (vendor or ["vendor "]) if info else ["info " + answer]
     yield from [line[2:] for line in listed if line.startswith("  comment ")] if info else []
+    # a file that is there would be replaced at the end, and what a refused job has written would stay beside it
+    if os.path.exists(raw):
+        os.remove(raw)
     status, _, err = program.call("decode", path, raw)
     if status:
         yield "decode " + program.fault_of(path, status, err)
