@@ -1,0 +1,264 @@
+"""Tries the edits of a crate together: one check for many, where a check of each alone would read the libraries as often.
+
+Edits that change the bodies of different functions, on different lines, make a batch: one copy of the crate that has all of them.
+An edit counts as refused if the prover has an error of its own in a function that this edit alone changes. The prover proves a
+function from its body and the contracts of what it calls, and no edit of a batch changes anything but bodies, so no other edit can
+have caused that error. Whatever else comes of a batch decides nothing: its edits are left to be tried alone, as the kit does it.
+"""
+import functools
+import importlib.machinery
+import os
+import re
+import subprocess
+import tempfile
+import types
+from dataclasses import dataclass, field
+
+# More make a batch so long that nothing is left to run beside its end.
+MOST = 32
+ITEMS = {"fn", "impl", "trait", "struct", "enum", "union", "mod", "static", "const", "macro_rules"}
+NOTE = re.compile(r"note: (?:\./)?(src/\S+?):(\d+):\d+: .* \(`[^`]+`\)")
+ERROR = re.compile(r"(?:\./)?proofs/(\S+)/(?:Answers|Invariants|Proof)\.antt:\d+:\d+: error: ")
+PLACE = re.compile(r"(?:note: )?(?:\./)?(src/\S+?|proofs/\S+?):(\d+):\d+: ")
+VERDICT = re.compile(r"(\w+) (\S+::\S+): (.+)")
+# a proof file that names what an edit took away: little is known of the contract, so the edit is tried alone
+NAMES = re.compile(r"has no field|is not in scope|has no `|was not admitted")
+# what is taken of the kit's script: with another kit each edit is tried alone
+USES = ("KIT", "LIMITS", "REFUSED", "checked", "linked", "read_edit", "unread")
+
+
+def suits(rt):
+    return all(hasattr(rt, it) for it in USES) and hasattr(rt.rtlib, "STALE") and os.path.isfile(f"{rt.KIT}/bin/rt-plant-bodies")
+
+
+@functools.lru_cache(maxsize=None)
+def reader(kit):
+    """The kit's own reader of sources, as a module."""
+    module = types.ModuleType("rt_plant_bodies")
+    module.__file__ = f"{kit}/bin/rt-plant-bodies"
+    importlib.machinery.SourceFileLoader(module.__name__, module.__file__).exec_module(module)
+    return module
+
+
+class File:
+    """The tokens and the functions of one source file."""
+
+    def __init__(self, kit, folder, path):
+        made, rows = reader(kit), {}
+
+        class Reading(made.Source):
+            def tokens(self, file):
+                rows[file], data = super().tokens(file)
+                return rows[file], data
+
+        source = Reading(folder, follows=False)
+        source.read(path)
+        self.lines = source.data[path].split(b"\n")
+        self.functions = [it for it in source.functions if it.has_body]
+        # what is no function's body, less the word mut of a parameter that its body changes
+        self.bodies, self.outside, left = [[] for _ in self.functions], [], [*enumerate(self.functions)]
+        for _, start, _, _, word in rows[path]:
+            while left and start >= left[0][1].end:
+                left.pop(0)
+            if left and left[0][1].opens < start:
+                self.bodies[left[0][0]].append(word)
+            elif word != "mut" or self.outside[-1:] not in (["("], [","]):
+                self.outside.append(word)
+        self.heads = [[word for _, start, _, _, word in rows[path] if it.first <= start < it.start] for it in self.functions]
+
+
+class Sources:
+    """A crate's files and functions."""
+
+    def __init__(self, kit, folder):
+        self.kit, self.made = kit, reader(kit)
+        source = self.made.Source(folder)
+        source.read("src/main.rt" if os.path.isfile(f"{folder}/src/main.rt") else "src/lib.rt")
+        self.data, self.functions = source.data, [it for it in source.functions if it.has_body]
+        self.files = {path: File(kit, folder, path) for path in self.data}
+        self.lines = {it: [self.data[it.file].count(b"\n", 0, at) + 1 for at in (it.first, it.end - 1)] for it in self.functions}
+
+    def of_file(self, path):
+        return [it for it in self.functions if it.file == path]
+
+    def may_be(self, function, name, symbol):
+        """Whether the prover's symbol may be this function's."""
+        parts = symbol.split("::")
+        if parts[-1] != function.name:
+            return False
+        if not function.block:
+            return parts == [name, *function.module, function.name]
+        # (a trait's impl goes by both names)
+        own, of = (self.made.named(it)[0] for it in (function.block.ty, function.block.trait or ["Self"]))
+        return bool(own and of) and parts[-2] == own + of * function.in_trait
+
+    def changed(self, path, text):
+        """The functions whose bodies this text of the file changes, or None if it changes more than bodies, or a body that has items of
+        its own, or that of a constant, a trait or a cycle of calls."""
+        with tempfile.TemporaryDirectory(prefix="flac-edit-") as room:
+            os.makedirs(os.path.dirname(f"{room}/{path}"))
+            with open(f"{room}/{path}", "w", encoding="utf-8") as it:
+                it.write(text)
+            new = File(self.kit, room, path)
+        old = self.files[path]
+        if len(old.functions) != len(new.functions) or old.outside != new.outside:
+            return None
+        rows = zip(self.of_file(path), old.heads, old.bodies, new.bodies)
+        found = [(it, {*head} & {"const"} or ITEMS & {*was, *now}) for it, head, was, now in rows if was != now]
+        has_more = any(more or it.in_cycle or it.block and it.block.is_trait for it, more in found)
+        return None if has_more else {it for it, _ in found}
+
+
+@dataclass(eq=False)
+class Edit:
+    """What one edit does: the lines that it puts in place of others, and the functions whose bodies it changes."""
+
+    file: str
+    lines: dict = field(default_factory=dict)
+    functions: set = field(default_factory=set)
+
+    def disturbs(self, other):
+        return bool(self.functions & other.functions or self.lines.keys() & other.lines.keys())
+
+
+def understood(rt, sources, folder, file):
+    """The edit, or None if it has to be tried alone."""
+    texts, why = rt.read_edit(file, folder)
+    edit = Edit(file)
+    for path, text in (texts or {}).items():
+        new = text.encode().split(b"\n")
+        if path not in sources.files or len(new) != len(sources.files[path].lines):
+            return None
+        try:
+            functions = sources.changed(path, text)
+        except (ValueError, LookupError, subprocess.CalledProcessError):
+            # (it does not parse)
+            return None
+        if functions is None:
+            return None
+        edit.functions |= functions
+        edit.lines.update({(path, at): now for at, (was, now) in enumerate(zip(sources.files[path].lines, new)) if was != now})
+    return edit if edit.functions and not why else None
+
+
+def all_understood(rt, crate, files):
+    """The crate's sources, and those of the edits that can be tried beside others."""
+    try:
+        sources = Sources(rt.KIT, crate.folder)
+        found = [understood(rt, sources, crate.folder, it) for it in files]
+    except Exception as error:
+        # (a source that the kit's reader does not read, say)
+        print(f"note: the edits of {crate.name} are not tried together, but each alone: {error!r}"[:300], flush=True)
+        return None, []
+    return sources, [it for it in found if it]
+
+
+def batched(edits):
+    """Puts edits together that do not disturb each other, in as few batches as can be, about as many into each."""
+    made = [[] for _ in range(0, len(edits), MOST)]
+    for edit in edits:
+        fits = [it for it in made if len(it) < MOST and not any(edit.disturbs(other) for other in it)]
+        if not fits:
+            made.append([])
+        min(fits or made[-1:], key=len).append(edit)
+    return made
+
+
+def batches(rt, crate, files):
+    """The edits of a crate to try together: lists of at least two files. All others are tried alone."""
+    _, edits = all_understood(rt, crate, files)
+    return [[it.file for it in batch] for batch in batched(edits) if len(batch) > 1]
+
+
+def applied(sources, edits):
+    """The texts of the files that these edits change, with all of them."""
+    lines = {path: [*sources.files[path].lines] for edit in edits for path, _ in edit.lines}
+    for edit in edits:
+        for (path, at), text in edit.lines.items():
+            lines[path][at] = text
+    return {path: b"\n".join(it).decode() for path, it in lines.items()}
+
+
+def verdicts(output):
+    """By function: what the prover says of it, and the notes on its goals, which precede that line. A name that comes twice
+    has none."""
+    found, notes = {}, []
+    for line in output.split("\n"):
+        if NOTE.match(line):
+            notes.append(line)
+        told = VERDICT.fullmatch(line)
+        if told:
+            if told[1] == "fn":
+                found[told[2]] = None if told[2] in found else (told[3], notes)
+            notes = []
+    return {symbol: it for symbol, it in found.items() if it}
+
+
+def own_error(sources, name, function, said, errors):
+    """The prover's first error that is in this function and nowhere else, or None."""
+    symbols = [it for it in said if sources.may_be(function, name, it)]
+    if len(symbols) != 1 or sum(sources.may_be(it, name, symbols[0]) for it in sources.functions) != 1:
+        return None
+    words, notes = said[symbols[0]]
+    if not re.match(r"(not proved|no proof)\b", words):
+        return None
+    first, last = sources.lines[function]
+    of_goals = [it for it in notes for at in [NOTE.match(it)] if at[1] == function.file and first <= int(at[2]) <= last]
+    of_answers = [it for it in errors.get("/".join(symbols[0].split("::")[1:]), []) if not NAMES.search(it)]
+    return next(iter(of_answers + of_goals), None)
+
+
+def at_fault(sources, edits, lines):
+    """The edits that a check without a verdict may have stopped at, by the places that these lines begin with."""
+    found = []
+    for at in filter(None, map(PLACE.match, lines)):
+        for edit in edits:
+            for it in edit.functions:
+                first, last = sources.lines[it]
+                in_code = at[1] == it.file and first <= int(at[2]) <= last
+                if in_code or at[1].startswith("proofs/") and f"/{it.name}/" in at[1]:
+                    found.append(edit)
+    return found
+
+
+def refused(rt, crate, sources, edits, flags, kept):
+    """Tries these edits at once, and returns what is to be said of each that the prover refuses, by its file. kept() gives a new copy of
+    the crate's kept work, for one check."""
+    if len(edits) < 2:
+        return {}
+    texts = applied(sources, edits)
+    with kept() as folder:
+        ran = rt.checked(crate, texts, flags, folder)
+    lines = ran.stdout.rstrip("\n").split("\n")
+    unread = [it for it in lines if rt.unread(it, texts)]
+    if ran.returncode == 0:
+        # (not one of them was refused)
+        return {}
+    if ran.returncode != 1 or not lines[-1].startswith("logic=not-proved") or unread or rt.rtlib.STALE.search(ran.stdout):
+        limits = [it for it in lines if rt.LIMITS.search(it)]
+        found = at_fault(sources, edits, unread or limits or [it for it in lines if "error" in it])
+        rest = [it for it in edits if it not in found]
+        halves = [rest] if found else [edits[: len(edits) // 2], edits[len(edits) // 2 :]]
+        return {file: it for half in halves for file, it in refused(rt, crate, sources, half, flags, kept).items()}
+    said, errors, told = verdicts(ran.stdout), {}, {}
+    for line in lines:
+        at = ERROR.match(line)
+        if at:
+            errors.setdefault(at[1], []).append(line)
+    for edit in edits:
+        found = [own_error(sources, crate.name, it, said, errors) for it in sorted(edit.functions, key=lambda it: it.first)]
+        first = next((it for it in found if it), None)
+        if first:
+            label = f"must-fail {crate.name}/{os.path.basename(edit.file)}"
+            told[edit.file] = f"{label}: refused, as it must be (tried beside {len(edits) - 1} others): {first[:160]}"
+    return told
+
+
+def tried(rt, crate, files, flags, kept):
+    """Tries those of these edits together that can be, as they stand now. Returns what is to be said of each that is refused, by its
+    file: every other is to be tried alone."""
+    sources, edits = all_understood(rt, crate, files)
+    told = {}
+    for batch in batched(edits):
+        told.update(refused(rt, crate, sources, batch, flags, kept))
+    return told
