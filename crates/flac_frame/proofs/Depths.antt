@@ -1,35 +1,14 @@
 -- Samples that fit a depth.
-use Rattle.std.proofs.Common.{◌≡◌, ℕ, ◌+◌, ◌-◌, ◌*◌, ◌%◌, ◌^◌, ◌<◌, ◌≤◌, ℤ, pos, negsuc, neg_ℤ, ◌≤ℤ◌, ◌<ℤ◌, ◌-ℤ◌, Bool, true, false, cond, List, [], ◌∷◌, ◌++◌, length, take, get_or, set, nat_eq, FitsSigned, to_z, w32, w64, refl, sym, ap, ◌∙◌, arith}
-use Rattle.std.proofs.lemmas.Bool.{lt-ltb, le-ltb, ltb-true}
-use Rattle.std.proofs.lemmas.Int.{ints, to_z_pos}
+use Rattle.std.proofs.Common.{◌&&◌, ◌≡◌, ℕ, ◌+◌, ◌-◌, ◌^◌, ◌<◌, ◌≤◌, ℤ, pos, negsuc, Bool, true, false, cond, List, [], ◌∷◌, ◌++◌, length, take, get_or, set, nat_eq, FitsSigned, w32, refl, sym, ap, ◌∙◌, arith}
+use Rattle.std.proofs.lemmas.Bool.{ltb-true}
+use Rattle.std.proofs.lemmas.Int.{ints}
 use Rattle.std.specs.Prelude.{bit_or}
+use Rattle.std.specs.List.{list_all}
 use Rattle.std.proofs.lemmas.Bool.Decides.{nat_tests}
-use Rattle.std.proofs.lemmas.Nat.{one_shl, pow_below, le_or_l, le_or_r}
-use Rattle.std.proofs.lemmas.List.{take_more, take_more_set}
+use Rattle.std.proofs.lemmas.Nat.{le_or_l, le_or_r}
+use Rattle.std.proofs.lemmas.List.{take_all, take_more, take_more_set}
 use Rattle.std.proofs.Math.Nat.{pow-le-pow_right}
 use Rattle.flac_subframe.specs.Numbers.{fits, all_fit}
-
--- the limit as the code computes it
-pub limit_is : (bits : ℕ) → 1 ≤ bits → bits ≤ 32 → to_z w64 (1 * 2 ^ (bits - 1) % 2 ^ 64) ≡ pos (2 ^ (bits - 1))
-limit_is bits low high =
-    let below : bits - 1 < 63 = omega arith in
-    let within : bits - 1 < 64 = omega arith in
-    rw (one_shl (bits - 1) 64 within) (to_z_pos w64 (2 ^ (bits - 1)) (pow_below (bits - 1) 63 below))
-
-pub negated_fits : (bits : ℕ) → bits ≤ 32 → 1 ≤ bits → FitsSigned w64 (pos 0 -ℤ pos (2 ^ (bits - 1)))
-negated_fits bits high low = omega (arith, ints, pow_below (bits - 1) 63 (omega arith))
-
-pub fits_within : (n : ℕ) (z : ℤ) → neg_ℤ (pos (2 ^ (n - 1))) ≤ℤ z → z <ℤ pos (2 ^ (n - 1)) → true ≡ fits n z
-fits_within n (pos a) low high = sym (lt-ltb a (2 ^ (n - 1)) (omega (arith, ints, low, high)))
-fits_within n (negsuc a) low high = sym (lt-ltb a (2 ^ (n - 1)) (omega (arith, ints, low, high)))
-
-pub fits_below : (n : ℕ) (z : ℤ) → z <ℤ neg_ℤ (pos (2 ^ (n - 1))) → false ≡ fits n z
-fits_below n (pos a) low = absurd (omega (arith, ints, low))
-fits_below n (negsuc a) low = sym (le-ltb a (2 ^ (n - 1)) (omega (arith, ints, low)))
-
-pub fits_above : (n : ℕ) (z : ℤ) → pos (2 ^ (n - 1)) ≤ℤ z → false ≡ fits n z
-fits_above n (pos a) high = sym (le-ltb a (2 ^ (n - 1)) (omega (arith, ints, high)))
-fits_above n (negsuc a) high = absurd (omega (arith, ints, high))
 
 up : (n : ℕ) → n ≤ 32 → 2 ^ (n - 1) ≤ 2 ^ 31
 up n few = pow-le-pow_right {n = 2} (omega arith) {i = n - 1} {j = 31} (omega arith)
@@ -92,3 +71,20 @@ pub judged : (wrong : ℕ) (p q : Bool) → (wrong ≡ 0 → (p ≡ true) × (q 
 judged wrong true true none some = rw (some refl refl) refl
 judged wrong true false none some = not_zero wrong (λ e. differ ((none e).1))
 judged wrong false q none some = not_zero wrong (λ e. differ ((none e).0))
+
+-- the two ways to say that all fit
+pub all_fit_each : (n : ℕ) (xs : List ℤ) → all_fit n xs ≡ list_all (fits n) xs
+all_fit_each n [] = refl
+all_fit_each n (x ∷ xs) = go (fits n x) (all_fit_each n xs)
+  where
+    go : (b : Bool) → all_fit n xs ≡ list_all (fits n) xs → cond b (all_fit n xs) false ≡ (b && list_all (fits n) xs)
+    go true e = e
+    go false e = refl
+
+-- none is wrong exactly if all fit
+pub none_wrong : (n wrong i : ℕ) (xs : List ℤ) → length xs ≤ i → (wrong ≡ 0 → all_fit n (take i xs) ≡ true) → (all_fit n (take i xs) ≡ true → wrong ≡ 0) → nat_eq wrong 0 ≡ list_all (fits n) xs
+none_wrong n wrong i xs over none some = go (all_fit n (take i xs)) none some ∙ ap (all_fit n) (take_all i xs over) ∙ all_fit_each n xs
+  where
+    go : (b : Bool) → (wrong ≡ 0 → b ≡ true) → (b ≡ true → wrong ≡ 0) → nat_eq wrong 0 ≡ b
+    go true none some = rw (some refl) refl
+    go false none some = not_zero wrong (λ e. differ (none e))

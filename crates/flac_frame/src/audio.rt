@@ -5,7 +5,7 @@ ghost use Rattle.std.specs.List.{list_all};
 ghost use Rattle.flac_subframe.specs.Numbers.{fits};
 ghost use Rattle.flac_frame.specs.Audio.{samples_each, channels_fault, audio_fault, IsSound};
 
-use crate::samples::fits_depth;
+use crate::samples::excess;
 use crate::setup::SetupFault;
 use flac_header::{depth_code, rate_code};
 use std::marker::Model;
@@ -54,10 +54,15 @@ fn are_long(channels: &[Vec<i32>], len: usize) -> bool
 
 /// Whether each sample fits into `bits` bits.
 fn small(samples: &[i32], bits: u32) -> bool
-    requires { (1 ≤ bits) × (bits ≤ 32) }
+    requires depth { (1 ≤ bits) × (bits ≤ 32) }
     ensures { result ≡ list_all (fits bits) samples.now }
 {
-    samples.iter().all(|s| fits_depth(*s as i64, bits))
+    // no exit inside, so that the compiler takes several samples at once
+    let mut wrong = 0;
+    for i in 0..samples.len() {
+        wrong |= excess(samples[i] as i64, bits);
+    }
+    wrong == 0
 }
 
 /// Whether each sample of each channel fits into `bits` bits.

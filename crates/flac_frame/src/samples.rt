@@ -4,22 +4,6 @@ ghost use Rattle.std.specs.Prelude.{◌≡◌, ◌≤◌, length, true, FitsSign
 ghost use Rattle.std.specs.Int.{w32};
 ghost use Rattle.flac_subframe.specs.Numbers.{fits, all_fit};
 
-/// Whether a sample fits the depth.
-#[inline(always)]
-pub(crate) fn fits_depth(sample: i64, depth: u32) -> bool
-    requires depth { (1 ≤ depth) × (depth ≤ 32) }
-    ensures { result ≡ fits depth sample }
-{
-    let limit = 1i64 << (depth - 1);
-    if sample < -limit {
-        return false;
-    }
-    if sample >= limit {
-        return false;
-    }
-    true
-}
-
 /// A number that is 0 exactly if a sample fits the depth.
 #[inline(always)]
 pub(crate) fn excess(sample: i64, depth: u32) -> u64
