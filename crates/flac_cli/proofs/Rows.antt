@@ -1,10 +1,12 @@
 -- Rows of raw samples.
-use Rattle.std.proofs.Common.{◌≡◌, ◌≢◌, ◌≤◌, ◌<◌, ◌+◌, ◌*◌, ◌/◌, ◌%◌, ℕ, zero, suc, ℤ, pos, List, [], ◌∷◌, ◌++◌, length, length-append, append_assoc, take, drop, get_or, set, refl, ap, sym, ◌∙◌, subst, below_more, inl, inr, arith}
-use Rattle.std.proofs.lemmas.List.{length_push, get_or_push, get_or_append_left, drop-drop, take_all, length-take, length-drop, append-nil, drop-append-le, take-append-le, take_more, length-set, get_or-set_same, get_or-set_other}
-use Rattle.std.proofs.lemmas.List.Elements.{All-from_get_or, All-push, All-nil}
+use Rattle.std.proofs.Common.{◌≡◌, ◌≢◌, ◌≤◌, ◌<◌, ◌+◌, ◌-◌, ◌*◌, ◌/◌, ◌%◌, ℕ, zero, suc, ℤ, pos, List, [], ◌∷◌, ◌++◌, length, length-append, append_assoc, take, drop, get_or, set, refl, ap, sym, ◌∙◌, subst, below_more, inl, inr, cond, is_ok, Result, Ok, arith}
+use Rattle.std.proofs.lemmas.List.{length_push, get_or_push, get_or_append_left, get_or-append-add, drop-drop, take_all, take_at, length-take, length-take-le, length-drop, append-nil, drop-append-le, take-append-le, take_more, length-set, get_or-set_same, get_or-set_other}
+use Rattle.std.proofs.lemmas.List.Elements.{All-from_get_or, All-push, All-nil, All-append}
 use Rattle.std.proofs.Math.Nat.{mod-add-div', mul-le-mul_left, mul-pos, mul-div_left, mul-mod_left, mul-add-mod_self_right}
 use Rattle.std.proofs.Math.Seq.{take-add, drop-append-add}
 use Rattle.std.specs.Prelude.{All, is_none, false}
+use Rattle.std.proofs.lemmas.Slice.{take-put_mid}
+use borrow.Rule.Slice.PartMut.{put_mid}
 use Rattle.flac_bits.specs.Signed.{FitsBits}
 use Rattle.flac_native.specs.Message.{sample_bytes, sample_width, row_bytes, rows_bytes}
 use Rattle.flac_native.specs.Given.{sound_message}
@@ -138,20 +140,58 @@ channel_front bytes piece rows row start width samples whole within is = record 
   numbers = is.numbers ∙ sym (samples_front bytes piece row start width rows within (omega arith));
 }
 
--- one sample more of the rows of a piece, behind whole rows
-pub sample_behind : (bytes piece : List ℕ) (before i rows row start width n : ℕ) (samples pushed : List ℤ) (z y : ℤ) → length bytes ≡ before * row → IsChannel (bytes ++ piece) (before + i) row start width samples
-    → i < rows → start + width ≤ row → length piece ≡ rows * row → n ≡ width → z ≡ number_of (take n (drop (i * row + start) piece))
-    → sample_bytes (length (take n (drop (i * row + start) piece))) z ≡ take n (drop (i * row + start) piece)
-    → FitsBits (8 * length (take n (drop (i * row + start) piece))) z → y ≡ z → pushed ≡ samples ++ y ∷ []
-    → IsChannel (bytes ++ piece) (before + (i + 1)) row start width pushed
-sample_behind bytes piece before i rows row start width n samples pushed z y long is lt within whole e number spelled fits same push =
-    let at : (before + i) * row + start ≡ length bytes + (i * row + start) = omega arith in
-    let here : drop ((before + i) * row + start) (bytes ++ piece) ≡ drop (i * row + start) piece = ap (λ k. drop k (bytes ++ piece)) at ∙ drop-append-add bytes piece (i * row + start) in
-    let all : length (bytes ++ piece) ≡ (before + rows) * row = omega (arith, length-append bytes piece, long, whole) in
-    let next : before + i + 1 ≡ before + (i + 1) = omega arith in
-    subst (λ k. IsChannel (bytes ++ piece) k row start width pushed) next
-    (sample_pushed (bytes ++ piece) (before + i) (before + rows) row start width n samples pushed z y is (omega arith) within all e (subst (λ t. z ≡ number_of (take n t)) (sym here) number)
-    (subst (λ t. sample_bytes (length (take n t)) z ≡ take n t) (sym here) spelled) (subst (λ t. FitsBits (8 * length (take n t)) z) (sym here) fits) same push)
+samples_behind : (bytes piece : List ℕ) (before row start width n : ℕ) → length bytes ≡ before * row
+    → samples_at (bytes ++ piece) row start width (before + n) ≡ samples_at (bytes ++ piece) row start width before ++ samples_at piece row start width n
+unfolding samples_at
+samples_behind bytes piece before row start width zero long =
+    let none : before + zero ≡ before = omega arith in
+    ap (samples_at (bytes ++ piece) row start width) none ∙ sym (append-nil (samples_at (bytes ++ piece) row start width before))
+samples_behind bytes piece before row start width (suc n) long =
+    let next : before + suc n ≡ suc (before + n) = omega arith in
+    let at : (before + n) * row + start ≡ length bytes + (n * row + start) = omega (arith, long) in
+    let here : drop ((before + n) * row + start) (bytes ++ piece) ≡ drop (n * row + start) piece = ap (λ k. drop k (bytes ++ piece)) at ∙ drop-append-add bytes piece (n * row + start) in
+    let first = samples_at (bytes ++ piece) row start width before in
+    ap (samples_at (bytes ++ piece) row start width) next
+    ∙ ap (λ l. l ++ number_of (take width (drop ((before + n) * row + start) (bytes ++ piece))) ∷ []) (samples_behind bytes piece before row start width n long)
+    ∙ ap (λ t. (first ++ samples_at piece row start width n) ++ number_of (take width t) ∷ []) here
+    ∙ append_assoc first (samples_at piece row start width n) (number_of (take width (drop (n * row + start) piece)) ∷ [])
+
+-- the samples of a piece behind those of whole rows
+pub channel_more : (bytes piece : List ℕ) (before rows row start width : ℕ) (old new : List ℤ) → length bytes ≡ before * row → start + width ≤ row → IsChannel bytes before row start width old → IsChannel piece rows row start width new
+    → IsChannel (bytes ++ piece) (before + rows) row start width (old ++ new)
+channel_more bytes piece before rows row start width old new long within was is =
+    let front = channel_front bytes piece before row start width old long within was in
+    record {
+      long = omega (arith, length-append old new, was.long, is.long);
+      spelled = λ i lt. elim (cases_lt i before) [
+        | inl low ↦ ap (sample_bytes width) (get_or_append_left old new (pos 0) i (omega (arith, low, was.long))) ∙ front.spelled i low
+        | inr over ↦
+            let j : ℕ = i - before in
+            let at : i ≡ length old + j = omega (arith, over, was.long) in
+            let place : i * row + start ≡ length bytes + (j * row + start) = (let e : i ≡ before + j = omega (arith, over) in ap (λ k. k * row + start) e ∙ omega (arith, long)) in
+            ap (λ k. sample_bytes width (get_or (old ++ new) k (pos 0))) at ∙ ap (sample_bytes width) (get_or-append-add old new j (pos 0)) ∙ is.spelled j (omega (arith, lt, over))
+            ∙ ap (take width) (sym (ap (λ k. drop k (bytes ++ piece)) place ∙ drop-append-add bytes piece (j * row + start)))
+      ];
+      fits = All-append (FitsBits (8 * width)) old new was.fits is.fits;
+      numbers = ap (λ l. l ++ new) front.numbers ∙ ap (λ l. samples_at (bytes ++ piece) row start width before ++ l) is.numbers ∙ sym (samples_behind bytes piece before row start width rows long);
+    }
+
+-- a vector that was made longer
+pub grown : {X T E : Type 0} (old now front rest : List X) (r : Result T E) (x : T) → r ≡ Ok x → now ≡ cond (is_ok r) (front ++ rest) old → front ≡ old → now ≡ old ++ rest
+grown old now front rest r x is e same = e ∙ ap (λ k. cond (is_ok k) (front ++ rest) old) is ∙ ap (λ l. l ++ rest) same
+
+-- the places behind its old elements were then written
+pub places_behind : (n front : ℕ) (old rest places items ys : List ℤ) → front ≡ length old → items ≡ old ++ rest → places ≡ items → n ≡ front + length ys → length ys ≡ length places - front
+    → take n (put_mid front (length places - front) places ys ++ drop (length (put_mid front (length places - front) places ys)) items) ≡ old ++ ys
+places_behind n front old rest places items ys many sized same all long =
+    let is : places ≡ old ++ rest = same ∙ sized in
+    let within : front ≤ length places = omega (arith, ap length is, length-append old rest, many) in
+    let k : ℕ = length places - front in
+    let put = put_mid front k places ys in
+    let post : List ℤ = drop k (drop front places) in
+    let few : n ≤ length put = (let a = length-append (take front places) (ys ++ post) in let b = length-append ys post in let t = length-take-le front places within in omega (arith, a, b, t, all)) in
+    take-append-le n put (drop (length put) items) few ∙ take-put_mid front k places ys n all within
+    ∙ ap (λ l. l ++ ys) (ap (take front) is ∙ take_at old rest front (sym many))
 
 -- ---- more rows of each channel
 

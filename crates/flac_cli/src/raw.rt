@@ -51,6 +51,21 @@ fn sample(bytes: &[u8]) -> i32
     LittleEndian::read_int(bytes, bytes.len()) as i32
 }
 
+/// Fills places with the samples of one channel. The piece has as many inter-channel samples of `row` bytes each, in
+/// which the channel's sample begins at byte `start` and has `width` bytes.
+#[inline(always)]
+fn put_samples(piece: &[u8], row: usize, start: usize, width: usize, places: &mut [i32])
+    requires whole { length piece.now ≡ length places.old * row }
+    requires width { (1 ≤ width) × (width ≤ 4) }
+    requires within { start + width ≤ row }
+    ensures { IsPart row start width piece.now (length places.old) places.new }
+{
+    for i in 0..places.len() {
+        let at = i * row + start;
+        places[i] = sample(&piece[at..at + width]);
+    }
+}
+
 /// What [`push_samples`] does, for a width that its caller fixes: it is compiled anew for each width.
 #[inline(always)]
 fn push_samples_of(
@@ -67,10 +82,9 @@ fn push_samples_of(
     ensures more { OnOk result (IsMore (IsPart row start width) piece.now row rows samples.old.items samples.new.items) }
     ensures memory { IfErr result (λ e. e ≡ Why.Memory) }
 {
-    for i in 0..rows {
-        let at = i * row + start;
-        samples.push(sample(&piece[at..at + width]))?;
-    }
+    let front = samples.len();
+    samples.resize(front + rows, 0)?;
+    put_samples(piece, row, start, width, &mut samples[front..]);
     Ok(())
 }
 

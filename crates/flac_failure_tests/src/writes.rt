@@ -1,7 +1,7 @@
 //! Streams whose writing fails: each call of a target in turn, and of the source that is retagged. What was written before begins what a run without a fault gives.
 
 use crate::reads::{NEVER, ONE_FRAME};
-use flac_bits::{Counted, FailAt, Memory, Pieces, Target};
+use flac_bits::{Collected, Counted, FailAt, Memory, Pieces, Target};
 use flac_frame::Audio;
 use flac_meta::{Block, BlockList, Comments};
 use flac_native::{EncodeFault, Place, Plan, RetagFault, StreamEncoder, Why, encode, retag};
@@ -271,6 +271,68 @@ fn pushes_fail(rt: HostRuntime) -> Result<(), Fail> {
     for n in 0..90 {
         push_fails(&rt, rt.alloc(), &list, &samples, &wanted, n);
     }
+    Ok(())
+}
+
+/// Writes a stream into memory, where a call of the target fails: the number of the fault, 0 if there is none, the bytes that were written, and how often the target was
+/// called.
+fn written_whole(alloc: Global, written: &Written<'_>, at: u64) -> (u8, Vec<u8>, u64) {
+    let mut target = FailAt::new(Collected::new(alloc), at);
+    let outcome = write(alloc, written, &mut target);
+    let calls = target.calls();
+    (number_of(outcome), target.into_inner().into_bytes(), calls)
+}
+
+/// The same of samples of one channel that are pushed, with further blocks: the number of the first fault.
+fn pushed_whole(alloc: Global, list: &BlockList, samples: &[i32], at: u64) -> (u8, Vec<u8>, u64) {
+    let mut target = FailAt::new(Collected::new(alloc), at);
+    let [made, first, ..] = pushed(alloc, list, samples, &mut target);
+    let calls = target.calls();
+    let number = if made == 0 { first } else { made };
+    (number, target.into_inner().into_bytes(), calls)
+}
+
+/// A call of this number failed, and no other was made: just what the calls before took was written, which of the blocks are 4096 bytes each.
+fn stops_there(rt: &impl Abort, outcome: &(u8, Vec<u8>, u64), whole: &[u8], n: u64) {
+    let (number, bytes, calls) = outcome;
+    let front = (n as usize).saturating_mul(4096).min(9046);
+    assert!(rt; *number == 39 && *calls == n.saturating_add(1), "call {n}");
+    assert!(rt; is_front(bytes, whole, front), "call {n}");
+}
+
+/// The samples and a block of 9000 bytes, which are written by three calls for what comes before the frame, and one for the frame.
+fn each_call_fails(rt: &impl Abort, alloc: Global, written: &Written<'_>) {
+    let (number, whole, calls) = written_whole(alloc, written, NEVER);
+    assert!(rt; number == 0 && calls == 4 && whole.len() == 9061);
+    for n in 0..4 {
+        stops_there(rt, &written_whole(alloc, written, n), &whole, n);
+    }
+}
+
+/// The same of one sample that is pushed.
+fn each_call_of_pushing_fails(rt: &impl Abort, alloc: Global, list: &BlockList) {
+    let samples = [25588];
+    let (number, whole, calls) = pushed_whole(alloc, list, &samples, NEVER);
+    assert!(rt; number == 0 && calls == 4);
+    for n in 0..4 {
+        stops_there(rt, &pushed_whole(alloc, list, &samples, n), &whole, n);
+    }
+}
+
+/// A block that is longer than what is held before it is sent: each call of the target fails in turn.
+#[test]
+fn writes_of_a_long_block_fail(rt: HostRuntime) -> Result<(), Fail> {
+    let audio = one_sample(rt.alloc())?;
+    let plan = Plan::new(4096, &audio, 0)?;
+    let list = BlockList::new(vec![in rt.alloc(); Block::Padding(9000)]?)?;
+    let written = Written {
+        audio: &audio,
+        plan: &plan,
+        list: &list,
+        ogg: false,
+    };
+    each_call_fails(&rt, rt.alloc(), &written);
+    each_call_of_pushing_fails(&rt, rt.alloc(), &list);
     Ok(())
 }
 

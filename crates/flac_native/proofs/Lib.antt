@@ -39,3 +39,4 @@ pub mod Ordered
 pub mod Pushing
 pub mod Spelled
 pub mod Rooms
+pub mod Lending

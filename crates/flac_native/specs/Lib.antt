@@ -21,4 +21,5 @@ pub mod Whole
 pub mod BlockOrder
 pub mod Ordered
 pub mod Room
+pub mod Lent
 pub mod Places

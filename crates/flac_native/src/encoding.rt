@@ -1,25 +1,25 @@
 //! Encodes samples as a native stream.
 
-ghost use Rattle.std.specs.Prelude.{◌≡◌, ◌≢◌, ◌∷◌, ◌++◌, ◌<◌, ◌↔◌, length, true, IfOk, IfErr, OnOk, None, Err};
+ghost use Rattle.std.specs.Prelude.{◌≡◌, ◌≢◌, ◌∷◌, ◌++◌, ◌≤◌, ◌<◌, ◌^◌, ◌↔◌, length, true, IfErr, OnOk, None, Err};
 ghost use Rattle.flac_bits.specs.Bits.{bits_of};
 ghost use Rattle.flac_bits.specs.State.{Rises};
 ghost use Rattle.flac_bits.specs.Written.{Writes};
 ghost use Rattle.flac_meta.specs.Listed.{block_fault};
 ghost use Rattle.flac_meta.specs.declared.block.Block.TheVariants as block_of;
-ghost use Rattle.flac_native.specs.Given.{fits_plan};
+ghost use Rattle.flac_native.specs.Given.{fits_plan, info_of};
 ghost use Rattle.flac_native.specs.Numbers.{is_of_whole};
 ghost use Rattle.flac_native.specs.Seeking.{table_of, is_table, has_table, repeats_table};
-ghost use Rattle.flac_native.specs.Writing.{blocks_spelling, head_spelling, AreChoices, HasRoom, SendsStream, Encodes, BeginsEncoding};
+ghost use Rattle.flac_native.specs.Writing.{blocks_spelling, head_spelling, AreChoices, HasRoom, IsDigest, SendsBits, SendsStream, Encodes, BeginsEncoding};
 
 use crate::chosen_frames::ChosenFrames;
 use crate::encode_fault::EncodeFault;
 use crate::frames::send_frames;
 use crate::in_order::write_each;
-use crate::memory::{collect, in_memory};
+use crate::lent::Lent;
 use crate::plan::Plan;
 use crate::room::Room;
-use flac_bits::{BitWriter, Collected, Target, Why, send_all};
-use flac_frame::{Audio, EncodeBuffers, FrameChoice};
+use flac_bits::{BitWriter, Target, Why};
+use flac_frame::{Audio, EncodeBuffers};
 use flac_meta::{Block, BlockList, SeekPoint, SeekTable, StreamInfo, write_block};
 use std::alloc::Global;
 
@@ -63,36 +63,37 @@ pub(crate) fn write_blocks<W: Target>(
 }
 
 /// Writes what comes before the frames: the marker fLaC, STREAMINFO, the blocks and the seek table (RFC 9639, section
-/// 6).
+/// 6). It sends what the writer holds.
 fn write_head<W: Target>(
     info: StreamInfo,
     list: &BlockList,
     points: Vec<SeekPoint>,
     writer: &mut BitWriter<W>,
 ) -> Result<(), Why>
-    requires { block_fault (block_of.SeekTable points.items) ≡ None }
-    ensures { Writes (head_spelling info (list.now ++ table_of points.items)) writer.old writer.new result }
+    requires table { block_fault (block_of.SeekTable points.items) ≡ None }
+    requires whole { writer.old.mark.unread ≡ 0 }
+    ensures writes { Writes (head_spelling info (list.now ++ table_of points.items)) writer.old writer.new result }
+    ensures sent { OnOk result (writer.old.known ≡ true → bits_of writer.new.sent ≡ writer.old.bits ++ head_spelling info (list.now ++ table_of points.items)) }
 {
     writer.put(32, 0x664C6143)?;
-    write_blocks(info, list, points, writer)
+    write_blocks(info, list, points, writer)?;
+    writer.finish()
 }
 
-/// The bytes before the frames, in memory. Its only error is `Memory`: an allocation failed.
-pub(crate) fn head_of(
-    alloc: Global,
+/// Sends what comes before the frames. After an error a prefix of it was sent.
+pub(crate) fn send_head<W: Target>(
     info: StreamInfo,
     list: &BlockList,
     points: Vec<SeekPoint>,
-) -> Result<Vec<u8>, Why>
+    target: &mut W,
+) -> Result<(), Why>
     requires { block_fault (block_of.SeekTable points.items) ≡ None }
-    ensures head { IfOk result (λ head. bits_of head.items ≡ head_spelling info (list.now ++ table_of points.items)) }
-    ensures memory { IfErr result (λ e. e ≡ Why.Memory) }
+    ensures { SendsBits W.Target (head_spelling info (list.now ++ table_of points.items)) target.old target.new result }
 {
-    let mut writer = BitWriter::new(Collected::new(alloc));
-    match write_head(info, list, points, &mut writer) {
-        Ok(()) => collect(writer),
-        Err(why) => Err(in_memory(why)),
-    }
+    let mut writer = BitWriter::new(Lent::over(target));
+    let outcome = write_head(info, list, points, &mut writer);
+    let _target = writer.into_target().into_target();
+    outcome
 }
 
 /// Whether a block is a seek table.
@@ -121,24 +122,35 @@ fn repeats_table(plan: &Plan, list: &BlockList) -> bool
     plan.seek_every() > 0 && has_table(list.blocks())
 }
 
-/// Sends the bytes before the frames, and then the frames. After an error a prefix of them was sent.
+/// Sends what comes before the frames, and then the frames. After an error a prefix of them was sent.
 fn send_stream<W: Target>(
-    head: &[u8],
     plan: &Plan,
+    list: &BlockList,
     audio: &Audio,
-    choices: &[FrameChoice],
+    frames: ChosenFrames,
     buffers: &mut EncodeBuffers,
     room: Room,
     target: &mut W,
 ) -> Result<(), Why>
     requires fits { fits_plan plan.now audio.now ≡ true }
     requires room { buffers.old ≡ plan.now.block_size }
-    requires choices { AreChoices plan.now audio.now choices.now }
+    requires choices { AreChoices plan.now audio.now frames.choices.items }
+    requires table { block_fault (block_of.SeekTable frames.points.items) ≡ None }
+    requires sizes { (frames.least ≤ frames.greatest) × (frames.greatest < 2 ^ 24) }
+    requires digest { IsDigest audio.now frames.digest }
     requires places { HasRoom plan.now audio.now room.places }
-    ensures { SendsStream W.Target (bits_of head.now) plan.now audio.now target.old target.new result }
+    ensures { SendsStream W.Target (head_spelling (info_of plan.now audio.now frames.least frames.greatest) (list.now ++ table_of frames.points.items)) plan.now audio.now target.old target.new result }
 {
-    send_all(target, head)?;
-    send_frames(plan, audio, choices, buffers, room, target)
+    let info = frames.info(plan, audio);
+    send_head(info, list, frames.points, target)?;
+    send_frames(
+        plan,
+        audio,
+        frames.choices.as_slice(),
+        buffers,
+        room,
+        target,
+    )
 }
 
 /// Encodes samples as a native stream: STREAMINFO with the number of samples, the sizes of the frames and the MD5
@@ -148,8 +160,9 @@ fn send_stream<W: Target>(
 /// The plan must fit the samples ([`Plan::fits`]).
 ///
 /// It goes over the samples twice: first it chooses how each frame is written, then it writes one after another. Beside
-/// the samples it holds the bytes before the frames, one frame, and some 560 bytes for each channel of each frame. If
-/// blocks have fewer than 1000 samples, it keeps the choices of the first frames only, and makes the others again.
+/// the samples it holds the seek points, one frame, and some 560 bytes for each channel of each frame. If blocks have
+/// fewer than 1000 samples, it keeps the choices of the first frames only, and makes the others again. Blocks are sent
+/// as they are written.
 ///
 /// ```
 /// let plan = Plan::new(4096, &audio, 0)?;
@@ -196,19 +209,7 @@ pub fn encode<W: Target>(
     let Ok(room) = frames.room(alloc) else {
         return Err(EncodeFault::Memory);
     };
-    let info = frames.info(plan, audio);
-    let Ok(head) = head_of(alloc, info, list, frames.points) else {
-        return Err(EncodeFault::Memory);
-    };
-    match send_stream(
-        head.as_slice(),
-        plan,
-        audio,
-        frames.choices.as_slice(),
-        &mut buffers,
-        room,
-        target,
-    ) {
+    match send_stream(plan, list, audio, frames, &mut buffers, room, target) {
         Ok(()) => Ok(()),
         Err(_) => Err(EncodeFault::Write),
     }

@@ -34,6 +34,7 @@ mod in_order;
 mod item;
 mod kept;
 mod laws;
+mod lent;
 mod memory;
 mod message;
 mod native;

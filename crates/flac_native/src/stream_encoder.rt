@@ -11,9 +11,9 @@ ghost use Rattle.flac_native.specs.Writing.{head_spelling};
 
 use crate::block_bytes::{block_bytes, block_fault, block_len};
 use crate::encode_fault::EncodeFault;
-use crate::encoding::head_of;
+use crate::encoding::send_head;
 use crate::subset::greatest_block;
-use flac_bits::{Target, Why, send_all};
+use flac_bits::{Target, send_all};
 use flac_frame::{EncodeBuffers, SetupFault};
 use flac_header::{depth_code, rate_code};
 use flac_meta::{BlockList, StreamInfo};
@@ -113,23 +113,6 @@ fn open_info(rate: u32, bits: u32, channels: u32, block_size: u32) -> StreamInfo
     }
 }
 
-/// The bytes before the frames, in memory. Its only error is `Memory`: an allocation failed.
-fn open_head(
-    alloc: Global,
-    rate: u32,
-    bits: u32,
-    channels: u32,
-    block_size: u32,
-    list: &BlockList,
-) -> Result<Vec<u8>, Why>
-    requires { shape_fault (record { rate = rate; bits = bits; channels = channels; block_size = block_size }) ≡ None }
-    ensures head { IfOk result (λ head. bits_of head.items ≡ head_spelling (open_info (record { rate = rate; bits = bits; channels = channels; block_size = block_size })) list.now) }
-    ensures memory { IfErr result (λ e. e ≡ Why.Memory) }
-{
-    let info = open_info(rate, bits, channels, block_size);
-    head_of(alloc, info, list, Vec::new(alloc))
-}
-
 impl<W: Target + Drop> StreamEncoder<W> {
     /// Writes the marker, STREAMINFO and the blocks of the list, and makes an encoder for this format (RFC 9639,
     /// sections 6 to 8):
@@ -168,11 +151,10 @@ impl<W: Target + Drop> StreamEncoder<W> {
         let Ok(buffers) = EncodeBuffers::new(alloc, block_size) else {
             return Err(EncodeFault::Memory);
         };
-        let Ok(head) = open_head(alloc, rate, bits, channels, block_size, list) else {
-            return Err(EncodeFault::Memory);
-        };
+        let info = open_info(rate, bits, channels, block_size);
+        let points = Vec::new(alloc);
         let mut target = target;
-        match send_all(&mut target, head.as_slice()) {
+        match send_head(info, list, points, &mut target) {
             Ok(()) => Ok(StreamEncoder {
                 alloc,
                 rate,

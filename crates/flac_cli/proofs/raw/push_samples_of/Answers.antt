@@ -1,22 +1,22 @@
-use Rattle.std.proofs.Common.{◌≡◌, ◌+◌, ◌++◌, rules, arith, subst, w32, SFits}
-use Rattle.std.proofs.lemmas.Int.{to_z-of_z}
+use Rattle.std.proofs.Common.{◌≡◌, ◌+◌, ◌-◌, ◌++◌, ◌∙◌, ap, sym, arith, subst, length, take, drop, ℤ, List}
+use Rattle.std.proofs.lemmas.List.{take_all, length-take, length-drop}
 use Rattle.flac_cli.specs.Raw.{IsChannel}
-use Rattle.flac_cli.proofs.Rows.{channel_front, sample_behind}
+use Rattle.flac_cli.proofs.Rows.{channel_more, grown, places_behind}
 use Rattle.flac_cli.proofs.raw.push_samples_of.Goals as goal
-
-pub loop-i-init : goal.loop-i-init
-loop-i-init c = λ bytes before long is.
-    let none : before ≡ before + 0 = omega arith in
-    subst (λ n. IsChannel (bytes ++ c.args.piece.now) n c.args.row c.args.start c.args.width c.args.samples.now.items) none
-    (channel_front bytes c.args.piece.now before c.args.row c.args.start c.args.width c.args.samples.now.items long c.requires.within is)
-
-pub loop-i-preserved : goal.loop-i-preserved
-loop-i-preserved c = λ bytes before long is.
-    let fits : SFits w32 c.sample.result = search rules in
-    sample_behind bytes c.args.piece.now before c.loop-i.i c.args.rows c.args.row c.args.start c.args.width _ c.loop-i.samples.items _ c.sample.result _ long (c.loop-i.invariant bytes before long is)
-    c.loop-i-test.true c.requires.within c.requires.whole (omega arith) c.sample.ensures.number c.sample.ensures.bytes c.sample.ensures.fits (to_z-of_z w32 c.sample.result fits) c.in_ok-push.ensures.items
 
 pub returns-clause-more : goal.returns-clause-more
 returns-clause-more c = λ bytes before long is.
-    let all : before + c.loop-i.i ≡ before + c.args.rows = omega arith in
-    subst (λ n. IsChannel (bytes ++ c.args.piece.now) n c.args.row c.args.start c.args.width c.loop-i.samples.items) all (c.loop-i.invariant bytes before long is)
+    let front = c.len-front.result in
+    let old : List ℤ = c.args.samples.now.items in
+    let places : List ℤ = c.deref_mut.result.now in
+    let written : List ℤ = c.put_samples.new.places in
+    let many : front ≡ length old = omega (arith, c.len-front.ensures, c.args.samples.now.ok.0) in
+    let kept : take (front + c.args.rows) old ≡ old = take_all (front + c.args.rows) old (omega (arith, many)) in
+    let lent = length-take (length places - front) (drop front places) in
+    let left = length-drop front places in
+    let rows : length (take (length places - front) (drop front places)) ≡ c.args.rows = omega (arith, lent, left, c.deref_mut.ensures.len, c.in_ok-resize.ensures.len) in
+    let put : IsChannel c.args.piece.now c.args.rows c.args.row c.args.start c.args.width written = subst (λ n. IsChannel c.args.piece.now n c.args.row c.args.start c.args.width written) rows c.put_samples.ensures in
+    let sized = grown old c.resize.new.self.items (take (front + c.args.rows) old) _ c.resize.result c.in_ok-resize.field-0 c.in_ok-resize.was c.resize.ensures.items kept in
+    let all = places_behind c.resize.new.self.len front old _ places c.resize.new.self.items written many sized c.deref_mut.ensures.value (omega (arith, c.in_ok-resize.ensures.len, rows, c.put_samples.auto.places)) (omega (arith, c.put_samples.auto.places, lent, left)) in
+    subst (λ l. IsChannel (bytes ++ c.args.piece.now) (before + c.args.rows) c.args.row c.args.start c.args.width l) (sym all)
+    (channel_more bytes c.args.piece.now before c.args.rows c.args.row c.args.start c.args.width old written long c.requires.within is put)

@@ -1,14 +1,9 @@
-use Rattle.std.proofs.Common.{sym, ap, subst, ◌∙◌, ◌++◌, arith}
+use Rattle.std.proofs.Common.{refl, sym, ◌∙◌, arith}
 use Rattle.flac_bits.specs.Bits.{bits_of}
-use Rattle.flac_native.specs.Seeking.{table_of}
-use Rattle.flac_native.specs.Writing.{head_spelling, AreChoices}
 use Rattle.flac_native.proofs.Planned.{planned, block_small}
 use Rattle.flac_native.proofs.Rooms.{room_of}
 use Rattle.flac_native.proofs.Sendings.{given_encodes, all_sent, some_sent}
 use Rattle.flac_native.proofs.encoding.encode.Goals as goal
-
-pub send_stream-requires-clause-choices : goal.send_stream-requires-clause-choices
-send_stream-requires-clause-choices g c = subst (AreChoices c.args.plan.now c.args.audio.now) (sym c.as_slice-2.ensures.value) c.in-Ok-new.ensures.choices
 
 pub send_stream-requires-clause-places : goal.send_stream-requires-clause-places
 send_stream-requires-clause-places g c = room_of c.args.plan.now c.args.audio.now _ _ _ _ c.in-Ok-new.ensures.counted c.in-Ok-room.ensures.places
@@ -21,9 +16,8 @@ returns-in-Ok-send_stream-clause-written g c = λ known.
     let s = c.in-Ok-new.frames in
     let once = sym c.repeats_table.ensures ∙ c.if-repeats_table.false in
     let old = bits_of (g.W.Target.sent c.args.target.now) in
-    let head = ap bits_of c.as_slice.ensures.value ∙ c.in-Ok-head_of.ensures.head ∙ ap (λ i. head_spelling i (list ++ table_of s.points.items)) c.info-info.ensures in
     let w = c.in-Ok-send_stream.ensures in
-    let whole = given_encodes p list a s.least s.greatest s.points.items (bits_of c.as_slice.result.now) w.0 old c.block_size-size.ensures.good c.requires c.blocks-blocks.ensures.good c.blocks-blocks.ensures.fits once head c.in-Ok-new.ensures.counted w.1 w.2 in
+    let whole = given_encodes p list a s.least s.greatest s.points.items _ w.0 old c.block_size-size.ensures.good c.requires c.blocks-blocks.ensures.good c.blocks-blocks.ensures.fits once refl c.in-Ok-new.ensures.counted w.1 w.2 in
     all_sent p list a _ old _ whole (w.3.sent known)
 
 pub returns-clause-begun : goal.returns-clause-begun
@@ -34,9 +28,8 @@ returns-clause-begun g c = λ is known.
     let s = c.in-Ok-new.frames in
     let once = sym c.repeats_table.ensures ∙ c.if-repeats_table.false in
     let old = bits_of (g.W.Target.sent c.args.target.now) in
-    let head = ap bits_of c.as_slice.ensures.value ∙ c.in-Ok-head_of.ensures.head ∙ ap (λ i. head_spelling i (list ++ table_of s.points.items)) c.info-info.ensures in
     let w = c.in-Err.ensures in
-    let whole = given_encodes p list a s.least s.greatest s.points.items (bits_of c.as_slice.result.now) w.0 old c.block_size-size.ensures.good c.requires c.blocks-blocks.ensures.good c.blocks-blocks.ensures.fits once head c.in-Ok-new.ensures.counted w.1 w.2 in
+    let whole = given_encodes p list a s.least s.greatest s.points.items _ w.0 old c.block_size-size.ensures.good c.requires c.blocks-blocks.ensures.good c.blocks-blocks.ensures.fits once refl c.in-Ok-new.ensures.counted w.1 w.2 in
     let begun = w.3.begun known in
     some_sent p list a _ begun.0 begun.1 old _ whole begun.2 begun.3
 

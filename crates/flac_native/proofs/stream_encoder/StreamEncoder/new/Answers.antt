@@ -1,19 +1,26 @@
 use Rattle.std.proofs.Common.{◌++◌, sym, ap, ◌∙◌, arith}
+use Rattle.std.proofs.lemmas.List.{append-nil}
 use Rattle.flac_bits.specs.Bits.{bits_of}
-use Rattle.flac_bits.proofs.Holding.{bits_of-append}
+use Rattle.flac_native.specs.Pushing.{Shape, open_info}
+use Rattle.flac_native.specs.Seeking.{table_of}
+use Rattle.flac_native.specs.Writing.{head_spelling}
 use Rattle.flac_native.proofs.Pushing.{shaped, opened}
 use Rattle.flac_native.proofs.stream_encoder.StreamEncoder.new.Goals as goal
 
 pub new-requires : goal.new-requires
 new-requires g c = let q = shaped _ (sym c.shape_fault.ensures ∙ c.in_default.is) in omega (arith, q.small)
 
-pub returns-in-Ok-send_all-clause-stands : goal.returns-in-Ok-send_all-clause-stands
-returns-in-Ok-send_all-clause-stands g c =
-    opened (record { rate = c.args.rate; bits = c.args.bits; channels = c.args.channels; block_size = c.args.block_size }) c.send_all.new.target c.args.list.now (sym c.shape_fault.ensures ∙ c.in_default.is)
+pub returns-in-Ok-send_head-clause-stands : goal.returns-in-Ok-send_head-clause-stands
+returns-in-Ok-send_head-clause-stands g c =
+    opened (record { rate = c.args.rate; bits = c.args.bits; channels = c.args.channels; block_size = c.args.block_size }) c.send_head.new.target c.args.list.now (sym c.shape_fault.ensures ∙ c.in_default.is)
     c.blocks-blocks.ensures.good c.blocks-blocks.ensures.fits
 
-pub returns-in-Ok-send_all-clause-written : goal.returns-in-Ok-send_all-clause-written
-returns-in-Ok-send_all-clause-written g c = λ known.
-    let old = g.W.Target.sent c.args.target in
-    let head = ap bits_of c.as_slice.ensures.value ∙ c.in-Ok-open_head.ensures.head in
-    ap bits_of (c.in-Ok-send_all.ensures.sends.sent known) ∙ bits_of-append old c.as_slice.result.now ∙ ap (λ k. bits_of old ++ k) head
+pub returns-in-Ok-send_head-clause-written : goal.returns-in-Ok-send_head-clause-written
+returns-in-Ok-send_head-clause-written g c = λ known.
+    let shape : Shape = record { rate = c.args.rate; bits = c.args.bits; channels = c.args.channels; block_size = c.args.block_size } in
+    let old = bits_of (g.W.Target.sent c.args.target) in
+    let list = c.args.list.now in
+    c.in-Ok-send_head.ensures.sent known
+    ∙ ap (λ i. old ++ head_spelling i (list ++ table_of c.new-points.result.items)) c.open_info-info.ensures
+    ∙ ap (λ l. old ++ head_spelling (open_info shape) (list ++ table_of l)) c.new-points.ensures.items
+    ∙ ap (λ l. old ++ head_spelling (open_info shape) l) (append-nil list)
