@@ -1,52 +1,51 @@
 -- One predictor more.
-use Rattle.std.proofs.Common.{◌≡◌, ◌∙◌, inl, inr, sym, ap, ℕ, ◌+◌, ◌*◌, ◌≤◌, ◌<◌, arith, ℤ, List, [], ◌∷◌, ◌++◌, length, map, take, get_or, append_assoc}
+use Rattle.std.proofs.Common.{◌≡◌, ◌∙◌, refl, inl, inr, sym, ap, ℕ, ◌+◌, ◌*◌, ◌≤◌, ◌<◌, arith, ℤ, List, [], ◌∷◌, ◌++◌, length, map, take, get_or, append_assoc}
 use Rattle.std.proofs.lemmas.List.{get_or-map, map_more}
 use Rattle.std.proofs.lemmas.List.FromFn.{map-range_with_len_more}
-use Rattle.flac_subframe.specs.declared.halving.ResidualChoice.{ResidualChoice}
-use Rattle.flac_subframe.specs.Cost.{codings_of}
 use Rattle.flac_subframe.specs.Cost.{Codings, MayWrite}
 use Rattle.flac_subframe.specs.Cost.{residual_cost}
-use Rattle.flac_subframe.specs.declared.choice.PricedChoice.{PricedChoice}
+use Rattle.flac_subframe.specs.declared.choice.Kind.{Kind}
+use Rattle.flac_subframe.specs.declared.choice.Kind.TheVariants.{Constant, Verbatim, Fixed, Linear}
 use Rattle.flac_subframe.specs.declared.linear.LinearPredictor.{LinearPredictor}
 use Rattle.flac_subframe.specs.Handed.{predictor_of, handed_at}
 use Rattle.flac_subframe.specs.Bodies.{fields_cost, Chooses, fixed, coefficients_of, shift_of, order_of, differences, Among, Body, constant, verbatim, predicted, StandsFor}
-use Rattle.flac_subframe.specs.Chosen.{IsBest, IsHanded, IsLeastOf, HasNone, body_of, body_by, fixed_below}
+use Rattle.flac_subframe.specs.Chosen.{Way, IsBest, IsHanded, IsHeld, IsLeastOf, HasNone, body_of, body_held, body_under, held_as, codings_by, fixed_below}
 use Rattle.flac_subframe.proofs.Bodies.{among_more, among_split, least_kept, least_taken, body_stands, body_costs, body_least, none_stands, residual_is, length-predicted, method_bits}
 
-module _ (hs : List LinearPredictor) (most d : ℕ) (s : List ℤ) (ps : List Chooses) (p : Chooses) (best : PricedChoice) (so : IsBest hs most d s ps best) where
+module _ (hs : List LinearPredictor) (most d : ℕ) (s : List ℤ) (ps : List Chooses) (p : Chooses) (best : Way) (so : IsBest hs most d s ps best) where
   pub best_none : HasNone (coefficients_of p) (shift_of p) s → IsBest hs most d s (ps ++ p ∷ []) best
   best_none none = record {
     within = so.within;
-    least = least_kept most d s ps p (body_of hs best.kind s) so.least (λ ws f rs stands. absurd (none_stands most d s ps p none ws f rs stands));
+    least = least_kept most d s ps p (body_held hs best.kind best.codings s) so.least (λ ws f rs stands. absurd (none_stands most d s ps p none ws f rs stands));
     priced = so.priced;
     small = so.small;
   }
 
-  pub best_kept : (r : ResidualChoice) → IsLeastOf most (coefficients_of p) (shift_of p) s r → best.bits ≤ d * order_of p + fields_cost p + r.bits → IsBest hs most d s (ps ++ p ∷ []) best
-  best_kept r is less = record {
+  pub best_kept : (f : Codings) (n : ℕ) → IsLeastOf most (coefficients_of p) (shift_of p) s f n → best.bits ≤ d * order_of p + fields_cost p + n → IsBest hs most d s (ps ++ p ∷ []) best
+  best_kept f n is less = record {
     within = so.within;
-    least = least_kept most d s ps p (body_of hs best.kind s) so.least (λ ws f rs stands. omega (arith, body_least most d s ps p r is ws f rs stands, body_costs most d s ps p r is, so.priced));
+    least = least_kept most d s ps p (body_held hs best.kind best.codings s) so.least (λ ws g rs stands. omega (arith, body_least most d s ps p f n is ws g rs stands, body_costs most d s ps p f n is, so.priced));
     priced = so.priced;
     small = so.small;
   }
 
-  pub best_taken : (r : ResidualChoice) (new : PricedChoice) → IsLeastOf most (coefficients_of p) (shift_of p) s r → new.bits ≡ d * order_of p + fields_cost p + r.bits → new.bits ≤ best.bits → IsHanded hs new.kind → body_of hs new.kind s ≡ body_by p r s → IsBest hs most d s (ps ++ p ∷ []) new
-  best_taken r new is bits less within body = record {
+  pub best_taken : (f : Codings) (n : ℕ) (new : Way) → IsLeastOf most (coefficients_of p) (shift_of p) s f n → new.bits ≡ d * order_of p + fields_cost p + n → new.bits ≤ best.bits → IsHeld hs new.kind → body_held hs new.kind new.codings s ≡ body_under p f s → IsBest hs most d s (ps ++ p ∷ []) new
+  best_taken f n new is bits less within body = record {
     within = within;
-    least = rw body (least_taken most d s ps p (body_of hs best.kind s) (take (order_of p) s) (codings_of r) (differences (coefficients_of p) (shift_of p) s) so.least
-        (body_stands most d s ps p r is) (omega (arith, body_costs most d s ps p r is, so.priced)) (body_least most d s ps p r is));
-    priced = rw body (bits ∙ sym (body_costs most d s ps p r is));
+    least = rw body (least_taken most d s ps p (body_held hs best.kind best.codings s) (take (order_of p) s) f (differences (coefficients_of p) (shift_of p) s) so.least
+        (body_stands most d s ps p f n is) (omega (arith, body_costs most d s ps p f n is, so.priced)) (body_least most d s ps p f n is));
+    priced = rw body (bits ∙ sym (body_costs most d s ps p f n is));
     small = omega (arith, so.small);
   }
 
-module _ (hs : List LinearPredictor) (most d : ℕ) (s : List ℤ) (ps : List Chooses) (p : Chooses) (best : PricedChoice) (so : IsBest hs most d s ps best) where
+module _ (hs : List LinearPredictor) (most d : ℕ) (s : List ℤ) (ps : List Chooses) (p : Chooses) (best : Way) (so : IsBest hs most d s ps best) where
   -- where no form of the predictor costs less
   pub best_above : (n : ℕ) → best.bits ≤ d * order_of p + fields_cost p + n →
       ((f : Codings) → MayWrite most (order_of p) (differences (coefficients_of p) (shift_of p) s) f → n ≤ residual_cost (order_of p) (differences (coefficients_of p) (shift_of p) s) f) →
       IsBest hs most d s (ps ++ p ∷ []) best
   best_above n less each = record {
     within = so.within;
-    least = least_kept most d s ps p (body_of hs best.kind s) so.least (λ ws f rs stands.
+    least = least_kept most d s ps p (body_held hs best.kind best.codings s) so.least (λ ws f rs stands.
         let e = residual_is (coefficients_of p) (shift_of p) s ws rs stands.long stands.restored in
         let may : MayWrite most (order_of p) (differences (coefficients_of p) (shift_of p) s) f = rw e at stands.written in
         rw (← so.priced, length-predicted d p ws f rs (method_bits f.parameter_bits stands.written.method) stands.long, stands.long, e) (omega (arith, each f may)));
@@ -65,15 +64,15 @@ stands_by most ps qs to (verbatim vs) s h = h
 stands_by most ps qs to (predicted p ws f rs) s h = (to p h.0, h.1)
 
 -- what is the best by some predictors is so by the same in another order
-same_best : (hs : List LinearPredictor) (most d : ℕ) (s : List ℤ) (ps qs : List Chooses) (best : PricedChoice) → ((p : Chooses) → Among p ps → Among p qs) → ((p : Chooses) → Among p qs → Among p ps) → IsBest hs most d s ps best → IsBest hs most d s qs best
+same_best : (hs : List LinearPredictor) (most d : ℕ) (s : List ℤ) (ps qs : List Chooses) (best : Way) → ((p : Chooses) → Among p ps → Among p qs) → ((p : Chooses) → Among p qs → Among p ps) → IsBest hs most d s ps best → IsBest hs most d s qs best
 same_best hs most d s ps qs best to from so = record {
   within = so.within;
-  least = record { member = stands_by most ps qs to (body_of hs best.kind s) s so.least.member; least = λ b h. so.least.least b (stands_by most qs ps from b s h) };
+  least = record { member = stands_by most ps qs to (body_held hs best.kind best.codings s) s so.least.member; least = λ b h. so.least.least b (stands_by most qs ps from b s h) };
   priced = so.priced;
   small = so.small;
 }
 
-module _ (hs : List LinearPredictor) (most d : ℕ) (s : List ℤ) (best : PricedChoice) where
+module _ (hs : List LinearPredictor) (most d : ℕ) (s : List ℤ) (best : Way) where
   pub next_tried : (first order : ℕ) → IsBest hs most d s ((fixed first ∷ fixed_below order) ++ fixed order ∷ []) best → IsBest hs most d s (fixed first ∷ fixed_below (order + 1)) best
   next_tried first order so = rw (one_fixed_more order) so
 
@@ -108,3 +107,29 @@ pub one_linear_more : (tried : List Chooses) (ps : List LinearPredictor) (i : �
 one_linear_more tried ps i within =
     ap (λ (l : List Chooses). tried ++ l) (linear_more ps i within)
     ∙ sym (append_assoc tried (map predictor_of (take i ps)) (handed_at ps i ∷ []))
+
+-- ---- a choice that keeps its codings
+
+module _ (hs : List LinearPredictor) (s : List ℤ) where
+  pub body_same : (k : Kind) → body_held hs (held_as k) (codings_by k) s ≡ body_of hs k s
+  body_same Constant = refl
+  body_same Verbatim = refl
+  body_same (Fixed order residual) = refl
+  body_same (Linear index residual) = refl
+
+  pub handed_same : (k : Kind) → IsHeld hs (held_as k) → IsHanded hs k
+  handed_same Constant h = tt
+  handed_same Verbatim h = tt
+  handed_same (Fixed order residual) h = tt
+  handed_same (Linear index residual) h = h
+
+  pub held_same : (k : Kind) → IsHanded hs k → IsHeld hs (held_as k)
+  held_same Constant h = tt
+  held_same Verbatim h = tt
+  held_same (Fixed order residual) h = tt
+  held_same (Linear index residual) h = h
+
+-- a way with the same body is the best too
+pub best_same : (hs : List LinearPredictor) (most d : ℕ) (s : List ℤ) (tried : List Chooses) (old new : Way) → IsHeld hs new.kind → new.bits ≡ old.bits
+    → body_held hs new.kind new.codings s ≡ body_held hs old.kind old.codings s → IsBest hs most d s tried old → IsBest hs most d s tried new
+best_same hs most d s tried old new within bits body so = record { within = within; least = rw body so.least; priced = rw (bits, body) so.priced; small = rw bits so.small }

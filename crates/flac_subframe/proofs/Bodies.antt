@@ -14,9 +14,7 @@ use Rattle.flac_subframe.specs.Cost.{residual_cost}
 use Rattle.flac_subframe.proofs.Lengths.{length-residual, length-signed, length-samples, length-predictor, length-two, length-three}
 use Rattle.flac_subframe.specs.Spelling.{content_spelling, residual_spelling, predictor_spelling}
 use Rattle.flac_subframe.specs.Bodies.{fields_cost, residual_of, Chooses, fixed, linear, coefficients_of, shift_of, order_of, Body, constant, verbatim, predicted, spelled, Among, Predicts, StandsFor, difference, differences}
-use Rattle.flac_subframe.specs.Chosen.{IsLeastOf, HasNone, body_by}
-use Rattle.flac_subframe.specs.declared.halving.ResidualChoice.{ResidualChoice}
-use Rattle.flac_subframe.specs.Cost.{codings_of}
+use Rattle.flac_subframe.specs.Chosen.{IsLeastOf, HasNone, body_under}
 use Rattle.flac_subframe.proofs.Differences.{first_all}
 
 -- ---- what bodies cost
@@ -134,9 +132,9 @@ module _ (most d : ℕ) (s : List ℤ) (ps : List Chooses) (p : Chooses) where
       ]
 
   -- where a residual is the least for what the predictor leaves, its body is the least of that predictor
-  pub body_stands : (r : ResidualChoice) → IsLeastOf most (coefficients_of p) (shift_of p) s r →
-      Predicts most p (take (order_of p) s) (codings_of r) (differences (coefficients_of p) (shift_of p) s) s
-  body_stands r so = let within : order_of p < length s = so.room in record {
+  pub body_stands : (f : Codings) (n : ℕ) → IsLeastOf most (coefficients_of p) (shift_of p) s f n →
+      Predicts most p (take (order_of p) s) f (differences (coefficients_of p) (shift_of p) s) s
+  body_stands f n so = let within : order_of p < length s = so.room in record {
     room = within;
     long = length-take-le (order_of p) s (omega arith);
     restored = restored (coefficients_of p) (shift_of p) s (omega arith);
@@ -144,16 +142,16 @@ module _ (most d : ℕ) (s : List ℤ) (ps : List Chooses) (p : Chooses) where
     written = so.least.member;
   }
 
-  pub body_costs : (r : ResidualChoice) → IsLeastOf most (coefficients_of p) (shift_of p) s r → length (spelled d (body_by p r s)) ≡ d * order_of p + fields_cost p + r.bits
-  body_costs r so = let within : order_of p < length s = so.room in
-      length-predicted d p (take (order_of p) s) (codings_of r) (differences (coefficients_of p) (shift_of p) s) (method_bits r.parameter_bits so.least.member.method) (length-take-le (order_of p) s (omega arith)) ∙ rw (length-take-le (order_of p) s (omega arith), so.bits) refl
+  pub body_costs : (f : Codings) (n : ℕ) → IsLeastOf most (coefficients_of p) (shift_of p) s f n → length (spelled d (body_under p f s)) ≡ d * order_of p + fields_cost p + n
+  body_costs f n so = let within : order_of p < length s = so.room in
+      length-predicted d p (take (order_of p) s) f (differences (coefficients_of p) (shift_of p) s) (method_bits f.parameter_bits so.least.member.method) (length-take-le (order_of p) s (omega arith)) ∙ rw (length-take-le (order_of p) s (omega arith), so.bits) refl
 
-  pub body_least : (r : ResidualChoice) → IsLeastOf most (coefficients_of p) (shift_of p) s r →
-      (ws : List ℤ) (f : Codings) (rs : List ℤ) → Predicts most p ws f rs s → length (spelled d (body_by p r s)) ≤ length (spelled d (predicted p ws f rs))
-  body_least r so ws f rs stands =
+  pub body_least : (f : Codings) (n : ℕ) → IsLeastOf most (coefficients_of p) (shift_of p) s f n →
+      (ws : List ℤ) (g : Codings) (rs : List ℤ) → Predicts most p ws g rs s → length (spelled d (body_under p f s)) ≤ length (spelled d (predicted p ws g rs))
+  body_least f n so ws g rs stands =
       let e = residual_is (coefficients_of p) (shift_of p) s ws rs stands.long stands.restored in
-      let may : MayWrite most (order_of p) (differences (coefficients_of p) (shift_of p) s) f = rw e at stands.written in
-      rw (body_costs r so, length-predicted d p ws f rs (method_bits f.parameter_bits stands.written.method) stands.long, stands.long, e, so.bits) (omega (arith, so.least.least f may))
+      let may : MayWrite most (order_of p) (differences (coefficients_of p) (shift_of p) s) g = rw e at stands.written in
+      rw (body_costs f n so, length-predicted d p ws g rs (method_bits g.parameter_bits stands.written.method) stands.long, stands.long, e, so.bits) (omega (arith, so.least.least g may))
 
   pub none_stands : HasNone (coefficients_of p) (shift_of p) s → (ws : List ℤ) (f : Codings) (rs : List ℤ) → Predicts most p ws f rs s → ⊥
   none_stands none ws f rs stands = elim none [

@@ -46,3 +46,6 @@ pub mod Cuts
 pub mod Valid
 pub mod Complete
 pub mod Family
+pub mod Bytes
+pub mod Places
+pub mod Ways

@@ -1,18 +1,19 @@
 -- A choice that was made of samples.
 use Rattle.std.proofs.Common.{◌≡◌, inl, inr, refl, sym, subst, ℕ, suc, ◌+◌, ◌≤◌, ◌<◌, arith, ℤ, List, [], ◌∷◌, length, take, map, get_or}
 use Rattle.std.proofs.lemmas.List.{length-take-le, get_or_default}
-use Rattle.flac_subframe.specs.declared.choice.Kind.{Kind}
-use Rattle.flac_subframe.specs.declared.choice.Kind.TheVariants.{Constant, Verbatim, Fixed, Linear}
+use Rattle.flac_subframe.specs.declared.held.HeldKind.{HeldKind}
+use Rattle.flac_subframe.specs.declared.held.HeldKind.TheVariants.{AsConstant, AsVerbatim, AsFixed, AsLinear}
 use Rattle.flac_subframe.specs.declared.linear.LinearPredictor.{LinearPredictor}
 use Rattle.flac_subframe.specs.Bodies.{Chooses, fixed, linear, order_of, Among, Body, constant, verbatim, predicted, StandsFor, content_of}
-use Rattle.flac_subframe.specs.Cost.{MayWrite}
-use Rattle.flac_subframe.specs.declared.halving.ResidualChoice.{ResidualChoice}
-use Rattle.flac_subframe.specs.Chosen.{body_by, body_of, IsHanded, offered}
+use Rattle.flac_subframe.specs.Cost.{Codings, MayWrite}
+use Rattle.flac_subframe.specs.declared.chosen.Choice.{Choice}
+use Rattle.flac_subframe.specs.Chosen.{body_under, body_held, body_of, IsHeld, held_as, codings_by, offered}
 use Rattle.flac_subframe.specs.Handed.{predictor_of, handed_at, AreWithin}
-use Rattle.flac_subframe.specs.Family.{OrderIsFew, kind_number}
+use Rattle.flac_subframe.specs.Family.{OrderIsFew, kind_number, IsMadeWith, IsMadeAs, form_with, form_as}
+use Rattle.flac_subframe.specs.Wasted.{shortened}
 use Rattle.flac_subframe.specs.Spelling.{type_of}
 use Rattle.flac_subframe.specs.Prediction.{fixed_coefficients}
-use Rattle.flac_subframe.proofs.Best.{at_place}
+use Rattle.flac_subframe.proofs.Best.{at_place, body_same, held_same}
 use Rattle.flac_subframe.proofs.Differences.{length-fixed}
 
 order_is : (a b : ℕ) → fixed a ≡ fixed b → a ≡ b
@@ -48,14 +49,14 @@ handed_one limit p (q ∷ ps) within (inl e) = (q, e, within 0 q (omega arith))
 handed_one limit p (q ∷ ps) within (inr h) = handed_one limit p ps (λ i d lt. within (suc i) d (omega arith)) h
 
 -- the one at a place of the list
-linear_type : (x : Chooses) (q : LinearPredictor) (r : ResidualChoice) (t : List ℤ) → x ≡ predictor_of q → order_of x ≤ length t → 31 + order_of x ≡ type_of (content_of (body_by x r t))
-linear_type x q r t e room =
-    let P : Chooses → Type 0 = λ y. order_of y ≤ length t → 31 + order_of y ≡ type_of (content_of (body_by y r t)) in
+linear_type : (x : Chooses) (q : LinearPredictor) (f : Codings) (t : List ℤ) → x ≡ predictor_of q → order_of x ≤ length t → 31 + order_of x ≡ type_of (content_of (body_under x f t))
+linear_type x q f t e room =
+    let P : Chooses → Type 0 = λ y. order_of y ≤ length t → 31 + order_of y ≡ type_of (content_of (body_under y f t)) in
     subst P (sym e) (λ few. omega (arith, length-take-le (length q.coefficients.items) t few)) room
 
-one_type : (hs : List LinearPredictor) (i : ℕ) (r : ResidualChoice) (t : List ℤ) → i < length hs → order_of (handed_at hs i) ≤ length t → 31 + order_of (handed_at hs i) ≡ type_of (content_of (body_by (handed_at hs i) r t))
-one_type [] i r t within room = absurd (omega (arith, within))
-one_type (q ∷ qs) i r t within room = linear_type (handed_at (q ∷ qs) i) (get_or (q ∷ qs) i q) r t (at_place (q ∷ qs) i (get_or (q ∷ qs) i q) within (get_or_default (q ∷ qs) i q (get_or (q ∷ qs) i q) within)) room
+one_type : (hs : List LinearPredictor) (i : ℕ) (f : Codings) (t : List ℤ) → i < length hs → order_of (handed_at hs i) ≤ length t → 31 + order_of (handed_at hs i) ≡ type_of (content_of (body_under (handed_at hs i) f t))
+one_type [] i f t within room = absurd (omega (arith, within))
+one_type (q ∷ qs) i f t within room = linear_type (handed_at (q ∷ qs) i) (get_or (q ∷ qs) i q) f t (at_place (q ∷ qs) i (get_or (q ∷ qs) i q) within (get_or_default (q ∷ qs) i q (get_or (q ∷ qs) i q) within)) room
 
 one_few : (hs : List LinearPredictor) (i : ℕ) → i < length hs → order_of (handed_at hs i) ≤ 32
 one_few [] i within = absurd (omega (arith, within))
@@ -64,29 +65,29 @@ one_few (q ∷ qs) i within =
     subst (λ (x : Chooses). order_of x ≤ 32) (sym (at_place (q ∷ qs) i p within (get_or_default (q ∷ qs) i q p within))) p.few
 
 module _ (hs : List LinearPredictor) where
-  pub order_few : (k : Kind) (t : List ℤ) → StandsFor 8 (offered hs) (body_of hs k t) t → OrderIsFew k
-  order_few Constant t h = tt
-  order_few Verbatim t h = tt
-  order_few (Fixed order residual) t h = among_few order hs h.0
-  order_few (Linear index residual) t h = tt
+  pub order_few : (most : ℕ) (k : HeldKind) (f : Codings) (t : List ℤ) → StandsFor most (offered hs) (body_held hs k f t) t → OrderIsFew k
+  order_few most AsConstant f t h = tt
+  order_few most AsVerbatim f t h = tt
+  order_few most (AsFixed order) f t h = among_few order hs h.0
+  order_few most (AsLinear index) f t h = tt
 
-  pub kind_is : (k : Kind) (t : List ℤ) → IsHanded hs k → StandsFor 8 (offered hs) (body_of hs k t) t → kind_number hs k ≡ type_of (content_of (body_of hs k t))
-  kind_is Constant t within h = refl
-  kind_is Verbatim t within h = refl
-  kind_is (Fixed order residual) t within h =
+  pub kind_is : (most : ℕ) (k : HeldKind) (f : Codings) (t : List ℤ) → IsHeld hs k → StandsFor most (offered hs) (body_held hs k f t) t → kind_number hs k ≡ type_of (content_of (body_held hs k f t))
+  kind_is most AsConstant f t within h = refl
+  kind_is most AsVerbatim f t within h = refl
+  kind_is most (AsFixed order) f t within h =
       let few = length-fixed order (among_few order hs h.0) in
       let room = h.1.room in
       let e : length (take (length (fixed_coefficients order)) t) ≡ length (fixed_coefficients order) = length-take-le (length (fixed_coefficients order)) t (omega (arith, room)) in
       omega (arith, e, few)
-  kind_is (Linear index residual) t within h =
+  kind_is most (AsLinear index) f t within h =
       let room = h.1.room in
-      one_type hs index residual t within (omega (arith, room))
+      one_type hs index f t within (omega (arith, room))
 
-  pub kind_few : (k : Kind) → OrderIsFew k → IsHanded hs k → kind_number hs k < 64
-  kind_few Constant h within = omega arith
-  kind_few Verbatim h within = omega arith
-  kind_few (Fixed order residual) h within = omega (arith, h)
-  kind_few (Linear index residual) h within = omega (arith, one_few hs index within)
+  pub kind_few : (k : HeldKind) → OrderIsFew k → IsHeld hs k → kind_number hs k < 64
+  kind_few AsConstant h within = omega arith
+  kind_few AsVerbatim h within = omega arith
+  kind_few (AsFixed order) h within = omega (arith, h)
+  kind_few (AsLinear index) h within = omega (arith, one_few hs index within)
 
 -- what stands with few partition orders stands with more
 pub fewer_orders : (most more : ℕ) (ps : List Chooses) (b : Body) (t : List ℤ) → most ≤ more → StandsFor most ps b t → StandsFor more ps b t
@@ -101,3 +102,17 @@ fewer_orders most more ps (predicted p ws f rs) t le h =
 -- no order is above 32
 pub all_within : (ps : List LinearPredictor) → AreWithin 32 ps
 all_within ps = λ i d lt. (get_or ps i d).few
+
+-- a choice that keeps its codings, as one whose codings stand apart
+pub made_same : (ps : List LinearPredictor) (c : Choice) (s : List ℤ) → IsMadeWith ps c s → IsMadeAs ps c.wasted (held_as c.kind) (codings_by c.kind) s
+made_same ps c s made =
+    let t : List ℤ = shortened c.wasted s in
+    record {
+      wasted = made.wasted;
+      times = made.times;
+      within = held_same ps t c.kind made.within;
+      stands = rw (body_same ps t c.kind) (fewer_orders 8 15 (offered ps) (body_of ps c.kind t) t (omega arith) made.stands);
+    }
+
+pub form_same : (ps : List LinearPredictor) (c : Choice) (s : List ℤ) → form_as ps c.wasted (held_as c.kind) (codings_by c.kind) s ≡ form_with ps c s
+form_same ps c s = rw (body_same ps (shortened c.wasted s) c.kind) refl

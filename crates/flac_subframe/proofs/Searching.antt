@@ -1,20 +1,18 @@
 -- One predictor more, with what the code knows of it.
 use Rattle.std.proofs.Common.{◌≡◌, inl, inr, ℕ, ◌+◌, ◌*◌, ◌≤◌, ◌<◌, ◌^◌, arith, ℤ, List, [], ◌∷◌, ◌++◌, length, All}
-use Rattle.flac_subframe.specs.declared.halving.ResidualChoice.{ResidualChoice}
 use Rattle.flac_subframe.specs.Least.{IsLeast}
 use Rattle.flac_subframe.specs.Cost.{MayWrite}
 use Rattle.flac_subframe.specs.Cost.{residual_cost}
-use Rattle.flac_subframe.specs.declared.choice.PricedChoice.{PricedChoice}
 use Rattle.flac_subframe.specs.Bodies.{coefficients_of, shift_of, order_of, differences}
 use Rattle.flac_subframe.specs.declared.linear.LinearPredictor.{LinearPredictor}
-use Rattle.flac_subframe.specs.Chosen.{IsBest, IsHanded, IsLeastOf, body_of, body_by}
+use Rattle.flac_subframe.specs.Chosen.{Way, IsBest, IsHeld, IsLeastOf, body_held, body_under}
 use Rattle.flac_subframe.proofs.Best.{best_none, best_above, best_taken}
 use Rattle.flac_subframe.specs.Bodies.{Chooses, fields_cost}
 use Rattle.flac_bits.specs.Rice.{IsResidual}
-use Rattle.flac_subframe.specs.Cost.{codings_of, Codings}
+use Rattle.flac_subframe.specs.Cost.{Codings}
 
 module _ (hs : List LinearPredictor) (most d : ℕ) (s : List ℤ) (ps qs : List Chooses) (p : Chooses) (step : qs ≡ ps ++ p ∷ []) (cs : List ℤ) (shift order before : ℕ)
-    (e : cs ≡ coefficients_of p) (e₂ : shift ≡ shift_of p) (e₃ : order ≡ order_of p) (e₄ : before ≡ d * order_of p + fields_cost p) (best : PricedChoice) (so : IsBest hs most d s ps best) where
+    (e : cs ≡ coefficients_of p) (e₂ : shift ≡ shift_of p) (e₃ : order ≡ order_of p) (e₄ : before ≡ d * order_of p + fields_cost p) (best : Way) (so : IsBest hs most d s ps best) where
   pub too_long : length s ≤ order → IsBest hs most d s qs best
   too_long h = rw step (best_none hs most d s ps p best so (inl (omega (arith, e₃))))
 
@@ -29,12 +27,12 @@ module _ (hs : List LinearPredictor) (most d : ℕ) (s : List ℤ) (ps qs : List
       let each' = rw (e, e₂, e₃) at each in
       rw step (best_above hs most d s ps p best so below (omega (arith, e₄)) each')
 
-  pub better : (r : ResidualChoice) (new : PricedChoice) → order < length s → All IsResidual (differences cs shift s) →
-      IsLeast (MayWrite most order (differences cs shift s)) (residual_cost order (differences cs shift s)) (codings_of r) → r.bits ≡ residual_cost order (differences cs shift s) (codings_of r) → r.bits ≤ 2 ^ 49 →
-      new.bits ≡ before + r.bits → new.bits ≤ best.bits → IsHanded hs new.kind → body_of hs new.kind s ≡ body_by p r s → IsBest hs most d s qs new
-  better r new room range least bits small is less within body =
+  pub better : (f : Codings) (n : ℕ) (new : Way) → order < length s → All IsResidual (differences cs shift s) →
+      IsLeast (MayWrite most order (differences cs shift s)) (residual_cost order (differences cs shift s)) f → n ≡ residual_cost order (differences cs shift s) f → n ≤ 2 ^ 49 →
+      new.bits ≡ before + n → new.bits ≤ best.bits → IsHeld hs new.kind → body_held hs new.kind new.codings s ≡ body_under p f s → IsBest hs most d s qs new
+  better f n new room range least bits small is less within body =
       let range' = rw (e, e₂) at range in
       let least' = rw (e, e₂, e₃) at least in
       let bits' = rw (e, e₂, e₃) at bits in
-      let of : IsLeastOf most (coefficients_of p) (shift_of p) s r = record { room = omega (arith, e₃); range = range'; least = least'; bits = bits'; small = small } in
-      rw step (best_taken hs most d s ps p best so r new of (omega (arith, e₄)) less within body)
+      let of : IsLeastOf most (coefficients_of p) (shift_of p) s f n = record { room = omega (arith, e₃); range = range'; least = least'; bits = bits'; small = small } in
+      rw step (best_taken hs most d s ps p best so f n new of (omega (arith, e₄)) less within body)

@@ -1,9 +1,11 @@
 -- What the codings of a residual cost, in bits, and which a residual may have.
-use Rattle.std.specs.Prelude.{ℕ, ℤ, ◌≡◌, ◌+◌, ◌-◌, ◌*◌, ◌/◌, ◌%◌, ◌^◌, ◌<◌, ◌≤◌, ◌⊎◌, List, [], ◌∷◌, length, take, drop, All}
+use Rattle.std.specs.Prelude.{ℕ, ℤ, ◌≡◌, ◌+◌, ◌-◌, ◌*◌, ◌/◌, ◌%◌, ◌^◌, ◌<◌, ◌≤◌, ◌⊎◌, cond, nat_lt, List, [], ◌∷◌, length, map, take, drop, All}
 use Rattle.std.specs.List.{sum_by}
 use Rattle.flac_subframe.specs.declared.coding.Coding.{Coding}
 use Rattle.flac_subframe.specs.declared.coding.Coding.TheVariants.{Rice, Escape}
 use Rattle.flac_subframe.specs.declared.halving.ResidualChoice.{ResidualChoice}
+use Rattle.flac_subframe.specs.declared.halving.Found.{Found}
+use Rattle.flac_subframe.specs.declared.view.CodedView.{CodedView}
 use Rattle.flac_subframe.specs.Spelling.{folded, FitsWidth}
 
 -- the codings that a partition may have
@@ -55,8 +57,25 @@ residual_cost order rs f =
 abbrev pub Partitioned : ℕ → ℕ → ℕ → ℕ → List ℤ → List Coding → Type 0
 Partitioned w first size n rs cs = (length cs ≡ n) × MayCodeEach w first size rs cs
 
+-- the coding that a byte stands for: below 32 a Rice parameter, and from 32 on the width of an escape
+unfoldable pub coding_of : ℕ → Coding
+coding_of n = cond (nat_lt n 32) (Rice n) (Escape (n - 32))
+
+-- the coding has a byte
+abbrev pub HasByte : Coding → Type 0
+HasByte (Rice k) = k < 32
+HasByte (Escape n) = n < 32
+
 abbrev pub codings_of : ResidualChoice → Codings
-codings_of c = record { parameter_bits = c.parameter_bits; halvings = c.halvings; codings = c.codings.items }
+codings_of c = record { parameter_bits = c.parameter_bits; halvings = c.halvings; codings = map coding_of c.codings.items }
+
+-- the same of bytes in an array, which may have more places
+abbrev pub codings_in : Found → List ℕ → Codings
+codings_in f bytes = record { parameter_bits = f.parameter_bits; halvings = f.halvings; codings = map coding_of (take (2 ^ f.halvings) bytes) }
+
+-- the same of bytes that are lent
+abbrev pub codings_lent : CodedView → Codings
+codings_lent c = record { parameter_bits = c.parameter_bits; halvings = c.halvings; codings = map coding_of c.codings.now }
 
 -- the forms of one method and partition order, and of one method
 abbrev pub HalvedTo : ℕ → ℕ → ℕ → ℕ → List ℤ → Codings → Type 0

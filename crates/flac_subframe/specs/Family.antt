@@ -1,11 +1,13 @@
 -- The forms of a subframe for some samples, and the form that a choice stands for.
-use Rattle.std.specs.Prelude.{ℕ, ℤ, ◌≡◌, ◌≤◌, ◌+◌, List, [], map}
+use Rattle.std.specs.Prelude.{ℕ, ℤ, ◌≡◌, ◌≤◌, ◌+◌, ◌^◌, List, [], length, map}
 use Rattle.flac_subframe.specs.declared.chosen.Choice.{Choice}
 use Rattle.flac_subframe.specs.Bodies.{Chooses, order_of, Body, content_of, StandsFor}
-use Rattle.flac_subframe.specs.declared.choice.Kind.{Kind}
-use Rattle.flac_subframe.specs.declared.choice.Kind.TheVariants.{Constant, Verbatim, Fixed, Linear}
+use Rattle.flac_subframe.specs.declared.held.HeldKind.{HeldKind}
+use Rattle.flac_subframe.specs.declared.held.HeldKind.TheVariants.{AsConstant, AsVerbatim, AsFixed, AsLinear}
+use Rattle.flac_subframe.specs.declared.wide.WideChoice.{WideChoice}
 use Rattle.flac_subframe.specs.declared.linear.LinearPredictor.{LinearPredictor}
-use Rattle.flac_subframe.specs.Chosen.{body_of, IsHanded, offered}
+use Rattle.flac_subframe.specs.Chosen.{body_of, body_held, IsHanded, IsHeld, offered}
+use Rattle.flac_subframe.specs.Cost.{Codings, codings_in}
 use Rattle.flac_subframe.specs.Handed.{handed_at}
 use Rattle.flac_subframe.specs.Subframe.{Form}
 use Rattle.flac_subframe.specs.Wasted.{IsWasted, times_power, shortened}
@@ -35,18 +37,45 @@ form_of c s = form_with [] c s
 abbrev pub IsMadeOf : Choice → List ℤ → Type 0
 IsMadeOf c s = IsMadeWith [] c s
 
+-- ---- where the codings stand apart, with partition orders up to 15
+
+-- the form of a subframe without its lowest k bits, by its kind and the codings of its residual
+abbrev pub form_as : List LinearPredictor → ℕ → HeldKind → Codings → List ℤ → Form
+form_as ps k kind f s = record { wasted = k; content = content_of (body_held ps kind f (shortened k s)) }
+
+-- they were chosen of these samples, by a fixed predictor or by a linear one of a list if there is one
+pub record IsMadeAs (ps : List LinearPredictor) (k : ℕ) (kind : HeldKind) (f : Codings) (s : List ℤ) : Type 0 where
+  pub wasted : IsWasted k s
+  pub times : s ≡ map (times_power k) (shortened k s)
+  pub within : IsHeld ps kind
+  pub stands : StandsFor 15 (offered ps) (body_held ps kind f (shortened k s)) (shortened k s)
+
+-- the codings of a choice, the first of its places
+abbrev pub codings_kept : WideChoice → Codings
+codings_kept c = codings_in c.found c.codings.items
+
+-- the form that a choice stands for, whose linear predictor is one of a list
+abbrev pub form_in : List LinearPredictor → WideChoice → List ℤ → Form
+form_in ps c s = form_as ps c.wasted c.kind (codings_kept c) s
+
+-- the choice was made of these samples, by a fixed predictor or by a linear one of a list if it has one
+pub record IsMadeIn (ps : List LinearPredictor) (c : WideChoice) (s : List ℤ) : Type 0 where
+  pub made : IsMadeAs ps c.wasted c.kind (codings_kept c) s
+  pub few : c.found.halvings ≤ 15
+  pub places : 2 ^ c.found.halvings ≤ length c.codings.items
+
 -- ---- the header
 
 -- the order of a fixed predictor
-abbrev pub OrderIsFew : Kind → Type 0
-OrderIsFew Constant = Unit {0}
-OrderIsFew Verbatim = Unit {0}
-OrderIsFew (Fixed order residual) = order ≤ 4
-OrderIsFew (Linear index residual) = Unit {0}
+abbrev pub OrderIsFew : HeldKind → Type 0
+OrderIsFew AsConstant = Unit {0}
+OrderIsFew AsVerbatim = Unit {0}
+OrderIsFew (AsFixed order) = order ≤ 4
+OrderIsFew (AsLinear index) = Unit {0}
 
 -- the type of a subframe (RFC 9639, section 9.2.1)
-abbrev pub kind_number : List LinearPredictor → Kind → ℕ
-kind_number ps Constant = 0
-kind_number ps Verbatim = 1
-kind_number ps (Fixed order residual) = 8 + order
-kind_number ps (Linear index residual) = 31 + order_of (handed_at ps index)
+abbrev pub kind_number : List LinearPredictor → HeldKind → ℕ
+kind_number ps AsConstant = 0
+kind_number ps AsVerbatim = 1
+kind_number ps (AsFixed order) = 8 + order
+kind_number ps (AsLinear index) = 31 + order_of (handed_at ps index)

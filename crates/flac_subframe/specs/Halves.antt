@@ -2,6 +2,7 @@
 use Rattle.std.specs.Prelude.{ℕ, ℤ, ◌≡◌, ◌+◌, ◌-◌, ◌*◌, ◌/◌, ◌%◌, ◌^◌, ◌<◌, ◌≤◌, List, length, take, drop, slice_index, All, ◌↔◌}
 use Rattle.std.specs.List.{sum_by}
 use Rattle.flac_subframe.specs.Cost.{value_cost}
+use Rattle.flac_subframe.specs.declared.tables.Tables.{Tables}
 use Rattle.flac_subframe.specs.Spelling.{FitsWidth}
 
 -- where the partition j begins, behind the warm-up samples
@@ -45,3 +46,11 @@ IsWidth rs w = (n : ℕ) → (All (FitsWidth n) rs ↔ (w ≤ n))
 -- the widths of the partitions at the partition orders from one to another, each at its place
 abbrev pub HasWidths : ℕ → List ℤ → ℕ → ℕ → List ℕ → Type 0
 HasWidths order rs low high widths = (p j : ℕ) → low ≤ p → p ≤ high → j < 2 ^ p → IsWidth (part order rs p j) (slice_index widths (2 ^ p + j)) × (slice_index widths (2 ^ p + j) ≤ 32)
+
+-- the arrays of a search have places for partition orders up to the greatest
+pub record HasPlaces (most : ℕ) (t : Tables) : Type 0 where
+  pub sums : 2 ^ most ≤ length t.sums.now
+  pub four : 2 * 2 ^ most ≤ length t.four.now
+  pub five : 2 * 2 ^ most ≤ length t.five.now
+  pub widths : 2 * 2 ^ most ≤ length t.widths.now
+  pub codings : 2 ^ most ≤ length t.codings.now

@@ -13,3 +13,4 @@ pub mod Handed
 pub mod Chosen
 pub mod Wasted
 pub mod Family
+pub mod Room

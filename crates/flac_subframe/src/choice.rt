@@ -1,5 +1,5 @@
 //! The content of the fewest bits for the samples of a subframe.
-ghost use Rattle.std.specs.Prelude.{◌≡◌, ◌<◌, ◌≤◌, ◌^◌, ◌+◌, ◌++◌, ◌∷◌, [], ◌*◌, List, ℕ, length, All, IsTrue, ◌↔◌, replicate, map};
+ghost use Rattle.std.specs.Prelude.{◌≡◌, ◌<◌, ◌≤◌, ◌^◌, ◌+◌, ◌++◌, ◌∷◌, [], ◌*◌, List, ℕ, ℤ, length, All, IsTrue, ◌↔◌, replicate, map};
 ghost use Rattle.flac_bits.specs.Signed.{FitsBits};
 ghost use Rattle.flac_subframe.specs.Numbers.{sample_at};
 ghost use Rattle.flac_subframe.specs.Prediction.{fixed_coefficients};
@@ -7,19 +7,21 @@ ghost use Rattle.flac_subframe.specs.Spelling.{folded};
 ghost use Rattle.flac_subframe.specs.Least.{IsLeast};
 ghost use Rattle.flac_bits.specs.Rice.{IsResidual};
 ghost use Rattle.flac_subframe.specs.Bodies.{Chooses, fixed, differences, StandsFor, spelled};
-ghost use Rattle.flac_subframe.specs.Chosen.{body_of, IsBest, fixed_below, offered, priced_as};
+ghost use Rattle.flac_subframe.specs.Chosen.{IsBest, fixed_below, offered, way_held, way_priced};
+ghost use Rattle.flac_subframe.specs.Halves.{HasPlaces};
 ghost use Rattle.flac_subframe.specs.Handed.{predictor_of, handed_at};
 ghost use Rattle.flac_subframe.specs.declared.linear.LinearPredictor.{LinearPredictor};
 
 use crate::chosen::MOST_SAMPLES;
 use crate::folding::fold_each;
-use crate::halving::ResidualChoice;
+use crate::halving::{Found, ResidualChoice, gathered};
+use crate::held::{Held, HeldKind};
 use crate::leaving::{take_differences, take_weighed};
 use crate::linear::LinearPredictor;
 use crate::narrowed::{narrow, take_narrow};
-use crate::survey::{Tables, greatest_halvings, least_residual_into};
+use crate::survey::{greatest_halvings, least_residual};
+use crate::tables::Tables;
 use crate::view::{ResidualView, SampleView, Scope};
-use arrayvec::ArrayVec;
 
 /// How the samples of a subframe are written. A linear predictor is named by its place in the list that was handed in.
 #[derive(Drop, Clone, Debug, PartialEq, Eq)]
@@ -34,23 +36,6 @@ pub enum Kind {
         index: usize,
         residual: ResidualChoice,
     },
-}
-
-/// How the best so far is written, but for its residual.
-#[derive(Drop)]
-pub enum HeldKind {
-    AsConstant,
-    AsVerbatim,
-    AsFixed(usize),
-    AsLinear(usize),
-}
-
-/// The best so far. Its residual stays in place and is overwritten only by a better one.
-#[derive(Drop)]
-pub struct Held {
-    pub kind: HeldKind,
-    pub residual: ResidualChoice,
-    pub bits: u64,
 }
 
 /// A choice, and how many bits it takes.
@@ -159,7 +144,7 @@ fn better_fixed(
     wide: &mut [i64],
     values: &mut [i32],
     folds: &mut [u32],
-    tables: &mut Tables,
+    tables: &mut Tables<'_>,
     best: &mut Held,
 )
     requires order { order ≤ 4 }
@@ -167,7 +152,11 @@ fn better_fixed(
     requires places { length subject.now.samples.now ≤ length values.old }
     requires folds { length subject.now.samples.now ≤ length folds.old }
     requires small { best.old.bits ≤ 2 ^ 60 }
-    ensures { (tried : List Chooses) → IsBest subject.now.predictors.now subject.now.most subject.now.bits subject.now.samples.now tried (priced_as best.old) → IsBest subject.now.predictors.now subject.now.most subject.now.bits subject.now.samples.now (tried ++ fixed order ∷ []) (priced_as best.new) }
+    requires arrays { HasPlaces subject.now.most tables.old }
+    ensures best { (tried : List Chooses) → IsBest subject.now.predictors.now subject.now.most subject.now.bits subject.now.samples.now tried (way_held best.old tables.old.codings.now) → IsBest subject.now.predictors.now subject.now.most subject.now.bits subject.now.samples.now (tried ++ fixed order ∷ []) (way_held best.new tables.new.codings.now) }
+    ensures within { best.old.found.halvings ≤ subject.now.most → best.new.found.halvings ≤ subject.now.most }
+    ensures arrays { HasPlaces subject.now.most tables.new }
+    ensures same { tables.new.codings.ghost_name ≡ tables.old.codings.ghost_name }
 {
     let samples = subject.samples;
     if order >= samples.len() {
@@ -190,9 +179,12 @@ fn better_fixed(
         order,
         halvings,
     };
-    if least_residual_into(&residual, tables, limit - before, &mut best.residual) {
-        best.kind = HeldKind::AsFixed(order);
-        best.bits = before + best.residual.bits;
+    if let Some(found) = least_residual(&residual, tables, limit - before) {
+        *best = Held {
+            kind: HeldKind::AsFixed(order),
+            found,
+            bits: before + found.bits,
+        };
     }
 }
 
@@ -229,7 +221,7 @@ fn better_linear(
     wide: &mut [i64],
     values: &mut [i32],
     folds: &mut [u32],
-    tables: &mut Tables,
+    tables: &mut Tables<'_>,
     best: &mut Held,
 )
     requires index { index < length subject.now.predictors.now }
@@ -237,8 +229,12 @@ fn better_linear(
     requires places { length subject.now.samples.now ≤ length values.old }
     requires folds { length subject.now.samples.now ≤ length folds.old }
     requires small { best.old.bits ≤ 2 ^ 60 }
-    ensures best { (tried : List Chooses) → IsBest subject.now.predictors.now subject.now.most subject.now.bits subject.now.samples.now tried (priced_as best.old) → IsBest subject.now.predictors.now subject.now.most subject.now.bits subject.now.samples.now (tried ++ handed_at subject.now.predictors.now index ∷ []) (priced_as best.new) }
+    requires arrays { HasPlaces subject.now.most tables.old }
+    ensures best { (tried : List Chooses) → IsBest subject.now.predictors.now subject.now.most subject.now.bits subject.now.samples.now tried (way_held best.old tables.old.codings.now) → IsBest subject.now.predictors.now subject.now.most subject.now.bits subject.now.samples.now (tried ++ handed_at subject.now.predictors.now index ∷ []) (way_held best.new tables.new.codings.now) }
     ensures less { best.new.bits ≤ best.old.bits }
+    ensures within { best.old.found.halvings ≤ subject.now.most → best.new.found.halvings ≤ subject.now.most }
+    ensures arrays { HasPlaces subject.now.most tables.new }
+    ensures same { tables.new.codings.ghost_name ≡ tables.old.codings.ghost_name }
 {
     let samples = subject.samples;
     let predictors = subject.predictors;
@@ -263,9 +259,12 @@ fn better_linear(
         order,
         halvings,
     };
-    if least_residual_into(&residual, tables, best.bits - before, &mut best.residual) {
-        best.kind = HeldKind::AsLinear(index);
-        best.bits = before + best.residual.bits;
+    if let Some(found) = least_residual(&residual, tables, best.bits - before) {
+        *best = Held {
+            kind: HeldKind::AsLinear(index),
+            found,
+            bits: before + found.bits,
+        };
     }
 }
 
@@ -275,14 +274,18 @@ fn better_of_each(
     wide: &mut [i64],
     values: &mut [i32],
     folds: &mut [u32],
-    tables: &mut Tables,
+    tables: &mut Tables<'_>,
     best: &mut Held,
 )
     requires wide { length subject.now.samples.now ≤ length wide.old }
     requires places { length subject.now.samples.now ≤ length values.old }
     requires folds { length subject.now.samples.now ≤ length folds.old }
     requires small { best.old.bits ≤ 2 ^ 60 }
-    ensures { (tried : List Chooses) → IsBest subject.now.predictors.now subject.now.most subject.now.bits subject.now.samples.now tried (priced_as best.old) → IsBest subject.now.predictors.now subject.now.most subject.now.bits subject.now.samples.now (tried ++ map predictor_of subject.now.predictors.now) (priced_as best.new) }
+    requires arrays { HasPlaces subject.now.most tables.old }
+    ensures best { (tried : List Chooses) → IsBest subject.now.predictors.now subject.now.most subject.now.bits subject.now.samples.now tried (way_held best.old tables.old.codings.now) → IsBest subject.now.predictors.now subject.now.most subject.now.bits subject.now.samples.now (tried ++ map predictor_of subject.now.predictors.now) (way_held best.new tables.new.codings.now) }
+    ensures within { best.old.found.halvings ≤ subject.now.most → best.new.found.halvings ≤ subject.now.most }
+    ensures arrays { HasPlaces subject.now.most tables.new }
+    ensures same { tables.new.codings.ghost_name ≡ tables.old.codings.ghost_name }
 {
     for index in 0..subject.predictors.len() {
         better_linear(subject, index, wide, values, folds, tables, best);
@@ -294,62 +297,86 @@ fn begin(samples: &[i64], bits: u32) -> Held
     requires some { 0 < length samples.now }
     requires few { length samples.now ≤ 65535 }
     requires bits { bits ≤ 33 }
-    ensures { (handed : List LinearPredictor) (most : ℕ) → IsBest handed most bits samples.now (fixed_below 0) (priced_as result) }
+    ensures best { (handed : List LinearPredictor) (most : ℕ) (codings : List ℕ) → IsBest handed most bits samples.now (fixed_below 0) (way_held result codings) }
+    ensures none { result.found.halvings ≡ 0 }
 {
-    let residual = ResidualChoice {
+    let found = Found {
         parameter_bits: 4,
         halvings: 0,
-        codings: ArrayVec::new(),
         bits: 0,
     };
     let width = u64::from(bits);
     if all_equal(samples) {
         Held {
             kind: HeldKind::AsConstant,
-            residual,
+            found,
             bits: width,
         }
     } else {
         Held {
             kind: HeldKind::AsVerbatim,
-            residual,
+            found,
             bits: width * samples.len() as u64,
         }
     }
 }
 
-/// The best of all as a choice.
-fn release(held: Held) -> PricedChoice
-    ensures { result ≡ priced_as held }
+/// The content of the fewest bits: constant, verbatim, a fixed predictor or one of the linear ones, with a partition order up to the
+/// greatest. The codings of its residual are in their array.
+pub(crate) fn search(
+    subject: &SampleView<'_>,
+    wide: &mut [i64],
+    values: &mut [i32],
+    folds: &mut [u32],
+    tables: &mut Tables<'_>,
+) -> Held
+    requires some { 0 < length subject.now.samples.now }
+    requires wide { length subject.now.samples.now ≤ length wide.old }
+    requires places { length subject.now.samples.now ≤ length values.old }
+    requires folds { length subject.now.samples.now ≤ length folds.old }
+    requires arrays { HasPlaces subject.now.most tables.old }
+    ensures best { IsBest subject.now.predictors.now subject.now.most subject.now.bits subject.now.samples.now (offered subject.now.predictors.now) (way_held result tables.new.codings.now) }
+    ensures within { result.found.halvings ≤ subject.now.most }
+    ensures arrays { HasPlaces subject.now.most tables.new }
+    ensures same { tables.new.codings.ghost_name ≡ tables.old.codings.ghost_name }
 {
-    let Held {
+    let mut best = begin(subject.samples, subject.bits);
+    let first = likely_order(subject.samples);
+    better_fixed(subject, first, wide, values, folds, tables, &mut best);
+    for order in 0..5 {
+        if order != first {
+            better_fixed(subject, order, wide, values, folds, tables, &mut best);
+        }
+    }
+    better_of_each(subject, wide, values, folds, tables, &mut best);
+    best
+}
+
+/// The best of all as a choice that keeps its codings.
+fn release(held: Held, codings: &[u8]) -> PricedChoice
+    requires few { held.found.halvings ≤ 8 }
+    requires places { 2 ^ held.found.halvings ≤ length codings.now }
+    ensures { (handed : List LinearPredictor) (most bits : ℕ) (s : List ℤ) (tried : List Chooses) → IsBest handed most bits s tried (way_held held codings.now) → IsBest handed most bits s tried (way_priced result) }
+{
+    let kind = match held.kind {
+        HeldKind::AsConstant => Kind::Constant,
+        HeldKind::AsVerbatim => Kind::Verbatim,
+        HeldKind::AsFixed(order) => Kind::Fixed {
+            order,
+            residual: gathered(held.found, codings),
+        },
+        HeldKind::AsLinear(index) => Kind::Linear {
+            index,
+            residual: gathered(held.found, codings),
+        },
+    };
+    PricedChoice {
         kind,
-        residual,
-        bits,
-    } = held;
-    match kind {
-        HeldKind::AsConstant => plain(Kind::Constant, residual, bits),
-        HeldKind::AsVerbatim => plain(Kind::Verbatim, residual, bits),
-        HeldKind::AsFixed(order) => PricedChoice {
-            kind: Kind::Fixed { order, residual },
-            bits,
-        },
-        HeldKind::AsLinear(index) => PricedChoice {
-            kind: Kind::Linear { index, residual },
-            bits,
-        },
+        bits: held.bits,
     }
 }
 
-/// A choice that has no residual.
-fn plain(kind: Kind, _residual: ResidualChoice, bits: u64) -> PricedChoice
-    ensures { result ≡ record { kind = kind; bits = bits } }
-{
-    PricedChoice { kind, bits }
-}
-
-/// The content of the fewest bits: constant, verbatim, a fixed predictor or one of the linear ones, with a partition order up to the
-/// greatest, worked out in arrays that are each at least as long as the samples.
+/// The content of the fewest bits, with a partition order up to 8, worked out in arrays that are each at least as long as the samples.
 fn choose_among(
     samples: &[i64],
     bits: u32,
@@ -363,20 +390,25 @@ fn choose_among(
     requires few { length samples.now ≤ 65535 }
     requires bits { bits ≤ 33 }
     requires fits { All (FitsBits 33) samples.now }
+    requires most { scope.now.most ≤ 8 }
     requires narrowed { length samples.now ≤ length narrowed.old }
     requires wide { length samples.now ≤ length wide.old }
     requires places { length samples.now ≤ length values.old }
     requires folds { length samples.now ≤ length folds.old }
-    ensures { IsBest scope.now.predictors.now scope.now.most bits samples.now (offered scope.now.predictors.now) result }
+    ensures { IsBest scope.now.predictors.now scope.now.most bits samples.now (offered scope.now.predictors.now) (way_priced result) }
 {
+    let mut sums = [0; 256];
+    let mut four = [0; 512];
+    let mut five = [0; 512];
+    let mut widths = [0; 512];
+    let mut codings = [0; 256];
     let mut tables = Tables {
-        sums: [0; 256],
-        four: [0; 512],
-        five: [0; 512],
-        widths: [0; 512],
+        sums: &mut sums,
+        four: &mut four,
+        five: &mut five,
+        widths: &mut widths,
+        codings: &mut codings,
     };
-    let mut best = begin(samples, bits);
-    let first = likely_order(samples);
     let narrowed = &mut narrowed[..samples.len()];
     let narrow = narrow(samples, narrowed);
     let subject = SampleView {
@@ -387,14 +419,8 @@ fn choose_among(
         predictors: scope.predictors,
         narrow,
     };
-    better_fixed(&subject, first, wide, values, folds, &mut tables, &mut best);
-    for order in 0..5 {
-        if order != first {
-            better_fixed(&subject, order, wide, values, folds, &mut tables, &mut best);
-        }
-    }
-    better_of_each(&subject, wide, values, folds, &mut tables, &mut best);
-    release(best)
+    let best = search(&subject, wide, values, folds, &mut tables);
+    release(best, tables.codings)
 }
 
 /// The most samples of a block in the subset at up to 48 kHz.
@@ -413,9 +439,10 @@ fn choose_of_few(
     requires few { length samples.now ≤ 4608 }
     requires bits { bits ≤ 33 }
     requires fits { All (FitsBits 33) samples.now }
+    requires most { scope.now.most ≤ 8 }
     requires wide { length samples.now ≤ length wide.old }
     requires folds { length samples.now ≤ length folds.old }
-    ensures { IsBest scope.now.predictors.now scope.now.most bits samples.now (offered scope.now.predictors.now) result }
+    ensures { IsBest scope.now.predictors.now scope.now.most bits samples.now (offered scope.now.predictors.now) (way_priced result) }
 {
     let mut narrowed = [0; FEW_SAMPLES];
     let mut values = [0; FEW_SAMPLES];
@@ -443,9 +470,10 @@ fn choose_of_many(
     requires few { length samples.now ≤ 65535 }
     requires bits { bits ≤ 33 }
     requires fits { All (FitsBits 33) samples.now }
+    requires most { scope.now.most ≤ 8 }
     requires wide { length samples.now ≤ length wide.old }
     requires folds { length samples.now ≤ length folds.old }
-    ensures { IsBest scope.now.predictors.now scope.now.most bits samples.now (offered scope.now.predictors.now) result }
+    ensures { IsBest scope.now.predictors.now scope.now.most bits samples.now (offered scope.now.predictors.now) (way_priced result) }
 {
     let mut narrowed = [0; MOST_SAMPLES];
     let mut values = [0; MOST_SAMPLES];
@@ -461,7 +489,7 @@ fn choose_of_many(
 }
 
 /// The content of the fewest bits: constant, verbatim, a fixed predictor or one of the linear ones, with a partition order up to the
-/// greatest.
+/// greatest, which is at most 8.
 pub(crate) fn choose_body(
     samples: &[i64],
     bits: u32,
@@ -473,9 +501,10 @@ pub(crate) fn choose_body(
     requires few { length samples.now ≤ 65535 }
     requires bits { bits ≤ 33 }
     requires fits { All (FitsBits 33) samples.now }
+    requires most { scope.now.most ≤ 8 }
     requires places { length samples.now ≤ length values.old }
     requires folds { length samples.now ≤ length folds.old }
-    ensures { IsBest scope.now.predictors.now scope.now.most bits samples.now (offered scope.now.predictors.now) result }
+    ensures { IsBest scope.now.predictors.now scope.now.most bits samples.now (offered scope.now.predictors.now) (way_priced result) }
 {
     if samples.len() <= FEW_SAMPLES {
         choose_of_few(samples, bits, scope, values, folds)

@@ -3,7 +3,8 @@
 ghost use Rattle.std.specs.Prelude.{◌≡◌, ◌<◌, ◌≤◌, ◌^◌, length, All};
 ghost use Rattle.flac_bits.specs.Signed.{FitsBits};
 ghost use Rattle.flac_subframe.specs.Least.{IsLeast};
-ghost use Rattle.flac_subframe.specs.Chosen.{fixed_below, offered};
+ghost use Rattle.flac_subframe.specs.Chosen.{fixed_below, offered, held_as, codings_by, no_codings};
+ghost use Rattle.flac_subframe.specs.Cost.{codings_lent};
 ghost use Rattle.flac_subframe.specs.Family.{Stands, IsMadeOf, IsMadeWith, form_of, form_with};
 ghost use Rattle.flac_subframe.specs.Handed.{AreWithin};
 ghost use Rattle.flac_subframe.specs.Spelling.{subframe_spelling, IsSubframe};
@@ -12,9 +13,10 @@ ghost use Rattle.flac_subframe.specs.declared.limits.Limits.{Limits};
 ghost use Rattle.flac_subframe.specs.declared.choice.Kind.TheVariants.{Constant};
 
 use crate::choice::{Kind, choose_body};
+use crate::held::HeldKind;
 use crate::limits::Limits;
 use crate::linear::LinearPredictor;
-use crate::view::Scope;
+use crate::view::{ChosenView, CodedView, Scope};
 use crate::wasted::drop_wasted;
 
 /// How a subframe is written: how many lowest bits are left out, how the rest is written, and how many bits it all takes.
@@ -46,6 +48,25 @@ impl Choice {
         ensures { result ≡ self.now.bits }
     {
         self.bits
+    }
+
+    /// The same with its codings lent.
+    pub(crate) fn lent(&self) -> ChosenView<'_>
+        ensures wasted { result.wasted ≡ self.now.wasted }
+        ensures kind { result.kind ≡ held_as self.now.kind }
+        ensures codings { codings_lent result.residual ≡ codings_by self.now.kind }
+    {
+        let (kind, residual) = match &self.kind {
+            Kind::Constant => (HeldKind::AsConstant, CodedView::none()),
+            Kind::Verbatim => (HeldKind::AsVerbatim, CodedView::none()),
+            Kind::Fixed { order, residual } => (HeldKind::AsFixed(*order), residual.lent()),
+            Kind::Linear { index, residual } => (HeldKind::AsLinear(*index), residual.lent()),
+        };
+        ChosenView {
+            wasted: self.wasted,
+            kind,
+            residual,
+        }
     }
 }
 

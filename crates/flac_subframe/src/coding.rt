@@ -1,7 +1,7 @@
 //! How the values of a partition are coded.
 
 /// How the values of a partition are coded (RFC 9639, section 9.2.7.1).
-#[derive(Clone, Copy, PartialEq, Eq, Debug)]
+#[derive(Clone, Copy)]
 pub enum Coding {
     /// A Rice code with this parameter, 0 to 30.
     Rice(u8),
@@ -9,8 +9,29 @@ pub enum Coding {
     Escape(u8),
 }
 
-impl Default for Coding {
-    fn default() -> Self {
-        Coding::Rice(0)
+impl Coding {
+    ghost use Rattle.std.specs.Prelude.{◌≡◌};
+    ghost use Rattle.flac_subframe.specs.Cost.{coding_of, HasByte};
+
+    /// The byte that stands for it: the parameter, or 32 above the width of an escape.
+    pub(crate) fn byte(self) -> u8
+        requires { HasByte self }
+        ensures { coding_of result ≡ self }
+    {
+        match self {
+            Coding::Rice(parameter) => parameter,
+            Coding::Escape(width) => 32 + width,
+        }
+    }
+
+    /// What a byte stands for.
+    pub(crate) fn of_byte(byte: u8) -> Coding
+        ensures { result ≡ coding_of byte }
+    {
+        if byte < 32 {
+            Coding::Rice(byte)
+        } else {
+            Coding::Escape(byte - 32)
+        }
     }
 }

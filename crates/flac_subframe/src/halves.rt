@@ -54,7 +54,7 @@ fn note(sums: &[u64], best: &mut [u64], parameter: u8)
 /// The same at one partition order, whose entries stand one after another in the table.
 fn note_level(sums: &[u64], table: &mut [u64], halvings: u8, parameter: u8)
     requires few { parameter < 32 }
-    requires most { halvings ≤ 8 }
+    requires most { halvings ≤ 15 }
     requires sums { 2 ^ halvings ≤ length sums.now }
     requires small { (j : ℕ) → j < 2 ^ halvings → slice_index sums.now j < 2 ^ 50 }
     requires table { 2 * 2 ^ halvings ≤ length table.old }

@@ -8,6 +8,7 @@ mod cost;
 mod folding;
 mod halves;
 mod halving;
+mod held;
 mod leaving;
 mod limits;
 mod linear;
@@ -20,9 +21,12 @@ mod residual;
 mod restoration;
 mod subframe;
 mod survey;
+mod tables;
 mod view;
 mod wasted;
+mod wide;
 mod widths;
+mod workspace;
 mod writing;
 
 pub use chosen::{Choice, choose, choose_into, choose_with, choose_with_into};
@@ -34,6 +38,8 @@ pub use promises::{
     widened_family_is_plain,
 };
 pub use subframe::read_subframe;
+pub use wide::{WideChoice, choose_in, write_subframe_in};
+pub use workspace::Workspace;
 pub use writing::{
     write_subframe, write_subframe_into, write_subframe_with, write_subframe_with_into,
 };

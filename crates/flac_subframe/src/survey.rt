@@ -1,47 +1,26 @@
 //! The search for the form of a residual with the fewest bits: tables have the cost of each partition, and only the
 //! codings of the best form are listed.
 
-ghost use Rattle.std.specs.Prelude.{◌≡◌, ◌≢◌, ◌<◌, ◌≤◌, ◌^◌, ◌+◌, ◌-◌, ◌*◌, ◌/◌, ℕ, length, map, All, IsTrue, ◌⊎◌, []};
+ghost use Rattle.std.specs.Prelude.{◌≡◌, ◌≢◌, ◌<◌, ◌≤◌, ◌^◌, ◌+◌, ◌-◌, ◌*◌, ◌/◌, ℕ, length, map, take, All, IsTrue, ◌⊎◌, IfSome, IfNone};
 ghost use Rattle.flac_bits.specs.Rice.{IsResidual};
 ghost use Rattle.flac_subframe.specs.Least.{IsLeast, IsLeastCost};
-ghost use Rattle.flac_subframe.specs.Cost.{MayCode, MayWrite, Codings, codings_of, HalvedTo, ByMethod, coding_cost, partitions_cost, residual_cost, Partitioned};
-ghost use Rattle.flac_subframe.specs.Halves.{Halves, HasEntries, LeastBelow, IsWidth, HasWidths};
+ghost use Rattle.flac_subframe.specs.Cost.{MayCode, MayWrite, Codings, coding_of, codings_in, HalvedTo, ByMethod, coding_cost, partitions_cost, residual_cost, Partitioned};
+ghost use Rattle.flac_subframe.specs.Halves.{Halves, HasEntries, HasPlaces, LeastBelow, IsWidth, HasWidths};
 
 use crate::coding::Coding;
 use crate::cost::Priced;
 use crate::halves::{clear, compare, compare_down, copy};
-use crate::halving::{ResidualChoice, power};
+use crate::halving::{Found, power};
 use crate::pruning::is_too_dear;
+use crate::tables::Tables;
 use crate::view::ResidualView;
 use crate::widths::measure;
-use arrayvec::ArrayVec;
-
-/// The form of a residual without its codings, and how many bits it takes.
-#[derive(Clone, Copy)]
-pub struct Found {
-    /// Bits of a Rice parameter: 4 or 5, as the coding method says (RFC 9639, section 9.2.7).
-    pub parameter_bits: u8,
-    /// The partition order, at most 8.
-    pub halvings: u8,
-    /// Bits of the residual.
-    pub bits: u64,
-}
-
-/// The working arrays of a search, for partition orders up to 8: the cost of each of the finest partitions under a
-/// parameter, the best parameter of each partition by the first and by the second coding method, and the width of each.
-#[derive(Drop)]
-pub(crate) struct Tables {
-    pub(crate) sums: [u64; 256],
-    pub(crate) four: [u64; 512],
-    pub(crate) five: [u64; 512],
-    pub(crate) widths: [u8; 512],
-}
 
 /// The largest partition order that fits the block, at most `most`.
 pub(crate) fn greatest_halvings(values: &[i32], order: usize, most: u8) -> u8
     requires few { length values.now + order ≤ 65535 }
     requires room { 0 < length values.now }
-    requires most { most ≤ 8 }
+    requires most { most ≤ 15 }
     ensures within { result ≤ most }
     ensures halves { Halves order values.now result }
     ensures greatest { (p : ℕ) → p ≤ most → Halves order values.now p → p ≤ result }
@@ -97,7 +76,7 @@ fn total(
     requires widths { HasWidths residual.now.order residual.now.values.now 0 residual.now.halvings widths.now }
     requires places { 2 * 2 ^ residual.now.halvings ≤ length widths.now }
     ensures least { let size = (length residual.now.values.now + residual.now.order) / 2 ^ halvings in IsLeastCost (Partitioned parameter_bits (size - residual.now.order) size (2 ^ halvings) residual.now.values.now) (partitions_cost parameter_bits (size - residual.now.order) size residual.now.values.now) result }
-    ensures small { result ≤ 2 ^ 33 * 65535 + 10 * 2 ^ 8 }
+    ensures small { result ≤ 2 ^ 33 * 65535 + 10 * 2 ^ 15 }
 {
     let size = (residual.values.len() + residual.order) >> halvings;
     let count = power(halvings);
@@ -114,14 +93,14 @@ fn total(
     bits
 }
 
-/// Lists the best codings at one partition order, from the table.
+/// Puts the best codings at one partition order into the first places, from the table.
 fn gather(
     residual: &ResidualView<'_>,
     halvings: u8,
     parameter_bits: u8,
     table: &[u64],
     widths: &[u8],
-    codings: &mut ArrayVec<Coding, 256>,
+    codings: &mut [u8],
 ) -> u64
     requires method { (parameter_bits ≡ 4) ⊎ (parameter_bits ≡ 5) }
     requires within { halvings ≤ residual.now.halvings }
@@ -129,10 +108,10 @@ fn gather(
     requires entries { HasEntries (2 ^ parameter_bits - 1) residual.now.order residual.now.values.now residual.now.halvings table.now }
     requires widths { HasWidths residual.now.order residual.now.values.now 0 residual.now.halvings widths.now }
     requires places { 2 * 2 ^ residual.now.halvings ≤ length widths.now }
-    requires empty { codings.old.items ≡ [] }
-    ensures least { let size = (length residual.now.values.now + residual.now.order) / 2 ^ halvings in IsLeast (Partitioned parameter_bits (size - residual.now.order) size (2 ^ halvings) residual.now.values.now) (partitions_cost parameter_bits (size - residual.now.order) size residual.now.values.now) codings.new.items }
-    ensures bits { let size = (length residual.now.values.now + residual.now.order) / 2 ^ halvings in result ≡ partitions_cost parameter_bits (size - residual.now.order) size residual.now.values.now codings.new.items }
-    ensures small { result ≤ 2 ^ 33 * 65535 + 10 * 2 ^ 8 }
+    requires codings { 2 ^ halvings ≤ length codings.old }
+    ensures least { let size = (length residual.now.values.now + residual.now.order) / 2 ^ halvings in IsLeast (Partitioned parameter_bits (size - residual.now.order) size (2 ^ halvings) residual.now.values.now) (partitions_cost parameter_bits (size - residual.now.order) size residual.now.values.now) (map coding_of (take (2 ^ halvings) codings.new)) }
+    ensures bits { let size = (length residual.now.values.now + residual.now.order) / 2 ^ halvings in result ≡ partitions_cost parameter_bits (size - residual.now.order) size residual.now.values.now (map coding_of (take (2 ^ halvings) codings.new)) }
+    ensures small { result ≤ 2 ^ 33 * 65535 + 10 * 2 ^ 15 }
 {
     let size = (residual.values.len() + residual.order) >> halvings;
     let count = power(halvings);
@@ -143,7 +122,7 @@ fn gather(
         let (front, after) = rest.split_at(long);
         let best = finish(front, parameter_bits, table[count + j], widths[count + j]);
         bits += u64::from(parameter_bits) + best.bits;
-        codings.push(best.coding);
+        codings[j] = best.coding.byte();
         rest = after;
         long = size;
     }
@@ -261,35 +240,33 @@ fn survey(
     }
 }
 
-/// Gathers the codings at a method and a partition order.
+/// Puts the codings at a method and a partition order into the first places, and says how many bits the residual takes.
 fn take_up(
     residual: &ResidualView<'_>,
     found: Found,
     table: &[u64],
     widths: &[u8],
-    into: &mut ResidualChoice,
-)
+    codings: &mut [u8],
+) -> u64
     requires method { (found.parameter_bits ≡ 4) ⊎ (found.parameter_bits ≡ 5) }
     requires within { found.halvings ≤ residual.now.halvings }
     requires table { 2 * 2 ^ residual.now.halvings ≤ length table.now }
     requires entries { HasEntries (2 ^ found.parameter_bits - 1) residual.now.order residual.now.values.now residual.now.halvings table.now }
     requires widths { HasWidths residual.now.order residual.now.values.now 0 residual.now.halvings widths.now }
     requires places { 2 * 2 ^ residual.now.halvings ≤ length widths.now }
-    ensures least { IsLeast (HalvedTo found.parameter_bits found.halvings residual.now.halvings residual.now.order residual.now.values.now) (residual_cost residual.now.order residual.now.values.now) (codings_of into.new) }
-    ensures bits { into.new.bits ≡ residual_cost residual.now.order residual.now.values.now (codings_of into.new) }
+    requires codings { 2 ^ residual.now.halvings ≤ length codings.old }
+    ensures least { IsLeast (HalvedTo found.parameter_bits found.halvings residual.now.halvings residual.now.order residual.now.values.now) (residual_cost residual.now.order residual.now.values.now) (codings_in found codings.new) }
+    ensures bits { result ≡ residual_cost residual.now.order residual.now.values.now (codings_in found codings.new) }
 {
-    into.codings.clear();
     let bits = gather(
         residual,
         found.halvings,
         found.parameter_bits,
         table,
         widths,
-        &mut into.codings,
+        codings,
     );
-    into.parameter_bits = found.parameter_bits;
-    into.halvings = found.halvings;
-    into.bits = 6 + bits;
+    6 + bits
 }
 
 /// The same at the method that was found, from the table of that method.
@@ -299,8 +276,8 @@ fn take_found(
     four: &[u64],
     five: &[u64],
     widths: &[u8],
-    into: &mut ResidualChoice,
-)
+    codings: &mut [u8],
+) -> u64
     requires method { (found.parameter_bits ≡ 4) ⊎ (found.parameter_bits ≡ 5) }
     requires within { found.halvings ≤ residual.now.halvings }
     requires four { 2 * 2 ^ residual.now.halvings ≤ length four.now }
@@ -309,52 +286,48 @@ fn take_found(
     requires more { found.parameter_bits ≢ 4 → HasEntries 31 residual.now.order residual.now.values.now residual.now.halvings five.now }
     requires widths { HasWidths residual.now.order residual.now.values.now 0 residual.now.halvings widths.now }
     requires places { 2 * 2 ^ residual.now.halvings ≤ length widths.now }
-    ensures least { IsLeast (HalvedTo found.parameter_bits found.halvings residual.now.halvings residual.now.order residual.now.values.now) (residual_cost residual.now.order residual.now.values.now) (codings_of into.new) }
-    ensures bits { into.new.bits ≡ residual_cost residual.now.order residual.now.values.now (codings_of into.new) }
+    requires codings { 2 ^ residual.now.halvings ≤ length codings.old }
+    ensures least { IsLeast (HalvedTo found.parameter_bits found.halvings residual.now.halvings residual.now.order residual.now.values.now) (residual_cost residual.now.order residual.now.values.now) (codings_in found codings.new) }
+    ensures bits { result ≡ residual_cost residual.now.order residual.now.values.now (codings_in found codings.new) }
 {
     if found.parameter_bits == 4 {
-        take_up(residual, found, four, widths, into);
+        take_up(residual, found, four, widths, codings)
     } else {
-        take_up(residual, found, five, widths, into);
+        take_up(residual, found, five, widths, codings)
     }
 }
 
-/// Puts the residual form of the fewest bits into its place, if it takes fewer bits than `below`, and says whether it does. Cheap lower
-/// bounds come first, so that most predictors are refused before their parameters are tried.
-pub(crate) fn least_residual_into(
+/// The residual form of the fewest bits, if it takes fewer bits than `below`, with its codings in their array. Cheap lower bounds come
+/// first, so that most predictors are refused before their parameters are tried.
+pub(crate) fn least_residual(
     residual: &ResidualView<'_>,
-    tables: &mut Tables,
+    tables: &mut Tables<'_>,
     below: u64,
-    into: &mut ResidualChoice,
-) -> bool
-    ensures least { IsTrue result → IsLeast (MayWrite residual.now.halvings residual.now.order residual.now.values.now) (residual_cost residual.now.order residual.now.values.now) (codings_of into.new) }
-    ensures bits { IsTrue result → into.new.bits ≡ residual_cost residual.now.order residual.now.values.now (codings_of into.new) }
-    ensures less { IsTrue result → into.new.bits < below }
-    ensures small { IsTrue result → into.new.bits ≤ 2 ^ 49 }
-    ensures kept { (IsTrue result → ⊥) → into.new ≡ into.old }
-    ensures none { (IsTrue result → ⊥) → (f : Codings) → MayWrite residual.now.halvings residual.now.order residual.now.values.now f → below ≤ residual_cost residual.now.order residual.now.values.now f }
+) -> Option<Found>
+    requires places { HasPlaces residual.now.halvings tables.old }
+    ensures least { IfSome result (λ f. IsLeast (MayWrite residual.now.halvings residual.now.order residual.now.values.now) (residual_cost residual.now.order residual.now.values.now) (codings_in f tables.new.codings.now)) }
+    ensures bits { IfSome result (λ f. f.bits ≡ residual_cost residual.now.order residual.now.values.now (codings_in f tables.new.codings.now)) }
+    ensures within { IfSome result (λ f. f.halvings ≤ residual.now.halvings) }
+    ensures less { IfSome result (λ f. f.bits < below) }
+    ensures small { IfSome result (λ f. f.bits ≤ 2 ^ 49) }
+    ensures kept { IfNone result (tables.new.codings.now ≡ tables.old.codings.now) }
+    ensures none { IfNone result ((f : Codings) → MayWrite residual.now.halvings residual.now.order residual.now.values.now f → below ≤ residual_cost residual.now.order residual.now.values.now f) }
+    ensures places { (most : ℕ) → HasPlaces most tables.old → HasPlaces most tables.new }
+    ensures same { tables.new.codings.ghost_name ≡ tables.old.codings.ghost_name }
 {
-    measure(residual, &mut tables.widths, &mut tables.sums);
-    if is_too_dear(residual, &tables.sums, &tables.widths, below) {
-        return false;
+    let sums = &mut *tables.sums;
+    let four = &mut *tables.four;
+    let five = &mut *tables.five;
+    let widths = &mut *tables.widths;
+    let codings = &mut *tables.codings;
+    measure(residual, widths, sums);
+    if is_too_dear(residual, sums, widths, below) {
+        return None;
     }
-    let found = survey(
-        residual,
-        &mut tables.sums,
-        &mut tables.four,
-        &mut tables.five,
-        &tables.widths,
-    );
+    let found = survey(residual, sums, four, five, widths);
     if found.bits >= below {
-        return false;
+        return None;
     }
-    take_found(
-        residual,
-        found,
-        &tables.four,
-        &tables.five,
-        &tables.widths,
-        into,
-    );
-    true
+    let bits = take_found(residual, found, four, five, widths, codings);
+    Some(Found { bits, ..found })
 }

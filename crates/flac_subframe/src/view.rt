@@ -1,4 +1,4 @@
-//! What the search reads: the samples of a subframe, and the residual of one predictor.
+//! What the search reads: the samples of a subframe, and the residual of one predictor. And what is written: a choice.
 
 ghost use Rattle.std.specs.Prelude.{◌≡◌, ◌<◌, ◌≤◌, ◌^◌, ◌+◌, length, map, All, IsTrue};
 ghost use Rattle.flac_bits.specs.Signed.{FitsBits};
@@ -6,6 +6,7 @@ ghost use Rattle.flac_bits.specs.Rice.{IsResidual};
 ghost use Rattle.flac_subframe.specs.Spelling.{folded};
 ghost use Rattle.flac_subframe.specs.Halves.{Halves};
 
+use crate::held::HeldKind;
 use crate::linear::LinearPredictor;
 
 /// What the search covers: partition orders up to the greatest, and linear predictors beside the fixed ones.
@@ -13,7 +14,7 @@ use crate::linear::LinearPredictor;
 pub(crate) struct Scope<'a> {
     pub(crate) most: u8,
     pub(crate) predictors: &'a [LinearPredictor],
-    ghost halved: { most ≤ 8 },
+    ghost halved: { most ≤ 15 },
 }
 
 /// A residual whose codings are searched: its values, the same as unsigned numbers, the order of its predictor, and how often its block
@@ -29,7 +30,7 @@ pub(crate) struct ResidualView<'a> {
     ghost unsigned: { folds.now ≡ map folded values.now },
     ghost small: { All (λ n. n < 2 ^ 32) folds.now },
     ghost long: { length folds.now ≡ length values.now },
-    ghost most: { halvings ≤ 8 },
+    ghost most: { halvings ≤ 15 },
     ghost halves: { Halves order values.now halvings },
 }
 
@@ -46,8 +47,42 @@ pub(crate) struct SampleView<'a> {
     pub(crate) narrow: bool,
     ghost few: { length samples.now ≤ 65535 },
     ghost depth: { bits ≤ 33 },
-    ghost halved: { most ≤ 8 },
+    ghost halved: { most ≤ 15 },
     ghost fits: { All (FitsBits 33) samples.now },
     ghost leaves: { IsTrue narrow → All (FitsBits 27) samples.now },
     ghost same: { IsTrue narrow → narrowed.now ≡ samples.now },
+}
+
+/// The form of a residual as it is written: the bits of a Rice parameter, the partition order, and the coding of each partition as a
+/// byte.
+#[derive(Clone, Copy)]
+pub(crate) struct CodedView<'a> {
+    pub(crate) parameter_bits: u8,
+    pub(crate) halvings: u8,
+    pub(crate) codings: &'a [u8],
+}
+
+impl<'a> CodedView<'a> {
+    ghost use Rattle.std.specs.Prelude.{◌≡◌};
+    ghost use Rattle.flac_subframe.specs.Chosen.{no_codings};
+    ghost use Rattle.flac_subframe.specs.Cost.{codings_lent};
+
+    /// That of a subframe without a residual.
+    pub(crate) fn none() -> CodedView<'a>
+        ensures { codings_lent result ≡ no_codings }
+    {
+        CodedView {
+            parameter_bits: 4,
+            halvings: 0,
+            codings: &[],
+        }
+    }
+}
+
+/// A choice as it is written: its kind, and the form of its residual, which a kind without one does not use.
+#[derive(Clone, Copy)]
+pub(crate) struct ChosenView<'a> {
+    pub(crate) wasted: u32,
+    pub(crate) kind: HeldKind,
+    pub(crate) residual: CodedView<'a>,
 }

@@ -1,24 +1,25 @@
 //! Subframes, written.
 
-ghost use Rattle.std.specs.Prelude.{◌≡◌, ◌≤◌, ◌<◌, ◌+◌, ◌*◌, ◌-◌, ◌^◌, ◌⊎◌, ◌++◌, List, length, All, flat_map, take};
+ghost use Rattle.std.specs.Prelude.{◌≡◌, ◌≤◌, ◌<◌, ◌+◌, ◌*◌, ◌-◌, ◌^◌, ◌⊎◌, ◌++◌, List, length, All, flat_map, map, take};
 ghost use Rattle.flac_bits.specs.Rice.{IsResidual};
 ghost use Rattle.flac_bits.specs.Signed.{signed, FitsBits};
 ghost use Rattle.flac_bits.specs.Written.{Writes};
 ghost use Rattle.flac_subframe.specs.Bodies.{cut, residual_of, content_of, Predicts, fixed, order_of, coefficients_of, shift_of, differences, StandsFor};
-ghost use Rattle.flac_subframe.specs.Chosen.{body_by, body_of, IsHanded, offered};
-ghost use Rattle.flac_subframe.specs.Family.{form_of, form_with, IsMadeOf, IsMadeWith, OrderIsFew, kind_number};
+ghost use Rattle.flac_subframe.specs.Chosen.{body_under, body_held, IsHeld, offered};
+ghost use Rattle.flac_subframe.specs.Family.{form_as, form_of, form_with, IsMadeAs, IsMadeOf, IsMadeWith, OrderIsFew, kind_number};
 ghost use Rattle.flac_subframe.specs.Handed.{predictor_of, handed};
-ghost use Rattle.flac_subframe.specs.Cost.{MayCode, MayCodeEach, MayWrite, codings_of};
+ghost use Rattle.flac_subframe.specs.Cost.{MayCode, MayCodeEach, MayWrite, coding_of, codings_lent};
 ghost use Rattle.flac_subframe.specs.Spelling.{value_spelling, coding_spelling, partition_spelling, residual_spelling, predictor_spelling, content_spelling, header_spelling, subframe_spelling};
 
-use crate::choice::Kind;
 use crate::chosen::{Choice, MOST_SAMPLES};
 use crate::coding::Coding;
 use crate::folding::fold;
-use crate::halving::{ResidualChoice, power};
+use crate::halving::power;
+use crate::held::HeldKind;
 use crate::leaving::{take_fixed, take_linear};
 use crate::linear::LinearPredictor;
 use crate::predictors::fixed_coefficients;
+use crate::view::{ChosenView, CodedView};
 use crate::wasted::drop_wasted;
 use flac_bits::{BitWriter, Target, Why};
 
@@ -86,26 +87,26 @@ fn write_partition<W: Target>(
     }
 }
 
-/// Writes partitions, of which the first has a length of its own.
+/// Writes partitions, of which the first has a length of its own. The coding of each is a byte.
 fn write_partitions<W: Target>(
     writer: &mut BitWriter<W>,
     parameter_bits: u32,
     first: usize,
     size: usize,
-    codings: &[Coding],
+    codings: &[u8],
     values: &[i64],
 ) -> Result<(), Why>
     requires method { (parameter_bits ≡ 4) ⊎ (parameter_bits ≡ 5) }
-    requires may { MayCodeEach parameter_bits first size values.now codings.now }
+    requires may { MayCodeEach parameter_bits first size values.now (map coding_of codings.now) }
     requires range { All IsResidual values.now }
     requires cut { length values.now + size ≡ first + length codings.now * size }
-    ensures { Writes (flat_map (partition_spelling parameter_bits) (cut first size values.now codings.now)) writer.old writer.new result }
+    ensures { Writes (flat_map (partition_spelling parameter_bits) (cut first size values.now (map coding_of codings.now))) writer.old writer.new result }
 {
     let mut rest = values;
     let mut long = first;
-    for coding in codings {
+    for byte in codings {
         let (part, after) = rest.split_at(long);
-        write_partition(writer, parameter_bits, *coding, part)?;
+        write_partition(writer, parameter_bits, Coding::of_byte(*byte), part)?;
         rest = after;
         long = size;
     }
@@ -115,25 +116,25 @@ fn write_partitions<W: Target>(
 /// Writes the residual of a predictor of an order.
 fn write_residual<W: Target>(
     writer: &mut BitWriter<W>,
-    choice: &ResidualChoice,
+    coded: &CodedView<'_>,
     order: usize,
     values: &[i64],
 ) -> Result<(), Why>
     requires few { length values.now + order ≤ 65535 }
-    requires may { MayWrite 8 order values.now (codings_of choice.now) }
+    requires may { MayWrite 15 order values.now (codings_lent coded.now) }
     requires range { All IsResidual values.now }
-    ensures { Writes (residual_spelling (residual_of order values.now (codings_of choice.now))) writer.old writer.new result }
+    ensures { Writes (residual_spelling (residual_of order values.now (codings_lent coded.now))) writer.old writer.new result }
 {
-    let size = (values.len() + order) / power(choice.halvings);
-    let parameter_bits = choice.parameter_bits as u32;
-    let field = (parameter_bits as u64 - 4) * 16 + choice.halvings as u64;
+    let size = (values.len() + order) / power(coded.halvings);
+    let parameter_bits = coded.parameter_bits as u32;
+    let field = (parameter_bits as u64 - 4) * 16 + coded.halvings as u64;
     writer.put(6, field)?;
     write_partitions(
         writer,
         parameter_bits,
         size - order,
         size,
-        choice.codings.as_slice(),
+        coded.codings,
         values,
     )
 }
@@ -142,7 +143,7 @@ fn write_residual<W: Target>(
 fn write_fixed<W: Target>(
     writer: &mut BitWriter<W>,
     order: usize,
-    residual: &ResidualChoice,
+    residual: &CodedView<'_>,
     depth: u32,
     samples: &[i64],
     values: &mut [i64],
@@ -152,8 +153,8 @@ fn write_fixed<W: Target>(
     requires depth { (1 ≤ depth) × (depth ≤ 33) }
     requires fits { All (FitsBits 33) samples.now }
     requires places { length samples.now ≤ length values.old }
-    requires predicts { Predicts 8 (fixed order) (take (order_of (fixed order)) samples.now) (codings_of residual.now) (differences (coefficients_of (fixed order)) 0 samples.now) samples.now }
-    ensures { Writes (content_spelling depth (content_of (body_by (fixed order) residual.now samples.now))) writer.old writer.new result }
+    requires predicts { Predicts 15 (fixed order) (take (order_of (fixed order)) samples.now) (codings_lent residual.now) (differences (coefficients_of (fixed order)) 0 samples.now) samples.now }
+    ensures { Writes (content_spelling depth (content_of (body_under (fixed order) (codings_lent residual.now) samples.now))) writer.old writer.new result }
 {
     let coefficients = fixed_coefficients(order as u32);
     let count = coefficients.len();
@@ -197,13 +198,13 @@ fn write_predictor<W: Target>(
 fn write_rest<W: Target>(
     writer: &mut BitWriter<W>,
     predictor: &LinearPredictor,
-    residual: &ResidualChoice,
+    residual: &CodedView<'_>,
     values: &[i64],
 ) -> Result<(), Why>
     requires few { length values.now + length predictor.now.coefficients.items ≤ 65535 }
-    requires may { MayWrite 8 (length predictor.now.coefficients.items) values.now (codings_of residual.now) }
+    requires may { MayWrite 15 (length predictor.now.coefficients.items) values.now (codings_lent residual.now) }
     requires range { All IsResidual values.now }
-    ensures { Writes (predictor_spelling (handed predictor.now) ++ residual_spelling (residual_of (length predictor.now.coefficients.items) values.now (codings_of residual.now))) writer.old writer.new result }
+    ensures { Writes (predictor_spelling (handed predictor.now) ++ residual_spelling (residual_of (length predictor.now.coefficients.items) values.now (codings_lent residual.now))) writer.old writer.new result }
 {
     write_predictor(writer, predictor)?;
     write_residual(writer, residual, predictor.order(), values)
@@ -213,7 +214,7 @@ fn write_rest<W: Target>(
 fn write_linear<W: Target>(
     writer: &mut BitWriter<W>,
     predictor: &LinearPredictor,
-    residual: &ResidualChoice,
+    residual: &CodedView<'_>,
     depth: u32,
     samples: &[i64],
     values: &mut [i64],
@@ -222,8 +223,8 @@ fn write_linear<W: Target>(
     requires depth { (1 ≤ depth) × (depth ≤ 33) }
     requires fits { All (FitsBits 33) samples.now }
     requires places { length samples.now ≤ length values.old }
-    requires predicts { let p = predictor_of predictor.now in Predicts 8 p (take (order_of p) samples.now) (codings_of residual.now) (differences (coefficients_of p) (shift_of p) samples.now) samples.now }
-    ensures { Writes (content_spelling depth (content_of (body_by (predictor_of predictor.now) residual.now samples.now))) writer.old writer.new result }
+    requires predicts { let p = predictor_of predictor.now in Predicts 15 p (take (order_of p) samples.now) (codings_lent residual.now) (differences (coefficients_of p) (shift_of p) samples.now) samples.now }
+    ensures { Writes (content_spelling depth (content_of (body_under (predictor_of predictor.now) (codings_lent residual.now) samples.now))) writer.old writer.new result }
 {
     let order = predictor.order();
     let places = &mut values[..samples.len() - order];
@@ -235,7 +236,7 @@ fn write_linear<W: Target>(
 /// Writes the content of a subframe; the places are overwritten.
 fn write_content<W: Target>(
     writer: &mut BitWriter<W>,
-    kind: &Kind,
+    chosen: &ChosenView<'_>,
     predictors: &[LinearPredictor],
     depth: u32,
     samples: &[i64],
@@ -246,18 +247,17 @@ fn write_content<W: Target>(
     requires depth { (1 ≤ depth) × (depth ≤ 33) }
     requires fits { All (FitsBits 33) samples.now }
     requires places { length samples.now ≤ length values.old }
-    requires handed { IsHanded predictors.now kind.now }
-    requires stands { StandsFor 8 (offered predictors.now) (body_of predictors.now kind.now samples.now) samples.now }
-    ensures { Writes (content_spelling depth (content_of (body_of predictors.now kind.now samples.now))) writer.old writer.new result }
+    requires handed { IsHeld predictors.now chosen.now.kind }
+    requires stands { StandsFor 15 (offered predictors.now) (body_held predictors.now chosen.now.kind (codings_lent chosen.now.residual) samples.now) samples.now }
+    ensures { Writes (content_spelling depth (content_of (body_held predictors.now chosen.now.kind (codings_lent chosen.now.residual) samples.now))) writer.old writer.new result }
 {
-    match kind {
-        Kind::Constant => writer.put_signed(depth, samples[0]),
-        Kind::Verbatim => write_signed(writer, depth, samples),
-        Kind::Fixed { order, residual } => {
-            write_fixed(writer, *order, residual, depth, samples, values)
-        }
-        Kind::Linear { index, residual } => {
-            let predictor = &predictors[*index];
+    let residual = &chosen.residual;
+    match chosen.kind {
+        HeldKind::AsConstant => writer.put_signed(depth, samples[0]),
+        HeldKind::AsVerbatim => write_signed(writer, depth, samples),
+        HeldKind::AsFixed(order) => write_fixed(writer, order, residual, depth, samples, values),
+        HeldKind::AsLinear(index) => {
+            let predictor = &predictors[index];
             write_linear(writer, predictor, residual, depth, samples, values)
         }
     }
@@ -277,20 +277,45 @@ fn write_header<W: Target>(writer: &mut BitWriter<W>, kind: u64, wasted: u32) ->
 }
 
 /// The type of a subframe (RFC 9639, section 9.2.1).
-fn type_of_kind(kind: &Kind, predictors: &[LinearPredictor]) -> u64
-    requires order { OrderIsFew kind.now }
-    requires handed { IsHanded predictors.now kind.now }
-    ensures { result ≡ kind_number predictors.now kind.now }
+fn type_of_kind(kind: HeldKind, predictors: &[LinearPredictor]) -> u64
+    requires order { OrderIsFew kind }
+    requires handed { IsHeld predictors.now kind }
+    ensures { result ≡ kind_number predictors.now kind }
 {
     match kind {
-        Kind::Constant => 0,
-        Kind::Verbatim => 1,
-        Kind::Fixed { order, residual: _ } => 8 + *order as u64,
-        Kind::Linear { index, residual: _ } => {
-            let predictor = &predictors[*index];
+        HeldKind::AsConstant => 0,
+        HeldKind::AsVerbatim => 1,
+        HeldKind::AsFixed(order) => 8 + order as u64,
+        HeldKind::AsLinear(index) => {
+            let predictor = &predictors[index];
             31 + predictor.order() as u64
         }
     }
+}
+
+/// Writes a subframe as it was chosen, with places for the samples and for the residual, which are overwritten.
+pub(crate) fn write_chosen<W: Target>(
+    chosen: &ChosenView<'_>,
+    predictors: &[LinearPredictor],
+    samples: &[i64],
+    depth: u32,
+    shortened: &mut [i64],
+    values: &mut [i64],
+    writer: &mut BitWriter<W>,
+) -> Result<(), Why>
+    requires some { 0 < length samples.now }
+    requires few { length samples.now ≤ 65535 }
+    requires depth { (1 ≤ depth) × (depth ≤ 33) }
+    requires fits { All (FitsBits depth) samples.now }
+    requires places { length samples.now ≤ length shortened.old }
+    requires values { length samples.now ≤ length values.old }
+    requires made { IsMadeAs predictors.now chosen.now.wasted chosen.now.kind (codings_lent chosen.now.residual) samples.now }
+    ensures { Writes (subframe_spelling depth (form_as predictors.now chosen.now.wasted chosen.now.kind (codings_lent chosen.now.residual) samples.now)) writer.old writer.new result }
+{
+    let places = &mut shortened[..samples.len()];
+    let wasted = drop_wasted(samples, depth, places);
+    write_header(writer, type_of_kind(chosen.kind, predictors), wasted)?;
+    write_content(writer, chosen, predictors, depth - wasted, places, values)
 }
 
 /// Writes the subframe that was chosen for samples of a depth (RFC 9639, section 9.2).
@@ -391,15 +416,13 @@ pub fn write_subframe_with_into<W: Target>(
     requires made { IsMadeWith predictors.now choice.now samples.now }
     ensures { Writes (subframe_spelling depth (form_with predictors.now choice.now samples.now)) writer.old writer.new result }
 {
-    let places = &mut shortened[..samples.len()];
-    let wasted = drop_wasted(samples, depth, places);
-    write_header(writer, type_of_kind(&choice.kind, predictors), wasted)?;
-    write_content(
-        writer,
-        &choice.kind,
+    write_chosen(
+        &choice.lent(),
         predictors,
-        depth - wasted,
-        places,
+        samples,
+        depth,
+        shortened,
         values,
+        writer,
     )
 }

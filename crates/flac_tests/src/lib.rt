@@ -40,3 +40,5 @@ mod rows;
 mod seeking;
 #[cfg(test)]
 mod subframes;
+#[cfg(test)]
+mod wide;

@@ -4,16 +4,16 @@ use Rattle.flac_subframe.specs.Numbers.{sample_at}
 use Rattle.flac_subframe.proofs.Bodies.{constant_least, verbatim_least, length-constant, length-verbatim}
 use Rattle.flac_subframe.proofs.choice.begin.Goals as goal
 
-pub returns-then-all_equal : goal.returns-then-all_equal
-returns-then-all_equal c = λ handed most. record {
+pub returns-then-all_equal-clause-best : goal.returns-then-all_equal-clause-best
+returns-then-all_equal-clause-best c = λ handed most codings. record {
   within = tt;
   least = constant_least most c.args.bits c.args.samples.now c.requires.some (c.all_equal.ensures.0 c.if-all_equal.true);
   priced = c.from-width.ensures ∙ sym (length-constant c.args.bits (sample_at c.args.samples.now 0));
   small = omega arith;
 }
 
-pub returns-else-all_equal : goal.returns-else-all_equal
-returns-else-all_equal c = λ handed most. record {
+pub returns-else-all_equal-clause-best : goal.returns-else-all_equal-clause-best
+returns-else-all_equal-clause-best c = λ handed most codings. record {
   within = tt;
   least = verbatim_least most c.args.bits c.args.samples.now c.requires.some (λ same. cc (c.all_equal.ensures.1 same, c.if-all_equal.false));
   priced = rw c.from-width.ensures (sym (length-verbatim c.args.bits c.args.samples.now));

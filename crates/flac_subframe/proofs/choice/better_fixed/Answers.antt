@@ -2,8 +2,9 @@ use Rattle.std.proofs.Common.{arith, ◌≡◌, ◌+◌, ◌-◌, ◌*◌, ◌�
 use Rattle.flac_subframe.specs.Prediction.{fixed_coefficients}
 use Rattle.flac_subframe.specs.Bodies.{fixed}
 use Rattle.flac_subframe.proofs.Differences.{length-fixed}
-use Rattle.flac_subframe.specs.Chosen.{priced_as}
+use Rattle.flac_subframe.specs.Chosen.{way_held}
 use Rattle.flac_subframe.proofs.Orders.{least_of_all, none_of_all}
+use Rattle.flac_subframe.proofs.Places.{fewer_places}
 use Rattle.flac_subframe.proofs.Searching.{too_long, out_of_range, too_dear, no_better, better}
 use Rattle.flac_subframe.proofs.choice.better_fixed.Goals as goal
 
@@ -13,44 +14,45 @@ order_is order h = sym (length-fixed order h)
 before_is : (bits order from : ℕ) → order ≤ 4 → from ≡ bits → from * order ≡ bits * length (fixed_coefficients order) + 0
 before_is bits order from h e = rw (e, length-fixed order h) (omega arith)
 
-pub returns-then-order-samples : goal.returns-then-order-samples
-returns-then-order-samples c = λ tried so.
+pub returns-then-order-samples-clause-best : goal.returns-then-order-samples-clause-best
+returns-then-order-samples-clause-best c = λ tried so.
     let o = c.args.order in
     too_long c.args.subject.now.predictors.now c.args.subject.now.most c.args.subject.now.bits c.args.subject.now.samples.now tried (tried ++ fixed o ∷ []) (fixed o) refl (fixed_coefficients o) 0 o (c.args.subject.now.bits * o) refl refl (order_is o c.requires.order) (before_is c.args.subject.now.bits o c.args.subject.now.bits c.requires.order refl)
-    (priced_as c.args.best.now) so c.if-order-samples.true
+    (way_held c.args.best.now c.args.tables.now.codings.now) so c.if-order-samples.true
 
-pub returns-then-not-take_residual : goal.returns-then-not-take_residual
-returns-then-not-take_residual c = λ tried so.
+pub returns-then-not-take_residual-clause-best : goal.returns-then-not-take_residual-clause-best
+returns-then-not-take_residual-clause-best c = λ tried so.
     let o = c.args.order in
     out_of_range c.args.subject.now.predictors.now c.args.subject.now.most c.args.subject.now.bits c.args.subject.now.samples.now tried (tried ++ fixed o ∷ []) (fixed o) refl (fixed_coefficients o) 0 o (c.args.subject.now.bits * o) refl refl (order_is o c.requires.order) (before_is c.args.subject.now.bits o c.args.subject.now.bits c.requires.order refl)
-    (priced_as c.args.best.now) so (λ all. cc (c.take_residual.ensures.all all, c.if-not-take_residual.true))
+    (way_held c.args.best.now c.args.tables.now.codings.now) so (λ all. cc (c.take_residual.ensures.all all, c.if-not-take_residual.true))
 
-pub returns-then-limit-before : goal.returns-then-limit-before
-returns-then-limit-before c = λ tried so.
+pub returns-then-limit-before-clause-best : goal.returns-then-limit-before-clause-best
+returns-then-limit-before-clause-best c = λ tried so.
     let o = c.args.order in
     too_dear c.args.subject.now.predictors.now c.args.subject.now.most c.args.subject.now.bits c.args.subject.now.samples.now tried (tried ++ fixed o ∷ []) (fixed o) refl (fixed_coefficients o) 0 o (c.from.result * o) refl refl (order_is o c.requires.order) (before_is c.args.subject.now.bits o c.from.result c.requires.order c.from.ensures)
-    (priced_as c.args.best.now) so (omega (arith, c.if-limit-before.true, c.limit-limit.ensures.0))
+    (way_held c.args.best.now c.args.tables.now.codings.now) so (omega (arith, c.if-limit-before.true, c.limit-limit.ensures.0))
 
-pub returns-then-least_residual_into : goal.returns-then-least_residual_into
-returns-then-least_residual_into c = λ tried so.
+pub least_residual-requires : goal.least_residual-requires
+least_residual-requires c = record { places = fewer_places c.greatest_halvings-halvings.result c.args.subject.now.most c.args.tables.now c.greatest_halvings-halvings.ensures.within c.requires.arrays }
+
+pub returns-in-Some-clause-best : goal.returns-in-Some-clause-best
+returns-in-Some-clause-best c = λ tried so.
     let o = c.args.order in
     let is = c.take_residual.ensures.values c.if-not-take_residual.false in
     let range = rw is at (c.take_residual.ensures.range c.if-not-take_residual.false) in
-    let r = c.least_residual_into.new.into in
     let found = c.greatest_halvings-halvings.ensures in
-    let least = rw is at (least_of_all o c.greatest_halvings-halvings.result c.args.subject.now.most _ found.within found.greatest _ (c.least_residual_into.ensures.least c.if-least_residual_into.true)) in
-    let bits = rw is at (c.least_residual_into.ensures.bits c.if-least_residual_into.true) in
-    let less = c.least_residual_into.ensures.less c.if-least_residual_into.true in
-    let small = c.least_residual_into.ensures.small c.if-least_residual_into.true in
+    let new = c.in-Some.ensures in
+    let least = rw is at (least_of_all o c.greatest_halvings-halvings.result c.args.subject.now.most _ found.within found.greatest _ new.least) in
+    let bits = rw is at new.bits in
     better c.args.subject.now.predictors.now c.args.subject.now.most c.args.subject.now.bits c.args.subject.now.samples.now tried (tried ++ fixed o ∷ []) (fixed o) refl (fixed_coefficients o) 0 o (c.from.result * o) refl refl (order_is o c.requires.order) (before_is c.args.subject.now.bits o c.from.result c.requires.order c.from.ensures)
-    (priced_as c.args.best.now) so r _ (omega arith) range least bits small refl (omega (arith, less, c.limit-limit.ensures.1)) tt refl
+    (way_held c.args.best.now c.args.tables.now.codings.now) so _ c.in-Some.found.bits _ (omega arith) range least bits new.small refl (omega (arith, new.less, c.limit-limit.ensures.1)) tt refl
 
-pub returns-else-least_residual_into : goal.returns-else-least_residual_into
-returns-else-least_residual_into c = λ tried so.
+pub returns-in_default-clause-best : goal.returns-in_default-clause-best
+returns-in_default-clause-best c = λ tried so.
     let o = c.args.order in
     let is = c.take_residual.ensures.values c.if-not-take_residual.false in
-    let kept = c.if-least_residual_into.ensures.kept (λ t. cc) in
     let found = c.greatest_halvings-halvings.ensures in
-    let none = rw is at (none_of_all o c.greatest_halvings-halvings.result c.args.subject.now.most _ found.within found.greatest _ (c.if-least_residual_into.ensures.none (λ t. cc))) in
-    rw kept (no_better c.args.subject.now.predictors.now c.args.subject.now.most c.args.subject.now.bits c.args.subject.now.samples.now tried (tried ++ fixed o ∷ []) (fixed o) refl (fixed_coefficients o) 0 o (c.from.result * o) refl refl (order_is o c.requires.order) (before_is c.args.subject.now.bits o c.from.result c.requires.order c.from.ensures)
-    (priced_as c.args.best.now) so (c.limit-limit.result - c.from.result * o) (omega (arith, c.limit-limit.ensures.0)) none)
+    let new = c.in_default.ensures in
+    let none = rw is at (none_of_all o c.greatest_halvings-halvings.result c.args.subject.now.most _ found.within found.greatest _ new.none) in
+    rw new.kept (no_better c.args.subject.now.predictors.now c.args.subject.now.most c.args.subject.now.bits c.args.subject.now.samples.now tried (tried ++ fixed o ∷ []) (fixed o) refl (fixed_coefficients o) 0 o (c.from.result * o) refl refl (order_is o c.requires.order) (before_is c.args.subject.now.bits o c.from.result c.requires.order c.from.ensures)
+    (way_held c.args.best.now c.args.tables.now.codings.now) so (c.limit-limit.result - c.from.result * o) (omega (arith, c.limit-limit.ensures.0)) none)

@@ -1,10 +1,11 @@
 use Rattle.std.proofs.Common.{arith, ap, sym, ◌≡◌, ◌∙◌, ◌+◌, ◌-◌, ◌*◌, ◌<◌, ◌++◌, ◌∷◌, [], refl, ℕ, List, length, get_or}
 use Rattle.flac_subframe.specs.declared.linear.LinearPredictor.{LinearPredictor}
 use Rattle.flac_subframe.specs.Bodies.{Chooses, coefficients_of, shift_of, order_of, fields_cost}
-use Rattle.flac_subframe.specs.Chosen.{priced_as}
+use Rattle.flac_subframe.specs.Chosen.{way_held}
 use Rattle.flac_subframe.specs.Handed.{predictor_of, handed_at}
 use Rattle.flac_subframe.proofs.Best.{at_place}
 use Rattle.flac_subframe.proofs.Orders.{least_of_all, none_of_all}
+use Rattle.flac_subframe.proofs.Places.{fewer_places}
 use Rattle.flac_subframe.proofs.Searching.{too_long, out_of_range, too_dear, no_better, better}
 use Rattle.flac_subframe.proofs.choice.better_linear.Goals as goal
 
@@ -30,7 +31,7 @@ returns-then-order-samples-clause-best c = λ tried so.
     let o = c.order-order.result in
     let r = read_of hs index q c.requires.index c.index-predictors-index.is view.bits o c.order-order.ensures.value view.bits (fields_cost (predictor_of q)) refl refl in
     too_long hs view.most view.bits view.samples.now tried (tried ++ handed_at hs index ∷ []) (handed_at hs index) refl q.coefficients.items q.shift o (view.bits * o + fields_cost (predictor_of q)) r.coefficients r.shift r.order_is r.before_is
-    (priced_as c.args.best.now) so c.if-order-samples.true
+    (way_held c.args.best.now c.args.tables.now.codings.now) so c.if-order-samples.true
 
 pub returns-then-best-before-clause-best : goal.returns-then-best-before-clause-best
 returns-then-best-before-clause-best c = λ tried so.
@@ -38,7 +39,7 @@ returns-then-best-before-clause-best c = λ tried so.
     let o = c.order-order.result in
     let r = read_of hs index q c.requires.index c.index-predictors-index.is view.bits o c.order-order.ensures.value c.from.result c.field_bits.result c.from.ensures c.field_bits.ensures.value in
     too_dear hs view.most view.bits view.samples.now tried (tried ++ handed_at hs index ∷ []) (handed_at hs index) refl q.coefficients.items q.shift o (c.from.result * o + c.field_bits.result) r.coefficients r.shift r.order_is r.before_is
-    (priced_as c.args.best.now) so c.if-best-before.true
+    (way_held c.args.best.now c.args.tables.now.codings.now) so c.if-best-before.true
 
 pub returns-then-not-take_handed-clause-best : goal.returns-then-not-take_handed-clause-best
 returns-then-not-take_handed-clause-best c = λ tried so.
@@ -46,31 +47,33 @@ returns-then-not-take_handed-clause-best c = λ tried so.
     let o = c.order-order.result in
     let r = read_of hs index q c.requires.index c.index-predictors-index.is view.bits o c.order-order.ensures.value c.from.result c.field_bits.result c.from.ensures c.field_bits.ensures.value in
     out_of_range hs view.most view.bits view.samples.now tried (tried ++ handed_at hs index ∷ []) (handed_at hs index) refl q.coefficients.items q.shift o (c.from.result * o + c.field_bits.result) r.coefficients r.shift r.order_is r.before_is
-    (priced_as c.args.best.now) so (λ all. cc (c.take_handed.ensures.all all, c.if-not-take_handed.true))
+    (way_held c.args.best.now c.args.tables.now.codings.now) so (λ all. cc (c.take_handed.ensures.all all, c.if-not-take_handed.true))
 
-pub returns-then-least_residual_into-clause-best : goal.returns-then-least_residual_into-clause-best
-returns-then-least_residual_into-clause-best c = λ tried so.
+pub least_residual-requires : goal.least_residual-requires
+least_residual-requires c = record { places = fewer_places c.greatest_halvings-halvings.result c.args.subject.now.most c.args.tables.now c.greatest_halvings-halvings.ensures.within c.requires.arrays }
+
+pub returns-in-Some-clause-best : goal.returns-in-Some-clause-best
+returns-in-Some-clause-best c = λ tried so.
     let view = c.args.subject.now in let hs = view.predictors.now in let index = c.args.index in let q = c.index-predictors-index.result in
     let o = c.order-order.result in
     let r = read_of hs index q c.requires.index c.index-predictors-index.is view.bits o c.order-order.ensures.value c.from.result c.field_bits.result c.from.ensures c.field_bits.ensures.value in
     let is = c.take_handed.ensures.values c.if-not-take_handed.false in
     let range = rw is at (c.take_handed.ensures.range c.if-not-take_handed.false) in
     let found = c.greatest_halvings-halvings.ensures in
-    let least = rw is at (least_of_all o c.greatest_halvings-halvings.result view.most _ found.within found.greatest _ (c.least_residual_into.ensures.least c.if-least_residual_into.true)) in
-    let bits = rw is at (c.least_residual_into.ensures.bits c.if-least_residual_into.true) in
-    let less = c.least_residual_into.ensures.less c.if-least_residual_into.true in
-    let small = c.least_residual_into.ensures.small c.if-least_residual_into.true in
+    let new = c.in-Some.ensures in
+    let least = rw is at (least_of_all o c.greatest_halvings-halvings.result view.most _ found.within found.greatest _ new.least) in
+    let bits = rw is at new.bits in
     better hs view.most view.bits view.samples.now tried (tried ++ handed_at hs index ∷ []) (handed_at hs index) refl q.coefficients.items q.shift o (c.from.result * o + c.field_bits.result) r.coefficients r.shift r.order_is r.before_is
-    (priced_as c.args.best.now) so c.least_residual_into.new.into _ (omega arith) range least bits small refl (omega (arith, less)) c.requires.index refl
+    (way_held c.args.best.now c.args.tables.now.codings.now) so _ c.in-Some.found.bits _ (omega arith) range least bits new.small refl (omega (arith, new.less)) c.requires.index refl
 
-pub returns-else-least_residual_into-clause-best : goal.returns-else-least_residual_into-clause-best
-returns-else-least_residual_into-clause-best c = λ tried so.
+pub returns-in_default-clause-best : goal.returns-in_default-clause-best
+returns-in_default-clause-best c = λ tried so.
     let view = c.args.subject.now in let hs = view.predictors.now in let index = c.args.index in let q = c.index-predictors-index.result in
     let o = c.order-order.result in
     let r = read_of hs index q c.requires.index c.index-predictors-index.is view.bits o c.order-order.ensures.value c.from.result c.field_bits.result c.from.ensures c.field_bits.ensures.value in
     let is = c.take_handed.ensures.values c.if-not-take_handed.false in
-    let kept = c.if-least_residual_into.ensures.kept (λ t. cc) in
     let found = c.greatest_halvings-halvings.ensures in
-    let none = rw is at (none_of_all o c.greatest_halvings-halvings.result view.most _ found.within found.greatest _ (c.if-least_residual_into.ensures.none (λ t. cc))) in
-    rw kept (no_better hs view.most view.bits view.samples.now tried (tried ++ handed_at hs index ∷ []) (handed_at hs index) refl q.coefficients.items q.shift o (c.from.result * o + c.field_bits.result) r.coefficients r.shift r.order_is r.before_is
-    (priced_as c.args.best.now) so (c.args.best.now.bits - (c.from.result * o + c.field_bits.result)) (omega arith) none)
+    let new = c.in_default.ensures in
+    let none = rw is at (none_of_all o c.greatest_halvings-halvings.result view.most _ found.within found.greatest _ new.none) in
+    rw new.kept (no_better hs view.most view.bits view.samples.now tried (tried ++ handed_at hs index ∷ []) (handed_at hs index) refl q.coefficients.items q.shift o (c.from.result * o + c.field_bits.result) r.coefficients r.shift r.order_is r.before_is
+    (way_held c.args.best.now c.args.tables.now.codings.now) so (c.args.best.now.bits - (c.from.result * o + c.field_bits.result)) (omega arith) none)

@@ -1,4 +1,3 @@
-use Rattle.std.proofs.Common.{arith}
 use Rattle.flac_subframe.proofs.Family.{none_within}
 use Rattle.flac_subframe.proofs.chosen.choose_into.Goals as goal
 

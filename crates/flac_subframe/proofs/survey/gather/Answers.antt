@@ -1,7 +1,8 @@
-use Rattle.std.proofs.Common.{arith, ◌≡◌, ◌∙◌, ◌+◌, ◌-◌, ◌<◌, ◌^◌, ℕ, suc, ap, length, drop}
-use Rattle.std.proofs.lemmas.List.{drop-drop}
+use Rattle.std.proofs.Common.{arith, ◌≡◌, ◌∙◌, ◌+◌, ◌-◌, ◌<◌, ◌^◌, ℕ, suc, ap, refl, length, drop}
+use Rattle.std.proofs.lemmas.List.{drop-drop, length-set}
 use Rattle.std.proofs.lemmas.List.Elements.{All-take}
 use Rattle.flac_bits.specs.Rice.{IsResidual}
+use Rattle.flac_subframe.proofs.Bytes.{one_coding_more}
 use Rattle.flac_subframe.proofs.Pricing.{priced_more, priced_least, priced_bits, priced_start}
 use Rattle.flac_subframe.specs.Halves.{part, start}
 use Rattle.flac_subframe.proofs.Orders.{place_within}
@@ -18,7 +19,8 @@ loop-j-init c =
     let halves = halves_at order rs c.args.residual.now.halvings p c.requires.within c.args.residual.now.halves in
     let first : 0 ≡ start order (length rs + order) p 0 = omega arith in
     record {
-      priced = rw c.requires.empty (priced_start c.args.parameter_bits order p c.power-count.result _ rs halves c.args.residual.now.range c.power-count.ensures (omega arith));
+      priced = priced_start c.args.parameter_bits order p c.power-count.result _ rs halves c.args.residual.now.range c.power-count.ensures (omega arith);
+      places = refl;
       rest = ap (λ (k : ℕ). drop k rs) first;
       long = omega arith;
     }
@@ -69,9 +71,10 @@ loop-j-preserved c =
     let front = c.split_at.ensures.front in
     let next : start c.args.residual.now.order n c.args.halvings j + c.loop-j.long ≡ start c.args.residual.now.order n c.args.halvings (j + 1) = omega (arith, start_rises c.args.residual.now.order n c.args.halvings j) in
     record {
-      priced = rw (c.push.ensures.items, c.from.ensures, c.split_at.ensures.back)
+      priced = rw (one_coding_more j c.loop-j.codings c.byte.result c.finish-best.result.coding (omega arith) c.byte.ensures, c.from.ensures, c.split_at.ensures.back)
           (priced_more _ _ _ _ _ _ _ _ m _ _ _ c.requires.method priced
           (rw front at c.finish-best.ensures.least) (rw front at c.finish-best.ensures.bits) (rw front at c.finish-best.ensures.small));
+      places = length-set c.loop-j.codings j c.byte.result ∙ so.places;
       rest = c.split_at.ensures.back ∙ rw so.rest (drop-drop c.loop-j.long (start c.args.residual.now.order n c.args.halvings j) c.args.residual.now.values.now) ∙ ap (λ (k : ℕ). drop k c.args.residual.now.values.now) next;
       long = omega (arith, start_next c.args.residual.now.order n c.args.halvings j halves.room, start_rises c.args.residual.now.order n c.args.halvings (j + 1));
     }
@@ -79,7 +82,11 @@ loop-j-preserved c =
 pub returns-clause-least : goal.returns-clause-least
 returns-clause-least c =
     let none : c.power-count.result - c.loop-j.j ≡ 0 = omega arith in
-    rw c.power-count.ensures at (priced_least _ _ _ _ _ _ _ _ _ _ none c.loop-j.invariant.priced)
+    let all : c.loop-j.j ≡ 2 ^ c.args.halvings = omega (arith, c.power-count.ensures) in
+    rw (c.power-count.ensures, all) at (priced_least _ _ _ _ _ _ _ _ _ _ none c.loop-j.invariant.priced)
 
 pub returns-clause-bits : goal.returns-clause-bits
-returns-clause-bits c = priced_bits _ _ _ _ _ _ _ _ _ _ (omega arith) c.loop-j.invariant.priced
+returns-clause-bits c =
+    let none : c.power-count.result - c.loop-j.j ≡ 0 = omega arith in
+    let all : c.loop-j.j ≡ 2 ^ c.args.halvings = omega (arith, c.power-count.ensures) in
+    rw all at (priced_bits _ _ _ _ _ _ _ _ _ _ none c.loop-j.invariant.priced)

@@ -1,4 +1,6 @@
+use Rattle.std.proofs.Common.{arith}
 use Rattle.flac_subframe.proofs.Orders.{halved_least}
+use Rattle.flac_subframe.proofs.Places.{power_le}
 use Rattle.flac_subframe.proofs.Splits.{halves_at}
 use Rattle.flac_subframe.proofs.survey.take_up.Goals as goal
 
@@ -7,3 +9,6 @@ returns-clause-least c =
     let order = c.args.residual.now.order in let rs = c.args.residual.now.values.now in
     let most = c.args.residual.now.halvings in let p = c.args.found.halvings in
     halved_least c.args.found.parameter_bits p most order rs c.requires.method c.requires.within (halves_at order rs most p c.requires.within c.args.residual.now.halves) _ c.gather-bits.ensures.least
+
+pub gather-bits-requires-clause-codings : goal.gather-bits-requires-clause-codings
+gather-bits-requires-clause-codings c = omega (arith, power_le c.args.found.halvings c.args.residual.now.halvings c.requires.within, c.requires.codings)

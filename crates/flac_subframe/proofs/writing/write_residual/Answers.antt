@@ -3,7 +3,7 @@ use Rattle.std.proofs.lemmas.Result.{err_from_is_err_and}
 use Rattle.flac_bits.specs.Bits.{unsigned}
 use Rattle.flac_bits.proofs.Writing.{writes_then, fails_first}
 use Rattle.flac_subframe.specs.Bodies.{cut}
-use Rattle.flac_subframe.specs.Cost.{codings_of}
+use Rattle.flac_subframe.specs.Cost.{codings_lent}
 use Rattle.flac_subframe.specs.Spelling.{partition_spelling}
 use Rattle.flac_subframe.proofs.Bodies.{method_bits}
 use Rattle.flac_subframe.proofs.WriteSteps.{residual_text}
@@ -11,17 +11,17 @@ use Rattle.flac_subframe.proofs.writing.write_residual.Goals as goal
 
 pub returns : goal.returns
 returns g c =
-    let f = codings_of c.args.choice.now in
+    let f = codings_lent c.args.coded.now in
     let rs = c.args.values.now in
     let size : ℕ = (length rs + c.args.order) / 2 ^ f.halvings in
     let field : ℕ = (f.parameter_bits - 4) * 16 + f.halvings in
     rw (residual_text c.args.order rs f field (omega (arith, c.requires.may.few)) refl (method_bits f.parameter_bits c.requires.may.method))
     (writes_then (flat_map (partition_spelling f.parameter_bits) (cut (size - c.args.order) size rs f.codings)) c.write_partitions.new.writer c.write_partitions.result c.in_ok-put.ensures
-    (rw (c.power.ensures, c.as_slice.ensures.value) at c.write_partitions.ensures))
+    (rw c.power.ensures at c.write_partitions.ensures))
 
 pub returns-in_err-put : goal.returns-in_err-put
 returns-in_err-put g c =
-    let f = codings_of c.args.choice.now in
+    let f = codings_lent c.args.coded.now in
     let rs = c.args.values.now in
     let size : ℕ = (length rs + c.args.order) / 2 ^ f.halvings in
     let field : ℕ = (f.parameter_bits - 4) * 16 + f.halvings in

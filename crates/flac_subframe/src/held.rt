@@ -1,0 +1,21 @@
+//! The best content so far.
+
+use crate::halving::Found;
+
+/// How the samples of a subframe are written, but for the codings of a residual. A linear predictor is named by its
+/// place in the list that was handed in.
+#[derive(Clone, Copy)]
+pub enum HeldKind {
+    AsConstant,
+    AsVerbatim,
+    AsFixed(usize),
+    AsLinear(usize),
+}
+
+/// The best so far. The codings of its residual stay in their array and are overwritten only by better ones.
+#[derive(Clone, Copy)]
+pub struct Held {
+    pub kind: HeldKind,
+    pub found: Found,
+    pub bits: u64,
+}

@@ -1,0 +1,292 @@
+//! The shortest subframe of some samples, with partition orders up to 15, worked out in arrays that are made once.
+
+ghost use Rattle.std.specs.Prelude.{◌≡◌, ◌<◌, ◌≤◌, ◌-◌, ◌*◌, ◌^◌, length, map, All, IfOk, IfErr, vec_len};
+ghost use Rattle.flac_bits.specs.Signed.{FitsBits};
+ghost use Rattle.flac_bits.specs.Written.{Writes};
+ghost use Rattle.flac_bits.specs.declared.why.Why.{Why};
+ghost use Rattle.flac_subframe.specs.Least.{IsLeast};
+ghost use Rattle.flac_subframe.specs.Chosen.{IsBest, offered, way_held};
+ghost use Rattle.flac_subframe.specs.Cost.{codings_lent};
+ghost use Rattle.flac_subframe.specs.Family.{Stands, IsMadeAs, IsMadeIn, codings_kept, form_as, form_in};
+ghost use Rattle.flac_subframe.specs.Handed.{AreWithin};
+ghost use Rattle.flac_subframe.specs.Spelling.{subframe_spelling, IsSubframe};
+ghost use Rattle.flac_subframe.specs.Subframe.{samples_of};
+ghost use Rattle.flac_subframe.specs.Wasted.{IsWasted, times_power, shortened};
+ghost use Rattle.flac_subframe.specs.declared.limits.Limits.{Limits};
+
+use crate::choice::search;
+use crate::halving::{Found, power};
+use crate::held::{Held, HeldKind};
+use crate::limits::Limits;
+use crate::linear::LinearPredictor;
+use crate::narrowed::narrow;
+use crate::tables::Tables;
+use crate::view::{ChosenView, CodedView, SampleView, Scope};
+use crate::wasted::drop_wasted;
+use crate::workspace::Workspace;
+use crate::writing::write_chosen;
+use flac_bits::{BitWriter, Target, Why};
+use std::alloc::Global;
+
+/// How a subframe is written, in a place that is made once for partition orders up to some greatest, and then takes one choice after
+/// another. It keeps one byte for each partition.
+///
+/// A linear predictor is named by its place in the list that was handed in.
+#[derive(Drop)]
+pub struct WideChoice {
+    pub(crate) wasted: u32,
+    pub(crate) kind: HeldKind,
+    pub(crate) found: Found,
+    pub(crate) codings: Vec<u8>,
+    bits: u64,
+}
+
+impl WideChoice {
+    /// A place for choices with partition orders up to that of the limits, at most 15. Until one is made in it, it has the constant
+    /// subframe of samples that are all 0 and have one bit.
+    ///
+    /// # Errors
+    /// [`Why::Memory`] if an allocation fails.
+    pub fn new(alloc: Global, limits: &Limits) -> Result<WideChoice, Why>
+        requires { limits.now.partition ≤ 15 }
+        ensures ok { IfOk result (λ c. vec_len c.codings ≡ 2 ^ limits.now.partition) }
+        ensures bits { IfOk result (λ c. c.bits ≡ 9) }
+        ensures err { IfErr result (λ e. e ≡ Why.Memory) }
+    {
+        let codings = vec![in alloc; 0u8; power(limits.partition as u8)]?;
+        Ok(WideChoice {
+            wasted: 0,
+            kind: HeldKind::AsConstant,
+            found: Found {
+                parameter_bits: 4,
+                halvings: 0,
+                bits: 0,
+            },
+            codings,
+            bits: 9,
+        })
+    }
+
+    /// How many bits the subframe takes.
+    pub fn bits(&self) -> u64
+        ensures { result ≡ self.now.bits }
+    {
+        self.bits
+    }
+
+    /// The same with its codings lent.
+    fn lent(&self) -> ChosenView<'_>
+        requires few { self.now.found.halvings ≤ 15 }
+        requires places { 2 ^ self.now.found.halvings ≤ vec_len self.now.codings }
+        ensures wasted { result.wasted ≡ self.now.wasted }
+        ensures kind { result.kind ≡ self.now.kind }
+        ensures codings { codings_lent result.residual ≡ codings_kept self.now }
+    {
+        ChosenView {
+            wasted: self.wasted,
+            kind: self.kind,
+            residual: CodedView {
+                parameter_bits: self.found.parameter_bits,
+                halvings: self.found.halvings,
+                codings: &self.codings[..power(self.found.halvings)],
+            },
+        }
+    }
+}
+
+/// What was found for some samples: how many of their lowest bits are left out, and the content of the fewest bits for the rest.
+#[derive(Clone, Copy)]
+struct Sought {
+    wasted: u32,
+    held: Held,
+}
+
+/// The content of the fewest bits, by tables that stand one after another in an array.
+fn search_within(
+    subject: &SampleView<'_>,
+    wide: &mut [i64],
+    values: &mut [i32],
+    folds: &mut [u32],
+    tables: &mut [u64],
+    widths: &mut [u8],
+    codings: &mut [u8],
+) -> Held
+    requires some { 0 < length subject.now.samples.now }
+    requires wide { length subject.now.samples.now ≤ length wide.old }
+    requires places { length subject.now.samples.now ≤ length values.old }
+    requires folds { length subject.now.samples.now ≤ length folds.old }
+    requires tables { 5 * 2 ^ subject.now.most ≤ length tables.old }
+    requires widths { 2 * 2 ^ subject.now.most ≤ length widths.old }
+    requires codings { 2 ^ subject.now.most ≤ length codings.old }
+    ensures best { IsBest subject.now.predictors.now subject.now.most subject.now.bits subject.now.samples.now (offered subject.now.predictors.now) (way_held result codings.new) }
+    ensures within { result.found.halvings ≤ subject.now.most }
+{
+    let count = power(subject.most);
+    let (sums, rest) = tables.split_at_mut(count);
+    let (four, five) = rest.split_at_mut(2 * count);
+    let mut tables = Tables {
+        sums,
+        four,
+        five,
+        widths,
+        codings,
+    };
+    search(subject, wide, values, folds, &mut tables)
+}
+
+/// The wasted bits of some samples and the content of the fewest bits for the rest, whose codings are put into the first of the places.
+fn choose_in_places(
+    samples: &[i64],
+    depth: u32,
+    scope: &Scope<'_>,
+    longs: &mut [i64],
+    shorts: &mut [i32],
+    folds: &mut [u32],
+    tables: &mut [u64],
+    widths: &mut [u8],
+    codings: &mut [u8],
+) -> Sought
+    requires some { 0 < length samples.now }
+    requires few { length samples.now ≤ 65535 }
+    requires depth { (1 ≤ depth) × (depth ≤ 33) }
+    requires fits { All (FitsBits depth) samples.now }
+    requires longs { 2 * length samples.now ≤ length longs.old }
+    requires shorts { 2 * length samples.now ≤ length shorts.old }
+    requires folds { length samples.now ≤ length folds.old }
+    requires tables { 5 * 2 ^ scope.now.most ≤ length tables.old }
+    requires widths { 2 * 2 ^ scope.now.most ≤ length widths.old }
+    requires codings { 2 ^ scope.now.most ≤ length codings.old }
+    ensures wasted { IsWasted result.wasted samples.now }
+    ensures some { result.wasted < depth }
+    ensures times { samples.now ≡ map (times_power result.wasted) (shortened result.wasted samples.now) }
+    ensures best { IsBest scope.now.predictors.now scope.now.most (depth - result.wasted) (shortened result.wasted samples.now) (offered scope.now.predictors.now) (way_held result.held codings.new) }
+    ensures within { result.held.found.halvings ≤ scope.now.most }
+{
+    let (shortened, wide) = longs.split_at_mut(samples.len());
+    let wasted = drop_wasted(samples, depth, shortened);
+    let (narrowed, values) = shorts.split_at_mut(samples.len());
+    let narrow = narrow(shortened, narrowed);
+    let subject = SampleView {
+        samples: shortened,
+        narrowed,
+        bits: depth - wasted,
+        most: scope.most,
+        predictors: scope.predictors,
+        narrow,
+    };
+    let held = search_within(&subject, wide, values, folds, tables, widths, codings);
+    Sought { wasted, held }
+}
+
+/// Chooses the subframe of the fewest bits for samples of a depth of 1 to 33 bits, with partition orders up to that of the limits, at
+/// most 15, and puts it into the place of a choice (RFC 9639, section 9.2.7).
+///
+/// The family is that of [`crate::choose_with_into`], with the partition orders that the limits allow: constant, verbatim, the fixed
+/// predictors of order 0 to 4 and the linear ones that are handed in, with either coding method and every parameter and escape; the
+/// wasted bits are as many as all samples lack. Among equals the first of this order is chosen. The samples are 1 or more and at most
+/// as many as the workspace was made for; the workspace and the place were made for partition orders up to that of the limits or
+/// above. It takes no memory.
+pub fn choose_in(
+    samples: &[i64],
+    depth: u32,
+    limits: &Limits,
+    predictors: &[LinearPredictor],
+    workspace: &mut Workspace,
+    choice: &mut WideChoice,
+)
+    requires some { 0 < length samples.now }
+    requires block { length samples.now ≤ workspace.old.block }
+    requires depth { (1 ≤ depth) × (depth ≤ 33) }
+    requires fits { All (FitsBits depth) samples.now }
+    requires partition { limits.now.partition ≤ workspace.old.most }
+    requires places { 2 ^ limits.now.partition ≤ vec_len choice.old.codings }
+    requires orders { AreWithin limits.now.linear predictors.now }
+    ensures least { IsLeast (λ f. Stands limits.now.partition (offered predictors.now) f samples.now) (λ f. length (subframe_spelling depth f)) (form_in predictors.now choice.new samples.now) }
+    ensures bits { choice.new.bits ≡ length (subframe_spelling depth (form_in predictors.now choice.new samples.now)) }
+    ensures made { IsMadeIn predictors.now choice.new samples.now }
+    ensures valid { (most : Limits) → limits.now.partition ≤ most.partition → AreWithin most.linear predictors.now → IsSubframe depth (length samples.now) most (form_in predictors.now choice.new samples.now) }
+    ensures restored { samples_of depth (length samples.now) (form_in predictors.now choice.new samples.now) ≡ Some samples.now }
+    ensures small { choice.new.bits ≤ 2 ^ 61 }
+    ensures places { vec_len choice.new.codings ≡ vec_len choice.old.codings }
+    ensures room { workspace.new ≡ workspace.old }
+{
+    let _most = workspace.most;
+    let scope = Scope {
+        most: limits.partition as u8,
+        predictors,
+    };
+    let sought = choose_in_places(
+        samples,
+        depth,
+        &scope,
+        &mut workspace.longs,
+        &mut workspace.shorts,
+        &mut workspace.folds,
+        &mut workspace.tables,
+        &mut workspace.widths,
+        &mut choice.codings,
+    );
+    choice.wasted = sought.wasted;
+    choice.kind = sought.held.kind;
+    choice.found = sought.held.found;
+    choice.bits = 8 + u64::from(sought.wasted) + sought.held.bits;
+}
+
+/// Writes a subframe as it was chosen, with places for the samples and for the residual in one array, which is overwritten.
+fn write_in_places<W: Target>(
+    choice: &WideChoice,
+    predictors: &[LinearPredictor],
+    samples: &[i64],
+    depth: u32,
+    longs: &mut [i64],
+    writer: &mut BitWriter<W>,
+) -> Result<(), Why>
+    requires some { 0 < length samples.now }
+    requires few { length samples.now ≤ 65535 }
+    requires depth { (1 ≤ depth) × (depth ≤ 33) }
+    requires fits { All (FitsBits depth) samples.now }
+    requires places { 2 * length samples.now ≤ length longs.old }
+    requires made { IsMadeIn predictors.now choice.now samples.now }
+    ensures { Writes (subframe_spelling depth (form_in predictors.now choice.now samples.now)) writer.old writer.new result }
+{
+    let (shortened, values) = longs.split_at_mut(samples.len());
+    write_chosen(
+        &choice.lent(),
+        predictors,
+        samples,
+        depth,
+        shortened,
+        values,
+        writer,
+    )
+}
+
+/// Writes the subframe that [`choose_in`] chose for samples of a depth (RFC 9639, section 9.2).
+///
+/// The choice is one that was made of these samples at this depth with just these predictors, and the workspace was made for blocks of
+/// as many samples or more. It takes no memory. Errors: `Write`.
+pub fn write_subframe_in<W: Target>(
+    choice: &WideChoice,
+    predictors: &[LinearPredictor],
+    samples: &[i64],
+    depth: u32,
+    workspace: &mut Workspace,
+    writer: &mut BitWriter<W>,
+) -> Result<(), Why>
+    requires some { 0 < length samples.now }
+    requires block { length samples.now ≤ workspace.old.block }
+    requires depth { (1 ≤ depth) × (depth ≤ 33) }
+    requires fits { All (FitsBits depth) samples.now }
+    requires made { IsMadeIn predictors.now choice.now samples.now }
+    ensures text { Writes (subframe_spelling depth (form_in predictors.now choice.now samples.now)) writer.old writer.new result }
+    ensures room { workspace.new ≡ workspace.old }
+{
+    write_in_places(
+        choice,
+        predictors,
+        samples,
+        depth,
+        &mut workspace.longs,
+        writer,
+    )
+}

@@ -1,0 +1,74 @@
+//! The working arrays for choosing and writing one subframe after another.
+
+ghost use Rattle.std.specs.Prelude.{◌≡◌, ◌≤◌, IfOk, IfErr};
+ghost use Rattle.flac_bits.specs.declared.why.Why.{Why};
+
+use crate::halving::power;
+use crate::limits::Limits;
+use flac_bits::Why;
+use std::alloc::Global;
+use std::marker::Model;
+
+/// The working arrays for choosing and writing one subframe after another, made for blocks of at most some number of samples and for
+/// partition orders up to some greatest (RFC 9639, section 9.2.7). With an order of 15 there are 2^15 and 2^16 places for what is known
+/// of each partition, 1.4 MB in all; with one of 8 some 11 kB.
+#[derive(Drop)]
+pub struct Workspace {
+    pub(crate) longs: Vec<i64>,
+    pub(crate) shorts: Vec<i32>,
+    pub(crate) folds: Vec<u32>,
+    pub(crate) tables: Vec<u64>,
+    pub(crate) widths: Vec<u8>,
+    max_block: usize,
+    pub(crate) most: u32,
+}
+
+impl Model for Workspace {
+    ghost use Rattle.std.specs.Prelude.{◌≡◌, ◌≤◌, ◌*◌, ◌^◌, vec_len};
+    ghost use Rattle.flac_subframe.specs.Room.{Room};
+
+    ghost Value = { Room };
+
+    ghost view = { λ w. record { block = w.max_block; most = w.most } };
+
+    ghost invariant = { λ w. record {
+      longs : vec_len w.longs ≡ 2 * w.max_block;
+      shorts : vec_len w.shorts ≡ 2 * w.max_block;
+      folds : vec_len w.folds ≡ w.max_block;
+      tables : vec_len w.tables ≡ 5 * 2 ^ w.most;
+      widths : vec_len w.widths ≡ 2 * 2 ^ w.most;
+      block : w.max_block ≤ 65535;
+      most : w.most ≤ 15;
+    } };
+}
+
+impl Workspace {
+    /// Allocates the arrays for blocks of at most `max_block` samples, 1 to 65535, and for partition orders up to that of the limits.
+    ///
+    /// # Errors
+    /// [`Why::Memory`] if an allocation fails.
+    pub fn new(alloc: Global, max_block: u32, limits: &Limits) -> Result<Workspace, Why>
+        requires block { max_block ≤ 65535 }
+        requires partition { limits.now.partition ≤ 15 }
+        ensures ok { IfOk result (λ w. w ≡ record { block = max_block; most = limits.now.partition }) }
+        ensures err { IfErr result (λ e. e ≡ Why.Memory) }
+    {
+        let most = limits.partition;
+        let count = power(most as u8);
+        let max_block = max_block as usize;
+        let longs = vec![in alloc; 0i64; 2 * max_block]?;
+        let shorts = vec![in alloc; 0i32; 2 * max_block]?;
+        let folds = vec![in alloc; 0u32; max_block]?;
+        let tables = vec![in alloc; 0u64; 5 * count]?;
+        let widths = vec![in alloc; 0u8; 2 * count]?;
+        Ok(Workspace {
+            longs,
+            shorts,
+            folds,
+            tables,
+            widths,
+            max_block,
+            most,
+        })
+    }
+}
