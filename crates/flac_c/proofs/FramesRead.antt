@@ -19,6 +19,7 @@ use Rattle.flac_bits.proofs.Fences.{again_in, takes_in, refuses_in}
 use Rattle.flac_bits.proofs.Fencing.{drop_bits}
 use Rattle.flac_bits.proofs.Holding.{length-bits_of}
 use Rattle.flac_meta.specs.Info.{Info, KeepsRules}
+use Rattle.flac_header.specs.declared.subset.Profile.TheVariants.{Subset}
 use Rattle.flac_frame.specs.Frame.{Frame, frame}
 use Rattle.flac_frame.proofs.FrameTie.{frames_spelled, frames_bytes}
 use Rattle.flac_native.specs.Decoding.{beginning}
@@ -36,9 +37,9 @@ abbrev pub at_bytes : List ℕ → State
 at_bytes bytes = record { known = true; errors = 0; raised = 0; behind = the_end; most = 8 * length bytes; names = []; cursor = record { left = bits_of bytes; mark = beginning Truncated } }
 
 -- a frame's spelling is whole bytes
-pub frame_whole : (i : Info) (text : List Bool) (f : Frame) → KeepsRules i → Spells (frame i None) (beginning Truncated) text f → length text % 8 ≡ 0
+pub frame_whole : (i : Info) (text : List Bool) (f : Frame) → KeepsRules i → Spells (frame Subset i None) (beginning Truncated) text f → length text % 8 ≡ 0
 frame_whole i text f rules h =
-    let s = (frames_spelled i None (beginning Truncated) text f rules refl refl refl).0 h in
+    let s = (frames_spelled Subset i None (beginning Truncated) text f rules refl refl refl).0 h in
     ap (λ (t : List Bool). length t % 8) s.spelling ∙ frames_bytes i.depth s.form
 
 -- what is left behind the first bytes of a list
@@ -70,9 +71,9 @@ module _ (i : Info) (bytes : List ℕ) (rules : KeepsRules i) (few : length byte
     is : d.mark.bytes ≡ n
     at : IsFrameAt i bytes held n
 
-  behind : (held : Frame) (d : Cursor) → read_in (Some room) (frame i None) (at_ (bits_of bytes) (beginning Truncated)) ≡ Ok (held, d) → Behind held d
+  behind : (held : Frame) (d : Cursor) → read_in (Some room) (frame Subset i None) (at_ (bits_of bytes) (beginning Truncated)) ≡ Ok (held, d) → Behind held d
   behind held d e =
-      let t = takes_in (Some room) (frame i None) (bits_of bytes) (beginning Truncated) held d e in
+      let t = takes_in (Some room) (frame Subset i None) (bits_of bytes) (beginning Truncated) held d e in
       let text : List Bool = t.0 in
       let whole : length text % 8 ≡ 0 = frame_whole i text held rules t.2 in
       let n : ℕ = length text / 8 in
@@ -92,7 +93,7 @@ module _ (i : Info) (bytes : List ℕ) (rules : KeepsRules i) (few : length byte
   -- bytes are the same number
   same_count : (f g : Frame) (n k : ℕ) → (a : IsFrameAt i bytes f n) → (b : IsFrameAt i bytes g k) → (f ≡ g) × (n ≡ k)
   same_count f g n k a b =
-      let one = one_way (frame i None) (beginning Truncated) a.text b.text (bits_of (drop n bytes)) (bits_of (drop k bytes)) f g a.spelled b.spelled (sym a.split ∙ b.split) in
+      let one = one_way (frame Subset i None) (beginning Truncated) a.text b.text (bits_of (drop n bytes)) (bits_of (drop k bytes)) f g a.spelled b.spelled (sym a.split ∙ b.split) in
       let first : length (bits_of bytes) ≡ length a.text + length (bits_of (drop n bytes)) = ap (λ (l : List Bool). length l) a.split ∙ length-append a.text (bits_of (drop n bytes)) in
       let second : length (bits_of bytes) ≡ length b.text + length (bits_of (drop k bytes)) = ap (λ (l : List Bool). length l) b.split ∙ length-append b.text (bits_of (drop k bytes)) in
       let texts : length a.text ≡ length b.text = ap (λ (l : List Bool). length l) one.0 in
@@ -100,7 +101,7 @@ module _ (i : Info) (bytes : List ℕ) (rules : KeepsRules i) (few : length byte
       let inside = b.within in
       (one.1, omega (arith, first, second, texts, within, inside, length-bits_of (drop n bytes), length-bits_of (drop k bytes), length-drop n bytes, length-drop k bytes))
 
-  read_answers : (held : Frame) (d : Cursor) (result : Result ⊤ Why) → Answers (λ _. held) (read_in (Some room) (frame i None) (at_ (bits_of bytes) (beginning Truncated))) d result
+  read_answers : (held : Frame) (d : Cursor) (result : Result ⊤ Why) → Answers (λ _. held) (read_in (Some room) (frame Subset i None) (at_ (bits_of bytes) (beginning Truncated))) d result
       → FrameRead i bytes held d.mark.bytes result
   read_answers held d (Ok u) e =
       let b = behind held d e in
@@ -108,28 +109,28 @@ module _ (i : Info) (bytes : List ℕ) (rules : KeepsRules i) (few : length byte
       record { found = at; fault = tt; only = λ f k there. same_count held f d.mark.bytes k at there }
   read_answers held d (Err why) e = record {
     found = tt;
-    fault = refuses_in (Some room) (frame i None) (bits_of bytes) (beginning Truncated) why e;
+    fault = refuses_in (Some room) (frame Subset i None) (bits_of bytes) (beginning Truncated) why e;
     only = λ f k there.
-        let again = again_in (Some room) (frame i None) (beginning Truncated) there.text (bits_of (drop k bytes)) f there.spelled there.room in
-        differ (f, at_ (bits_of (drop k bytes)) (past there.text (beginning Truncated))) (because why) (sym again ∙ ap (λ (l : List Bool). read_in (Some room) (frame i None) (at_ l (beginning Truncated))) (sym there.split) ∙ e);
+        let again = again_in (Some room) (frame Subset i None) (beginning Truncated) there.text (bits_of (drop k bytes)) f there.spelled there.room in
+        differ (f, at_ (bits_of (drop k bytes)) (past there.text (beginning Truncated))) (because why) (sym again ∙ ap (λ (l : List Bool). read_in (Some room) (frame Subset i None) (at_ l (beginning Truncated))) (sym there.split) ∙ e);
   }
 
   -- a call that reads a frame behind a fence
-  pub frame_read : (s t : State) (held : Frame) (result : Result ⊤ Why) → s ≡ at_bytes bytes → Reads (λ _. held) (frame i None) (started (fence_at 16777215 s)) t result → Counts (fence_at 16777215 s) t result → t.errors ≡ 0
+  pub frame_read : (s t : State) (held : Frame) (result : Result ⊤ Why) → s ≡ at_bytes bytes → Reads (λ _. held) (frame Subset i None) (started (fence_at 16777215 s)) t result → Counts (fence_at 16777215 s) t result → t.errors ≡ 0
       → FrameRead i bytes held t.cursor.mark.bytes result
   frame_read s t held result is reads counts quiet =
-      let within = reads_within (λ (_ : ⊤). held) 16777215 (frame i None) (at_bytes bytes) t result (subst (λ (q : State). Reads (λ (_ : ⊤). held) (frame i None) (started (fence_at 16777215 q)) t result) is reads) (subst (λ (q : State). Counts (fence_at 16777215 q) t result) is counts) in
+      let within = reads_within (λ (_ : ⊤). held) 16777215 (frame Subset i None) (at_bytes bytes) t result (subst (λ (q : State). Reads (λ (_ : ⊤). held) (frame Subset i None) (started (fence_at 16777215 q)) t result) is reads) (subst (λ (q : State). Counts (fence_at 16777215 q) t result) is counts) in
       let answers = within refl quiet in
-      read_answers held (lifted t).cursor result (subst (λ (c : Cursor). Answers (λ (_ : ⊤). held) (read_in (Some 16777215) (frame i None) c) (lifted t).cursor result) here answers)
+      read_answers held (lifted t).cursor result (subst (λ (c : Cursor). Answers (λ (_ : ⊤). held) (read_in (Some 16777215) (frame Subset i None) c) (lifted t).cursor result) here answers)
 
   -- the same, step by step
   pub filled : (src : List ℕ) (s f t u : State) (before : Option Before) (held : Frame) (result : Result ⊤ Why) (n : ℕ) → src ≡ bytes → s ≡ at_bytes src → f ≡ fence_at 16777215 s → before ≡ None
-      → Reads (λ _. held) (frame i before) (started f) t result → Counts f t result → u ≡ lifted t → 0 ≡ u.errors → n ≡ u.cursor.mark.bytes
+      → Reads (λ _. held) (frame Subset i before) (started f) t result → Counts f t result → u ≡ lifted t → 0 ≡ u.errors → n ≡ u.cursor.mark.bytes
       → FrameRead i bytes held n result
   filled src s f t u before held result n same is fenced first reads counts lift quiet taken =
       let from : s ≡ at_bytes bytes = is ∙ ap (λ (l : List ℕ). at_bytes l) same in
-      let none = subst (λ (o : Option Before). Reads (λ (_ : ⊤). held) (frame i o) (started f) t result) first reads in
-      let behind_fence = subst (λ (q : State). Reads (λ (_ : ⊤). held) (frame i None) (started q) t result) fenced none in
+      let none = subst (λ (o : Option Before). Reads (λ (_ : ⊤). held) (frame Subset i o) (started f) t result) first reads in
+      let behind_fence = subst (λ (q : State). Reads (λ (_ : ⊤). held) (frame Subset i None) (started q) t result) fenced none in
       let counted = subst (λ (q : State). Counts q t result) fenced counts in
       let calm : t.errors ≡ 0 = sym (quiet ∙ ap (λ (q : State). q.errors) lift) in
       let bytes_are : t.cursor.mark.bytes ≡ n = sym (taken ∙ ap (λ (q : State). q.cursor.mark.bytes) lift) in
@@ -150,8 +151,8 @@ module _ {i : Info} {bytes : List ℕ} {held : Frame} {n : ℕ} (result : Result
   only_err why is = let q = subst (λ x. FrameRead i bytes held n x) is r in q.only
 
 -- a frame has a bit
-pub frame_some : (i : Info) (m : Mark) (text : List Bool) (f : Frame) → Spells (frame i None) m text f → 0 < length text
-frame_some i m text f h = spelled_some (layout (at_frames i).stand) m text (framed f) (as_part (at_frames i).stand i m text f refl refl h) (needs_bits (at_frames i) m refl)
+pub frame_some : (i : Info) (m : Mark) (text : List Bool) (f : Frame) → Spells (frame Subset i None) m text f → 0 < length text
+frame_some i m text f h = spelled_some (layout (at_frames Subset i).stand) m text (framed f) (as_part (at_frames Subset i).stand i m text f refl refl h) (needs_bits (at_frames Subset i) m refl)
 
 drop_all : (bytes : List ℕ) → drop (length bytes) bytes ≡ []
 drop_all [] = refl

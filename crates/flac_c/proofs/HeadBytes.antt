@@ -19,6 +19,7 @@ use Rattle.flac_c.specs.Starts.{IsHead, RefusesHead}
 use Rattle.flac_c.specs.Blocks.{IsFound, HeadRead, IsRefusedAt}
 use Rattle.flac_c.specs.declared.metadata.Metadata.{Metadata}
 use Rattle.flac_c.proofs.FramesRead.{at_bytes}
+use Rattle.flac_header.specs.declared.subset.Profile.TheVariants.{Subset}
 
 fresh_bytes : (m : Mark) → (fresh m).bytes ≡ m.bytes
 fresh_bytes m = go (nat_eq m.unread 0) refl
@@ -58,17 +59,17 @@ head_is bytes start now sample found few is h =
     let all : 8 * length bytes ≡ length text + length now.cursor.left = sym (length-bits_of bytes) ∙ ap (λ (l : List Bool). length l) split ∙ length-append text now.cursor.left in
     let u : start.cursor.mark.unread ≡ 0 = ap (λ (m : Mark). m.unread) mark_is in
     let z : start.cursor.mark.bytes ≡ 0 = ap (λ (m : Mark). m.bytes) mark_is in
-    let count = count_behind opening start.cursor.mark r.parts text r.spelled 0 nothing_told u z (omega (arith, all, few)) in
+    let count = count_behind (opening Subset) start.cursor.mark r.parts text r.spelled 0 nothing_told u z (omega (arith, all, few)) in
     let whole : length text % 8 ≡ 0 = count.0 in
     let bytes_are : now.cursor.mark.bytes ≡ 0 + length text / 8 = ap (λ (m : Mark). m.bytes) r.mark ∙ count.1 in
     let long : length text ≡ 8 * now.cursor.mark.bytes = omega (arith, whole, bytes_are) in
     let front : text ≡ bits_of (take now.cursor.mark.bytes bytes) =
     sym (take-append_seam text now.cursor.left) ∙ ap (λ k. take k (text ++ now.cursor.left)) long ∙ ap (λ t. take (8 * now.cursor.mark.bytes) t) (sym split) ∙ take_bits now.cursor.mark.bytes bytes in
-    let joined = subst (λ (m : Mark). Joined grammar opening m r.parts text) mark_is r.spelled in (
+    let joined = subst (λ (m : Mark). Joined grammar (opening Subset) m r.parts text) mark_is r.spelled in (
       r.parts,
       record {
         within = omega (arith, long, all);
-        spelled = subst (λ (t : List Bool). Joined grammar opening (beginning Truncated) r.parts t) front joined;
+        spelled = subst (λ (t : List Bool). Joined grammar (opening Subset) (beginning Truncated) r.parts t) front joined;
         metadata = r.metadata;
         behind = h.phase;
       },

@@ -20,6 +20,7 @@ use Rattle.flac_meta.specs.declared.seen.Seen.{Seen}
 use Rattle.flac_meta.specs.declared.block.Block.{Block}
 use Rattle.flac_meta.specs.declared.comments.Comments.{Comments}
 use Rattle.flac_meta.specs.declared.seek_table.SeekPoint.{SeekPoint}
+use Rattle.flac_header.specs.declared.subset.Profile.TheVariants.{Subset}
 use Rattle.flac_native.specs.Stream.{Piece, marked, block, framed, Progress, Stand, grammar, opening, next, layout, layout_in, marker, room_in, may_end_in, place_in, phase_behind, raised, info_after}
 use Rattle.flac_native.specs.declared.fault.Place.{Place}
 use Rattle.flac_native.specs.declared.fault.Place.TheVariants as place
@@ -32,8 +33,8 @@ use Rattle.flac_c.specs.declared.metadata.Metadata.{Metadata}
 
 -- ---- what blocks tell, behind one more
 
-info_more : (parts : List Piece) (last : Bool) (b : Block) → (after grammar opening (parts ++ block last b ∷ [])).stand.info ≡ info_after (after grammar opening parts).stand.info b
-info_more parts last b = ap (λ (p : Progress). p.stand.info) (after-append grammar opening parts (block last b))
+info_more : (parts : List Piece) (last : Bool) (b : Block) → (after grammar (opening Subset) (parts ++ block last b ∷ [])).stand.info ≡ info_after (after grammar (opening Subset) parts).stand.info b
+info_more parts last b = ap (λ (p : Progress). p.stand.info) (after-append grammar (opening Subset) parts (block last b))
 
 comments_more : (i : Option Comments) (xs : List Piece) (last : Bool) (b : Block) → comments_from i (xs ++ block last b ∷ []) ≡ comments_after (comments_from i xs) b
 comments_more i [] last b = refl
@@ -114,7 +115,7 @@ pub marker_read : (start new : State) (sample : ℕ) (found : Metadata) (u : ⊤
     → BlocksCome start new sample found nothing_seen 0
 marker_read start new sample found u ran none known same =
     let t = takes marker start.cursor.left (fresh start.cursor.mark) u new.cursor ran in
-    let h = as_marker opening.stand (fresh start.cursor.mark) t.0 u refl t.2 in
+    let h = as_marker (opening Subset).stand (fresh start.cursor.mark) t.0 u refl t.2 in
     record {
       read = record {
         parts = marked ∷ [];
@@ -134,32 +135,32 @@ marker_read start new sample found u ran none known same =
 
 pub marker_refused : (start : State) (why : Why) → run marker (at_ start.cursor.left (fresh start.cursor.mark)) ≡ Err (because why) → IsRefusedAt start (record { at = place.Marker; why = why })
 marker_refused start why ran =
-    let stops = marker_stops opening.stand (fresh start.cursor.mark) start.cursor.left why refl (stops_of marker start.cursor.left (fresh start.cursor.mark) why ran) in
-    ([], record { front = []; left = start.cursor.left; stands = refl; spelled = refl; stops = inl (goes_on opening.stand start.cursor.left Opening refl not_opened, refl, stops) })
+    let stops = marker_stops (opening Subset).stand (fresh start.cursor.mark) start.cursor.left why refl (stops_of marker start.cursor.left (fresh start.cursor.mark) why ran) in
+    ([], record { front = []; left = start.cursor.left; stands = refl; spelled = refl; stops = inl (goes_on (opening Subset).stand start.cursor.left Opening refl not_opened, refl, stops) })
 
 -- ---- a block
 
 module _ (start old : State) (sample : ℕ) (found : Metadata) (seen : Seen) (index : ℕ) (c : BlocksCome start old sample found seen index) where
   abbrev before : Progress
-  before = after grammar opening c.read.parts
+  before = after grammar (opening Subset) c.read.parts
 
   module _ (new : State) (noted : Metadata) (left : Seen) (last : Bool) (r : BlockRead seen left old new found noted last) where
     abbrev x : Piece
     x = block last r.is
 
-    spelled_here : Spells (layout before.stand) (fresh (mark_behind grammar opening start.cursor.mark c.read.parts c.read.text c.read.spelled)) r.text x
-    spelled_here = as_block before.stand seen (fresh (mark_behind grammar opening start.cursor.mark c.read.parts c.read.text c.read.spelled)) r.text last r.is c.phase c.seen_is
+    spelled_here : Spells (layout before.stand) (fresh (mark_behind grammar (opening Subset) start.cursor.mark c.read.parts c.read.text c.read.spelled)) r.text x
+    spelled_here = as_block before.stand seen (fresh (mark_behind grammar (opening Subset) start.cursor.mark c.read.parts c.read.text c.read.spelled)) r.text last r.is c.phase c.seen_is
         (subst (λ (m : Mark). Spells (block_layout seen) (fresh m) r.text (last, r.is)) c.read.mark r.spelled)
 
-    room_here : InRoom (room_in before.stand.phase) (fresh (mark_behind grammar opening start.cursor.mark c.read.parts c.read.text c.read.spelled)) r.text
-    room_here = subst (λ k. InRoom (room_in k) (fresh (mark_behind grammar opening start.cursor.mark c.read.parts c.read.text c.read.spelled)) r.text) (sym c.phase) tt
+    room_here : InRoom (room_in before.stand.phase) (fresh (mark_behind grammar (opening Subset) start.cursor.mark c.read.parts c.read.text c.read.spelled)) r.text
+    room_here = subst (λ k. InRoom (room_in k) (fresh (mark_behind grammar (opening Subset) start.cursor.mark c.read.parts c.read.text c.read.spelled)) r.text) (sym c.phase) tt
 
     abbrev parts_more : List Piece
     parts_more = c.read.parts ++ x ∷ []
 
     abbrev parts_read : PartsRead start new sample noted
     parts_read =
-        let j = Joined-append grammar opening start.cursor.mark c.read.parts x c.read.text r.text c.read.spelled spelled_here room_here in
+        let j = Joined-append grammar (opening Subset) start.cursor.mark c.read.parts x c.read.text r.text c.read.spelled spelled_here room_here in
         record {
           parts = parts_more;
           metadata = metadata_more c.read.parts last r.is c.read.metadata;
@@ -172,8 +173,8 @@ module _ (start old : State) (sample : ℕ) (found : Metadata) (seen : Seen) (in
           errors = r.errors ∙ c.read.errors;
         }
 
-    behind_is : after grammar opening parts_more ≡ next before x
-    behind_is = after-append grammar opening c.read.parts x
+    behind_is : after grammar (opening Subset) parts_more ≡ next before x
+    behind_is = after-append grammar (opening Subset) c.read.parts x
 
     pub head_read : last ≡ true → HeadRead start new sample noted
     head_read is = record { read = parts_read; phase = ap (λ (p : Progress). p.stand.phase) behind_is ∙ ap (λ l. phase_behind l) is }
@@ -194,7 +195,7 @@ module _ (start old : State) (sample : ℕ) (found : Metadata) (seen : Seen) (in
   pub blocks_refused : (why : Why) → StopsIn None (block_layout seen) (fresh old.cursor.mark) old.cursor.left why → IsRefusedAt start (record { at = place.Block index; why = why })
   blocks_refused why h =
       let there = subst (λ (m : Mark). StopsIn None (block_layout seen) (fresh m) old.cursor.left why) c.read.mark h in
-      let stops = block_stops before.stand seen (fresh (mark_behind grammar opening start.cursor.mark c.read.parts c.read.text c.read.spelled)) old.cursor.left why c.phase c.seen_is there in (
+      let stops = block_stops before.stand seen (fresh (mark_behind grammar (opening Subset) start.cursor.mark c.read.parts c.read.text c.read.spelled)) old.cursor.left why c.phase c.seen_is there in (
         c.read.parts,
         record {
           front = c.read.text;

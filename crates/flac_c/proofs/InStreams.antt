@@ -15,6 +15,7 @@ use Rattle.flac_bits.proofs.Handing.{Joined-append, after-append}
 use Rattle.flac_bits.proofs.Holding.{length-bits_of, bits_of-append}
 use Rattle.flac_bits.proofs.ItemSpellings.{fresh_unread, fresh_check8, fresh_check16, behind_whole}
 use Rattle.flac_meta.specs.Info.{Info, KeepsRules}
+use Rattle.flac_header.specs.declared.subset.Profile.TheVariants.{Subset}
 use Rattle.flac_frame.specs.Frame.{Frame, frame, header_rules}
 use Rattle.flac_frame.specs.Spelling.{FrameForm}
 use Rattle.flac_frame.specs.declared.before.Before.{Before}
@@ -26,7 +27,7 @@ use Rattle.flac_native.specs.declared.phase.Phase.{Phase}
 use Rattle.flac_native.specs.declared.phase.Phase.TheVariants.{Opening, Blocks, Frames}
 use Rattle.flac_native.proofs.Blocks.{block_there, marker_there}
 use Rattle.flac_native.proofs.OneHead.{heads}
-use Rattle.flac_native.proofs.Onwards.{Told, nothing_told, step_of, frame_there, same_info}
+use Rattle.flac_native.proofs.Onwards.{Told, nothing_told, step_of, frame_there, same_info, after_profile}
 use Rattle.flac_c.specs.Cursors.{info_of, passed, IsFrameAt, HandsOver, StandsIn, GoesOn}
 use Rattle.flac_c.specs.declared.cursor.FlacProvedCursor.{FlacProvedCursor}
 use Rattle.flac_c.proofs.FramesRead.{frame_whole, left_behind}
@@ -38,7 +39,7 @@ at_most true greatest least first size before e = grind (arith, nat_tests)
 at_most false greatest least first size before e = grind (arith, nat_tests)
 
 -- what keeps the rules behind other frames keeps them as the first
-first_kept : (i : Info) (before : Option Before) (g : FrameForm) → AllKept (header_rules i before g.header) → AllKept (header_rules (untold i) None g.header)
+first_kept : (i : Info) (before : Option Before) (g : FrameForm) → AllKept (header_rules Subset i before g.header) → AllKept (header_rules Subset (untold i) None g.header)
 first_kept i None g k = k
 first_kept i (Some b) g k = (k.0, (k.1.0, (refl, (at_most g.header.variable i.greatest_block i.least_block b.first_size g.header.size b.size k.1.1.1.0, tt))))
 
@@ -58,11 +59,11 @@ untold_rules i r = record {
   total = omega arith;
 }
 
-frame_alone : (i : Info) (before : Option Before) (m : Mark) (text : List Bool) (f : Frame) → KeepsRules i → m.unread ≡ 0 → Spells (frame i before) (fresh m) text f → Spells (frame (untold i) None) (beginning Truncated) text f
+frame_alone : (i : Info) (before : Option Before) (m : Mark) (text : List Bool) (f : Frame) → KeepsRules i → m.unread ≡ 0 → Spells (frame Subset i before) (fresh m) text f → Spells (frame Subset (untold i) None) (beginning Truncated) text f
 frame_alone i before m text f rules u h =
-    let s = (frames_spelled i before (fresh m) text f rules (fresh_unread m u) (fresh_check8 m u) (fresh_check16 m u)).0 h in
+    let s = (frames_spelled Subset i before (fresh m) text f rules (fresh_unread m u) (fresh_check8 m u) (fresh_check16 m u)).0 h in
     let v = s.valid in
-    (frames_spelled (untold i) None (beginning Truncated) text f (untold_rules i rules) refl refl refl).1 (record {
+    (frames_spelled Subset (untold i) None (beginning Truncated) text f (untold_rules i rules) refl refl refl).1 (record {
       form = s.form;
       valid = record { header = v.header; follows = first_kept i before s.form v.follows; many = v.many; subframes = v.subframes };
       spelling = s.spelling;
@@ -135,16 +136,17 @@ pub record NextIn (bytes : List ℕ) (c : FlacProvedCursor) (front more : List P
 pub next_in : (bytes : List ℕ) (c : FlacProvedCursor) (front more : List Piece) (f : Frame) → StandsIn bytes c front (framed f ∷ more) → NextIn bytes c front more f
 next_in bytes c front more f h =
     let o : ℕ = c.offset in
-    let q = parted opening (beginning Truncated) front (framed f) more (bits_of bytes) nothing_told refl h.stream.spelled in
-    let m : Mark = mark_behind grammar opening (beginning Truncated) front q.head q.joined in
-    let s : Stand = (after grammar opening front).stand in
+    let q = parted (opening Subset) (beginning Truncated) front (framed f) more (bits_of bytes) nothing_told refl h.stream.spelled in
+    let m : Mark = mark_behind grammar (opening Subset) (beginning Truncated) front q.head q.joined in
+    let s : Stand = (after grammar (opening Subset) front).stand in
     let all : bits_of bytes ≡ bits_of (take o bytes) ++ bits_of (drop o bytes) = ap (λ (l : List ℕ). bits_of l) (sym (take-append-drop o bytes)) ∙ bits_of-append (take o bytes) (drop o bytes) in
-    let left_is : q.here ++ q.rest ≡ bits_of (drop o bytes) = one_place opening (beginning Truncated) front q.head (q.here ++ q.rest) (bits_of (take o bytes)) (bits_of (drop o bytes)) (sym q.split ∙ all) q.joined h.spelled in
+    let left_is : q.here ++ q.rest ≡ bits_of (drop o bytes) = one_place (opening Subset) (beginning Truncated) front q.head (q.here ++ q.rest) (bits_of (take o bytes)) (bits_of (drop o bytes)) (sym q.split ∙ all) q.joined h.spelled in
     let phase : s.phase ≡ Frames = phase_there s (fresh m) q.here f q.spelled in
     let t = frame_there s (fresh m) q.here (framed f) phase q.spelled in
     let info_is : t.info ≡ h.info = same_info h.info t.info s.info h.told t.told in
     let frame_is : t.is ≡ f = one_frame f t.is t.part in
-    let spelled = subst (λ (g : Frame). Spells (frame h.info s.before) (fresh m) q.here g) frame_is (subst (λ (i : Info). Spells (frame i s.before) (fresh m) q.here t.is) info_is t.spelled) in
+    let judged = subst (λ k. Spells (frame k t.info s.before) (fresh m) q.here t.is) (after_profile (opening Subset) front) t.spelled in
+    let spelled = subst (λ (g : Frame). Spells (frame Subset h.info s.before) (fresh m) q.here g) frame_is (subst (λ (i : Info). Spells (frame Subset i s.before) (fresh m) q.here t.is) info_is judged) in
     let rules : KeepsRules h.info = q.told h.info h.told in
     let rules' : KeepsRules (untold h.info) = untold_rules h.info rules in
     let alone = frame_alone h.info s.before m q.here f rules q.whole spelled in
@@ -165,17 +167,17 @@ next_in bytes c front more f h =
     sym (length-bits_of bytes) ∙ ap (λ (l : List Bool). length l) heads_are ∙ length-append (q.head ++ q.here) q.rest ∙ ap (λ k. k + length q.rest) (length-append q.head q.here) in
     let both : length (q.head ++ q.here) ≡ 8 * (o + n) = length-append q.head q.here ∙ omega (arith, total, sum, dropped, before, long) in
     let text_is : q.head ++ q.here ≡ bits_of (take (o + n) bytes) = front_is bytes (q.head ++ q.here) q.rest (o + n) heads_are both in
-    let j = Joined-append grammar opening (beginning Truncated) front (framed f) q.head q.here q.joined q.spelled q.fits in
+    let j = Joined-append grammar (opening Subset) (beginning Truncated) front (framed f) q.head q.here q.joined q.spelled q.fits in
     let parts_are : front ++ framed f ∷ more ≡ (front ++ framed f ∷ []) ++ more = sym (append_assoc front (framed f ∷ []) more) in
-    let after_is : after grammar opening (front ++ framed f ∷ []) ≡ next (after grammar opening front) (framed f) = after-append grammar opening front (framed f) in
+    let after_is : after grammar (opening Subset) (front ++ framed f ∷ []) ≡ next (after grammar (opening Subset) front) (framed f) = after-append grammar (opening Subset) front (framed f) in
     record {
       n = n;
       rules = subst KeepsRules (sym h.same) rules';
       at = subst (λ (i : Info). IsFrameAt i (drop o bytes) f n) (sym h.same) at;
       behind = record {
-        stream = subst (λ (l : List Piece). Stream grammar opening (beginning Truncated) l (bits_of bytes)) parts_are h.stream;
+        stream = subst (λ (l : List Piece). Stream grammar (opening Subset) (beginning Truncated) l (bits_of bytes)) parts_are h.stream;
         before = omega (arith, before, within, dropped);
-        spelled = subst (λ (l : List Bool). Joined grammar opening (beginning Truncated) (front ++ framed f ∷ []) l) text_is j.0;
+        spelled = subst (λ (l : List Bool). Joined grammar (opening Subset) (beginning Truncated) (front ++ framed f ∷ []) l) text_is j.0;
         info = h.info;
         told = ap (λ (p : Progress). p.stand.info) after_is ∙ h.told;
         same = h.same;

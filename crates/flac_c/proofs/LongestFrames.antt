@@ -7,6 +7,7 @@ use Rattle.flac_bits.specs.Signed.{FitsBits}
 use Rattle.flac_header.specs.Header.{Header, IsHeader, channels_of}
 use Rattle.flac_header.specs.Choice.{size_choice, rate_choice, depth_choice, with_codes, chosen_header}
 use Rattle.flac_header.specs.Spelling.{header_spelling}
+use Rattle.flac_header.specs.declared.subset.Profile.TheVariants.{Subset}
 use Rattle.flac_subframe.specs.declared.limits.Limits.{Limits}
 use Rattle.flac_subframe.specs.Spelling.{subframe_spelling}
 use Rattle.flac_subframe.proofs.Family.{none_within}
@@ -86,7 +87,7 @@ module _ (sound : Sound) (size number : ℕ) (block : List (List ℤ)) (f : Fram
       let chosen : chosen_header size sound.rate c depth number ≡ Some h = recoded size sound.rate own.code c depth number f.header (omega (arith, low)) own.header in
       let sized : f.header.size ≡ size = (coded_as size sound.rate own.code depth number f.header own.header).1 in
       let have : HaveSamples depth c f.header.size 0 plain.forms block = subst (λ n. HaveSamples depth c n 0 plain.forms block) (sym sized) (samples_are depth c size low [] 0 plain.forms block plain.are) in
-      let limits : Limits = limits_at sound.rate in
+      let limits : Limits = limits_at Subset sound.rate in
       let cost : length (subframes_spelling depth c 0 plain.forms) ≤ length block * (8 + depth * size) = omega (arith, ap (λ (t : List Bool). length t) (texts_are depth c size low 0 plain.forms), plain.few) in
       let encoding : IsEncoding sound size number block (record { header = h; subframes = plain.forms }) =
       record {

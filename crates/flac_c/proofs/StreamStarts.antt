@@ -8,6 +8,7 @@ use Rattle.flac_bits.specs.declared.why.Why.{Why}
 use Rattle.flac_bits.specs.declared.why.Why.TheVariants.{Truncated, Memory}
 use Rattle.flac_bits.proofs.Holding.{bits_of-append}
 use Rattle.flac_meta.specs.Info.{Info}
+use Rattle.flac_header.specs.declared.subset.Profile.TheVariants.{Subset}
 use Rattle.flac_native.specs.Decoding.{beginning}
 use Rattle.flac_native.specs.Item.{told}
 use Rattle.flac_native.specs.Stream.{Piece, marked, block, framed, Progress, grammar, opening, next, may_end_in}
@@ -57,17 +58,17 @@ behind p m (x ∷ xs) (y ∷ ys) head rest text e j k =
       joined = subst (λ (z : Piece). Joined grammar (after grammar (next p z) xs) r.mark r.more r.text) h.0 r.joined;
     }
 
-module _ (bytes : List ℕ) (items : List Piece) (s : Stream grammar opening (beginning Truncated) items (bits_of bytes)) where
-  others : (n : ℕ) (parts : List Piece) → IsHead bytes n parts → Behind opening parts items
+module _ (bytes : List ℕ) (items : List Piece) (s : Stream grammar (opening Subset) (beginning Truncated) items (bits_of bytes)) where
+  others : (n : ℕ) (parts : List Piece) → IsHead bytes n parts → Behind (opening Subset) parts items
   others n parts head =
       let all : bits_of bytes ≡ bits_of (take n bytes) ++ bits_of (drop n bytes) = ap (λ (l : List ℕ). bits_of l) (sym (take-append-drop n bytes)) ∙ bits_of-append (take n bytes) (drop n bytes) in
-      behind opening (beginning Truncated) parts items (bits_of (take n bytes)) (bits_of (drop n bytes)) (bits_of bytes) all head.spelled s.spelled
+      behind (opening Subset) (beginning Truncated) parts items (bits_of (take n bytes)) (bits_of (drop n bytes)) (bits_of bytes) all head.spelled s.spelled
 
   pub starts_in : (c : FlacProvedCursor) → StandsFirst bytes c → StartsIn bytes c items
   starts_in c (parts, n, i, head, told_is, is) =
       let r = others n parts head in
       let stands : StandsIn bytes (first_frame i (comments_from None parts) n) parts r.more = record {
-        stream = subst (λ (l : List Piece). Stream grammar opening (beginning Truncated) l (bits_of bytes)) r.are s;
+        stream = subst (λ (l : List Piece). Stream grammar (opening Subset) (beginning Truncated) l (bits_of bytes)) r.are s;
         before = head.within;
         spelled = head.spelled;
         info = i;
@@ -88,19 +89,19 @@ module _ (bytes : List ℕ) (items : List Piece) (s : Stream grammar opening (be
       ends h = absurd cc
   some_info p m (x ∷ xs) text phase none (front, rest, split, spelled, fits, others) e = let t = frame_there p.stand (fresh m) front x phase spelled in let same : nobody ≡ Some t.info = sym none ∙ t.told in absurd cc
 
-  no_head : (n : ℕ) (parts : List Piece) → IsHead bytes n parts → (after grammar opening parts).stand.info ≡ nobody → ⊥
+  no_head : (n : ℕ) (parts : List Piece) → IsHead bytes n parts → (after grammar (opening Subset) parts).stand.info ≡ nobody → ⊥
   no_head n parts head none =
       let r = others n parts head in
-      let ends = subst (λ (l : List Piece). may_end_in (after grammar opening l).stand.phase (after grammar opening l).stand.info ≡ true) r.are s.ends in
-      some_info (after grammar opening parts) r.mark r.more r.text head.behind none r.joined (later parts r.more ends)
+      let ends = subst (λ (l : List Piece). may_end_in (after grammar (opening Subset) l).stand.phase (after grammar (opening Subset) l).stand.info ≡ true) r.are s.ends in
+      some_info (after grammar (opening Subset) parts) r.mark r.more r.text head.behind none r.joined (later parts r.more ends)
     where
       later_from : (p : Progress) (xs ys : List Piece) → may_end_in (after grammar p (xs ++ ys)).stand.phase (after grammar p (xs ++ ys)).stand.info ≡ true → may_end_in (after grammar (after grammar p xs) ys).stand.phase (after grammar (after grammar p xs) ys).stand.info ≡ true
       later_from p [] ys e = e
       later_from p (x ∷ xs) ys e = later_from (next p x) xs ys e
 
-      later : (xs ys : List Piece) → may_end_in (after grammar opening (xs ++ ys)).stand.phase (after grammar opening (xs ++ ys)).stand.info ≡ true
-          → may_end_in (after grammar (after grammar opening xs) ys).stand.phase (after grammar (after grammar opening xs) ys).stand.info ≡ true
-      later xs ys e = later_from opening xs ys e
+      later : (xs ys : List Piece) → may_end_in (after grammar (opening Subset) (xs ++ ys)).stand.phase (after grammar (opening Subset) (xs ++ ys)).stand.info ≡ true
+          → may_end_in (after grammar (after grammar (opening Subset) xs) ys).stand.phase (after grammar (after grammar (opening Subset) xs) ys).stand.info ≡ true
+      later xs ys e = later_from (opening Subset) xs ys e
 
   memory_or_not : (w : Why) → (w ≡ Memory) ⊎ (w ≢ Memory)
   memory_or_not Memory = inl refl
@@ -117,7 +118,7 @@ module _ (bytes : List ℕ) (items : List Piece) (s : Stream grammar opening (be
   start_refused f (at, why, is, h) = elim (memory_or_not why) [
     | inl e ↦ sym (same_why f.at at f.why why is) ∙ e
     | inr other ↦ elim (h other) [
-      | inl (parts, r) ↦ absurd ((one_answer opening (beginning Truncated) (bits_of bytes)).either items parts at why s r)
+      | inl (parts, r) ↦ absurd ((one_answer (opening Subset) (beginning Truncated) (bits_of bytes)).either items parts at why s r)
       | inr (e, place, (parts, n, head, none)) ↦ absurd (no_head n parts head none)
     ]
   ]

@@ -9,6 +9,7 @@ use Rattle.flac_meta.specs.Block.{block as block_layout, seen_after}
 use Rattle.flac_meta.specs.declared.seen.Seen.{Seen}
 use Rattle.flac_meta.specs.declared.block.Block.{Block}
 use Rattle.flac_meta.specs.declared.comments.Comments.{Comments}
+use Rattle.flac_header.specs.declared.subset.Profile.TheVariants.{Subset}
 use Rattle.flac_native.specs.Stream.{Piece, grammar, opening, info_after}
 use Rattle.flac_native.specs.declared.fault.Place.{Place}
 use Rattle.flac_native.specs.declared.fault.Fault.{Fault}
@@ -28,7 +29,7 @@ pub record Noted (old : Metadata) (b : Block) (new : Metadata) : Type 0 where
 
 -- what all these parts tell is kept
 pub record IsFound (sample : ℕ) (parts : List Piece) (found : Metadata) : Type 0 where
-  pub info : found.info ≡ (after grammar opening parts).stand.info
+  pub info : found.info ≡ (after grammar (opening Subset) parts).stand.info
   pub comments : found.comments ≡ count_of (comments_from None parts)
   pub sought : found.sample ≡ sample
   pub point : found.point ≡ point_from sample None parts
@@ -51,8 +52,8 @@ pub record PartsRead (start now : State) (sample : ℕ) (found : Metadata) : Typ
   pub metadata : are_metadata parts ≡ true
   pub text : List Bool
   pub stands : start.cursor.left ≡ text ++ now.cursor.left
-  pub spelled : Joined grammar opening start.cursor.mark parts text
-  pub mark : now.cursor.mark ≡ mark_behind grammar opening start.cursor.mark parts text spelled
+  pub spelled : Joined grammar (opening Subset) start.cursor.mark parts text
+  pub mark : now.cursor.mark ≡ mark_behind grammar (opening Subset) start.cursor.mark parts text spelled
   pub tells : IsFound sample parts found
   pub known : now.known ≡ true
   pub errors : now.errors ≡ start.errors
@@ -60,15 +61,15 @@ pub record PartsRead (start now : State) (sample : ℕ) (found : Metadata) : Typ
 -- and a block comes next
 pub record BlocksCome (start now : State) (sample : ℕ) (found : Metadata) (seen : Seen) (index : ℕ) : Type 0 where
   pub read : PartsRead start now sample found
-  pub phase : (after grammar opening read.parts).stand.phase ≡ Blocks
-  pub seen_is : (after grammar opening read.parts).stand.seen ≡ seen
-  pub index_is : (after grammar opening read.parts).stand.index ≡ index
+  pub phase : (after grammar (opening Subset) read.parts).stand.phase ≡ Blocks
+  pub seen_is : (after grammar (opening Subset) read.parts).stand.seen ≡ seen
+  pub index_is : (after grammar (opening Subset) read.parts).stand.index ≡ index
 
 -- and all blocks are read
 pub record HeadRead (start now : State) (sample : ℕ) (found : Metadata) : Type 0 where
   pub read : PartsRead start now sample found
-  pub phase : (after grammar opening read.parts).stand.phase ≡ Frames
+  pub phase : (after grammar (opening Subset) read.parts).stand.phase ≡ Frames
 
 -- what comes from the start on is refused there
 abbrev pub IsRefusedAt : State → Fault → Type 0
-IsRefusedAt start f = (parts : List Piece) × Refused grammar opening start.cursor.mark parts start.cursor.left f.at f.why
+IsRefusedAt start f = (parts : List Piece) × Refused grammar (opening Subset) start.cursor.mark parts start.cursor.left f.at f.why

@@ -7,6 +7,7 @@ use Rattle.flac_bits.specs.Fence.{InRoom, StopsIn}
 use Rattle.flac_bits.specs.declared.why.Why.{Why}
 use Rattle.flac_bits.specs.declared.why.Why.TheVariants.{Memory, Truncated, BadStreamInfo}
 use Rattle.flac_meta.specs.Info.{Info, KeepsRules}
+use Rattle.flac_header.specs.declared.subset.Profile.TheVariants.{Subset}
 use Rattle.flac_frame.specs.Frame.{Frame, frame}
 use Rattle.flac_frame.specs.Interleaved.{interleaved}
 use Rattle.flac_native.specs.Decoding.{beginning}
@@ -55,12 +56,12 @@ pub record IsFrameAt (i : Info) (bytes : List ℕ) (f : Frame) (n : ℕ) : Type 
   pub text : List Bool
   pub split : bits_of bytes ≡ text ++ bits_of (drop n bytes)
   pub within : n ≤ length bytes
-  pub spelled : Spells (frame i None) (beginning Truncated) text f
+  pub spelled : Spells (frame Subset i None) (beginning Truncated) text f
   pub room : InRoom (Some 16777215) (beginning Truncated) text
 
 -- no frame of these bytes is there, for this reason
 abbrev pub NoFrameAt : Info → List ℕ → Why → Type 0
-NoFrameAt i bytes why = StopsIn (Some 16777215) (frame i None) (beginning Truncated) (bits_of bytes) why
+NoFrameAt i bytes why = StopsIn (Some 16777215) (frame Subset i None) (beginning Truncated) (bits_of bytes) why
 
 -- So many samples it has. Where there is room for all of them they are at the front of the buffer, and the cursor is behind the frame, which ends at this offset;
 -- where there is not, both are as they were.
@@ -87,11 +88,11 @@ RefusesNext bytes c outcome =
 
 -- The bytes are a native stream of these parts. Those in front end at the cursor, which has their STREAMINFO; the others are still to come.
 pub record StandsIn (bytes : List ℕ) (c : FlacProvedCursor) (front more : List Piece) : Type 0 where
-  pub stream : Stream grammar opening (beginning Truncated) (front ++ more) (bits_of bytes)
+  pub stream : Stream grammar (opening Subset) (beginning Truncated) (front ++ more) (bits_of bytes)
   pub before : c.offset ≤ length bytes
-  pub spelled : Joined grammar opening (beginning Truncated) front (bits_of (take c.offset bytes))
+  pub spelled : Joined grammar (opening Subset) (beginning Truncated) front (bits_of (take c.offset bytes))
   pub info : Info
-  pub told : (after grammar opening front).stand.info ≡ Some info
+  pub told : (after grammar (opening Subset) front).stand.info ≡ Some info
   pub same : info_of c.info ≡ untold info
 
 -- The bytes are a native stream of these items, and the cursor stands in it behind just the metadata.

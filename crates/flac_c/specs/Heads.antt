@@ -6,6 +6,7 @@ use Rattle.flac_meta.specs.Info.{Info}
 use Rattle.flac_meta.specs.declared.block.Block.{Block}
 use Rattle.flac_meta.specs.declared.block.Block.TheVariants.{VorbisComment}
 use Rattle.flac_meta.specs.declared.comments.Comments.{Comments}
+use Rattle.flac_header.specs.declared.subset.Profile.TheVariants.{Subset}
 use Rattle.flac_native.specs.Item.{Item, metadata, frame}
 use Rattle.flac_native.specs.Stream.{Piece, marked, block, framed, info_after}
 use Rattle.flac_native.specs.declared.fault.Place.{Place}
@@ -53,12 +54,12 @@ frames_behind over (frame f) = true
 
 -- bytes that begin with items of this STREAMINFO and these comments, of which one is a frame or none is
 abbrev pub BeginsBy : List ℕ → Bool → Option Info → Option Comments → Type 0
-BeginsBy bytes over info comments = (items : List Piece) × (bytes_reading bytes).begins items × (over ≡ frames_from false items) × (info ≡ info_from None items) × (comments ≡ comments_from None items)
+BeginsBy bytes over info comments = (items : List Piece) × (bytes_reading Subset bytes).begins items × (over ≡ frames_from false items) × (info ≡ info_from None items) × (comments ≡ comments_from None items)
 
 -- bytes that are items of this STREAMINFO and these comments, or are refused behind just these
 abbrev pub EndsBy : List ℕ → Option Info → Option Comments → Type 0
 EndsBy bytes info comments =
-    (items : List Piece) × ((bytes_reading bytes).whole items ⊎ ((at : Place) × (why : Why) × (bytes_reading bytes).refused items at why)) × (info ≡ info_from None items) × (comments ≡ comments_from None items)
+    (items : List Piece) × ((bytes_reading Subset bytes).whole items ⊎ ((at : Place) × (why : Why) × (bytes_reading Subset bytes).refused items at why)) × (info ≡ info_from None items) × (comments ≡ comments_from None items)
 
 -- All blocks before the first frame tell this STREAMINFO and these comments; or, where no frame comes, all blocks that are there.
 abbrev pub Begins : List ℕ → Option Info → Option Comments → Type 0
@@ -66,7 +67,7 @@ Begins bytes info comments = ((n : ℕ) × BeginsBy (take n bytes) true info com
 
 -- the bytes are refused so, or they are a stream without STREAMINFO, which none is
 abbrev pub Lacks : List ℕ → Option (Place × Why) → Type 0
-Lacks bytes outcome = Verifies bytes outcome ⊎ ((outcome ≡ Some (place.Marker, NotStreamInfoFirst)) × ((items : List Piece) × (bytes_reading bytes).whole items × (info_from None items ≡ None)))
+Lacks bytes outcome = Verifies Subset bytes outcome ⊎ ((outcome ≡ Some (place.Marker, NotStreamInfoFirst)) × ((items : List Piece) × (bytes_reading Subset bytes).whole items × (info_from None items ≡ None)))
 
 -- how many comments there are
 abbrev pub count_of : Option Comments → ℕ

@@ -10,6 +10,7 @@ use Rattle.flac_meta.specs.declared.block.Block.{Block}
 use Rattle.flac_meta.specs.declared.block.Block.TheVariants.{SeekTable}
 use Rattle.flac_meta.specs.declared.comments.Comments.{Comments}
 use Rattle.flac_meta.specs.declared.seek_table.SeekPoint.{SeekPoint}
+use Rattle.flac_header.specs.declared.subset.Profile.TheVariants.{Subset}
 use Rattle.flac_native.specs.Decoding.{beginning}
 use Rattle.flac_native.specs.Stream.{Piece, marked, block, framed, grammar, opening}
 use Rattle.flac_native.specs.declared.fault.Place.{Place}
@@ -30,9 +31,9 @@ are_metadata (framed f ∷ xs) = false
 -- The first n bytes are these parts: the marker and all metadata blocks. Frames come behind them.
 pub record IsHead (bytes : List ℕ) (n : ℕ) (parts : List Piece) : Type 0 where
   pub within : n ≤ length bytes
-  pub spelled : Joined grammar opening (beginning Truncated) parts (bits_of (take n bytes))
+  pub spelled : Joined grammar (opening Subset) (beginning Truncated) parts (bits_of (take n bytes))
   pub metadata : are_metadata parts ≡ true
-  pub behind : (after grammar opening parts).stand.phase ≡ Frames
+  pub behind : (after grammar (opening Subset) parts).stand.phase ≡ Frames
 
 -- ---- the seek table
 
@@ -67,17 +68,17 @@ at_point (Some p) c = record c { offset = min (c.offset + p.offset) 184467440737
 
 -- the cursor is at the first frame
 abbrev pub StandsFirst : List ℕ → FlacProvedCursor → Type 0
-StandsFirst bytes c = (parts : List Piece) × (n : ℕ) × (i : Info) × IsHead bytes n parts × ((after grammar opening parts).stand.info ≡ Some i) × (c ≡ first_frame i (comments_from None parts) n)
+StandsFirst bytes c = (parts : List Piece) × (n : ℕ) × (i : Info) × IsHead bytes n parts × ((after grammar (opening Subset) parts).stand.info ≡ Some i) × (c ≡ first_frame i (comments_from None parts) n)
 
 -- the cursor is where the seek table says that the frame of the last point at or before a sample is; at the first frame where there is no such point
 abbrev pub StandsBefore : List ℕ → ℕ → FlacProvedCursor → Type 0
 StandsBefore bytes sample c =
-    (parts : List Piece) × (n : ℕ) × (i : Info) × IsHead bytes n parts × ((after grammar opening parts).stand.info ≡ Some i)
+    (parts : List Piece) × (n : ℕ) × (i : Info) × IsHead bytes n parts × ((after grammar (opening Subset) parts).stand.info ≡ Some i)
     × (c ≡ at_point (point_from sample None parts) (first_frame i (comments_from None parts) n))
 
 -- The marker or a block is refused there, as the stream is; or, at the marker, there are blocks without STREAMINFO, which no stream has; unless memory ran out.
 abbrev pub RefusesHead : List ℕ → Option (Place × Why) → Type 0
 RefusesHead bytes outcome =
     (at : Place) × (why : Why) × (outcome ≡ Some (at, why))
-    × (why ≢ Memory → ((parts : List Piece) × Refused grammar opening (beginning Truncated) parts (bits_of bytes) at why)
-    ⊎ ((why ≡ NotStreamInfoFirst) × (at ≡ place.Marker) × ((parts : List Piece) × (n : ℕ) × IsHead bytes n parts × ((after grammar opening parts).stand.info ≡ None))))
+    × (why ≢ Memory → ((parts : List Piece) × Refused grammar (opening Subset) (beginning Truncated) parts (bits_of bytes) at why)
+    ⊎ ((why ≡ NotStreamInfoFirst) × (at ≡ place.Marker) × ((parts : List Piece) × (n : ℕ) × IsHead bytes n parts × ((after grammar (opening Subset) parts).stand.info ≡ None))))

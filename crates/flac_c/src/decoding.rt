@@ -92,8 +92,8 @@ fn collect(alloc: Global, bytes: &[u8], sink: &mut Samples) -> Result<(), Fault>
     requires bytes { sink.old.bytes.items ≡ [] }
     requires depth { sink.old.depth ≡ 0 }
     requires failures { sink.old.failures.count ≡ 0 }
-    ensures done { OnOk result ((items : List Piece) × (bytes_reading bytes.now).whole items × (sink.new.bytes.items ≡ samples_from sink.old.asked 0 items)) }
-    ensures refused { sink.new.failures.count ≡ 0 → IfErr result (λ f. Verifies bytes.now (Some (told f))) }
+    ensures done { OnOk result ((items : List Piece) × (bytes_reading Profile.Subset bytes.now).whole items × (sink.new.bytes.items ≡ samples_from sink.old.asked 0 items)) }
+    ensures refused { sink.new.failures.count ≡ 0 → IfErr result (λ f. Verifies Profile.Subset bytes.now (Some (told f))) }
 {
     let mut source = Memory::new(bytes);
     decode_any(alloc, &mut source, Profile::Subset, sink)
@@ -104,8 +104,8 @@ fn collect_all(alloc: Global, bytes: &[u8], sink: &mut Samples) -> Result<(), Fa
     requires bytes { sink.old.bytes.items ≡ [] }
     requires depth { sink.old.depth ≡ 0 }
     requires failures { sink.old.failures.count ≡ 0 }
-    ensures done { OnOk result ((items : List Piece) × (bytes_reading bytes.now).whole items × (sink.new.bytes.items ≡ samples_from sink.old.asked 0 items)) }
-    ensures refused { IfErr result (λ f. Verifies bytes.now (Some (told f))) }
+    ensures done { OnOk result ((items : List Piece) × (bytes_reading Profile.Subset bytes.now).whole items × (sink.new.bytes.items ≡ samples_from sink.old.asked 0 items)) }
+    ensures refused { IfErr result (λ f. Verifies Profile.Subset bytes.now (Some (told f))) }
 {
     match collect(alloc, bytes, sink) {
         Ok(()) => Ok(()),
@@ -133,8 +133,8 @@ pub extern "C" fn flac_proved_decode(
     len: &mut usize,
     fault: &mut FlacProvedFault,
 ) -> u32
-    ensures decoded { result ≡ 0 → (items : List Piece) × (bytes_reading bytes.now).whole items × IsCopied (samples_from (min width 4) 0 items) out.old out.new len.new }
-    ensures refused { result ≢ 0 → IsAnswered (Verifies bytes.now) fault.new }
+    ensures decoded { result ≡ 0 → (items : List Piece) × (bytes_reading Profile.Subset bytes.now).whole items × IsCopied (samples_from (min width 4) 0 items) out.old out.new len.new }
+    ensures refused { result ≢ 0 → IsAnswered (Verifies Profile.Subset bytes.now) fault.new }
     ensures kept { result ≢ 0 → (out.new ≡ out.old) × (len.new ≡ len.old) }
     ensures number { result ≡ fault.new.number }
     ensures clear { result ≡ 0 → fault.new ≡ in_c None }

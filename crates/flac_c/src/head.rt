@@ -91,8 +91,8 @@ fn decode_head(alloc: Global, bytes: &[u8], head: &mut Head) -> Result<(), Fault
     ensures begun { head.new.failures.count ≡ 0 → BeginsBy bytes.now head.new.is_over head.new.info head.new.comments }
     ensures ended { head.new.failures.count ≡ 0 → OnOk result (EndsBy bytes.now head.new.info head.new.comments) }
     ensures stopped { head.new.failures.count ≡ 0 → IfErr result (λ f. f.why ≢ Why.Memory → EndsBy bytes.now head.new.info head.new.comments) }
-    ensures refused { head.new.failures.count ≡ 0 → IfErr result (λ f. Verifies bytes.now (Some (told f))) }
-    ensures whole { OnOk result ((items : List Piece) × (bytes_reading bytes.now).whole items × (head.new.info ≡ info_from None items)) }
+    ensures refused { head.new.failures.count ≡ 0 → IfErr result (λ f. Verifies Profile.Subset bytes.now (Some (told f))) }
+    ensures whole { OnOk result ((items : List Piece) × (bytes_reading Profile.Subset bytes.now).whole items × (head.new.info ≡ info_from None items)) }
 {
     let mut source = Memory::new(bytes);
     decode_any(alloc, &mut source, Profile::Subset, head)

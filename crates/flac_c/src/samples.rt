@@ -72,8 +72,8 @@ impl Sink for Numbers {
 fn collect(alloc: Global, bytes: &[u8], sink: &mut Numbers) -> Result<(), Fault>
     requires list { sink.old.list.items ≡ [] }
     requires failures { sink.old.failures.count ≡ 0 }
-    ensures done { OnOk result ((items : List Piece) × (bytes_reading bytes.now).whole items × (sink.new.list.items ≡ numbers_from items)) }
-    ensures refused { sink.new.failures.count ≡ 0 → IfErr result (λ f. Verifies bytes.now (Some (told f))) }
+    ensures done { OnOk result ((items : List Piece) × (bytes_reading Profile.Subset bytes.now).whole items × (sink.new.list.items ≡ numbers_from items)) }
+    ensures refused { sink.new.failures.count ≡ 0 → IfErr result (λ f. Verifies Profile.Subset bytes.now (Some (told f))) }
 {
     let mut source = Memory::new(bytes);
     decode_any(alloc, &mut source, Profile::Subset, sink)
@@ -83,8 +83,8 @@ fn collect(alloc: Global, bytes: &[u8], sink: &mut Numbers) -> Result<(), Fault>
 fn collect_all(alloc: Global, bytes: &[u8], sink: &mut Numbers) -> Result<(), Fault>
     requires list { sink.old.list.items ≡ [] }
     requires failures { sink.old.failures.count ≡ 0 }
-    ensures done { OnOk result ((items : List Piece) × (bytes_reading bytes.now).whole items × (sink.new.list.items ≡ numbers_from items)) }
-    ensures refused { IfErr result (λ f. Verifies bytes.now (Some (told f))) }
+    ensures done { OnOk result ((items : List Piece) × (bytes_reading Profile.Subset bytes.now).whole items × (sink.new.list.items ≡ numbers_from items)) }
+    ensures refused { IfErr result (λ f. Verifies Profile.Subset bytes.now (Some (told f))) }
 {
     match collect(alloc, bytes, sink) {
         Ok(()) => Ok(()),
@@ -110,8 +110,8 @@ pub extern "C" fn flac_proved_samples(
     len: &mut usize,
     fault: &mut FlacProvedFault,
 ) -> u32
-    ensures decoded { result ≡ 0 → (items : List Piece) × (bytes_reading bytes.now).whole items × IsCopied (numbers_from items) out.old out.new len.new }
-    ensures refused { result ≢ 0 → IsAnswered (Verifies bytes.now) fault.new }
+    ensures decoded { result ≡ 0 → (items : List Piece) × (bytes_reading Profile.Subset bytes.now).whole items × IsCopied (numbers_from items) out.old out.new len.new }
+    ensures refused { result ≢ 0 → IsAnswered (Verifies Profile.Subset bytes.now) fault.new }
     ensures kept { result ≢ 0 → (out.new ≡ out.old) × (len.new ≡ len.old) }
     ensures number { result ≡ fault.new.number }
     ensures clear { result ≡ 0 → fault.new ≡ in_c None }

@@ -3,6 +3,7 @@
 ghost use Rattle.std.specs.Prelude.{◌≡◌, ◌≢◌, ◌⊎◌, [], ℕ, List, IfOk, IfErr, OnOk, Some, None, Option};
 ghost use Rattle.flac_meta.specs.Info.{Info};
 ghost use Rattle.flac_native.specs.Item.{told};
+ghost use Rattle.flac_header.specs.declared.subset.Profile.TheVariants.{Subset};
 ghost use Rattle.flac_native.specs.Stream.{Piece, grammar, opening};
 ghost use Rattle.flac_bits.specs.Bits.{bits_of};
 ghost use Rattle.flac_bits.specs.Items.{Stream, after};
@@ -43,7 +44,7 @@ fn read_front(alloc: Global, bytes: &[u8], found: &mut Metadata) -> Result<u64, 
 /// Makes a cursor at the first frame. `found` gets the seek point at or before the sample that is sought.
 fn read_start(alloc: Global, bytes: &[u8], found: &mut Metadata) -> Result<FlacProvedCursor, Fault>
     requires { IsFound found.old.sample [] found.old }
-    ensures read { IfOk result (λ c. (parts : List Piece) × (n : ℕ) × (i : Info) × IsHead bytes.now n parts × ((after grammar opening parts).stand.info ≡ Some i)
+    ensures read { IfOk result (λ c. (parts : List Piece) × (n : ℕ) × (i : Info) × IsHead bytes.now n parts × ((after grammar (opening Subset) parts).stand.info ≡ Some i)
         × (c ≡ first_frame i (comments_from None parts) n) × (found.new.point ≡ point_from found.old.sample None parts)) }
     ensures refused { IfErr result (λ f. RefusesHead bytes.now (Some (told f))) }
 {
@@ -93,7 +94,7 @@ pub extern "C" fn flac_proved_start(
     fault: &mut FlacProvedFault,
 ) -> u32
     ensures first { result ≡ 0 → StandsFirst bytes.now cursor.new }
-    ensures streams { (items : List Piece) → Stream grammar opening (beginning Truncated) items (bits_of bytes.now) → (result ≡ 2) ⊎ ((result ≡ 0) × StartsIn bytes.now cursor.new items) }
+    ensures streams { (items : List Piece) → Stream grammar (opening Subset) (beginning Truncated) items (bits_of bytes.now) → (result ≡ 2) ⊎ ((result ≡ 0) × StartsIn bytes.now cursor.new items) }
     ensures refused { result ≢ 0 → IsAnswered (RefusesHead bytes.now) fault.new }
     ensures kept { result ≢ 0 → cursor.new ≡ cursor.old }
     ensures number { result ≡ fault.new.number }
@@ -129,7 +130,7 @@ pub extern "C" fn flac_proved_seek(
     fault: &mut FlacProvedFault,
 ) -> u32
     ensures before { result ≡ 0 → StandsBefore bytes.now sample cursor.new }
-    ensures streams { (items : List Piece) → Stream grammar opening (beginning Truncated) items (bits_of bytes.now) → (result ≡ 2) ⊎ (result ≡ 0) }
+    ensures streams { (items : List Piece) → Stream grammar (opening Subset) (beginning Truncated) items (bits_of bytes.now) → (result ≡ 2) ⊎ (result ≡ 0) }
     ensures refused { result ≢ 0 → IsAnswered (RefusesHead bytes.now) fault.new }
     ensures kept { result ≢ 0 → cursor.new ≡ cursor.old }
     ensures number { result ≡ fault.new.number }

@@ -20,7 +20,7 @@ pub extern "C" fn flac_proved_verify(
     bytes: &[u8],
     fault: &mut FlacProvedFault,
 ) -> u32
-    ensures verified { IsAnswered (Verifies bytes.now) fault.new }
+    ensures verified { IsAnswered (Verifies Profile.Subset bytes.now) fault.new }
     ensures number { result ≡ fault.new.number }
 {
     *fault = in_c(verify(alloc, bytes, Profile::Subset));

@@ -9,6 +9,7 @@ use Rattle.flac_native.specs.declared.encode_fault.EncodeFault.TheVariants.{Memo
 use Rattle.flac_bits.specs.Handing.{outcome_of}
 use Rattle.flac_bits.specs.Bits.{bits_of, bit_value}
 use Rattle.flac_meta.specs.declared.block.Block.{Block}
+use Rattle.flac_header.specs.declared.subset.Profile.{Profile}
 use Rattle.flac_frame.specs.Audio.{Sound}
 use Rattle.flac_frame.specs.declared.setup.SetupFault.{SetupFault}
 use Rattle.flac_native.specs.Given.{Cut, cut_of}
@@ -73,6 +74,6 @@ begun_raw format c words bytes p l a before after raw plan list same (inr b) = i
 })
 
 -- What is read in either container is a stream.
-pub is_stream : (is_ogg : Bool) (parts : List Piece) (bytes : List ℕ) (behind : Behind) → (read_either is_ogg (beginning (short_of behind.fails)) (bits_of bytes)).whole parts → IsStream parts bytes behind
-is_stream true parts bytes behind stream = inr stream
-is_stream false parts bytes behind stream = inl stream
+pub is_stream : (profile : Profile) (is_ogg : Bool) (parts : List Piece) (bytes : List ℕ) (behind : Behind) → (read_either profile is_ogg (beginning (short_of behind.fails)) (bits_of bytes)).whole parts → IsStream profile parts bytes behind
+is_stream profile true parts bytes behind stream = inr stream
+is_stream profile false parts bytes behind stream = inl stream

@@ -11,6 +11,7 @@ use Rattle.flac_meta.specs.Spelling.{comments_length}
 use Rattle.flac_meta.specs.declared.comments.Comments.{Comments}
 use Rattle.flac_native.specs.Decoding.{beginning}
 use Rattle.flac_native.specs.Item.{told}
+use Rattle.flac_header.specs.declared.subset.Profile.{Profile}
 use Rattle.flac_native.specs.Retag.{HasHead, IsRefused, too_long, not_written}
 use Rattle.flac_native.specs.Stream.{Piece}
 use Rattle.flac_native.specs.declared.fault.Fault.{Fault}
@@ -40,10 +41,10 @@ abbrev as_outcome : Option (Place × Why) → Outcome
 as_outcome None = None
 as_outcome (Some p) = Some (Some p.0, p.1)
 
-module _ (bytes : List ℕ) (behind : Behind) {K : Type 0} (takes : K → Piece → K → Type 0) (errors : K → ℕ) (calm : Type 0) (old new : K) where
+module _ (profile : Profile) (bytes : List ℕ) (behind : Behind) {K : Type 0} (takes : K → Piece → K → Type 0) (errors : K → ℕ) (calm : Type 0) (old new : K) where
   -- What a call that decodes answers is what the input is, if neither the source nor the sink failed.
-  pub decoded_fits : (r : Result (Unit {0}) Fault) → Hands (input_reading bytes behind) takes errors calm old new (outcome_of told r) → Decides (input_reading bytes behind) (outcome_of told r)
-      → calm → errors new ≡ errors old → Fits IsOutOfMemory (Reads bytes behind) (outcome_of at_place r)
+  pub decoded_fits : (r : Result (Unit {0}) Fault) → Hands (input_reading profile bytes behind) takes errors calm old new (outcome_of told r) → Decides (input_reading profile bytes behind) (outcome_of told r)
+      → calm → errors new ≡ errors old → Fits IsOutOfMemory (Reads profile bytes behind) (outcome_of at_place r)
   decoded_fits (Ok x) h d quiet same =
       let whole = h.done quiet refl in
       record {
@@ -51,7 +52,7 @@ module _ (bytes : List ℕ) (behind : Behind) {K : Type 0} (takes : K → Piece 
         each = not_refused;
       }
     where
-      not_refused : (other : Outcome) → Reads bytes behind other → IsOutOfMemory None ⊎ (None ≡ other)
+      not_refused : (other : Outcome) → Reads profile bytes behind other → IsOutOfMemory None ⊎ (None ≡ other)
       not_refused None w = inr refl
       not_refused (Some f) w = absurd (d.is_refused w.2.0 w.0 f.1 w.2.1 refl)
   decoded_fits (Err e) h d quiet same = elim (memory_or_not e.why) [
@@ -69,7 +70,7 @@ module _ (bytes : List ℕ) (behind : Behind) {K : Type 0} (takes : K → Piece 
         }
   ]
     where
-      shown : e.why ≢ why.Memory → (other : Outcome) → Reads bytes behind other → IsOutOfMemory (Some (Some e.at, e.why)) ⊎ (Some (Some e.at, e.why) ≡ other)
+      shown : e.why ≢ why.Memory → (other : Outcome) → Reads profile bytes behind other → IsOutOfMemory (Some (Some e.at, e.why)) ⊎ (Some (Some e.at, e.why) ≡ other)
       shown n None w = absurd (d.accepted w.0 w.1 e.at e.why refl n)
       shown n (Some f) w =
           let s = d.shown w.2.0 w.0 f.1 w.2.1 e.at e.why refl n in
@@ -77,7 +78,7 @@ module _ (bytes : List ℕ) (behind : Behind) {K : Type 0} (takes : K → Piece 
           inr (ap (λ a. Some (a, e.why)) at ∙ ap (λ y. Some (f.0, y)) s.1)
 
   -- If the sink failed, that is what it answers.
-  pub sink_failed : (r : Result (Unit {0}) Fault) → Hands (input_reading bytes behind) takes errors calm old new (outcome_of told r) → errors old < errors new
+  pub sink_failed : (r : Result (Unit {0}) Fault) → Hands (input_reading profile bytes behind) takes errors calm old new (outcome_of told r) → errors old < errors new
       → (at : Place) × (outcome_of at_place r ≡ Some (Some at, why.Sink))
   sink_failed r h rose = let f = h.failed rose in (f.0, as_placed r f.0 why.Sink f.1)
     where
@@ -86,9 +87,9 @@ module _ (bytes : List ℕ) (behind : Behind) {K : Type 0} (takes : K → Piece 
       as_placed (Err f) at w e = ap as_outcome e
 
 -- What an answer is that may not have been listed.
-pub listed_fits : (bytes : List ℕ) (behind : Behind) (errors : ℕ) (outcome : Outcome) → (errors ≡ 0 → Fits IsOutOfMemory (Reads bytes behind) outcome)
-    → (0 < errors → (at : Place) × (outcome ≡ Some (Some at, why.Sink))) → Fits IsUnlisted (Reads bytes behind) outcome
-listed_fits bytes behind errors outcome fits failed = elim (cases_lt 0 errors) [
+pub listed_fits : (profile : Profile) (bytes : List ℕ) (behind : Behind) (errors : ℕ) (outcome : Outcome) → (errors ≡ 0 → Fits IsOutOfMemory (Reads profile bytes behind) outcome)
+    → (0 < errors → (at : Place) × (outcome ≡ Some (Some at, why.Sink))) → Fits IsUnlisted (Reads profile bytes behind) outcome
+listed_fits profile bytes behind errors outcome fits failed = elim (cases_lt 0 errors) [
   | inl rose ↦ record {
     right = inl (inr (failed rose));
     each = λ other w. inl (inr (failed rose));

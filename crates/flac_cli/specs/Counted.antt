@@ -6,7 +6,7 @@ use Rattle.flac_jobs.specs.declared.jobs.Job.TheVariants as job
 
 -- the job is a test
 abbrev pub AsksTest : Job → Type 0
-AsksTest (job.Test input) = Unit {0}
+AsksTest (job.Test input lax) = Unit {0}
 AsksTest other = ⊥
 
 -- the number of frames

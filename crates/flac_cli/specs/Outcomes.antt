@@ -7,6 +7,7 @@ use Rattle.flac_bits.specs.State.{Behind, short_of}
 use Rattle.flac_bits.specs.declared.why.Why.{Why}
 use Rattle.flac_bits.specs.declared.why.Why.TheVariants as why
 use Rattle.flac_meta.specs.Spelling.{comments_length}
+use Rattle.flac_header.specs.declared.subset.Profile.{Profile}
 use Rattle.flac_native.specs.Decoding.{beginning}
 use Rattle.flac_native.specs.Places.{place_text, fault_text}
 use Rattle.flac_native.specs.Retag.{HasHead, IsRefused}
@@ -17,6 +18,7 @@ use Rattle.flac_native.specs.declared.retag_fault.RetagFault.{RetagFault}
 use Rattle.flac_ogg.specs.Either.{begins_page, read_either}
 use Rattle.flac_cli.specs.Encoded.{comments_of}
 use Rattle.flac_cli.specs.Reports.{fault_line}
+use Rattle.flac_cli.specs.Streams.{profile_of}
 use Rattle.flac_jobs.specs.declared.jobs.Job.{Job}
 use Rattle.flac_jobs.specs.declared.jobs.Job.TheVariants as job
 
@@ -51,13 +53,13 @@ IsAnswer (Some f) path status before after = (status ≡ 1) × (after ≡ before
 -- ---- what an input is
 
 -- how an input is read: as an Ogg stream if its first byte is that of a page, else as a native one
-abbrev pub input_reading : List ℕ → Behind → Reading Piece Place
-input_reading bytes behind = read_either (begins_page bytes) (beginning (short_of behind.fails)) (bits_of bytes)
+abbrev pub input_reading : Profile → List ℕ → Behind → Reading Piece Place
+input_reading profile bytes behind = read_either profile (begins_page bytes) (beginning (short_of behind.fails)) (bits_of bytes)
 
 -- it is a stream, or is refused at this place and for this reason
-abbrev pub Reads : List ℕ → Behind → Outcome → Type 0
-Reads bytes behind None = (items : List Piece) × (input_reading bytes behind).whole items
-Reads bytes behind (Some f) = (at : Place) × (f.0 ≡ Some at) × ((items : List Piece) × (input_reading bytes behind).refused items at f.1)
+abbrev pub Reads : Profile → List ℕ → Behind → Outcome → Type 0
+Reads profile bytes behind None = (items : List Piece) × (input_reading profile bytes behind).whole items
+Reads profile bytes behind (Some f) = (at : Place) × (f.0 ≡ Some at) × ((items : List Piece) × (input_reading profile bytes behind).refused items at f.1)
 
 -- These words are too long for a block of comments, or else the input begins with a marker and blocks, or its marker or a block is refused at this place
 -- and for this reason.
@@ -97,9 +99,9 @@ pub record Reports (outside is : Outcome → Type 0) (path : List ℕ) (status :
 -- So it is for each job that reads a stream. Decoding and retagging write to the target, of which `served` says that it did not fail, and a test prints to
 -- standard output, of which `printed` says so. Listing prints too, and of its text nothing is claimed.
 abbrev pub ReportsInput : Job → (bytes : List ℕ) → Behind → (served printed : Type 0) → (status : ℕ) → (before after : List ℕ) → Type 0
-ReportsInput (job.Test input) bytes behind served printed status before after = printed → Reports IsOutOfMemory (Reads bytes behind) input.now status before after
-ReportsInput (job.Decode input output) bytes behind served printed status before after = served → Reports IsOutOfMemory (Reads bytes behind) input.now status before after
-ReportsInput (job.List input) bytes behind served printed status before after = Reports IsUnlisted (Reads bytes behind) input.now status before after
+ReportsInput (job.Test input lax) bytes behind served printed status before after = printed → Reports IsOutOfMemory (Reads (profile_of lax) bytes behind) input.now status before after
+ReportsInput (job.Decode input output lax) bytes behind served printed status before after = served → Reports IsOutOfMemory (Reads (profile_of lax) bytes behind) input.now status before after
+ReportsInput (job.List input lax) bytes behind served printed status before after = Reports IsUnlisted (Reads (profile_of lax) bytes behind) input.now status before after
 ReportsInput (job.Encode input output format c comments) bytes behind served printed status before after = Unit {0}
 ReportsInput (job.Retag input output comments) bytes behind served printed status before after =
     served → Reports IsRetagOutOfMemory (IsRetagged (map (λ c. c.now) comments.items) bytes behind) input.now status before after

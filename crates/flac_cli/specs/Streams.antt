@@ -1,5 +1,5 @@
 -- Bytes that are a stream, native (RFC 9639, section 6) or Ogg (section 10.1).
-use Rattle.std.specs.Prelude.{◌≡◌, ℕ, true, List, ◌⊎◌}
+use Rattle.std.specs.Prelude.{◌≡◌, ℕ, Bool, true, cond, List, ◌⊎◌}
 use Rattle.flac_bits.specs.Bits.{bits_of}
 use Rattle.flac_bits.specs.State.{Behind, short_of}
 use Rattle.flac_bits.specs.Items.{Stream}
@@ -7,10 +7,16 @@ use Rattle.flac_bits.specs.declared.source.Source as source
 use Rattle.flac_native.specs.Stream.{Piece, grammar, opening}
 use Rattle.flac_native.specs.Decoding.{beginning}
 use Rattle.flac_ogg.specs.Stream.{OggStream}
+use Rattle.flac_header.specs.declared.subset.Profile.{Profile}
+use Rattle.flac_header.specs.declared.subset.Profile.TheVariants.{Subset, Lax}
+
+-- the profile by which a stream is read
+abbrev pub profile_of : (lax : Bool) → Profile
+profile_of lax = cond lax Lax Subset
 
 -- the bytes that a source gives, and what stands behind them, are a stream of these parts
-abbrev pub IsStream : List Piece → List ℕ → Behind → Type 0
-IsStream parts bytes behind = Stream grammar opening (beginning (short_of behind.fails)) parts (bits_of bytes) ⊎ OggStream (beginning (short_of behind.fails)) parts (bits_of bytes)
+abbrev pub IsStream : Profile → List Piece → List ℕ → Behind → Type 0
+IsStream profile parts bytes behind = Stream grammar (opening profile) (beginning (short_of behind.fails)) parts (bits_of bytes) ⊎ OggStream profile (beginning (short_of behind.fails)) parts (bits_of bytes)
 
 -- the source tells its bytes, and answered no error in the call
 abbrev pub Tells : {S : Type 0} (g : source.Ghosts S) (old new : S) → Type 0

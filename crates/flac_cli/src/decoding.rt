@@ -18,17 +18,18 @@ use std::alloc::Global;
 pub(crate) fn decode_stream<R: Source, S: Sink>(
     alloc: Global,
     source: &mut R,
+    profile: Profile,
     sink: &mut S,
 ) -> Result<(), Fault>
     ensures takes { Tells R.Source source.old source.new → S.known sink.old ≡ true →
-        OnOk result ((parts : List Piece) × IsStream parts (R.coming source.old) (R.behind source.old) × TakesAll (taken S.takes) sink.old parts sink.new) }
+        OnOk result ((parts : List Piece) × IsStream profile parts (R.coming source.old) (R.behind source.old) × TakesAll (taken S.takes) sink.old parts sink.new) }
     // If the sink did not fail, the outcome is what the input is; if it did, it is that.
     ensures outcome { Tells R.Source source.old source.new → S.known sink.old ≡ true → S.errors sink.new ≡ S.errors sink.old →
-        Fits IsOutOfMemory (Reads (R.coming source.old) (R.behind source.old)) (outcome_of at_place result) }
+        Fits IsOutOfMemory (Reads profile (R.coming source.old) (R.behind source.old)) (outcome_of at_place result) }
     ensures failed { Tells R.Source source.old source.new → S.known sink.old ≡ true → S.errors sink.old < S.errors sink.new →
         (at : Place) × (outcome_of at_place result ≡ Some (Some at, Why.Sink)) }
     ensures sink { IfErr result (λ f. f.why ≡ Why.Sink → Rises (S.errors sink.old) (S.errors sink.new)) }
     ensures names { S.names sink.new ≡ S.names sink.old }
 {
-    decode_any(alloc, source, Profile::Subset, sink)
+    decode_any(alloc, source, profile, sink)
 }

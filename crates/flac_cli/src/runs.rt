@@ -4,8 +4,8 @@ ghost use Rattle.std.specs.Prelude.{◌≡◌, ◌≢◌, ◌≤◌, ◌<◌, �
 ghost use Rattle.flac_bits.specs.Handing.{outcome_of};
 ghost use Rattle.flac_native.specs.Retag.{not_written};
 ghost use Rattle.flac_native.specs.Stream.{Piece};
-ghost use Rattle.flac_cli.specs.Streams.{IsStream, Tells};
-ghost use Rattle.flac_jobs.specs.Asks.{AsksDecode, AsksStream};
+ghost use Rattle.flac_cli.specs.Streams.{IsStream, Tells, profile_of};
+ghost use Rattle.flac_jobs.specs.Asks.{AsksDecode, AsksStream, asks_lax};
 ghost use Rattle.flac_cli.specs.Samples.{all_samples};
 ghost use Rattle.flac_cli.specs.Counted.{AsksTest, line_of, counts_line, frames_in, samples_in_all, printed};
 ghost use Rattle.flac_cli.specs.Encoded.{HasEncoded, HasBegun};
@@ -25,25 +25,26 @@ use crate::retagging::retag_with;
 use crate::samples::SampleWriter;
 use flac_bits::{Source, Target, Why};
 use flac_jobs::Job;
-use flac_native::{EncodeFault, Fault, Place, RetagFault};
+use flac_native::{EncodeFault, Fault, Place, Profile, RetagFault};
 use std::alloc::Global;
 
 /// Decodes a stream into a writer of samples.
 fn decode_into<R: Source, W: Target>(
     alloc: Global,
     source: &mut R,
+    profile: Profile,
     sink: &mut SampleWriter<W>,
 ) -> Result<(), Fault>
     requires none { sink.old.failures.count ≡ 0 }
     requires began { sink.old.began.value ≡ sink.old.target }
-    ensures stream { Tells R.Source source.old source.new → OnOk result ((parts : List Piece) × IsStream parts (R.coming source.old) (R.behind source.old)) }
-    ensures written { Tells R.Source source.old source.new → W.known sink.old.target ≡ true → OnOk result ((parts : List Piece) × IsStream parts (R.coming source.old) (R.behind source.old) × (W.sent sink.new.target ≡ W.sent sink.old.target ++ all_samples sink.old.depth parts)) }
+    ensures stream { Tells R.Source source.old source.new → OnOk result ((parts : List Piece) × IsStream profile parts (R.coming source.old) (R.behind source.old)) }
+    ensures written { Tells R.Source source.old source.new → W.known sink.old.target ≡ true → OnOk result ((parts : List Piece) × IsStream profile parts (R.coming source.old) (R.behind source.old) × (W.sent sink.new.target ≡ W.sent sink.old.target ++ all_samples sink.old.depth parts)) }
     ensures outcome { Tells R.Source source.old source.new → Serves W.Target sink.old.target sink.new.target →
-        Fits IsOutOfMemory (Reads (R.coming source.old) (R.behind source.old)) (outcome_of at_place result) }
+        Fits IsOutOfMemory (Reads profile (R.coming source.old) (R.behind source.old)) (outcome_of at_place result) }
     ensures served { Serves W.Target sink.old.target sink.new.target → IfErr result (λ f. f.why ≢ Why.Sink) }
     ensures names { W.names sink.new.target ≡ W.names sink.old.target }
 {
-    let outcome = decode_stream(alloc, source, sink);
+    let outcome = decode_stream(alloc, source, profile, sink);
     let _failures = sink.failures.count;
     outcome
 }
@@ -52,44 +53,50 @@ fn decode_into<R: Source, W: Target>(
 fn decode_samples<R: Source, W: Target>(
     alloc: Global,
     source: &mut R,
+    profile: Profile,
     target: &mut W,
 ) -> Result<(), Fault>
-    ensures stream { Tells R.Source source.old source.new → OnOk result ((parts : List Piece) × IsStream parts (R.coming source.old) (R.behind source.old)) }
-    ensures written { Tells R.Source source.old source.new → W.known target.old ≡ true → OnOk result ((parts : List Piece) × IsStream parts (R.coming source.old) (R.behind source.old) × (W.sent target.new ≡ W.sent target.old ++ all_samples 0 parts)) }
+    ensures stream { Tells R.Source source.old source.new → OnOk result ((parts : List Piece) × IsStream profile parts (R.coming source.old) (R.behind source.old)) }
+    ensures written { Tells R.Source source.old source.new → W.known target.old ≡ true → OnOk result ((parts : List Piece) × IsStream profile parts (R.coming source.old) (R.behind source.old) × (W.sent target.new ≡ W.sent target.old ++ all_samples 0 parts)) }
     ensures outcome { Tells R.Source source.old source.new → Serves W.Target target.old target.new →
-        Fits IsOutOfMemory (Reads (R.coming source.old) (R.behind source.old)) (outcome_of at_place result) }
+        Fits IsOutOfMemory (Reads profile (R.coming source.old) (R.behind source.old)) (outcome_of at_place result) }
     ensures served { Serves W.Target target.old target.new → IfErr result (λ f. f.why ≢ Why.Sink) }
 {
     let mut sink = SampleWriter::new(target);
-    let outcome = decode_into(alloc, source, &mut sink);
+    let outcome = decode_into(alloc, source, profile, &mut sink);
     let _target = sink.into_target();
     outcome
 }
 
 /// Decodes a stream, and counts its frames and samples.
-fn count<R: Source>(alloc: Global, source: &mut R) -> Result<Counts, Fault>
-    ensures counts { Tells R.Source source.old source.new → IfOk result (λ c. (parts : List Piece) × IsStream parts (R.coming source.old) (R.behind source.old) × (c.frames ≡ printed (frames_in parts)) × (c.samples ≡ printed (samples_in_all parts))) }
+fn count<R: Source>(alloc: Global, source: &mut R, profile: Profile) -> Result<Counts, Fault>
+    ensures counts { Tells R.Source source.old source.new → IfOk result (λ c. (parts : List Piece) × IsStream profile parts (R.coming source.old) (R.behind source.old) × (c.frames ≡ printed (frames_in parts)) × (c.samples ≡ printed (samples_in_all parts))) }
     ensures outcome { Tells R.Source source.old source.new →
-        Fits IsOutOfMemory (Reads (R.coming source.old) (R.behind source.old)) (outcome_of at_place result) }
+        Fits IsOutOfMemory (Reads profile (R.coming source.old) (R.behind source.old)) (outcome_of at_place result) }
 {
     let mut counts = Counts {
         frames: 0,
         samples: 0,
     };
-    match decode_stream(alloc, source, &mut counts) {
+    match decode_stream(alloc, source, profile, &mut counts) {
         Ok(()) => Ok(counts),
         Err(fault) => Err(fault),
     }
 }
 
 /// Decodes a stream, and lists its metadata.
-fn list<R: Source, O: Target>(alloc: Global, source: &mut R, out: &mut O) -> Result<(), Fault>
-    ensures stream { Tells R.Source source.old source.new → OnOk result ((parts : List Piece) × IsStream parts (R.coming source.old) (R.behind source.old)) }
+fn list<R: Source, O: Target>(
+    alloc: Global,
+    source: &mut R,
+    profile: Profile,
+    out: &mut O,
+) -> Result<(), Fault>
+    ensures stream { Tells R.Source source.old source.new → OnOk result ((parts : List Piece) × IsStream profile parts (R.coming source.old) (R.behind source.old)) }
     ensures outcome { Tells R.Source source.old source.new →
-        Fits IsUnlisted (Reads (R.coming source.old) (R.behind source.old)) (outcome_of at_place result) }
+        Fits IsUnlisted (Reads profile (R.coming source.old) (R.behind source.old)) (outcome_of at_place result) }
 {
     let mut listing = Listing::new(out);
-    decode_stream(alloc, source, &mut listing)
+    decode_stream(alloc, source, profile, &mut listing)
 }
 
 /// Writes the line of counts through a buffer.
@@ -166,22 +173,30 @@ fn is_of_target(fault: RetagFault) -> bool
     matches!((fault.at, fault.why), (None, Why::Write))
 }
 
+/// The profile by which a stream is read.
+fn profile_of(lax: bool) -> Profile
+    ensures { result ≡ profile_of lax }
+{
+    if lax { Profile::Lax } else { Profile::Subset }
+}
+
 /// Tests a stream. Returns the status.
 fn run_test<R: Source, O: Target, E: Target>(
     alloc: Global,
     input: &str,
     source: &mut R,
+    profile: Profile,
     out: &mut O,
     err: &mut E,
 ) -> u8
     ensures status { result ≤ 1 }
-    ensures stream { result ≡ 0 → Tells R.Source source.old source.new → (parts : List Piece) × IsStream parts (R.coming source.old) (R.behind source.old) }
+    ensures stream { result ≡ 0 → Tells R.Source source.old source.new → (parts : List Piece) × IsStream profile parts (R.coming source.old) (R.behind source.old) }
     ensures tested { result ≡ 0 → Tells R.Source source.old source.new → O.known out.old ≡ true →
-        (parts : List Piece) × IsStream parts (R.coming source.old) (R.behind source.old) × (O.sent out.new ≡ O.sent out.old ++ counts_line parts) }
+        (parts : List Piece) × IsStream profile parts (R.coming source.old) (R.behind source.old) × (O.sent out.new ≡ O.sent out.old ++ counts_line parts) }
     ensures reported { Tells R.Source source.old source.new → Serves O.Target out.old out.new → Serves E.Target err.old err.new →
-        ReportsOf IsOutOfMemory (Reads (R.coming source.old) (R.behind source.old)) input.now result (E.sent err.old) (E.sent err.new) }
+        ReportsOf IsOutOfMemory (Reads profile (R.coming source.old) (R.behind source.old)) input.now result (E.sent err.old) (E.sent err.new) }
 {
-    match count(alloc, source) {
+    match count(alloc, source, profile) {
         Ok(counts) => match write_counts(out, &counts) {
             Ok(()) => 0,
             Err(why) => refuse(err, input, None, why),
@@ -195,17 +210,18 @@ fn run_decode<R: Source, W: Target, E: Target>(
     alloc: Global,
     paths: &Paths<'_>,
     source: &mut R,
+    profile: Profile,
     target: &mut W,
     err: &mut E,
 ) -> u8
     ensures status { result ≤ 1 }
-    ensures stream { result ≡ 0 → Tells R.Source source.old source.new → (parts : List Piece) × IsStream parts (R.coming source.old) (R.behind source.old) }
+    ensures stream { result ≡ 0 → Tells R.Source source.old source.new → (parts : List Piece) × IsStream profile parts (R.coming source.old) (R.behind source.old) }
     ensures decoded { result ≡ 0 → Tells R.Source source.old source.new → W.known target.old ≡ true →
-        (parts : List Piece) × IsStream parts (R.coming source.old) (R.behind source.old) × (W.sent target.new ≡ W.sent target.old ++ all_samples 0 parts) }
+        (parts : List Piece) × IsStream profile parts (R.coming source.old) (R.behind source.old) × (W.sent target.new ≡ W.sent target.old ++ all_samples 0 parts) }
     ensures reported { Tells R.Source source.old source.new → Serves W.Target target.old target.new → Serves E.Target err.old err.new →
-        ReportsOf IsOutOfMemory (Reads (R.coming source.old) (R.behind source.old)) paths.now.input.now result (E.sent err.old) (E.sent err.new) }
+        ReportsOf IsOutOfMemory (Reads profile (R.coming source.old) (R.behind source.old)) paths.now.input.now result (E.sent err.old) (E.sent err.new) }
 {
-    match decode_samples(alloc, source, target) {
+    match decode_samples(alloc, source, profile, target) {
         Ok(()) => 0,
         Err(fault) => {
             let path = paths.at_fault(is_of_samples(fault.why));
@@ -219,15 +235,16 @@ fn run_list<R: Source, O: Target, E: Target>(
     alloc: Global,
     input: &str,
     source: &mut R,
+    profile: Profile,
     out: &mut O,
     err: &mut E,
 ) -> u8
     ensures status { result ≤ 1 }
-    ensures stream { result ≡ 0 → Tells R.Source source.old source.new → (parts : List Piece) × IsStream parts (R.coming source.old) (R.behind source.old) }
+    ensures stream { result ≡ 0 → Tells R.Source source.old source.new → (parts : List Piece) × IsStream profile parts (R.coming source.old) (R.behind source.old) }
     ensures reported { Tells R.Source source.old source.new → Serves E.Target err.old err.new →
-        ReportsOf IsUnlisted (Reads (R.coming source.old) (R.behind source.old)) input.now result (E.sent err.old) (E.sent err.new) }
+        ReportsOf IsUnlisted (Reads profile (R.coming source.old) (R.behind source.old)) input.now result (E.sent err.old) (E.sent err.new) }
 {
-    match list(alloc, source, out) {
+    match list(alloc, source, profile, out) {
         Ok(()) => 0,
         Err(fault) => refuse(err, input, Some(fault.at), fault.why),
     }
@@ -271,13 +288,13 @@ pub fn run<R: Source, W: Target, O: Target, E: Target>(
     err: &mut E,
 ) -> u8
     // Test, decode and list are done only if the input is a stream.
-    ensures stream { AsksStream job.now → result ≡ 0 → Tells R.Source source.old source.new → (parts : List Piece) × IsStream parts (R.coming source.old) (R.behind source.old) }
+    ensures stream { AsksStream job.now → result ≡ 0 → Tells R.Source source.old source.new → (parts : List Piece) × IsStream (profile_of (asks_lax job.now)) parts (R.coming source.old) (R.behind source.old) }
     // After status 0, a test has added to standard output exactly the line of the stream's counts.
     ensures tested { AsksTest job.now → result ≡ 0 → Tells R.Source source.old source.new → O.known out.old ≡ true →
-        (parts : List Piece) × IsStream parts (R.coming source.old) (R.behind source.old) × (O.sent out.new ≡ O.sent out.old ++ counts_line parts) }
+        (parts : List Piece) × IsStream (profile_of (asks_lax job.now)) parts (R.coming source.old) (R.behind source.old) × (O.sent out.new ≡ O.sent out.old ++ counts_line parts) }
     // After status 0, a decoding has added to the file exactly the samples of the stream's frames.
     ensures decoded { AsksDecode job.now → result ≡ 0 → Tells R.Source source.old source.new → W.known target.old ≡ true →
-        (parts : List Piece) × IsStream parts (R.coming source.old) (R.behind source.old) × (W.sent target.new ≡ W.sent target.old ++ all_samples 0 parts) }
+        (parts : List Piece) × IsStream (profile_of (asks_lax job.now)) parts (R.coming source.old) (R.behind source.old) × (W.sent target.new ≡ W.sent target.old ++ all_samples 0 parts) }
     // After status 0, an encoding has added to the file a stream of exactly the samples that the input is.
     ensures encoded { result ≡ 0 → R.known source.old ≡ true → W.known target.old ≡ true → HasEncoded job.now (R.coming source.old) (bits_of (W.sent target.old)) (bits_of (W.sent target.new)) }
     // After status 0 there was no reason to refuse the encoding.
@@ -302,12 +319,12 @@ pub fn run<R: Source, W: Target, O: Target, E: Target>(
         ReportsInput job.now (R.coming source.old) (R.behind source.old) (Serves W.Target target.old target.new) (Serves O.Target out.old out.new) result (E.sent err.old) (E.sent err.new) }
 {
     match job {
-        Job::Test { input } => run_test(alloc, input, source, out, err),
-        Job::Decode { input, output } => {
+        Job::Test { input, lax } => run_test(alloc, input, source, profile_of(*lax), out, err),
+        Job::Decode { input, output, lax } => {
             let paths = Paths { input, output };
-            run_decode(alloc, &paths, source, target, err)
+            run_decode(alloc, &paths, source, profile_of(*lax), target, err)
         }
-        Job::List { input } => run_list(alloc, input, source, out, err),
+        Job::List { input, lax } => run_list(alloc, input, source, profile_of(*lax), out, err),
         Job::Encode {
             input,
             output,

@@ -3,6 +3,7 @@ use Rattle.std.proofs.Common.{◌≡◌, ◌∙◌, refl, sym, ap, subst, ℕ, �
 use Rattle.std.proofs.lemmas.Bool.Decides.{nat_tests}
 use Rattle.flac_header.specs.Header.{Header, depth_of, greatest_block, allowed}
 use Rattle.flac_header.specs.Choice.{size_choice, rate_choice, depth_choice, with_codes, chosen_header}
+use Rattle.flac_header.specs.declared.subset.Profile.TheVariants.{Subset}
 use Rattle.flac_frame.specs.Frame.{limits_at}
 use Rattle.flac_frame.specs.Spelling.{AreSubframes, FrameSamples}
 use Rattle.flac_frame.specs.Encoding.{EncodingsAreFrames}
@@ -137,7 +138,7 @@ chosen_is size rate code bits number h e = go (nat_lt 10 code || nat_le (2 ^ 31)
     go true e = absurd cc
     go false e = with_chosen (size_choice size) (rate_choice rate) (depth_choice bits) size rate code bits number h (rate_coded rate) (depth_told bits) e
 
-is_allowed : (h : Header) → 1 ≤ h.rate_code → 1 ≤ h.depth_code → h.size ≤ greatest_block h.rate → allowed h ≡ true
+is_allowed : (h : Header) → 1 ≤ h.rate_code → 1 ≤ h.depth_code → h.size ≤ greatest_block h.rate → allowed Subset h ≡ true
 unfolding allowed
 is_allowed h a b c =
     let p : nat_eq h.rate_code 0 ≡ false = grind (arith, nat_tests) in
@@ -153,10 +154,10 @@ is_allowed h a b c =
 pub encodings_are_frames : EncodingsAreFrames
 encodings_are_frames sound size number block f info r d n e =
     let c = chosen_is size sound.rate e.code sound.bits number f.header e.header in
-    let coded = subst (λ k. AreSubframes sound.bits k size (limits_at sound.rate) 0 f.subframes) (sym c.code_is) e.subframes in
-    let sized = subst (λ k. AreSubframes sound.bits f.header.channel_code k (limits_at sound.rate) 0 f.subframes) (sym c.sized) coded in
-    let limited = subst (λ k. AreSubframes sound.bits f.header.channel_code f.header.size (limits_at k) 0 f.subframes) (sym r) sized in
-    let parts = subst (λ k. AreSubframes k f.header.channel_code f.header.size (limits_at info.rate) 0 f.subframes) (sym d) limited in
+    let coded = subst (λ k. AreSubframes sound.bits k size (limits_at Subset sound.rate) 0 f.subframes) (sym c.code_is) e.subframes in
+    let sized = subst (λ k. AreSubframes sound.bits f.header.channel_code k (limits_at Subset sound.rate) 0 f.subframes) (sym c.sized) coded in
+    let limited = subst (λ k. AreSubframes sound.bits f.header.channel_code f.header.size (limits_at Subset k) 0 f.subframes) (sym r) sized in
+    let parts = subst (λ k. AreSubframes k f.header.channel_code f.header.size (limits_at Subset info.rate) 0 f.subframes) (sym d) limited in
     record {
       fixed = c.fixed;
       numbered = c.numbered;

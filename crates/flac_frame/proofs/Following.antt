@@ -8,8 +8,9 @@ use Rattle.flac_bits.specs.Meaning.{Spells, AllKept}
 use Rattle.flac_bits.specs.Fence.{InRoom}
 use Rattle.flac_bits.specs.Items.{Joined}
 use Rattle.flac_meta.specs.Info.{Info}
-use Rattle.flac_header.specs.Header.{Header, header, allowed, channels_of, depth_of}
-use Rattle.flac_frame.specs.Frame.{Frame, frame, frame_body, stream_header, header_rules, left_by, after, differs}
+use Rattle.flac_header.specs.Header.{Header, header, allowed, channels_of}
+use Rattle.flac_header.specs.declared.subset.Profile.{Profile}
+use Rattle.flac_frame.specs.Frame.{Frame, frame, frame_body, stream_header, header_rules, left_by, after, rate_in, depth_in, differs}
 use Rattle.flac_frame.specs.Follows.{EachTwo, ButLast, NumberFollows, HasFormat, Follows, AreAccepted, AcceptedFollow, AreFrames, frames, FramesFollow}
 use Rattle.flac_frame.specs.declared.before.Before.{Before}
 
@@ -28,13 +29,13 @@ three_same a b c d e f h = (grind (arith, nat_tests), grind (arith, nat_tests), 
 same_three : (a b c d e f : ℕ) → a ≡ b → c ≡ d → e ≡ f → not (nat_eq a b && nat_eq c d && nat_eq e f) ≡ false
 same_three a b c d e f p q r = grind (arith, nat_tests)
 
-format_of : (info : Info) (h : Header) → differs info h ≡ false → HasFormat info h
-format_of info h e =
-    let s = three_same h.rate info.rate (channels_of h.channel_code) info.channels (depth_of h.depth_code) info.depth e in
+format_of : (profile : Profile) (info : Info) (h : Header) → differs profile info h ≡ false → HasFormat profile info h
+format_of profile info h e =
+    let s = three_same (rate_in profile info h) info.rate (channels_of h.channel_code) info.channels (depth_in profile info h) info.depth e in
     record { rate = s.0; channels = s.1; depth = s.2 }
 
-of_format : (info : Info) (h : Header) → HasFormat info h → differs info h ≡ false
-of_format info h f = same_three h.rate info.rate (channels_of h.channel_code) info.channels (depth_of h.depth_code) info.depth f.rate f.channels f.depth
+of_format : (profile : Profile) (info : Info) (h : Header) → HasFormat profile info h → differs profile info h ≡ false
+of_format profile info h f = same_three (rate_in profile info h) info.rate (channels_of h.channel_code) info.channels (depth_in profile info h) info.depth f.rate f.channels f.depth
 
 same_strategy : (v w c : Bool) → (cond v (not w) w || c) ≡ false → v ≡ w
 same_strategy true true c e = refl
@@ -77,8 +78,8 @@ sized false greatest least first size before a b c d =
 abbrev behind : ℕ → Header → Before
 behind first last = record { first_size = first; variable = last.variable; next = last.number + cond last.variable last.size 1; size = last.size }
 
-abbrev Allowed : Header → Type 0
-Allowed h = allowed h ≡ true
+abbrev Allowed : Profile → Header → Type 0
+Allowed profile h = allowed profile h ≡ true
 
 abbrev Has : Bool → Header → Type 0
 Has variable h = h.variable ≡ variable
@@ -87,9 +88,9 @@ abbrev AtMost : ℕ → Header → Type 0
 AtMost size h = h.size ≤ size
 
 -- the headers behind the last so far
-record Rest (info : Info) (first : ℕ) (last : Header) (hs : List Header) : Type 0 where
-  allowed : All (λ h. allowed h ≡ true) hs
-  format : All (HasFormat info) hs
+record Rest (profile : Profile) (info : Info) (first : ℕ) (last : Header) (hs : List Header) : Type 0 where
+  allowed : All (λ h. allowed profile h ≡ true) hs
+  format : All (HasFormat profile info) hs
   strategy : All (λ h. h.variable ≡ last.variable) hs
   numbers : EachTwo NumberFollows (last ∷ hs)
   greatest : All (λ h. h.size ≤ info.greatest_block) hs
@@ -97,10 +98,10 @@ record Rest (info : Info) (first : ℕ) (last : Header) (hs : List Header) : Typ
   same : last.variable ≡ false → ButLast (λ h. h.size ≡ first) (last ∷ hs)
   no_larger : last.variable ≡ false → All (λ h. h.size ≤ first) hs
 
-rest_of : (info : Info) (first : ℕ) (last : Header) (hs : List Header) → AreAccepted info (Some (behind first last)) hs → Rest info first last hs
-rest_of info first last [] a = record {
-  allowed = All-nil Allowed;
-  format = All-nil (HasFormat info);
+rest_of : (profile : Profile) (info : Info) (first : ℕ) (last : Header) (hs : List Header) → AreAccepted profile info (Some (behind first last)) hs → Rest profile info first last hs
+rest_of profile info first last [] a = record {
+  allowed = All-nil (Allowed profile);
+  format = All-nil (HasFormat profile info);
   strategy = All-nil (Has last.variable);
   numbers = tt;
   greatest = All-nil (AtMost info.greatest_block);
@@ -108,14 +109,14 @@ rest_of info first last [] a = record {
   same = λ _. tt;
   no_larger = λ _. All-nil (AtMost first);
 }
-rest_of info first last (h ∷ hs) (rules, a) =
+rest_of profile info first last (h ∷ hs) (rules, a) =
     let strategy : h.variable ≡ last.variable = same_strategy h.variable last.variable _ rules.1.1.0 in
     let number : NumberFollows last h = same_number _ h.number _ rules.1.1.0 in
     let s = sizes h.variable info.greatest_block info.least_block first h.size last.size rules.1.1.1.0 in
-    let r = rest_of info first h hs a in
+    let r = rest_of profile info first h hs a in
     record {
-      allowed = All-cons Allowed h hs (kept_true (allowed h) rules.0) r.allowed;
-      format = All-cons (HasFormat info) h hs (format_of info h rules.1.0) r.format;
+      allowed = All-cons (Allowed profile) h hs (kept_true (allowed profile h) rules.0) r.allowed;
+      format = All-cons (HasFormat profile info) h hs (format_of profile info h rules.1.0) r.format;
       strategy = All-cons (Has last.variable) h hs strategy (λ k d lt. r.strategy k d lt ∙ strategy);
       numbers = (number, r.numbers);
       greatest = All-cons (AtMost info.greatest_block) h hs s.0 r.greatest;
@@ -124,14 +125,14 @@ rest_of info first last (h ∷ hs) (rules, a) =
       no_larger = λ fixed. All-cons (AtMost first) h hs (s.3 (strategy ∙ fixed)) (r.no_larger (strategy ∙ fixed));
     }
 
-accepted_rest : (info : Info) (first : ℕ) (last : Header) (hs : List Header) → Rest info first last hs → AreAccepted info (Some (behind first last)) hs
-accepted_rest info first last [] r = tt
-accepted_rest info first last (h ∷ hs) r =
+accepted_rest : (profile : Profile) (info : Info) (first : ℕ) (last : Header) (hs : List Header) → Rest profile info first last hs → AreAccepted profile info (Some (behind first last)) hs
+accepted_rest profile info first last [] r = tt
+accepted_rest profile info first last (h ∷ hs) r =
     let strategy : h.variable ≡ last.variable = All-head (Has last.variable) h hs r.strategy in
     let back : last.variable ≡ h.variable = sym strategy in
-    let rest : Rest info first h hs = record {
-      allowed = All-tail Allowed h hs r.allowed;
-      format = All-tail (HasFormat info) h hs r.format;
+    let rest : Rest profile info first h hs = record {
+      allowed = All-tail (Allowed profile) h hs r.allowed;
+      format = All-tail (HasFormat profile info) h hs r.format;
       strategy = λ k d lt. All-tail (Has last.variable) h hs r.strategy k d lt ∙ back;
       numbers = r.numbers.1;
       greatest = All-tail (AtMost info.greatest_block) h hs r.greatest;
@@ -140,9 +141,9 @@ accepted_rest info first last (h ∷ hs) r =
       no_larger = λ fixed. All-tail (AtMost first) h hs (r.no_larger (back ∙ fixed));
     } in (
       (
-        true_kept (allowed h) (All-head Allowed h hs r.allowed),
+        true_kept (allowed profile h) (All-head (Allowed profile) h hs r.allowed),
         (
-          of_format info h (All-head (HasFormat info) h hs r.format),
+          of_format profile info h (All-head (HasFormat profile info) h hs r.format),
           (
             no_break h.variable last.variable h.number _ strategy r.numbers.0,
             (
@@ -153,17 +154,17 @@ accepted_rest info first last (h ∷ hs) r =
           ),
         ),
       ),
-      accepted_rest info first h hs rest,
+      accepted_rest profile info first h hs rest,
     )
 
 -- ---- all headers
 
-follows_all : (info : Info) (hs : List Header) → AreAccepted info None hs → Follows info hs
-follows_all info [] a = record {
+follows_all : (profile : Profile) (info : Info) (hs : List Header) → AreAccepted profile info None hs → Follows profile info hs
+follows_all profile info [] a = record {
   variable = false;
   size = 0;
-  allowed = All-nil Allowed;
-  format = All-nil (HasFormat info);
+  allowed = All-nil (Allowed profile);
+  format = All-nil (HasFormat profile info);
   strategy = All-nil (Has false);
   numbers = tt;
   greatest = All-nil (AtMost info.greatest_block);
@@ -171,13 +172,13 @@ follows_all info [] a = record {
   same = λ _. tt;
   no_larger = λ _. All-nil (AtMost 0);
 }
-follows_all info (f ∷ fs) (rules, a) =
-    let r = rest_of info f.size f fs a in
+follows_all profile info (f ∷ fs) (rules, a) =
+    let r = rest_of profile info f.size f fs a in
     record {
       variable = f.variable;
       size = f.size;
-      allowed = All-cons Allowed f fs (kept_true (allowed f) rules.0) r.allowed;
-      format = All-cons (HasFormat info) f fs (format_of info f rules.1.0) r.format;
+      allowed = All-cons (Allowed profile) f fs (kept_true (allowed profile f) rules.0) r.allowed;
+      format = All-cons (HasFormat profile info) f fs (format_of profile info f rules.1.0) r.format;
       strategy = All-cons (Has f.variable) f fs refl r.strategy;
       numbers = r.numbers;
       greatest = All-cons (AtMost info.greatest_block) f fs (not_over info.greatest_block f.size rules.1.1.1.0) r.greatest;
@@ -193,18 +194,18 @@ of_first size f (g ∷ gs) same less =
     let e : f.size ≡ size = same.0 in
     (subst (λ n. ButLast (λ h. h.size ≡ n) (f ∷ g ∷ gs)) (sym e) same, subst (λ n. All (AtMost n) (g ∷ gs)) (sym e) (All-tail (AtMost size) f (g ∷ gs) less))
 
-all_accepted : (info : Info) (hs : List Header) → Follows info hs → AreAccepted info None hs
-all_accepted info [] w = tt
-all_accepted info (f ∷ fs) w =
+all_accepted : (profile : Profile) (info : Info) (hs : List Header) → Follows profile info hs → AreAccepted profile info None hs
+all_accepted profile info [] w = tt
+all_accepted profile info (f ∷ fs) w =
     let strategy : f.variable ≡ w.variable = All-head (Has w.variable) f fs w.strategy in
     let back : w.variable ≡ f.variable = sym strategy in (
       (
-        true_kept (allowed f) (All-head Allowed f fs w.allowed),
-        (of_format info f (All-head (HasFormat info) f fs w.format), (refl, (within info.greatest_block f.size (All-head (AtMost info.greatest_block) f fs w.greatest), tt))),
+        true_kept (allowed profile f) (All-head (Allowed profile) f fs w.allowed),
+        (of_format profile info f (All-head (HasFormat profile info) f fs w.format), (refl, (within info.greatest_block f.size (All-head (AtMost info.greatest_block) f fs w.greatest), tt))),
       ),
-      accepted_rest info f.size f fs (record {
-        allowed = All-tail Allowed f fs w.allowed;
-        format = All-tail (HasFormat info) f fs w.format;
+      accepted_rest profile info f.size f fs (record {
+        allowed = All-tail (Allowed profile) f fs w.allowed;
+        format = All-tail (HasFormat profile info) f fs w.format;
         strategy = λ k d lt. All-tail (Has w.variable) f fs w.strategy k d lt ∙ back;
         numbers = w.numbers;
         greatest = All-tail (AtMost info.greatest_block) f fs w.greatest;
@@ -215,65 +216,65 @@ all_accepted info (f ∷ fs) w =
     )
 
 pub accepted_follow : AcceptedFollow
-accepted_follow info hs = (follows_all info hs, all_accepted info hs)
+accepted_follow profile info hs = (follows_all profile info hs, all_accepted profile info hs)
 
 -- ---- frames
 
 -- a header in a stream is a header that keeps the rules
-pub judged_header : (info : Info) (before : Option Before) (m : Mark) (text : List Bool) (h : Header) → Spells (stream_header info before) m text h → Spells header m text h × AllKept (header_rules info before h)
+pub judged_header : (profile : Profile) (info : Info) (before : Option Before) (m : Mark) (text : List Bool) (h : Header) → Spells (stream_header profile info before) m text h → Spells header m text h × AllKept (header_rules profile info before h)
 unfolding stream_header
-judged_header info before m text h (k, front, rest, split, s, (_, a, b, parted, kept, is)) =
+judged_header profile info before m text h (k, front, rest, split, s, (_, a, b, parted, kept, is)) =
     let none : rest ≡ [] = parted ∙ rw (kept.0, is.0) refl in
     let whole : text ≡ front = split ∙ rw none (append-nil front) in
     let same : k ≡ h = is.1 in
-    (rw whole (subst (Spells header m front) same s), subst (λ x. AllKept (header_rules info before x)) same kept.1)
+    (rw whole (subst (Spells header m front) same s), subst (λ x. AllKept (header_rules profile info before x)) same kept.1)
 
-pub header_judged : (info : Info) (before : Option Before) (m : Mark) (text : List Bool) (h : Header) → Spells header m text h → AllKept (header_rules info before h) → Spells (stream_header info before) m text h
+pub header_judged : (profile : Profile) (info : Info) (before : Option Before) (m : Mark) (text : List Bool) (h : Header) → Spells header m text h → AllKept (header_rules profile info before h) → Spells (stream_header profile info before) m text h
 unfolding stream_header
-header_judged info before m text h s kept = (h, text, [], sym (append-nil text), s, (tt, [], [], refl, (refl, kept), (refl, refl)))
+header_judged profile info before m text h s kept = (h, text, [], sym (append-nil text), s, (tt, [], [], refl, (refl, kept), (refl, refl)))
 
 -- what follows a header keeps what it says
-body_keeps : (info : Info) (h : Header) (m : Mark) (text : List Bool) (f : Frame) → Spells (frame_body info h) m text f → (f.variable ≡ h.variable) × (f.number ≡ h.number) × (f.size ≡ h.size)
+body_keeps : (profile : Profile) (info : Info) (h : Header) (m : Mark) (text : List Bool) (f : Frame) → Spells (frame_body profile info h) m text f → (f.variable ≡ h.variable) × (f.number ≡ h.number) × (f.size ≡ h.size)
 unfolding frame_body
-body_keeps info h m text f (_, _, _, _, _, (_, _, _, _, _, (channels, _, _, _, _, is))) =
+body_keeps profile info h m text f (_, _, _, _, _, (_, _, _, _, _, (channels, _, _, _, _, is))) =
     let same = sym is.1 in (ap (λ (g : Frame). g.variable) same, ap (λ (g : Frame). g.number) same, ap (λ (g : Frame). g.size) same)
 
-leaves : (info : Info) (before : Option Before) (h : Header) (m : Mark) (text : List Bool) (f : Frame) → Spells (frame_body info h) m text f → after before f ≡ left_by before h.variable h.number h.size
-leaves info before h m text f s = let k = body_keeps info h m text f s in rw (k.0, k.1, k.2) refl
+leaves : (profile : Profile) (info : Info) (before : Option Before) (h : Header) (m : Mark) (text : List Bool) (f : Frame) → Spells (frame_body profile info h) m text f → after before f ≡ left_by before h.variable h.number h.size
+leaves profile info before h m text f s = let k = body_keeps profile info h m text f s in rw (k.0, k.1, k.2) refl
 
 -- with the headers that were accepted
-abbrev Taken : Info → Option ℕ → Option Before → Mark → List Frame → List Bool → Type 0
-Taken info room before m fs text = (hs : List Header) × AreFrames info room m hs fs text × AreAccepted info before hs
+abbrev Taken : Profile → Info → Option ℕ → Option Before → Mark → List Frame → List Bool → Type 0
+Taken profile info room before m fs text = (hs : List Header) × AreFrames profile info room m hs fs text × AreAccepted profile info before hs
 
-taken : (info : Info) (room : Option ℕ) (before : Option Before) (m : Mark) (fs : List Frame) (text : List Bool) → Joined (frames info room) before m fs text → Taken info room before m fs text
+taken : (profile : Profile) (info : Info) (room : Option ℕ) (before : Option Before) (m : Mark) (fs : List Frame) (text : List Bool) → Joined (frames profile info room) before m fs text → Taken profile info room before m fs text
 unfolding frame
-taken info room before m [] text j = ([], j, tt)
-taken info room before m (f ∷ fs) text (front, rest, split, (h, first, body, parted, s, b), fits, more) =
-    let j = judged_header info before (fresh m) first h s in
-    let left = leaves info before h _ body f b in
-    let t = taken info room (Some (after before f)) (past front (fresh m)) fs rest more in (
+taken profile info room before m [] text j = ([], j, tt)
+taken profile info room before m (f ∷ fs) text (front, rest, split, (h, first, body, parted, s, b), fits, more) =
+    let j = judged_header profile info before (fresh m) first h s in
+    let left = leaves profile info before h _ body f b in
+    let t = taken profile info room (Some (after before f)) (past front (fresh m)) fs rest more in (
       h ∷ t.0,
-      (first, body, rest, split ∙ ap (λ k. k ++ rest) parted, j.0, b, subst (λ k. InRoom room (fresh m) k) parted fits, subst (λ k. AreFrames info room (past k (fresh m)) t.0 fs rest) parted t.1),
-      (j.1, subst (λ k. AreAccepted info (Some k) t.0) left t.2),
+      (first, body, rest, split ∙ ap (λ k. k ++ rest) parted, j.0, b, subst (λ k. InRoom room (fresh m) k) parted fits, subst (λ k. AreFrames profile info room (past k (fresh m)) t.0 fs rest) parted t.1),
+      (j.1, subst (λ k. AreAccepted profile info (Some k) t.0) left t.2),
     )
 
-joins : (info : Info) (room : Option ℕ) (before : Option Before) (m : Mark) (fs : List Frame) (text : List Bool) (hs : List Header) → AreFrames info room m hs fs text → AreAccepted info before hs → Joined (frames info room) before m fs text
+joins : (profile : Profile) (info : Info) (room : Option ℕ) (before : Option Before) (m : Mark) (fs : List Frame) (text : List Bool) (hs : List Header) → AreFrames profile info room m hs fs text → AreAccepted profile info before hs → Joined (frames profile info room) before m fs text
 unfolding frame
-joins info room before m [] text [] a k = a
-joins info room before m [] text (h ∷ hs) a k = absurd a
-joins info room before m (f ∷ fs) text [] a k = absurd a
-joins info room before m (f ∷ fs) text (h ∷ hs) (first, body, rest, split, s, b, fits, more) (kept, k) =
-    let left = leaves info before h _ body f b in (
+joins profile info room before m [] text [] a k = a
+joins profile info room before m [] text (h ∷ hs) a k = absurd a
+joins profile info room before m (f ∷ fs) text [] a k = absurd a
+joins profile info room before m (f ∷ fs) text (h ∷ hs) (first, body, rest, split, s, b, fits, more) (kept, k) =
+    let left = leaves profile info before h _ body f b in (
       first ++ body,
       rest,
       split,
-      (h, first, body, refl, header_judged info before (fresh m) first h s kept, b),
+      (h, first, body, refl, header_judged profile info before (fresh m) first h s kept, b),
       fits,
-      joins info room (Some (after before f)) (past (first ++ body) (fresh m)) fs rest hs more (subst (λ x. AreAccepted info (Some x) hs) (sym left) k),
+      joins profile info room (Some (after before f)) (past (first ++ body) (fresh m)) fs rest hs more (subst (λ x. AreAccepted profile info (Some x) hs) (sym left) k),
     )
 
 pub frames_follow : FramesFollow
-frames_follow info room m fs text = (
-  λ j. let t = taken info room None m fs text j in (t.0, t.1, follows_all info t.0 t.2),
-  λ t. joins info room None m fs text t.0 t.1 (all_accepted info t.0 t.2),
+frames_follow profile info room m fs text = (
+  λ j. let t = taken profile info room None m fs text j in (t.0, t.1, follows_all profile info t.0 t.2),
+  λ t. joins profile info room None m fs text t.0 t.1 (all_accepted profile info t.0 t.2),
 )

@@ -22,6 +22,8 @@ use Rattle.flac_meta.specs.Info.{Info, KeepsRules}
 use Rattle.flac_header.specs.Header.{Header, IsHeader, least_size}
 use Rattle.flac_header.specs.Spelling.{header_spelling}
 use Rattle.flac_header.proofs.HeaderTie.{header_tie}
+use Rattle.flac_header.specs.declared.subset.Profile.{Profile}
+use Rattle.flac_header.specs.declared.subset.Profile.TheVariants.{Subset, Lax}
 use Rattle.flac_frame.specs.Frame.{Frame, frame, frame_body, subframes, frame_end, limits_of, each_fits, in_range, some_or}
 use Rattle.flac_frame.specs.Stereo.{joined}
 use Rattle.flac_frame.specs.Spelling.{FrameForm, subframes_spelling, filled, checked, frame_spelling, IsFrame, FrameSamples, frame_with, IsSpelled, FramesAreSpelled, FramesAreReadAgain, FramesAreBytes}
@@ -133,23 +135,27 @@ size_some h v = omega (arith, v.size.least, least h.size_code)
     least : (code : ℕ) → 1 ≤ least_size code
     least code = grind (arith, nat_tests, power_some code, pow_pos code)
 
-few_orders : (info : Info) → (limits_of info).linear ≤ 32
-few_orders info = go (nat_le info.rate 48000)
+few_orders : (profile : Profile) (info : Info) → (limits_of profile info).linear ≤ 32
+few_orders Lax info = all
+  where
+    all : 32 ≤ 32
+    all = omega arith
+few_orders Subset info = go (nat_le info.rate 48000)
   where
     go : (b : Bool) → cond b 12 32 ≤ 32
     go true = omega arith
     go false = omega arith
 
-module _ (info : Info) (before : Option Before) (m : Mark) (rules : KeepsRules info) (whole : m.unread ≡ 0) (begun8 : m.check8 ≡ 0) (begun16 : m.check16 ≡ 0) where
+module _ (profile : Profile) (info : Info) (before : Option Before) (m : Mark) (rules : KeepsRules info) (whole : m.unread ≡ 0) (begun8 : m.check8 ≡ 0) (begun16 : m.check16 ≡ 0) where
   deep : 1 ≤ info.depth
   deep = omega (arith, rules.least_depth)
 
-  frame_only : (text : List Bool) (x : Frame) → Spells (frame info before) m text x → IsSpelled info before x text
+  frame_only : (text : List Bool) (x : Frame) → Spells (frame profile info before) m text x → IsSpelled profile info before x text
   unfolding frame frame_body frame_spelling
   frame_only text x (h, front, rest, split, s, (got, first, second, parted, subs, (u, e, third, cut, end, (channels, none, nothing, last, fit, is)))) =
-      let j = judged_header info before m front h s in
+      let j = judged_header profile info before m front h s in
       let t = (header_tie m begun8).only front h j.0 in
-      let f = subframes_only info.depth h.channel_code h.size (limits_of info) deep (size_some h t.0) (few_orders info) info.channels (Some []) 0 (past front m) first got subs in
+      let f = subframes_only info.depth h.channel_code h.size (limits_of profile info) deep (size_some h t.0) (few_orders profile info) info.channels (Some []) 0 (past front m) first got subs in
       let body : List Bool = front ++ first in
       let at : past first (past front m) ≡ past body m = sym (past-append front first m) in
       let ends = (end_tie (past body m) (end_small body m whole begun16)).only e u (subst (λ k. Spells frame_end k e u) at end) in
@@ -169,7 +175,7 @@ module _ (info : Info) (before : Option Before) (m : Mark) (rules : KeepsRules i
         samples = rw x_is (record { kept = kept.0; subframes = kept.1; joined = ap (joined h.channel_code) (sym kept.2) ∙ range.2; fit = range.3 });
       }
 
-  frame_each : (f : FrameForm) (channels : List (List ℤ)) → IsFrame info before f → FrameSamples info.depth f channels → Spells (frame info before) m (frame_spelling info.depth f) (frame_with f.header channels)
+  frame_each : (f : FrameForm) (channels : List (List ℤ)) → IsFrame profile info before f → FrameSamples info.depth f channels → Spells (frame profile info before) m (frame_spelling info.depth f) (frame_with f.header channels)
   unfolding frame frame_body frame_spelling
   frame_each f channels v s =
       let h = f.header in
@@ -179,20 +185,20 @@ module _ (info : Info) (before : Option Before) (m : Mark) (rules : KeepsRules i
       let at : past first (past front m) ≡ past body m = sym (past-append front first m) in
       let got = gather info.depth h.channel_code h.size (Some []) 0 f.subframes in
       let e = end_spelling (past body m) in
-      let subs = subframes_each info.depth h.channel_code h.size (limits_of info) deep (size_some h v.header) (few_orders info) f.subframes (Some []) 0 (past front m) v.subframes in
+      let subs = subframes_each info.depth h.channel_code h.size (limits_of profile info) deep (size_some h v.header) (few_orders profile info) f.subframes (Some []) 0 (past front m) v.subframes in
       let is : got ≡ Some s.kept = have_gathered info.depth h.channel_code h.size f.subframes s.kept [] 0 s.subframes in
       let text_is : checked (filled body) ≡ front ++ (first ++ e) = sym (end_is body m whole begun16) ∙ append_assoc front first e in (
         h,
         front,
         first ++ e,
         text_is,
-        header_judged info before m front h ((header_tie m begun8).each h v.header) v.follows,
+        header_judged profile info before m front h ((header_tie m begun8).each h v.header) v.follows,
         (
           got,
           first,
           e,
           refl,
-          subst (λ n. Spells (subframes info.depth h.channel_code h.size (limits_of info) (Some []) 0 n) (past front m) first got) v.many subs,
+          subst (λ n. Spells (subframes info.depth h.channel_code h.size (limits_of profile info) (Some []) 0 n) (past front m) first got) v.many subs,
           (
             tt,
             e,
@@ -205,17 +211,17 @@ module _ (info : Info) (before : Option Before) (m : Mark) (rules : KeepsRules i
       )
 
 pub frames_spelled : FramesAreSpelled
-frames_spelled info before m text x rules whole begun8 begun16 = (
-  frame_only info before m rules whole begun8 begun16 text x,
+frames_spelled profile info before m text x rules whole begun8 begun16 = (
+  frame_only profile info before m rules whole begun8 begun16 text x,
   λ k.
-      let s = frame_each info before m rules whole begun8 begun16 k.form x.channels k.valid k.samples in
-      let t = subst (λ t. Spells (frame info before) m t (frame_with k.form.header x.channels)) (sym k.spelling) s in
-      subst (λ y. Spells (frame info before) m text y) (sym k.frame) t,
+      let s = frame_each profile info before m rules whole begun8 begun16 k.form x.channels k.valid k.samples in
+      let t = subst (λ t. Spells (frame profile info before) m t (frame_with k.form.header x.channels)) (sym k.spelling) s in
+      subst (λ y. Spells (frame profile info before) m text y) (sym k.frame) t,
 )
 
 pub frames_again : FramesAreReadAgain
-frames_again info before m rest f channels rules whole begun8 begun16 v s =
-    again (frame info before) m (frame_spelling info.depth f) rest (frame_with f.header channels) (frame_each info before m rules whole begun8 begun16 f channels v s)
+frames_again profile info before m rest f channels rules whole begun8 begun16 v s =
+    again (frame profile info before) m (frame_spelling info.depth f) rest (frame_with f.header channels) (frame_each profile info before m rules whole begun8 begun16 f channels v s)
 
 pub frames_bytes : FramesAreBytes
 unfolding frame_spelling

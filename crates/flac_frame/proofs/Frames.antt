@@ -8,6 +8,7 @@ use Rattle.flac_subframe.specs.Handed.{AreWithin}
 use Rattle.flac_bits.specs.Signed.{FitsBits}
 use Rattle.flac_header.specs.Header.{Header, IsHeader, channels_of}
 use Rattle.flac_header.specs.Choice.{size_choice, rate_choice, depth_choice, chosen_header}
+use Rattle.flac_header.specs.declared.subset.Profile.TheVariants.{Subset}
 use Rattle.flac_subframe.specs.declared.limits.Limits.{Limits}
 use Rattle.flac_subframe.specs.Spelling.{subframe_spelling}
 use Rattle.flac_subframe.specs.Subframe.{Form}
@@ -30,7 +31,7 @@ use Rattle.flac_frame.proofs.Wholes.{texts_are, subframes_are, samples_are, as_m
 as_coded : (code : ℕ) → code ≤ 7 → channels_of code ≡ code + 1
 as_coded code few = let a : nat_lt code 8 ≡ true = grind (arith, nat_tests) in rw a refl
 
-pub frame_encoded : (ps : List LinearPredictor) (sound : Sound) → AreWithin (limits_at sound.rate).linear ps → (code size number : ℕ) (block : List (List ℤ)) (fs : List Form) (h : Header) → (length block ≡ 2 → ⊥) → code ≤ 7 → number < 2 ^ 31
+pub frame_encoded : (ps : List LinearPredictor) (sound : Sound) → AreWithin (limits_at Subset sound.rate).linear ps → (code size number : ℕ) (block : List (List ℤ)) (fs : List Form) (h : Header) → (length block ≡ 2 → ⊥) → code ≤ 7 → number < 2 ^ 31
     → (1 ≤ sound.bits) × (sound.bits ≤ 32) → 1 ≤ size → size ≤ 65535 → All (λ s. length s ≡ size) block → chosen_header size sound.rate code sound.bits number ≡ Some h → IsHeader h → code + 1 ≡ length block → All (λ s. All (FitsBits sound.bits) s) block
     → AreForms ps sound.bits size fs block → AreLeast ps sound.bits fs block → (f : FrameForm) → f ≡ record { header = h; subframes = fs }
     → IsEncoding sound size number block f × IsLeastWith ps sound size number block f × IsShort sound.bits f × (subframes_cost sound.bits f ≡ length (flat_map (subframe_spelling sound.bits) fs))
@@ -38,7 +39,7 @@ frame_encoded ps sound within code size number block fs h other independent smal
     let depth : ℕ = sound.bits in
     let codes = codes_are (size_choice size) (rate_choice sound.rate) (depth_choice depth) size sound.rate code number h (sym (chosen_as size sound.rate code depth number (omega (arith, independent)) small) ∙ chosen) in
     let parts_are : flat_map (subframe_spelling depth) fs ≡ subframes_spelling depth h.channel_code 0 fs = sym (ap (λ k. subframes_spelling depth k 0 fs) codes.0 ∙ texts_are depth code size independent 0 fs) in
-    let limits : Limits = limits_at sound.rate in
+    let limits : Limits = limits_at Subset sound.rate in
     let have = subst (λ k. HaveSamples depth k h.size 0 fs block) (sym codes.0) (subst (λ n. HaveSamples depth code n 0 fs block) (sym codes.1) (samples_are depth code size independent ps 0 fs block are)) in
     let short : IsShort depth (record { header = h; subframes = fs }) = frame_short depth (record { header = h; subframes = fs })
     (omega (arith, ap (λ (t : List Bool). length t) parts_are, all_short ps depth deep.0 size fs block some long fits least, parts_few (length block) depth size (omega (arith, independent, each)) deep.1 few)) in
@@ -88,7 +89,7 @@ module _ {V : Type 0} (items : V → List ℤ) (xs : List V) (sound : Sound) (go
       chosen_there size rate code bits number some few (ap (λ k. is_some (rate_choice k)) r ∙ good.rate) (ap (λ k. is_some (depth_choice k)) b ∙ good.bits) c small (sym is ∙ none)
 
   -- what was chosen of each channel by itself makes a frame
-  pub apart_choice : (ps : List LinearPredictor) → AreWithin (limits_at sound.rate).linear ps → (start size rate code bits depth number : ℕ) (o : Option Header) (c : FrameChoice) → rate ≡ sound.rate → bits ≡ sound.bits → depth ≡ sound.bits → (length sound.channels ≡ 2 → ⊥) → code ≡ length xs - 1 → c.code ≡ code
+  pub apart_choice : (ps : List LinearPredictor) → AreWithin (limits_at Subset sound.rate).linear ps → (start size rate code bits depth number : ℕ) (o : Option Header) (c : FrameChoice) → rate ≡ sound.rate → bits ≡ sound.bits → depth ≡ sound.bits → (length sound.channels ≡ 2 → ⊥) → code ≡ length xs - 1 → c.code ≡ code
       → 1 ≤ size → size ≤ 65535 → start + size ≤ samples_each sound.channels → number < 2 ^ 31 → o ≡ chosen_header size rate code bits number → IfSome o IsHeader
       → AreChosen ps depth size c.subframes.items (block_of start size (map items xs)) → c.bits ≡ length (flat_map (subframe_spelling depth) (forms_of ps c.subframes.items (block_of start size (map items xs))))
       → IsChoiceWith ps sound size number (block_of start size sound.channels) c

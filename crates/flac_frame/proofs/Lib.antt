@@ -22,3 +22,4 @@ pub mod Chosen
 pub mod Counted
 pub mod Written
 pub mod Interleaved
+pub mod Wider

@@ -8,6 +8,7 @@ use Rattle.flac_subframe.specs.Handed.{AreWithin}
 use Rattle.flac_bits.specs.Signed.{FitsBits}
 use Rattle.flac_header.specs.Header.{Header, IsHeader, channels_of}
 use Rattle.flac_header.specs.Choice.{rate_choice, depth_choice, chosen_header}
+use Rattle.flac_header.specs.declared.subset.Profile.TheVariants.{Subset}
 use Rattle.flac_subframe.specs.declared.chosen.Choice.{Choice}
 use Rattle.flac_subframe.specs.Family.{IsMadeWith, form_with}
 use Rattle.flac_subframe.specs.Spelling.{subframe_spelling, IsSubframe}
@@ -179,7 +180,7 @@ module _ (ps : List LinearPredictor) (sound : Sound) (size number : ℕ) (left r
   cost_of c (inr (inr (inr e))) fs h = subst (λ k. cost k ≤ length (subframes_spelling sound.bits k 0 fs)) (sym e)
       (two_least ps sound.bits 10 (middle_of left right) (side_of left right) mf sf m s m10 s10 fs (subst (EachStands ps fs) (ap (λ k. kept_as k block) e ∙ kept_10 left right) h))
 
-  module _ (orders : AreWithin (limits_at sound.rate).linear ps) (code : ℕ) (best : IsFirstLeast cost code) (first second : List ℤ) (f g : Form) (n k : ℕ) (p : IsChosen ps (sound.bits + side_bit code 0) first f n) (q : IsChosen ps (sound.bits + side_bit code 1) second g k)
+  module _ (orders : AreWithin (limits_at Subset sound.rate).linear ps) (code : ℕ) (best : IsFirstLeast cost code) (first second : List ℤ) (f g : Form) (n k : ℕ) (p : IsChosen ps (sound.bits + side_bit code 0) first f n) (q : IsChosen ps (sound.bits + side_bit code 1) second g k)
       (sum : n + k ≡ cost code) (kept : kept_as code block ≡ first ∷ second ∷ []) (back : joined code (first ∷ second ∷ []) ≡ block)
       (depth : (1 ≤ sound.bits) × (sound.bits ≤ 32)) (some : 1 ≤ size) (few : size ≤ 65535) (left_long : length left ≡ size) (right_long : length right ≡ size) (first_long : length first ≡ size) (second_long : length second ≡ size)
       (left_fits : All (FitsBits sound.bits) left) (right_fits : All (FitsBits sound.bits) right) (h : Header) (chosen : chosen_header size sound.rate code sound.bits number ≡ Some h) (valid : IsHeader h) where
@@ -194,7 +195,7 @@ module _ (ps : List LinearPredictor) (sound : Sound) (size number : ℕ) (left r
 
     encoding : IsEncoding sound size number block form
     encoding =
-        let limits = limits_at sound.rate in
+        let limits = limits_at Subset sound.rate in
         let u = subst (λ z. HasSamples (sound.bits + side_bit code 0) z first f) first_long p.samples in
         let v = subst (λ z. HasSamples (sound.bits + side_bit code 1) z second g) second_long q.samples in
         let have : HaveSamples sound.bits code size 0 (f ∷ g ∷ []) (first ∷ second ∷ []) = (u, (v, tt)) in
@@ -343,7 +344,7 @@ only_1 code (inr (inr (inr e))) a b d = absurd (d e)
 
 -- what was kept makes a frame
 module _ {ps : List LinearPredictor} (sound : Sound) (number : ℕ) (left right : List ℤ) {code d e : ℕ} {first second : List ℤ} {f g : Form} (k : IsKept ps sound.bits left right code d e first second f g)
-    (orders : AreWithin (limits_at sound.rate).linear ps)
+    (orders : AreWithin (limits_at Subset sound.rate).linear ps)
     (depth : (1 ≤ sound.bits) × (sound.bits ≤ 32)) (some : 1 ≤ length left) (few : length left ≤ 65535) (long : length right ≡ length left)
     (left_fits : All (FitsBits sound.bits) left) (right_fits : All (FitsBits sound.bits) right) (h : Header) (chosen : chosen_header (length left) sound.rate code sound.bits number ≡ Some h) (valid : IsHeader h) where
   kept_encoded : (n : FrameForm) → n ≡ record { header = h; subframes = f ∷ g ∷ [] }
@@ -383,7 +384,7 @@ module _ {ps : List LinearPredictor} (sound : Sound) (number : ℕ) (left right 
       two_made (a ∷ b ∷ cs) x y h p q = (p, (q, tt))
 
 -- what was kept of two channels makes the frame of their block
-pub pair_choice : {ps : List LinearPredictor} (sound : Sound) (number n : ℕ) (left right : List ℤ) (block : List (List ℤ)) {code d e : ℕ} {first second : List ℤ} {f g : Form} → IsKept ps sound.bits left right code d e first second f g → IsSound sound → AreWithin (limits_at sound.rate).linear ps
+pub pair_choice : {ps : List LinearPredictor} (sound : Sound) (number n : ℕ) (left right : List ℤ) (block : List (List ℤ)) {code d e : ℕ} {first second : List ℤ} {f g : Form} → IsKept ps sound.bits left right code d e first second f g → IsSound sound → AreWithin (limits_at Subset sound.rate).linear ps
     → 1 ≤ n → n ≤ 65535 → length left ≡ n → length right ≡ length left → All (FitsBits sound.bits) left → All (FitsBits sound.bits) right → left ∷ right ∷ [] ≡ block → (rate bits : ℕ) (o : Option Header) → rate ≡ sound.rate → bits ≡ sound.bits
     → o ≡ chosen_header n rate code bits number → IfSome o IsHeader → number < 2 ^ 31 → (c : FrameChoice) (x y : Choice) (old : List Choice) → 2 ≤ length old → c.code ≡ code → c.subframes.items ≡ set (set old 0 x) 1 y → f ≡ form_with ps x first → g ≡ form_with ps y second
     → IsMadeWith ps x first → IsMadeWith ps y second → x.bits ≡ length (subframe_spelling d f) → y.bits ≡ length (subframe_spelling e g) → c.bits ≡ x.bits + y.bits → IsChoiceWith ps sound n number block c

@@ -5,6 +5,7 @@ use Rattle.std.specs.Int.{int_shr}
 use Rattle.std.proofs.lemmas.Bool.Decides.{nat_tests}
 use Rattle.std.proofs.lemmas.List.{ext_get_or}
 use Rattle.flac_header.specs.Header.{channels_of}
+use Rattle.flac_header.specs.declared.subset.Profile.TheVariants.{Subset}
 use Rattle.flac_subframe.specs.declared.limits.Limits.{Limits}
 use Rattle.flac_subframe.specs.declared.linear.LinearPredictor.{LinearPredictor}
 use Rattle.flac_subframe.specs.Laws.{InFamily, InWidened}
@@ -127,18 +128,18 @@ paired code n t e = go (nat_lt code 8) t e
     go false t e = sym e
 
 module _ (ps : List LinearPredictor) (sound : Sound) (size number : ℕ) (block : List (List ℤ)) (f : FrameForm) (e : IsEncoding sound size number block f) where
-  subframes_valid : AreSubframes sound.bits f.header.channel_code f.header.size (limits_at sound.rate) 0 f.subframes
+  subframes_valid : AreSubframes sound.bits f.header.channel_code f.header.size (limits_at Subset sound.rate) 0 f.subframes
   subframes_valid =
       let codes = coded_as size sound.rate e.code sound.bits number f.header e.header in
-      subst (λ z. AreSubframes sound.bits f.header.channel_code z (limits_at sound.rate) 0 f.subframes) (sym codes.1)
-      (subst (λ c. AreSubframes sound.bits c size (limits_at sound.rate) 0 f.subframes) (sym codes.0) e.subframes)
+      subst (λ z. AreSubframes sound.bits f.header.channel_code z (limits_at Subset sound.rate) 0 f.subframes) (sym codes.1)
+      (subst (λ c. AreSubframes sound.bits c size (limits_at Subset sound.rate) 0 f.subframes) (sym codes.0) e.subframes)
 
   -- the subframes have just what the channel code keeps of the block
   kept_is : kept_as f.header.channel_code block ≡ e.samples.kept
   kept_is =
       let code : ℕ = f.header.channel_code in
       let kept : List (List ℤ) = e.samples.kept in
-      let each = each_long ps sound.bits code f.header.size (limits_at sound.rate) (omega arith) 0 f.subframes kept subframes_valid e.samples.subframes in
+      let each = each_long ps sound.bits code f.header.size (limits_at Subset sound.rate) (omega arith) 0 f.subframes kept subframes_valid e.samples.subframes in
       by_test (nat_lt code 8)
       (λ t. let low : code ≤ 7 = grind (arith, nat_tests) in kept_same code block low ∙ sym e.samples.joined ∙ not_joined 1 code 1 low kept)
       (λ t. let over : 7 < code = grind (arith, nat_tests) in
@@ -146,7 +147,7 @@ module _ (ps : List LinearPredictor) (sound : Sound) (size number : ℕ) (block 
       pair_back code f.header.size kept block over (omega (arith, e.valid.channel_code)) (each.1 ∙ e.many ∙ two) two each.0 e.samples.joined)
 
   stand : EachInWidened ps f.subframes e.samples.kept → EachStands ps f.subframes e.samples.kept
-  stand family = each_stands ps sound.bits f.header.channel_code f.header.size (limits_at sound.rate) (omega arith) 0 f.subframes e.samples.kept subframes_valid e.samples.subframes family
+  stand family = each_stands ps sound.bits f.header.channel_code f.header.size (limits_at Subset sound.rate) (omega arith) 0 f.subframes e.samples.kept subframes_valid e.samples.subframes family
 
 pub frame_widened_plain : FrameWidenedIsPlain
 frame_widened_plain ps sound size number block f = (

@@ -1,7 +1,9 @@
 -- What a header that was accepted keeps.
 use Rattle.std.proofs.Common.{◌≡◌, ℕ, ◌≤◌, Bool, true, false, not, ◌&&◌, ◌||◌, nat_eq, nat_lt, nat_le, Option, Some, None, arith}
 use Rattle.std.proofs.lemmas.Bool.Decides.{nat_tests}
-use Rattle.flac_header.specs.Header.{Header, allowed, greatest_block}
+use Rattle.flac_header.specs.Header.{Header, allowed, greatest_block, greatest_in}
+use Rattle.flac_header.specs.declared.subset.Profile.{Profile}
+use Rattle.flac_header.specs.declared.subset.Profile.TheVariants.{Subset, Lax}
 use Rattle.flac_meta.specs.Info.{Info}
 use Rattle.flac_frame.specs.Frame.{differs, breaks_size}
 use Rattle.flac_frame.specs.declared.before.Before.{Before}
@@ -19,11 +21,12 @@ rates a b false d h = grind (arith, nat_tests)
 first_kept : (a b : ℕ) (c d : Bool) → (nat_lt a b || c || d) ≡ false → b ≤ a
 first_kept a b c d h = grind (arith, nat_tests)
 
-pub size_allowed : (info : Info) (h : Header) → allowed h ≡ true → differs info h ≡ false → h.size ≤ greatest_block info.rate
+pub size_allowed : (profile : Profile) (info : Info) (h : Header) → h.size ≤ 65535 → allowed profile h ≡ true → differs profile info h ≡ false → h.size ≤ greatest_in profile info.rate
 unfolding allowed
-size_allowed info h ok same =
+size_allowed Subset info h few ok same =
     let e : h.rate ≡ info.rate = rates h.rate info.rate _ _ same in
     rw (← e) (parts (not (nat_eq h.rate_code 0)) (not (nat_eq h.depth_code 0)) h.size (greatest_block h.rate) ok)
+size_allowed Lax info h few ok same = few
 
 pub size_small : (info : Info) (before : Option Before) (h : Header) → breaks_size info before h ≡ false → h.size ≤ info.greatest_block
 size_small info None h e = grind (arith, nat_tests)

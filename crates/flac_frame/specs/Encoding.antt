@@ -10,6 +10,7 @@ use Rattle.flac_meta.specs.Info.{Info}
 use Rattle.flac_header.specs.Header.{Header, IsHeader, channels_of, greatest_block, allowed}
 use Rattle.flac_header.specs.Choice.{chosen_header}
 use Rattle.flac_header.specs.Spelling.{restarted, header_spelling}
+use Rattle.flac_header.specs.declared.subset.Profile.TheVariants.{Subset}
 use Rattle.flac_subframe.specs.declared.limits.Limits.{Limits}
 use Rattle.flac_subframe.specs.declared.linear.LinearPredictor.{LinearPredictor}
 use Rattle.flac_subframe.specs.Chosen.{fixed_below, offered}
@@ -45,7 +46,7 @@ pub record IsEncoding (sound : Sound) (size number : ℕ) (block : List (List �
   pub valid : IsHeader f.header
   pub channels : channels_of f.header.channel_code ≡ length block
   pub many : length f.subframes ≡ length block
-  pub subframes : AreSubframes sound.bits code size (limits_at sound.rate) 0 f.subframes
+  pub subframes : AreSubframes sound.bits code size (limits_at Subset sound.rate) 0 f.subframes
   pub samples : FrameSamples sound.bits f block
 
 -- no form in the family takes fewer bits for the samples: constant, verbatim, or a fixed predictor of order 0 to 4 with either coding method, partition orders
@@ -129,9 +130,9 @@ pub record IsFrameOf (info : Info) (size number : ℕ) (block : List (List ℤ))
   pub fixed : f.header.variable ≡ false
   pub numbered : f.header.number ≡ number
   pub sized : f.header.size ≡ size
-  pub format : HasFormat info f.header
-  pub allowed : size ≤ greatest_block info.rate → allowed f.header ≡ true
-  pub frame : (before : Option Before) → AllKept (header_rules info before f.header) → IsFrame info before f × FrameSamples info.depth f block
+  pub format : HasFormat Subset info f.header
+  pub allowed : size ≤ greatest_block info.rate → allowed Subset f.header ≡ true
+  pub frame : (before : Option Before) → AllKept (header_rules Subset info before f.header) → IsFrame Subset info before f × FrameSamples info.depth f block
 
 abbrev pub EncodingsAreFrames : Type 0
 EncodingsAreFrames = (sound : Sound) (size number : ℕ) (block : List (List ℤ)) (f : FrameForm) (info : Info) → info.rate ≡ sound.rate → info.depth ≡ sound.bits → info.channels ≡ length block

@@ -4,6 +4,8 @@ use Rattle.flac_bits.specs.Layout.{Layout, Rule, done, bits, judge, refuse, mark
 use Rattle.flac_bits.specs.declared.why.Why.{Why}
 use Rattle.flac_bits.specs.declared.why.Why.TheVariants.{NotSubset, HeaderMismatch, Sequence, BlockSize, NonzeroPadding, FrameCheck, SampleRange}
 use Rattle.flac_header.specs.Header.{Header, header, allowed, channels_of, depth_of}
+use Rattle.flac_header.specs.declared.subset.Profile.{Profile}
+use Rattle.flac_header.specs.declared.subset.Profile.TheVariants.{Subset, Lax}
 use Rattle.flac_meta.specs.Info.{Info}
 use Rattle.flac_subframe.specs.declared.limits.Limits.{Limits}
 use Rattle.flac_subframe.specs.Numbers.{all_fit}
@@ -28,9 +30,21 @@ after before f = left_by before f.variable f.number f.size
 
 -- ---- what the end of a frame's header is judged by
 
+-- a code of 0 leaves the rate, or the depth, to STREAMINFO (sections 9.1.2 and 9.1.4), which the subset does not allow
+abbrev pub leaves_out : Profile → (code : ℕ) → Bool
+leaves_out Subset code = false
+leaves_out Lax code = nat_eq code 0
+
+-- the rate and the depth of a frame, by its header
+abbrev pub rate_in : Profile → Info → Header → ℕ
+rate_in profile info h = cond (leaves_out profile h.rate_code) info.rate h.rate
+
+abbrev pub depth_in : Profile → Info → Header → ℕ
+depth_in profile info h = cond (leaves_out profile h.depth_code) info.depth (depth_of h.depth_code)
+
 -- rate, channel count or depth is not what STREAMINFO says
-abbrev pub differs : Info → Header → Bool
-differs info h = not (nat_eq h.rate info.rate && nat_eq (channels_of h.channel_code) info.channels && nat_eq (depth_of h.depth_code) info.depth)
+abbrev pub differs : Profile → Info → Header → Bool
+differs profile info h = not (nat_eq (rate_in profile info h) info.rate && nat_eq (channels_of h.channel_code) info.channels && nat_eq (depth_in profile info h) info.depth)
 
 -- the blocking strategy changes, or the number does not follow on
 abbrev pub breaks_sequence : Option Before → Header → Bool
@@ -44,28 +58,29 @@ breaks_size info None h = nat_lt info.greatest_block h.size
 breaks_size info (Some b) h = nat_lt info.greatest_block h.size || nat_lt b.size info.least_block || (not h.variable && (not (nat_eq b.size b.first_size) || nat_lt b.first_size h.size))
 
 -- what the end of a header is judged by, in the order of rank
-abbrev pub header_rules : Info → Option Before → Header → List Rule
-header_rules info before h =
-    record { broken = not (allowed h); why = NotSubset } ∷
-    record { broken = differs info h; why = HeaderMismatch } ∷
+abbrev pub header_rules : Profile → Info → Option Before → Header → List Rule
+header_rules profile info before h =
+    record { broken = not (allowed profile h); why = NotSubset } ∷
+    record { broken = differs profile info h; why = HeaderMismatch } ∷
     record { broken = breaks_sequence before h; why = Sequence } ∷
     record { broken = breaks_size info before h; why = BlockSize } ∷ []
 
 -- a header in a stream
-unfoldable pub stream_header : Info → Option Before → Layout Header
-stream_header info before = do
+unfoldable pub stream_header : Profile → Info → Option Before → Layout Header
+stream_header profile info before = do
   h ← header
-  _ ← judge (header_rules info before h)
+  _ ← judge (header_rules profile info before h)
   done h
 
 -- ---- the subframes
 
--- what the subset allows of a subframe (section 7)
-abbrev pub limits_at : (rate : ℕ) → Limits
-limits_at rate = record { partition = 8; linear = cond (nat_le rate 48000) 12 32 }
+-- what a profile allows of a subframe: the subset (section 7), or all that the fields can say (sections 9.2.1 and 9.2.7)
+abbrev pub limits_at : Profile → (rate : ℕ) → Limits
+limits_at Subset rate = record { partition = 8; linear = cond (nat_le rate 48000) 12 32 }
+limits_at Lax rate = record { partition = 15; linear = 32 }
 
-abbrev pub limits_of : Info → Limits
-limits_of info = limits_at info.rate
+abbrev pub limits_of : Profile → Info → Limits
+limits_of profile info = limits_at profile info.rate
 
 -- the side channel has one bit more: the second of codes 8 and 10, the first of code 9 (section 9.2.3)
 unfoldable pub side_bit : ℕ → ℕ → ℕ
@@ -115,15 +130,15 @@ some_or why (Some x) = done x
 some_or why None = refuse why
 
 -- what follows a header: a subframe for each channel, the end, and the samples
-unfoldable pub frame_body : Info → Header → Layout Frame
-frame_body info h = do
-  samples ← subframes info.depth h.channel_code h.size (limits_of info) (Some []) 0 info.channels
+unfoldable pub frame_body : Profile → Info → Header → Layout Frame
+frame_body profile info h = do
+  samples ← subframes info.depth h.channel_code h.size (limits_of profile info) (Some []) 0 info.channels
   _ ← frame_end
   channels ← some_or SampleRange (in_range info.depth h.channel_code samples)
   done (record { variable = h.variable; number = h.number; size = h.size; channels = channels })
 
 -- a frame behind those before it
-unfoldable pub frame : Info → Option Before → Layout Frame
-frame info before = do
-  h ← stream_header info before
-  frame_body info h
+unfoldable pub frame : Profile → Info → Option Before → Layout Frame
+frame profile info before = do
+  h ← stream_header profile info before
+  frame_body profile info h

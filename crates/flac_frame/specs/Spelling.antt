@@ -8,6 +8,7 @@ use Rattle.flac_bits.specs.Check.{remainder}
 use Rattle.flac_meta.specs.Info.{Info, KeepsRules}
 use Rattle.flac_header.specs.Header.{Header, IsHeader}
 use Rattle.flac_header.specs.Spelling.{header_spelling}
+use Rattle.flac_header.specs.declared.subset.Profile.{Profile}
 use Rattle.flac_subframe.specs.declared.limits.Limits.{Limits}
 use Rattle.flac_subframe.specs.Subframe.{Form, samples_of}
 use Rattle.flac_subframe.specs.Spelling.{subframe_spelling, IsSubframe}
@@ -47,11 +48,11 @@ AreSubframes depth code block limits channel [] = ⊤
 AreSubframes depth code block limits channel (f ∷ fs) = IsSubframe (depth + side_bit code channel) block limits f × AreSubframes depth code block limits (channel + 1) fs
 
 -- A frame in a stream, behind what the frames before leave.
-pub record IsFrame (info : Info) (before : Option Before) (f : FrameForm) : Type 0 where
+pub record IsFrame (profile : Profile) (info : Info) (before : Option Before) (f : FrameForm) : Type 0 where
   pub header : IsHeader f.header
-  pub follows : AllKept (header_rules info before f.header)
+  pub follows : AllKept (header_rules profile info before f.header)
   pub many : length f.subframes ≡ info.channels
-  pub subframes : AreSubframes info.depth f.header.channel_code f.header.size (limits_of info) 0 f.subframes
+  pub subframes : AreSubframes info.depth f.header.channel_code f.header.size (limits_of profile info) 0 f.subframes
 
 -- ---- its samples
 
@@ -76,23 +77,23 @@ frame_with h channels = record { variable = h.variable; number = h.number; size 
 -- ---- the laws
 
 -- a frame, and a form of it that is spelled so
-pub record IsSpelled (info : Info) (before : Option Before) (x : Frame) (text : List Bool) : Type 0 where
+pub record IsSpelled (profile : Profile) (info : Info) (before : Option Before) (x : Frame) (text : List Bool) : Type 0 where
   pub form : FrameForm
-  pub valid : IsFrame info before form
+  pub valid : IsFrame profile info before form
   pub spelling : text ≡ frame_spelling info.depth form
   pub frame : x ≡ frame_with form.header x.channels
   pub samples : FrameSamples info.depth form x.channels
 
 -- At a whole byte where the checks begin, bits spell just the frames of which they are the spelling of a form.
 abbrev pub FramesAreSpelled : Type 0
-FramesAreSpelled = (info : Info) (before : Option Before) (m : Mark) (text : List Bool) (x : Frame) → KeepsRules info → m.unread ≡ 0 → m.check8 ≡ 0 → m.check16 ≡ 0
-    → Spells (frame info before) m text x ↔ IsSpelled info before x text
+FramesAreSpelled = (profile : Profile) (info : Info) (before : Option Before) (m : Mark) (text : List Bool) (x : Frame) → KeepsRules info → m.unread ≡ 0 → m.check8 ≡ 0 → m.check16 ≡ 0
+    → Spells (frame profile info before) m text x ↔ IsSpelled profile info before x text
 
 -- a form that is spelled is read as its frame, whatever follows
 abbrev pub FramesAreReadAgain : Type 0
-FramesAreReadAgain = (info : Info) (before : Option Before) (m : Mark) (rest : List Bool) (f : FrameForm) (channels : List (List ℤ)) → KeepsRules info → m.unread ≡ 0 → m.check8 ≡ 0 → m.check16 ≡ 0
-    → IsFrame info before f → FrameSamples info.depth f channels
-    → run (frame info before) (record { left = frame_spelling info.depth f ++ rest; mark = m }) ≡ Ok (frame_with f.header channels, record { left = rest; mark = past (frame_spelling info.depth f) m })
+FramesAreReadAgain = (profile : Profile) (info : Info) (before : Option Before) (m : Mark) (rest : List Bool) (f : FrameForm) (channels : List (List ℤ)) → KeepsRules info → m.unread ≡ 0 → m.check8 ≡ 0 → m.check16 ≡ 0
+    → IsFrame profile info before f → FrameSamples info.depth f channels
+    → run (frame profile info before) (record { left = frame_spelling info.depth f ++ rest; mark = m }) ≡ Ok (frame_with f.header channels, record { left = rest; mark = past (frame_spelling info.depth f) m })
 
 -- a spelling is whole bytes
 abbrev pub FramesAreBytes : Type 0

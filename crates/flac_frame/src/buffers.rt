@@ -3,7 +3,7 @@
 ghost use Rattle.std.specs.Prelude.{◌≡◌, ◌≢◌, ◌≤◌, ◌<◌, ◌+◌, ◌*◌, length, min, Some, None, Err, OnOk, OnErr, IfOk, IfErr, ⊤, []};
 ghost use Rattle.flac_bits.specs.Reading.{Counts, Reads, Means};
 ghost use Rattle.flac_bits.specs.State.{started};
-ghost use Rattle.flac_header.specs.Header.{greatest_block};
+ghost use Rattle.flac_header.specs.Header.{greatest_in};
 ghost use Rattle.flac_frame.specs.Frame.{frame, after};
 ghost use Rattle.flac_frame.specs.Kept.{nothing, Leaves};
 ghost use Rattle.flac_frame.specs.Lent.{frame_of};
@@ -98,7 +98,7 @@ impl FrameBuffers {
     /// should be at a whole byte: there the checks begin anew. The frame must agree with STREAMINFO and follow the
     /// frames before.
     ///
-    /// The buffers must have room for the channels of STREAMINFO, and for its largest block size or the subset's,
+    /// The buffers must have room for the channels of STREAMINFO, and for its largest block size or the profile's,
     /// whichever is smaller.
     ///
     /// # Errors
@@ -106,7 +106,7 @@ impl FrameBuffers {
     /// before.
     ///
     /// - Those of [`flac_header::read_header`].
-    /// - [`Why::NotSubset`] if a field is outside the streamable subset (section 7).
+    /// - [`Why::NotSubset`] if the profile is [`Profile::Subset`] and a field is outside the streamable subset (section 7).
     /// - [`Why::HeaderMismatch`] if the rate, the number of channels or the depth is not that of STREAMINFO.
     /// - [`Why::Sequence`] if the number does not follow the frame before, or the blocking strategy changes.
     /// - [`Why::BlockSize`] if the block size does not fit STREAMINFO or the blocks before it.
@@ -122,15 +122,15 @@ impl FrameBuffers {
         profile: Profile,
     ) -> Result<(), Why>
         requires channels { info.now.channels ≤ self.old.channels }
-        requires block { min info.now.greatest_block (greatest_block info.now.rate) ≤ self.old.max_block }
+        requires block { min info.now.greatest_block (greatest_in profile info.now.rate) ≤ self.old.max_block }
         ensures room { (self.new.channels ≡ self.old.channels) × (self.new.max_block ≡ self.old.max_block) }
         ensures before { OnOk result (self.new.before ≡ Some (after self.old.before self.new.held)) }
         ensures refused { OnErr result ((self.new.before ≡ self.old.before) × (self.new.held ≡ nothing)) }
         ensures spends { OnOk result (bits.new.most + 40 ≤ bits.old.most) }
         ensures counts { Counts bits.old bits.new result }
         ensures memory { IfErr result (λ e. e ≢ Why.Memory) }
-        ensures reads { Reads (λ _. self.new.held) (frame info.now self.old.before) (started bits.old) bits.new result }
-        ensures means { Means (λ _. self.new.held) (frame info.now self.old.before) (started bits.old) bits.new result }
+        ensures reads { Reads (λ _. self.new.held) (frame profile info.now self.old.before) (started bits.old) bits.new result }
+        ensures means { Means (λ _. self.new.held) (frame profile info.now self.old.before) (started bits.old) bits.new result }
     {
         self.read_in(bits, info, profile)
     }
@@ -143,14 +143,14 @@ impl FrameBuffers {
         profile: Profile,
     ) -> Result<(), Why>
         requires channels { info.now.channels ≤ self.old.channels }
-        requires block { min info.now.greatest_block (greatest_block info.now.rate) ≤ self.old.max_block }
+        requires block { min info.now.greatest_block (greatest_in profile info.now.rate) ≤ self.old.max_block }
         ensures room { (self.new.channels ≡ self.old.channels) × (self.new.max_block ≡ self.old.max_block) }
         ensures before { OnOk result (self.new.before ≡ Some (after self.old.before self.new.held)) }
         ensures refused { OnErr result ((self.new.before ≡ self.old.before) × (self.new.held ≡ nothing)) }
         ensures spends { OnOk result (bits.new.most + 40 ≤ bits.old.most) }
         ensures counts { Counts bits.old bits.new result }
         ensures memory { IfErr result (λ e. e ≢ Why.Memory) }
-        ensures reads { Reads (λ _. self.new.held) (frame info.now self.old.before) (started bits.old) bits.new result }
+        ensures reads { Reads (λ _. self.new.held) (frame profile info.now self.old.before) (started bits.old) bits.new result }
     {
         self.variable = false;
         self.number = 0;
@@ -197,12 +197,12 @@ impl FrameBuffers {
         profile: Profile,
     ) -> Result<FrameView<'_>, Why>
         requires channels { info.now.channels ≤ self.old.channels }
-        requires block { min info.now.greatest_block (greatest_block info.now.rate) ≤ self.old.max_block }
+        requires block { min info.now.greatest_block (greatest_in profile info.now.rate) ≤ self.old.max_block }
         ensures spends { OnOk result (bits.new.most + 40 ≤ bits.old.most) }
         ensures counts { Counts bits.old bits.new result }
         ensures memory { IfErr result (λ e. e ≢ Why.Memory) }
-        ensures reads { Reads frame_of (frame info.now self.old.before) (started bits.old) bits.new result }
-        ensures means { Means frame_of (frame info.now self.old.before) (started bits.old) bits.new result }
+        ensures reads { Reads frame_of (frame profile info.now self.old.before) (started bits.old) bits.new result }
+        ensures means { Means frame_of (frame profile info.now self.old.before) (started bits.old) bits.new result }
         ensures* after { sem 𝓛 (follows_so the_row the_row self.entry.ghost_name none (λ _ _. ⊤) (λ last. Leaves self.old last frame_of result)) }
     {
         self.fill(bits, info, profile)?;

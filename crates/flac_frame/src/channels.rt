@@ -8,16 +8,24 @@ ghost use Rattle.flac_frame.specs.Frame.{limits_of, side_bit, subframes};
 ghost use Rattle.flac_frame.specs.View.{chunks};
 
 use flac_bits::{BitReader, Source, Why};
+use flac_header::Profile;
 use flac_meta::StreamInfo;
 use flac_subframe::{Limits, read_subframe};
 
-/// What the streamable subset allows of a subframe.
-pub(crate) fn limits_of(info: &StreamInfo) -> Limits
-    ensures limits { result ≡ limits_of info.now }
+/// What the profile allows of a subframe.
+pub(crate) fn limits_of(info: &StreamInfo, profile: Profile) -> Limits
+    ensures limits { result ≡ limits_of profile info.now }
+    ensures small { (result.partition ≤ 15) × (result.linear ≤ 32) }
 {
-    Limits {
-        partition: 8,
-        linear: if info.rate() <= 48000 { 12 } else { 32 },
+    match profile {
+        Profile::Subset => Limits {
+            partition: 8,
+            linear: if info.rate() <= 48000 { 12 } else { 32 },
+        },
+        Profile::Lax => Limits {
+            partition: 15,
+            linear: 32,
+        },
     }
 }
 

@@ -4,6 +4,7 @@ ghost use Rattle.std.specs.Prelude.{◌≡◌, ◌≤◌, ◌<◌, ◌+◌, ◌-
 ghost use Rattle.flac_bits.specs.Signed.{FitsBits};
 ghost use Rattle.flac_bits.specs.Written.{Writes};
 ghost use Rattle.flac_header.specs.Spelling.{restarted};
+ghost use Rattle.flac_header.specs.declared.subset.Profile.TheVariants.{Subset};
 ghost use Rattle.flac_subframe.specs.Spelling.{subframe_spelling};
 ghost use Rattle.flac_frame.specs.Audio.{samples_each};
 ghost use Rattle.flac_subframe.specs.Handed.{AreWithin};
@@ -167,7 +168,7 @@ fn choose_apart(
     requires folds { length samples.old ≤ length folds.old }
     requires choices { length audio.now.channels ≤ length choice.old.subframes.items }
     requires number { number < 2 ^ 31 }
-    requires orders { AreWithin (limits_at audio.now.rate).linear predictors.now }
+    requires orders { AreWithin (limits_at Subset audio.now.rate).linear predictors.now }
     ensures chosen { IsChoiceWith predictors.now audio.now (length samples.old) number (block_of start (length samples.old) audio.now.channels) choice.new }
     ensures places { length choice.new.subframes.items ≡ length choice.old.subframes.items }
 {
@@ -217,7 +218,7 @@ fn choose_first(
     requires folds { size ≤ length folds.old }
     requires choices { length audio.now.channels ≤ length choice.old.subframes.items }
     requires number { number < 2 ^ 31 }
-    requires orders { AreWithin (limits_at audio.now.rate).linear predictors.now }
+    requires orders { AreWithin (limits_at Subset audio.now.rate).linear predictors.now }
     ensures chosen { IsChoiceWith predictors.now audio.now size number (block_of start size audio.now.channels) choice.new }
     ensures places { length choice.new.subframes.items ≡ length choice.old.subframes.items }
 {
@@ -517,7 +518,7 @@ pub fn encode_frame_with<W: Target>(
     requires within { range.end ≤ samples_each audio.now.channels }
     requires room { range.end - range.start ≤ buffers.old }
     requires number { number < 2 ^ 31 }
-    requires orders { AreWithin (limits_at audio.now.rate).linear predictors.now }
+    requires orders { AreWithin (limits_at Subset audio.now.rate).linear predictors.now }
     requires whole { writer.old.mark.unread ≡ 0 }
     ensures kept { buffers.new ≡ buffers.old }
     ensures wrote { WritesFrameWith predictors.now audio.now (range.end - range.start) number (block_of range.start (range.end - range.start) audio.now.channels) writer.old writer.new result }

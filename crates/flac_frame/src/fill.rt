@@ -4,7 +4,7 @@ ghost use Rattle.std.specs.Prelude.{◌≡◌, ◌≢◌, ◌≤◌, ◌<◌, �
 ghost use Rattle.flac_bits.specs.Reading.{Counts, Reads};
 ghost use Rattle.flac_frame.specs.Frame.{frame_body, frame};
 ghost use Rattle.flac_bits.specs.State.{started};
-ghost use Rattle.flac_header.specs.Header.{greatest_block, channels_of};
+ghost use Rattle.flac_header.specs.Header.{greatest_in, channels_of};
 ghost use Rattle.flac_frame.specs.View.{frame_in};
 
 use crate::before::Before;
@@ -21,6 +21,7 @@ use flac_meta::StreamInfo;
 fn read_body<R: Source>(
     bits: &mut BitReader<R>,
     info: &StreamInfo,
+    profile: Profile,
     header: &FrameHeader,
     wide: &mut [i64],
     out: &mut [i32],
@@ -31,12 +32,12 @@ fn read_body<R: Source>(
     ensures spends { OnOk result (bits.new.most ≤ bits.old.most) }
     ensures counts { Counts bits.old bits.new result }
     ensures memory { IfErr result (λ e. e ≢ Why.Memory) }
-    ensures reads { Reads (λ _. frame_in info.now.channels header.now out.new) (frame_body info.now header.now) bits.old bits.new result }
+    ensures reads { Reads (λ _. frame_in info.now.channels header.now out.new) (frame_body profile info.now header.now) bits.old bits.new result }
 {
     let channels = info.channels() as usize;
     let depth = info.depth() as u32;
     let block = header.size();
-    let limits = limits_of(info);
+    let limits = limits_of(info, profile);
     let fits = read_subframes(
         bits,
         depth,
@@ -72,16 +73,23 @@ pub(crate) fn read_into<R: Source>(
     wide: &mut [i64],
     out: &mut [i32],
 ) -> Result<FrameHeader, Why>
-    requires wide { info.now.channels * min info.now.greatest_block (greatest_block info.now.rate) ≤ length wide.old }
+    requires wide { info.now.channels * min info.now.greatest_block (greatest_in profile info.now.rate) ≤ length wide.old }
     requires out { length out.old ≡ length wide.old }
-    ensures size { IfOk result (λ h. h.size ≤ min info.now.greatest_block (greatest_block info.now.rate)) }
+    ensures size { IfOk result (λ h. h.size ≤ min info.now.greatest_block (greatest_in profile info.now.rate)) }
     ensures spends { OnOk result (bits.new.most + 40 ≤ bits.old.most) }
     ensures counts { Counts bits.old bits.new result }
     ensures memory { IfErr result (λ e. e ≢ Why.Memory) }
-    ensures reads { Reads (λ h. frame_in info.now.channels h (take (info.now.channels * h.size) out.new)) (frame info.now before.now) (started bits.old) bits.new result }
+    ensures reads { Reads (λ h. frame_in info.now.channels h (take (info.now.channels * h.size) out.new)) (frame profile info.now before.now) (started bits.old) bits.new result }
 {
     let header = read_start(bits, info, profile, before)?;
     let places = info.channels() as usize * header.size() as usize;
-    read_body(bits, info, &header, &mut wide[..places], &mut out[..places])?;
+    read_body(
+        bits,
+        info,
+        profile,
+        &header,
+        &mut wide[..places],
+        &mut out[..places],
+    )?;
     Ok(header)
 }

@@ -5,6 +5,7 @@ ghost use Rattle.std.specs.Int.{int_shr};
 ghost use Rattle.flac_bits.specs.Signed.{FitsBits};
 ghost use Rattle.flac_bits.specs.Written.{Writes};
 ghost use Rattle.flac_header.specs.Spelling.{restarted};
+ghost use Rattle.flac_header.specs.declared.subset.Profile.TheVariants.{Subset};
 ghost use Rattle.flac_subframe.specs.Family.{IsMadeWith, form_with};
 ghost use Rattle.flac_subframe.specs.Handed.{AreWithin};
 ghost use Rattle.flac_subframe.specs.Spelling.{subframe_spelling};
@@ -239,7 +240,7 @@ pub(crate) fn choose_pair(
     requires folds { length left.old ≤ length folds.old }
     requires choices { 2 ≤ length choice.old.subframes.items }
     requires number { number < 2 ^ 31 }
-    requires orders { AreWithin (limits_at audio.now.rate).linear predictors.now }
+    requires orders { AreWithin (limits_at Subset audio.now.rate).linear predictors.now }
     ensures chosen { IsChoiceWith predictors.now audio.now (length left.old) number (block_of start (length left.old) audio.now.channels) choice.new }
     ensures places { length choice.new.subframes.items ≡ length choice.old.subframes.items }
 {

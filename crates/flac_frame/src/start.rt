@@ -1,23 +1,56 @@
 //! Reads the header of a frame of a stream.
 
-ghost use Rattle.std.specs.Prelude.{◌≡◌, ◌≢◌, ◌≤◌, ◌<◌, ◌+◌, ◌^◌, IfOk, OnOk, IfErr};
+ghost use Rattle.std.specs.Prelude.{◌≡◌, ◌≢◌, ◌≤◌, ◌<◌, ◌+◌, ◌^◌, nat_eq, IfOk, OnOk, IfErr};
 ghost use Rattle.flac_bits.specs.Reading.{Counts, Reads};
 ghost use Rattle.flac_bits.specs.State.{started};
-ghost use Rattle.flac_header.specs.Header.{channels_of, greatest_block, IsHeader};
-ghost use Rattle.flac_frame.specs.Frame.{differs, breaks_sequence, breaks_size, stream_header};
+ghost use Rattle.flac_header.specs.Header.{allowed, channels_of, greatest_in, IsHeader};
+ghost use Rattle.flac_frame.specs.Frame.{differs, rate_in, depth_in, breaks_sequence, breaks_size, stream_header};
 
 use crate::before::Before;
 use flac_bits::{BitReader, Source, Why};
 use flac_header::{FrameHeader, Profile, read_header, subset_allows};
 use flac_meta::StreamInfo;
 
-/// Whether the rate, the number of channels or the depth is not that of STREAMINFO.
-fn differs(info: &StreamInfo, header: &FrameHeader) -> bool
-    ensures { result ≡ differs info.now header.now }
+/// Whether the profile allows the header.
+#[tactic(auto, unfolding(flac_header::specs::Header::allowed))]
+fn allows(profile: Profile, header: &FrameHeader) -> bool
+    ensures { result ≡ allowed profile header.now }
 {
-    !(header.rate() == info.rate()
+    match profile {
+        Profile::Subset => subset_allows(header),
+        Profile::Lax => true,
+    }
+}
+
+/// Whether the rate is that of STREAMINFO; a code of 0 leaves it to STREAMINFO (RFC 9639, section 9.1.2).
+fn has_rate(info: &StreamInfo, profile: Profile, header: &FrameHeader) -> bool
+    ensures { result ≡ nat_eq (rate_in profile info.now header.now) info.now.rate }
+{
+    let left_out = match profile {
+        Profile::Subset => false,
+        Profile::Lax => !header.states_rate(),
+    };
+    left_out || header.rate() == info.rate()
+}
+
+/// Whether the depth is that of STREAMINFO; a code of 0 leaves it to STREAMINFO (RFC 9639, section 9.1.4).
+fn has_depth(info: &StreamInfo, profile: Profile, header: &FrameHeader) -> bool
+    ensures { result ≡ nat_eq (depth_in profile info.now header.now) info.now.depth }
+{
+    let left_out = match profile {
+        Profile::Subset => false,
+        Profile::Lax => !header.states_depth(),
+    };
+    left_out || header.depth() == info.depth() as u32
+}
+
+/// Whether the rate, the number of channels or the depth is not that of STREAMINFO.
+fn differs(info: &StreamInfo, profile: Profile, header: &FrameHeader) -> bool
+    ensures { result ≡ differs profile info.now header.now }
+{
+    !(has_rate(info, profile, header)
         && header.channels() == info.channels() as u32
-        && header.depth() == info.depth() as u32)
+        && has_depth(info, profile, header))
 }
 
 /// Whether the blocking strategy changes, or the number does not follow.
@@ -32,7 +65,8 @@ fn breaks_sequence(before: &Option<Before>, header: &FrameHeader) -> bool
 
 /// Whether the block is too long, or the one before was too short.
 fn breaks_size(info: &StreamInfo, before: &Option<Before>, header: &FrameHeader) -> bool
-    ensures { result ≡ breaks_size info.now before.now header.now }
+    ensures breaks { result ≡ breaks_size info.now before.now header.now }
+    ensures small { header.now.size ≤ 65535 }
 {
     let size = header.size();
     let too_long = size > info.greatest_block() as u32;
@@ -58,20 +92,17 @@ pub(crate) fn read_start<R: Source>(
     ensures number { IfOk result (λ h. h.number < 2 ^ 36) }
     ensures code { IfOk result (λ h. h.channel_code < 11) }
     ensures channels { IfOk result (λ h. channels_of h.channel_code ≡ info.now.channels) }
-    ensures size { IfOk result (λ h. (h.size ≤ info.now.greatest_block) × (h.size ≤ greatest_block info.now.rate)) }
+    ensures size { IfOk result (λ h. (h.size ≤ info.now.greatest_block) × (h.size ≤ greatest_in profile info.now.rate)) }
     ensures spends { OnOk result (bits.new.most + 40 ≤ bits.old.most) }
     ensures counts { Counts bits.old bits.new result }
     ensures memory { IfErr result (λ e. e ≢ Why.Memory) }
-    ensures reads { Reads (λ h. h) (stream_header info.now before.now) (started bits.old) bits.new result }
+    ensures reads { Reads (λ h. h) (stream_header profile info.now before.now) (started bits.old) bits.new result }
 {
     let header = read_header(bits)?;
-    let allowed = match profile {
-        Profile::Subset => subset_allows(&header),
-    };
-    if !allowed {
+    if !allows(profile, &header) {
         return Err(Why::NotSubset);
     }
-    if differs(info, &header) {
+    if differs(info, profile, &header) {
         return Err(Why::HeaderMismatch);
     }
     if breaks_sequence(before, &header) {

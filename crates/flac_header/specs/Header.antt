@@ -1,10 +1,12 @@
 -- The header of a frame (RFC 9639, section 9.1).
-use Rattle.std.specs.Prelude.{◌≡◌, ℕ, ◌+◌, ◌*◌, ◌%◌, ◌^◌, ◌<◌, ◌≤◌, ◌&&◌, Bool, false, not, [], ◌∷◌, nat_eq, nat_lt, nat_le, cond, ⊤}
+use Rattle.std.specs.Prelude.{◌≡◌, ℕ, ◌+◌, ◌*◌, ◌%◌, ◌^◌, ◌<◌, ◌≤◌, ◌&&◌, Bool, true, false, not, [], ◌∷◌, nat_eq, nat_lt, nat_le, cond, ⊤}
 use Rattle.flac_bits.specs.Layout.{Layout, done, bits, judge, check8, ◌>>=◌, choose}
 use Rattle.flac_bits.specs.Number.{number}
 use Rattle.flac_bits.specs.Coded.{IsNumber}
 use Rattle.flac_bits.specs.declared.why.Why.{Why}
 use Rattle.flac_bits.specs.declared.why.Why.TheVariants.{BadSync, ReservedCode, HeaderCheck}
+use Rattle.flac_header.specs.declared.subset.Profile.{Profile}
+use Rattle.flac_header.specs.declared.subset.Profile.TheVariants.{Subset, Lax}
 
 -- Whether the frames are numbered by their first samples, the codes that were chosen, and what they say: the block size in
 -- samples a channel, and the rate in Hz, 0 where STREAMINFO tells it.
@@ -134,9 +136,16 @@ pub record IsHeader (h : Header) : Type 0 where
   pub no_depth : nat_eq h.depth_code 3 ≡ false
   pub number : IsNumber (number_bits h.variable) h.number
 
--- the streamable subset (section 7): rate and depth stand in the header, and blocks are not too long for their rate
+-- the longest block of the streamable subset at a rate (section 7)
 abbrev pub greatest_block : ℕ → ℕ
 greatest_block rate = cond (nat_le rate 48000) 4608 16384
 
-unfoldable pub allowed : Header → Bool
-allowed h = not (nat_eq h.rate_code 0) && not (nat_eq h.depth_code 0) && nat_le h.size (greatest_block h.rate)
+-- the longest block that a profile allows at a rate: without the subset's rules as long as a header can say (section 9.1.1)
+abbrev pub greatest_in : Profile → ℕ → ℕ
+greatest_in Subset rate = greatest_block rate
+greatest_in Lax rate = 65535
+
+-- The streamable subset (section 7): rate and depth stand in the header, and blocks are not too long for their rate. Without its rules each header is allowed.
+unfoldable pub allowed : Profile → Header → Bool
+allowed Subset h = not (nat_eq h.rate_code 0) && not (nat_eq h.depth_code 0) && nat_le h.size (greatest_block h.rate)
+allowed Lax h = true

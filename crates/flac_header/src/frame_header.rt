@@ -1,6 +1,6 @@
 //! Frame headers.
 
-ghost use Rattle.std.specs.Prelude.{◌≡◌, ◌≤◌, ◌<◌, ◌^◌};
+ghost use Rattle.std.specs.Prelude.{◌≡◌, ◌≤◌, ◌<◌, ◌^◌, not, nat_eq};
 ghost use Rattle.flac_header.specs.Header.{channels_of, depth_of};
 
 use std::marker::Model;
@@ -57,6 +57,15 @@ impl FrameHeader {
         self.rate
     }
 
+    /// Whether the header states the sample rate. If not, its rate code is 0, and the rate is that of STREAMINFO (section
+    /// 9.1.2).
+    pub fn states_rate(&self) -> bool
+        ensures { result ≡ not (nat_eq self.now.rate_code 0) }
+    {
+        let code = self.rate_code;
+        code != 0
+    }
+
     /// How many channels there are, 1 to 8 (section 9.1.3).
     pub fn channels(&self) -> u32
         ensures channels { result ≡ channels_of self.now.channel_code }
@@ -92,6 +101,15 @@ impl FrameHeader {
             7 => 32,
             _ => 0,
         }
+    }
+
+    /// Whether the header states the bits per sample. If not, its depth code is 0, and the depth is that of STREAMINFO
+    /// (section 9.1.4).
+    pub fn states_depth(&self) -> bool
+        ensures { result ≡ not (nat_eq self.now.depth_code 0) }
+    {
+        let code = self.depth_code;
+        code > 0
     }
 
     /// The number of the frame or of its first sample, below 2^36 (section 9.1.5): see [`FrameHeader::variable`].

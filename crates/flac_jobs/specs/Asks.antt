@@ -1,11 +1,11 @@
 -- What a job asks for.
-use Rattle.std.specs.Prelude.{ℕ, List, Option, Some, None}
+use Rattle.std.specs.Prelude.{ℕ, Bool, false, List, Option, Some, None}
 use Rattle.flac_jobs.specs.declared.jobs.Job.{Job}
 use Rattle.flac_jobs.specs.declared.jobs.Job.TheVariants as job
 
 -- the job is a decoding
 abbrev pub AsksDecode : Job → Type 0
-AsksDecode (job.Decode input output) = Unit {0}
+AsksDecode (job.Decode input output lax) = Unit {0}
 AsksDecode other = ⊥
 
 -- the job reads a whole stream
@@ -14,17 +14,24 @@ AsksStream (job.Encode input output format container comments) = ⊥
 AsksStream (job.Retag input output comments) = ⊥
 AsksStream other = Unit {0}
 
+-- the job accepts streams outside the streamable subset too
+abbrev pub asks_lax : Job → Bool
+asks_lax (job.Test input lax) = lax
+asks_lax (job.Decode input output lax) = lax
+asks_lax (job.List input lax) = lax
+asks_lax other = false
+
 -- the path of the file that is read
 abbrev pub input_of : Job → List ℕ
-input_of (job.Test input) = input.now
-input_of (job.Decode input output) = input.now
-input_of (job.List input) = input.now
+input_of (job.Test input lax) = input.now
+input_of (job.Decode input output lax) = input.now
+input_of (job.List input lax) = input.now
 input_of (job.Encode input output format container comments) = input.now
 input_of (job.Retag input output comments) = input.now
 
 -- the path of the file that is written, if there is one
 abbrev pub output_of : Job → Option (List ℕ)
-output_of (job.Decode input output) = Some output.now
+output_of (job.Decode input output lax) = Some output.now
 output_of (job.Encode input output format container comments) = Some output.now
 output_of (job.Retag input output comments) = Some output.now
 output_of other = None

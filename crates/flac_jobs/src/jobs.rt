@@ -8,21 +8,24 @@ use crate::formats::{Container, Format};
 /// What the program is asked for: one variant for each command, with what was given on the command line.
 ///
 /// `input` is the path of the file that is read, `output` that of the file that is written. A comment is a text
-/// `NAME=VALUE`.
+/// `NAME=VALUE`. With `lax` streams outside the streamable subset (RFC 9639, section 7) are accepted too.
 #[derive(Debug, Drop, PartialEq, Eq)]
 pub enum Job<'a> {
     /// Decodes a stream, and prints how many frames and samples it has.
     Test {
         input: &'a str,
+        lax: bool,
     },
     /// Decodes a stream, and writes its samples.
     Decode {
         input: &'a str,
         output: &'a str,
+        lax: bool,
     },
     /// Decodes a stream, and lists its metadata.
     List {
         input: &'a str,
+        lax: bool,
     },
     /// Encodes raw samples of this format to a native or an Ogg stream with these comments.
     Encode {
@@ -46,7 +49,7 @@ impl<'a> Job<'a> {
         ensures { result.now ≡ input_of self.now }
     {
         match self {
-            Job::Test { input } | Job::List { input } => input,
+            Job::Test { input, .. } | Job::List { input, .. } => input,
             Job::Decode { input, .. } | Job::Encode { input, .. } => input,
             Job::Retag { input, .. } => input,
         }

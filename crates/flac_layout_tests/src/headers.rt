@@ -54,6 +54,25 @@ fn variable_blocks(rt: HostRuntime) -> Result<(), Fail> {
     Ok(())
 }
 
+/// Whether a header states rate and depth.
+fn states(bytes: &[u8]) -> Result<(bool, bool), Why> {
+    let header = read(bytes)?;
+    Ok((header.states_rate(), header.states_depth()))
+}
+
+#[test]
+fn rate_and_depth_left_out(rt: HostRuntime) -> Result<(), Fail> {
+    let neither = [0xFF, 0xF8, 0x60, 0x00, 0x00, 0x0F, 0xC7];
+    let both = [0xFF, 0xF8, 0x69, 0x08, 0x00, 0x0F, 0x30];
+    let rate = [0xFF, 0xF8, 0x69, 0x00, 0x00, 0x0F, 0x61];
+    let field_of_0 = [0xFF, 0xF8, 0x6C, 0x08, 0x00, 0x0F, 0x00, 0x7D];
+    assert!(rt; states(&neither) == Ok((false, false)));
+    assert!(rt; states(&both) == Ok((true, true)));
+    assert!(rt; states(&rate) == Ok((true, false)));
+    assert!(rt; states(&field_of_0) == Ok((true, true)));
+    Ok(())
+}
+
 /// Why bytes are refused, in text.
 fn refusal(alloc: Global, words: &str) -> Result<String, Fail> {
     match read(&bytes_of(alloc, words)?) {

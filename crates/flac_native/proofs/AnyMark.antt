@@ -6,6 +6,7 @@ use Rattle.flac_bits.specs.Fence.{InRoom}
 use Rattle.flac_bits.specs.Items.{Joined, Stream}
 use Rattle.flac_bits.proofs.ItemSpellings.{fresh_unread, fresh_check8, fresh_check16, behind_whole}
 use Rattle.flac_meta.proofs.Blocks.{blocks_spelled}
+use Rattle.flac_header.specs.declared.subset.Profile.{Profile}
 use Rattle.flac_frame.proofs.FrameTie.{frames_spelled}
 use Rattle.flac_native.specs.Stream.{Piece, Stand, Progress, grammar, opening, next, layout, layout_in, marker, room_in}
 use Rattle.flac_native.specs.declared.phase.Phase.{Phase}
@@ -32,8 +33,8 @@ part_any s m k text x told u z h = go s.phase refl
     go Frames e =
         let t = frame_there s (fresh m) text x e h in
         let rules = told t.info t.told in
-        let here = (frames_spelled t.info s.before (fresh m) text t.is rules (fresh_unread m u) (fresh_check8 m u) (fresh_check16 m u)).0 t.spelled in
-        let there = (frames_spelled t.info s.before (fresh k) text t.is rules (fresh_unread k z) (fresh_check8 k z) (fresh_check16 k z)).1 here in
+        let here = (frames_spelled s.profile t.info s.before (fresh m) text t.is rules (fresh_unread m u) (fresh_check8 m u) (fresh_check16 m u)).0 t.spelled in
+        let there = (frames_spelled s.profile t.info s.before (fresh k) text t.is rules (fresh_unread k z) (fresh_check8 k z) (fresh_check16 k z)).1 here in
         subst (λ y. Spells (layout s) (fresh k) text y) (sym t.part) (as_part s t.info (fresh k) text t.is e t.told there)
 
 room_any : (phase : Phase) (m k : Mark) (text : List Bool) → m.unread ≡ 0 → k.unread ≡ 0 → InRoom (room_in phase) m text → InRoom (room_in phase) k text
@@ -50,5 +51,5 @@ any_mark p m k (x ∷ xs) text told u z (front, rest, split, spelled, fits, othe
     let more = any_mark (next p x) (past front (fresh m)) (past front (fresh k)) xs rest s.rules (behind_whole front (fresh m) (fresh_unread m u) s.whole) (behind_whole front (fresh k) (fresh_unread k z) s.whole) others in
     (front, rest, split, part_any p.stand m k front x told u z spelled, room_any p.stand.phase (fresh m) (fresh k) front (fresh_unread m u) (fresh_unread k z) fits, more)
 
-pub stream_any : (m k : Mark) (items : List Piece) (text : List Bool) → m.unread ≡ 0 → k.unread ≡ 0 → Stream grammar opening m items text → Stream grammar opening k items text
-stream_any m k items text u z s = record { spelled = any_mark opening m k items text nothing_told u z s.spelled; ends = s.ends; kept = s.kept }
+pub stream_any : (profile : Profile) (m k : Mark) (items : List Piece) (text : List Bool) → m.unread ≡ 0 → k.unread ≡ 0 → Stream grammar (opening profile) m items text → Stream grammar (opening profile) k items text
+stream_any profile m k items text u z s = record { spelled = any_mark (opening profile) m k items text nothing_told u z s.spelled; ends = s.ends; kept = s.kept }

@@ -18,6 +18,7 @@ use Rattle.flac_meta.specs.declared.seen.Seen.{Seen}
 use Rattle.flac_meta.specs.declared.block.Block.{Block}
 use Rattle.flac_meta.specs.declared.block.Block.TheVariants as block_of
 use Rattle.flac_meta.proofs.Blocks.{blocks_spelled}
+use Rattle.flac_header.specs.declared.subset.Profile.{Profile}
 use Rattle.flac_native.specs.Stream.{Piece, marked, block, framed, Stand, Progress, grammar, opening, next, layout, layout_in, room_in}
 use Rattle.flac_native.specs.Given.{closing}
 use Rattle.flac_native.specs.Retag.{is_comment}
@@ -249,14 +250,14 @@ ordered : (list : List MarkedBlock) → LastIsMarked list → AllBlocks nothing_
 ordered [] marks all = absurd marks
 ordered (b ∷ bs) marks all = in_order b.1 (without_marks bs) all
 
-pub are_ordered : (m : Mark) (list : List MarkedBlock) (text : List Bool) → AreRead m list text → AreOrdered list text
-are_ordered m list text u =
-    let r = read (next opening marked) m list text refl u.spelled u.over in
+pub are_ordered : (profile : Profile) (m : Mark) (list : List MarkedBlock) (text : List Bool) → AreRead profile m list text → AreOrdered list text
+are_ordered profile m list text u =
+    let r = read (next (opening profile) marked) m list text refl u.spelled u.over in
     record { marks = r.marks; order = ordered list r.marks r.all; spelled = r.spelled }
 
-pub are_read : (m : Mark) (list : List MarkedBlock) (text : List Bool) → AreOrdered list text → AreRead m list text
-are_read m list text o =
-    let u = here (next opening marked) m list text refl o.marks (of_order (without_marks list) o.order) o.spelled in
+pub are_read : (profile : Profile) (m : Mark) (list : List MarkedBlock) (text : List Bool) → AreOrdered list text → AreRead profile m list text
+are_read profile m list text o =
+    let u = here (next (opening profile) marked) m list text refl o.marks (of_order (without_marks list) o.order) o.spelled in
     record { spelled = u.0; over = u.1 }
 
 -- ---- a stream
@@ -276,11 +277,11 @@ pub closed : (b : Block) (bs : List Block) → Closed b bs
 closed b [] = record { list = (true, b) ∷ []; parts = refl; marks = refl; blocks = refl }
 closed b (c ∷ cs) = let r = closed c cs in before_all b c cs r.list r.parts r.marks r.blocks
 
-has_blocks : (m : Mark) (items : List Piece) (text : List Bool) → Stream grammar opening m items text → HasBlocks items
-has_blocks m items text s =
-    let w = (whole.streams_are_whole m items text).0 s in
+has_blocks : (profile : Profile) (m : Mark) (items : List Piece) (text : List Bool) → Stream grammar (opening profile) m items text → HasBlocks items
+has_blocks profile m items text s =
+    let w = (whole.streams_are_whole profile m items text).0 s in
     let first = block_of.StreamInfo w.info in
-    let all = valid_after m w.info w.list w.begins.head w.begins.spelled in
+    let all = valid_after profile m w.info w.list w.begins.head w.begins.spelled in
     let c = closed first w.list in
     record {
       list = c.list;
@@ -291,4 +292,4 @@ has_blocks m items text s =
     }
 
 pub blocks_are_in_order : BlocksAreInOrder
-blocks_are_in_order = record { read = λ m list text. (are_ordered m list text, are_read m list text); streams = has_blocks }
+blocks_are_in_order = record { read = λ profile m list text. (are_ordered profile m list text, are_read profile m list text); streams = has_blocks }

@@ -16,6 +16,7 @@ use Rattle.flac_meta.specs.declared.seen.Seen.{Seen}
 use Rattle.flac_meta.specs.declared.block.Block.{Block}
 use Rattle.flac_meta.specs.declared.block.Block.TheVariants as block_of
 use Rattle.flac_meta.proofs.Blocks.{blocks_spelled}
+use Rattle.flac_header.specs.declared.subset.Profile.TheVariants.{Subset}
 use Rattle.flac_frame.specs.Frame.{Frame}
 use Rattle.flac_native.specs.Stream.{Piece, marked, block, framed, Progress, Stand, grammar, opening, next, layout, layout_in, marker}
 use Rattle.flac_native.specs.Given.{closing}
@@ -164,14 +165,14 @@ pub record AreHead (items : List Piece) (new : List Block) : Type 0 where
   pub are : items ≡ marked ∷ closing (block_of.StreamInfo info ∷ list)
   pub kept : new ≡ block_of.StreamInfo info ∷ without_comments list
 
-pub are_head : (m : Mark) (items : List Piece) (text : List Bool) (new : List Block) → Joined grammar opening m items text → TakesAll keeps [] items new → is_behind_blocks (after grammar opening items).stand.phase ≡ true → AreHead items new
+pub are_head : (m : Mark) (items : List Piece) (text : List Bool) (new : List Block) → Joined grammar (opening Subset) m items text → TakesAll keeps [] items new → is_behind_blocks (after grammar (opening Subset) items).stand.phase ≡ true → AreHead items new
 are_head m [] text new j took end = absurd cc
 are_head m (x ∷ xs) text new (front, rest, split, spelled, fits, others) (mid, kept, took) end =
-    let first = marker_there opening.stand (fresh m) front x refl spelled in
-    let here = subst (λ y. Joined grammar (next opening y) (past front (fresh m)) xs rest) first.0 others in
-    let at_end = subst (λ y. is_behind_blocks (after grammar (next opening y) xs).stand.phase ≡ true) first.0 end in
+    let first = marker_there (opening Subset).stand (fresh m) front x refl spelled in
+    let here = subst (λ y. Joined grammar (next (opening Subset) y) (past front (fresh m)) xs rest) first.0 others in
+    let at_end = subst (λ y. is_behind_blocks (after grammar (next (opening Subset) y) xs).stand.phase ≡ true) first.0 end in
     let nothing : mid ≡ [] = subst (λ y. keeps [] y mid) first.0 kept in
-    let all = are_blocks (next opening marked) (past front (fresh m)) xs rest mid new refl here took at_end in
+    let all = are_blocks (next (opening Subset) marked) (past front (fresh m)) xs rest mid new refl here took at_end in
     let i = first_is all.first (all.valid.first refl) all.valid.written in
     record {
       info = i.0;
@@ -182,16 +183,16 @@ are_head m (x ∷ xs) text new (front, rest, split, spelled, fits, others) (mid,
 
 -- ---- what was kept where the blocks are over
 
-pub kept_are : (old now : Cursor) (p : Progress) (none kept : List Block) → none ≡ [] → Far grammar keeps opening p old now none kept → is_behind_blocks p.stand.phase ≡ true → AreKept old kept now.left
+pub kept_are : (old now : Cursor) (p : Progress) (none kept : List Block) → none ≡ [] → Far grammar keeps (opening Subset) p old now none kept → is_behind_blocks p.stand.phase ≡ true → AreKept old kept now.left
 kept_are old now p none kept empty far end =
     let took = subst (λ k. TakesAll keeps k far.items kept) empty far.took in
     let head = are_head old.mark far.items far.text kept far.spelled took (subst (λ (q : Progress). is_behind_blocks q.stand.phase ≡ true) far.state_is end) in
     record {
       info = head.info;
       list = head.list;
-      input = record { head = far.text; stands = far.stands; spelled = subst (λ k. Joined grammar opening old.mark k far.text) head.are far.spelled };
+      input = record { head = far.text; stands = far.stands; spelled = subst (λ k. Joined grammar (opening Subset) old.mark k far.text) head.are far.spelled };
       are = head.kept;
     }
 
-pub kept_whole : (old now : Cursor) (p : Progress) (none kept : List Block) → old.mark.unread ≡ 0 → Far grammar keeps opening p old now none kept → now.mark.unread ≡ 0
-kept_whole old now p none kept z far = ap (λ (m : Mark). m.unread) far.mark_is ∙ aligned opening old.mark far.items far.text none kept far.spelled z far.took
+pub kept_whole : (old now : Cursor) (p : Progress) (none kept : List Block) → old.mark.unread ≡ 0 → Far grammar keeps (opening Subset) p old now none kept → now.mark.unread ≡ 0
+kept_whole old now p none kept z far = ap (λ (m : Mark). m.unread) far.mark_is ∙ aligned (opening Subset) old.mark far.items far.text none kept far.spelled z far.took

@@ -40,3 +40,5 @@ pub mod Pushing
 pub mod Spelled
 pub mod Rooms
 pub mod Lending
+pub mod Wider
+pub mod Outside

@@ -16,6 +16,8 @@ use Rattle.flac_meta.specs.declared.seen.Seen.{Seen}
 use Rattle.flac_meta.specs.declared.block.Block.{Block}
 use Rattle.flac_meta.specs.declared.block.Block.TheVariants as block_of
 use Rattle.flac_meta.specs.declared.comments.Comments.{Comments}
+use Rattle.flac_header.specs.declared.subset.Profile.{Profile}
+use Rattle.flac_header.specs.declared.subset.Profile.TheVariants.{Subset}
 use Rattle.flac_native.specs.Given.{closing}
 use Rattle.flac_native.specs.Stream.{marked, block, Progress, grammar, opening, next, room_in}
 use Rattle.flac_native.specs.Writing.{blocks_spelling, head_spelling}
@@ -95,15 +97,15 @@ may_be_written c h = rw (not_too_long (comments_length c) h) refl
 comments_here : (c : Comments) → comments_length c ≤ 16777215 → IsComments c → IsBlock info_seen (block_of.VorbisComment c)
 comments_here c h fits = record { first = λ e. absurd cc; once = refl; written = may_be_written c h; fits = fits }
 
-pub valid_after : (m : Mark) (info : Info) (list : List Block) (head : List Bool) → Joined grammar opening m (marked ∷ closing (block_of.StreamInfo info ∷ list)) head → AllBlocks nothing_seen (block_of.StreamInfo info ∷ list)
-valid_after m info list head (front, behind, split, spelled, fits, more) = valid_blocks (next opening marked) (past front (fresh m)) (block_of.StreamInfo info) list behind refl more
+pub valid_after : (profile : Profile) (m : Mark) (info : Info) (list : List Block) (head : List Bool) → Joined grammar (opening profile) m (marked ∷ closing (block_of.StreamInfo info ∷ list)) head → AllBlocks nothing_seen (block_of.StreamInfo info ∷ list)
+valid_after profile m info list head (front, behind, split, spelled, fits, more) = valid_blocks (next (opening profile) marked) (past front (fresh m)) (block_of.StreamInfo info) list behind refl more
 
 pub retagged_are_read : RetaggedAreRead
 retagged_are_read m k text comments info list rest z short fits b =
     let marker = unsigned 32 0x664C6143 in
     let note = block_of.VorbisComment comments in
     let first = b.spelled in
-    let there = valid_after m info list b.head first in
+    let there = valid_after Subset m info list b.head first in
     let all : AllBlocks nothing_seen (block_of.StreamInfo info ∷ note ∷ without_comments list) =
     (there.0, (comments_here comments short fits, others info_seen (seen_after info_seen note) list refl refl there.1)) in
     let mark = past marker (fresh k) in
@@ -111,7 +113,7 @@ retagged_are_read m k text comments info list rest z short fits b =
     record {
       head = head_spelling info (note ∷ without_comments list);
       stands = refl;
-      spelled = (marker, blocks_spelling (block_of.StreamInfo info ∷ note ∷ without_comments list), refl, marker_here (fresh k), tt, spelled_blocks (next opening marked) mark (block_of.StreamInfo info) (note ∷ without_comments list) refl u all);
+      spelled = (marker, blocks_spelling (block_of.StreamInfo info ∷ note ∷ without_comments list), refl, marker_here Subset (fresh k), tt, spelled_blocks (next (opening Subset) marked) mark (block_of.StreamInfo info) (note ∷ without_comments list) refl u all);
     }
 
 each_valid : (seen : Seen) (bs : List Block) (i : ℕ) (b : Block) → AllBlocks seen bs → i < length bs → b ≡ get_or bs i b → block_fault b ≡ None
@@ -123,7 +125,7 @@ each_valid seen (x ∷ xs) (suc i) b all lt at = each_valid (seen_after seen x) 
 pub kept_may_be_head : (comments : Comments) (c : Cursor) (kept : List Block) (rest : List Bool) → comments_length comments ≤ 16777215 → AreKept c kept rest → MayBeHead comments kept
 kept_may_be_head comments c kept rest short are =
     let list = without_comments are.list in
-    let all = valid_after c.mark are.info are.list are.input.head are.input.spelled in
+    let all = valid_after Subset c.mark are.info are.list are.input.head are.input.spelled in
     let good : AllBlocks nothing_seen (block_of.StreamInfo are.info ∷ list) = (all.0, others info_seen info_seen are.list refl refl all.1) in
     let here : MayBeHead comments (block_of.StreamInfo are.info ∷ list) = record {
       note = may_be_written comments short;

@@ -10,6 +10,7 @@ use Rattle.flac_bits.proofs.Items.{Steps, spelled_step, step_spelled, step_stops
 use Rattle.flac_meta.specs.Info.{Info}
 use Rattle.flac_meta.specs.declared.block.Block.{Block}
 use Rattle.flac_meta.specs.declared.block.Block.TheVariants as block_of
+use Rattle.flac_header.specs.declared.subset.Profile.TheVariants.{Subset}
 use Rattle.flac_native.specs.Stream.{Piece, marked, block, Progress, grammar, opening, next, layout, layout_in, place_in}
 use Rattle.flac_native.specs.Given.{closing}
 use Rattle.flac_native.specs.Retag.{BeginsWith, IsRefused, HeadsAreOne, is_before_frames}
@@ -71,13 +72,13 @@ closing_ends p b (c ∷ cs) = closing_ends (next p (block false b)) c cs
 -- what begins well is not refused
 pub not_refused : (m : Mark) (text : List Bool) (info : Info) (list : List Block) (rest : List Bool) (at : Place) (why : Why) → BeginsWith m text info list rest → IsRefused m text at why → ⊥
 not_refused m text info list rest at why b r =
-    clash opening m (marked ∷ closing (block_of.StreamInfo info ∷ list)) b.head rest r.items at why b.spelled (closing_ends (next opening marked) (block_of.StreamInfo info) list)
-    (subst (λ t. Steps grammar opening (at_ t m) r.items (Some (at, why))) b.stands (refused_steps grammar needs_bits opening m r.items text at why r.refused)) r.place
+    clash (opening Subset) m (marked ∷ closing (block_of.StreamInfo info ∷ list)) b.head rest r.items at why b.spelled (closing_ends (next (opening Subset) marked) (block_of.StreamInfo info) list)
+    (subst (λ t. Steps grammar (opening Subset) (at_ t m) r.items (Some (at, why))) b.stands (refused_steps grammar needs_bits (opening Subset) m r.items text at why r.refused)) r.place
 
 -- ---- one refusal
 
 pub one_refusal : (m : Mark) (text : List Bool) (at to : Place) (v w : Why) → IsRefused m text at v → IsRefused m text to w → (at ≡ to) × (v ≡ w)
-one_refusal m text at to v w r q = let same = (one_answer opening m text).refusals r.items q.items at to v w r.refused q.refused in (same.1, same.2)
+one_refusal m text at to v w r q = let same = (one_answer (opening Subset) m text).refusals r.items q.items at to v w r.refused q.refused in (same.1, same.2)
 
 -- ---- one way to begin
 
@@ -125,8 +126,8 @@ same_blocks p m b (x ∷ xs) c (y ∷ ys) front left head rest e j k =
 
 pub one_head : (m : Mark) (text : List Bool) (i j : Info) (l k : List Block) (r t : List Bool) → BeginsWith m text i l r → BeginsWith m text j k t → (i ≡ j) × (l ≡ k) × (r ≡ t)
 one_head m text i j l k r t b c =
-    let h = heads opening m marked marked (closing (block_of.StreamInfo i ∷ l)) (closing (block_of.StreamInfo j ∷ k)) b.head r c.head t (sym b.stands ∙ c.stands) b.spelled c.spelled in
-    let s = same_blocks (next opening marked) h.3 (block_of.StreamInfo i) l (block_of.StreamInfo j) k h.1 r h.2 t h.4 h.5 h.6 in
+    let h = heads (opening Subset) m marked marked (closing (block_of.StreamInfo i ∷ l)) (closing (block_of.StreamInfo j ∷ k)) b.head r c.head t (sym b.stands ∙ c.stands) b.spelled c.spelled in
+    let s = same_blocks (next (opening Subset) marked) h.3 (block_of.StreamInfo i) l (block_of.StreamInfo j) k h.1 r h.2 t h.4 h.5 h.6 in
     same s.0 s.1
   where
     same : list_of (block_of.StreamInfo i) l ≡ block_of.StreamInfo j ∷ k → r ≡ t → (i ≡ j) × (l ≡ k) × (r ≡ t)

@@ -6,9 +6,10 @@ use Rattle.std.proofs.lemmas.List.{append-nil}
 use Rattle.flac_bits.specs.State.{Mark, past, fresh}
 use Rattle.flac_bits.specs.Meaning.{Spells, AllKept}
 use Rattle.flac_bits.specs.Fence.{InRoom}
-use Rattle.flac_bits.specs.Items.{Joined, after}
+use Rattle.flac_bits.specs.Items.{Joined, Stream, after}
 use Rattle.flac_bits.proofs.ItemSpellings.{fresh_unread, fresh_check8, fresh_check16, behind_whole}
 use Rattle.flac_header.specs.Header.{Header}
+use Rattle.flac_header.specs.declared.subset.Profile.{Profile}
 use Rattle.flac_meta.specs.Info.{Info, KeepsRules}
 use Rattle.flac_meta.specs.Valid.{FitsFields}
 use Rattle.flac_meta.specs.declared.block.Block.{Block}
@@ -57,32 +58,32 @@ sizes_kept true greatest least first other size before same e = e
 sizes_kept false greatest least first other size before same e = rw (same refl) e
 
 -- with fixed blocking the first sizes are the same
-same_first : (i : Info) (new old : Before) (h : Header) → Alike new old → AllKept (header_rules i (Some old) h) → h.variable ≡ false → new.first_size ≡ old.first_size
-same_first i new old h a k fixed =
+same_first : (profile : Profile) (i : Info) (new old : Before) (h : Header) → Alike new old → AllKept (header_rules profile i (Some old) h) → h.variable ≡ false → new.first_size ≡ old.first_size
+same_first profile i new old h a k fixed =
     a.first (fixed_before h.variable old.variable _ k.1.1.0 fixed) (of_first h.variable i.greatest_block i.least_block old.first_size h.size old.size k.1.1.1.0 fixed)
 
 -- what keeps the rules behind more frames keeps them behind fewer
-rules_kept : (i : Info) (new old : Option Before) (h : Header) → AreAlike new old → AllKept (header_rules i old h) → AllKept (header_rules (untold i) new h)
-rules_kept i None None h a k = k
-rules_kept i None (Some old) h a k = (k.0, (k.1.0, (refl, (at_most h.variable i.greatest_block i.least_block old.first_size h.size old.size k.1.1.1.0, tt))))
-rules_kept i (Some new) None h a k = absurd a
-rules_kept i (Some new) (Some old) h a k = (
+rules_kept : (profile : Profile) (i : Info) (new old : Option Before) (h : Header) → AreAlike new old → AllKept (header_rules profile i old h) → AllKept (header_rules profile (untold i) new h)
+rules_kept profile i None None h a k = k
+rules_kept profile i None (Some old) h a k = (k.0, (k.1.0, (refl, (at_most h.variable i.greatest_block i.least_block old.first_size h.size old.size k.1.1.1.0, tt))))
+rules_kept profile i (Some new) None h a k = absurd a
+rules_kept profile i (Some new) (Some old) h a k = (
   k.0,
   (
     k.1.0,
     (
       rw (a.variable, a.number) k.1.1.0,
-      (rw a.size (sizes_kept h.variable i.greatest_block i.least_block old.first_size new.first_size h.size old.size (same_first i new old h a k) k.1.1.1.0), tt),
+      (rw a.size (sizes_kept h.variable i.greatest_block i.least_block old.first_size new.first_size h.size old.size (same_first profile i new old h a k) k.1.1.1.0), tt),
     ),
   ),
 )
 
 -- and they leave the same
-left_alike : (i : Info) (new old : Option Before) (h : Header) → AreAlike new old → AllKept (header_rules i old h) → Alike (left_by new h.variable h.number h.size) (left_by old h.variable h.number h.size)
-left_alike i None None h a k = record { variable = refl; number = refl; size = refl; first = λ _ _. refl }
-left_alike i None (Some old) h a k = record { variable = refl; number = refl; size = refl; first = λ _ e. e }
-left_alike i (Some new) None h a k = absurd a
-left_alike i (Some new) (Some old) h a k = record { variable = refl; number = refl; size = refl; first = λ fixed _. same_first i new old h a k fixed }
+left_alike : (profile : Profile) (i : Info) (new old : Option Before) (h : Header) → AreAlike new old → AllKept (header_rules profile i old h) → Alike (left_by new h.variable h.number h.size) (left_by old h.variable h.number h.size)
+left_alike profile i None None h a k = record { variable = refl; number = refl; size = refl; first = λ _ _. refl }
+left_alike profile i None (Some old) h a k = record { variable = refl; number = refl; size = refl; first = λ _ e. e }
+left_alike profile i (Some new) None h a k = absurd a
+left_alike profile i (Some new) (Some old) h a k = record { variable = refl; number = refl; size = refl; first = λ fixed _. same_first profile i new old h a k fixed }
 
 -- ---- a frame
 
@@ -102,21 +103,21 @@ untold_rules i r = record {
   total = omega arith;
 }
 
-record Again (i : Info) (new old : Option Before) (k : Mark) (text : List Bool) (f : Frame) : Type 0 where
-  spelled : Spells (frame (untold i) new) (fresh k) text f
+record Again (profile : Profile) (i : Info) (new old : Option Before) (k : Mark) (text : List Bool) (f : Frame) : Type 0 where
+  spelled : Spells (frame profile (untold i) new) (fresh k) text f
   alike : Alike (frame_after new f) (frame_after old f)
   whole : length text % 8 ≡ 0
 
-frame_again : (i : Info) (new old : Option Before) (m k : Mark) (text : List Bool) (f : Frame) → KeepsRules i → m.unread ≡ 0 → k.unread ≡ 0 → AreAlike new old → Spells (frame i old) (fresh m) text f → Again i new old k text f
-frame_again i new old m k text f rules u z a h =
-    let s = (frames_spelled i old (fresh m) text f rules (fresh_unread m u) (fresh_check8 m u) (fresh_check16 m u)).0 h in
+frame_again : (profile : Profile) (i : Info) (new old : Option Before) (m k : Mark) (text : List Bool) (f : Frame) → KeepsRules i → m.unread ≡ 0 → k.unread ≡ 0 → AreAlike new old → Spells (frame profile i old) (fresh m) text f → Again profile i new old k text f
+frame_again profile i new old m k text f rules u z a h =
+    let s = (frames_spelled profile i old (fresh m) text f rules (fresh_unread m u) (fresh_check8 m u) (fresh_check16 m u)).0 h in
     let v = s.valid in
     let g = s.form.header in
-    let left = left_alike i new old g a v.follows in
+    let left = left_alike profile i new old g a v.follows in
     record {
-      spelled = (frames_spelled (untold i) new (fresh k) text f (untold_rules i rules) (fresh_unread k z) (fresh_check8 k z) (fresh_check16 k z)).1 (record {
+      spelled = (frames_spelled profile (untold i) new (fresh k) text f (untold_rules i rules) (fresh_unread k z) (fresh_check8 k z) (fresh_check16 k z)).1 (record {
         form = s.form;
-        valid = record { header = v.header; follows = rules_kept i new old g a v.follows; many = v.many; subframes = v.subframes };
+        valid = record { header = v.header; follows = rules_kept profile i new old g a v.follows; many = v.many; subframes = v.subframes };
         spelling = s.spelling;
         frame = s.frame;
         samples = s.samples;
@@ -133,26 +134,26 @@ pub record FrameThere (s : Stand) (m : Mark) (text : List Bool) (x : Piece) : Ty
   pub told : s.info ≡ Some info
   pub is : Frame
   pub part : x ≡ framed is
-  pub spelled : Spells (frame info s.before) m text is
+  pub spelled : Spells (frame s.profile info s.before) m text is
 
-told_there : (info : Option Info) (before : Option Before) (m : Mark) (text : List Bool) (f : Frame) → Spells (frame_behind info before) m text f → (i : Info) × (info ≡ Some i) × Spells (frame i before) m text f
+told_there : (profile : Profile) (info : Option Info) (before : Option Before) (m : Mark) (text : List Bool) (f : Frame) → Spells (frame_behind profile info before) m text f → (i : Info) × (info ≡ Some i) × Spells (frame profile i before) m text f
 unfolding frame_behind
-told_there None before m text f h = absurd h
-told_there (Some i) before m text f h = (i, refl, h)
+told_there profile None before m text f h = absurd h
+told_there profile (Some i) before m text f h = (i, refl, h)
 
 in_frames : (s : Stand) (m : Mark) (text : List Bool) (x : Piece) → Spells (layout_in Frames s) m text x → FrameThere s m text x
 in_frames s m text x (f, front, rest, split, spelled, (none, same)) =
     let t : text ≡ front = split ∙ ap (λ (k : List Bool). front ++ k) none ∙ append-nil front in
-    let h = told_there s.info s.before m front f spelled in
-    record { info = h.0; told = h.1; is = f; part = sym same; spelled = subst (λ k. Spells (frame h.0 s.before) m k f) (sym t) h.2 }
+    let h = told_there s.profile s.info s.before m front f spelled in
+    record { info = h.0; told = h.1; is = f; part = sym same; spelled = subst (λ k. Spells (frame s.profile h.0 s.before) m k f) (sym t) h.2 }
 
 pub frame_there : (s : Stand) (m : Mark) (text : List Bool) (x : Piece) → s.phase ≡ Frames → Spells (layout s) m text x → FrameThere s m text x
 unfolding layout
 frame_there s m text x phase h = in_frames s m text x (subst (λ k. Spells (layout_in k s) m text x) phase h)
 
-pub as_part : (s : Stand) (i : Info) (m : Mark) (text : List Bool) (f : Frame) → s.phase ≡ Frames → s.info ≡ Some i → Spells (frame i s.before) m text f → Spells (layout s) m text (framed f)
+pub as_part : (s : Stand) (i : Info) (m : Mark) (text : List Bool) (f : Frame) → s.phase ≡ Frames → s.info ≡ Some i → Spells (frame s.profile i s.before) m text f → Spells (layout s) m text (framed f)
 unfolding layout frame_behind
-as_part s i m text f phase told h = subst (λ k. Spells (layout_in k s) m text (framed f)) (sym phase) (f, text, [], sym (append-nil text), subst (λ o. Spells (frame_behind o s.before) m text f) (sym told) h, (refl, refl))
+as_part s i m text f phase told h = subst (λ k. Spells (layout_in k s) m text (framed f)) (sym phase) (f, text, [], sym (append-nil text), subst (λ o. Spells (frame_behind s.profile o s.before) m text f) (sym told) h, (refl, refl))
 
 -- where a frame stands no other part comes
 phase_there : (s : Stand) (m : Mark) (text : List Bool) (f : Frame) → Spells (layout s) m text (framed f) → s.phase ≡ Frames
@@ -172,6 +173,7 @@ record Onwards (i : Info) (new old : Progress) : Type 0 where
   phase_new : new.stand.phase ≡ Frames
   info_new : new.stand.info ≡ Some (untold i)
   before : AreAlike new.stand.before old.stand.before
+  judged : old.stand.profile ≡ new.stand.profile
 
 room_again : (new old : Phase) (m k : Mark) (text : List Bool) → old ≡ Frames → new ≡ Frames → m.unread ≡ 0 → k.unread ≡ 0 → InRoom (room_in old) m text → InRoom (room_in new) k text
 room_again new old m k text e f u z h =
@@ -192,11 +194,12 @@ frames_again i new old m k (x ∷ xs) text rules u z o (front, rest, split, spel
     let t = frame_there old.stand (fresh m) front x o.phase spelled in
     let f = t.is in
     let same : t.info ≡ i = same_info i t.info old.stand.info o.info t.told in
-    let a = frame_again i new.stand.before old.stand.before m k front f rules u z o.before (subst (λ j. Spells (frame j old.stand.before) (fresh m) front f) same t.spelled) in
-    let onwards : Onwards i (next new (framed f)) (next old (framed f)) = record { phase = o.phase; info = o.info; phase_new = o.phase_new; info_new = o.info_new; before = a.alike } in
+    let a = frame_again old.stand.profile i new.stand.before old.stand.before m k front f rules u z o.before (subst (λ j. Spells (frame old.stand.profile j old.stand.before) (fresh m) front f) same t.spelled) in
+    let onwards : Onwards i (next new (framed f)) (next old (framed f)) = record { phase = o.phase; info = o.info; phase_new = o.phase_new; info_new = o.info_new; before = a.alike; judged = o.judged } in
     let more = frames_again i (next new (framed f)) (next old (framed f)) (past front (fresh m)) (past front (fresh k)) xs rest rules (behind_whole front (fresh m) (fresh_unread m u) a.whole) (behind_whole front (fresh k) (fresh_unread k z) a.whole) onwards
     (subst (λ y. Joined grammar (next old y) (past front (fresh m)) xs rest) t.part others) in
-    let here = as_part new.stand (untold i) (fresh k) front f o.phase_new o.info_new a.spelled in
+    let spelled_new = subst (λ q. Spells (frame q (untold i) new.stand.before) (fresh k) front f) o.judged a.spelled in
+    let here = as_part new.stand (untold i) (fresh k) front f o.phase_new o.info_new spelled_new in
     let room = room_again new.stand.phase old.stand.phase (fresh m) (fresh k) front o.phase o.phase_new (fresh_unread m u) (fresh_unread k z) fits in
     let all : Runs new k (framed f ∷ xs) text = ((front, rest, split, here, room, more.0), more.1, more.2) in
     subst (λ y. Runs new k (y ∷ xs) text) (sym t.part) all
@@ -245,7 +248,7 @@ step_of s m text x told u h = go s.phase refl
         subst (IsStep s text) (sym t.part) step
     go Frames e =
         let t = frame_there s (fresh m) text x e h in
-        let a = frame_again t.info s.before s.before m m text t.is (told t.info t.told) u u (self s.before) t.spelled in
+        let a = frame_again s.profile t.info s.before s.before m m text t.is (told t.info t.told) u u (self s.before) t.spelled in
         let step : IsStep s text (framed t.is) = record { whole = a.whole; rules = told } in
         subst (IsStep s text) (sym t.part) step
       where
@@ -261,6 +264,16 @@ one_place p m (x ∷ xs) front left head rest e j k =
     let h = heads p m x x xs xs front left head rest e j k in
     one_place (next p x) h.3 xs h.1 left h.2 rest h.4 h.5 h.6
 
+-- no part changes the profile
+pub next_profile : (p : Progress) (x : Piece) → (next p x).stand.profile ≡ p.stand.profile
+next_profile p marked = refl
+next_profile p (block last b) = refl
+next_profile p (framed f) = refl
+
+pub after_profile : (p : Progress) (items : List Piece) → (after grammar p items).stand.profile ≡ p.stand.profile
+after_profile p [] = refl
+after_profile p (x ∷ xs) = after_profile (next p x) xs ∙ next_profile p x
+
 -- ---- the whole
 
 resumed_at : (p : Progress) (m k : Mark) (front more : List Piece) (f : Frame) (text : List Bool) → Told p.stand.info → m.unread ≡ 0 → k.unread ≡ 0 → Joined grammar p m (front ++ framed f ∷ more) text → Resumes p m k front f more text
@@ -268,9 +281,10 @@ resumed_at p m k [] more f text told u z j =
     let phase = phase_there p.stand (fresh m) j.0 f j.3 in
     let t = frame_there p.stand (fresh m) j.0 (framed f) phase j.3 in
     let i = t.info in
-    let onwards : Onwards i (resumed i) p = record { phase = phase; info = t.told; phase_new = refl; info_new = refl; before = tt } in
-    let r = frames_again i (resumed i) p m k (framed f ∷ more) text (told i t.told) u z onwards j in
-    let q = after grammar (resumed i) (framed f ∷ more) in
+    let start = resumed p.stand.profile i in
+    let onwards : Onwards i start p = record { phase = phase; info = t.told; phase_new = refl; info_new = refl; before = tt; judged = refl } in
+    let r = frames_again i start p m k (framed f ∷ more) text (told i t.told) u z onwards j in
+    let q = after grammar start (framed f ∷ more) in
     record {
       before = [];
       rest = text;
@@ -294,11 +308,11 @@ resumed_at p m k (x ∷ xs) more f text told u z (part, rest, split, spelled, fi
       only = λ head left e j. one_place p m (x ∷ xs) head left (part ++ r.before) r.rest (sym e ∙ whole) j here;
       info = r.info;
       told = r.told;
-      stream = r.stream;
+      stream = subst (λ q. Stream grammar (resumed q r.info) k (framed f ∷ more) r.rest) (next_profile p x) r.stream;
     }
 
 pub nothing_told : Told None
 nothing_told i e = absurd cc
 
 pub frames_are_resumed : FramesAreResumed
-frames_are_resumed m k front more f text u z s = resumed_at opening m k front more f text nothing_told u z s.spelled
+frames_are_resumed profile m k front more f text u z s = resumed_at (opening profile) m k front more f text nothing_told u z s.spelled

@@ -23,6 +23,7 @@ use Rattle.flac_meta.specs.declared.block.Block.{Block}
 use Rattle.flac_meta.specs.declared.block.Block.TheVariants as block_of
 use Rattle.flac_header.specs.Choice.{rate_choice, depth_choice}
 use Rattle.flac_header.specs.Header.{channels_of, depth_of, greatest_block}
+use Rattle.flac_header.specs.declared.subset.Profile.TheVariants.{Subset}
 use Rattle.flac_bits.specs.declared.why.Why.{Why}
 use Rattle.flac_bits.specs.declared.target.Target as target
 use Rattle.flac_bits.proofs.Holding.{bits_of-append}
@@ -52,7 +53,7 @@ use Rattle.flac_native.specs.declared.encode_fault.EncodeFault.TheVariants.{Bloc
 use Rattle.flac_native.proofs.EachFrame.{same_three, follows_on, sized, full_before}
 use Rattle.flac_native.proofs.Encoded.{Runs, one_more}
 use Rattle.flac_native.proofs.NewHead.{valid_after}
-use Rattle.flac_native.proofs.Onwards.{as_part, nothing_told}
+use Rattle.flac_native.proofs.Onwards.{as_part, nothing_told, after_profile}
 use Rattle.flac_native.proofs.Ordered.{ends_whole}
 use Rattle.flac_native.proofs.Planned.{first_none, either_false, not_zero, not_less, rate_range, depth_range, greatest_small}
 use Rattle.flac_native.proofs.Streams.{behind, info_run, marker_here}
@@ -145,28 +146,28 @@ may_end q i phase told = rw (phase, told) refl
 kept_at : (q : Progress) (s : Shape) → q.stand.info ≡ Some (open_info s) → AllKept (end_rules q.stand.info q.samples q.message)
 kept_at q s told = rw told (kept_open s q.samples q.message)
 
-head_run : (s : Shape) (list : List Block) → Shaped s → list_fault info_seen list ≡ None → AllAre FitsFields list → Joined grammar opening (beginning Truncated) (head_parts (open_info s) list) (head_spelling (open_info s) list)
+head_run : (s : Shape) (list : List Block) → Shaped s → list_fault info_seen list ≡ None → AllAre FitsFields list → Joined grammar (opening Subset) (beginning Truncated) (head_parts (open_info s) list) (head_spelling (open_info s) list)
 head_run s list q good fits =
     let i = open_info s in
     let is : IsInfo i = record { rules = keeps_open s q; digest = zero_bytes } in
-    let there : (seen : Seen) (m : Mark) → m.unread ≡ 0 → Runs i [] (behind i true 0 seen) m [] [] = λ seen m z. (refl, record { phase = refl; info = refl; samples = refl; message = refl }) in
+    let there : (seen : Seen) (m : Mark) → m.unread ≡ 0 → Runs i [] (behind Subset i true 0 seen) m [] [] = λ seen m z. (refl, record { phase = refl; info = refl; samples = refl; message = refl }) in
     let start = beginning Truncated in
     let marker = unsigned 32 0x664C6143 in
     let m = past marker (fresh start) in
     let z : m.unread ≡ 0 = behind_whole marker (fresh start) refl refl in
     let blocks = blocks_spelling (block_of.StreamInfo i ∷ list) in
     let parts = closing (block_of.StreamInfo i ∷ list) in
-    let r = one_more i [] opening start marked (parts ++ []) marker (blocks ++ []) (marker_here (fresh start)) tt (info_run i [] [] [] there list m z is good fits) in
-    subst (λ k. Joined grammar opening start (marked ∷ k) (marker ++ blocks)) (append-nil parts) (subst (λ t. Joined grammar opening start (marked ∷ (parts ++ [])) (marker ++ t)) (append-nil blocks) r.0)
+    let r = one_more i [] (opening Subset) start marked (parts ++ []) marker (blocks ++ []) (marker_here Subset (fresh start)) tt (info_run Subset i [] [] [] there list m z is good fits) in
+    subst (λ k. Joined grammar (opening Subset) start (marked ∷ k) (marker ++ blocks)) (append-nil parts) (subst (λ t. Joined grammar (opening Subset) start (marked ∷ (parts ++ [])) (marker ++ t)) (append-nil blocks) r.0)
 
 pub opened : {S : Type 0} (s : Shape) (t : S) (list : List Block) → shape_fault s ≡ None → list_fault info_seen list ≡ None → AllAre FitsFields list
     → StandsFor (unpushed s t) (head_parts (open_info s) list) (head_spelling (open_info s) list)
 opened s t list fault good fits =
     let i = open_info s in
     let j = head_run s list (shaped s fault) good fits in
-    let all = valid_after (beginning Truncated) i list (head_spelling i list) j in
-    let at = head_leaves i list all.1 in
-    let q = after grammar opening (head_parts i list) in
+    let all = valid_after Subset (beginning Truncated) i list (head_spelling i list) j in
+    let at = head_leaves Subset i list all.1 in
+    let q = after grammar (opening Subset) (head_parts i list) in
     record {
       stream = record { spelled = j; ends = may_end q i at.phase at.info; kept = kept_at q s at.info };
       info = at.info;
@@ -204,7 +205,7 @@ module _ (s : Shape) (q : Shaped s) (number : ℕ) (channels : List (List ℤ)) 
   abbrev f : Frame
   f = frame_with number channels
 
-  frame_due : (before : Option Before) (m : Mark) (t : List Bool) → m.unread ≡ 0 → before ≡ due s.block_size number → SpellsFrame (sound_of s channels) f t → Spells (frame info before) (fresh m) t f
+  frame_due : (before : Option Before) (m : Mark) (t : List Bool) → m.unread ≡ 0 → before ≡ due s.block_size number → SpellsFrame (sound_of s channels) f t → Spells (frame Subset info before) (fresh m) t f
   frame_due before m t z left k =
       let h = k.form.header in
       let size = samples_each channels in
@@ -212,7 +213,7 @@ module _ (s : Shape) (q : Shaped s) (number : ℕ) (channels : List (List ℤ)) 
       let r = encodings_are_frames (sound_of s channels) size number channels k.form info refl refl (sym many) k.encoding in
       let in_rate : size ≤ greatest_block info.rate = omega (arith, small, q.greatest) in
       let at_most : h.size ≤ s.block_size = omega (arith, r.sized, small) in
-      let follows : AllKept (header_rules info before h) = (
+      let follows : AllKept (header_rules Subset info before h) = (
         ap not (r.allowed in_rate),
         (
           same_three h.rate info.rate (channels_of h.channel_code) info.channels (depth_of h.depth_code) info.depth r.format.rate r.format.channels r.format.depth,
@@ -220,7 +221,7 @@ module _ (s : Shape) (q : Shaped s) (number : ℕ) (channels : List (List ℤ)) 
         ),
       ) in
       let w = r.frame before follows in
-      (frames_spelled info before (fresh m) t f (keeps_open s q) (fresh_unread m z) (fresh_check8 m z) (fresh_check16 m z)).1 (record {
+      (frames_spelled Subset info before (fresh m) t f (keeps_open s q) (fresh_unread m z) (fresh_check8 m z) (fresh_check16 m z)).1 (record {
         form = k.form;
         valid = w.0;
         spelling = k.spelling;
@@ -243,17 +244,19 @@ stands_on e t channels text fault many small going k items before h =
     let s = e.shape in
     let q = shaped s fault in
     let f = frame_with e.number channels in
-    let p = after grammar opening items in
+    let p = after grammar (opening Subset) items in
     let start = beginning Truncated in
     let j = h.stream.spelled in
-    let m = mark_behind grammar opening start items before j in
-    let z : m.unread ≡ 0 = ends_whole opening start items before j nothing_told refl in
+    let m = mark_behind grammar (opening Subset) start items before j in
+    let z : m.unread ≡ 0 = ends_whole (opening Subset) start items before j nothing_told refl in
     let phase : p.stand.phase ≡ Frames = frames_now p.stand.phase p.stand.info h.stream.ends in
     let due_is = h.before going in
-    let spelled = as_part p.stand (open_info s) (fresh m) text f phase h.info (frame_due s q e.number channels many small p.stand.before m text z due_is k) in
+    let here = frame_due s q e.number channels many small p.stand.before m text z due_is k in
+    let judged = subst (λ r. Spells (frame r (open_info s) p.stand.before) (fresh m) text f) (sym (after_profile (opening Subset) items)) here in
+    let spelled = as_part p.stand (open_info s) (fresh m) text f phase h.info judged in
     let room = in_room p.stand.phase (fresh m) text phase (fresh_unread m z) k.short in
-    let more = Joined-append grammar opening start items (framed f) before text j spelled room in
-    let then : after grammar opening (items ++ framed f ∷ []) ≡ next p (framed f) = after-append grammar opening items (framed f) in
+    let more = Joined-append grammar (opening Subset) start items (framed f) before text j spelled room in
+    let then : after grammar (opening Subset) (items ++ framed f ∷ []) ≡ next p (framed f) = after-append grammar (opening Subset) items (framed f) in
     let r = next p (framed f) in
     let ends : may_end_in r.stand.phase r.stand.info ≡ true = may_end r (open_info s) phase h.info in
     let kept : AllKept (end_rules r.stand.info r.samples r.message) = kept_at r s h.info in

@@ -24,6 +24,8 @@ use Rattle.flac_meta.specs.declared.block.Block.{Block}
 use Rattle.flac_meta.specs.declared.block.Block.TheVariants as blocks
 use Rattle.flac_meta.proofs.Blocks.{blocks_spelled}
 use Rattle.flac_meta.proofs.Steps.{zeros_are}
+use Rattle.flac_header.specs.declared.subset.Profile.{Profile}
+use Rattle.flac_header.specs.declared.subset.Profile.TheVariants.{Subset}
 use Rattle.flac_frame.specs.Audio.{Sound, samples_each}
 use Rattle.flac_native.specs.Decoding.{beginning}
 use Rattle.flac_native.specs.Message.{rows_bytes, sample_width}
@@ -83,13 +85,13 @@ listed seen b first e fits =
     let k = first_none (came seen b) _ (block_fault b) e in
     record { first = λ h. absurd (two seen.stream_info first h); once = k.0; written = k.1; fits = fits }
 
-module _ (i : Info) where
+module _ (profile : Profile) (i : Info) where
   -- among the blocks, behind STREAMINFO
   abbrev pub at_block : ℕ → Seen → Progress
-  at_block index seen = record { stand = record { phase = Blocks; index = index; seen = seen; info = Some i; before = None }; samples = 0; message = [] }
+  at_block index seen = record { stand = record { profile = profile; phase = Blocks; index = index; seen = seen; info = Some i; before = None }; samples = 0; message = [] }
 
   abbrev pub behind : Bool → ℕ → Seen → Progress
-  behind last index seen = record { stand = record { phase = phase_behind last; index = cond last 0 (raised index); seen = seen; info = Some i; before = None }; samples = 0; message = [] }
+  behind last index seen = record { stand = record { profile = profile; phase = phase_behind last; index = cond last 0 (raised index); seen = seen; info = Some i; before = None }; samples = 0; message = [] }
 
   pub goes_on : (last : Bool) (b : Block) (index : ℕ) (seen : Seen) → seen.stream_info ≡ true → came seen b ≡ false → (next (at_block index seen) (block last b) ≡ behind last index (seen_after seen b)) × ((seen_after seen b).stream_info ≡ true)
   goes_on last (blocks.StreamInfo info) index seen first e = absurd (two seen.stream_info first e)
@@ -127,7 +129,7 @@ module _ (i : Info) where
 
     -- behind the marker
     abbrev unread_stand : Progress
-    unread_stand = record { stand = record { phase = Blocks; index = 0; seen = nothing_seen; info = None; before = None }; samples = 0; message = [] }
+    unread_stand = record { stand = record { profile = profile; phase = Blocks; index = 0; seen = nothing_seen; info = None; before = None }; samples = 0; message = [] }
 
     pub info_run : (list : List Block) (m : Mark) → m.unread ≡ 0 → IsInfo i → list_fault info_seen list ≡ None → AllAre FitsFields list
         → Runs i message unread_stand m (closing (blocks.StreamInfo i ∷ list) ++ items) (blocks_spelling (blocks.StreamInfo i ∷ list) ++ text)
@@ -150,9 +152,9 @@ module _ (i : Info) where
 
 -- ---- the marker
 
-pub marker_here : (m : Mark) → Spells (layout opening.stand) m (unsigned 32 0x664C6143) marked
+pub marker_here : (profile : Profile) (m : Mark) → Spells (layout (opening profile).stand) m (unsigned 32 0x664C6143) marked
 unfolding layout marker
-marker_here m =
+marker_here profile m =
     let text = unsigned 32 0x664C6143 in
     let e = sym (append-nil text) in
     (tt, text, [], e, (0x664C6143, text, [], e, (omega arith, refl), (refl, (refl, tt))), (refl, refl))
@@ -197,12 +199,12 @@ encoded_are_streams p list a least greatest frames planned_is fits listed_is fie
     let b = p.block_size in
     let width = sample_width a.bits in
     let items = map framed (frames_from b a (length frames) 0) in
-    let there : (seen : Seen) (m : Mark) → m.unread ≡ 0 → Runs i message (behind i true 0 seen) m items (joined frames) = λ seen m z.
+    let there : (seen : Seen) (m : Mark) → m.unread ≡ 0 → Runs i message (behind Subset i true 0 seen) m items (joined frames) = λ seen m z.
     frames_run p a least greatest q k small.0 small.1 frames 0 0 0 seen None [] m z (omega (arith, f.many)) (λ more. inl refl) (sym (no_samples b (samples_each a.channels))) (sym (ap (λ n. rows_bytes width a.channels n 0) (no_samples b (samples_each a.channels)))) (λ j h. subst (λ n. SpellsFrame a (frame_of b a n) (slice_index_or frames j [])) (let e : j ≡ 0 + j = omega arith in e) (f.each j h)) in
     let start = beginning Truncated in
     let m = past (unsigned 32 0x664C6143) (fresh start) in
     let z : m.unread ≡ 0 = behind_whole (unsigned 32 0x664C6143) (fresh start) refl refl in
-    let r = one_more i message opening start marked (closing (blocks.StreamInfo i ∷ list) ++ items) (unsigned 32 0x664C6143) (blocks_spelling (blocks.StreamInfo i ∷ list) ++ joined frames) (marker_here (fresh start)) tt
-    (info_run i message items (joined frames) there list m z is listed_is fields) in
-    let all : Runs i message opening start (given p list a least greatest) (stream_spelling p list a least greatest frames) = subst (λ n. Runs i message opening start (marked ∷ (closing (blocks.StreamInfo i ∷ list) ++ map framed (frames_from b a n 0))) (stream_spelling p list a least greatest frames)) f.many r in
+    let r = one_more i message (opening Subset) start marked (closing (blocks.StreamInfo i ∷ list) ++ items) (unsigned 32 0x664C6143) (blocks_spelling (blocks.StreamInfo i ∷ list) ++ joined frames) (marker_here Subset (fresh start)) tt
+    (info_run Subset i message items (joined frames) there list m z is listed_is fields) in
+    let all : Runs i message (opening Subset) start (given p list a least greatest) (stream_spelling p list a least greatest frames) = subst (λ n. Runs i message (opening Subset) start (marked ∷ (closing (blocks.StreamInfo i ∷ list) ++ map framed (frames_from b a n 0))) (stream_spelling p list a least greatest frames)) f.many r in
     record { spelled = all.0; ends = may_end i message _ all.1; kept = ends_well i message _ all.1 refl }

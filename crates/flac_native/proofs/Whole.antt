@@ -14,6 +14,7 @@ use Rattle.flac_meta.specs.Valid.{IsBlock}
 use Rattle.flac_meta.specs.declared.seen.Seen.{Seen}
 use Rattle.flac_meta.specs.declared.block.Block.{Block}
 use Rattle.flac_meta.specs.declared.block.Block.TheVariants as block_of
+use Rattle.flac_header.specs.declared.subset.Profile.{Profile}
 use Rattle.flac_frame.specs.Frame.{Frame, frame}
 use Rattle.flac_frame.specs.Follows.{frames}
 use Rattle.flac_frame.specs.declared.before.Before.{Before}
@@ -21,7 +22,7 @@ use Rattle.flac_frame.proofs.Following.{frames_follow}
 use Rattle.flac_native.specs.Message.{frame_message}
 use Rattle.flac_native.specs.Stream.{Piece, marked, block, framed, Progress, grammar, opening, next, layout, room_in, may_end_in, end_rules, message_in}
 use Rattle.flac_native.specs.Given.{closing}
-use Rattle.flac_native.specs.Retag.{BeginsWith}
+use Rattle.flac_native.specs.Retag.{Begins}
 use Rattle.flac_native.specs.Whole.{head_parts, IsWhole, StreamsAreWhole}
 use Rattle.flac_native.specs.declared.phase.Phase.{Phase}
 use Rattle.flac_native.specs.declared.phase.Phase.TheVariants.{Opening, Blocks, Frames}
@@ -43,12 +44,12 @@ is_room : (phase : Phase) (m : Mark) (text : List Bool) → phase ≡ Frames →
 is_room phase m text e h = subst (λ q. InRoom (room_in q) m text) (sym e) h
 
 -- parts after the blocks are frames
-record AreFramed (i : Info) (before : Option Before) (m : Mark) (items : List Piece) (text : List Bool) : Type 0 where
+record AreFramed (profile : Profile) (i : Info) (before : Option Before) (m : Mark) (items : List Piece) (text : List Bool) : Type 0 where
   list : List Frame
   are : items ≡ map framed list
-  joined : Joined (frames i most) before m list text
+  joined : Joined (frames profile i most) before m list text
 
-to_frames : (i : Info) (p : Progress) (m : Mark) (items : List Piece) (text : List Bool) → p.stand.phase ≡ Frames → p.stand.info ≡ Some i → Joined grammar p m items text → AreFramed i p.stand.before m items text
+to_frames : (i : Info) (p : Progress) (m : Mark) (items : List Piece) (text : List Bool) → p.stand.phase ≡ Frames → p.stand.info ≡ Some i → Joined grammar p m items text → AreFramed p.stand.profile i p.stand.before m items text
 to_frames i p m [] text phase told j = record { list = []; are = refl; joined = j }
 to_frames i p m (x ∷ xs) text phase told (front, rest, split, spelled, fits, others) =
     let t = frame_there p.stand (fresh m) front x phase spelled in
@@ -58,10 +59,10 @@ to_frames i p m (x ∷ xs) text phase told (front, rest, split, spelled, fits, o
     record {
       list = f ∷ more.list;
       are = ap (λ y. y ∷ xs) t.part ∙ ap (λ ys. framed f ∷ ys) more.are;
-      joined = (front, rest, split, subst (λ j. Spells (frame j p.stand.before) (fresh m) front f) same t.spelled, room_is p.stand.phase (fresh m) front phase fits, more.joined);
+      joined = (front, rest, split, subst (λ j. Spells (frame p.stand.profile j p.stand.before) (fresh m) front f) same t.spelled, room_is p.stand.phase (fresh m) front phase fits, more.joined);
     }
 
-of_frames : (i : Info) (p : Progress) (m : Mark) (fs : List Frame) (text : List Bool) → p.stand.phase ≡ Frames → p.stand.info ≡ Some i → Joined (frames i most) p.stand.before m fs text → Joined grammar p m (map framed fs) text
+of_frames : (i : Info) (p : Progress) (m : Mark) (fs : List Frame) (text : List Bool) → p.stand.phase ≡ Frames → p.stand.info ≡ Some i → Joined (frames p.stand.profile i most) p.stand.before m fs text → Joined grammar p m (map framed fs) text
 of_frames i p m [] text phase told j = j
 of_frames i p m (f ∷ fs) text phase told (front, rest, split, spelled, fits, others) = (
   front,
@@ -150,21 +151,21 @@ split_at p m (block false b ∷ xs) text phase (front, rest, split, spelled, fit
     }
 
 -- the head of a stream, and the parts after it
-record Begun (m : Mark) (items : List Piece) (text : List Bool) : Type 0 where
+record Begun (profile : Profile) (m : Mark) (items : List Piece) (text : List Bool) : Type 0 where
   info : Info
   list : List Block
   more : List Piece
   are : items ≡ head_parts info list ++ more
   rest : List Bool
-  begins : BeginsWith m text info list rest
-  left : Joined grammar (after grammar opening (head_parts info list)) (mark_behind grammar opening m (head_parts info list) begins.head begins.spelled) more rest
+  begins : Begins profile m text info list rest
+  left : Joined grammar (after grammar (opening profile) (head_parts info list)) (mark_behind grammar (opening profile) m (head_parts info list) begins.head begins.spelled) more rest
 
-begun_by : (m : Mark) (xs : List Piece) (text front behind : List Bool) → text ≡ front ++ behind → Spells (layout opening.stand) (fresh m) front marked → Joined grammar (next opening marked) (past front (fresh m)) xs behind
-    → (s : Split (next opening marked) (past front (fresh m)) xs behind) → (i : Info) → s.first ≡ block_of.StreamInfo i → Begun m (marked ∷ xs) text
-begun_by m xs text front behind split spelled others s i first = go s.first first s.others s.are s.spelled s.left
+begun_by : (profile : Profile) (m : Mark) (xs : List Piece) (text front behind : List Bool) → text ≡ front ++ behind → Spells (layout (opening profile).stand) (fresh m) front marked → Joined grammar (next (opening profile) marked) (past front (fresh m)) xs behind
+    → (s : Split (next (opening profile) marked) (past front (fresh m)) xs behind) → (i : Info) → s.first ≡ block_of.StreamInfo i → Begun profile m (marked ∷ xs) text
+begun_by profile m xs text front behind split spelled others s i first = go s.first first s.others s.are s.spelled s.left
   where
-    go : (b : Block) → b ≡ block_of.StreamInfo i → (bs : List Block) → xs ≡ closing (b ∷ bs) ++ s.more → (j : Joined grammar (next opening marked) (past front (fresh m)) (closing (b ∷ bs)) s.head)
-        → Joined grammar (after grammar (next opening marked) (closing (b ∷ bs))) (mark_behind grammar (next opening marked) (past front (fresh m)) (closing (b ∷ bs)) s.head j) s.more s.rest → Begun m (marked ∷ xs) text
+    go : (b : Block) → b ≡ block_of.StreamInfo i → (bs : List Block) → xs ≡ closing (b ∷ bs) ++ s.more → (j : Joined grammar (next (opening profile) marked) (past front (fresh m)) (closing (b ∷ bs)) s.head)
+        → Joined grammar (after grammar (next (opening profile) marked) (closing (b ∷ bs))) (mark_behind grammar (next (opening profile) marked) (past front (fresh m)) (closing (b ∷ bs)) s.head j) s.more s.rest → Begun profile m (marked ∷ xs) text
     go (block_of.StreamInfo k) e bs are j left = record {
       info = k;
       list = bs;
@@ -176,34 +177,35 @@ begun_by m xs text front behind split spelled others s i first = go s.first firs
     }
     go b e bs are j left = absurd cc
 
-begun : (m : Mark) (items : List Piece) (text : List Bool) → Joined grammar opening m items text → (after grammar opening items).stand.phase ≡ Frames → Begun m items text
-begun m [] text j end = absurd cc
-begun m (x ∷ xs) text (front, behind, split, spelled, fits, others) end =
-    let first = marker_there opening.stand (fresh m) front x refl spelled in
-    let here = subst (λ y. Joined grammar (next opening y) (past front (fresh m)) xs behind) first.0 others in
-    let at_end = subst (λ y. (after grammar (next opening y) xs).stand.phase ≡ Frames) first.0 end in
-    let mark = subst (λ y. Spells (layout opening.stand) (fresh m) front y) first.0 spelled in
-    let s = split_at (next opening marked) (past front (fresh m)) xs behind refl here at_end in
+begun : (profile : Profile) (m : Mark) (items : List Piece) (text : List Bool) → Joined grammar (opening profile) m items text → (after grammar (opening profile) items).stand.phase ≡ Frames → Begun profile m items text
+begun profile m [] text j end = absurd cc
+begun profile m (x ∷ xs) text (front, behind, split, spelled, fits, others) end =
+    let first = marker_there (opening profile).stand (fresh m) front x refl spelled in
+    let here = subst (λ y. Joined grammar (next (opening profile) y) (past front (fresh m)) xs behind) first.0 others in
+    let at_end = subst (λ y. (after grammar (next (opening profile) y) xs).stand.phase ≡ Frames) first.0 end in
+    let mark = subst (λ y. Spells (layout (opening profile).stand) (fresh m) front y) first.0 spelled in
+    let s = split_at (next (opening profile) marked) (past front (fresh m)) xs behind refl here at_end in
     let i = first_is s.first (s.valid.first refl) s.valid.written in
-    subst (λ y. Begun m (y ∷ xs) text) (sym first.0) (begun_by m xs text front behind split mark here s i.0 i.1)
+    subst (λ y. Begun profile m (y ∷ xs) text) (sym first.0) (begun_by profile m xs text front behind split mark here s i.0 i.1)
 
 -- what the blocks leave
-pub record AtFrames (i : Info) (p : Progress) : Type 0 where
+pub record AtFrames (profile : Profile) (i : Info) (p : Progress) : Type 0 where
   pub phase : p.stand.phase ≡ Frames
   pub info : p.stand.info ≡ Some i
   pub before : p.stand.before ≡ None
+  pub judged : p.stand.profile ≡ profile
   pub samples : p.samples ≡ 0
   pub message : p.message ≡ []
 
-blocks_leave : (i : Info) (b : Block) (bs : List Block) (index : ℕ) (seen : Seen) → seen.stream_info ≡ true → AllBlocks seen (b ∷ bs) → AtFrames i (after grammar (at_block i index seen) (closing (b ∷ bs)))
-blocks_leave i b [] index seen first (valid, all) = subst (AtFrames i) (sym (goes_on i true b index seen first valid.once).0) (record { phase = refl; info = refl; before = refl; samples = refl; message = refl })
-blocks_leave i b (c ∷ cs) index seen first (valid, all) =
-    let on = goes_on i false b index seen first valid.once in
-    subst (λ q. AtFrames i (after grammar q (closing (c ∷ cs)))) (sym on.0) (blocks_leave i c cs (behind i false index (seen_after seen b)).stand.index (seen_after seen b) on.1 all)
+blocks_leave : (profile : Profile) (i : Info) (b : Block) (bs : List Block) (index : ℕ) (seen : Seen) → seen.stream_info ≡ true → AllBlocks seen (b ∷ bs) → AtFrames profile i (after grammar (at_block profile i index seen) (closing (b ∷ bs)))
+blocks_leave profile i b [] index seen first (valid, all) = subst (AtFrames profile i) (sym (goes_on profile i true b index seen first valid.once).0) (record { phase = refl; info = refl; before = refl; judged = refl; samples = refl; message = refl })
+blocks_leave profile i b (c ∷ cs) index seen first (valid, all) =
+    let on = goes_on profile i false b index seen first valid.once in
+    subst (λ q. AtFrames profile i (after grammar q (closing (c ∷ cs)))) (sym on.0) (blocks_leave profile i c cs (behind profile i false index (seen_after seen b)).stand.index (seen_after seen b) on.1 all)
 
-pub head_leaves : (i : Info) (list : List Block) → AllBlocks info_seen list → AtFrames i (after grammar opening (head_parts i list))
-head_leaves i [] all = record { phase = refl; info = refl; before = refl; samples = refl; message = refl }
-head_leaves i (b ∷ bs) all = blocks_leave i b bs 1 info_seen refl all
+pub head_leaves : (profile : Profile) (i : Info) (list : List Block) → AllBlocks info_seen list → AtFrames profile i (after grammar (opening profile) (head_parts i list))
+head_leaves profile i [] all = record { phase = refl; info = refl; before = refl; judged = refl; samples = refl; message = refl }
+head_leaves profile i (b ∷ bs) all = blocks_leave profile i b bs 1 info_seen refl all
 
 -- ---- the whole
 
@@ -231,11 +233,11 @@ record Ended (i : Info) (fs : List Frame) (q : Progress) : Type 0 where
 no_more : (n : ℕ) → 0 + n ≡ n
 no_more n = omega arith
 
-ended : (i : Info) (list : List Block) (fs : List Frame) → AtFrames i (after grammar opening (head_parts i list)) → Ended i fs (after grammar opening (head_parts i list ++ map framed fs))
-ended i list fs at =
-    let p = after grammar opening (head_parts i list) in
+ended : (profile : Profile) (i : Info) (list : List Block) (fs : List Frame) → AtFrames profile i (after grammar (opening profile) (head_parts i list)) → Ended i fs (after grammar (opening profile) (head_parts i list ++ map framed fs))
+ended profile i list fs at =
+    let p = after grammar (opening profile) (head_parts i list) in
     let r = frames_leave i p fs at.phase at.info in
-    subst (Ended i fs) (sym (after_both opening (head_parts i list) (map framed fs))) (record {
+    subst (Ended i fs) (sym (after_both (opening profile) (head_parts i list) (map framed fs))) (record {
       phase = r.phase;
       info = r.info;
       samples = r.samples ∙ ap (λ n. n + sum_by (λ (f : Frame). f.size) fs) at.samples ∙ no_more (sum_by (λ (f : Frame). f.size) fs);
@@ -254,19 +256,21 @@ kept_of i fs q e k =
     (subst (λ n. AllKept (end_rules q.stand.info n (flat_map (frame_message i.depth) fs))) (sym e.samples)
     (subst (λ o. AllKept (end_rules o (sum_by (λ (f : Frame). f.size) fs) (flat_map (frame_message i.depth) fs))) (sym e.info) k))
 
-is_whole : (m : Mark) (items : List Piece) (text : List Bool) → Stream grammar opening m items text → IsWhole m items text
-is_whole m items text s =
-    let q = after grammar opening items in
-    let b = begun m items text s.spelled (frames_then q.stand.phase q.stand.info s.ends) in
-    let all = valid_after m b.info b.list b.begins.head b.begins.spelled in
-    let at = head_leaves b.info b.list all.1 in
-    let p = after grammar opening (head_parts b.info b.list) in
-    let f = to_frames b.info p (mark_behind grammar opening m (head_parts b.info b.list) b.begins.head b.begins.spelled) b.more b.rest at.phase at.info b.left in
-    let joined = subst (λ o. Joined (frames b.info most) o (mark_behind grammar opening m (head_parts b.info b.list) b.begins.head b.begins.spelled) f.list b.rest) at.before f.joined in
-    let follow = (frames_follow b.info most (mark_behind grammar opening m (head_parts b.info b.list) b.begins.head b.begins.spelled) f.list b.rest).0 joined in
+is_whole : (profile : Profile) (m : Mark) (items : List Piece) (text : List Bool) → Stream grammar (opening profile) m items text → IsWhole profile m items text
+is_whole profile m items text s =
+    let q = after grammar (opening profile) items in
+    let b = begun profile m items text s.spelled (frames_then q.stand.phase q.stand.info s.ends) in
+    let all = valid_after profile m b.info b.list b.begins.head b.begins.spelled in
+    let at = head_leaves profile b.info b.list all.1 in
+    let p = after grammar (opening profile) (head_parts b.info b.list) in
+    let f = to_frames b.info p (mark_behind grammar (opening profile) m (head_parts b.info b.list) b.begins.head b.begins.spelled) b.more b.rest at.phase at.info b.left in
+    let k = mark_behind grammar (opening profile) m (head_parts b.info b.list) b.begins.head b.begins.spelled in
+    let judged = subst (λ q. Joined (frames q b.info most) p.stand.before k f.list b.rest) at.judged f.joined in
+    let joined = subst (λ o. Joined (frames profile b.info most) o k f.list b.rest) at.before judged in
+    let follow = (frames_follow profile b.info most (mark_behind grammar (opening profile) m (head_parts b.info b.list) b.begins.head b.begins.spelled) f.list b.rest).0 joined in
     let parts : items ≡ head_parts b.info b.list ++ map framed f.list = b.are ∙ ap (λ ys. head_parts b.info b.list ++ ys) f.are in
-    let kept = subst (λ (xs : List Piece). AllKept (grammar.at_end (after grammar opening xs))) parts s.kept in
-    let e = ended b.info b.list f.list at in
+    let kept = subst (λ (xs : List Piece). AllKept (grammar.at_end (after grammar (opening profile) xs))) parts s.kept in
+    let e = ended profile b.info b.list f.list at in
     record {
       info = b.info;
       list = b.list;
@@ -277,27 +281,27 @@ is_whole m items text s =
       headers = follow.0;
       are = follow.1;
       follow = follow.2;
-      kept = kept_to b.info f.list (after grammar opening (head_parts b.info b.list ++ map framed f.list)) e kept;
+      kept = kept_to b.info f.list (after grammar (opening profile) (head_parts b.info b.list ++ map framed f.list)) e kept;
     }
 
-is_stream : (m : Mark) (items : List Piece) (text : List Bool) → IsWhole m items text → Stream grammar opening m items text
-is_stream m items text w =
-    let all = valid_after m w.info w.list w.begins.head w.begins.spelled in
-    let at = head_leaves w.info w.list all.1 in
-    let p = after grammar opening (head_parts w.info w.list) in
-    let k = mark_behind grammar opening m (head_parts w.info w.list) w.begins.head w.begins.spelled in
-    let joined = (frames_follow w.info most k w.frames w.rest).1 (w.headers, w.are, w.follow) in
-    let f = of_frames w.info p k w.frames w.rest at.phase at.info (subst (λ o. Joined (frames w.info most) o k w.frames w.rest) (sym at.before) joined) in
-    let spelled = both_parts opening m (head_parts w.info w.list) (map framed w.frames) w.begins.head w.rest w.begins.spelled f in
-    let e = ended w.info w.list w.frames at in
+is_stream : (profile : Profile) (m : Mark) (items : List Piece) (text : List Bool) → IsWhole profile m items text → Stream grammar (opening profile) m items text
+is_stream profile m items text w =
+    let all = valid_after profile m w.info w.list w.begins.head w.begins.spelled in
+    let at = head_leaves profile w.info w.list all.1 in
+    let p = after grammar (opening profile) (head_parts w.info w.list) in
+    let k = mark_behind grammar (opening profile) m (head_parts w.info w.list) w.begins.head w.begins.spelled in
+    let joined = (frames_follow profile w.info most k w.frames w.rest).1 (w.headers, w.are, w.follow) in
+    let f = of_frames w.info p k w.frames w.rest at.phase at.info (subst (λ q. Joined (frames q w.info most) p.stand.before k w.frames w.rest) (sym at.judged) (subst (λ o. Joined (frames profile w.info most) o k w.frames w.rest) (sym at.before) joined)) in
+    let spelled = both_parts (opening profile) m (head_parts w.info w.list) (map framed w.frames) w.begins.head w.rest w.begins.spelled f in
+    let e = ended profile w.info w.list w.frames at in
     let all_items = head_parts w.info w.list ++ map framed w.frames in
-    let q = after grammar opening all_items in
-    let stream : Stream grammar opening m all_items (w.begins.head ++ w.rest) = record {
+    let q = after grammar (opening profile) all_items in
+    let stream : Stream grammar (opening profile) m all_items (w.begins.head ++ w.rest) = record {
       spelled = spelled;
       ends = rw (e.phase, e.info) refl;
       kept = kept_of w.info w.frames q e w.kept;
     } in
-    subst (λ xs. Stream grammar opening m xs text) (sym w.parts) (subst (λ t. Stream grammar opening m all_items t) (sym w.begins.stands) stream)
+    subst (λ xs. Stream grammar (opening profile) m xs text) (sym w.parts) (subst (λ t. Stream grammar (opening profile) m all_items t) (sym w.begins.stands) stream)
 
 pub streams_are_whole : StreamsAreWhole
-streams_are_whole m items text = (is_whole m items text, is_stream m items text)
+streams_are_whole profile m items text = (is_whole profile m items text, is_stream profile m items text)

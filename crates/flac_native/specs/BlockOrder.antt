@@ -3,6 +3,7 @@ use Rattle.std.specs.Prelude.{◌≡◌, ◌↔◌, ◌≤◌, Bool, true, false
 use Rattle.std.specs.List.{count_by}
 use Rattle.flac_bits.specs.State.{Mark}
 use Rattle.flac_bits.specs.Items.{Joined, Stream, after}
+use Rattle.flac_header.specs.declared.subset.Profile.{Profile}
 use Rattle.flac_meta.specs.Info.{Info}
 use Rattle.flac_meta.specs.Listed.{block_fault}
 use Rattle.flac_meta.specs.Valid.{FitsFields, BlockSpelled}
@@ -65,9 +66,9 @@ AreSpelled [] text = text ≡ []
 AreSpelled (b ∷ more) text = (front : List Bool) × (rest : List Bool) × (text ≡ front ++ rest) × BlockSpelled b.0 b.1 front × AreSpelled more rest
 
 -- these bits, after the marker, are these blocks, each in the state after those before it, and frames come next
-pub record AreRead (m : Mark) (list : List MarkedBlock) (text : List Bool) : Type 0 where
-  pub spelled : Joined grammar (next opening marked) m (map part_of list) text
-  pub over : (after grammar (next opening marked) (map part_of list)).stand.phase ≡ Frames
+pub record AreRead (profile : Profile) (m : Mark) (list : List MarkedBlock) (text : List Bool) : Type 0 where
+  pub spelled : Joined grammar (next (opening profile) marked) m (map part_of list) text
+  pub over : (after grammar (next (opening profile) marked) (map part_of list)).stand.phase ≡ Frames
 
 -- blocks in order, of which the last alone is marked, and their bits
 pub record AreOrdered (list : List MarkedBlock) (text : List Bool) : Type 0 where
@@ -87,5 +88,5 @@ pub record HasBlocks (items : List Piece) : Type 0 where
 
 -- So a reader, which judges each block by those before it, accepts just the blocks that are in order; and each stream has such blocks.
 pub record BlocksAreInOrder : Type 0 where
-  pub read : (m : Mark) (list : List MarkedBlock) (text : List Bool) → AreRead m list text ↔ AreOrdered list text
-  pub streams : (m : Mark) (items : List Piece) (text : List Bool) → Stream grammar opening m items text → HasBlocks items
+  pub read : (profile : Profile) (m : Mark) (list : List MarkedBlock) (text : List Bool) → AreRead profile m list text ↔ AreOrdered list text
+  pub streams : (profile : Profile) (m : Mark) (items : List Piece) (text : List Bool) → Stream grammar (opening profile) m items text → HasBlocks items

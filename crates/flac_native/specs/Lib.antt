@@ -23,3 +23,4 @@ pub mod Ordered
 pub mod Room
 pub mod Lent
 pub mod Places
+pub mod Wider

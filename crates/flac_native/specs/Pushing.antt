@@ -5,6 +5,7 @@ use Rattle.flac_bits.specs.Bits.{bits_of}
 use Rattle.flac_bits.specs.Items.{Stream, after}
 use Rattle.flac_bits.specs.declared.target.Target as target
 use Rattle.flac_bits.specs.declared.why.Why.TheVariants.{Truncated}
+use Rattle.flac_header.specs.declared.subset.Profile.TheVariants.{Subset}
 use Rattle.flac_meta.specs.Info.{Info}
 use Rattle.flac_header.specs.Header.{greatest_block}
 use Rattle.flac_header.specs.Choice.{rate_choice, depth_choice}
@@ -117,11 +118,11 @@ due block_size number = cond (nat_eq number 0) None (Some (record { first_size =
 -- The encoder stands for this stream, which may end here: its STREAMINFO is that of the format, it has the frames and the samples that were pushed, and as long as
 -- no block was short the next frame is still due.
 pub record StandsFor {S : Type 0} (e : Pushed S) (items : List Piece) (text : List Bool) : Type 0 where
-  pub stream : Stream grammar opening (beginning Truncated) items text
-  pub info : (after grammar opening items).stand.info ≡ Some (open_info e.shape)
+  pub stream : Stream grammar (opening Subset) (beginning Truncated) items text
+  pub info : (after grammar (opening Subset) items).stand.info ≡ Some (open_info e.shape)
   pub frames : frames_in items ≡ e.number
-  pub samples : (after grammar opening items).samples ≡ e.samples
-  pub before : e.ended ≡ false → (after grammar opening items).stand.before ≡ due e.shape.block_size e.number
+  pub samples : (after grammar (opening Subset) items).samples ≡ e.samples
+  pub before : e.ended ≡ false → (after grammar (opening Subset) items).stand.before ≡ due e.shape.block_size e.number
 
 -- ---- a block
 

@@ -3,6 +3,7 @@ use Rattle.std.specs.Prelude.{◌≡◌, ◌<◌, ℕ, ℤ, Bool, List, [], ◌�
 use Rattle.flac_bits.specs.State.{Mark}
 use Rattle.flac_bits.specs.Items.{Stream, Refused}
 use Rattle.flac_bits.specs.declared.why.Why.{Why}
+use Rattle.flac_header.specs.declared.subset.Profile.TheVariants.{Subset}
 use Rattle.flac_meta.specs.declared.block.Block.{Block}
 use Rattle.flac_frame.specs.Audio.{Sound, IsSound}
 use Rattle.flac_native.specs.Stream.{Piece, marked, block, framed, grammar, opening}
@@ -13,9 +14,9 @@ use Rattle.flac_native.specs.declared.fault.Place.{Place}
 
 -- The bits are a stream of these parts and of no others, and nothing in them is refused.
 pub record IsOnly (m : Mark) (parts : List Piece) (text : List Bool) : Type 0 where
-  pub stream : Stream grammar opening m parts text
-  pub only : (items : List Piece) → Stream grammar opening m items text → items ≡ parts
-  pub accepted : (items : List Piece) (at : Place) (why : Why) → Refused grammar opening m items text at why → ⊥
+  pub stream : Stream grammar (opening Subset) m parts text
+  pub only : (items : List Piece) → Stream grammar (opening Subset) m items text → items ≡ parts
+  pub accepted : (items : List Piece) (at : Place) (why : Why) → Refused grammar (opening Subset) m items text at why → ⊥
 
 -- the samples of one channel in all frames, in order
 abbrev pub channel_in : ℕ → List Piece → List ℤ

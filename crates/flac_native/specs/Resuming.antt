@@ -4,6 +4,8 @@ use Rattle.flac_bits.specs.State.{Mark}
 use Rattle.flac_bits.specs.Forms.{joined}
 use Rattle.flac_bits.specs.Items.{Joined, Stream, after}
 use Rattle.flac_bits.specs.declared.why.Why.TheVariants.{Truncated}
+use Rattle.flac_header.specs.declared.subset.Profile.{Profile}
+use Rattle.flac_header.specs.declared.subset.Profile.TheVariants.{Subset}
 use Rattle.flac_meta.specs.Header.{nothing_seen}
 use Rattle.flac_meta.specs.Info.{Info}
 use Rattle.flac_frame.specs.Audio.{Sound}
@@ -19,18 +21,18 @@ abbrev pub untold : Info → Info
 untold i = record i { total = 0; digest = replicate 16 0 }
 
 -- Behind blocks of which STREAMINFO says this a frame comes next, whose number may be any. Frames and samples are counted from there.
-abbrev pub at_frames : Info → Progress
-at_frames i = record { stand = record { phase = Frames; index = 0; seen = nothing_seen; info = Some i; before = None }; samples = 0; message = [] }
+abbrev pub at_frames : Profile → Info → Progress
+at_frames profile i = record { stand = record { profile = profile; phase = Frames; index = 0; seen = nothing_seen; info = Some i; before = None }; samples = 0; message = [] }
 
 -- so it is where decoding goes on at a frame
-abbrev pub resumed : Info → Progress
-resumed i = at_frames (untold i)
+abbrev pub resumed : Profile → Info → Progress
+resumed profile i = at_frames profile (untold i)
 
 -- So what stands in an encoded stream from one of its frames on is, read so, just the frames from there on.
 abbrev pub EncodedAreResumed : Type 0
 EncodedAreResumed = (p : Cut) (a : Sound) (least greatest : ℕ) (frames : List (List Bool)) (number : ℕ) → plan_fault p ≡ None → fits_plan p a ≡ true → AreFrames p a frames → AreSizes frames least greatest
     → number ≤ length frames
-    → Stream grammar (resumed (info_of p a least greatest)) (beginning Truncated) (map framed (frames_from p.block_size a (length frames - number) number)) (joined (drop number frames))
+    → Stream grammar (resumed Subset (info_of p a least greatest)) (beginning Truncated) (map framed (frames_from p.block_size a (length frames - number) number)) (joined (drop number frames))
 
 -- ---- what is read from a frame on
 
@@ -44,9 +46,9 @@ pub record Resumes (s : Progress) (m k : Mark) (front : List Piece) (f : Frame) 
   pub only : (head left : List Bool) → text ≡ head ++ left → Joined grammar s m front head → left ≡ rest
   pub info : Info
   pub told : (after grammar s front).stand.info ≡ Some info
-  pub stream : Stream grammar (resumed info) k (framed f ∷ more) rest
+  pub stream : Stream grammar (resumed s.stand.profile info) k (framed f ∷ more) rest
 
 -- So it is at each frame of a stream.
 abbrev pub FramesAreResumed : Type 0
-FramesAreResumed = (m k : Mark) (front more : List Piece) (f : Frame) (text : List Bool) → m.unread ≡ 0 → k.unread ≡ 0
-    → Stream grammar opening m (front ++ framed f ∷ more) text → Resumes opening m k front f more text
+FramesAreResumed = (profile : Profile) (m k : Mark) (front more : List Piece) (f : Frame) (text : List Bool) → m.unread ≡ 0 → k.unread ≡ 0
+    → Stream grammar (opening profile) m (front ++ framed f ∷ more) text → Resumes (opening profile) m k front f more text

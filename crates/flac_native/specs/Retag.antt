@@ -5,6 +5,8 @@ use Rattle.flac_bits.specs.State.{Mark, Cursor}
 use Rattle.flac_bits.specs.Items.{Joined, Refused}
 use Rattle.flac_bits.specs.declared.why.Why.{Why}
 use Rattle.flac_bits.specs.declared.why.Why.TheVariants as why
+use Rattle.flac_header.specs.declared.subset.Profile.{Profile}
+use Rattle.flac_header.specs.declared.subset.Profile.TheVariants.{Subset}
 use Rattle.flac_meta.specs.Info.{Info}
 use Rattle.flac_meta.specs.Listed.{block_fault}
 use Rattle.flac_meta.specs.Spelling.{comments_length}
@@ -40,10 +42,14 @@ without_comments (b ∷ bs) = unless_comment b ++ without_comments bs
 -- ---- the input
 
 -- The bits begin with the marker and these blocks, STREAMINFO and a list, of which the last is marked, each spelled (RFC 9639, sections 6 and 8). The rest is not read.
-pub record BeginsWith (m : Mark) (text : List Bool) (info : Info) (list : List Block) (rest : List Bool) : Type 0 where
+pub record Begins (profile : Profile) (m : Mark) (text : List Bool) (info : Info) (list : List Block) (rest : List Bool) : Type 0 where
   pub head : List Bool
   pub stands : text ≡ head ++ rest
-  pub spelled : Joined grammar opening m (marked ∷ closing (blocks.StreamInfo info ∷ list)) head
+  pub spelled : Joined grammar (opening profile) m (marked ∷ closing (blocks.StreamInfo info ∷ list)) head
+
+-- retagging reads no frame, so it needs no wider profile
+abbrev pub BeginsWith : Mark → List Bool → Info → List Block → List Bool → Type 0
+BeginsWith m text info list rest = Begins Subset m text info list rest
 
 -- the marker or a block
 abbrev pub is_before_frames : Place → Bool
@@ -54,7 +60,7 @@ is_before_frames other = false
 -- Behind good items, the marker or a block is refused, as decoding refuses it.
 pub record IsRefused (m : Mark) (text : List Bool) (at : Place) (why : Why) : Type 0 where
   pub items : List Piece
-  pub refused : Refused grammar opening m items text at why
+  pub refused : Refused grammar (opening Subset) m items text at why
   pub place : is_before_frames at ≡ true
 
 -- A head is there.

@@ -5,6 +5,7 @@ use Rattle.std.specs.Str.{bytes_eq}
 use Rattle.flac_bits.specs.Layout.{Layout, Rule, done, judge, refuse, ◌>>=◌, bits}
 use Rattle.flac_bits.specs.Items.{Grammar}
 use Rattle.flac_bits.specs.declared.why.Why.TheVariants.{BadMarker, NotStreamInfoFirst, TotalMismatch, Md5Mismatch}
+use Rattle.flac_header.specs.declared.subset.Profile.{Profile}
 use Rattle.flac_meta.specs.Header.{nothing_seen}
 use Rattle.flac_meta.specs.Block.{block as block_layout, seen_after}
 use Rattle.flac_meta.specs.Info.{Info}
@@ -26,8 +27,10 @@ pub data Piece : Type 0 where
   block : Bool → Block → Piece
   framed : Frame → Piece
 
--- Which part comes next: its kind and its index, which kinds of blocks came, STREAMINFO, and what the next frame has to follow.
+-- The profile by which frames are judged; which part comes next: its kind and its index; which kinds of blocks came, STREAMINFO, and what the next frame has to
+-- follow.
 pub record Stand : Type 0 where
+  pub profile : Profile
   pub phase : Phase
   pub index : ℕ
   pub seen : Seen
@@ -49,9 +52,9 @@ marker = do
   judge (record { broken = not (nat_eq v 0x664C6143); why = BadMarker } ∷ [])
 
 -- a frame of the format that STREAMINFO tells
-unfoldable pub frame_behind : Option Info → Option Before → Layout Frame
-frame_behind None before = refuse NotStreamInfoFirst
-frame_behind (Some info) before = frame_layout info before
+unfoldable pub frame_behind : Profile → Option Info → Option Before → Layout Frame
+frame_behind profile None before = refuse NotStreamInfoFirst
+frame_behind profile (Some info) before = frame_layout profile info before
 
 abbrev pub layout_in : Phase → Stand → Layout Piece
 layout_in Opening s = do
@@ -61,7 +64,7 @@ layout_in Blocks s = do
   b ← block_layout s.seen
   done (block b.0 b.1)
 layout_in Frames s = do
-  f ← frame_behind s.info s.before
+  f ← frame_behind s.profile s.info s.before
   done (framed f)
 
 unfoldable pub layout : Stand → Layout Piece
@@ -154,6 +157,6 @@ grammar = record {
   end_place = place.End;
 }
 
--- before the first part
-abbrev pub opening : Progress
-opening = record { stand = record { phase = Opening; index = 0; seen = nothing_seen; info = None; before = None }; samples = 0; message = [] }
+-- before the first part of a stream that is read by a profile
+abbrev pub opening : Profile → Progress
+opening profile = record { stand = record { profile = profile; phase = Opening; index = 0; seen = nothing_seen; info = None; before = None }; samples = 0; message = [] }

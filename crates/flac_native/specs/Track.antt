@@ -1,5 +1,6 @@
 -- What a track keeps of the parts so far.
 use Rattle.std.specs.Prelude.{◌≡◌, min, Bool, true, false, [], Option, Some, None, is_some}
+use Rattle.flac_header.specs.declared.subset.Profile.{Profile}
 use Rattle.flac_meta.specs.Info.{Info}
 use Rattle.flac_meta.specs.declared.block.Block.{Block}
 use Rattle.flac_frame.specs.Frame.{Frame}
@@ -22,9 +23,14 @@ abbrev pub before_in : Option Format → Option Before
 before_in None = None
 before_in (Some f) = f.buffers.before
 
+-- once STREAMINFO was read, the profile is that of the buffers for its frames
+abbrev pub profile_in : Profile → Option Format → Profile
+profile_in profile None = profile
+profile_in profile (Some f) = f.profile
+
 -- which part comes next
 abbrev pub stand_of : Track → Stand
-stand_of t = record { phase = t.phase; index = t.index; seen = t.seen; info = info_in t.format; before = before_in t.format }
+stand_of t = record { profile = profile_in t.profile t.format; phase = t.phase; index = t.index; seen = t.seen; info = info_in t.format; before = before_in t.format }
 
 abbrev pub no_frame : Frame
 no_frame = record { number = 0; variable = false; size = 0; channels = [] }

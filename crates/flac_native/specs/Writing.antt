@@ -8,6 +8,7 @@ use Rattle.flac_bits.specs.declared.target.Target as target
 use Rattle.flac_bits.specs.Forms.{joined}
 use Rattle.flac_bits.specs.Items.{Stream}
 use Rattle.flac_bits.specs.declared.why.Why.TheVariants.{Truncated}
+use Rattle.flac_header.specs.declared.subset.Profile.TheVariants.{Subset}
 use Rattle.flac_meta.specs.Info.{Info}
 use Rattle.flac_meta.specs.Listed.{list_fault, info_seen}
 use Rattle.flac_meta.specs.Spelling.{block_spelling}
@@ -79,7 +80,7 @@ abbrev pub EncodedAreStreams : Type 0
 EncodedAreStreams =
     (p : Cut) (list : List Block) (a : Sound) (least greatest : ℕ) (frames : List (List Bool)) → plan_fault p ≡ None → fits_plan p a ≡ true → list_fault info_seen list ≡ None → AllAre FitsFields list
     → AreFrames p a frames → AreSizes frames least greatest
-    → Stream grammar opening (beginning Truncated) (given p list a least greatest) (stream_spelling p list a least greatest frames)
+    → Stream grammar (opening Subset) (beginning Truncated) (given p list a least greatest) (stream_spelling p list a least greatest frames)
 
 -- what is known of the frames of the samples before they are written: each is the least of its block, the shortest and the longest have so many bytes, and these are
 -- their points
@@ -154,7 +155,7 @@ pub record Encodes (p : Cut) (list : List Block) (a : Sound) (before after : Lis
   pub are_least : AreLeastFrames p a frames
   pub sizes : AreSizes frames least greatest
   pub written : after ≡ before ++ stream_spelling p (list ++ table_of (points_of p frames)) a least greatest frames
-  pub stream : Stream grammar opening (beginning Truncated) (given p (list ++ table_of (points_of p frames)) a least greatest)
+  pub stream : Stream grammar (opening Subset) (beginning Truncated) (given p (list ++ table_of (points_of p frames)) a least greatest)
       (stream_spelling p (list ++ table_of (points_of p frames)) a least greatest frames)
 
 -- What was written is a beginning of such a stream, behind the bits that were there.

@@ -42,11 +42,11 @@ pub fn decode<R: Source, S: Sink>(
     // Ok only if the bytes are a stream, and the sink took exactly its items; refused only as the bytes are, after
     // exactly the items before; and in each case the sink took items that are spelled whole, from the start.
     ensures hands { R.known source.old ≡ true → S.known sink.old ≡ true →
-        Hands (by_grammar grammar opening (beginning (short_of ((R.behind source.old).fails))) (bits_of (R.coming source.old))) (taken S.takes) S.errors
+        Hands (by_grammar grammar (opening profile) (beginning (short_of ((R.behind source.old).fails))) (bits_of (R.coming source.old))) (taken S.takes) S.errors
         ((R.errors source.new ≡ R.errors source.old) × (R.raised source.new ≡ R.raised source.old)) sink.old sink.new (outcome_of told result) }
     // A stream is not refused, unless memory runs out, and the place and the reason are those that the bytes show.
     ensures decides { R.known source.old ≡ true → S.known sink.old ≡ true → R.errors source.new ≡ R.errors source.old → R.raised source.new ≡ R.raised source.old → S.errors sink.new ≡ S.errors sink.old →
-        Decides (by_grammar grammar opening (beginning (short_of ((R.behind source.old).fails))) (bits_of (R.coming source.old))) (outcome_of told result) }
+        Decides (by_grammar grammar (opening profile) (beginning (short_of ((R.behind source.old).fails))) (bits_of (R.coming source.old))) (outcome_of told result) }
     ensures kept { R.errors source.old ≤ R.errors source.new }
     ensures read { IfErr result (λ f. R.known source.old ≡ true → f.why ≡ Why.Read → R.raised source.old < R.raised source.new) }
     // An error of the source and of the sink is counted, if the count can rise, whatever is known of them: no other call returns it.

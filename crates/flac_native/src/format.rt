@@ -1,9 +1,9 @@
 //! STREAMINFO, and the buffers for its frames.
 
 ghost use Rattle.std.specs.Prelude.{◌≡◌, ◌≢◌, ◌≤◌, ◌+◌, OnOk, IfOk, IfErr, Some, None, min};
-ghost use Rattle.flac_header.specs.Header.{greatest_block};
+ghost use Rattle.flac_header.specs.Header.{greatest_in};
 
-use crate::subset::greatest_block;
+use crate::subset::greatest_in;
 use flac_bits::{BitReader, Source, Why};
 use flac_frame::{FrameBuffers, FrameView};
 use flac_header::Profile;
@@ -16,10 +16,11 @@ const LONGEST_FRAME: u64 = 16777215;
 /// STREAMINFO, and the buffers for its frames.
 #[derive(Drop)]
 pub(crate) struct Format {
+    pub(crate) profile: Profile,
     pub(crate) info: StreamInfo,
     pub(crate) buffers: FrameBuffers,
     ghost channels: { buffers.channels ≡ info.channels },
-    ghost block: { buffers.max_block ≡ min info.greatest_block (greatest_block info.rate) },
+    ghost block: { buffers.max_block ≡ min info.greatest_block (greatest_in profile info.rate) },
 }
 
 impl Format {
@@ -30,30 +31,31 @@ impl Format {
     ghost use Rattle.flac_frame.specs.Lent.{frame_of};
 
     /// Makes the buffers. Its only error is `Memory`: an allocation failed.
-    pub(crate) fn new(alloc: Global, info: StreamInfo) -> Result<Format, Why>
-        ensures ok { IfOk result (λ f. (f.info ≡ info) × (f.buffers.before ≡ None)) }
+    pub(crate) fn new(alloc: Global, profile: Profile, info: StreamInfo) -> Result<Format, Why>
+        ensures ok { IfOk result (λ f. (f.profile ≡ profile) × (f.info ≡ info) × (f.buffers.before ≡ None)) }
         ensures err { IfErr result (λ e. e ≡ Why.Memory) }
     {
-        let block = u32::from(info.greatest_block()).min(greatest_block(info.rate()));
+        let block = u32::from(info.greatest_block()).min(greatest_in(profile, info.rate()));
         let buffers = FrameBuffers::new(alloc, u32::from(info.channels()), block)?;
-        Ok(Format { info, buffers })
+        Ok(Format {
+            profile,
+            info,
+            buffers,
+        })
     }
 
     /// Reads the next frame into the buffers. It has at most 16777215 bytes.
-    pub(crate) fn fill<R: Source>(
-        &mut self,
-        bits: &mut BitReader<R>,
-        profile: Profile,
-    ) -> Result<(), Why>
+    pub(crate) fn fill<R: Source>(&mut self, bits: &mut BitReader<R>) -> Result<(), Why>
         ensures spends { OnOk result (bits.new.most + 40 ≤ bits.old.most) }
         ensures counts { Counts (lifted bits.old) bits.new result }
         ensures memory { IfErr result (λ e. e ≢ Why.Memory) }
-        ensures reads { ReadsWithin (Some 16777215) (λ _. self.new.buffers.held) (frame self.old.info self.old.buffers.before) bits.old bits.new result }
+        ensures reads { ReadsWithin (Some 16777215) (λ _. self.new.buffers.held) (frame self.old.profile self.old.info self.old.buffers.before) bits.old bits.new result }
         ensures before { OnOk result (self.new.buffers.before ≡ Some (after self.old.buffers.before self.new.buffers.held)) }
         ensures info { self.new.info ≡ self.old.info }
+        ensures profile { self.new.profile ≡ self.old.profile }
     {
         bits.fence(LONGEST_FRAME);
-        let outcome = self.buffers.fill(bits, &self.info, profile);
+        let outcome = self.buffers.fill(bits, &self.info, self.profile);
         bits.lift();
         outcome
     }

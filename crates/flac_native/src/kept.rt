@@ -87,7 +87,7 @@ fn keep_all<R: Source>(
     kept: &mut Vec<Block>,
 ) -> Result<(), Fault>
     requires whole { reader.old.cursor.mark.unread ≡ 0 }
-    requires first { IsAt track.old opening }
+    requires first { IsAt track.old (opening Profile.Subset) }
     requires none { kept.old.items ≡ [] }
     ensures counts { Counts (lifted reader.old) reader.new (reason_of told result) }
     ensures whole { OnOk result (reader.new.cursor.mark.unread ≡ 0) }

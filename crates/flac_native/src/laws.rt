@@ -6,6 +6,7 @@ ghost use Rattle.flac_native.specs.Retag.{HeadsAreOne, RetaggedAreRead};
 ghost use Rattle.flac_native.specs.Whole.{StreamsAreWhole};
 ghost use Rattle.flac_native.specs.BlockOrder.{BlocksAreInOrder};
 ghost use Rattle.flac_native.specs.Ordered.{StreamsAreOrdered};
+ghost use Rattle.flac_native.specs.Wider.{SubsetIsLax, NothingIsOutsideLax};
 
 /// No input has two readings: it is one stream, or it is refused at one place for one reason.
 pub fn only_one_way()
@@ -47,4 +48,16 @@ pub fn only_one_head()
 /// A stream with other comments begins with what is read as the same STREAMINFO, these comments and the other blocks.
 pub fn retagged_are_read()
     ensures { RetaggedAreRead }
+{}
+
+/// A stream of the streamable subset (RFC 9639, section 7) is, without the subset's limits, a stream of the same items: what [`flac_header::Profile::Subset`]
+/// accepts, [`flac_header::Profile::Lax`] accepts as the same.
+pub fn subset_is_lax()
+    ensures { SubsetIsLax }
+{}
+
+/// Without the subset's limits no input is outside the subset: [`flac_header::Profile::Lax`] never has the error
+/// [`flac_bits::Why::NotSubset`], of a whole stream and from a frame on.
+pub fn nothing_is_outside_lax()
+    ensures { NothingIsOutsideLax }
 {}

@@ -74,8 +74,8 @@ pub use flac_meta::{
 pub use handing::hand_out;
 pub use item::Item;
 pub use laws::{
-    blocks_are_in_order, only_one_head, only_one_way, retagged_are_read, some_way,
-    streams_are_ordered, streams_are_whole,
+    blocks_are_in_order, nothing_is_outside_lax, only_one_head, only_one_way, retagged_are_read,
+    some_way, streams_are_ordered, streams_are_whole, subset_is_lax,
 };
 pub use message::put_rows;
 pub use part::Part;

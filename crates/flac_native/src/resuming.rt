@@ -57,7 +57,7 @@ impl<R: Source + Drop> Decoder<BitReader<R>> {
         info: &StreamInfo,
         profile: Profile,
     ) -> Result<Decoder<BitReader<R>>, Fault>
-        ensures track { IfOk result (λ d. IsAt d.track (resumed info.now)) }
+        ensures track { IfOk result (λ d. IsAt d.track (resumed profile info.now)) }
         ensures course { IfOk result (λ d. d.course ≡ Course.Begun) }
         ensures known { IfOk result (λ d. d.container.known ≡ R.known source) }
         ensures errors { IfOk result (λ d. (d.container.errors ≡ R.errors source) × (d.container.raised ≡ R.raised source)) }

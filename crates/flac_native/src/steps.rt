@@ -212,7 +212,7 @@ impl<R: Source> Decoder<BitReader<R>> {
     /// let found = peaks(&mut decoder)?;
     /// ```
     pub fn new(alloc: Global, source: R, profile: Profile) -> Decoder<BitReader<R>>
-        ensures track { IsAt result.track opening }
+        ensures track { IsAt result.track (opening profile) }
         ensures course { result.course ≡ Course.Begun }
         ensures known { result.container.known ≡ R.known source }
         ensures errors { (result.container.errors ≡ R.errors source) × (result.container.raised ≡ R.raised source) }

@@ -10,7 +10,7 @@ ghost use Rattle.flac_meta.specs.Block.{block as block_layout};
 ghost use Rattle.flac_native.specs.Resuming.{at_frames};
 ghost use Rattle.flac_frame.specs.Lent.{frame_of};
 ghost use Rattle.flac_native.specs.Stream.{Progress, marked, block as block_piece, framed, phase_behind, raised, info_after, before_behind, frame_behind, place_in, next, opening, layout_in};
-ghost use Rattle.flac_native.specs.Track.{IsAt, stand_of, info_in, before_in, shown, kept};
+ghost use Rattle.flac_native.specs.Track.{IsAt, stand_of, profile_in, info_in, before_in, shown, kept};
 ghost use Rattle.flac_native.specs.declared.phase.Phase.TheVariants.{Blocks};
 ghost use Rattle.flac_native.specs.contracts.track.Track.{the_row};
 
@@ -38,6 +38,7 @@ use std::alloc::Global;
 #[derive(Drop)]
 pub struct Track {
     pub(crate) alloc: Global,
+    /// The buffers have it too, once there are some.
     pub(crate) profile: Profile,
     pub(crate) phase: Phase,
     pub(crate) index: u64,
@@ -53,7 +54,7 @@ impl Track {
     /// Makes the state after the marker: the first metadata block comes next. It allocates when it reads metadata: for
     /// the block, and at STREAMINFO for one frame.
     pub fn new(alloc: Global, profile: Profile) -> Track
-        ensures { IsAt result (next opening marked) }
+        ensures { IsAt result (next (opening profile) marked) }
     {
         let mut track = Track::opening(alloc, profile);
         track.phase = Phase::Blocks;
@@ -62,7 +63,7 @@ impl Track {
 
     /// The state before the marker.
     pub(crate) fn opening(alloc: Global, profile: Profile) -> Track
-        ensures { IsAt result opening }
+        ensures { IsAt result (opening profile) }
     {
         Track {
             alloc,
@@ -80,14 +81,24 @@ impl Track {
 
     /// The state before a frame of a stream with this STREAMINFO. Its only error is `Memory`: an allocation failed.
     pub(crate) fn resumed(alloc: Global, profile: Profile, info: StreamInfo) -> Result<Track, Why>
-        ensures ok { IfOk result (λ t. IsAt t (at_frames info)) }
+        ensures ok { IfOk result (λ t. IsAt t (at_frames profile info)) }
         ensures err { IfErr result (λ e. e ≡ Why.Memory) }
     {
-        let format = Format::new(alloc, info)?;
+        let format = Format::new(alloc, profile, info)?;
         let mut track = Track::opening(alloc, profile);
         track.phase = Phase::Frames;
         track.format = Some(format);
         Ok(track)
+    }
+
+    /// The profile by which frames are judged.
+    fn profile(&self) -> Profile
+        ensures { result ≡ profile_in self.now.profile self.now.format }
+    {
+        match &self.format {
+            Some(format) => format.profile,
+            None => self.profile,
+        }
     }
 
     /// Notes a block that was read. Its only error is `Memory`: an allocation failed.
@@ -95,6 +106,7 @@ impl Track {
         ensures phase { OnOk result (self.new.phase ≡ phase_behind last) }
         ensures index { OnOk result (self.new.index ≡ cond last 0 (raised self.old.index)) }
         ensures seen { self.new.seen ≡ self.old.seen }
+        ensures profile { OnOk result (profile_in self.new.profile self.new.format ≡ profile_in self.old.profile self.old.format) }
         ensures info { OnOk result (info_in self.new.format ≡ info_after (info_in self.old.format) block.now) }
         ensures before { OnOk result (before_in self.new.format ≡ before_behind (before_in self.old.format) block.now) }
         ensures samples { self.new.samples ≡ self.old.samples }
@@ -104,7 +116,8 @@ impl Track {
         ensures err { IfErr result (λ e. e ≡ Why.Memory) }
     {
         if let Block::StreamInfo(info) = block {
-            self.format = Some(Format::new(self.alloc, *info)?);
+            let profile = self.profile();
+            self.format = Some(Format::new(self.alloc, profile, *info)?);
         }
         if last {
             self.phase = Phase::Frames;
@@ -168,8 +181,8 @@ impl Track {
         ensures spends { OnOk result (bits.new.most + 40 ≤ bits.old.most) }
         ensures counts { Counts (lifted bits.old) bits.new result }
         ensures memory { IfErr result (λ e. e ≢ Why.Memory) }
-        ensures reads { ReadsWithin (Some 16777215) (λ _. shown self.new) (frame_behind (stand_of self.old).info (stand_of self.old).before) bits.old bits.new result }
-        ensures means { MeansWithin (Some 16777215) (λ _. shown self.new) (frame_behind (stand_of self.old).info (stand_of self.old).before) bits.old bits.new result }
+        ensures reads { ReadsWithin (Some 16777215) (λ _. shown self.new) (frame_behind (stand_of self.old).profile (stand_of self.old).info (stand_of self.old).before) bits.old bits.new result }
+        ensures means { MeansWithin (Some 16777215) (λ _. shown self.new) (frame_behind (stand_of self.old).profile (stand_of self.old).info (stand_of self.old).before) bits.old bits.new result }
         ensures next { OnOk result ((p : Progress) → IsAt self.old p → IsAt self.new (next p (framed (shown self.new)))) }
         ensures made { OnOk result (is_some (stand_of self.new).info ≡ true) }
         // The block that Track::next_block keeps does not change.
@@ -180,7 +193,7 @@ impl Track {
             bits.lift();
             return Err(Why::NotStreamInfoFirst);
         };
-        format.fill(bits, self.profile)?;
+        format.fill(bits)?;
         let view = format.view();
         let width = (usize::from(format.info.depth()) + 7) / 8;
         feed(&mut self.hasher, &view, width);
@@ -208,8 +221,8 @@ impl Track {
         ensures spends { OnOk result (bits.new.most + 40 ≤ bits.old.most) }
         ensures counts { Counts (lifted bits.old) bits.new result }
         ensures memory { IfErr result (λ e. e ≢ Why.Memory) }
-        ensures reads { ReadsWithin (Some 16777215) frame_of (frame_behind (stand_of self.old).info (stand_of self.old).before) bits.old bits.new result }
-        ensures means { MeansWithin (Some 16777215) frame_of (frame_behind (stand_of self.old).info (stand_of self.old).before) bits.old bits.new result }
+        ensures reads { ReadsWithin (Some 16777215) frame_of (frame_behind (stand_of self.old).profile (stand_of self.old).info (stand_of self.old).before) bits.old bits.new result }
+        ensures means { MeansWithin (Some 16777215) frame_of (frame_behind (stand_of self.old).profile (stand_of self.old).info (stand_of self.old).before) bits.old bits.new result }
         ensures* after { sem 𝓛 (follows_so the_row the_row self.entry.ghost_name none (λ _ _. ⊤)
             (λ last. IfOk result (λ v. (p : Progress) → IsAt self.old p → IsAt last (next p (framed (frame_of v)))))) }
     {

@@ -32,6 +32,7 @@ use Rattle.flac_ogg.proofs.MeaningReadings.{some_ogg_reading}
 use Rattle.flac_ogg.proofs.MeaningErrors.{stops_read, fault_read, stop_read}
 use Rattle.flac_ogg.proofs.UnderWay.{started, goes_on}
 use Rattle.flac_native.proofs.Received.{Fronts, hands_of, decides_of, none_some, same_end}
+use Rattle.flac_header.specs.declared.subset.Profile.{Profile}
 
 -- ---- where the track stands
 
@@ -225,26 +226,26 @@ pub front_ahead : (p : Stands) (known : Bool) (errors raised most : ℕ) (names 
 front_ahead p known errors raised most names text short e =
     begins_ahead (beginning short) text p (ap (λ (q : Stands). q.lacing) e) (ap (λ (q : Stands). q.body) e) (ap (λ (q : Stands). q.last) e) (ap (λ (q : Stands). q.before) e) (ap (λ (q : Stands). q.count) e) (ap (λ (q : Stands). q.cursor) e)
 
-all_come : (mark : Mark) (text : List Bool) (items : List Piece) (end : Option (Place × Why)) → IsReadTo mark text items (final end) → ItemsCome start (ahead_of mark text) items end
-all_come mark text items end r =
+all_come : (profile : Profile) (mark : Mark) (text : List Bool) (items : List Piece) (end : Option (Place × Why)) → IsReadTo profile mark text items (final end) → ItemsCome (start profile) (ahead_of mark text) items end
+all_come profile mark text items end r =
     let c = some_contents mark text in
-    record { way = started; packets = c.packets; begun = c.begun; given = contents_ahead c; state = r.state; behind = r.ahead; goes = r.goes; ends = r.step }
+    record { way = started profile; packets = c.packets; begun = c.begun; given = contents_ahead c; state = r.state; behind = r.ahead; goes = r.goes; ends = r.step }
 
-pub stream_comes : (mark : Mark) (text : List Bool) (items : List Piece) → OggStream mark items text → ItemsCome start (ahead_of mark text) items None
-stream_comes mark text items s = all_come mark text items None (stream_goes mark text items s)
+pub stream_comes : (profile : Profile) (mark : Mark) (text : List Bool) (items : List Piece) → OggStream profile mark items text → ItemsCome (start profile) (ahead_of mark text) items None
+stream_comes profile mark text items s = all_come profile mark text items None (stream_goes profile mark text items s)
 
-pub refusal_comes : (mark : Mark) (text : List Bool) (items : List Piece) (at : Place) (why : Why) → OggRefused mark items text at why → ItemsCome start (ahead_of mark text) items (Some (at, why))
-refusal_comes mark text items at why r = all_come mark text items (Some (at, why)) (refused_goes mark text items at why r)
+pub refusal_comes : (profile : Profile) (mark : Mark) (text : List Bool) (items : List Piece) (at : Place) (why : Why) → OggRefused profile mark items text at why → ItemsCome (start profile) (ahead_of mark text) items (Some (at, why))
+refusal_comes profile mark text items at why r = all_come profile mark text items (Some (at, why)) (refused_goes profile mark text items at why r)
 
-pub record IsThere (mark : Mark) (text : List Bool) : Type 0 where
+pub record IsThere (profile : Profile) (mark : Mark) (text : List Bool) : Type 0 where
   pub items : List Piece
   pub end : Option (Place × Why)
-  pub come : ItemsCome start (ahead_of mark text) items end
+  pub come : ItemsCome (start profile) (ahead_of mark text) items end
 
-pub some_come : (mark : Mark) (text : List Bool) → IsThere mark text
-some_come mark text = elim (some_ogg_reading mark text) [
-  | inl (items, s) ↦ record { items = items; end = None; come = stream_comes mark text items s }
-  | inr (items, at, why, r) ↦ record { items = items; end = Some (at, why); come = refusal_comes mark text items at why r }
+pub some_come : (profile : Profile) (mark : Mark) (text : List Bool) → IsThere profile mark text
+some_come profile mark text = elim (some_ogg_reading profile mark text) [
+  | inl (items, s) ↦ record { items = items; end = None; come = stream_comes profile mark text items s }
+  | inr (items, at, why, r) ↦ record { items = items; end = Some (at, why); come = refusal_comes profile mark text items at why r }
 ]
 
 goes_front : (p : Progress) (a : Ahead) (xs ys : List Piece) (q : Progress) (b : Ahead) → Goes p a (xs ++ ys) q b → (r : Progress) × (c : Ahead) × Goes p a xs r c
@@ -254,31 +255,31 @@ goes_front p a (x ∷ xs) ys q b (c, step, more) = let k = goes_front (next p x)
 -- ---- so much was handed out
 
 -- what is still to come of the whole input is how it is read
-read_as : (mark : Mark) (text : List Bool) (items : List Piece) (end : Option (Place × Why)) → ItemsCome start (ahead_of mark text) items end → ReadAs (ogg_reading mark text) items end
-read_as mark text items None come = goes_over mark text items come.state come.behind come.goes come.ends
-read_as mark text items (Some f) come = goes_refused mark text items come.state come.behind f.0 f.1 come.goes come.ends
+read_as : (profile : Profile) (mark : Mark) (text : List Bool) (items : List Piece) (end : Option (Place × Why)) → ItemsCome (start profile) (ahead_of mark text) items end → ReadAs (ogg_reading profile mark text) items end
+read_as profile mark text items None come = goes_over profile mark text items come.state come.behind come.goes come.ends
+read_as profile mark text items (Some f) come = goes_refused profile mark text items come.state come.behind f.0 f.1 come.goes come.ends
 
-comes : (mark : Mark) (text : List Bool) (items : List Piece) (end : Option (Place × Why)) → ReadAs (ogg_reading mark text) items end → ItemsCome start (ahead_of mark text) items end
-comes mark text items None stream = stream_comes mark text items stream
-comes mark text items (Some f) refusal = refusal_comes mark text items f.0 f.1 refusal
+comes : (profile : Profile) (mark : Mark) (text : List Bool) (items : List Piece) (end : Option (Place × Why)) → ReadAs (ogg_reading profile mark text) items end → ItemsCome (start profile) (ahead_of mark text) items end
+comes profile mark text items None stream = stream_comes profile mark text items stream
+comes profile mark text items (Some f) refusal = refusal_comes profile mark text items f.0 f.1 refusal
 
-fronts : (mark : Mark) (text : List Bool) (items : List Piece) (end : Option (Place × Why)) → ItemsCome start (ahead_of mark text) items end → Fronts (ogg_reading mark text) start items
-fronts mark text items end come = record {
+fronts : (profile : Profile) (mark : Mark) (text : List Bool) (items : List Piece) (end : Option (Place × Why)) → ItemsCome (start profile) (ahead_of mark text) items end → Fronts (ogg_reading profile mark text) (start profile) items
+fronts profile mark text items end come = record {
   begins = λ xs ys split.
-      let front = goes_front start (ahead_of mark text) xs ys come.state come.behind (subst (λ (k : List Piece). Goes start (ahead_of mark text) k come.state come.behind) split come.goes) in
-      (goes_begins mark text xs front.0 front.1 front.2).begins;
+      let front = goes_front (start profile) (ahead_of mark text) xs ys come.state come.behind (subst (λ (k : List Piece). Goes (start profile) (ahead_of mark text) k come.state come.behind) split come.goes) in
+      (goes_begins profile mark text xs front.0 front.1 front.2).begins;
   place = λ xs. refl;
 }
 
-pub hands_ogg : {K : Type 0} (takes : K → Piece → K → Type 0) (errors : K → ℕ) (mark : Mark) (text : List Bool) (items : List Piece) (end : Option (Place × Why)) (calm : Type 0) (old new : K) (outcome : Option (Place × Why))
-    → ItemsCome start (ahead_of mark text) items end → HandsFirst takes errors start items end calm IsItemOrPage old new outcome → Hands (ogg_reading mark text) takes errors calm old new outcome
-hands_ogg takes errors mark text items end calm old new outcome come h =
-    hands_of (ogg_reading mark text) takes errors start items end calm IsItemOrPage old new outcome (read_as mark text items end come) (fronts mark text items end come) (λ xs at b. inl b) h
+pub hands_ogg : {K : Type 0} (profile : Profile) (takes : K → Piece → K → Type 0) (errors : K → ℕ) (mark : Mark) (text : List Bool) (items : List Piece) (end : Option (Place × Why)) (calm : Type 0) (old new : K) (outcome : Option (Place × Why))
+    → ItemsCome (start profile) (ahead_of mark text) items end → HandsFirst takes errors (start profile) items end calm IsItemOrPage old new outcome → Hands (ogg_reading profile mark text) takes errors calm old new outcome
+hands_ogg profile takes errors mark text items end calm old new outcome come h =
+    hands_of (ogg_reading profile mark text) takes errors (start profile) items end calm IsItemOrPage old new outcome (read_as profile mark text items end come) (fronts profile mark text items end come) (λ xs at b. inl b) h
 
-pub decides_ogg : {K : Type 0} (takes : K → Piece → K → Type 0) (errors : K → ℕ) (mark : Mark) (text : List Bool) (calm : Type 0) (old new : K) (outcome : Option (Place × Why))
-    → ((items : List Piece) (end : Option (Place × Why)) → ItemsCome start (ahead_of mark text) items end → HandsFirst takes errors start items end calm IsItemOrPage old new outcome) → calm → errors new ≡ errors old → Decides (ogg_reading mark text) outcome
-decides_ogg takes errors mark text calm old new outcome hands quiet same =
-    decides_of (ogg_reading mark text) takes errors start calm IsItemOrPage old new outcome (λ items end has. hands items end (comes mark text items end has)) quiet same
+pub decides_ogg : {K : Type 0} (profile : Profile) (takes : K → Piece → K → Type 0) (errors : K → ℕ) (mark : Mark) (text : List Bool) (calm : Type 0) (old new : K) (outcome : Option (Place × Why))
+    → ((items : List Piece) (end : Option (Place × Why)) → ItemsCome (start profile) (ahead_of mark text) items end → HandsFirst takes errors (start profile) items end calm IsItemOrPage old new outcome) → calm → errors new ≡ errors old → Decides (ogg_reading profile mark text) outcome
+decides_ogg profile takes errors mark text calm old new outcome hands quiet same =
+    decides_of (ogg_reading profile mark text) takes errors (start profile) calm IsItemOrPage old new outcome (λ items end has. hands items end (comes profile mark text items end has)) quiet same
 
 -- an error that is foretold stands behind the input
 pub foretold_short : (mark : Mark) (text : List Bool) → Foretells (ahead_of mark text) → mark.short ≡ Read
@@ -291,9 +292,9 @@ foretold_short mark text h =
     ]
 
 -- before the first page memory is wanting
-pub nothing_read : {K : Type 0} (takes : K → Piece → K → Type 0) (errors : K → ℕ) (mark : Mark) (text : List Bool) (calm : Type 0) (sink : K) (why : Why) → why ≡ Memory → Hands (ogg_reading mark text) takes errors calm sink sink (Some (place.Marker, why))
-nothing_read takes errors mark text calm sink why is =
-    let begins = (goes_begins mark text [] start (ahead_of mark text) (refl, refl)).begins in
+pub nothing_read : {K : Type 0} (profile : Profile) (takes : K → Piece → K → Type 0) (errors : K → ℕ) (mark : Mark) (text : List Bool) (calm : Type 0) (sink : K) (why : Why) → why ≡ Memory → Hands (ogg_reading profile mark text) takes errors calm sink sink (Some (place.Marker, why))
+nothing_read profile takes errors mark text calm sink why is =
+    let begins = (goes_begins profile mark text [] (start profile) (ahead_of mark text) (refl, refl)).begins in
     record {
       done = λ quiet e. absurd (none_some (place.Marker, why) (sym e));
       refused = λ quiet to w e room same. absurd (room (sym (same_end place.Marker to why w e).1 ∙ is));
@@ -303,16 +304,16 @@ nothing_read takes errors mark text calm sink why is =
     }
 
 -- where the source foretells no error
-pub clear_start : (p : Stands) (t : Track) (fails : Option (ℕ × Why)) (text : List Bool) → ahead p ≡ ahead_of (beginning (short_of fails)) text → IsAt t start → fails ≡ None → IsClear p t
-clear_start p t fails text front at none =
+pub clear_start : (profile : Profile) (p : Stands) (t : Track) (fails : Option (ℕ × Why)) (text : List Bool) → ahead p ≡ ahead_of (beginning (short_of fails)) text → IsAt t (start profile) → fails ≡ None → IsClear p t
+clear_start profile p t fails text front at none =
     let mark = beginning (short_of fails) in
-    let there = some_come mark text in
+    let there = some_come profile mark text in
     record {
-      progress = start;
+      progress = (start profile);
       at = at;
       items = there.items;
       end = there.end;
-      come = subst (λ (a : Ahead). ItemsCome start a there.items there.end) (sym front) there.come;
+      come = subst (λ (a : Ahead). ItemsCome (start profile) a there.items there.end) (sym front) there.come;
       none = λ h. differ (ap short_of (sym none) ∙ foretold_short mark text (subst (λ (a : Ahead). Foretells a) front h));
     }
   where

@@ -11,6 +11,7 @@ use Rattle.flac_ogg.specs.Fronts.{front_bytes}
 use Rattle.flac_ogg.specs.Either.{begins_page, read_either}
 use Rattle.flac_ogg.proofs.MeaningContents.{ahead_of}
 use Rattle.flac_ogg.proofs.MeaningStreams.{goes_begins}
+use Rattle.flac_header.specs.declared.subset.Profile.{Profile}
 
 pub front_put : (buf : List ℕ) (b : ℕ) → 0 < length buf → take 1 (slice_set buf 0 b) ≡ b ∷ []
 front_put [] b some = absurd (omega (arith, some))
@@ -22,22 +23,22 @@ first_of None rest all split none = ap begins_page (none refl)
 first_of (Some b) rest all split none = ap begins_page split
 
 -- each input begins with no item
-begins_nothing : (is_ogg : Bool) (mark : Mark) (text : List Bool) → (read_either is_ogg mark text).begins []
-begins_nothing true mark text = (goes_begins mark text [] start (ahead_of mark text) (refl, refl)).begins
-begins_nothing false mark text = ([], text, refl, refl)
+begins_nothing : (profile : Profile) (is_ogg : Bool) (mark : Mark) (text : List Bool) → (read_either profile is_ogg mark text).begins []
+begins_nothing profile true mark text = (goes_begins profile mark text [] (start profile) (ahead_of mark text) (refl, refl)).begins
+begins_nothing profile false mark text = ([], text, refl, refl)
 
 -- at the marker it is told that a call was broken off before the first item
-breaks_nothing : (is_ogg : Bool) (mark : Mark) (text : List Bool) (at : Place) → at ≡ place.Marker → (read_either is_ogg mark text).breaks [] at
-breaks_nothing true mark text at e = inr (refl, e)
-breaks_nothing false mark text at e = e
+breaks_nothing : (profile : Profile) (is_ogg : Bool) (mark : Mark) (text : List Bool) (at : Place) → at ≡ place.Marker → (read_either profile is_ogg mark text).breaks [] at
+breaks_nothing profile true mark text at e = inr (refl, e)
+breaks_nothing profile false mark text at e = e
 
 -- the source failed before the first item
-pub nothing_came : {K : Type 0} (is_ogg : Bool) (mark : Mark) (text : List Bool) (takes : K → Piece → K → Type 0) (errors : K → ℕ) (calm : Type 0) (sink : K) (outcome : Option (Place × Why))
-    → (calm → ⊥) → ((at : Place) (why : Why) → outcome ≡ Some (at, why) → at ≡ place.Marker) → Hands (read_either is_ogg mark text) takes errors calm sink sink outcome
-nothing_came is_ogg mark text takes errors calm sink outcome none marker = record {
+pub nothing_came : {K : Type 0} (profile : Profile) (is_ogg : Bool) (mark : Mark) (text : List Bool) (takes : K → Piece → K → Type 0) (errors : K → ℕ) (calm : Type 0) (sink : K) (outcome : Option (Place × Why))
+    → (calm → ⊥) → ((at : Place) (why : Why) → outcome ≡ Some (at, why) → at ≡ place.Marker) → Hands (read_either profile is_ogg mark text) takes errors calm sink sink outcome
+nothing_came profile is_ogg mark text takes errors calm sink outcome none marker = record {
   done = λ quiet e. absurd (none quiet);
   refused = λ quiet at why e room same. absurd (none quiet);
-  begun = ([], sink, begins_nothing is_ogg mark text, refl, λ same. refl);
-  broken = λ at why e out. ([], begins_nothing is_ogg mark text, breaks_nothing is_ogg mark text at (marker at why e), refl);
+  begun = ([], sink, begins_nothing profile is_ogg mark text, refl, λ same. refl);
+  broken = λ at why e out. ([], begins_nothing profile is_ogg mark text, breaks_nothing profile is_ogg mark text at (marker at why e), refl);
   failed = λ rose. absurd (omega (arith, rose));
 }

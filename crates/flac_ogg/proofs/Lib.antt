@@ -24,3 +24,4 @@ pub mod SentOgg
 pub mod Headed
 pub mod PushedOgg
 pub mod Judged
+pub mod Wider

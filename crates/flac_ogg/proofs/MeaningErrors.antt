@@ -12,6 +12,7 @@ use Rattle.flac_bits.specs.declared.why.Why.{Why}
 use Rattle.flac_bits.specs.declared.why.Why.TheVariants.{Read, Truncated, FrameTooLong, PacketLength, NoEndPage, PageOrder, BadPage}
 use Rattle.flac_bits.proofs.Meaning.{past-short}
 use Rattle.flac_meta.specs.Info.{Info}
+use Rattle.flac_header.specs.declared.subset.Profile.{Profile}
 use Rattle.flac_native.specs.Stream.{Piece, Progress, grammar, end_rules as stream_rules}
 use Rattle.flac_native.specs.declared.fault.Place.{Place}
 use Rattle.flac_pages.specs.declared.page.Before.{Before}
@@ -202,8 +203,8 @@ stops_read p [] begun fault stop at (inr (inr (inr (nothing, none, may, is, firs
 
 -- ---- and so the input
 
-pub refused_read : (m : Mark) (text : List Bool) (items : List Piece) (at : Place) → OggRefused m items text at Read → m.short ≡ Read
-refused_read m text items at r =
+pub refused_read : (profile : Profile) (m : Mark) (text : List Bool) (items : List Piece) (at : Place) → OggRefused profile m items text at Read → m.short ≡ Read
+refused_read profile m text items at r =
     let run = r.contents.is_run in
     elim (stops_read _ r.left r.contents.begun (fault_in r.contents) (stop_in r.contents) at r.stops) [
       | inl tells ↦ fault_read None m r.contents.run.pages run.text run.rest r.contents.run.stop _ run.ends tells

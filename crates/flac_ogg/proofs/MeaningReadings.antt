@@ -12,6 +12,7 @@ use Rattle.flac_ogg.specs.Decoding.{ogg_reading}
 use Rattle.flac_ogg.proofs.MeaningContents.{ahead_of, some_contents, contents_ahead}
 use Rattle.flac_ogg.proofs.MeaningSteps.{over_is_no_refusal, same_item, same_refusal, step_item}
 use Rattle.flac_ogg.proofs.MeaningStreams.{goes_over, goes_refused, stream_goes, refused_goes}
+use Rattle.flac_header.specs.declared.subset.Profile.{Profile}
 
 -- ---- one item more
 
@@ -43,20 +44,20 @@ one_way p a (x ∷ xs) (y ∷ ys) q r b c f g is_f is_g (d, first, more) step_f 
     let rest = one_way (next p x) d xs ys q r b c f g is_f is_g more step_f moved step_g in
     (ap (λ z. z ∷ xs) same.0 ∙ ap (λ zs. y ∷ zs) rest.0, rest.1)
 
-pub one_ogg_reading : (mark : Mark) (text : List Bool) → ReadsOnce (ogg_reading mark text)
-one_ogg_reading mark text = record {
+pub one_ogg_reading : (profile : Profile) (mark : Mark) (text : List Bool) → ReadsOnce (ogg_reading profile mark text)
+one_ogg_reading profile mark text = record {
   streams = λ xs ys s t.
-      let a = stream_goes mark text xs s in
-      let b = stream_goes mark text ys t in
-      (one_way start (ahead_of mark text) xs ys a.state b.state a.ahead b.ahead over over tt tt a.goes a.step b.goes b.step).0;
+      let a = stream_goes profile mark text xs s in
+      let b = stream_goes profile mark text ys t in
+      (one_way (start profile) (ahead_of mark text) xs ys a.state b.state a.ahead b.ahead over over tt tt a.goes a.step b.goes b.step).0;
   either = λ xs ys at why s t.
-      let a = stream_goes mark text xs s in
-      let b = refused_goes mark text ys at why t in
-      over_is_no_refusal at why (one_way start (ahead_of mark text) xs ys a.state b.state a.ahead b.ahead over (refused at why) tt tt a.goes a.step b.goes b.step).1;
+      let a = stream_goes profile mark text xs s in
+      let b = refused_goes profile mark text ys at why t in
+      over_is_no_refusal at why (one_way (start profile) (ahead_of mark text) xs ys a.state b.state a.ahead b.ahead over (refused at why) tt tt a.goes a.step b.goes b.step).1;
   refusals = λ xs ys at to v w s t.
-      let a = refused_goes mark text xs at v s in
-      let b = refused_goes mark text ys to w t in
-      let same = one_way start (ahead_of mark text) xs ys a.state b.state a.ahead b.ahead (refused at v) (refused to w) tt tt a.goes a.step b.goes b.step in
+      let a = refused_goes profile mark text xs at v s in
+      let b = refused_goes profile mark text ys to w t in
+      let same = one_way (start profile) (ahead_of mark text) xs ys a.state b.state a.ahead b.ahead (refused at v) (refused to w) tt tt a.goes a.step b.goes b.step in
       let refusal = same_refusal at to v w same.1 in
       (same.0, refusal.0, refusal.1);
 }
@@ -99,13 +100,13 @@ read_all p a (y ∷ ys) begun h = go (packet_step p a) refl (λ q b k. read_all 
     go over e others = nothing_more p a over e tt
     go (refused at why) e others = nothing_more p a (refused at why) e tt
 
-pub some_ogg_reading : (mark : Mark) (text : List Bool) → IsRead (ogg_reading mark text)
-some_ogg_reading mark text =
+pub some_ogg_reading : (profile : Profile) (mark : Mark) (text : List Bool) → IsRead (ogg_reading profile mark text)
+some_ogg_reading profile mark text =
     let c = some_contents mark text in
-    let r = read_all start (ahead_of mark text) c.packets c.begun (contents_ahead c) in
+    let r = read_all (start profile) (ahead_of mark text) c.packets c.begun (contents_ahead c) in
     go r (packet_step r.state r.ahead) refl r.final
   where
-    go : (r : AllRead start (ahead_of mark text)) (f : PacketStep) → packet_step r.state r.ahead ≡ f → IsFinal f → IsRead (ogg_reading mark text)
+    go : (r : AllRead (start profile) (ahead_of mark text)) (f : PacketStep) → packet_step r.state r.ahead ≡ f → IsFinal f → IsRead (ogg_reading profile mark text)
     go r (item x c) e final = absurd final
-    go r over e final = inl (r.items, goes_over mark text r.items r.state r.ahead r.goes e)
-    go r (refused at why) e final = inr (r.items, at, why, goes_refused mark text r.items r.state r.ahead at why r.goes e)
+    go r over e final = inl (r.items, goes_over profile mark text r.items r.state r.ahead r.goes e)
+    go r (refused at why) e final = inr (r.items, at, why, goes_refused profile mark text r.items r.state r.ahead at why r.goes e)

@@ -14,6 +14,7 @@ use Rattle.flac_ogg.specs.Steps.{PacketStep, over, refused, packet_step, Goes}
 use Rattle.flac_ogg.specs.Decoding.{BeginsWith}
 use Rattle.flac_ogg.proofs.MeaningContents.{ahead_of, some_contents, contents_ahead, contents_fault, contents_stop}
 use Rattle.flac_ogg.proofs.MeaningSteps.{first_is, behind_next, step_item, step_over, step_refused, item_step, over_step, refused_step}
+use Rattle.flac_header.specs.declared.subset.Profile.{Profile}
 
 -- ---- what was read
 
@@ -54,17 +55,17 @@ goes_far p a packets begun (x ∷ xs) q b h (c, step, more) =
     }
 
 -- where a reader of an input stands behind these items
-pub record StandsBehind (mark : Mark) (text : List Bool) (items : List Piece) (p : Progress) (a : Ahead) : Type 0 where
-  pub begins : BeginsWith mark items text
-  pub state : p ≡ after grammar start items
+pub record StandsBehind (profile : Profile) (mark : Mark) (text : List Bool) (items : List Piece) (p : Progress) (a : Ahead) : Type 0 where
+  pub begins : BeginsWith profile mark items text
+  pub state : p ≡ after grammar (start profile) items
   pub ahead : PacketsAhead a begins.left begins.contents.begun
   pub fault : a.fault ≡ fault_in begins.contents
   pub stop : a.stop ≡ stop_in begins.contents
 
-pub goes_begins : (mark : Mark) (text : List Bool) (items : List Piece) (p : Progress) (a : Ahead) → Goes start (ahead_of mark text) items p a → StandsBehind mark text items p a
-goes_begins mark text items p a g =
+pub goes_begins : (profile : Profile) (mark : Mark) (text : List Bool) (items : List Piece) (p : Progress) (a : Ahead) → Goes (start profile) (ahead_of mark text) items p a → StandsBehind profile mark text items p a
+goes_begins profile mark text items p a g =
     let c : Contents mark text = some_contents mark text in
-    let far = goes_far start (ahead_of mark text) c.packets c.begun items p a (contents_ahead c) g in
+    let far = goes_far (start profile) (ahead_of mark text) c.packets c.begun items p a (contents_ahead c) g in
     record {
       begins = record { contents = c; taken = far.taken; left = far.left; split = far.split; spelled = far.spelled };
       state = far.state;
@@ -75,9 +76,9 @@ goes_begins mark text items p a g =
 
 -- ---- and how it ended
 
-pub goes_over : (mark : Mark) (text : List Bool) (items : List Piece) (p : Progress) (a : Ahead) → Goes start (ahead_of mark text) items p a → packet_step p a ≡ over → OggStream mark items text
-goes_over mark text items p a g e =
-    let s = goes_begins mark text items p a g in
+pub goes_over : (profile : Profile) (mark : Mark) (text : List Bool) (items : List Piece) (p : Progress) (a : Ahead) → Goes (start profile) (ahead_of mark text) items p a → packet_step p a ≡ over → OggStream profile mark items text
+goes_over profile mark text items p a g e =
+    let s = goes_begins profile mark text items p a g in
     let b = s.begins in
     let o = step_over p a b.left b.contents.begun s.ahead e in
     let all : b.taken ≡ b.contents.packets = sym (b.split ∙ ap (λ k. b.taken ++ k) o.no_packet ∙ append-nil b.taken) in
@@ -85,25 +86,25 @@ goes_over mark text items p a g e =
       contents = b.contents;
       no_fault = sym s.stop ∙ o.no_fault;
       no_part = o.no_part;
-      spelled = subst (λ (k : List (List ℕ)). AreItems start k items) all b.spelled;
+      spelled = subst (λ (k : List (List ℕ)). AreItems (start profile) k items) all b.spelled;
       ends = subst (λ (k : Progress). grammar.may_end k ≡ true) s.state o.ends;
       kept = subst (λ (k : Progress). AllKept (grammar.at_end k)) s.state o.kept;
     }
 
-pub goes_refused : (mark : Mark) (text : List Bool) (items : List Piece) (p : Progress) (a : Ahead) (at : Place) (why : Why) → Goes start (ahead_of mark text) items p a → packet_step p a ≡ refused at why → OggRefused mark items text at why
-goes_refused mark text items p a at why g e =
-    let s = goes_begins mark text items p a g in
+pub goes_refused : (profile : Profile) (mark : Mark) (text : List Bool) (items : List Piece) (p : Progress) (a : Ahead) (at : Place) (why : Why) → Goes (start profile) (ahead_of mark text) items p a → packet_step p a ≡ refused at why → OggRefused profile mark items text at why
+goes_refused profile mark text items p a at why g e =
+    let s = goes_begins profile mark text items p a g in
     let b = s.begins in
     let first : StopsAtPacket p b.left b.contents.begun a.fault a.stop at why = step_refused p a b.left b.contents.begun at why s.ahead e in
     let second = subst (λ (k : Progress). StopsAtPacket k b.left b.contents.begun a.fault a.stop at why) s.state first in
-    let third = subst (λ (f : Option (ℕ × Why)). StopsAtPacket (after grammar start items) b.left b.contents.begun f a.stop at why) s.fault second in
+    let third = subst (λ (f : Option (ℕ × Why)). StopsAtPacket (after grammar (start profile) items) b.left b.contents.begun f a.stop at why) s.fault second in
     record {
       contents = b.contents;
       taken = b.taken;
       left = b.left;
       split = b.split;
       spelled = b.spelled;
-      stops = subst (λ (f : Option (ℕ × Why)). StopsAtPacket (after grammar start items) b.left b.contents.begun (fault_in b.contents) f at why) s.stop third;
+      stops = subst (λ (f : Option (ℕ × Why)). StopsAtPacket (after grammar (start profile) items) b.left b.contents.begun (fault_in b.contents) f at why) s.stop third;
     }
 
 -- ---- what the input is, is read
@@ -130,28 +131,28 @@ items_go p a (y ∷ ys) left begun (x ∷ xs) h are =
     }
 
 -- the items are read one after another, and then this step is made
-pub record IsReadTo (mark : Mark) (text : List Bool) (items : List Piece) (final : PacketStep) : Type 0 where
+pub record IsReadTo (profile : Profile) (mark : Mark) (text : List Bool) (items : List Piece) (final : PacketStep) : Type 0 where
   pub state : Progress
   pub ahead : Ahead
-  pub goes : Goes start (ahead_of mark text) items state ahead
+  pub goes : Goes (start profile) (ahead_of mark text) items state ahead
   pub step : packet_step state ahead ≡ final
 
-pub stream_goes : (mark : Mark) (text : List Bool) (items : List Piece) → OggStream mark items text → IsReadTo mark text items over
-stream_goes mark text items s =
+pub stream_goes : (profile : Profile) (mark : Mark) (text : List Bool) (items : List Piece) → OggStream profile mark items text → IsReadTo profile mark text items over
+stream_goes profile mark text items s =
     let c : Contents mark text = s.contents in
     let given : PacketsAhead (ahead_of mark text) (c.packets ++ []) [] = subst (λ (k : List ℕ). PacketsAhead (ahead_of mark text) (c.packets ++ []) k) s.no_part
     (subst (λ (k : List (List ℕ)). PacketsAhead (ahead_of mark text) k c.begun) (sym (append-nil c.packets)) (contents_ahead c)) in
-    let r = items_go start (ahead_of mark text) c.packets [] [] items given s.spelled in
-    record { state = after grammar start items; ahead = r.end; goes = r.goes; step = over_step (after grammar start items) r.end r.ahead (r.stop ∙ contents_stop c ∙ s.no_fault) s.ends s.kept }
+    let r = items_go (start profile) (ahead_of mark text) c.packets [] [] items given s.spelled in
+    record { state = after grammar (start profile) items; ahead = r.end; goes = r.goes; step = over_step (after grammar (start profile) items) r.end r.ahead (r.stop ∙ contents_stop c ∙ s.no_fault) s.ends s.kept }
 
-pub refused_goes : (mark : Mark) (text : List Bool) (items : List Piece) (at : Place) (why : Why) → OggRefused mark items text at why → IsReadTo mark text items (refused at why)
-refused_goes mark text items at why s =
+pub refused_goes : (profile : Profile) (mark : Mark) (text : List Bool) (items : List Piece) (at : Place) (why : Why) → OggRefused profile mark items text at why → IsReadTo profile mark text items (refused at why)
+refused_goes profile mark text items at why s =
     let c : Contents mark text = s.contents in
     let given : PacketsAhead (ahead_of mark text) (s.taken ++ s.left) c.begun = subst (λ (k : List (List ℕ)). PacketsAhead (ahead_of mark text) k c.begun) s.split (contents_ahead c) in
-    let r = items_go start (ahead_of mark text) s.taken s.left c.begun items given s.spelled in
+    let r = items_go (start profile) (ahead_of mark text) s.taken s.left c.begun items given s.spelled in
     record {
-      state = after grammar start items;
+      state = after grammar (start profile) items;
       ahead = r.end;
       goes = r.goes;
-      step = refused_step (after grammar start items) r.end s.left c.begun (fault_in c) (stop_in c) at why r.ahead (r.fault ∙ contents_fault c) (r.stop ∙ contents_stop c) s.stops;
+      step = refused_step (after grammar (start profile) items) r.end s.left c.begun (fault_in c) (stop_in c) at why r.ahead (r.fault ∙ contents_fault c) (r.stop ∙ contents_stop c) s.stops;
     }

@@ -14,6 +14,7 @@ use Rattle.flac_meta.specs.Info.{Info, KeepsRules}
 use Rattle.flac_meta.specs.Valid.{IsInfo}
 use Rattle.flac_meta.specs.declared.seen.Seen.{Seen}
 use Rattle.flac_header.specs.Header.{Header, channels_of, depth_of, greatest_block}
+use Rattle.flac_header.specs.declared.subset.Profile.TheVariants.{Subset}
 use Rattle.flac_meta.specs.declared.block.Block.TheVariants as blocks
 use Rattle.flac_frame.specs.Audio.{Sound, samples_each}
 use Rattle.flac_frame.specs.Frame.{Frame, frame, header_rules, breaks_sequence, breaks_size}
@@ -40,22 +41,22 @@ use Rattle.flac_ogg.proofs.NativeBlocks.{ArePacked, are_items, packed_later, beh
 -- ---- one frame
 
 -- where a frame comes
-frame_in : (s : Stand) (m : Mark) (text : List Bool) (x : Frame) → Spells (layout_in Frames s) m text (framed x) → Spells (frame_behind s.info s.before) m text x
+frame_in : (s : Stand) (m : Mark) (text : List Bool) (x : Frame) → Spells (layout_in Frames s) m text (framed x) → Spells (frame_behind s.profile s.info s.before) m text x
 frame_in s m text x (y, front, rest, split, spelled, (none, same)) =
     let whole : front ≡ text = sym (split ∙ ap (λ k. front ++ k) none ∙ append-nil front) in
     let is : y ≡ x = cc in
-    subst (λ k. Spells (frame_behind s.info s.before) m k x) whole (subst (λ z. Spells (frame_behind s.info s.before) m front z) is spelled)
+    subst (λ k. Spells (frame_behind s.profile s.info s.before) m k x) whole (subst (λ z. Spells (frame_behind s.profile s.info s.before) m front z) is spelled)
 
-from_part : (s : Stand) (info : Info) (m : Mark) (text : List Bool) (x : Frame) → s.phase ≡ Frames → s.info ≡ Some info → Spells (layout s) m text (framed x) → Spells (frame info s.before) m text x
+from_part : (s : Stand) (info : Info) (m : Mark) (text : List Bool) (x : Frame) → s.phase ≡ Frames → s.info ≡ Some info → Spells (layout s) m text (framed x) → Spells (frame s.profile info s.before) m text x
 unfolding layout frame_behind
 from_part s info m text x phase told h =
     let there = frame_in s m text x (subst (λ (k : Phase). Spells (layout_in k s) m text (framed x)) phase h) in
-    subst (λ (o : Option Info). Spells (frame_behind o s.before) m text x) told there
+    subst (λ (o : Option Info). Spells (frame_behind s.profile o s.before) m text x) told there
 
-as_part : (s : Stand) (info : Info) (m : Mark) (text : List Bool) (x : Frame) → s.phase ≡ Frames → s.info ≡ Some info → Spells (frame info s.before) m text x → Spells (layout s) m text (framed x)
+as_part : (s : Stand) (info : Info) (m : Mark) (text : List Bool) (x : Frame) → s.phase ≡ Frames → s.info ≡ Some info → Spells (frame s.profile info s.before) m text x → Spells (layout s) m text (framed x)
 unfolding layout frame_behind
 as_part s info m text x phase told h =
-    let there : Spells (frame_behind s.info s.before) m text x = subst (λ (o : Option Info). Spells (frame_behind o s.before) m text x) (sym told) h in
+    let there : Spells (frame_behind s.profile s.info s.before) m text x = subst (λ (o : Option Info). Spells (frame_behind s.profile o s.before) m text x) (sym told) h in
     subst (λ (k : Phase). Spells (layout_in k s) m text (framed x)) (sym phase) (x, text, [], sym (append-nil text), there, (refl, refl))
 
 -- the rules of sequence and size see only the number, the size and the strategy
@@ -83,12 +84,12 @@ module _ (p : Cut) (a : Sound) (least greatest : ℕ) (q : Planned p) (f : Fit p
   at_ number = frame_of p.block_size a number
 
   -- where some bits spell the frame, those of each encoding do
-  encoding_here : (number : ℕ) (before : Option Before) (m : Mark) (front text : List Bool) → AtByte m → Spells (frame info before) m front (at_ number) → SpellsFrame a (at_ number) text
-      → Spells (frame info before) (packet_start None) text (at_ number)
+  encoding_here : (number : ℕ) (before : Option Before) (m : Mark) (front text : List Bool) → AtByte m → Spells (frame Subset info before) m front (at_ number) → SpellsFrame a (at_ number) text
+      → Spells (frame Subset info before) (packet_start None) text (at_ number)
   encoding_here number before m front text at spelled s =
       let x = at_ number in
       let size = size_of p.block_size (samples_each a.channels) number in
-      let other = (frames_spelled info before m front x rules at.unread at.check8 at.check16).0 spelled in
+      let other = (frames_spelled Subset info before m front x rules at.unread at.check8 at.check16).0 spelled in
       let h = s.form.header in
       let k = other.form.header in
       let r = encodings_are_frames a size number x.channels s.form info refl refl (sym (length-map a.channels (λ c. take size (drop (p.block_size * number) c)))) s.encoding in
@@ -97,7 +98,7 @@ module _ (p : Cut) (a : Sound) (least greatest : ℕ) (q : Planned p) (f : Fit p
       let numbered : h.number ≡ k.number = r.numbered ∙ ap (λ (z : Frame). z.number) other.frame in
       let sized : h.size ≡ k.size = r.sized ∙ ap (λ (z : Frame). z.size) other.frame in
       let kept = other.valid.follows in
-      let follows : AllKept (header_rules info before h) = (
+      let follows : AllKept (header_rules Subset info before h) = (
         ap not (r.allowed in_rate),
         (
           same_three h.rate a.rate (channels_of h.channel_code) (length a.channels) (depth_of h.depth_code) a.bits r.format.rate r.format.channels r.format.depth,
@@ -105,7 +106,7 @@ module _ (p : Cut) (a : Sound) (least greatest : ℕ) (q : Planned p) (f : Fit p
         ),
       ) in
       let valid = r.frame before follows in
-      (frames_spelled info before (packet_start None) text x rules refl refl refl).1 (record {
+      (frames_spelled Subset info before (packet_start None) text x rules refl refl refl).1 (record {
         form = s.form;
         valid = valid.0;
         spelling = s.spelling;
@@ -113,9 +114,9 @@ module _ (p : Cut) (a : Sound) (least greatest : ℕ) (q : Planned p) (f : Fit p
         samples = valid.1;
       })
 
-  front_whole : (before : Option Before) (m : Mark) (front : List Bool) (x : Frame) → AtByte m → Spells (frame info before) m front x → length front % 8 ≡ 0
+  front_whole : (before : Option Before) (m : Mark) (front : List Bool) (x : Frame) → AtByte m → Spells (frame Subset info before) m front x → length front % 8 ≡ 0
   front_whole before m front x at spelled =
-      let other = (frames_spelled info before m front x rules at.unread at.check8 at.check16).0 spelled in
+      let other = (frames_spelled Subset info before m front x rules at.unread at.check8 at.check16).0 spelled in
       ap (λ (k : List Bool). length k % 8) other.spelling ∙ frames_bytes info.depth other.form
 
   not_first : (s : Stand) → s.phase ≡ Frames → is_first_block s.phase s.index ≡ false
@@ -124,18 +125,18 @@ module _ (p : Cut) (a : Sound) (least greatest : ℕ) (q : Planned p) (f : Fit p
   frame_fits : (s : Stand) (text : List Bool) → s.phase ≡ Frames → length text ≤ 8 * 16777215 → InRoom (room_in s.phase) (packet_start None) text
   frame_fits s text e short = subst (λ z. InRoom (room_in z) (packet_start None) text) (sym e) (omega (arith, short))
 
-  frames_packed : (texts : List (List Bool)) (number : ℕ) (s : Progress) (m : Mark) (text : List Bool) → s.stand.phase ≡ Frames → s.stand.info ≡ Some info → m.unread ≡ 0
+  frames_packed : (texts : List (List Bool)) (number : ℕ) (s : Progress) (m : Mark) (text : List Bool) → s.stand.profile ≡ Subset → s.stand.phase ≡ Frames → s.stand.info ≡ Some info → m.unread ≡ 0
       → Joined grammar s m (map framed (frames_from p.block_size a (length texts) number)) text → ((j : ℕ) → j < length texts → SpellsFrame a (at_ (number + j)) (slice_index_or texts j []))
       → ArePacked s texts (map framed (frames_from p.block_size a (length texts) number))
-  frames_packed [] number s m text phase told z j each = tt
-  frames_packed (t ∷ ts) number s m text phase told z (front, rest, split, spelled, fits, others) each =
+  frames_packed [] number s m text judged phase told z j each = tt
+  frames_packed (t ∷ ts) number s m text judged phase told z (front, rest, split, spelled, fits, others) each =
       let x = at_ number in
       let here : SpellsFrame a x t = subst (λ n. SpellsFrame a (at_ n) t) (let e : number + 0 ≡ number = omega arith in e) (each 0 (omega arith)) in
       let at = at_fresh m z in
-      let first = from_part s.stand info (fresh m) front x phase told spelled in
-      let there = encoding_here number s.stand.before (fresh m) front t at first here in (
+      let first = subst (λ k. Spells (frame k info s.stand.before) (fresh m) front x) judged (from_part s.stand info (fresh m) front x phase told spelled) in
+      let there = subst (λ k. Spells (frame k info s.stand.before) (packet_start None) t x) (sym judged) (encoding_here number s.stand.before (fresh m) front t at first here) in (
         packed_later s t (framed x) (not_first s.stand phase) (as_part s.stand info (packet_start None) t x phase told there) (frame_fits s.stand t phase here.short),
-        frames_packed ts (number + 1) (next s (framed x)) (past front (fresh m)) rest phase told (behind_whole front (fresh m) at.unread (front_whole s.stand.before (fresh m) front x at first)) others
+        frames_packed ts (number + 1) (next s (framed x)) (past front (fresh m)) rest judged phase told (behind_whole front (fresh m) at.unread (front_whole s.stand.before (fresh m) front x at first)) others
             (λ j h. subst (λ n. SpellsFrame a (at_ n) (slice_index_or ts j [])) (let e : number + suc j ≡ number + 1 + j = omega arith in e) (each (suc j) (omega (arith, h)))),
       )
 
@@ -166,9 +167,9 @@ encoded_are_ogg_items p list a least greatest count frames packets planned_is fi
     let each : (j : ℕ) → j < length frames → SpellsFrame a (frame_of b a (0 + j)) (slice_index_or frames j []) = λ j h. subst (λ n. SpellsFrame a (frame_of b a n) (slice_index_or frames j [])) (let e : j ≡ 0 + j = omega arith in e) (f.each j h) in
     let there : (seen : Seen) → ArePacked (behind i true 0 seen) frames items = λ seen.
     let run = frames_run p a least greatest q k small.0 small.1 frames 0 0 0 seen None [] m refl (omega (arith, f.many)) (λ more. inl refl) (sym (no_samples b (samples_each a.channels))) (sym (ap (λ n. rows_bytes width a.channels n 0) (no_samples b (samples_each a.channels)))) each in
-    frames_packed p a least greatest q k small.0 small.1 frames 0 (behind i true 0 seen) m (joined frames) refl refl refl run.0 each in
+    frames_packed p a least greatest q k small.0 small.1 frames 0 (behind i true 0 seen) m (joined frames) refl refl refl refl run.0 each in
     let all = head_packed i items frames there count list few is listed_is fields in
     let stream = encoded_are_streams p list a least greatest frames planned_is fits listed_is fields f s in
-    let packed = subst (λ n. ArePacked start (packet_spellings count i list frames) (closing (blocks.StreamInfo i ∷ list) ++ map framed (frames_from b a n 0))) f.many all in
+    let packed = subst (λ n. ArePacked (start Subset) (packet_spellings count i list frames) (closing (blocks.StreamInfo i ∷ list) ++ map framed (frames_from b a n 0))) f.many all in
     let pieces = closing (blocks.StreamInfo i ∷ list) ++ map framed (frames_of b a) in
-    record { spelled = are_items start packets pieces (subst (λ t. ArePacked start t pieces) (sym are) packed); ends = stream.ends; kept = stream.kept }
+    record { spelled = are_items (start Subset) packets pieces (subst (λ t. ArePacked (start Subset) t pieces) (sym are) packed); ends = stream.ends; kept = stream.kept }

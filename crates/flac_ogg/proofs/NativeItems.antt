@@ -20,6 +20,7 @@ use Rattle.flac_meta.specs.declared.seen.Seen.{Seen}
 use Rattle.flac_meta.specs.declared.block.Block.{Block}
 use Rattle.flac_meta.specs.declared.block.Block.TheVariants as blocks
 use Rattle.flac_meta.proofs.Blocks.{blocks_spelled}
+use Rattle.flac_header.specs.declared.subset.Profile.{Profile}
 use Rattle.flac_frame.specs.Frame.{Frame}
 use Rattle.flac_frame.specs.declared.before.Before.{Before}
 use Rattle.flac_frame.proofs.FrameTie.{frames_spelled}
@@ -75,12 +76,12 @@ pub behind_block : (last : Bool) (n : ℕ) → is_first_block (phase_behind last
 behind_block true n = refl
 behind_block false n = not_zero n
 
-frame_moved : (info : Option Info) (before : Option Before) (m k : Mark) (text : List Bool) (x : Frame) → ((i : Info) → info ≡ Some i → KeepsRules i) → AtByte m → AtByte k → Spells (frame_behind info before) m text x → Spells (frame_behind info before) k text x
+frame_moved : (profile : Profile) (info : Option Info) (before : Option Before) (m k : Mark) (text : List Bool) (x : Frame) → ((i : Info) → info ≡ Some i → KeepsRules i) → AtByte m → AtByte k → Spells (frame_behind profile info before) m text x → Spells (frame_behind profile info before) k text x
 unfolding frame_behind
-frame_moved None before m k text x h a b s = absurd s
-frame_moved (Some i) before m k text x h a b s =
+frame_moved profile None before m k text x h a b s = absurd s
+frame_moved profile (Some i) before m k text x h a b s =
     let rules = h i refl in
-    (frames_spelled i before k text x rules b.unread b.check8 b.check16).1 ((frames_spelled i before m text x rules a.unread a.check8 a.check16).0 s)
+    (frames_spelled profile i before k text x rules b.unread b.check8 b.check16).1 ((frames_spelled profile i before m text x rules a.unread a.check8 a.check16).0 s)
 
 -- a block is spelled at any mark
 pub moved : (s : Stand) (m k : Mark) (text : List Bool) (x : Piece) → Begun s → (s.phase ≡ Frames → AtByte m) → (s.phase ≡ Frames → AtByte k) → Spells (layout s) m text x → Moved s k text x
@@ -99,7 +100,7 @@ moved s m k text x begun a b h = go s.phase refl h
           later = subst (λ z. is_first_block (stand_after s z).phase (stand_after s z).index ≡ false) same (behind_block y.0 s.index);
         }
     go Frames e (f, front, rest, split, spelled, (none, same)) = record {
-      spelled = subst (λ (z : Phase). Spells (layout_in z s) k text x) (sym e) (f, front, rest, split, frame_moved s.info s.before m k front f begun.rules (a e) (b e) spelled, (none, same));
+      spelled = subst (λ (z : Phase). Spells (layout_in z s) k text x) (sym e) (f, front, rest, split, frame_moved s.profile s.info s.before m k front f begun.rules (a e) (b e) spelled, (none, same));
       begun = subst (λ z. Begun (stand_after s z)) same (record { opened = λ o. begun.opened o; rules = begun.rules });
       later = subst (λ z. is_first_block (stand_after s z).phase (stand_after s z).index ≡ false) same (subst (λ z. is_first_block z (raised s.index) ≡ false) (sym e) refl);
     }
@@ -152,17 +153,17 @@ behind_mapping packet front rest split long =
     let short : length (bits_of (drop 13 packet)) ≡ length rest = omega (arith, length-bits_of packet, length-bits_of (drop 13 packet), ap (λ (k : List Bool). length k) split, length-append front rest, long, length-drop 13 packet) in
     (same_parts front rest (bits_of (take 13 packet)) (bits_of (drop 13 packet)) parts (sym short)).1
 
-begun_at_start : Begun start.stand
-begun_at_start = record { opened = λ e. absurd cc; rules = λ i e. absurd cc }
+begun_at_start : (profile : Profile) → Begun (start profile).stand
+begun_at_start profile = record { opened = λ e. absurd cc; rules = λ i e. absurd cc }
 
-no_frames_yet : (m : Mark) → start.stand.phase ≡ Frames → AtByte m
-no_frames_yet m e = absurd cc
+no_frames_yet : (profile : Profile) (m : Mark) → (start profile).stand.phase ≡ Frames → AtByte m
+no_frames_yet profile m e = absurd cc
 
-first_moved : (packet : List ℕ) (k : Mark) (x : Piece) → Spells (packet_layout start.stand) (packet_start None) (bits_of packet) x → Moved start.stand k (bits_of (drop 13 packet)) x
+pub first_moved : (profile : Profile) (packet : List ℕ) (k : Mark) (x : Piece) → Spells (packet_layout (start profile).stand) (packet_start None) (bits_of packet) x → Moved (start profile).stand k (bits_of (drop 13 packet)) x
 unfolding packet_layout
-first_moved packet k x (u, front, rest, split, map, spelled) =
+first_moved profile packet k x (u, front, rest, split, map, spelled) =
     let e = behind_mapping packet front rest split (mapping_long (packet_start None) front map) in
-    subst (λ t. Moved start.stand k t x) e (moved start.stand (past front (packet_start None)) k rest x begun_at_start (no_frames_yet (past front (packet_start None))) (no_frames_yet k) spelled)
+    subst (λ t. Moved (start profile).stand k t x) e (moved (start profile).stand (past front (packet_start None)) k rest x (begun_at_start profile) (no_frames_yet profile (past front (packet_start None))) (no_frames_yet profile k) spelled)
 
 -- ---- all of them
 
@@ -182,21 +183,21 @@ packets_join p m (packet ∷ packets) (x ∷ xs) begun later z (is, others) =
       packets_join (next p x) (past (bits_of packet) (fresh m)) packets xs there.begun there.later (behind_whole (bits_of packet) (fresh m) at.unread (bytes_whole packet)) others,
     )
 
-all_join : (packets : List (List ℕ)) (items : List Piece) → grammar.may_end (after grammar start items) ≡ true → AreItems start packets items → Joined grammar opening (beginning Truncated) (marked ∷ items) (native_text packets)
-all_join [] [] ends are = absurd cc
-all_join [] (x ∷ xs) ends are = absurd are
-all_join (packet ∷ packets) [] ends are = absurd are
-all_join (packet ∷ packets) (x ∷ xs) ends (is, others) =
+all_join : (profile : Profile) (packets : List (List ℕ)) (items : List Piece) → grammar.may_end (after grammar (start profile) items) ≡ true → AreItems (start profile) packets items → Joined grammar (opening profile) (beginning Truncated) (marked ∷ items) (native_text packets)
+all_join profile [] [] ends are = absurd cc
+all_join profile [] (x ∷ xs) ends are = absurd are
+all_join profile (packet ∷ packets) [] ends are = absurd are
+all_join profile (packet ∷ packets) (x ∷ xs) ends (is, others) =
     let marker = unsigned 32 0x664C6143 in
     let m = past marker (fresh (beginning Truncated)) in
     let z : m.unread ≡ 0 = behind_whole marker (fresh (beginning Truncated)) refl refl in
     let first = bits_of (drop 13 packet) in
     let rest = joined (map bits_of packets) in
-    let there = first_moved packet (fresh m) x is.spelled in (
+    let there = first_moved profile packet (fresh m) x is.spelled in (
       marker,
       first ++ rest,
       refl,
-      marker_here (fresh (beginning Truncated)),
+      marker_here profile (fresh (beginning Truncated)),
       tt,
       (
         first,
@@ -204,9 +205,9 @@ all_join (packet ∷ packets) (x ∷ xs) ends (is, others) =
         refl,
         there.spelled,
         tt,
-        packets_join (next start x) (past first (fresh m)) packets xs there.begun there.later (behind_whole first (fresh m) (fresh_unread m z) (bytes_whole (drop 13 packet))) others,
+        packets_join (next (start profile) x) (past first (fresh m)) packets xs there.begun there.later (behind_whole first (fresh m) (fresh_unread m z) (bytes_whole (drop 13 packet))) others,
       ),
     )
 
 pub ogg_streams_are_streams : OggStreamsAreStreams
-ogg_streams_are_streams mark items text o = record { spelled = all_join o.contents.packets items o.ends o.spelled; ends = o.ends; kept = o.kept }
+ogg_streams_are_streams profile mark items text o = record { spelled = all_join profile o.contents.packets items o.ends o.spelled; ends = o.ends; kept = o.kept }

@@ -20,6 +20,7 @@ use Rattle.flac_meta.specs.Valid.{AllAre, FitsFields, IsInfo}
 use Rattle.flac_meta.specs.declared.block.Block.{Block}
 use Rattle.flac_meta.specs.declared.block.Block.TheVariants as block_of
 use Rattle.flac_header.specs.Header.{channels_of, depth_of, greatest_block}
+use Rattle.flac_header.specs.declared.subset.Profile.TheVariants.{Subset}
 use Rattle.flac_bits.specs.declared.why.Why.{Why}
 use Rattle.flac_frame.specs.Audio.{Sound, IsSound, samples_each}
 use Rattle.flac_frame.specs.Encoding.{block_of as part_of}
@@ -35,7 +36,7 @@ use Rattle.flac_native.specs.Given.{closing}
 use Rattle.flac_native.specs.Pushing.{Shape, shape_fault, open_info, Pushed, unpushed, behind_block, due, StandsFor, sound_of, frame_with}
 use Rattle.flac_native.specs.Writing.{blocks_spelling, head_spelling, SpellsFrame, SpellsLeast}
 use Rattle.flac_native.proofs.EachFrame.{same_three, follows_on, sized, full_before}
-use Rattle.flac_native.proofs.Onwards.{as_part}
+use Rattle.flac_native.proofs.Onwards.{as_part, after_profile}
 use Rattle.flac_native.proofs.Pushing.{Shaped, shaped, keeps_open, opened, Accepted, stands_on, whole_block}
 use Rattle.flac_pages.specs.declared.writing.PacketKind.TheVariants as kind_of
 use Rattle.flac_pages.specs.Placed.{Placed, IsPlaced, marks_of, sequence_behind}
@@ -64,7 +65,7 @@ pub stands_for : {S : Type 0} (e : PushedOgg S) (items : List Piece) (q : Placed
     → StandsFor e.pushed (marked ∷ items) (native_text (bytes_of (q ∷ qs))) → AreStream (bytes_of (q ∷ qs)) items → All IsPlaced (q ∷ qs) → e.serial < 2 ^ 32 → length q.packet ≡ 51 → StandsForOgg e items (q ∷ qs) written
 stands_for e items q qs written pages plain are good small long = record {
   pages = pages;
-  stream = subst (λ t. OggStream (beginning Truncated) items t) (sym pages.last_is) (ogg_stream e.serial q qs items small long good are);
+  stream = subst (λ t. OggStream Subset (beginning Truncated) items t) (sym pages.last_is) (ogg_stream e.serial q qs items small long good are);
   plain = plain;
   are = are;
   good = good;
@@ -124,9 +125,9 @@ opened_ogg g s list old h e shape good fits small serial are pushed sequence mid
         let is : IsInfo info = record { rules = keeps_open s (shaped s shape); digest = zero_bytes } in
         let plain = opened s e.pushed.target list shape good fits in
         let packed = head_packed info [] [] (λ seen. tt) count list (count_small (length list)) is good fits in
-        let spelled = subst (λ i. ArePacked start (packet_spellings count info list []) i) (append-nil items) packed in
+        let spelled = subst (λ i. ArePacked (start Subset) (packet_spellings count info list []) i) (append-nil items) packed in
         let are_stream : AreStream (bytes_of (q ∷ qs)) items = record {
-          spelled = are_items start (bytes_of (q ∷ qs)) items (subst (λ t. ArePacked start t items) (sym texts) spelled);
+          spelled = are_items (start Subset) (bytes_of (q ∷ qs)) items (subst (λ t. ArePacked (start Subset) t items) (sym texts) spelled);
           ends = plain.stream.ends;
           kept = plain.stream.kept;
         } in
@@ -177,7 +178,7 @@ is_due b (suc n) before e = let k : nat_eq (suc n) 0 ≡ false = grind (arith, n
 
 -- the bits are the frame where it is due
 frame_due : (s : Shape) (q : Shaped s) (number : ℕ) (channels : List (List ℤ)) (before : Option Before) (t : List Bool) → length channels ≡ s.channels → samples_each channels ≤ s.block_size → before ≡ due s.block_size number
-    → SpellsFrame (sound_of s channels) (frame_with number channels) t → Spells (frame (open_info s) before) (packet_start None) t (frame_with number channels)
+    → SpellsFrame (sound_of s channels) (frame_with number channels) t → Spells (frame Subset (open_info s) before) (packet_start None) t (frame_with number channels)
 frame_due s q number channels before t many small left k =
     let info = open_info s in
     let f = frame_with number channels in
@@ -187,7 +188,7 @@ frame_due s q number channels before t many small left k =
     let r = encodings_are_frames (sound_of s channels) size number channels k.form info refl refl (sym many) k.encoding in
     let in_rate : size ≤ greatest_block info.rate = omega (arith, small, q.greatest) in
     let at_most : h.size ≤ s.block_size = omega (arith, r.sized, small) in
-    let follows : AllKept (header_rules info before h) = (
+    let follows : AllKept (header_rules Subset info before h) = (
       ap not (r.allowed in_rate),
       (
         same_three h.rate info.rate (channels_of h.channel_code) info.channels (depth_of h.depth_code) info.depth r.format.rate r.format.channels r.format.depth,
@@ -195,7 +196,7 @@ frame_due s q number channels before t many small left k =
       ),
     ) in
     let w = r.frame before follows in
-    (frames_spelled info before (packet_start None) t f (keeps_open s q) refl refl refl).1 (record {
+    (frames_spelled Subset info before (packet_start None) t f (keeps_open s q) refl refl refl).1 (record {
       form = k.form;
       valid = w.0;
       spelling = k.spelling;
@@ -223,13 +224,14 @@ module _ {S : Type 0} (old new : PushedOgg S) (t : S) (block : List (List ℤ)) 
   q = record { packet = packet; kind = kind_of.Frame (old.pushed.samples + samples_each block) }
 
   frame_item : (items : List Piece) (plain : List Bool) → StandsFor old.pushed (marked ∷ items) plain
-      → IsItem (room_in (after grammar start items).stand.phase) (packet_layout (after grammar start items).stand) (packet_start None) (closed_packet packet) (framed f)
+      → IsItem (room_in (after grammar (start Subset) items).stand.phase) (packet_layout (after grammar (start Subset) items).stand) (packet_start None) (closed_packet packet) (framed f)
   frame_item items plain h =
       let s = old.pushed.shape in
-      let p = after grammar start items in
+      let p = after grammar (start Subset) items in
       let phase : p.stand.phase ≡ Frames = frames_now p.stand.phase p.stand.info h.stream.ends in
       let here = frame_due s (shaped s shape) old.pushed.number block p.stand.before (bits_of packet) accept.many accept.most (h.before accept.going) text_is in
-      packed_later p (bits_of packet) (framed f) (not_first p.stand.phase p.stand.index phase) (as_part p.stand (open_info s) (packet_start None) (bits_of packet) f phase h.info here)
+      let judged = subst (λ k. Spells (frame k (open_info s) p.stand.before) (packet_start None) (bits_of packet) f) (sym (after_profile (start Subset) items)) here in
+      packed_later p (bits_of packet) (framed f) (not_first p.stand.phase p.stand.index phase) (as_part p.stand (open_info s) (packet_start None) (bits_of packet) f phase h.info judged)
       (in_room p.stand.phase (bits_of packet) phase text_is.short)
 
   pub stands_next : AreBytes packet → new.pushed ≡ behind_block old.pushed (samples_each block) t → new.serial ≡ old.serial → new.sequence ≡ sequence_behind old.sequence packet
@@ -254,9 +256,9 @@ module _ {S : Type 0} (old new : PushedOgg S) (t : S) (block : List (List ℤ)) 
           (subst (λ e. StandsFor e (marked ∷ (items ++ framed f ∷ [])) (native_text (bytes_of (p ∷ ps)) ++ bits_of packet)) (sym pushed)
           (stands_on old.pushed t block (bits_of packet) shape accept.many accept.most accept.going text_is (marked ∷ items) (native_text (bytes_of (p ∷ ps))) plain))
 
-      spelled : AreItems start (bytes_of (p ∷ (ps ++ q ∷ []))) (items ++ framed f ∷ [])
-      spelled = subst (λ l. AreItems start (p.packet ∷ l) (items ++ framed f ∷ [])) (sym (bytes_more ps q))
-          (items_more start (bytes_of (p ∷ ps)) items packet (framed f) (subst (λ l. AreItems start (bytes_of l) items) same h.are.spelled) (frame_item items (native_text (bytes_of (p ∷ ps))) plain))
+      spelled : AreItems (start Subset) (bytes_of (p ∷ (ps ++ q ∷ []))) (items ++ framed f ∷ [])
+      spelled = subst (λ l. AreItems (start Subset) (p.packet ∷ l) (items ++ framed f ∷ [])) (sym (bytes_more ps q))
+          (items_more (start Subset) (bytes_of (p ∷ ps)) items packet (framed f) (subst (λ l. AreItems (start Subset) (bytes_of l) items) same h.are.spelled) (frame_item items (native_text (bytes_of (p ∷ ps))) plain))
 
       pages : ArePages new.serial (p ∷ (ps ++ q ∷ [])) (written ++ bits_of old.middle) (bits_of new.middle) (bits_of new.last) new.sequence
       pages = subst (λ s. ArePages s (p ∷ (ps ++ q ∷ [])) (written ++ bits_of old.middle) (bits_of new.middle) (bits_of new.last) new.sequence) (sym serial)

@@ -9,6 +9,7 @@ use Rattle.flac_meta.specs.Listed.{block_fault}
 use Rattle.flac_meta.specs.Spelling.{kind_of}
 use Rattle.flac_meta.specs.declared.block.Block.{Block}
 use Rattle.flac_meta.specs.declared.block.Block.TheVariants as block_of
+use Rattle.flac_header.specs.declared.subset.Profile.{Profile}
 use Rattle.flac_native.specs.Stream.{Piece, marked, block, framed, Stand, Progress, layout, next, phase_behind, info_after}
 use Rattle.flac_native.specs.declared.phase.Phase.TheVariants.{Opening, Blocks}
 use Rattle.flac_native.proofs.Blocks.{block_there}
@@ -16,8 +17,8 @@ use Rattle.flac_ogg.specs.Mapping.{mapping, is_first_block, packet_layout}
 use Rattle.flac_ogg.specs.Stream.{start}
 use Rattle.flac_ogg.specs.Telling.{IsUnderWay}
 
-pub started : IsUnderWay start.stand
-started = record { begun = differ; told = inr (refl, refl) }
+pub started : (profile : Profile) → IsUnderWay (start profile).stand
+started profile = record { begun = differ; told = inr (refl, refl) }
   where
     differ : Blocks ≡ Opening → ⊥
     differ e = absurd cc

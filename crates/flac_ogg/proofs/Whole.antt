@@ -15,6 +15,7 @@ use Rattle.flac_meta.specs.Spelling as s
 use Rattle.flac_meta.specs.Valid.{AllAre, FitsFields}
 use Rattle.flac_meta.specs.declared.block.Block.{Block}
 use Rattle.flac_meta.specs.declared.block.Block.TheVariants as block_of
+use Rattle.flac_header.specs.declared.subset.Profile.TheVariants.{Subset}
 use Rattle.flac_frame.specs.Audio.{Sound, samples_each}
 use Rattle.flac_native.specs.Decoding.{beginning}
 use Rattle.flac_native.specs.Stream.{Piece}
@@ -79,7 +80,7 @@ unfolding end_fault
 ends_well m is = ap unless_over is
 
 pub ogg_stream : (serial : ℕ) (q : Placed) (qs : List Placed) (items : List Piece) → serial < 2 ^ 32 → length q.packet ≡ 51 → All IsPlaced (q ∷ qs) → AreStream (map (λ x. x.packet) (q ∷ qs)) items
-    → OggStream (beginning Truncated) items (stream_spelling serial (q ∷ qs))
+    → OggStream Subset (beginning Truncated) items (stream_spelling serial (q ∷ qs))
 ogg_stream serial q qs items small long good are =
     let m = beginning Truncated in
     let text = stream_spelling serial (q ∷ qs) in

@@ -7,14 +7,15 @@ use Rattle.flac_native.specs.Stream.{Piece, Progress, grammar}
 use Rattle.flac_native.specs.declared.fault.Place.{Place}
 use Rattle.flac_native.specs.declared.fault.Place.TheVariants as place
 use Rattle.flac_ogg.specs.Stream.{start, Contents, AreItems, OggStream, OggRefused}
+use Rattle.flac_header.specs.declared.subset.Profile.{Profile}
 
 -- the input's first packets are these items, each whole
-pub record BeginsWith (mark : Mark) (items : List Piece) (text : List Bool) : Type 0 where
+pub record BeginsWith (profile : Profile) (mark : Mark) (items : List Piece) (text : List Bool) : Type 0 where
   pub contents : Contents mark text
   pub taken : List (List ℕ)
   pub left : List (List ℕ)
   pub split : contents.packets ≡ taken ++ left
-  pub spelled : AreItems start taken items
+  pub spelled : AreItems (start profile) taken items
 
 -- the place of the item that comes next, or that of a page
 abbrev pub IsItemOrPage : Progress → Place → Type 0
@@ -22,11 +23,11 @@ IsItemOrPage p at = (at ≡ grammar.place p) ⊎ ((n : ℕ) × (at ≡ place.Pag
 
 -- it is an Ogg stream of these items, or is refused behind them, or its first packets are these items; the next one stands where it would in a native stream.
 -- Before the first item a call is broken off at the marker too
-abbrev pub ogg_reading : Mark → List Bool → Reading Piece Place
-ogg_reading mark text = record {
-  whole = λ items. OggStream mark items text;
-  refused = λ items at why. OggRefused mark items text at why;
-  begins = λ items. BeginsWith mark items text;
-  place = λ items. grammar.place (after grammar start items);
-  breaks = λ items at. IsItemOrPage (after grammar start items) at ⊎ ((items ≡ []) × (at ≡ place.Marker));
+abbrev pub ogg_reading : Profile → Mark → List Bool → Reading Piece Place
+ogg_reading profile mark text = record {
+  whole = λ items. OggStream profile mark items text;
+  refused = λ items at why. OggRefused profile mark items text at why;
+  begins = λ items. BeginsWith profile mark items text;
+  place = λ items. grammar.place (after grammar (start profile) items);
+  breaks = λ items at. IsItemOrPage (after grammar (start profile) items) at ⊎ ((items ≡ []) × (at ≡ place.Marker));
 }

@@ -5,6 +5,7 @@ use Rattle.flac_bits.specs.Handing.{Reading, by_grammar}
 use Rattle.flac_native.specs.Stream.{Piece, grammar, opening}
 use Rattle.flac_native.specs.declared.fault.Place.{Place}
 use Rattle.flac_ogg.specs.Decoding.{ogg_reading}
+use Rattle.flac_header.specs.declared.subset.Profile.{Profile}
 
 -- the first byte is that of a page (RFC 3533, section 6)
 abbrev pub begins_page : List ℕ → Bool
@@ -12,6 +13,6 @@ begins_page [] = false
 begins_page (b ∷ bytes) = nat_eq b 79
 
 -- such an input is read as an Ogg stream (RFC 9639, section 10.1), any other as a native one (section 6)
-abbrev pub read_either : Bool → Mark → List Bool → Reading Piece Place
-read_either true mark text = ogg_reading mark text
-read_either false mark text = by_grammar grammar opening mark text
+abbrev pub read_either : Profile → Bool → Mark → List Bool → Reading Piece Place
+read_either profile true mark text = ogg_reading profile mark text
+read_either profile false mark text = by_grammar grammar (opening profile) mark text

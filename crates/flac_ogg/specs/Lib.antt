@@ -15,3 +15,4 @@ pub mod RoundTrip
 pub mod Pushing
 pub mod Headers
 pub mod Judging
+pub mod Wider

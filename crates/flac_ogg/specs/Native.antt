@@ -12,6 +12,8 @@ use Rattle.flac_meta.specs.Spelling.{block_spelling}
 use Rattle.flac_meta.specs.Valid.{AllAre, FitsFields}
 use Rattle.flac_meta.specs.declared.block.Block.{Block}
 use Rattle.flac_meta.specs.declared.block.Block.TheVariants as blocks
+use Rattle.flac_header.specs.declared.subset.Profile.{Profile}
+use Rattle.flac_header.specs.declared.subset.Profile.TheVariants.{Subset}
 use Rattle.flac_frame.specs.Audio.{Sound}
 use Rattle.flac_native.specs.Decoding.{beginning}
 use Rattle.flac_native.specs.Stream.{Piece, marked, framed, opening, grammar}
@@ -32,7 +34,7 @@ native_text packets = unsigned 32 0x664C6143 ++ joined (map bits_of (without_map
 
 -- So the items of an Ogg stream are those of a native stream.
 abbrev pub OggStreamsAreStreams : Type 0
-OggStreamsAreStreams = (mark : Mark) (items : List Piece) (text : List Bool) (o : OggStream mark items text) → Stream grammar opening (beginning Truncated) (marked ∷ items) (native_text o.contents.packets)
+OggStreamsAreStreams = (profile : Profile) (mark : Mark) (items : List Piece) (text : List Bool) (o : OggStream profile mark items text) → Stream grammar (opening profile) (beginning Truncated) (marked ∷ items) (native_text o.contents.packets)
 
 -- ---- what is encoded, as packets
 
@@ -51,9 +53,9 @@ packet_spellings count info list frames = (mapping_spelling count ++ block_spell
 
 -- the packets are just these items, and a stream may end behind them
 pub record AreStream (packets : List (List ℕ)) (items : List Piece) : Type 0 where
-  pub spelled : AreItems start packets items
-  pub ends : grammar.may_end (after grammar start items) ≡ true
-  pub kept : AllKept (grammar.at_end (after grammar start items))
+  pub spelled : AreItems (start Subset) packets items
+  pub ends : grammar.may_end (after grammar (start Subset) items) ≡ true
+  pub kept : AllKept (grammar.at_end (after grammar (start Subset) items))
 
 -- So packets of what is encoded are the items of a stream of what was given: of samples that a plan was made for, and of blocks that may stand behind STREAMINFO.
 abbrev pub EncodedAreOggItems : Type 0

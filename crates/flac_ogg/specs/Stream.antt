@@ -14,10 +14,11 @@ use Rattle.flac_pages.specs.Packets.{Packets, fault_of, stop_of}
 use Rattle.flac_pages.specs.Items.{Packet, whole, end_in, IsItem, IsNoItem}
 use Rattle.flac_pages.specs.Runs.{IsRun}
 use Rattle.flac_ogg.specs.Mapping.{packet_layout, packet_place, page_place}
+use Rattle.flac_header.specs.declared.subset.Profile.{Profile}
 
 -- before the first packet: the marker stands in the mapping
-abbrev pub start : Progress
-start = next opening marked
+abbrev pub start : Profile → Progress
+start profile = next (opening profile) marked
 
 -- at a packet's first bit, behind whose bytes this fault stands, if any
 abbrev pub packet_start : Option (ℕ × Why) → Mark
@@ -55,13 +56,13 @@ stop_in c = stop_of (length c.run.pages) c.run.stop
 
 -- The input is good pages, the final one marked last and no packet open behind it, and nothing more; their packets are these items; the stream may end
 -- behind them, and keeps what STREAMINFO states of all samples.
-pub record OggStream (mark : Mark) (items : List Piece) (text : List Bool) : Type 0 where
+pub record OggStream (profile : Profile) (mark : Mark) (items : List Piece) (text : List Bool) : Type 0 where
   pub contents : Contents mark text
   pub no_fault : stop_in contents ≡ None
   pub no_part : contents.begun ≡ []
-  pub spelled : AreItems start contents.packets items
-  pub ends : grammar.may_end (after grammar start items) ≡ true
-  pub kept : AllKept (grammar.at_end (after grammar start items))
+  pub spelled : AreItems (start profile) contents.packets items
+  pub ends : grammar.may_end (after grammar (start profile) items) ≡ true
+  pub kept : AllKept (grammar.at_end (after grammar (start profile) items))
 
 -- The fault where no packet is left. Behind the page marked last a byte is one only where the stream may end; else a block is due.
 abbrev pub last_fault : Progress → (fault stop : Option (ℕ × Why)) → Option (ℕ × Why)
@@ -80,10 +81,10 @@ StopsAtPacket p [] begun fault stop at why =
     ⊎ ((begun ≡ []) × (stop ≡ None) × (grammar.may_end p ≡ true) × (at ≡ place.End) × BreaksFirst (grammar.at_end p) why)))
 
 -- behind these good items the input is refused, at this place and for this reason
-pub record OggRefused (mark : Mark) (items : List Piece) (text : List Bool) (at : Place) (why : Why) : Type 0 where
+pub record OggRefused (profile : Profile) (mark : Mark) (items : List Piece) (text : List Bool) (at : Place) (why : Why) : Type 0 where
   pub contents : Contents mark text
   pub taken : List (List ℕ)
   pub left : List (List ℕ)
   pub split : contents.packets ≡ taken ++ left
-  pub spelled : AreItems start taken items
-  pub stops : StopsAtPacket (after grammar start items) left contents.begun (fault_in contents) (stop_in contents) at why
+  pub spelled : AreItems (start profile) taken items
+  pub stops : StopsAtPacket (after grammar (start profile) items) left contents.begun (fault_in contents) (stop_in contents) at why

@@ -5,6 +5,7 @@ use Rattle.flac_bits.specs.declared.target.Target as target
 use Rattle.flac_bits.specs.declared.why.Why.TheVariants.{Truncated}
 use Rattle.flac_meta.specs.declared.block.Block.{Block}
 use Rattle.flac_meta.specs.declared.block.Block.TheVariants as blocks
+use Rattle.flac_header.specs.declared.subset.Profile.TheVariants.{Subset}
 use Rattle.flac_frame.specs.Audio.{Sound, samples_each}
 use Rattle.flac_frame.specs.Encoding.{block_of}
 use Rattle.flac_frame.specs.Frame.{Frame}
@@ -90,7 +91,7 @@ pub record EncodesOgg (serial : ℕ) (p : Cut) (list : List Block) (a : Sound) (
   pub packets : List Placed
   pub are : ArePackets p list a packets
   pub written : after ≡ before ++ stream_spelling serial packets
-  pub stream : OggStream (beginning Truncated) (closing (blocks.StreamInfo (info_of p a are.least are.greatest) ∷ list) ++ map framed (frames_of p.block_size a)) (stream_spelling serial packets)
+  pub stream : OggStream Subset (beginning Truncated) (closing (blocks.StreamInfo (info_of p a are.least are.greatest) ∷ list) ++ map framed (frames_of p.block_size a)) (stream_spelling serial packets)
 
 -- What was written is a beginning of such a stream, behind the bits that were there.
 pub record BeginsOgg (serial : ℕ) (p : Cut) (list : List Block) (a : Sound) (before after : List Bool) : Type 0 where

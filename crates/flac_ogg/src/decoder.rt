@@ -37,14 +37,14 @@ pub fn ogg_decoder<R: Source + Drop>(
     source: R,
     profile: Profile,
 ) -> Result<Decoder<OggPackets<R>>, Fault>
-    ensures track { IfOk result (λ d. IsAt (stage_of d).track start) }
+    ensures track { IfOk result (λ d. IsAt (stage_of d).track (start profile)) }
     ensures course { IfOk result (λ d. (stage_of d).course ≡ Begun) }
     ensures known { IfOk result (λ d. (stage_of d).container.pages.known ≡ R.known source) }
     ensures errors { IfOk result (λ d. (stage_of d).container.pages.errors ≡ R.errors source) }
     ensures met { IfOk result (λ d. (stage_of d).container.pages.raised ≡ R.raised source) }
     // What is still to come is what the input is.
-    ensures stream { IfOk result (λ d. (items : List Piece) → OggStream (beginning (short_of ((R.behind source).fails))) items (bits_of (R.coming source)) → ItemsCome start (ahead (stage_of d).container.pages) items None) }
-    ensures refused { IfOk result (λ d. (items : List Piece) (at : Where) (why : Reason) → OggRefused (beginning (short_of ((R.behind source).fails))) items (bits_of (R.coming source)) at why → ItemsCome start (ahead (stage_of d).container.pages) items (Some (at, why))) }
+    ensures stream { IfOk result (λ d. (items : List Piece) → OggStream profile (beginning (short_of ((R.behind source).fails))) items (bits_of (R.coming source)) → ItemsCome (start profile) (ahead (stage_of d).container.pages) items None) }
+    ensures refused { IfOk result (λ d. (items : List Piece) (at : Where) (why : Reason) → OggRefused profile (beginning (short_of ((R.behind source).fails))) items (bits_of (R.coming source)) at why → ItemsCome (start profile) (ahead (stage_of d).container.pages) items (Some (at, why))) }
     // Read is returned only if the source returns an error in the call, unless one is announced.
     ensures clear { IfOk result (λ d. (R.behind source).fails ≡ None → IsClear (stage_of d).container.pages (stage_of d).track) }
     ensures memory { IfErr result (λ f. f.why ≡ Why.Memory) }

@@ -38,10 +38,10 @@ pub fn decode_ogg<R: Source, S: Sink>(
     // Ok only if the bytes are an Ogg stream, and the sink took exactly its items; refused only as the bytes are, after
     // exactly the items before; and in each case the sink took the items of whole packets, from the start.
     ensures hands { R.known source.old ≡ true → S.known sink.old ≡ true →
-        Hands (ogg_reading (beginning (short_of ((R.behind source.old).fails))) (bits_of (R.coming source.old))) (taken S.takes) S.errors (R.errors source.new ≡ R.errors source.old) sink.old sink.new (outcome_of told result) }
+        Hands (ogg_reading profile (beginning (short_of ((R.behind source.old).fails))) (bits_of (R.coming source.old))) (taken S.takes) S.errors (R.errors source.new ≡ R.errors source.old) sink.old sink.new (outcome_of told result) }
     // An Ogg stream is not refused, unless memory runs out, and the place and the reason are those that the bytes show.
     ensures decides { R.known source.old ≡ true → S.known sink.old ≡ true → R.errors source.new ≡ R.errors source.old → S.errors sink.new ≡ S.errors sink.old →
-        Decides (ogg_reading (beginning (short_of ((R.behind source.old).fails))) (bits_of (R.coming source.old))) (outcome_of told result) }
+        Decides (ogg_reading profile (beginning (short_of ((R.behind source.old).fails))) (bits_of (R.coming source.old))) (outcome_of told result) }
     // Read is returned only if the source returned an error in the call, unless one was announced.
     ensures read { IfErr result (λ f. R.known source.old ≡ true → (R.behind source.old).fails ≡ None → f.why ≡ Why.Read → R.errors source.old < R.errors source.new) }
     // An error of the source and of the sink is counted, if the count can rise, whatever is known of them: no other call returns it.

@@ -59,10 +59,10 @@ fn decode_as<R: Source, S: Sink>(
     sink: &mut S,
 ) -> Result<(), Fault>
     ensures hands { R.known source.old ≡ true → S.known sink.old ≡ true →
-        Hands (read_either is_ogg (beginning (short_of ((R.behind source.old).fails))) (bits_of (R.coming source.old))) (taken S.takes) S.errors
+        Hands (read_either profile is_ogg (beginning (short_of ((R.behind source.old).fails))) (bits_of (R.coming source.old))) (taken S.takes) S.errors
         ((R.errors source.new ≡ R.errors source.old) × (R.raised source.new ≡ R.raised source.old)) sink.old sink.new (outcome_of told result) }
     ensures decides { R.known source.old ≡ true → S.known sink.old ≡ true → R.errors source.new ≡ R.errors source.old → R.raised source.new ≡ R.raised source.old → S.errors sink.new ≡ S.errors sink.old →
-        Decides (read_either is_ogg (beginning (short_of ((R.behind source.old).fails))) (bits_of (R.coming source.old))) (outcome_of told result) }
+        Decides (read_either profile is_ogg (beginning (short_of ((R.behind source.old).fails))) (bits_of (R.coming source.old))) (outcome_of told result) }
     ensures kept { R.errors source.old ≤ R.errors source.new }
     ensures read { IfErr result (λ f. R.known source.old ≡ true → (R.behind source.old).fails ≡ None → f.why ≡ Why.Read → (R.errors source.old < R.errors source.new) ⊎ (R.raised source.old < R.raised source.new)) }
     // An error of the source and of the sink is counted, if the count can rise, whatever is known of them: no other call returns it.
@@ -97,11 +97,11 @@ pub fn decode_any<R: Source, S: Sink>(
     // Ok only if the bytes are such a stream, and the sink took exactly its items; refused only as the bytes are, after
     // exactly the items before; and in each case the sink took whole items, from the start.
     ensures hands { R.known source.old ≡ true → S.known sink.old ≡ true →
-        Hands (read_either (begins_page (R.coming source.old)) (beginning (short_of ((R.behind source.old).fails))) (bits_of (R.coming source.old))) (taken S.takes) S.errors
+        Hands (read_either profile (begins_page (R.coming source.old)) (beginning (short_of ((R.behind source.old).fails))) (bits_of (R.coming source.old))) (taken S.takes) S.errors
         ((R.errors source.new ≡ R.errors source.old) × (R.raised source.new ≡ R.raised source.old)) sink.old sink.new (outcome_of told result) }
     // Such a stream is not refused, unless memory runs out, and the place and the reason are those that the bytes show.
     ensures decides { R.known source.old ≡ true → S.known sink.old ≡ true → R.errors source.new ≡ R.errors source.old → R.raised source.new ≡ R.raised source.old → S.errors sink.new ≡ S.errors sink.old →
-        Decides (read_either (begins_page (R.coming source.old)) (beginning (short_of ((R.behind source.old).fails))) (bits_of (R.coming source.old))) (outcome_of told result) }
+        Decides (read_either profile (begins_page (R.coming source.old)) (beginning (short_of ((R.behind source.old).fails))) (bits_of (R.coming source.old))) (outcome_of told result) }
     ensures kept { R.errors source.old ≤ R.errors source.new }
     // Read is returned only if the source returned an error in the call, unless one was announced.
     ensures read { IfErr result (λ f. R.known source.old ≡ true → (R.behind source.old).fails ≡ None → f.why ≡ Why.Read → (R.errors source.old < R.errors source.new) ⊎ (R.raised source.old < R.raised source.new)) }

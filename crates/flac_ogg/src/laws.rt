@@ -3,6 +3,7 @@
 ghost use Rattle.flac_ogg.specs.Laws.{OggIsReadOnce, OggIsRead};
 ghost use Rattle.flac_ogg.specs.Native.{OggStreamsAreStreams, EncodedAreOggItems};
 ghost use Rattle.flac_ogg.specs.RoundTrip.{EncodedOggIsRead};
+ghost use Rattle.flac_ogg.specs.Wider.{SubsetOggIsLax};
 
 /// No input has two readings: it is one Ogg stream of FLAC, or it is refused at one place for one reason.
 pub fn only_one_way()
@@ -30,4 +31,9 @@ pub fn encoded_items()
 /// and the frames, and no others (RFC 9639, section 10.1).
 pub fn encoded_are_read()
     ensures { EncodedOggIsRead }
+{}
+
+/// An Ogg stream of the streamable subset (RFC 9639, section 7) is, without the subset's limits, an Ogg stream of the same items.
+pub fn subset_is_lax()
+    ensures { SubsetOggIsLax }
 {}

@@ -51,7 +51,9 @@ pub use flac_native::{
     Decoder, EncodeFault, Fault, Item, Place, Plan, Profile, Sink, SinkFault, decode,
 };
 pub use flac_pages::{PacketBytes, Pages};
-pub use laws::{encoded_are_read, encoded_items, only_one_way, same_items, some_way};
+pub use laws::{
+    encoded_are_read, encoded_items, only_one_way, same_items, some_way, subset_is_lax,
+};
 pub use ogg_encoder::OggEncoder;
 pub use packets::OggPackets;
 pub use round_trip::encode_and_decode;

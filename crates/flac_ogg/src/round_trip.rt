@@ -83,7 +83,7 @@ fn ogg_bytes(
 
 /// Decodes a stream again. Its only error is `Memory`: an allocation failed.
 fn decode_again(alloc: Global, bytes: &[u8]) -> Result<(), Why>
-    requires { (items : List Piece) × IsJust (bytes_reading bytes.now) items }
+    requires { (items : List Piece) × IsJust (bytes_reading Profile.Subset bytes.now) items }
     ensures memory { IfErr result (λ e. e ≡ Why.Memory) }
 {
     match verify(alloc, bytes, Profile::Subset) {

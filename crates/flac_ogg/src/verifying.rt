@@ -46,7 +46,7 @@ impl Sink for Anything {
 /// The place and the reason for which the stream is refused: those of [`crate::decode_ogg`] or of [`crate::decode`]. Or
 /// [`Why::Memory`](crate::Why::Memory) if an allocation fails; no device is read.
 pub fn verify(alloc: Global, bytes: &[u8], profile: Profile) -> Result<(), Fault>
-    ensures { Verifies bytes.now (outcome_of told result) }
+    ensures { Verifies profile bytes.now (outcome_of told result) }
 {
     let mut source = Memory::new(bytes);
     let mut sink = Anything;

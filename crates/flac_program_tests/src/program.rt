@@ -13,14 +13,21 @@ use std::io::Write;
 use std::process::Abort;
 use std::test::Fail;
 
-pub(crate) const TEST: Job<'static> = Job::Test { input: "a.flac" };
+pub(crate) const TEST: Job<'static> = Job::Test {
+    input: "a.flac",
+    lax: false,
+};
 
 const DECODE: Job<'static> = Job::Decode {
     input: "a.flac",
     output: "a.raw",
+    lax: false,
 };
 
-const LIST: Job<'static> = Job::List { input: "a.flac" };
+const LIST: Job<'static> = Job::List {
+    input: "a.flac",
+    lax: false,
+};
 
 /// The status of a command, and what it wrote to its file, to standard output and to standard error.
 #[derive(Drop)]

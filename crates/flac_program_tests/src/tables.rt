@@ -71,6 +71,11 @@ pub(crate) const NATIVE: &str = "# The example of RFC 9639, appendix D.1.
 test a.flac | ROW | 0 |  | frames 1 samples 1;
 decode a.flac a.raw | ROW | 0 | f463b028
 list a.flac | ROW | 0 |  | block 0 STREAMINFO 34;  blocks 4096 4096 frames 15 15 rate 44100 channels 2 depth 16 samples 1;  md5 00000000000000000000000000000000;
+# Sixteen zeros of 65537 Hz and 5 bits, which STREAMINFO alone states: outside the streamable subset.
+test a.flac | 664c614380000022001000100000000000001000104000000010 00*16 fff86000000fc700000572 | 1 |  |  | flac: a.flac: frame 0: 14 NotSubset;
+test --lax a.flac | 664c614380000022001000100000000000001000104000000010 00*16 fff86000000fc700000572 | 0 |  | frames 1 samples 16;
+decode --lax a.flac a.raw | 664c614380000022001000100000000000001000104000000010 00*16 fff86000000fc700000572 | 0 | 00*16
+list a.flac --lax | 664c614380000022001000100000000000001000104000000010 00*16 fff86000000fc700000572 | 0 |  | block 0 STREAMINFO 34;  blocks 16 16 frames 0 0 rate 65537 channels 1 depth 5 samples 16;  md5 00000000000000000000000000000000;
 # Cut, with another check, and followed by one byte and by two.
 test a.flac | 664c6143800000221000100000000f00000f0ac442f000000001 00*16 fff869180000bf0358fd03128baa | 1 |  |  | flac: a.flac: frame 0: 3 Truncated;
 decode a.flac a.raw | 664c6143800000221000100000000f00000f0ac442f000000001 00*16 fff869180000bf0358fd03128baa9b | 1 |  |  | flac: a.flac: frame 0: 26 FrameCheck;
@@ -350,9 +355,12 @@ test a.flac | MAPPING 4e67675300000000000000000000010000000100000060d1f601010c84
 test a.flac | MAPPING COMMENT 4f6767530000 ff*8 010000000200000000000000ff ff*255 fff869180000bf0158fd01128b5ab2 00*65009 | 1 |  |  | flac: a.flac: page 2: 3 Truncated;";
 
 /// Command lines, and the jobs that they are read as, or the status and the text of the refusal, of which `;` ends a line.
-pub(crate) const JOBS: &str = r#"flac test a.flac | Test { input: "a.flac" }
-flac decode a.flac a.raw | Decode { input: "a.flac", output: "a.raw" }
-flac list a.flac | List { input: "a.flac" }
+pub(crate) const JOBS: &str = r#"flac test a.flac | Test { input: "a.flac", lax: false }
+flac test --lax a.flac | Test { input: "a.flac", lax: true }
+flac decode a.flac a.raw | Decode { input: "a.flac", output: "a.raw", lax: false }
+flac decode a.flac a.raw --lax | Decode { input: "a.flac", output: "a.raw", lax: true }
+flac list a.flac | List { input: "a.flac", lax: false }
+flac list a.flac --lax | List { input: "a.flac", lax: true }
 flac retag a.flac b.flac A=b | Retag { input: "a.flac", output: "b.flac", comments: ["A=b"] }
 flac encode a.raw a.flac --rate 44100 --channels 2 --bits 16 --seek-every 5 A=b | Encode { input: "a.raw", output: "a.flac", format: Format { rate: 44100, channels: 2, bits: 16, block: 4096, seek_every: 5 }, container: Native, comments: ["A=b"] }
 flac encode a.raw a.oga --rate 44100 --channels 2 --bits 16 --ogg --serial 7 | Encode { input: "a.raw", output: "a.oga", format: Format { rate: 44100, channels: 2, bits: 16, block: 4096, seek_every: 0 }, container: Ogg { serial: 7 }, comments: [] }

@@ -9,6 +9,7 @@ use Rattle.flac_bits.specs.declared.why.Why.{Why}
 use Rattle.flac_bits.specs.declared.why.Why.TheVariants.{Truncated}
 use Rattle.flac_bits.proofs.Holding.{bits_of-append}
 use Rattle.flac_meta.specs.Info.{Info}
+use Rattle.flac_header.specs.declared.subset.Profile.{Profile}
 use Rattle.flac_frame.specs.Frame.{Frame}
 use Rattle.flac_native.specs.Decoding.{beginning}
 use Rattle.flac_native.specs.Item.{frame, told}
@@ -33,32 +34,32 @@ frame_items (f ∷ fs) = ap (λ k. frame f ∷ k) (frame_items fs)
 pub split : (at : ℕ) (stream : List ℕ) → bits_of stream ≡ bits_of (take at stream) ++ bits_of (drop at stream)
 split at stream = ap bits_of (sym (take-append-drop at stream)) ∙ bits_of-append (take at stream) (drop at stream)
 
-abbrev Rest : List ℕ → ℕ → Info → List Frame → Type 0
-Rest stream at info frames = Stream grammar (resumed info) first (map framed frames) (bits_of (drop at stream))
+abbrev Rest : Profile → List ℕ → ℕ → Info → List Frame → Type 0
+Rest profile stream at info frames = Stream grammar (resumed profile info) first (map framed frames) (bits_of (drop at stream))
 
 -- what is behind the cut is a stream of these frames, read from the state in which a frame comes
-rest_is : (stream : List ℕ) (info : Info) (at : ℕ) (frames : List Frame) → Cuts stream info at frames → Rest stream at info frames
-rest_is stream info at [] c =
-    let all : Joined grammar opening first c.front (bits_of stream) = subst (λ k. Joined grammar opening first k (bits_of stream)) (append-nil c.front) c.whole.spelled in
-    let none : bits_of (drop at stream) ≡ [] = sym (one_place opening first c.front (bits_of stream) [] (bits_of (take at stream)) (bits_of (drop at stream)) (append-nil (bits_of stream) ∙ split at stream) all c.before) in
+rest_is : (profile : Profile) (stream : List ℕ) (info : Info) (at : ℕ) (frames : List Frame) → Cuts profile stream info at frames → Rest profile stream at info frames
+rest_is profile stream info at [] c =
+    let all : Joined grammar (opening profile) first c.front (bits_of stream) = subst (λ k. Joined grammar (opening profile) first k (bits_of stream)) (append-nil c.front) c.whole.spelled in
+    let none : bits_of (drop at stream) ≡ [] = sym (one_place (opening profile) first c.front (bits_of stream) [] (bits_of (take at stream)) (bits_of (drop at stream)) (append-nil (bits_of stream) ∙ split at stream) all c.before) in
     record { spelled = none; ends = refl; kept = ends_well (Some (untold info)) info 0 [] refl }
-rest_is stream info at (f ∷ more) c =
-    let r = frames_are_resumed first first c.front (map framed more) f (bits_of stream) refl refl c.whole in
+rest_is profile stream info at (f ∷ more) c =
+    let r = frames_are_resumed profile first first c.front (map framed more) f (bits_of stream) refl refl c.whole in
     let here : bits_of (drop at stream) ≡ r.rest = r.only (bits_of (take at stream)) (bits_of (drop at stream)) (split at stream) c.before in
-    let same : r.info ≡ info = same_info info r.info (after grammar opening c.front).stand.info c.known r.told in
-    subst (λ i. Rest stream at i (f ∷ more)) same (subst (λ t. Stream grammar (resumed r.info) first (framed f ∷ map framed more) t) (sym here) r.stream)
+    let same : r.info ≡ info = same_info info r.info (after grammar (opening profile) c.front).stand.info c.known r.told in
+    subst (λ i. Rest profile stream at i (f ∷ more)) same (subst (λ t. Stream grammar (resumed profile r.info) first (framed f ∷ map framed more) t) (sym here) r.stream)
 
-pub cut_read : (stream : List ℕ) (info : Info) (at : ℕ) (frames : List Frame) → Cuts stream info at frames → IsReadAs (by_grammar grammar (resumed info) first (bits_of (drop at stream))) [] frames None
-cut_read stream info at frames c = record { parts = map framed frames; read = rest_is stream info at frames c; items = frame_items frames }
+pub cut_read : (profile : Profile) (stream : List ℕ) (info : Info) (at : ℕ) (frames : List Frame) → Cuts profile stream info at frames → IsReadAs (by_grammar grammar (resumed profile info) first (bits_of (drop at stream))) [] frames None
+cut_read profile stream info at frames c = record { parts = map framed frames; read = rest_is profile stream info at frames c; items = frame_items frames }
 
 abbrev none : Option (Place × Why)
 none = None
 
 -- so what is sought in the rest is sought among these frames
-pub cut_found : {C : Type 0} {g : container.Ghosts C} (stream : List ℕ) (info : Info) (sample at : ℕ) (frames : List Frame) (result : Result (Reader C g) Fault) → SeeksTo info sample (by_grammar grammar (resumed info) first (bits_of (drop at stream))) result
-    → Cuts stream info at frames → SeeksFrames info sample frames result
-cut_found stream info sample at frames (Ok reader) found c = found frames None (cut_read stream info at frames c)
-cut_found stream info sample at frames (Err f) found c = λ other. no_end (told f) (found other frames None (cut_read stream info at frames c)).1
+pub cut_found : {C : Type 0} {g : container.Ghosts C} (profile : Profile) (stream : List ℕ) (info : Info) (sample at : ℕ) (frames : List Frame) (result : Result (Reader C g) Fault) → SeeksTo info sample (by_grammar grammar (resumed profile info) first (bits_of (drop at stream))) result
+    → Cuts profile stream info at frames → SeeksFrames info sample frames result
+cut_found profile stream info sample at frames (Ok reader) found c = found frames None (cut_read profile stream info at frames c)
+cut_found profile stream info sample at frames (Err f) found c = λ other. no_end (told f) (found other frames None (cut_read profile stream info at frames c)).1
   where
     no_end : (x : Place × Why) → none ≡ Some x → ⊥
     no_end x e = absurd cc

@@ -5,6 +5,7 @@ use Rattle.flac_bits.specs.Bits.{bits_of}
 use Rattle.flac_bits.specs.Handing.{by_grammar}
 use Rattle.flac_bits.specs.declared.why.Why.TheVariants.{Truncated}
 use Rattle.flac_meta.specs.Info.{Info}
+use Rattle.flac_header.specs.declared.subset.Profile.{Profile}
 use Rattle.flac_native.specs.Decoding.{beginning}
 use Rattle.flac_native.specs.Resuming.{resumed}
 use Rattle.flac_native.specs.Stream.{grammar}
@@ -29,18 +30,18 @@ only : (b : Bool) → (b && nat_lt 0 most) ≡ b
 only true = refl
 only false = refl
 
-pub moved_found : {T C : Type 0} {g : container.Ghosts C} (remaining : T → Option (List ℕ)) (device d : T) (errors room : ℕ) (info : Info) (sample : ℕ) (reader : Reader C g) → d ≡ device → errors ≡ 0 → room ≡ most
-    → ((is_some (remaining d) && nat_lt errors most) ≡ true → Sought info sample (by_grammar grammar (resumed info) (beginning Truncated) (bits_of (take room (unwrap_or (remaining d) [])))) reader)
-    → is_some (remaining device) ≡ true → Sought info sample (read_resumed info (remaining device)) reader
-moved_found {T = T} remaining device d errors room info sample reader e z full h k =
-    let P : T → ℕ → ℕ → Type 0 = λ x n m. (is_some (remaining x) && nat_lt n most) ≡ true → Sought info sample (by_grammar grammar (resumed info) (beginning Truncated) (bits_of (take m (unwrap_or (remaining x) [])))) reader in
+pub moved_found : {T C : Type 0} {g : container.Ghosts C} (remaining : T → Option (List ℕ)) (device d : T) (errors room : ℕ) (profile : Profile) (info : Info) (sample : ℕ) (reader : Reader C g) → d ≡ device → errors ≡ 0 → room ≡ most
+    → ((is_some (remaining d) && nat_lt errors most) ≡ true → Sought info sample (by_grammar grammar (resumed profile info) (beginning Truncated) (bits_of (take room (unwrap_or (remaining d) [])))) reader)
+    → is_some (remaining device) ≡ true → Sought info sample (read_resumed profile info (remaining device)) reader
+moved_found {T = T} remaining device d errors room profile info sample reader e z full h k =
+    let P : T → ℕ → ℕ → Type 0 = λ x n m. (is_some (remaining x) && nat_lt n most) ≡ true → Sought info sample (by_grammar grammar (resumed profile info) (beginning Truncated) (bits_of (take m (unwrap_or (remaining x) [])))) reader in
     let done : P device 0 most = subst (λ x. P x 0 most) e (subst (λ n. P d n most) z (subst (λ m. P d errors m) full h)) in
     done (both (is_some (remaining device)) k)
 
-pub moved_refused : {T : Type 0} (remaining : T → Option (List ℕ)) (device d : T) (errors room left : ℕ) (info : Info) (sample : ℕ) (f : Fault) → d ≡ device → errors ≡ 0 → room ≡ most
-    → RefusesSeek info sample (by_grammar grammar (resumed info) (beginning Truncated) (bits_of (take room (unwrap_or (remaining d) [])))) (is_some (remaining d) && nat_lt errors most) errors errors left left f
-    → RefusesSeek info sample (read_resumed info (remaining device)) (is_some (remaining device)) 0 0 left left f
-moved_refused {T = T} remaining device d errors room left info sample f e z full h =
-    let P : T → ℕ → ℕ → Type 0 = λ x n m. RefusesSeek info sample (by_grammar grammar (resumed info) (beginning Truncated) (bits_of (take m (unwrap_or (remaining x) [])))) (is_some (remaining x) && nat_lt n most) n n left left f in
+pub moved_refused : {T : Type 0} (remaining : T → Option (List ℕ)) (device d : T) (errors room left : ℕ) (profile : Profile) (info : Info) (sample : ℕ) (f : Fault) → d ≡ device → errors ≡ 0 → room ≡ most
+    → RefusesSeek info sample (by_grammar grammar (resumed profile info) (beginning Truncated) (bits_of (take room (unwrap_or (remaining d) [])))) (is_some (remaining d) && nat_lt errors most) errors errors left left f
+    → RefusesSeek info sample (read_resumed profile info (remaining device)) (is_some (remaining device)) 0 0 left left f
+moved_refused {T = T} remaining device d errors room left profile info sample f e z full h =
+    let P : T → ℕ → ℕ → Type 0 = λ x n m. RefusesSeek info sample (by_grammar grammar (resumed profile info) (beginning Truncated) (bits_of (take m (unwrap_or (remaining x) [])))) (is_some (remaining x) && nat_lt n most) n n left left f in
     let done : P device 0 most = subst (λ x. P x 0 most) e (subst (λ n. P d n most) z (subst (λ m. P d errors m) full h)) in
-    subst (λ b. RefusesSeek info sample (read_resumed info (remaining device)) b 0 0 left left f) (only (is_some (remaining device))) done
+    subst (λ b. RefusesSeek info sample (read_resumed profile info (remaining device)) b 0 0 left left f) (only (is_some (remaining device))) done

@@ -9,6 +9,7 @@ use Rattle.flac_bits.specs.declared.why.Why.{Why}
 use Rattle.flac_bits.specs.declared.why.Why.TheVariants.{Memory, Read, NotStreamInfoFirst}
 use Rattle.flac_meta.specs.declared.block.Block.{Block}
 use Rattle.flac_meta.specs.declared.block.Block.TheVariants as blocks
+use Rattle.flac_header.specs.declared.subset.Profile.{Profile}
 use Rattle.flac_frame.specs.Frame.{Frame}
 use Rattle.flac_native.specs.Stream.{Piece, Progress}
 use Rattle.flac_native.specs.Track.{IsAt}
@@ -117,8 +118,8 @@ same_page None coming now e over = ap begins_page (over refl)
 same_page (Some b) coming now e over = ap begins_page e
 
 -- the bytes behind the first one, and that one in front of them
-pub front_read : (front : Option ℕ) (coming now : List ℕ) (is_ogg : Bool) (m k : Mark) → coming ≡ front_bytes front ++ now → (front ≡ None → coming ≡ []) → is_ogg ≡ begins_page (front_bytes front) → m ≡ k
-    → (blocks : List Block) (frames : List Frame) (end : Option (Place × Why)) → IsReadAs (read_either (begins_page coming) m (bits_of coming)) blocks frames end → IsReadAs (read_either is_ogg k (bits_of (front_bytes front ++ now))) blocks frames end
-front_read front coming now is_ogg m k e over page same blocks frames end is =
-    let P : Bool → Mark → List ℕ → Type 0 = λ b a t. IsReadAs (read_either b a (bits_of t)) blocks frames end in
+pub front_read : (profile : Profile) (front : Option ℕ) (coming now : List ℕ) (is_ogg : Bool) (m k : Mark) → coming ≡ front_bytes front ++ now → (front ≡ None → coming ≡ []) → is_ogg ≡ begins_page (front_bytes front) → m ≡ k
+    → (blocks : List Block) (frames : List Frame) (end : Option (Place × Why)) → IsReadAs (read_either profile (begins_page coming) m (bits_of coming)) blocks frames end → IsReadAs (read_either profile is_ogg k (bits_of (front_bytes front ++ now))) blocks frames end
+front_read profile front coming now is_ogg m k e over page same blocks frames end is =
+    let P : Bool → Mark → List ℕ → Type 0 = λ b a t. IsReadAs (read_either profile b a (bits_of t)) blocks frames end in
     subst (λ t. P is_ogg k t) e (subst (λ a. P is_ogg a coming) same (subst (λ b. P b m coming) (same_page front coming now e over ∙ sym page) is))

@@ -23,6 +23,7 @@ use Rattle.flac_meta.specs.declared.picture.Picture.{Picture}
 use Rattle.flac_meta.specs.declared.block.Block.{Block}
 use Rattle.flac_meta.specs.declared.block.Block.TheVariants as block_of
 use Rattle.flac_meta.proofs.Lengths.{faultless}
+use Rattle.flac_header.specs.declared.subset.Profile.{Profile}
 use Rattle.flac_frame.specs.Frame.{Frame}
 use Rattle.flac_native.specs.Decoding.{beginning}
 use Rattle.flac_native.specs.Given.{closing}
@@ -276,15 +277,15 @@ parts_handed (b ∷ bs) fs = ap (λ k. metadata b ∷ k) (parts_handed bs fs)
 abbrev first : Mark
 first = beginning Truncated
 
-pub head_long : (info : Info) (list : List Block) (head : List Bool) → Joined grammar opening first (head_parts info list) head → length head < 8 * 2 ^ 64 → 8 * frames_start (block_of.StreamInfo info ∷ list) ≡ length head
-head_long info list head (front, rest, split, spelled, fits, more) few =
+pub head_long : (profile : Profile) (info : Info) (list : List Block) (head : List Bool) → Joined grammar (opening profile) first (head_parts info list) head → length head < 8 * 2 ^ 64 → 8 * frames_start (block_of.StreamInfo info ∷ list) ≡ length head
+head_long profile info list head (front, rest, split, spelled, fits, more) few =
     let blocks : List Block = block_of.StreamInfo info ∷ list in
     let c = closed (block_of.StreamInfo info) list in
-    let over = closing_ends (next opening marked) (block_of.StreamInfo info) list in
-    let joins = subst (λ k. Joined grammar (next opening marked) (past front (fresh first)) k rest) c.parts more in
-    let ends = subst (λ k. (after grammar (next opening marked) k).stand.phase ≡ (after grammar (next opening marked) (closing blocks)).stand.phase) c.parts refl ∙ over in
-    let o = are_ordered (past front (fresh first)) c.list rest (record { spelled = joins; over = ends }) in
-    let four = (marker_there opening.stand (fresh first) front marked refl spelled).1 in
+    let over = closing_ends (next (opening profile) marked) (block_of.StreamInfo info) list in
+    let joins = subst (λ k. Joined grammar (next (opening profile) marked) (past front (fresh first)) k rest) c.parts more in
+    let ends = subst (λ k. (after grammar (next (opening profile) marked) k).stand.phase ≡ (after grammar (next (opening profile) marked) (closing blocks)).stand.phase) c.parts refl ∙ over in
+    let o = are_ordered profile (past front (fresh first)) c.list rest (record { spelled = joins; over = ends }) in
+    let four = (marker_there (opening profile).stand (fresh first) front marked refl spelled).1 in
     let whole : length head ≡ length front + length rest = ap bits_in split ∙ length-append front rest in
     let n = blocks_long 4 c.list rest o.order.each o.spelled (omega (arith, four, whole, few)) in
     let last : 8 * 4 + length rest ≡ length head = omega (arith, four, whole) in
@@ -295,23 +296,23 @@ same_front xs ys us vs e long = sym (take-append_seam xs ys) ∙ ap (take (lengt
 
 pub frames_start_there : FramesStart
 unfolding first_info
-frames_start_there stream blocks frames info few is told =
-    let w = (streams_are_whole first is.parts (bits_of stream)).0 is.read in
-    let all = valid_after first w.info w.list w.begins.head w.begins.spelled in
-    let at = head_leaves w.info w.list all.1 in
+frames_start_there profile stream blocks frames info few is told =
+    let w = (streams_are_whole profile first is.parts (bits_of stream)).0 is.read in
+    let all = valid_after profile first w.info w.list w.begins.head w.begins.spelled in
+    let at = head_leaves profile w.info w.list all.1 in
     let list : List Block = block_of.StreamInfo w.info ∷ w.list in
     let both = same_items list blocks w.frames frames (sym (parts_handed list w.frames) ∙ sym (ap items_of w.parts) ∙ is.items) in
     let long : length (bits_of stream) ≡ length w.begins.head + length w.rest = ap bits_in w.begins.stands ∙ length-append w.begins.head w.rest in
-    let start : 8 * frames_start list ≡ length w.begins.head = head_long w.info w.list w.begins.head w.begins.spelled (omega (arith, long, length-bits_of stream, few)) in
+    let start : 8 * frames_start list ≡ length w.begins.head = head_long profile w.info w.list w.begins.head w.begins.spelled (omega (arith, long, length-bits_of stream, few)) in
     let n = frames_start list in
     let within : n ≤ length stream = omega (arith, start, long, length-bits_of stream) in
     let same : w.begins.head ≡ bits_of (take n stream) =
     same_front w.begins.head w.rest (bits_of (take n stream)) (bits_of (drop n stream)) (sym w.begins.stands ∙ ap bits_of (sym (take-append-drop n stream)) ∙ bits_of-append (take n stream) (drop n stream))
     (omega (arith, start, length-bits_of (take n stream), length-take n stream, within)) in
-    let spelled : Joined grammar opening first (head_parts w.info w.list) (bits_of (take n stream)) = subst (λ t. Joined grammar opening first (head_parts w.info w.list) t) same w.begins.spelled in
+    let spelled : Joined grammar (opening profile) first (head_parts w.info w.list) (bits_of (take n stream)) = subst (λ t. Joined grammar (opening profile) first (head_parts w.info w.list) t) same w.begins.spelled in
     record {
       front = head_parts w.info w.list;
-      whole = subst (λ k. Stream grammar opening first (head_parts w.info w.list ++ map framed k) (bits_of stream)) both.1 (subst (λ k. Stream grammar opening first k (bits_of stream)) w.parts is.read);
-      before = subst (λ k. Joined grammar opening first (head_parts w.info w.list) (bits_of (take (frames_start k) stream))) both.0 spelled;
+      whole = subst (λ k. Stream grammar (opening profile) first (head_parts w.info w.list ++ map framed k) (bits_of stream)) both.1 (subst (λ k. Stream grammar (opening profile) first k (bits_of stream)) w.parts is.read);
+      before = subst (λ k. Joined grammar (opening profile) first (head_parts w.info w.list) (bits_of (take (frames_start k) stream))) both.0 spelled;
       known = at.info ∙ ap first_info both.0 ∙ told;
     }

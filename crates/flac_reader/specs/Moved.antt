@@ -5,6 +5,7 @@ use Rattle.flac_bits.specs.Bits.{bits_of}
 use Rattle.flac_bits.specs.Handing.{Reading, by_grammar}
 use Rattle.flac_bits.specs.declared.why.Why.TheVariants.{Truncated, Read}
 use Rattle.flac_meta.specs.Info.{Info}
+use Rattle.flac_header.specs.declared.subset.Profile.{Profile}
 use Rattle.flac_native.specs.Decoding.{beginning}
 use Rattle.flac_native.specs.Resuming.{resumed}
 use Rattle.flac_native.specs.Stream.{Piece, grammar}
@@ -22,8 +23,8 @@ abbrev pub bytes_to_come : Option (List ℕ) → List ℕ
 bytes_to_come remaining = take 18446744073709551615 (unwrap_or remaining [])
 
 -- read from the state in which a frame comes
-abbrev pub read_resumed : Info → Option (List ℕ) → Reading Piece Place
-read_resumed info remaining = by_grammar grammar (resumed info) (beginning Truncated) (bits_of (bytes_to_come remaining))
+abbrev pub read_resumed : Profile → Info → Option (List ℕ) → Reading Piece Place
+read_resumed profile info remaining = by_grammar grammar (resumed profile info) (beginning Truncated) (bits_of (bytes_to_come remaining))
 
 -- the device could not be moved
 abbrev pub not_moved : Fault

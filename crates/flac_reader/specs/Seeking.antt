@@ -10,6 +10,7 @@ use Rattle.flac_bits.specs.declared.why.Why.TheVariants.{Memory, Read, Truncated
 use Rattle.flac_meta.specs.declared.block.Block.{Block}
 use Rattle.flac_meta.specs.Info.{Info}
 use Rattle.flac_meta.specs.declared.seek_table.SeekPoint.{SeekPoint}
+use Rattle.flac_header.specs.declared.subset.Profile.{Profile}
 use Rattle.flac_frame.specs.Frame.{Frame}
 use Rattle.flac_native.specs.Decoding.{beginning}
 use Rattle.flac_native.specs.Resuming.{resumed}
@@ -108,11 +109,11 @@ pub record RefusesSeek (info : Info) (sample : ℕ) (r : Reading Piece Place) (k
 -- ---- in a whole stream
 
 -- The first so many bytes of a native stream are all its parts before these frames, and STREAMINFO among them is this.
-pub record Cuts (stream : List ℕ) (info : Info) (at : ℕ) (frames : List Frame) : Type 0 where
+pub record Cuts (profile : Profile) (stream : List ℕ) (info : Info) (at : ℕ) (frames : List Frame) : Type 0 where
   pub front : List Piece
-  pub whole : Stream grammar opening (beginning Truncated) (front ++ map framed frames) (bits_of stream)
-  pub before : Joined grammar opening (beginning Truncated) front (bits_of (take at stream))
-  pub known : (after grammar opening front).stand.info ≡ Some info
+  pub whole : Stream grammar (opening profile) (beginning Truncated) (front ++ map framed frames) (bits_of stream)
+  pub before : Joined grammar (opening profile) (beginning Truncated) front (bits_of (take at stream))
+  pub known : (after grammar (opening profile) front).stand.info ≡ Some info
 
 -- A reader finds the frame among these, and gives it and all behind it, up to the end of the stream; or memory ran out.
 abbrev pub SeeksFrames : {C : Type 0} {g : container.Ghosts C} → Info → ℕ → List Frame → Result (Reader C g) Fault → Type 0
@@ -121,9 +122,9 @@ SeeksFrames info sample frames (Err f) = f.why ≢ Memory → ⊥
 
 -- So a native stream in memory is cut where its frames start, as the reader that opened it counted.
 abbrev pub FramesStart : Type 0
-FramesStart = (stream : List ℕ) (blocks : List Block) (frames : List Frame) (info : Info) → length stream < 2 ^ 64
-    → IsReadAs (by_grammar grammar opening (beginning Truncated) (bits_of stream)) blocks frames None → first_info blocks ≡ Some info → Cuts stream info (frames_start blocks) frames
+FramesStart = (profile : Profile) (stream : List ℕ) (blocks : List Block) (frames : List Frame) (info : Info) → length stream < 2 ^ 64
+    → IsReadAs (by_grammar grammar (opening profile) (beginning Truncated) (bits_of stream)) blocks frames None → first_info blocks ≡ Some info → Cuts profile stream info (frames_start blocks) frames
 
 -- And what is behind a cut is a stream of the frames there, read from the state in which a decoder is resumed.
 abbrev pub CutsAreRead : Type 0
-CutsAreRead = (stream : List ℕ) (info : Info) (at : ℕ) (frames : List Frame) → Cuts stream info at frames → IsReadAs (by_grammar grammar (resumed info) (beginning Truncated) (bits_of (drop at stream))) [] frames None
+CutsAreRead = (profile : Profile) (stream : List ℕ) (info : Info) (at : ℕ) (frames : List Frame) → Cuts profile stream info at frames → IsReadAs (by_grammar grammar (resumed profile info) (beginning Truncated) (bits_of (drop at stream))) [] frames None

@@ -68,8 +68,8 @@ fn open_as<R: Source + Drop>(
     profile: Profile,
     keep: Keep,
 ) -> Result<Opened<Reader<BitReader<Fronted<R>>>, Reader<OggPackets<Fronted<R>>>>, Fault>
-    ensures opens { IfOk result (λ o. R.known source.source ≡ true → OpensEither (read_either is_ogg (beginning (short_of ((R.behind source.source).fails))) (bits_of (front_bytes source.front ++ R.coming source.source))) keep o) }
-    ensures refused { IfErr result (λ f. f.why ≢ Why.Memory → (left : R) × RefusesInput (read_either is_ogg (beginning (short_of ((R.behind source.source).fails))) (bits_of (front_bytes source.front ++ R.coming source.source))) (R.known source.source) (R.errors source.source) (R.raised source.source) (R.errors left) (R.raised left) f) }
+    ensures opens { IfOk result (λ o. R.known source.source ≡ true → OpensEither (read_either profile is_ogg (beginning (short_of ((R.behind source.source).fails))) (bits_of (front_bytes source.front ++ R.coming source.source))) keep o) }
+    ensures refused { IfErr result (λ f. f.why ≢ Why.Memory → (left : R) × RefusesInput (read_either profile is_ogg (beginning (short_of ((R.behind source.source).fails))) (bits_of (front_bytes source.front ++ R.coming source.source))) (R.known source.source) (R.errors source.source) (R.raised source.source) (R.errors left) (R.raised left) f) }
 {
     if is_ogg {
         match open_ogg(alloc, source, profile, keep) {
@@ -104,10 +104,10 @@ pub fn open<R: Source + Drop>(
 ) -> Result<Opened<Reader<BitReader<Fronted<R>>>, Reader<OggPackets<Fronted<R>>>>, Fault>
     // The blocks that are kept, and the frames to come, are those of the stream that the bytes are in the container
     // that the first of them names.
-    ensures opens { IfOk result (λ o. R.known source ≡ true → OpensEither (read_either (begins_page (R.coming source)) (beginning (short_of ((R.behind source).fails))) (bits_of (R.coming source))) keep o) }
+    ensures opens { IfOk result (λ o. R.known source ≡ true → OpensEither (read_either profile (begins_page (R.coming source)) (beginning (short_of ((R.behind source).fails))) (bits_of (R.coming source))) keep o) }
     // Refused only as the input is, before its first frame; or because memory runs out, or because of an error of the
     // source, which is then counted.
-    ensures refused { IfErr result (λ f. f.why ≢ Why.Memory → (left : R) × RefusesInput (read_either (begins_page (R.coming source)) (beginning (short_of ((R.behind source).fails))) (bits_of (R.coming source))) (R.known source) (R.errors source) (R.raised source) (R.errors left) (R.raised left) f) }
+    ensures refused { IfErr result (λ f. f.why ≢ Why.Memory → (left : R) × RefusesInput (read_either profile (begins_page (R.coming source)) (beginning (short_of ((R.behind source).fails))) (bits_of (R.coming source))) (R.known source) (R.errors source) (R.raised source) (R.errors left) (R.raised left) f) }
 {
     let mut source = source;
     match pull_front(&mut source) {

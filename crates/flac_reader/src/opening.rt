@@ -33,10 +33,10 @@ pub fn open_native<R: Source + Drop>(
     keep: Keep,
 ) -> Result<Reader<BitReader<R>>, Fault>
     // The blocks that are kept, and the frames to come, are those of the stream that the bytes are.
-    ensures opens { IfOk result (λ r. R.known source ≡ true → Opens (by_grammar grammar opening (beginning (short_of ((R.behind source).fails))) (bits_of (R.coming source))) keep r) }
+    ensures opens { IfOk result (λ r. R.known source ≡ true → Opens (by_grammar grammar (opening profile) (beginning (short_of ((R.behind source).fails))) (bits_of (R.coming source))) keep r) }
     // Refused only as the input is, before its first frame; or because memory runs out, or because of an error of the
     // source, which is then counted.
-    ensures refused { IfErr result (λ f. f.why ≢ Why.Memory → (left : R) × RefusesInput (by_grammar grammar opening (beginning (short_of ((R.behind source).fails))) (bits_of (R.coming source))) (R.known source) (R.errors source) (R.raised source) (R.errors left) (R.raised left) f) }
+    ensures refused { IfErr result (λ f. f.why ≢ Why.Memory → (left : R) × RefusesInput (by_grammar grammar (opening profile) (beginning (short_of ((R.behind source).fails))) (bits_of (R.coming source))) (R.known source) (R.errors source) (R.raised source) (R.errors left) (R.raised left) f) }
 {
     match Reader::begin(alloc, Decoder::new(alloc, source, profile), keep) {
         Ok(reader) => Ok(reader),
@@ -64,10 +64,10 @@ pub fn open_ogg<R: Source + Drop>(
     keep: Keep,
 ) -> Result<Reader<OggPackets<R>>, Fault>
     // The blocks that are kept, and the frames to come, are those of the stream that the bytes are.
-    ensures opens { IfOk result (λ r. R.known source ≡ true → Opens (ogg_reading (beginning (short_of ((R.behind source).fails))) (bits_of (R.coming source))) keep r) }
+    ensures opens { IfOk result (λ r. R.known source ≡ true → Opens (ogg_reading profile (beginning (short_of ((R.behind source).fails))) (bits_of (R.coming source))) keep r) }
     // Refused only as the input is, before its first frame; or because memory runs out, or because of an error of the
     // source, which is then counted.
-    ensures refused { IfErr result (λ f. f.why ≢ Why.Memory → (left : R) × RefusesInput (ogg_reading (beginning (short_of ((R.behind source).fails))) (bits_of (R.coming source))) (R.known source) (R.errors source) (R.raised source) (R.errors left) (R.raised left) f) }
+    ensures refused { IfErr result (λ f. f.why ≢ Why.Memory → (left : R) × RefusesInput (ogg_reading profile (beginning (short_of ((R.behind source).fails))) (bits_of (R.coming source))) (R.known source) (R.errors source) (R.raised source) (R.errors left) (R.raised left) f) }
 {
     let decoder = match ogg_decoder(alloc, source, profile) {
         Ok(decoder) => decoder,

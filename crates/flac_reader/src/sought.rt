@@ -62,7 +62,7 @@ impl<C: Container + Drop> Reader<C> {
         ensures first { IfOk result (λ r. r.behind ≡ number_of self.info (held (stage_of r.decoder).course (stage_of r.decoder).track)) }
         // Of the frames from that point on, the first that holds the sample comes next, and then all others; refused
         // only as the bytes are, with no such frame before.
-        ensures found { SeeksTo self.info sample (by_grammar grammar (resumed self.info) (beginning Truncated) (bits_of (drop (offset_before sample (first_points self.blocks.items)) frames.now))) result }
+        ensures found { SeeksTo self.info sample (by_grammar grammar (resumed profile self.info) (beginning Truncated) (bits_of (drop (offset_before sample (first_points self.blocks.items)) frames.now))) result }
     {
         let offset = offset_before(self.seek_points(), sample);
         let source = Memory::new(bytes_from(frames, offset));
@@ -89,10 +89,10 @@ impl<C: Container + Drop> Reader<C> {
         ensures first { IfOk result (λ r. r.behind ≡ number_of self.info (held (stage_of r.decoder).course (stage_of r.decoder).track)) }
         // Of the frames from that point on, the first that holds the sample comes next, and then all others; refused
         // only as the bytes are, with no such frame before.
-        ensures found { SeeksTo self.info sample (by_grammar grammar (resumed self.info) (beginning Truncated) (bits_of (drop (search_start self.start sample (first_points self.blocks.items)) stream.now))) result }
+        ensures found { SeeksTo self.info sample (by_grammar grammar (resumed profile self.info) (beginning Truncated) (bits_of (drop (search_start self.start sample (first_points self.blocks.items)) stream.now))) result }
         // If the bytes are a stream with some frames after that point, exactly these are searched, and the rest of them
         // is given up to the end of the stream.
-        ensures whole { (frames : List Frame) → Cuts stream.now self.info (search_start self.start sample (first_points self.blocks.items)) frames → SeeksFrames self.info sample frames result }
+        ensures whole { (frames : List Frame) → Cuts profile stream.now self.info (search_start self.start sample (first_points self.blocks.items)) frames → SeeksFrames self.info sample frames result }
     {
         let offset = self.seek_offset(sample);
         let source = Memory::new(bytes_from(stream, offset));
@@ -119,10 +119,10 @@ impl<C: Container + Drop> Reader<C> {
         ensures blocks { IfOk result (λ r. (r.blocks ≡ self.blocks) × (r.info ≡ self.info) × (r.start ≡ self.start)) }
         ensures first { IfOk result (λ r. r.behind ≡ number_of self.info (held (stage_of r.decoder).course (stage_of r.decoder).track)) }
         // Of the frames of the source, the first that holds the sample comes next, and then all others.
-        ensures found { IfOk result (λ r. S.known source ≡ true → Sought self.info sample (by_grammar grammar (resumed self.info) (beginning (short_of ((S.behind source).fails))) (bits_of (S.coming source))) r) }
+        ensures found { IfOk result (λ r. S.known source ≡ true → Sought self.info sample (by_grammar grammar (resumed profile self.info) (beginning (short_of ((S.behind source).fails))) (bits_of (S.coming source))) r) }
         // Refused only as the input is, with no such frame before; or because memory runs out, or because of an error
         // of the source, which is then counted.
-        ensures refused { IfErr result (λ f. f.why ≢ Why.Memory → (left : S) × RefusesSeek self.info sample (by_grammar grammar (resumed self.info) (beginning (short_of ((S.behind source).fails))) (bits_of (S.coming source))) (S.known source) (S.errors source) (S.raised source) (S.errors left) (S.raised left) f) }
+        ensures refused { IfErr result (λ f. f.why ≢ Why.Memory → (left : S) × RefusesSeek self.info sample (by_grammar grammar (resumed profile self.info) (beginning (short_of ((S.behind source).fails))) (bits_of (S.coming source))) (S.known source) (S.errors source) (S.raised source) (S.errors left) (S.raised left) f) }
     {
         let Reader {
             decoder: _,
@@ -170,10 +170,10 @@ impl<C: Container + Drop> Reader<C> {
         ensures blocks { IfOk result (λ r. (r.blocks ≡ self.blocks) × (r.info ≡ self.info) × (r.start ≡ self.start)) }
         ensures first { IfOk result (λ r. r.behind ≡ number_of self.info (held (stage_of r.decoder).course (stage_of r.decoder).track)) }
         // Of the frames of the device from that point on, the first that holds the sample comes next, and then all others.
-        ensures found { IfOk result (λ r. (moved : T) × IsMoved T.stream_position T.stream_bytes device moved (search_start self.start sample (first_points self.blocks.items)) × (is_some (T.remaining moved) ≡ true → Sought self.info sample (read_resumed self.info (T.remaining moved)) r)) }
+        ensures found { IfOk result (λ r. (moved : T) × IsMoved T.stream_position T.stream_bytes device moved (search_start self.start sample (first_points self.blocks.items)) × (is_some (T.remaining moved) ≡ true → Sought self.info sample (read_resumed profile self.info (T.remaining moved)) r)) }
         // Refused only if the device cannot be moved, or as its bytes from there on are, with no such frame before; or
         // because memory runs out, or because of an error of the device.
-        ensures refused { IfErr result (λ f. f.why ≢ Why.Memory → (f ≡ not_moved) ⊎ ((moved : T) × (left : Counted T) × IsMoved T.stream_position T.stream_bytes device moved (search_start self.start sample (first_points self.blocks.items)) × RefusesSeek self.info sample (read_resumed self.info (T.remaining moved)) (is_some (T.remaining moved)) 0 0 left.errors left.errors f)) }
+        ensures refused { IfErr result (λ f. f.why ≢ Why.Memory → (f ≡ not_moved) ⊎ ((moved : T) × (left : Counted T) × IsMoved T.stream_position T.stream_bytes device moved (search_start self.start sample (first_points self.blocks.items)) × RefusesSeek self.info sample (read_resumed profile self.info (T.remaining moved)) (is_some (T.remaining moved)) 0 0 left.errors left.errors f)) }
     {
         let mut device = device;
         let offset = self.seek_offset(sample);

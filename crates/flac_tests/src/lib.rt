@@ -13,6 +13,8 @@ mod equals;
 #[cfg(test)]
 mod frames;
 #[cfg(test)]
+mod lax;
+#[cfg(test)]
 mod ogg;
 #[cfg(test)]
 mod ogg_decoding;

@@ -148,16 +148,19 @@ fn job_of<'a>(
         return Ok(None);
     };
     if name == "test" {
-        return Ok(Some(Job::Test { input }));
+        let lax = given.get_flag("lax");
+        return Ok(Some(Job::Test { input, lax }));
     }
     if name == "list" {
-        return Ok(Some(Job::List { input }));
+        let lax = given.get_flag("lax");
+        return Ok(Some(Job::List { input, lax }));
     }
     let Some(output) = given.get_str("OUT") else {
         return Ok(None);
     };
     if name == "decode" {
-        return Ok(Some(Job::Decode { input, output }));
+        let lax = given.get_flag("lax");
+        return Ok(Some(Job::Decode { input, output, lax }));
     }
     let mut comments = Vec::new(alloc);
     if let Some(words) = given.get_strs("COMMENT") {
@@ -225,10 +228,11 @@ fn with<'a>(
 
 /// The command `test`.
 fn test_command<'a>(alloc: Global) -> Result<Command<'a>, AllocError> {
+    let words = vec![in alloc; file(alloc, "IN", "The stream"), lax(alloc)]?;
     Command::new(alloc, "test")
         .about("Decodes a stream, and prints how many frames and samples it has")
         .after_help(TEST_EXAMPLE)
-        .arg(file(alloc, "IN", "The stream"))
+        .args(words)
 }
 
 /// The command `decode`.
@@ -236,6 +240,7 @@ fn decode_command<'a>(alloc: Global) -> Result<Command<'a>, AllocError> {
     let words = vec![in alloc;
         file(alloc, "IN", "The stream"),
         file(alloc, "OUT", "The file that the samples are written to"),
+        lax(alloc),
     ]?;
     Command::new(alloc, "decode")
         .about(
@@ -247,10 +252,11 @@ fn decode_command<'a>(alloc: Global) -> Result<Command<'a>, AllocError> {
 
 /// The command `list`.
 fn list_command<'a>(alloc: Global) -> Result<Command<'a>, AllocError> {
+    let words = vec![in alloc; file(alloc, "IN", "The stream"), lax(alloc)]?;
     Command::new(alloc, "list")
         .about("Decodes a stream, and lists its metadata blocks")
         .after_help(LIST_EXAMPLE)
-        .arg(file(alloc, "IN", "The stream"))
+        .args(words)
 }
 
 /// The command `encode`.
@@ -307,6 +313,14 @@ fn ogg<'a>(alloc: Global) -> Arg<'a> {
         .long("ogg")
         .action(ArgAction::SetTrue)
         .help("Writes an Ogg stream, which has no seek table")
+}
+
+/// The option `--lax`.
+fn lax<'a>(alloc: Global) -> Arg<'a> {
+    Arg::new(alloc, "lax")
+        .long("lax")
+        .action(ArgAction::SetTrue)
+        .help("Accepts streams outside the streamable subset too, which are else refused with 14")
 }
 
 /// A required argument: the path of a file.

@@ -11,6 +11,6 @@ returns-clause-stream g c tells = then_ok c.decode_stream.result (c.decode_strea
 pub returns-clause-outcome : goal.returns-clause-outcome
 returns-clause-outcome g c tells =
     let known = counts_on _ c.new-listing.ensures in
-    listed_fits (g.R.Source.coming c.args.source.now) (g.R.Source.behind c.args.source.now) c.decode_stream.new.sink.failures.count (outcome_of at_place c.decode_stream.result)
+    listed_fits c.args.profile (g.R.Source.coming c.args.source.now) (g.R.Source.behind c.args.source.now) c.decode_stream.new.sink.failures.count (outcome_of at_place c.decode_stream.result)
     (λ none. c.decode_stream.ensures.outcome tells known (none ∙ sym c.new-listing.ensures))
     (λ some. c.decode_stream.ensures.failed tells known (omega (arith, c.new-listing.ensures, some)))

@@ -34,11 +34,11 @@ returns-in_err-header g c =
       reads = told_fault (started c.args.bits.now) c.read_header.new.bits _ c.in_err-header.ensures.reads;
     })
 
-pub returns-then-not-allowed-clause-counts : goal.returns-then-not-allowed-clause-counts
-returns-then-not-allowed-clause-counts g c = refused_then c.args.bits.now c.read_header.new.bits c.in_ok-header.ensures.counts refl
+pub returns-then-not-allows-clause-counts : goal.returns-then-not-allows-clause-counts
+returns-then-not-allows-clause-counts g c = refused_then c.args.bits.now c.read_header.new.bits c.in_ok-header.ensures.counts refl
 
-pub returns-then-not-allowed-clause-memory : goal.returns-then-not-allowed-clause-memory
-returns-then-not-allowed-clause-memory g c = subset_no_memory
+pub returns-then-not-allows-clause-memory : goal.returns-then-not-allows-clause-memory
+returns-then-not-allows-clause-memory g c = subset_no_memory
 
 pub returns-then-differs-clause-counts : goal.returns-then-differs-clause-counts
 returns-then-differs-clause-counts g c = refused_then c.args.bits.now c.read_header.new.bits c.in_ok-header.ensures.counts refl

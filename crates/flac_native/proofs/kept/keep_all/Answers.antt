@@ -11,6 +11,7 @@ use Rattle.flac_native.proofs.Bounds.{so_far_lifted, open_on, lifted_open, step_
 use Rattle.flac_native.proofs.Metadata.{no_errors}
 use Rattle.flac_native.proofs.Blocks.{kept_are, kept_whole}
 use Rattle.flac_native.proofs.kept.keep_all.Goals as goal
+use Rattle.flac_header.specs.declared.subset.Profile.TheVariants.{Subset}
 
 pub loop-reader-init : goal.loop-reader-init
 loop-reader-init g c = record {
@@ -44,20 +45,20 @@ over t p at e = ap (λ (s : Stand). is_behind_blocks s.phase) (sym at.stand) ∙
 
 pub returns-clause-kept : goal.returns-clause-kept
 returns-clause-kept g c = λ known.
-    let far = c.loop-reader.invariant.far opening c.requires.first in
+    let far = c.loop-reader.invariant.far (opening Subset) c.requires.first in
     let end = over c.loop-reader.track far.0 far.1 (sym c.is_behind.ensures ∙ c.loop-reader-test.false) in
     rw c.lift.ensures (kept_are (lifted c.args.reader.now).cursor (lifted c.loop-reader.reader).cursor far.0 c.args.kept.now.items c.loop-reader.kept.items c.requires.none (far.2.far known) end)
 
 pub returns-then-unread-ne0-clause-refused : goal.returns-then-unread-ne0-clause-refused
 returns-then-unread-ne0-clause-refused g c = λ known calm room.
-    let far = c.loop-reader.invariant.far opening c.requires.first in
+    let far = c.loop-reader.invariant.far (opening Subset) c.requires.first in
     let whole = kept_whole (lifted c.args.reader.now).cursor (lifted c.loop-reader.reader).cursor far.0 c.args.kept.now.items c.loop-reader.kept.items c.requires.whole (far.2.far known) in
     let zero : c.unread.result ≡ 0 = c.unread.ensures.0 ∙ ap (λ (s : State). s.cursor.mark.unread) c.lift.ensures ∙ whole in
     absurd (c.if-unread-ne0.true zero)
 
 pub returns-then-unread-ne0-clause-at : goal.returns-then-unread-ne0-clause-at
 returns-then-unread-ne0-clause-at g c = λ known.
-    let far = c.loop-reader.invariant.far opening c.requires.first in
+    let far = c.loop-reader.invariant.far (opening Subset) c.requires.first in
     let whole = kept_whole (lifted c.args.reader.now).cursor (lifted c.loop-reader.reader).cursor far.0 c.args.kept.now.items c.loop-reader.kept.items c.requires.whole (far.2.far known) in
     let zero : c.unread.result ≡ 0 = c.unread.ensures.0 ∙ ap (λ (s : State). s.cursor.mark.unread) c.lift.ensures ∙ whole in
     absurd (c.if-unread-ne0.true zero)
@@ -68,7 +69,7 @@ returns-in_err-keep_next-clause-refused g c =
     let refuses = c.in_err-keep_next.ensures.refused in
     let at = c.in_err-keep_next.ensures.at in
     rw (p.1, p.2) (λ known calm room.
-    let far = c.loop-reader.invariant.far opening c.requires.first in
-    let r = step_refused grammar keeps no_errors opening far.0 (lifted c.args.reader.now) (lifted c.loop-reader.reader) c.keep_next.new.reader c.args.kept.now.items c.loop-reader.kept.items _ _ far.2
+    let far = c.loop-reader.invariant.far (opening Subset) c.requires.first in
+    let r = step_refused grammar keeps no_errors (opening Subset) far.0 (lifted c.args.reader.now) (lifted c.loop-reader.reader) c.keep_next.new.reader c.args.kept.now.items c.loop-reader.kept.items _ _ far.2
     (λ told same quiet some. refuses far.0 far.1 told same quiet some) known calm room in
     record { items = r.0; refused = r.1; place = at })

@@ -14,7 +14,7 @@ returns-in-Ok-clause-stream g c = λ items s.
     let mark = beginning (short_of ((R.behind source).fails)) in
     let text = bits_of (R.coming source) in
     let front = front_ahead c.in-Ok.pages (R.known source) (R.errors source) (R.raised source) (8 * R.most source) _ text (short_of ((R.behind source).fails)) c.in-Ok.ensures.ok in
-    rw (c.over-in-Ok.ensures.container, c.over.ensures) (subst (λ a. ItemsCome start a items None) (sym front) (stream_comes mark text items s))
+    rw (c.over-in-Ok.ensures.container, c.over.ensures) (subst (λ a. ItemsCome (start c.args.profile) a items None) (sym front) (stream_comes c.args.profile mark text items s))
 
 pub returns-in-Ok-clause-refused : goal.returns-in-Ok-clause-refused
 returns-in-Ok-clause-refused g c = λ items at why r.
@@ -23,7 +23,7 @@ returns-in-Ok-clause-refused g c = λ items at why r.
     let mark = beginning (short_of ((R.behind source).fails)) in
     let text = bits_of (R.coming source) in
     let front = front_ahead c.in-Ok.pages (R.known source) (R.errors source) (R.raised source) (8 * R.most source) _ text (short_of ((R.behind source).fails)) c.in-Ok.ensures.ok in
-    rw (c.over-in-Ok.ensures.container, c.over.ensures) (subst (λ a. ItemsCome start a items (Some (at, why))) (sym front) (refusal_comes mark text items at why r))
+    rw (c.over-in-Ok.ensures.container, c.over.ensures) (subst (λ a. ItemsCome (start c.args.profile) a items (Some (at, why))) (sym front) (refusal_comes c.args.profile mark text items at why r))
 
 pub returns-in-Ok-clause-clear : goal.returns-in-Ok-clause-clear
 returns-in-Ok-clause-clear g c = λ none.
@@ -32,4 +32,4 @@ returns-in-Ok-clause-clear g c = λ none.
     let fails = (R.behind source).fails in
     let text = bits_of (R.coming source) in
     let front = front_ahead c.in-Ok.pages (R.known source) (R.errors source) (R.raised source) (8 * R.most source) _ text (short_of fails) c.in-Ok.ensures.ok in
-    rw (c.over-in-Ok.ensures.container, c.over.ensures, c.over-in-Ok.ensures.track) (clear_start c.in-Ok.pages c.new-in-Ok.result fails text front c.new-in-Ok.ensures none)
+    rw (c.over-in-Ok.ensures.container, c.over.ensures, c.over-in-Ok.ensures.track) (clear_start c.args.profile c.in-Ok.pages c.new-in-Ok.result fails text front c.new-in-Ok.ensures none)

@@ -15,7 +15,7 @@ use Rattle.flac_ogg.proofs.decoding.decode_ogg.Goals as goal
 pub returns-in-Err-clause-hands : goal.returns-in-Err-clause-hands
 returns-in-Err-clause-hands g c = λ known receives.
     let R = g.R.Source in
-    nothing_read (taken g.S.Sink.takes) g.S.Sink.errors (beginning (short_of ((R.behind c.args.source.now).fails))) (bits_of (R.coming c.args.source.now)) _ c.args.sink.now c.in-Err.why c.in-Err.ensures.err
+    nothing_read c.args.profile (taken g.S.Sink.takes) g.S.Sink.errors (beginning (short_of ((R.behind c.args.source.now).fails))) (bits_of (R.coming c.args.source.now)) _ c.args.sink.now c.in-Err.why c.in-Err.ensures.err
 
 pub returns-clause-hands : goal.returns-clause-hands
 returns-clause-hands g c = λ known receives.
@@ -24,13 +24,13 @@ returns-clause-hands g c = λ known receives.
     let mark = beginning (short_of ((R.behind source).fails)) in
     let text = bits_of (R.coming source) in
     let front = ap ahead c.over-packets.ensures ∙ front_ahead c.over.result (R.known source) (R.errors source) (R.raised source) (8 * R.most source) _ text (short_of ((R.behind source).fails)) c.over.ensures in
-    let there = some_come mark text in
-    let come = subst (λ a. ItemsCome start a there.items there.end) (sym front) there.come in
+    let there = some_come c.args.profile mark text in
+    let come = subst (λ a. ItemsCome (start c.args.profile) a there.items there.end) (sym front) there.come in
     let last = ap (λ (p : Place). p.errors) (sym c.into_pages-pages.ensures) in
     let first = ap (λ (p : Place). p.errors) c.over-packets.ensures in
     calmer _ _ (λ q. let e = last ∙ search (rules, q) ∙ sym first in (e, e))
-    (hands_ogg (taken g.S.Sink.takes) g.S.Sink.errors mark text there.items there.end _ c.args.sink.now c.hand_out-outcome.new.sink (outcome_of told c.hand_out-outcome.result) there.come
-    (c.hand_out-outcome.ensures.hands start c.new-track.ensures (search (rules, known)) receives there.items there.end come))
+    (hands_ogg c.args.profile (taken g.S.Sink.takes) g.S.Sink.errors mark text there.items there.end _ c.args.sink.now c.hand_out-outcome.new.sink (outcome_of told c.hand_out-outcome.result) there.come
+    (c.hand_out-outcome.ensures.hands (start c.args.profile) c.new-track.ensures (search (rules, known)) receives there.items there.end come))
 
 pub returns-clause-decides : goal.returns-clause-decides
 returns-clause-decides g c = λ known receives errors same.
@@ -42,8 +42,8 @@ returns-clause-decides g c = λ known receives errors same.
     let last = ap (λ (p : Place). p.errors) (sym c.into_pages-pages.ensures) in
     let first = ap (λ (p : Place). p.errors) c.over-packets.ensures in
     let e = last ∙ search (rules, errors) ∙ sym first in
-    decides_ogg (taken g.S.Sink.takes) g.S.Sink.errors mark text _ c.args.sink.now c.hand_out-outcome.new.sink (outcome_of told c.hand_out-outcome.result)
-    (λ items end come. c.hand_out-outcome.ensures.hands start c.new-track.ensures (search (rules, known)) receives items end (subst (λ a. ItemsCome start a items end) (sym front) come))
+    decides_ogg c.args.profile (taken g.S.Sink.takes) g.S.Sink.errors mark text _ c.args.sink.now c.hand_out-outcome.new.sink (outcome_of told c.hand_out-outcome.result)
+    (λ items end come. c.hand_out-outcome.ensures.hands (start c.args.profile) c.new-track.ensures (search (rules, known)) receives items end (subst (λ a. ItemsCome (start c.args.profile) a items end) (sym front) come))
     (e, e) same
 
 pub returns-clause-read : goal.returns-clause-read
@@ -57,6 +57,6 @@ returns-clause-read g c =
     let first = ap (λ (p : Place). p.errors) c.over-packets.ensures in
     IfErr-weaker c.hand_out-outcome.result _ _
     (λ f read known none is.
-    let rose = read (search (rules, known)) is (clear_start c.over-packets.result.pages c.new-track.result fails text front c.new-track.ensures none) in
+    let rose = read (search (rules, known)) is (clear_start c.args.profile c.over-packets.result.pages c.new-track.result fails text front c.new-track.ensures none) in
     search (rules, rose, last, first))
     c.hand_out-outcome.ensures.read

@@ -14,8 +14,8 @@ pub returns-in-Ok-clause-opens : goal.returns-in-Ok-clause-opens
 returns-in-Ok-clause-opens g c = λ known.
     let R = g.R.Source in
     let source = c.args.source in
-    opens_over (by_grammar grammar opening (beginning (short_of ((R.behind source).fails))) (bits_of (R.coming source))) c.args.keep c.in-Ok.reader (stage_of c.new.result) opening c.new.ensures.course c.new.ensures.track
-    (λ parts end read. subst (λ k. PartsCome opening k parts end) (sym c.new.ensures.cursor) read) (c.new.ensures.known ∙ known) c.in-Ok.ensures.head c.in-Ok.ensures.info
+    opens_over (by_grammar grammar (opening c.args.profile) (beginning (short_of ((R.behind source).fails))) (bits_of (R.coming source))) c.args.keep c.in-Ok.reader (stage_of c.new.result) (opening c.args.profile) c.new.ensures.course c.new.ensures.track
+    (λ parts end read. subst (λ k. PartsCome (opening c.args.profile) k parts end) (sym c.new.ensures.cursor) read) (c.new.ensures.known ∙ known) c.in-Ok.ensures.head c.in-Ok.ensures.info
 
 pub returns-in-Err-clause-refused : goal.returns-in-Err-clause-refused
 returns-in-Err-clause-refused g c = λ other.
@@ -26,9 +26,9 @@ returns-in-Err-clause-refused g c = λ other.
     let errors : last.container.errors ≡ R.errors left = rw (← c.into_decoder.ensures) (sym c.into_source-source.ensures.errors.0) in
     let raised : last.container.raised ≡ R.raised left = rw (← c.into_decoder.ensures) (sym c.into_source-source.ensures.errors.1) in (
       left,
-      refuses_input (by_grammar grammar opening (beginning (short_of ((R.behind source).fails))) (bits_of (R.coming source))) (stage_of c.new.result) (stage_of last) opening c.in-Err.refused.fault (R.known source) (R.errors source) (R.raised source) (R.errors left) (R.raised left)
+      refuses_input (by_grammar grammar (opening c.args.profile) (beginning (short_of ((R.behind source).fails))) (bits_of (R.coming source))) (stage_of c.new.result) (stage_of last) (opening c.args.profile) c.in-Err.refused.fault (R.known source) (R.errors source) (R.raised source) (R.errors left) (R.raised left)
           c.new.ensures.course c.new.ensures.track
-          (λ parts end read. subst (λ k. PartsCome opening k parts end) (sym c.new.ensures.cursor) read)
+          (λ parts end read. subst (λ k. PartsCome (opening c.args.profile) k parts end) (sym c.new.ensures.cursor) read)
           c.new.ensures.known c.new.ensures.errors.0 c.new.ensures.errors.1 errors raised
           (λ _ same. raised ∙ same ∙ sym c.new.ensures.errors.1)
           c.in-Err.ensures.refused other,

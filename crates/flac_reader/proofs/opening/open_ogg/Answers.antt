@@ -14,8 +14,8 @@ returns-in-Ok-begin-clause-opens g c = λ known.
     let R = g.R.Source in
     let source = c.args.source in
     let d = c.in-Ok.decoder in
-    let r = ogg_reading (beginning (short_of ((R.behind source).fails))) (bits_of (R.coming source)) in
-    opens_over r c.args.keep c.in-Ok-begin.reader (stage_of d) start c.in-Ok.ensures.course c.in-Ok.ensures.track
+    let r = ogg_reading c.args.profile (beginning (short_of ((R.behind source).fails))) (bits_of (R.coming source)) in
+    opens_over r c.args.keep c.in-Ok-begin.reader (stage_of d) (start c.args.profile) c.in-Ok.ensures.course c.in-Ok.ensures.track
     (either_end _ r c.in-Ok.ensures.stream c.in-Ok.ensures.refused) (c.in-Ok.ensures.known ∙ known) c.in-Ok-begin.ensures.head c.in-Ok-begin.ensures.info
 
 pub returns-in-Err-begin-clause-refused : goal.returns-in-Err-begin-clause-refused
@@ -27,9 +27,9 @@ returns-in-Err-begin-clause-refused g c = λ other.
     let last = c.in-Err-begin.refused.decoder in
     let errors : last.container.pages.errors ≡ R.errors left = cc in
     let raised : last.container.pages.raised ≡ R.raised left = cc in
-    let r = ogg_reading (beginning (short_of ((R.behind source).fails))) (bits_of (R.coming source)) in (
+    let r = ogg_reading c.args.profile (beginning (short_of ((R.behind source).fails))) (bits_of (R.coming source)) in (
       left,
-      refuses_input r (stage_of d) (stage_of last) start c.in-Err-begin.refused.fault (R.known source) (R.errors source) (R.raised source) (R.errors left) (R.raised left)
+      refuses_input r (stage_of d) (stage_of last) (start c.args.profile) c.in-Err-begin.refused.fault (R.known source) (R.errors source) (R.raised source) (R.errors left) (R.raised left)
           c.in-Ok.ensures.course c.in-Ok.ensures.track
           (either_end _ r c.in-Ok.ensures.stream c.in-Ok.ensures.refused)
           c.in-Ok.ensures.known c.in-Ok.ensures.errors c.in-Ok.ensures.met errors raised

@@ -4,4 +4,4 @@ use Rattle.flac_frame.specs.Frame.{frame}
 use Rattle.flac_frame.proofs.buffers.FrameBuffers.fill.Goals as goal
 
 pub returns-clause-means : goal.returns-clause-means
-returns-clause-means g c = means (λ _. c.read_in.new.self.held) (frame c.args.info.now c.args.self.now.before) (started c.args.bits.now) c.read_in.new.bits c.read_in.result c.read_in.ensures.reads
+returns-clause-means g c = means (λ _. c.read_in.new.self.held) (frame c.args.profile c.args.info.now c.args.self.now.before) (started c.args.bits.now) c.read_in.new.bits c.read_in.result c.read_in.ensures.reads

@@ -17,7 +17,7 @@ returns-in_err-fill g c =
         counts = was.counts;
         memory = was.memory;
         reads = was.reads;
-        means = means frame_of (frame c.args.info.now c.args.self.now.before) (started c.args.bits.now) c.fill.new.bits (Err c.in_err-fill.field-0.0) was.reads;
+        means = means frame_of (frame c.args.profile c.args.info.now c.args.self.now.before) (started c.args.bits.now) c.fill.new.bits (Err c.in_err-fill.field-0.0) was.reads;
         after = tt;
       },
     )
@@ -33,7 +33,7 @@ returns g c =
         counts = was.counts;
         memory = tt;
         reads = reads;
-        means = means frame_of (frame c.args.info.now c.args.self.now.before) (started c.args.bits.now) c.fill.new.bits (Ok c.view.result) reads;
+        means = means frame_of (frame c.args.profile c.args.info.now c.args.self.now.before) (started c.args.bits.now) c.fill.new.bits (Ok c.view.result) reads;
         after = tt;
       },
     )

@@ -16,9 +16,9 @@ returns-in-Ok-find_frame-clause-found g c = λ known frames end is.
     let source = c.args.source in
     let info = c.args.self.info in
     finds_at info c.args.sample frames end c.before_frame.result c.find_frame.new.decoder c.before_frame.ensures.decoder c.before_frame.ensures.ahead
-    (seek_finds _ (by_grammar grammar (resumed info) (beginning (short_of ((S.behind source).fails))) (bits_of (S.coming source))) info c.args.sample c.in-Ok-find_frame.first
-    (stage_of c.in-Ok.decoder) (stage_of c.find_frame.new.decoder) (resumed info) c.in-Ok.ensures.course c.in-Ok.ensures.track
-    (λ parts e read. subst (λ k. PartsCome (resumed info) k parts e) (sym c.in-Ok.ensures.cursor) read)
+    (seek_finds _ (by_grammar grammar (resumed c.args.profile info) (beginning (short_of ((S.behind source).fails))) (bits_of (S.coming source))) info c.args.sample c.in-Ok-find_frame.first
+    (stage_of c.in-Ok.decoder) (stage_of c.find_frame.new.decoder) (resumed c.args.profile info) c.in-Ok.ensures.course c.in-Ok.ensures.track
+    (λ parts e read. subst (λ k. PartsCome (resumed c.args.profile info) k parts e) (sym c.in-Ok.ensures.cursor) read)
     (c.in-Ok.ensures.known ∙ known, c.in-Ok-find_frame.ensures.counts.met.1, c.in-Ok-find_frame.ensures.counts.met.2)
     c.in-Ok-find_frame.ensures.finds frames end is)
 
@@ -31,10 +31,10 @@ returns-clause-refused g c = λ other.
     let first = c.in-Ok.ensures.errors in
     let last = c.into_source-source.ensures.errors in (
       left,
-      seek_refuses (by_grammar grammar (resumed info) (beginning (short_of ((S.behind source).fails))) (bits_of (S.coming source))) info c.args.sample
-          c.in-Ok.decoder c.find_frame.new.decoder (resumed info) c.in-Err-find_frame.fault (S.known source) (S.errors source) (S.raised source) (S.errors left) (S.raised left)
+      seek_refuses (by_grammar grammar (resumed c.args.profile info) (beginning (short_of ((S.behind source).fails))) (bits_of (S.coming source))) info c.args.sample
+          c.in-Ok.decoder c.find_frame.new.decoder (resumed c.args.profile info) c.in-Err-find_frame.fault (S.known source) (S.errors source) (S.raised source) (S.errors left) (S.raised left)
           c.in-Ok.ensures.course c.in-Ok.ensures.track
-          (λ parts e read. subst (λ k. PartsCome (resumed info) k parts e) (sym c.in-Ok.ensures.cursor) read)
+          (λ parts e read. subst (λ k. PartsCome (resumed c.args.profile info) k parts e) (sym c.in-Ok.ensures.cursor) read)
           c.in-Ok.ensures.known first.0 first.1 first.1 (sym last.0) (sym last.1) (sym last.1)
           other c.in-Err-find_frame.ensures.counts c.in-Err-find_frame.ensures.finds,
     )

@@ -1,0 +1,5 @@
+use Rattle.flac_ogg.proofs.Wider as wider
+use Rattle.flac_ogg.proofs.laws.subset_is_lax.Goals as goal
+
+pub returns : goal.returns
+returns c = wider.subset_is_lax
