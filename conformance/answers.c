@@ -1,6 +1,6 @@
-/* Asks a program about many streams, quickly. usage: answers PROGRAM COMMAND < streams > answers
+/* Asks a program about many streams, quickly. usage: answers PROGRAM WORD.. < streams > answers
 
-   Each stream on standard input is its length in four bytes and its bytes. PROGRAM COMMAND /dev/fd/3 is run over it. Each answer on
+   Each stream on standard input is its length in four bytes and its bytes. PROGRAM WORD.. /dev/fd/3 is run over it. Each answer on
    standard output is three numbers of four bytes, and then the bytes counted: the status (256 and the signal, if one ended the program),
    how many bytes of standard output there are, and how many of standard error. Numbers are as this machine has them. A run ends after 20
    seconds of the processor. */
@@ -10,6 +10,7 @@
 #include <stdint.h>
 #include <stdio.h>
 #include <stdlib.h>
+#include <string.h>
 #include <sys/mman.h>
 #include <sys/resource.h>
 #include <sys/wait.h>
@@ -36,7 +37,10 @@ static uint32_t taken(int file, char *bytes, size_t room)
 int main(int count, char **words)
 {
     static char stream[1 << 24], out[1 << 16], error[1 << 16];
-    check(count == 3, "usage: answers PROGRAM COMMAND");
+    check(count > 2 && count < 16, "usage: answers PROGRAM WORD..");
+    char *line[17] = { 0 };
+    memcpy(line, words + 1, (count - 1) * sizeof *words);
+    line[count - 1] = "/dev/fd/3";
     int given = memfd_create("stream", MFD_CLOEXEC), printed = memfd_create("out", MFD_CLOEXEC), told = memfd_create("error", MFD_CLOEXEC);
     posix_spawn_file_actions_t files;
     posix_spawn_file_actions_init(&files);
@@ -50,7 +54,7 @@ int main(int count, char **words)
         check(ftruncate(given, 0) == 0 && pwrite(given, stream, length, 0) == (ssize_t)length, "stream");
         int status;
         pid_t child;
-        check(posix_spawn(&child, words[1], &files, NULL, (char *[]){ words[1], words[2], "/dev/fd/3", NULL }, environ) == 0, words[1]);
+        check(posix_spawn(&child, words[1], &files, NULL, line, environ) == 0, words[1]);
         /* of the child alone: what this process does for some hundred thousand streams takes longer */
         check(prlimit(child, RLIMIT_CPU, &(struct rlimit){ 20, 20 }, NULL) == 0, "limit");
         check(waitpid(child, &status, 0) == child, "wait");

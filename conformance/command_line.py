@@ -3,6 +3,8 @@ import os
 
 import program
 import vectors
+import vectors_lax
+from model import LAX
 from program import Wrong, expect, read
 
 
@@ -47,10 +49,30 @@ def output_is_another(bench, data, words):
     expect(read(path), data)
 
 
-def said_in_help(command):
+def said_in_help(command, due="OUT has to be another file than IN"):
     text = " ".join(program.succeeds(command, "--help").decode().split())
-    if "OUT has to be another file than IN" not in text:
-        raise Wrong("--help does not say that OUT has to be another file than IN")
+    if due not in text:
+        raise Wrong(f"--help does not say '{due}'")
+
+
+def lax_anywhere(bench, command, due):
+    """`--lax` has the same meaning before and after the files, and without it the stream is refused."""
+    path, out = bench.put(vectors_lax.ROW), bench.path(".raw")
+    files = [path] + [out] * (command == "decode")
+    for words in (["--lax", *files], [*files, "--lax"], [files[0], "--lax", *files[1:]]):
+        expect(program.succeeds(command, *words).decode(), due)
+        expect(read(out) if command == "decode" else bytes(16), bytes(16))
+    status, _, err = program.call(command, *files)
+    expect(program.fault_of(path, status, err), "frame 0: 14 NotSubset")
+
+
+def lax_cases(bench):
+    lines = "block 0 STREAMINFO 34\n  blocks 16 16 frames 0 0 rate 65537 channels 1 depth 5 samples 0\n  md5 " + "0" * 32 + "\n"
+    for command, due in (("test", "frames 1 samples 16\n"), ("decode", ""), ("list", lines)):
+        yield f"{command}, --lax before and after the files", lambda c=command, d=due: lax_anywhere(bench, c, d)
+        yield f"{command}, help on --lax", lambda c=command: said_in_help(c, "--lax")
+    yield "decode --lax, OUT is IN", lambda: output_is_input(bench, vectors_lax.ROW, ["decode", "--lax"])
+    yield "decode --lax, OUT is another file", lambda: output_is_another(bench, vectors_lax.ROW, ["decode", "--lax"])
 
 
 def cases(bench):
@@ -81,3 +103,6 @@ def cases(bench):
         yield f"{name}, OUT is another file", lambda data=data, words=words: output_is_another(bench, data, words)
         yield f"{name}, OUT is no file", lambda data=data, words=words: program.succeeds(words[0], bench.put(data), "/dev/null", *words[1:])
         yield f"{name}, help on OUT", lambda words=words: said_in_help(words[0])
+    yield "retag --lax", lambda: line(["retag", "--lax", good, bench.path(), "A=b"], 2, None)
+    if program.takes(LAX):
+        yield from lax_cases(bench)

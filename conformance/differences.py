@@ -1,4 +1,4 @@
-"""Streams that the reference takes and the program refuses by its profile: the vector, its fault, and why in plain words.
+"""Streams that the reference takes and the program refuses: the vector, and why in plain words; then those that it refuses with `--lax`.
 
 The other way round no case is known. Each case is asked of both, so that this table stays true.
 """
@@ -41,3 +41,14 @@ CASES = {
     "ogg-block-due": ONE_EACH, "ogg-no-bytes-for-frame": ONE_EACH, "ogg-no-bytes-at-end": ONE_EACH,
     "ogg-no-bytes-for-block": ONE_EACH, "ogg-block-and-frame": ONE_EACH,
 }
+
+EMPTY = "the first partition has a value at least; the reference takes one of as many samples as the predictor's order"
+DEEP = "samples that the depth cannot hold are refused; the reference lets them through at depths of 31 and 32 bits"
+LAX_CASES = {
+    "lax-codes-0-gap": IN_ORDER, "lax-size-65536": "a stored block size of 65535, which stands for 65536, is forbidden",
+    "lax-size-8192-over-greatest": SIZES, "lax-sizes-long-longer": SIZES, "lax-sizes-long-after": SIZES, "lax-sizes-long-short-inside": SIZES,
+    "lax-sizes-long-below-least": SIZES, "lax-whole-rate-0": "a rate of 0 states no audio; the reference takes it",
+    "lax-depth-31-mid-too-large": DEEP, "lax-depth-32-mid-too-large": DEEP, "lax-depth-32-too-small": DEEP,
+    "lax-ogg-partition-15-bad-page": PAGES, **{f"lax-partition-{order}-first-empty": EMPTY for order in range(9, 16)},
+}
+"""Names of `vectors_lax.py`."""

@@ -99,7 +99,7 @@ def bytes_case(samples, form_words, due, bench):
 
 def fault_case(samples, words, due, bench):
     raw, out = bench.put(samples, ".raw"), bench.path()
-    status, _, err = program.ask("encode", raw, out, *words)
+    status, _, err = program.call("encode", raw, out, *words)
     expect(program.fault_of(raw, status, err), due)
 
 

@@ -4,8 +4,8 @@
 usage: conformance/memory.py [--quick]
 
 --quick leaves out the streams of 16 MiB. A decoder holds one metadata block, two arrays of a place for each sample of the largest
-block that STREAMINFO and the subset allow, and in Ogg one page. FLAC names the program. Status 1 if more is taken, or an answer is
-not the one that is due.
+block that STREAMINFO and the subset, or with --lax the format, allow, and in Ogg one page. FLAC names the program; one without --lax
+is asked without it only. Status 1 if more is taken, or an answer is not the one that is due.
 """
 import argparse
 import os
@@ -17,6 +17,7 @@ import time
 import program
 import vectors
 import vectors_ogg
+from model import LAX, SUBSET
 from program import read
 
 HERE = os.path.dirname(os.path.abspath(__file__))
@@ -54,6 +55,16 @@ def frame_streams():
     yield "a total of 10^9 that is a lie", vectors.stream(info=vectors.stream_info(16, 16, total=10**9)), "end: 28 TotalMismatch", arrays(1, 16)
     frames = b"".join(vectors.frame(vectors.SILENCE, 16, number) for number in range(10000))
     yield "10000 frames", vectors.stream(frames, info=vectors.stream_info(16, 16)), "frames 10000 samples 160000", arrays(1, 16)
+
+
+def lax_streams():
+    """Blocks outside the subset."""
+    wide = vectors.frame(("0 000001 0" + "01" * (16 * 65535)) * 8, 65535, rate_code=0, channel_code=7, depth_code=0)
+    yield ("8 channels of 65535 samples of 32 bits", vectors.stream(wide, info=vectors.stream_info(16, 65535, channels=8, depth=32)),
+           "frames 1 samples 65535", arrays(8, 65535))
+    yield "8 channels, blocks of 65535 stated", vectors.stream(info=vectors.stream_info(16, 65535, channels=8)), "frames 0 samples 0", arrays(8, 65535)
+    parts = vectors.frame(vectors.fixed(0, "00 1111" + "1111 00000" * 2**15), 32768)
+    yield "2^15 partitions", vectors.stream(parts, info=vectors.stream_info(16, 32768)), "frames 1 samples 32768", arrays(1, 32768)
 
 
 def block_streams():
@@ -113,12 +124,12 @@ class Meter:
         self.stream, self.report, self.library = (os.path.join(folder, name) for name in ("stream", "report", "failing.so"))
         subprocess.run(["cc", "-O1", "-shared", "-fPIC", "-o", self.library, os.path.join(HERE, "failing.c")], check=True)
 
-    def of(self, data):
+    def of(self, data, profile=SUBSET):
         """The answer of `test`, the peak of the memory that it asks for from the first byte on, and the peak of the process."""
         with open(self.stream, "wb") as file:
             file.write(data)
-        answer = program.answer(self.stream)
-        subprocess.run([program.BINARY, "test", self.stream], stdout=subprocess.DEVNULL, stderr=subprocess.DEVNULL, check=False,
+        answer = program.answer(self.stream, profile)
+        subprocess.run([program.BINARY, "test", *profile.words, self.stream], stdout=subprocess.DEVNULL, stderr=subprocess.DEVNULL, check=False,
                        env={"LD_PRELOAD": self.library, "FAILING_REPORT": self.report, "FAILING_CUT": "0"})
         lines = {line.split()[0]: dict(pair.split("=") for pair in line.split()[1:]) for line in read(self.report).decode().splitlines()}
         os.remove(self.report)
@@ -133,12 +144,16 @@ def main():
         meter = Meter(folder)
         _, _, least = meter.of(with_block(1, b""))
         print(f"{'bytes':46}  {'stream':>9}  {'taken':>9}  {'at most':>9}  {'process':>9}")
-        for group in (frame_streams, block_streams, page_streams) + (() if words.quick else (large_streams,)):
-            for name, stream, due, most in group():
-                answer, taken, whole = meter.of(stream)
+        for group in (frame_streams, lax_streams, block_streams, page_streams) + (() if words.quick else (large_streams,)):
+            profile = LAX if group is lax_streams else SUBSET
+            for name, stream, due, most in group() if program.takes(profile) else ():
+                answer, taken, whole = meter.of(stream, profile)
+                name = " ".join((*profile.words, name))
                 good, cases = answer == due and taken <= most + SLACK, cases + 1
                 failed += not good
                 print(f"{name:46}  {len(stream):9}  {taken:9}  {most:9}  {whole - least:9}" + ("" if good else f"  FAILED, answers '{answer}'"))
+    if not program.takes(LAX):
+        print("memory: the program does not have --lax: it is asked without it only")
     print(f"memory: {cases} cases, {cases - failed} passed, {failed} failed, {time.time() - began:.0f} seconds")
     return 1 if failed else 0
 

@@ -8,11 +8,19 @@ def least_block(data):
 
 
 def header_length(data, at):
-    """The bytes of a good frame header without its check byte."""
+    """The bytes of a frame header without its check byte."""
     lead = data[at + 4]
-    number = 1 if lead < 0x80 else next(n for n in range(2, 8) if not lead >> (7 - n) & 1)
+    number = 1 if lead < 0x80 else next((n for n in range(2, 7) if not lead >> (7 - n) & 1), 7)
     size, rate = data[at + 2] >> 4, data[at + 2] & 15
     return 4 + number + {6: 1, 7: 2}.get(size, 0) + {12: 1, 13: 2, 14: 2}.get(rate, 0)
+
+
+def checked(frame):
+    """A frame with both checks made anew. Where its header cannot be as long as it says, the check of the header stays."""
+    length = header_length(frame, 0)
+    if length < len(frame) - 2:
+        frame[length] = model.crc(8, frame[:length])
+    return bytes(frame[:-2]) + model.crc(16, frame[:-2]).to_bytes(2, "big")
 
 
 def strategy(data, places):
@@ -21,10 +29,7 @@ def strategy(data, places):
     for start, end in zip(places, places[1:] + [len(data)]):
         frame = bytearray(data[start:end])
         frame[1] |= 1
-        length = header_length(data, start)
-        frame[length] = model.crc(8, frame[:length])
-        frame[-2:] = model.crc(16, frame[:-2]).to_bytes(2, "big")
-        frames.append(bytes(frame))
+        frames.append(checked(frame))
     return data[:places[0]] + b"".join(frames)
 
 

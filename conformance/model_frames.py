@@ -1,8 +1,17 @@
-"""Frames of the model, and whole native streams."""
+"""Frames of the model, and whole native streams, in the streamable subset and outside it."""
 import hashlib
+from collections import namedtuple
 
 from model_bits import FRAME_LIMIT, Fault, crc
 from model_blocks import Metadata
+
+Profile = namedtuple("Profile", "name words from_info slow_block block slow_order partition_order")
+"""Which streams are accepted. `words` ask the program for it; `from_info` allows a header to leave rate and depth to STREAMINFO; then the
+greatest block size and linear order up to 48000 Hz, block size above, and partition order. No profile limits a linear order above."""
+SUBSET = Profile("the streamable subset", (), False, 4608, 16384, 12, 8)
+LAX = Profile("all streams", ("--lax",), True, 65535, 65535, 32, 15)
+SLOW = 48000
+"""The greatest rate for which the subset has limits of its own."""
 
 BLOCK_SIZES = {1: 192, 2: 576, 3: 1152, 4: 2304, 5: 4608, 8: 256, 9: 512, 10: 1024, 11: 2048, 12: 4096, 13: 8192,
                14: 16384, 15: 32768}
@@ -73,12 +82,13 @@ def read_header(bits):
     return header
 
 
-def read_residual(bits, order, size):
+def read_residual(bits, order, size, greatest):
+    """The residual after a predictor of this order, with at most 2^greatest partitions."""
     method = bits.take(2)
     if method > 1:
         raise Fault(22)
     partition_order = bits.take(4)
-    if partition_order > 8:
+    if partition_order > greatest:
         raise Fault(14)
     each = size >> partition_order
     if each << partition_order != size or each <= order:
@@ -118,13 +128,13 @@ def restore(warm_up, residual, coefficients, shift, depth):
 FIXED = [[], [1], [2, -1], [3, -3, 1], [4, -6, 4, -1]]
 
 
-def read_subframe(bits, depth, size, rate):
+def read_subframe(bits, depth, size, rate, profile):
     head = bits.take(8)
     zero, kind, flag = head >> 7, head >> 1 & 63, head & 1
     if zero or 2 <= kind < 8 or 13 <= kind < 32:
         raise Fault(20)
     order = kind - 8 if 8 <= kind < 13 else kind - 31 if kind >= 32 else 0
-    if kind >= 32 and order > 12 and rate <= 48000:
+    if kind >= 32 and order > profile.slow_order and rate <= SLOW:
         raise Fault(14)
     if order >= size:
         raise Fault(22)
@@ -145,7 +155,7 @@ def read_subframe(bits, depth, size, rate):
             if shift < 0:
                 raise Fault(21)
             coefficients = [bits.take_signed(precision) for _ in range(order)]
-        samples = restore(warm_up, read_residual(bits, order, size), coefficients, shift, depth)
+        samples = restore(warm_up, read_residual(bits, order, size, profile.partition_order), coefficients, shift, depth)
     return samples and [sample << wasted for sample in samples]
 
 
@@ -160,10 +170,14 @@ def join(code, first, second):
 
 
 class Reader(Metadata):
-    """Reads a whole stream. `blocks` and `frames` hold what came before a fault, `fault` the fault or None."""
+    """Reads a whole stream. `blocks` and `frames` hold what came before a fault, `fault` the fault or None.
 
-    def __init__(self, data):
-        self.frames, self.samples, self.raw = 0, 0, []
+    `places` are the bytes where the frames begin, in Ogg in their packets, and also that of a refused one.
+    """
+
+    def __init__(self, data, profile=SUBSET):
+        self.profile = profile
+        self.frames, self.samples, self.raw, self.places = 0, 0, [], []
         self.first, self.before, self.fault = None, None, None
         try:
             super().__init__(data)
@@ -193,10 +207,12 @@ class Reader(Metadata):
     def judge(self, header):
         """What a whole header has to meet, in the order of rank."""
         info, size, first, before = self.info, header["size"], self.first, self.before
-        if header["rate_code"] == 0 or header["depth_code"] == 0:
+        if 0 in (header["rate_code"], header["depth_code"]) and not self.profile.from_info:
             raise Fault(14)
-        if size > 16384 or (size > 4608 and header["rate"] <= 48000):
+        if size > (self.profile.slow_block if header["rate"] <= SLOW else self.profile.block):
             raise Fault(14)
+        for name in ("rate", "depth"):
+            header[name] = header[name] if header[f"{name}_code"] else info[name]
         if any(header[name] != info[name] for name in ("rate", "channels", "depth")):
             raise Fault(17)
         if before:
@@ -214,13 +230,14 @@ class Reader(Metadata):
         """The channels' samples of one frame."""
         bits, info = self.bits, self.info
         start = bits.place >> 3
+        self.places.append(start)
         bits.fence = start + FRAME_LIMIT
         header = read_header(bits)
         self.judge(header)
         self.first, self.before = self.first or header, header
         code, size, depth = header["channel_code"], header["size"], info["depth"]
         side = {8: 1, 9: 0, 10: 1}.get(code)
-        channels = [read_subframe(bits, depth + (index == side), size, info["rate"]) for index in range(info["channels"])]
+        channels = [read_subframe(bits, depth + (index == side), size, info["rate"], self.profile) for index in range(info["channels"])]
         if bits.take(-bits.place % 8):
             raise Fault(24)
         end = bits.place >> 3

@@ -1,4 +1,5 @@
 """Calls of the program under test, and the lines in which it tells faults."""
+import functools
 import itertools
 import os
 import re
@@ -14,7 +15,7 @@ PLACE = r"(?:marker|end|(?:block|frame|page) \d+)"
 
 
 class NotYet(Exception):
-    """The program does not have this option yet, or the case is none for it."""
+    """The case is none for the program."""
 
 
 class Wrong(Exception):
@@ -32,17 +33,15 @@ def call(*words, limit=120):
     return result.returncode, result.stdout, result.stderr
 
 
-def ask(*words, limit=120):
-    """As `call`, where status 2 to `--lax` means that this option is not there yet."""
-    status, out, err = call(*words, limit=limit)
-    if status == 2 and "--lax" in words:
-        raise NotYet("'--lax' is not there yet")
-    return status, out, err
+@functools.cache
+def takes(profile):
+    """Whether the program has the words of a profile: it refuses a word that it does not know with status 2."""
+    return not profile.words or call("test", *profile.words, os.devnull)[0] != 2
 
 
 def succeeds(*words, limit=120):
     """Standard output of a call that has to succeed."""
-    status, out, err = ask(*words, limit=limit)
+    status, out, err = call(*words, limit=limit)
     if status != 0:
         raise Wrong(f"'{words[0]}' is refused: {err.decode(errors='replace').strip()}")
     if err:
@@ -63,9 +62,9 @@ def fault_of(path, status, err):
     return f"{place.decode()}: {number} {name}" if place else f"{number} {name}"
 
 
-def answer(path, limit=120):
+def answer(path, profile=model.SUBSET, limit=120):
     """The answer of `test`: its line, or the fault."""
-    status, out, err = ask("test", path, limit=limit)
+    status, out, err = call("test", *profile.words, path, limit=limit)
     if status == 0:
         if err or not re.fullmatch(rb"frames \d+ samples \d+\n", out):
             raise Wrong(f"no line of 'test': {out[:200]!r} {err[:200]!r}")

@@ -17,14 +17,26 @@ def accepts(path):
     return run(*words).returncode == 0
 
 
-def frame_places(path):
-    """For each frame: its offset from the start of the file, its bits and its block size, by the reference's analysis."""
+def analysis(path):
+    """The reference's own words for each frame and subframe."""
     with tempfile.TemporaryDirectory() as folder:
         out = os.path.join(folder, "out.ana")
         run(REFERENCE, "-a", "-s", "-f", "-o", out, path)
         with open(out, encoding="ascii", errors="replace") as file:
-            lines = re.findall(r"^frame=\d+\toffset=(\d+)\tbits=(\d+)\tblocksize=(\d+)", file.read(), re.M)
+            return file.read()
+
+
+def frame_places(path):
+    """For each frame: its offset from the start of the file, its bits and its block size, by the reference's analysis."""
+    lines = re.findall(r"^frame=\d+\toffset=(\d+)\tbits=(\d+)\tblocksize=(\d+)", analysis(path), re.M)
     return [tuple(map(int, line)) for line in lines]
+
+
+def limits(path):
+    """Which block sizes, orders of linear predictors and partition orders occur in a file: pairs of name and value."""
+    text = analysis(path)
+    rows = (("block size", r"^frame=.*\tblocksize=(\d+)"), ("linear order", r"type=LPC\torder=(\d+)"), ("partition order", r"partition_order=(\d+)"))
+    return {(name, int(value)) for name, pattern in rows for value in re.findall(pattern, text, re.M)}
 
 
 def decoded(path, bits):

@@ -33,7 +33,7 @@ def speech(random_source, rate, channels, peak, length):
     """Pulses through a resonator, in words with pauses of silence between them."""
     one, before, last, pitch, sample = [], 0.0, 0.0, max(rate // 120, 2), 0
     while len(one) < length:
-        word, pause = rate // 8 + random_source.randrange(rate // 8 + 1), random_source.randrange(rate // 10 + 1)
+        word, pause = max(rate // 8 + random_source.randrange(rate // 8 + 1), 1), random_source.randrange(rate // 10 + 1)
         turn = 2 * math.pi * (400 + random_source.randrange(900)) / rate
         for index in range(word):
             pulse = 0.2 if index % pitch == 0 else random_source.uniform(-0.004, 0.004)
