@@ -14,7 +14,7 @@ use flac_subframe::Choice;
 use std::alloc::Global;
 
 /// How a block of samples is written as a frame, as [`crate::choose_frame`] chooses it: the channel code, and the
-/// subframe of each channel (RFC 9639, section 9). It has no samples, and takes some 560 bytes for each channel,
+/// subframe of each channel (RFC 9639, section 9). It has no samples, and takes some 310 bytes for each channel,
 /// whatever the block size.
 #[derive(Drop)]
 pub struct FrameChoice {
