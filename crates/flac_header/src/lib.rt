@@ -9,7 +9,7 @@ mod read;
 mod subset;
 mod write;
 
-pub use choice::{depth_code, rate_code};
+pub use choice::{depth_code, depth_code_in, rate_code, rate_code_in};
 pub use frame_header::FrameHeader;
 pub use promises::headers_are_spelled;
 pub use read::read_header;
