@@ -1,14 +1,16 @@
 -- Samples that can be encoded.
 use Rattle.std.specs.Prelude.{◌≡◌, ◌≤◌, ◌<◌, All, true, is_some, ℕ, ◌^◌, Bool, not, cond, ◌||◌, nat_eq, nat_lt, nat_le, ℤ, List, [], length, slice_index_or, Option, Some, None, is_none}
 use Rattle.std.specs.List.{list_all}
-use Rattle.flac_header.specs.Choice.{rate_choice, depth_choice}
+use Rattle.flac_header.specs.Choice.{rate_choice_in, depth_choice_in}
+use Rattle.flac_header.specs.declared.subset.Profile.{Profile}
 use Rattle.flac_bits.specs.Signed.{FitsBits}
 use Rattle.flac_subframe.specs.Numbers.{fits}
 use Rattle.flac_frame.specs.declared.setup.SetupFault.{SetupFault}
 use Rattle.flac_frame.specs.declared.setup.SetupFault.TheVariants.{BadRate, BadDepth, BadChannels, LengthsDiffer, SampleTooLarge, TooLong}
 
--- The rate in Hz, the bits of a sample, and the samples of each channel.
+-- The profile of the streams that the samples may be in, the rate in Hz, the bits of a sample, and the samples of each channel.
 pub record Sound : Type 0 where
+  pub profile : Profile
   pub rate : ℕ
   pub bits : ℕ
   pub channels : List (List ℤ)
@@ -33,16 +35,16 @@ channels_fault bits channels =
     (cond (not (each_small bits channels)) (Some SampleTooLarge)
     (cond (nat_le (2 ^ 36) (samples_each channels)) (Some TooLong) None)))
 
--- Why samples cannot be encoded, if so: a frame header of the streamable subset has no code for the rate or for the depth (sections 7, 9.1.2 and
--- 9.1.4), or the channels cannot be.
-unfoldable pub audio_fault : (rate bits : ℕ) → List (List ℤ) → Option SetupFault
-audio_fault rate bits channels =
-    cond (is_none (rate_choice rate)) (Some BadRate) (cond (is_none (depth_choice bits)) (Some BadDepth) (channels_fault bits channels))
+-- Why samples cannot be encoded, if so: under the profile no frame header has a code for the rate or for the depth (sections 7, 9.1.2 and 9.1.4), or the
+-- channels cannot be.
+unfoldable pub audio_fault : Profile → (rate bits : ℕ) → List (List ℤ) → Option SetupFault
+audio_fault profile rate bits channels =
+    cond (is_none (rate_choice_in profile rate)) (Some BadRate) (cond (is_none (depth_choice_in profile bits)) (Some BadDepth) (channels_fault bits channels))
 
 -- what holds of samples that can be encoded
 pub record IsSound (a : Sound) : Type 0 where
-  pub rate : is_some (rate_choice a.rate) ≡ true
-  pub bits : is_some (depth_choice a.bits) ≡ true
+  pub rate : is_some (rate_choice_in a.profile a.rate) ≡ true
+  pub bits : is_some (depth_choice_in a.profile a.bits) ≡ true
   pub some : 1 ≤ length a.channels
   pub few : length a.channels ≤ 8
   pub long : All (λ c. length c ≡ samples_each a.channels) a.channels

@@ -1,9 +1,9 @@
 -- How a block is written as a frame, as it is chosen before anything of it is written.
-use Rattle.std.specs.Prelude.{◌≡◌, ℕ, ℤ, List, [], ◌∷◌, Some, ⊤}
+use Rattle.std.specs.Prelude.{◌≡◌, ◌≤◌, ◌^◌, ℕ, ℤ, List, [], ◌∷◌, length, Some, All, vec_len, ⊤}
 use Rattle.flac_header.specs.Choice.{chosen_header}
-use Rattle.flac_subframe.specs.declared.chosen.Choice.{Choice}
+use Rattle.flac_subframe.specs.declared.wide.WideChoice.{WideChoice}
 use Rattle.flac_subframe.specs.declared.linear.LinearPredictor.{LinearPredictor}
-use Rattle.flac_subframe.specs.Family.{IsMadeWith, form_with}
+use Rattle.flac_subframe.specs.Family.{IsMadeIn, form_in}
 use Rattle.flac_subframe.specs.Subframe.{Form}
 use Rattle.flac_frame.specs.Audio.{Sound}
 use Rattle.flac_frame.specs.Encoding.{IsEncoding, IsLeastWith, IsShort, subframes_cost, AreForms, AreLeast}
@@ -12,22 +12,22 @@ use Rattle.flac_frame.specs.Stereo.{kept_as}
 use Rattle.flac_frame.specs.declared.frame_choice.FrameChoice.{FrameChoice}
 
 -- the forms that choices stand for, with the linear predictors that were handed in, of the samples of a channel each; there may be more choices than channels
-abbrev pub forms_of : List LinearPredictor → List Choice → List (List ℤ) → List Form
+abbrev pub forms_of : List LinearPredictor → List WideChoice → List (List ℤ) → List Form
 forms_of ps choices [] = []
 forms_of ps [] (s ∷ ss) = []
-forms_of ps (c ∷ cs) (s ∷ ss) = form_with ps c s ∷ forms_of ps cs ss
+forms_of ps (c ∷ cs) (s ∷ ss) = form_in ps c s ∷ forms_of ps cs ss
 
 -- the choices were made of the samples of a channel each
-abbrev pub AreMade : List LinearPredictor → List Choice → List (List ℤ) → Type 0
+abbrev pub AreMade : List LinearPredictor → List WideChoice → List (List ℤ) → Type 0
 AreMade ps choices [] = ⊤
 AreMade ps [] (s ∷ ss) = ⊥
-AreMade ps (c ∷ cs) (s ∷ ss) = IsMadeWith ps c s × AreMade ps cs ss
+AreMade ps (c ∷ cs) (s ∷ ss) = IsMadeIn ps c s × AreMade ps cs ss
 
 -- What was chosen of a block makes its least frame, under the header of its number: the subframes are chosen of what the channel code keeps of the block. The
 -- frame is short, and the bits are those of its subframes.
 pub record IsChoiceWith (ps : List LinearPredictor) (sound : Sound) (size number : ℕ) (block : List (List ℤ)) (c : FrameChoice) : Type 0 where
   pub form : FrameForm
-  pub header : chosen_header size sound.rate c.code sound.bits number ≡ Some form.header
+  pub header : chosen_header sound.profile size sound.rate c.code sound.bits number ≡ Some form.header
   pub subframes : form.subframes ≡ forms_of ps c.subframes.items (kept_as c.code block)
   pub made : AreMade ps c.subframes.items (kept_as c.code block)
   pub encoding : IsEncoding sound size number block form
@@ -35,12 +35,13 @@ pub record IsChoiceWith (ps : List LinearPredictor) (sound : Sound) (size number
   pub short : IsShort sound.bits form
   pub cost : c.bits ≡ subframes_cost sound.bits form
 
--- the same where no linear predictor was handed in
-abbrev pub IsFrameChoice : Sound → (size number : ℕ) → List (List ℤ) → FrameChoice → Type 0
-IsFrameChoice sound size number block c = IsChoiceWith [] sound size number block c
+-- there is a place for the subframe of each channel, with partition orders up to a greatest
+pub record HasPlaces (channels most : ℕ) (c : FrameChoice) : Type 0 where
+  pub many : channels ≤ length c.subframes.items
+  pub wide : All (λ s. 2 ^ most ≤ vec_len s.codings) c.subframes.items
 
 -- the choices are of the least subframes of channels, each by itself
-pub record AreChosen (ps : List LinearPredictor) (depth size : ℕ) (choices : List Choice) (block : List (List ℤ)) : Type 0 where
+pub record AreChosen (most : ℕ) (ps : List LinearPredictor) (depth size : ℕ) (choices : List WideChoice) (block : List (List ℤ)) : Type 0 where
   pub made : AreMade ps choices block
-  pub are : AreForms ps depth size (forms_of ps choices block) block
-  pub least : AreLeast ps depth (forms_of ps choices block) block
+  pub are : AreForms most ps depth size (forms_of ps choices block) block
+  pub least : AreLeast most ps depth (forms_of ps choices block) block

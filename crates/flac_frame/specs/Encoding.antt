@@ -7,10 +7,10 @@ use Rattle.flac_bits.specs.Written.{Written, Writes}
 use Rattle.flac_bits.specs.declared.why.Why.{Why}
 use Rattle.flac_bits.specs.Meaning.{AllKept}
 use Rattle.flac_meta.specs.Info.{Info}
-use Rattle.flac_header.specs.Header.{Header, IsHeader, channels_of, greatest_block, allowed}
+use Rattle.flac_header.specs.Header.{Header, IsHeader, channels_of, greatest_in, allowed}
 use Rattle.flac_header.specs.Choice.{chosen_header}
 use Rattle.flac_header.specs.Spelling.{restarted, header_spelling}
-use Rattle.flac_header.specs.declared.subset.Profile.TheVariants.{Subset}
+use Rattle.flac_header.specs.declared.subset.Profile.{Profile}
 use Rattle.flac_subframe.specs.declared.limits.Limits.{Limits}
 use Rattle.flac_subframe.specs.declared.linear.LinearPredictor.{LinearPredictor}
 use Rattle.flac_subframe.specs.Chosen.{fixed_below, offered}
@@ -42,41 +42,45 @@ block_of start size channels = map (λ c. take size (drop start c)) channels
 -- is free); the subframes may be spelled, and the channels are the block's.
 pub record IsEncoding (sound : Sound) (size number : ℕ) (block : List (List ℤ)) (f : FrameForm) : Type 0 where
   pub code : ℕ
-  pub header : chosen_header size sound.rate code sound.bits number ≡ Some f.header
+  pub header : chosen_header sound.profile size sound.rate code sound.bits number ≡ Some f.header
   pub valid : IsHeader f.header
   pub channels : channels_of f.header.channel_code ≡ length block
   pub many : length f.subframes ≡ length block
-  pub subframes : AreSubframes sound.bits code size (limits_at Subset sound.rate) 0 f.subframes
+  pub subframes : AreSubframes sound.bits code size (limits_at sound.profile sound.rate) 0 f.subframes
   pub samples : FrameSamples sound.bits f block
 
+-- the greatest partition order of the samples' subframes
+abbrev pub partition_limit : Sound → ℕ
+partition_limit sound = (limits_at sound.profile sound.rate).partition
+
 -- no form in the family takes fewer bits for the samples: constant, verbatim, or a fixed predictor of order 0 to 4 with either coding method, partition orders
--- up to 8 and any parameter or escape, and as many wasted bits as all samples lack; and behind these the linear predictors that are handed in
-abbrev pub IsLeastFor : List LinearPredictor → ℕ → List ℤ → Form → Type 0
-IsLeastFor ps depth s f = IsLeast (λ g. Stands 8 (offered ps) g s) (λ g. length (subframe_spelling depth g)) f
+-- up to the greatest and any parameter or escape, and as many wasted bits as all samples lack; and behind these the linear predictors that are handed in
+abbrev pub IsLeastFor : (most : ℕ) → List LinearPredictor → ℕ → List ℤ → Form → Type 0
+IsLeastFor most ps depth s f = IsLeast (λ g. Stands most (offered ps) g s) (λ g. length (subframe_spelling depth g)) f
 
 -- each channel's subframe is the least by itself
-abbrev pub AreLeast : List LinearPredictor → ℕ → List Form → List (List ℤ) → Type 0
-AreLeast ps depth [] [] = ⊤
-AreLeast ps depth [] (s ∷ ss) = ⊥
-AreLeast ps depth (f ∷ fs) [] = ⊥
-AreLeast ps depth (f ∷ fs) (s ∷ ss) = IsLeastFor ps depth s f × AreLeast ps depth fs ss
+abbrev pub AreLeast : (most : ℕ) → List LinearPredictor → ℕ → List Form → List (List ℤ) → Type 0
+AreLeast most ps depth [] [] = ⊤
+AreLeast most ps depth [] (s ∷ ss) = ⊥
+AreLeast most ps depth (f ∷ fs) [] = ⊥
+AreLeast most ps depth (f ∷ fs) (s ∷ ss) = IsLeastFor most ps depth s f × AreLeast most ps depth fs ss
 
 -- a frame of at most 16777215 bytes
 abbrev pub IsShort : ℕ → FrameForm → Type 0
 IsShort depth f = length (frame_spelling depth f) ≤ 8 * 16777215
 
 -- each form stands for one of the channels, in the family above
-abbrev pub EachStands : List LinearPredictor → List Form → List (List ℤ) → Type 0
-EachStands ps [] [] = ⊤
-EachStands ps [] (s ∷ ss) = ⊥
-EachStands ps (f ∷ fs) [] = ⊥
-EachStands ps (f ∷ fs) (s ∷ ss) = Stands 8 (offered ps) f s × EachStands ps fs ss
+abbrev pub EachStands : (most : ℕ) → List LinearPredictor → List Form → List (List ℤ) → Type 0
+EachStands most ps [] [] = ⊤
+EachStands most ps [] (s ∷ ss) = ⊥
+EachStands most ps (f ∷ fs) [] = ⊥
+EachStands most ps (f ∷ fs) (s ∷ ss) = Stands most (offered ps) f s × EachStands most ps fs ss
 
 -- The frames of a block among which the least is chosen: under any channel code for as many channels, the subframes are forms of the family for what the code
 -- keeps of the block. Linear predictors that are handed in widen it by just their forms.
 pub record IsOfWidened (ps : List LinearPredictor) (sound : Sound) (size number : ℕ) (block : List (List ℤ)) (f : FrameForm) : Type 0 where
   pub encoding : IsEncoding sound size number block f
-  pub stand : EachStands ps f.subframes (kept_as f.header.channel_code block)
+  pub stand : EachStands (partition_limit sound) ps f.subframes (kept_as f.header.channel_code block)
 
 abbrev pub IsOfFamily : Sound → (size number : ℕ) → List (List ℤ) → FrameForm → Type 0
 IsOfFamily sound size number block f = IsOfWidened [] sound size number block f
@@ -124,28 +128,28 @@ WritesFrameWith ps sound size number block old new result = (f : FrameForm) × I
 abbrev pub WritesFrame : {X : Type 0} → Sound → (size number : ℕ) → List (List ℤ) → Written → Written → Result X Why → Type 0
 WritesFrame sound size number block old new result = WritesFrameWith [] sound size number block old new result
 
--- What is encoded of samples of the format that STREAMINFO tells has a header of that format, which the subset allows where the block is not too long for its
+-- What is encoded of samples of the format that STREAMINFO tells has a header of that format, which their profile allows where the block is not too long for its
 -- rate; and where the header keeps the rules behind what the frames before leave, it is a frame of the block.
-pub record IsFrameOf (info : Info) (size number : ℕ) (block : List (List ℤ)) (f : FrameForm) : Type 0 where
+pub record IsFrameOf (profile : Profile) (info : Info) (size number : ℕ) (block : List (List ℤ)) (f : FrameForm) : Type 0 where
   pub fixed : f.header.variable ≡ false
   pub numbered : f.header.number ≡ number
   pub sized : f.header.size ≡ size
-  pub format : HasFormat Subset info f.header
-  pub allowed : size ≤ greatest_block info.rate → allowed Subset f.header ≡ true
-  pub frame : (before : Option Before) → AllKept (header_rules Subset info before f.header) → IsFrame Subset info before f × FrameSamples info.depth f block
+  pub format : HasFormat profile info f.header
+  pub allowed : size ≤ greatest_in profile info.rate → allowed profile f.header ≡ true
+  pub frame : (before : Option Before) → AllKept (header_rules profile info before f.header) → IsFrame profile info before f × FrameSamples info.depth f block
 
 abbrev pub EncodingsAreFrames : Type 0
 EncodingsAreFrames = (sound : Sound) (size number : ℕ) (block : List (List ℤ)) (f : FrameForm) (info : Info) → info.rate ≡ sound.rate → info.depth ≡ sound.bits → info.channels ≡ length block
-    → IsEncoding sound size number block f → IsFrameOf info size number block f
+    → IsEncoding sound size number block f → IsFrameOf sound.profile info size number block f
 
 -- ---- its parts
 
 -- forms that may be spelled, where the orders of the predictors are within the limit, have the samples of channels, each by itself
-abbrev pub AreForms : List LinearPredictor → (depth size : ℕ) → List Form → List (List ℤ) → Type 0
-AreForms ps depth size [] [] = ⊤
-AreForms ps depth size [] (s ∷ ss) = ⊥
-AreForms ps depth size (f ∷ fs) [] = ⊥
-AreForms ps depth size (f ∷ fs) (s ∷ ss) = ((limits : Limits) → 8 ≤ limits.partition → AreWithin limits.linear ps → IsSubframe depth size limits f) × (samples_of depth size f ≡ Some s) × AreForms ps depth size fs ss
+abbrev pub AreForms : (most : ℕ) → List LinearPredictor → (depth size : ℕ) → List Form → List (List ℤ) → Type 0
+AreForms most ps depth size [] [] = ⊤
+AreForms most ps depth size [] (s ∷ ss) = ⊥
+AreForms most ps depth size (f ∷ fs) [] = ⊥
+AreForms most ps depth size (f ∷ fs) (s ∷ ss) = ((limits : Limits) → most ≤ limits.partition → AreWithin limits.linear ps → IsSubframe depth size limits f) × (samples_of depth size f ≡ Some s) × AreForms most ps depth size fs ss
 
 -- zeros up to a whole byte behind a mark, and CRC-16
 abbrev pub end_spelling : Mark → List Bool

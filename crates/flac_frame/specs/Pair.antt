@@ -24,15 +24,15 @@ pub record IsFirstLeast (cost : ℕ → ℕ) (code : ℕ) : Type 0 where
   pub first : (c : ℕ) → IsPairCode c → c < code → cost code < cost c
 
 -- a least form of samples, which may be spelled, has them, and takes so many bits
-pub record IsChosen (ps : List LinearPredictor) (depth : ℕ) (s : List ℤ) (f : Form) (bits : ℕ) : Type 0 where
-  pub least : IsLeastFor ps depth s f
+pub record IsChosen (most : ℕ) (ps : List LinearPredictor) (depth : ℕ) (s : List ℤ) (f : Form) (bits : ℕ) : Type 0 where
+  pub least : IsLeastFor most ps depth s f
   pub cost : bits ≡ length (subframe_spelling depth f)
-  pub valid : (limits : Limits) → 8 ≤ limits.partition → AreWithin limits.linear ps → IsSubframe depth (length s) limits f
+  pub valid : (limits : Limits) → most ≤ limits.partition → AreWithin limits.linear ps → IsSubframe depth (length s) limits f
   pub samples : samples_of depth (length s) f ≡ Some s
 
 -- What a frame keeps of two channels in the fewest bits: a channel code, and for each of two subframes a depth, samples and a form. Left, right, side and middle
 -- have least forms, the code is the first that is least by their bits, and what it keeps has two of them.
-pub record IsKept (ps : List LinearPredictor) (depth : ℕ) (left right : List ℤ) (code d e : ℕ) (first second : List ℤ) (f g : Form) : Type 0 where
+pub record IsKept (most : ℕ) (ps : List LinearPredictor) (depth : ℕ) (left right : List ℤ) (code d e : ℕ) (first second : List ℤ) (f g : Form) : Type 0 where
   pub left_form : Form
   pub right_form : Form
   pub side_form : Form
@@ -41,10 +41,10 @@ pub record IsKept (ps : List LinearPredictor) (depth : ℕ) (left right : List �
   pub right_bits : ℕ
   pub side_bits : ℕ
   pub middle_bits : ℕ
-  pub left_chosen : IsChosen ps depth left left_form left_bits
-  pub right_chosen : IsChosen ps depth right right_form right_bits
-  pub side_chosen : IsChosen ps (depth + 1) (side_of left right) side_form side_bits
-  pub middle_chosen : IsChosen ps depth (middle_of left right) middle_form middle_bits
+  pub left_chosen : IsChosen most ps depth left left_form left_bits
+  pub right_chosen : IsChosen most ps depth right right_form right_bits
+  pub side_chosen : IsChosen most ps (depth + 1) (side_of left right) side_form side_bits
+  pub middle_chosen : IsChosen most ps depth (middle_of left right) middle_form middle_bits
   pub best : IsFirstLeast (pair_cost left_bits right_bits side_bits middle_bits) code
   pub kept : kept_as code (left ∷ right ∷ []) ≡ first ∷ second ∷ []
   pub first_depth : d ≡ depth + side_bit code 0
@@ -53,6 +53,6 @@ pub record IsKept (ps : List LinearPredictor) (depth : ℕ) (left right : List �
   pub second_long : length second ≡ length left
   pub first_bits : ℕ
   pub second_bits : ℕ
-  pub first_chosen : IsChosen ps d first f first_bits
-  pub second_chosen : IsChosen ps e second g second_bits
+  pub first_chosen : IsChosen most ps d first f first_bits
+  pub second_chosen : IsChosen most ps e second g second_bits
   pub sum : first_bits + second_bits ≡ pair_cost left_bits right_bits side_bits middle_bits code

@@ -1,7 +1,7 @@
 -- The numbers of the reasons why samples or a plan are refused, and the texts that are printed of them.
 use Rattle.std.specs.Prelude.{ℕ, List, codes}
 use Rattle.flac_frame.specs.declared.setup.SetupFault.{SetupFault}
-use Rattle.flac_frame.specs.declared.setup.SetupFault.TheVariants.{BadRate, BadDepth, BadChannels, LengthsDiffer, SampleTooLarge, TooLong, BadBlockSize, TooManyPoints}
+use Rattle.flac_frame.specs.declared.setup.SetupFault.TheVariants.{BadRate, BadDepth, BadChannels, LengthsDiffer, SampleTooLarge, TooLong, BadBlockSize, TooManyPoints, PredictorOrder, TooManyPredictors}
 
 abbrev pub number_of : SetupFault → ℕ
 number_of BadRate = 40
@@ -12,6 +12,8 @@ number_of SampleTooLarge = 44
 number_of TooLong = 45
 number_of BadBlockSize = 46
 number_of TooManyPoints = 47
+number_of PredictorOrder = 51
+number_of TooManyPredictors = 52
 
 -- the number and the name
 abbrev pub text_of : SetupFault → List ℕ
@@ -23,3 +25,5 @@ text_of SampleTooLarge = codes "44 SampleTooLarge"
 text_of TooLong = codes "45 TooLong"
 text_of BadBlockSize = codes "46 BadBlockSize"
 text_of TooManyPoints = codes "47 TooManyPoints"
+text_of PredictorOrder = codes "51 PredictorOrder"
+text_of TooManyPredictors = codes "52 TooManyPredictors"

@@ -6,14 +6,17 @@ ghost use Rattle.flac_frame.specs.Setup.{number_of, text_of};
 use std::fmt;
 use thiserror::Error;
 
-/// Why samples or a plan cannot be encoded. Each reason has a number from 40 to 47, see [`SetupFault::number`].
+/// Why samples or a plan cannot be encoded. Each reason has a number, 40 to 47, 51 or 52, see
+/// [`SetupFault::number`].
 ///
 /// It prints as its number and its name: `44 SampleTooLarge`. Sections are those of RFC 9639.
 #[derive(Clone, Copy, Debug, PartialEq, Eq, Error)]
 pub enum SetupFault {
-    /// The sample rate is 0, or no frame header of the streamable subset can state it (section 9.1.2).
+    /// The sample rate is 0, or no frame header of the streamable subset can state it (section 9.1.2). In `Profile::Lax`
+    /// it is 0 or above 1048575 (section 8.2).
     BadRate,
-    /// The bits per sample are not 8, 12, 16, 20, 24 or 32 (section 9.1.4).
+    /// The bits per sample are not 8, 12, 16, 20, 24 or 32 (section 9.1.4). In `Profile::Lax` they are not 4 to 32
+    /// (section 8.2).
     BadDepth,
     /// There is no channel, or there are more than 8; or a block has not one slice for each channel (section 9.1.3).
     BadChannels,
@@ -23,19 +26,35 @@ pub enum SetupFault {
     SampleTooLarge,
     /// There are 2^36 samples of each channel or more (section 8.2), or more than 2^31 frames (section 9.1.5).
     TooLong,
-    /// The block size is out of its range: 16 to 4608 at 48000 Hz or less, else 16 to 16384 (sections 7 and 8.2); or a
-    /// block has no sample, or more than that.
+    /// The block size is out of its range: 16 to 4608 at 48000 Hz or less, else 16 to 16384 (sections 7 and 8.2), in
+    /// `Profile::Lax` 16 to 65535 (section 8.2); or a block has no sample, or more than the block size.
     BadBlockSize,
     /// A seek table would have more than 932067 points, the most that fit into a block (section 8.5).
     TooManyPoints,
+    /// A linear predictor has a higher order than the profile allows at the sample rate: 12 at 48000 Hz or less in the
+    /// streamable subset, else 32 (section 7).
+    PredictorOrder,
+    /// There are more than 64 linear predictors.
+    TooManyPredictors,
 }
 
 impl SetupFault {
-    /// The number of the reason, 40 to 47, in the order of the variants.
+    /// The number of the reason: 40 to 47, 51 or 52.
     pub fn number(self) -> u8
         ensures { result ≡ number_of self }
     {
-        self as u8 + 40
+        match self {
+            SetupFault::BadRate => 40,
+            SetupFault::BadDepth => 41,
+            SetupFault::BadChannels => 42,
+            SetupFault::LengthsDiffer => 43,
+            SetupFault::SampleTooLarge => 44,
+            SetupFault::TooLong => 45,
+            SetupFault::BadBlockSize => 46,
+            SetupFault::TooManyPoints => 47,
+            SetupFault::PredictorOrder => 51,
+            SetupFault::TooManyPredictors => 52,
+        }
     }
 
     /// The number and the name of the reason: `44 SampleTooLarge`.
@@ -51,6 +70,8 @@ impl SetupFault {
             SetupFault::TooLong => "45 TooLong",
             SetupFault::BadBlockSize => "46 BadBlockSize",
             SetupFault::TooManyPoints => "47 TooManyPoints",
+            SetupFault::PredictorOrder => "51 PredictorOrder",
+            SetupFault::TooManyPredictors => "52 TooManyPredictors",
         }
     }
 }
