@@ -99,12 +99,7 @@ fn channels_fault(channels: &[Vec<i32>], bits: u32) -> Option<SetupFault>
 
 /// Why samples cannot be encoded, or `None` if they can.
 #[tactic(auto, unfolding(crate::specs::Audio::audio_fault), using(crate::proofs::Sounds::depth_small))]
-fn fault_of(
-    profile: Profile,
-    rate: u32,
-    bits: u32,
-    channels: &[Vec<i32>],
-) -> Option<SetupFault>
+fn fault_of(profile: Profile, rate: u32, bits: u32, channels: &[Vec<i32>]) -> Option<SetupFault>
     ensures { result ≡ audio_fault profile rate bits (map (λ c. c.items) channels.now) }
 {
     if rate_code_in(profile, rate).is_none() {
