@@ -129,6 +129,12 @@ module _ (ps : List LinearPredictor) {V : Type 0} (items : V → List ℤ) (dept
   pub text_last : (i : ℕ) → length xs ≤ i → text_behind i ≡ []
   text_last i h = ap (λ ys. flat_map (subframe_spelling depth) (forms_of ps (drop i cs) (block_of start size (map items ys)))) (drop_none xs i h)
 
+-- the texts of all, whose choices and channels are the same, at a depth that is the same
+pub texts_same : (ps : List LinearPredictor) (depth own start size : ℕ) (cs items : List WideChoice) (xs channels : List (List ℤ)) → depth ≡ own → cs ≡ items → xs ≡ channels
+    → flat_map (subframe_spelling depth) (forms_of ps cs (block_of start size xs)) ≡ flat_map (subframe_spelling own) (forms_of ps items (block_of start size channels))
+texts_same ps depth own start size cs items xs channels d c x =
+    ap (λ k. flat_map (subframe_spelling k) (forms_of ps cs (block_of start size xs))) d ∙ ap (λ k. flat_map (subframe_spelling own) (forms_of ps k (block_of start size xs))) c ∙ ap (λ k. flat_map (subframe_spelling own) (forms_of ps items (block_of start size k))) x
+
 -- ---- two subframes
 
 pub two_forms : (ps : List LinearPredictor) (cs : List WideChoice) (x y : WideChoice) (first second : List ℤ) → 2 ≤ length cs → x ≡ get_or cs 0 x → y ≡ get_or cs 1 y → forms_of ps cs (first ∷ second ∷ []) ≡ form_in ps x first ∷ form_in ps y second ∷ []
