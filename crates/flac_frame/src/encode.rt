@@ -280,6 +280,7 @@ pub fn choose_frame(
     ensures places { HasPlaces (length audio.now.channels) buffers.old.most choice.new }
     ensures many { length choice.new.subframes.items ≡ length choice.old.subframes.items }
 {
+    let _places = buffers.places.len();
     let subject = Subject {
         audio,
         start: range.start,
@@ -326,6 +327,7 @@ pub fn write_frame<W: Target>(
     ensures kept { buffers.new ≡ buffers.old }
     ensures wrote { WritesFrameWith predictors.now audio.now (range.end - range.start) number (block_of range.start (range.end - range.start) audio.now.channels) writer.old writer.new result }
 {
+    let _places = buffers.places.len();
     let subject = Subject {
         audio,
         start: range.start,
@@ -397,6 +399,7 @@ pub fn encode_frame_with<W: Target>(
 {
     let _channels = audio.channels();
     let before = writer.bytes_written();
+    let _places = buffers.places.len();
     let subject = Subject {
         audio,
         start: range.start,
