@@ -22,9 +22,6 @@ AreCopies [] (d ∷ ds) = ⊥
 AreCopies (c ∷ cs) [] = ⊥
 AreCopies (c ∷ cs) (d ∷ ds) = IsCopy c d × AreCopies cs ds
 
-pub no_copies : (ds : List WideChoice) → AreCopies [] (take 0 ds)
-no_copies ds = tt
-
 copies_more : (cs ds : List WideChoice) (c d : WideChoice) → AreCopies cs ds → IsCopy c d → AreCopies (cs ++ c ∷ []) (ds ++ d ∷ [])
 copies_more [] [] c d h k = (k, tt)
 copies_more [] (e ∷ es) c d h k = absurd h

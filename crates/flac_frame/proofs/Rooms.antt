@@ -23,9 +23,6 @@ some_of n m same lt = omega arith
 pub few_of : (n m k : ℕ) → n ≤ m → m ≤ k → n ≤ k
 few_of n m k p q = omega arith
 
-pub deeper : (depth : ℕ) → (1 ≤ depth) × (depth ≤ 32) → (1 ≤ depth + 1) × (depth + 1 ≤ 33)
-deeper depth d = (omega (arith, d.0), omega (arith, d.1))
-
 -- places for the partitions of a greater order
 pub wide_for : (n m places : ℕ) → n ≤ m → 2 ^ m ≤ places → 2 ^ n ≤ places
 wide_for n m places le wide = let p : 2 ^ n ≤ 2 ^ m = pow-le-pow_right {n = 2} (omega arith) {i = n} {j = m} le in omega (arith, p, wide)
