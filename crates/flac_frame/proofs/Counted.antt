@@ -1,5 +1,5 @@
 -- How long a frame is that is not written yet.
-use Rattle.std.proofs.Common.{◌≡◌, ◌∙◌, sym, ap, subst, ℕ, ◌+◌, ◌*◌, ◌-◌, ◌/◌, ◌%◌, ◌^◌, ◌≤◌, arith, Bool, true, false, cond, ◌||◌, nat_eq, nat_lt, nat_le, List, [], ◌++◌, length, length-append, Option, Some, None, IfSome, refl}
+use Rattle.std.proofs.Common.{◌≡◌, ◌∙◌, ap, subst, ℕ, ◌+◌, ◌*◌, ◌-◌, ◌/◌, ◌%◌, ◌^◌, ◌≤◌, arith, Bool, true, false, cond, ◌||◌, nat_eq, nat_lt, nat_le, List, [], ◌++◌, length, length-append, Option, Some, None, IfSome, refl}
 use Rattle.std.proofs.lemmas.Bool.Decides.{nat_tests}
 use Rattle.flac_bits.specs.Bits.{unsigned}
 use Rattle.flac_bits.specs.Coded.{six_bits, in_bytes, number_spelling}

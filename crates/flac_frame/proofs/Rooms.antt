@@ -1,5 +1,5 @@
 -- Places enough, after calls that leave them.
-use Rattle.std.proofs.Common.{◌≡◌, ◌∙◌, ap, subst, sym, ℕ, ◌+◌, ◌<◌, ◌≤◌, ◌^◌, arith, ℤ, List, length, Some}
+use Rattle.std.proofs.Common.{◌≡◌, ◌∙◌, ap, subst, ℕ, ◌<◌, ◌≤◌, ◌^◌, arith, ℤ, List, length, Some}
 use Rattle.std.proofs.Math.Nat.{pow-le-pow_right}
 use Rattle.flac_header.specs.declared.subset.Profile.{Profile}
 use Rattle.flac_subframe.specs.declared.limits.Limits.{Limits}

@@ -281,10 +281,11 @@ pub fn choose_frame(
     ensures many { length choice.new.subframes.items ≡ length choice.old.subframes.items }
 {
     let _places = buffers.places.len();
+    let first = range.start;
     let subject = Subject {
         audio,
-        start: range.start,
-        size: range.end - range.start,
+        start: first,
+        size: range.end - first,
         number,
         predictors,
     };
@@ -328,10 +329,11 @@ pub fn write_frame<W: Target>(
     ensures wrote { WritesFrameWith predictors.now audio.now (range.end - range.start) number (block_of range.start (range.end - range.start) audio.now.channels) writer.old writer.new result }
 {
     let _places = buffers.places.len();
+    let begin = range.start;
     let subject = Subject {
         audio,
-        start: range.start,
-        size: range.end - range.start,
+        start: begin,
+        size: range.end - begin,
         number,
         predictors,
     };
@@ -400,10 +402,12 @@ pub fn encode_frame_with<W: Target>(
     let _channels = audio.channels();
     let before = writer.bytes_written();
     let _places = buffers.places.len();
+    let start = range.start;
+    let size = range.end - range.start;
     let subject = Subject {
         audio,
-        start: range.start,
-        size: range.end - range.start,
+        start,
+        size,
         number,
         predictors,
     };
