@@ -15,6 +15,7 @@ mod linear;
 mod narrowed;
 mod numbers;
 mod predictors;
+mod products;
 mod promises;
 mod pruning;
 mod residual;
