@@ -1,16 +1,18 @@
 -- Sums of products that are made for all samples at once.
-use Rattle.std.proofs.Common.{◌≡◌, ◌∙◌, inl, inr, refl, to_z, of_z, w32, w64, FitsSigned, sym, ap, ℕ, zero, suc, ◌+◌, ◌-◌, ◌*◌, ◌^◌, ◌≤◌, ◌<◌, arith, ℤ, pos, ◌+ℤ◌, ◌-ℤ◌, ◌*ℤ◌, negsuc, List, map, get_or, All, [], ◌∷◌, length, take, slice_set}
+use Rattle.std.proofs.Common.{◌≡◌, ◌∙◌, inl, inr, refl, to_z, of_z, w32, FitsSigned, sym, ap, ℕ, zero, suc, ◌+◌, ◌-◌, ◌*◌, ◌^◌, ◌≤◌, ◌<◌, arith, ℤ, pos, ◌+ℤ◌, ◌-ℤ◌, ◌*ℤ◌, negsuc, List, map, get_or, All, [], ◌∷◌, length, take, slice_set}
 use Rattle.std.specs.Int.{int_shr}
 use Rattle.std.specs.Int.RustNames.{unsigned_abs}
-use Rattle.std.specs.List.{sum_by}
-use Rattle.std.proofs.Math.IntN.{+ℤ_assoc, +ℤ_comm, +ℤ_idr, +ℤ_idl}
+use Rattle.std.specs.List.{sum_by, range_with_len}
+use Rattle.std.proofs.Math.IntN.{+ℤ_assoc, +ℤ_comm}
 use Rattle.std.proofs.lemmas.Int.{ints, to_z-of_z, fits_signed_from_abs}
 use Rattle.std.proofs.lemmas.Bool.{cases_lt}
-use Rattle.std.proofs.lemmas.List.{get_or-set_same, get_or-set_other, length-set, ext_get_or, get_or-map, length-map}
+use Rattle.std.proofs.lemmas.List.{get_or-set_same, get_or-set_other, length-set, take_all, ext_get_or, get_or-map, length-map}
 use Rattle.std.proofs.lemmas.List.Elements.{All-from_get_or}
 use Rattle.std.proofs.lemmas.List.Sums.{sum_by-cons, sum_by-take-le}
 use Rattle.std.proofs.lemmas.Nat.{mul-le, shr_le}
+use Rattle.std.proofs.lemmas.List.FromFn.{get_or-map-range_with_len, length-map-range_with_len}
 use Rattle.flac_bits.specs.Rice.{IsResidual}
+use Rattle.flac_subframe.specs.Bodies.{difference, differences}
 use Rattle.flac_subframe.specs.Spelling.{folded}
 use Rattle.flac_subframe.specs.Numbers.{sample_at}
 use Rattle.flac_subframe.specs.Prediction.{weighted}
@@ -190,3 +192,25 @@ module _ (s : List ℤ) (m : ℕ) (most : (i : ℕ) → unsigned_abs (sample_at 
         let q : sum_by unsigned_abs (take k cs) * m ≤ sum_by unsigned_abs cs * m = mul-le (sum_by unsigned_abs (take k cs)) m (sum_by unsigned_abs cs) m (sum_by-take-le unsigned_abs cs k) (omega arith) in
         omega (arith, p, q, less, most j, one_more (sum_by unsigned_abs cs) m);
   }
+
+-- ---- from the first sums to what is left
+
+pub no_sums : (cs s sums : List ℤ) → ((j : ℕ) → j < length sums → sample_at sums j ≡ pos 0) → HasSums 0 cs s sums
+unfolding weighted
+no_sums [] s sums none j h = none j h
+no_sums (c ∷ cs) s sums none j h = none j h
+
+pub sums_below : (limit : ℕ) (cs s sums : List ℤ) (k : ℕ) → HasSums k cs s sums → StayBelow limit cs s → (j : ℕ) → j < length sums
+    → unsigned_abs (sample_at s (length cs + j)) + unsigned_abs (sample_at sums j) < limit
+sums_below limit cs s sums k so small j h = rw (so j h) (small.sums k (length cs + j) (length cs + j))
+
+pub differences_from : (cs s : List ℤ) (shift : ℕ) (sums values : List ℤ) → length values ≡ length sums → length values + length cs ≡ length s → HasSums (length cs) cs s sums
+    → ((j : ℕ) → j < length sums → sample_at values j ≡ sample_at s (length cs + j) -ℤ int_shr (sample_at sums j) shift) → values ≡ differences cs shift s
+unfolding difference
+differences_from cs s shift sums values long whole so is =
+    let n : ℕ = length s - length cs in
+    let f : ℕ → ℤ = difference cs shift s in
+    ext_get_or (pos 0) values (map f (range_with_len 0 n)) (omega (arith, length-map-range_with_len f 0 n)) (λ j h.
+    let at : j < length sums = omega (arith, h, long) in
+    let sum : sample_at sums j ≡ weighted cs s (length cs + j) = so j at ∙ ap (λ (l : List ℤ). weighted l s (length cs + j)) (take_all (length cs) cs (omega arith)) in
+    is j at ∙ ap (λ (z : ℤ). sample_at s (length cs + j) -ℤ int_shr z shift) sum ∙ sym (get_or-map-range_with_len f 0 n j j (pos 0) (omega (arith, h)) (omega arith)))

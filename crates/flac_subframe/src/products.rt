@@ -1,11 +1,12 @@
 //! What linear predictors leave of narrow samples: the sums of products are made for all samples at once, a few
 //! coefficients at a time, by loops that the compiler makes lanes of.
 
-ghost use Rattle.std.specs.Prelude.{ℕ, ◌≡◌, ◌<◌, ◌≤◌, ◌^◌, ◌*◌, ◌+◌, ◌+ℤ◌, ◌-ℤ◌, ◌*ℤ◌, pos, replicate, length, map, All};
+ghost use Rattle.std.specs.Prelude.{ℕ, ◌≡◌, ◌<◌, ◌≤◌, ◌^◌, ◌*◌, ◌+◌, ◌+ℤ◌, ◌-ℤ◌, ◌*ℤ◌, pos, replicate, IsTrue, length, map, All};
 ghost use Rattle.std.specs.Int.RustNames.{unsigned_abs};
 ghost use Rattle.std.specs.Int.{int_shr};
 ghost use Rattle.std.specs.List.{sum_by};
 ghost use Rattle.flac_bits.specs.Rice.{IsResidual};
+ghost use Rattle.flac_bits.specs.Signed.{FitsBits};
 ghost use Rattle.flac_subframe.specs.Bodies.{differences};
 ghost use Rattle.flac_subframe.specs.Numbers.{sample_at};
 ghost use Rattle.flac_subframe.specs.Products.{HasSums, StayBelow};
@@ -100,4 +101,56 @@ fn leave(order: usize, shift: u32, samples: &[i32], values: &mut [i32], folds: &
         values[index] = value;
         folds[index] = fold_narrow(value);
     }
+}
+
+/// Makes all sums those of no product.
+fn clear(sums: &mut [i32])
+    ensures cleared { (j : ℕ) → j < length sums.new → sample_at sums.new j ≡ pos 0 }
+    ensures long { length sums.new ≡ length sums.old }
+{
+    for index in 0..sums.len() {
+        sums[index] = 0;
+    }
+}
+
+/// Whether no sum of products with samples that are at most `peak` from 0 comes near the end of 32 bits.
+fn are_small(coefficients: &[i32], peak: u32) -> bool
+    requires few { length coefficients.now ≤ 32 }
+    requires small { All (FitsBits 15) coefficients.now }
+    ensures { IsTrue result → (1 + sum_by unsigned_abs coefficients.now) * peak < 2 ^ 31 }
+{
+    let mut sum: u64 = 0;
+    for coefficient in coefficients {
+        sum += u64::from(coefficient.unsigned_abs());
+    }
+    (1 + sum) * u64::from(peak) < 0x8000_0000
+}
+
+/// What a linear predictor leaves of narrow samples that are at most `peak` from 0, and the same as unsigned numbers, if the sums fit 32
+/// bits: whether they do (RFC 9639, section 9.2.6).
+pub(crate) fn take_products(
+    coefficients: &[i32],
+    shift: u32,
+    samples: &[i32],
+    peak: u32,
+    values: &mut [i32],
+    folds: &mut [u32],
+) -> bool
+    requires few { length coefficients.now ≤ 32 }
+    requires small { All (FitsBits 15) coefficients.now }
+    requires shift { shift < 16 }
+    requires peak { (i : ℕ) → unsigned_abs (sample_at samples.now i) ≤ peak }
+    requires places { length values.old + length coefficients.now ≡ length samples.now }
+    requires folds { length folds.old ≡ length values.old }
+    ensures values { IsTrue result → values.new ≡ differences coefficients.now shift samples.now }
+    ensures range { IsTrue result → All IsResidual values.new }
+    ensures folds { IsTrue result → folds.new ≡ map folded values.new }
+{
+    if !are_small(coefficients, peak) {
+        return false;
+    }
+    clear(values);
+    add_all(coefficients, samples, values);
+    leave(coefficients.len(), shift, samples, values, folds);
+    true
 }

@@ -1,4 +1,4 @@
-use Rattle.std.proofs.Common.{◌≡◌, ◌+◌, ◌-◌, ◌<◌, ℤ, length, refl, w32, FitsSigned, arith, rules}
+use Rattle.std.proofs.Common.{◌+◌, ◌-◌, ◌<◌, length, refl, w32, FitsSigned, arith, rules}
 use Rattle.flac_subframe.specs.Numbers.{sample_at}
 use Rattle.flac_subframe.proofs.Lanes.{sums_more, code_product_below, code_sum_below, next_is, next_held}
 use Rattle.flac_subframe.proofs.products.add_four.Goals as goal

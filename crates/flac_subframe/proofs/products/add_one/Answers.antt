@@ -1,4 +1,4 @@
-use Rattle.std.proofs.Common.{refl, ◌-◌, ◌+◌, ◌<◌, ℤ, pos, length, get_or, to_z, of_z, w32, FitsSigned, arith, rules}
+use Rattle.std.proofs.Common.{refl, ◌-◌, ◌+◌, ◌<◌, length, w32, FitsSigned, arith, rules}
 use Rattle.flac_subframe.specs.Numbers.{sample_at}
 use Rattle.flac_subframe.proofs.Lanes.{sums_more, code_sum_below, next_held}
 use Rattle.flac_subframe.proofs.products.add_one.Goals as goal

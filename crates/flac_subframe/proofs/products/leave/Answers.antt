@@ -1,4 +1,4 @@
-use Rattle.std.proofs.Common.{◌≡◌, ◌∙◌, ◌+◌, ◌<◌, ◌^◌, refl, ap, ℤ, ◌-ℤ◌, length, arith}
+use Rattle.std.proofs.Common.{◌∙◌, ◌+◌, ◌<◌, ◌^◌, refl, ap, ℤ, ◌-ℤ◌, length, arith}
 use Rattle.std.specs.Int.{int_shr}
 use Rattle.std.specs.Int.RustNames.{unsigned_abs}
 use Rattle.flac_subframe.specs.Numbers.{sample_at}
