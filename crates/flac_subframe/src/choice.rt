@@ -23,6 +23,7 @@ use crate::products::take_products;
 use crate::survey::{greatest_halvings, least_residual};
 use crate::tables::Tables;
 use crate::view::{ResidualView, SampleView, Scope};
+use crate::wide_products::take_wide_products;
 
 /// How the samples of a subframe are written. A linear predictor is named by its place in the list that was handed in.
 #[derive(Drop, Clone, Debug, PartialEq, Eq)]
@@ -189,6 +190,21 @@ fn better_fixed(
     }
 }
 
+/// What a linear predictor leaves of the samples, worked out in 64 bits, and whether a residual may have it all.
+fn take_wide(subject: &SampleView<'_>, predictor: &LinearPredictor, wide: &mut [i64]) -> bool
+    requires places { length wide.old + length predictor.now.coefficients.items ≡ length subject.now.samples.now }
+    ensures all { wide.new ≡ differences predictor.now.coefficients.items predictor.now.shift subject.now.samples.now }
+    ensures range { IsTrue result ↔ All IsResidual (differences predictor.now.coefficients.items predictor.now.shift subject.now.samples.now) }
+{
+    let coefficients = predictor.coefficients();
+    let shift = predictor.shift();
+    if subject.narrow {
+        let narrowed = subject.narrowed;
+        return take_wide_products(coefficients, shift, narrowed, wide);
+    }
+    take_weighed(coefficients, shift, subject.samples, wide)
+}
+
 /// What a linear predictor leaves of the samples, and the same as unsigned numbers, if a residual may have it all.
 fn take_handed(
     subject: &SampleView<'_>,
@@ -213,7 +229,7 @@ fn take_handed(
         return true;
     }
     let wide = &mut wide[..values.len()];
-    if !take_weighed(coefficients, shift, subject.samples, wide) {
+    if !take_wide(subject, predictor, wide) {
         return false;
     }
     fold_each(wide, values, folds);

@@ -26,6 +26,7 @@ mod tables;
 mod view;
 mod wasted;
 mod wide;
+mod wide_products;
 mod widths;
 mod workspace;
 mod writing;

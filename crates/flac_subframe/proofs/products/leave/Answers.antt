@@ -1,4 +1,4 @@
-use Rattle.std.proofs.Common.{◌∙◌, ◌+◌, ◌<◌, ◌^◌, refl, ap, ℤ, ◌-ℤ◌, length, arith}
+use Rattle.std.proofs.Common.{w32, ◌∙◌, ◌+◌, ◌<◌, ◌^◌, refl, ap, ℤ, ◌-ℤ◌, length, arith}
 use Rattle.std.specs.Int.{int_shr}
 use Rattle.std.specs.Int.RustNames.{unsigned_abs}
 use Rattle.flac_subframe.specs.Numbers.{sample_at}
@@ -14,7 +14,7 @@ overflow_sub-value c =
     let within : i < length c.loop-index.values = omega arith in
     let same = c.loop-index.invariant.left i (omega arith) within in
     let small : unsigned_abs (sample_at c.args.samples.now (c.args.order + i)) + unsigned_abs (sample_at c.loop-index.values i) < 2 ^ 31 = rw same (c.requires.small i (omega arith)) in
-    left_fits (sample_at c.args.samples.now (c.args.order + i)) (sample_at c.loop-index.values i) c.args.shift small
+    left_fits w32 (sample_at c.args.samples.now (c.args.order + i)) (sample_at c.loop-index.values i) c.args.shift small
 
 pub fold_narrow-requires : goal.fold_narrow-requires
 fold_narrow-requires c =
@@ -30,7 +30,7 @@ loop-index-preserved c =
     let within : i < length c.loop-index.values = omega arith in
     let same = c.loop-index.invariant.left i (omega arith) within in
     let small : unsigned_abs (sample_at c.args.samples.now (c.args.order + i)) + unsigned_abs (sample_at c.loop-index.values i) < 2 ^ 31 = rw same (c.requires.small i (omega arith)) in
-    let is = left_is (sample_at c.args.samples.now (c.args.order + i)) (sample_at c.loop-index.values i) c.args.shift small in
+    let is = left_is w32 (sample_at c.args.samples.now (c.args.order + i)) (sample_at c.loop-index.values i) c.args.shift small in
     let range = left_range (sample_at c.args.samples.now (c.args.order + i)) (sample_at c.loop-index.values i) c.args.shift small in
     left_more c.args.order c.args.shift c.args.samples.now c.args.values.now c.loop-index.values c.loop-index.folds (omega arith) i _ _ within (is ∙ ap (λ (z : ℤ). sample_at c.args.samples.now (c.args.order + i) -ℤ int_shr z c.args.shift) same) range c.fold_narrow.ensures.value c.loop-index.invariant
 
