@@ -289,24 +289,16 @@ fn write_two<W: Target>(
     ensures room { workspace.new ≡ workspace.old }
 {
     let code = choice.code;
-    let depth = subject.audio.bits();
     let _channels = subject.audio.channels();
-    write_subframe_in(
-        &choice.subframes[0],
-        subject.predictors,
-        first,
-        depth + side_bit(code, 0),
-        workspace,
-        writer,
-    )?;
-    write_subframe_in(
-        &choice.subframes[1],
-        subject.predictors,
-        second,
-        depth + side_bit(code, 1),
-        workspace,
-        writer,
-    )
+    let depth = subject.audio.bits();
+    let subframes = choice.subframes.as_slice();
+    let left = &subframes[0];
+    let right = &subframes[1];
+    let left_depth = depth + side_bit(code, 0);
+    let right_depth = depth + side_bit(code, 1);
+    let predictors = subject.predictors;
+    write_subframe_in(left, predictors, first, left_depth, workspace, writer)?;
+    write_subframe_in(right, predictors, second, right_depth, workspace, writer)
 }
 
 /// Writes the subframes that were chosen of a block of two channels, with places for twice as many samples.

@@ -24,7 +24,7 @@ returns-clause-first_fits c =
     let right : c.part_of-right.result.now ≡ take n (drop c.args.start c.index-channels-1.result.items) = c.part_of-right.ensures ∙ ap (λ k. take n (drop c.args.start k)) c.deref-2.ensures.value in
     let l = subst (All (FitsBits a.bits)) (sym left) (part_small (λ v. v.items) c.channels-channels.result.now a e.sound e.items c.args.start n 0 c.index-channels-0.result c.requires.two (omega arith) c.index-channels-0.is) in
     let r = subst (All (FitsBits a.bits)) (sym right) (part_small (λ v. v.items) c.channels-channels.result.now a e.sound e.items c.args.start n 1 c.index-channels-1.result c.requires.two (omega arith) c.index-channels-1.is) in
-    (c.put_kept.ensures.fits a.bits (depth_small a.bits e.sound.bits).0 l r).0
+    (c.put_kept.ensures.fits a.bits (depth_small a.profile a.bits e.sound.bits).0 l r).0
 
 pub returns-clause-second_fits : goal.returns-clause-second_fits
 returns-clause-second_fits c =
@@ -35,4 +35,4 @@ returns-clause-second_fits c =
     let right : c.part_of-right.result.now ≡ take n (drop c.args.start c.index-channels-1.result.items) = c.part_of-right.ensures ∙ ap (λ k. take n (drop c.args.start k)) c.deref-2.ensures.value in
     let l = subst (All (FitsBits a.bits)) (sym left) (part_small (λ v. v.items) c.channels-channels.result.now a e.sound e.items c.args.start n 0 c.index-channels-0.result c.requires.two (omega arith) c.index-channels-0.is) in
     let r = subst (All (FitsBits a.bits)) (sym right) (part_small (λ v. v.items) c.channels-channels.result.now a e.sound e.items c.args.start n 1 c.index-channels-1.result c.requires.two (omega arith) c.index-channels-1.is) in
-    (c.put_kept.ensures.fits a.bits (depth_small a.bits e.sound.bits).0 l r).1
+    (c.put_kept.ensures.fits a.bits (depth_small a.profile a.bits e.sound.bits).0 l r).1
