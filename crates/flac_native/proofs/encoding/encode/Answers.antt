@@ -1,12 +1,8 @@
 use Rattle.std.proofs.Common.{refl, sym, ◌∙◌, arith}
 use Rattle.flac_bits.specs.Bits.{bits_of}
 use Rattle.flac_native.proofs.Planned.{planned, block_small}
-use Rattle.flac_native.proofs.Rooms.{room_of}
 use Rattle.flac_native.proofs.Sendings.{given_encodes, all_sent, some_sent}
 use Rattle.flac_native.proofs.encoding.encode.Goals as goal
-
-pub send_stream-requires-clause-places : goal.send_stream-requires-clause-places
-send_stream-requires-clause-places g c = room_of c.args.plan.now c.args.audio.now _ _ _ _ c.in-Ok-new.ensures.counted c.in-Ok-room.ensures.places
 
 pub returns-in-Ok-send_stream-clause-written : goal.returns-in-Ok-send_stream-clause-written
 returns-in-Ok-send_stream-clause-written g c = λ known.
@@ -45,5 +41,5 @@ returns-clause-names g c = c.in-Err.ensures.3.names
 pub returns-in-Ok-send_stream-clause-names : goal.returns-in-Ok-send_stream-clause-names
 returns-in-Ok-send_stream-clause-names g c = c.in-Ok-send_stream.ensures.3.names
 
-pub new-requires : goal.new-requires
-new-requires g c = omega (arith, block_small c.args.plan.now (planned c.args.plan.now c.block_size-size.ensures.good), c.block_size.ensures.value)
+pub new_in-requires : goal.new_in-requires
+new_in-requires g c = omega (arith, block_small c.args.plan.now (planned c.args.plan.now c.block_size-size.ensures.good), c.block_size-size.ensures.value)
