@@ -11,9 +11,9 @@ class Refused(Exception):
     """A text is no list of predictors, or a file no sound that can be read; the text says why."""
 
 
-def greatest_order(rate):
-    """The greatest order that the streamable subset allows at a sample rate in Hz (RFC 9639, section 7)."""
-    return 12 if rate <= 48000 else 32
+def greatest_order(rate, lax=False):
+    """The greatest order at a sample rate in Hz, in the streamable subset (RFC 9639, section 7) or with `--lax`."""
+    return 12 if rate <= 48000 and not lax else 32
 
 
 def checked(predictor):
