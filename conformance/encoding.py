@@ -42,7 +42,7 @@ def given_back(path, raw, sound, profile=SUBSET):
 
 
 def frames_of(path):
-    """The bytes of each frame of a good stream, native or Ogg: in a native one they begin where the reference finds them."""
+    """The bytes of each frame of a good stream. In a native one the reference finds where they begin."""
     data = read(path)
     if data[:1] == b"O":
         return [packet for packet in packets(data) if packet[:1] == b"\xff"]

@@ -30,7 +30,7 @@ ENCODE = ["encode", "IN", "OUT", "--rate", "44100", "--channels", "2", "--bits",
 
 
 class Job:
-    """Words of the program, with IN, OUT and LIST for its files, the bytes of IN, and those of LIST if there is one."""
+    """Words of the program, with IN, OUT and LIST for its files, and the bytes of IN and of LIST, if there is one."""
 
     def __init__(self, name, words, layout=None, source=b"", listed=None):
         self.name, self.words, self.layout, self.listed = name, words, layout, listed
@@ -121,7 +121,7 @@ def jobs():
 
 
 def listed_line(job, call, at):
-    """What is due if LIST is not opened or read. It is opened after IN and before OUT. None if the failure is elsewhere."""
+    """What is due if LIST, which is opened after IN and before OUT, is not opened or read. Otherwise None."""
     if job.listed is None or at["open"] != 2 or call not in ("open", "read"):
         return None
     return f"flac: LIST: cannot be {'opened' if call == 'open' else 'read'}"
@@ -219,7 +219,7 @@ def failure_case(job, due, runner, call, number, how, **more):
 
 
 def list_memory_case(job, ran, due):
-    """Memory that is refused while LIST is opened and read, or the paths are compared: no harm is done, or the job ends before OUT is begun."""
+    """Memory is refused while LIST is opened and read, or paths are compared: no harm, or OUT is not begun."""
     if ran.status == 0:
         return same_as(due, ran)
     texts = ("LIST: cannot be opened", "LIST: cannot be read", "OUT: cannot be created", "command: 2 Memory", "IN: 2 Memory")

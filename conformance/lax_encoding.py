@@ -13,11 +13,10 @@ import model
 import outside
 import program
 import reference
-import vectors
 import vectors_lax
 from model import LAX, SUBSET
 from program import NotYet, Wrong, expect, read
-from reading import model_case, vector_case
+from reading import model_case
 
 GROUP = "encode --lax"
 PRICE = os.path.join(program.ROOT, "predictors", "price")
@@ -44,7 +43,7 @@ def most_samples(sound):
 
 
 def subset_answer(path, sound, block):
-    """What `test` is due to answer without `--lax`, by the sound and by the partition orders that the reference finds."""
+    """What is due from `test` without `--lax`, by the sound and the partition orders that the reference finds."""
     orders = reference.partition_orders(path)
     if orders and (not has_codes(sound) or min(block, sound.length) > most_samples(sound)):
         return "frame 0: 14 NotSubset"
@@ -53,7 +52,7 @@ def subset_answer(path, sound, block):
 
 
 def lax_case(sound, block, made, bench):
-    """The file is read by both, and without `--lax` by the program as far as it is of the subset; STREAMINFO has its fields."""
+    """Both read the file; without `--lax` the program reads it if it is of the subset; STREAMINFO has its fields."""
     raw = made.path(sound.name + ".raw")
     path = encoding.encode(sound, raw, bench, "--lax", "--block", str(block))
     places = encoding.given_back(path, raw, sound, LAX)
@@ -117,7 +116,7 @@ def longer_case(sound, block, made, bench):
 
 
 def gain_case(sound, block, made, bench):
-    """A sound whose bursts are best coded in more than 256 partitions: such orders are chosen, and fewer bytes are written."""
+    """Bursts that are best coded in more than 256 partitions: these are chosen, and fewer bytes are written."""
     raw = made.path(sound.name + ".raw")
     lax, subset = (encoding.encode(sound, raw, bench, *words, "--block", str(block)) for words in (["--lax"], []))
     if max(reference.partition_orders(lax)) <= SUBSET.partition_order or os.path.getsize(lax) >= os.path.getsize(subset):
@@ -128,7 +127,7 @@ def gain_case(sound, block, made, bench):
 
 
 def least_case(sound, block, made, bench):
-    """The frames are together no longer than those of the reference with fixed predictors and every partition order."""
+    """The frames are no longer than those of the reference with fixed predictors and every partition order."""
     ours = encoding.encode(sound, made.path(sound.name + ".raw"), bench, "--lax", "--block", str(block))
     theirs, wav = made.path(f"{sound.name}.{block}.least_lax.flac"), made.path(sound.name + ".wav")
     settings = [word for word in LEAST if word != "-m" or sound.channels == 2]
@@ -153,13 +152,12 @@ def damage_case(sound, block, made, bench, container):
 
 
 def zeros_case(bench):
-    """Sixteen zeros of 65537 Hz and 5 bits, neither of which the header states: byte for byte, and refused without `--lax`."""
+    """Sixteen zeros of 65537 Hz and 5 bits, which the header does not state: the bytes, and refused without `--lax`."""
     form = ["--rate", "65537", "--channels", "1", "--bits", "5", "--block", "16"]
     encoding.bytes_case(bytes(16), [*form, "--lax"], vectors_lax.ZEROS_OF_5_BITS, bench)
     path = bench.path()
     program.succeeds("encode", bench.put(bytes(16), ".raw"), path, *form, "--lax")
     expect((program.answer(path), program.answer(path, LAX)), ("frame 0: 14 NotSubset", "frames 1 samples 16"))
-    vector_case(vectors.stream(vectors_lax.ZEROS_OF_5_BITS, info=vectors.stream_info(16, 16, rate=65537, depth=5)), "frames 1 samples 16", bench, LAX)
 
 
 def fault_rows():

@@ -24,7 +24,7 @@ FOLDER = os.path.join(program.ROOT, "predictors")
 SHIPPED = os.path.join(FOLDER, "music.txt")
 MOST_BYTES = 1 << 20
 """The most bytes of a list."""
-SMALL = b"# a straight line, nearly the same, and the sample before upside down\n3 0 2 -1\n\n12 10 2047 -1024 # nearly\n1 0 -1\n"
+SMALL = b"# a straight line\n3 0 2 -1\n\n12 10 2047 -1024 # nearly\n1 0 -1\n"
 LONG = b"13 11 " + b" ".join(b"%d" % (2000 - 130 * at) for at in range(32)) + b"\n3 0 " + b"-1 2 " * 8 + b"\n"
 """Predictors of order 32 and 16."""
 FULL = b"15 15 16383 -16384\n1 0 0\n1 15 -1\n15 0 -16384\n2 0 1 -2 1\n"
@@ -121,7 +121,7 @@ def same_case(text, due, bench):
 
 
 def upside_down_case(bench):
-    """1001, -1001 and so on: the predictor `1 0 -1` leaves zeros, in a subframe of 49 bits (RFC 9639, section 9.2.6)."""
+    """1001, -1001 and so on: `1 0 -1` leaves zeros, in a subframe of 49 bits (RFC 9639, section 9.2.6)."""
     samples = b"".join((1001 * (-1) ** n).to_bytes(2, "little", signed=True) for n in range(16))
     path = bench.path()
     program.succeeds("encode", bench.put(samples, ".raw"), path, *FORM, "--block", "16", "--predictors", bench.put(b"1 0 -1\n", ".txt"))
@@ -154,7 +154,7 @@ def line_rows():
 
 
 def fault_rows():
-    """Lists and words that are refused, and which goes first: name, list, raw samples, words, whose path the line has, text."""
+    """What is refused: name, list, raw samples, words, whose path the line has, its text."""
     def words(rate=44100, bits=16, block=4096, *more):
         return ["--rate", str(rate), "--channels", "1", "--bits", str(bits), "--block", str(block), *more]
 

@@ -41,7 +41,7 @@ def takes(profile):
 
 @functools.cache
 def encodes(*words):
-    """Whether `encode` has these words. It refuses a word that it does not know with status 2; otherwise OUT cannot be created."""
+    """Whether `encode` has these words: a word that it does not know is refused with status 2. Nothing is written."""
     form = ["--rate", "44100", "--channels", "1", "--bits", "16"]
     return call("encode", os.devnull, "/nonexistent/a.flac", *form, *words)[0] != 2
 

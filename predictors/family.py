@@ -47,13 +47,13 @@ def table(predictors):
 
 
 def greatest_partition_order(lax):
-    """The greatest partition order in the streamable subset (RFC 9639, section 7), or of all streams (section 9.2.7)."""
+    """The greatest partition order in the streamable subset (RFC 9639, section 7), or of all streams."""
     return 15 if lax else 8
 
 
 def subframe_costs(samples, depth, rows, most=greatest_partition_order(False)):
-    """The bits of the cheapest subframe without a linear predictor, and then those by each predictor of a table, with partition orders
-    up to `most`."""
+    """The bits of the cheapest subframe without a linear predictor, and then those by each predictor of a table, with
+    partition orders up to `most`."""
     samples = numpy.ascontiguousarray(samples, numpy.int64)
     costs = numpy.zeros(len(rows) + 1, numpy.uint64)
     COUNTS.subframe_costs(samples.ctypes.data, len(samples), depth, rows.ctypes.data, len(rows), most, costs.ctypes.data)
@@ -90,7 +90,7 @@ def header_bytes(size, rate, number):
 
 
 def rate_bytes(rate):
-    """How many bytes a frame header states a rate in (RFC 9639, section 9.1.2); None if only STREAMINFO can state it."""
+    """In how many bytes a frame header states a rate (RFC 9639, section 9.1.2). None: only STREAMINFO can."""
     if rate in RATES:
         return 0
     if rate % 1000 == 0 and rate <= 255000:
