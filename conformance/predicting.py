@@ -29,6 +29,10 @@ LONG = b"13 11 " + b" ".join(b"%d" % (2000 - 130 * at) for at in range(32)) + b"
 """Predictors of order 32 and 16."""
 FULL = b"15 15 16383 -16384\n1 0 0\n1 15 -1\n15 0 -16384\n2 0 1 -2 1\n"
 """The greatest and the smallest fields."""
+SPELLINGS = [("tabs and spaces", b"\t3\t0  2 -1 \n"), ("no end of line", b"3 0 2 -1"), ("a comment in the line", b"3 0 2 -1# x"),
+             ("zeros ahead", b"0000003 -0 02 -01\n"), ("lines as Windows ends them", b"# x\r\n\r\n3 0 2 -1\r\n"),
+             ("comments of any bytes", b"#\xff\0\x0b\n3 0 2 -1 #\xe9#\r\n")]
+"""The list `3 0 2 -1` in other words."""
 FORM = ["--rate", "44100", "--channels", "1", "--bits", "16"]
 
 
@@ -132,6 +136,7 @@ def upside_down_case(bench):
 
 BAD_LINES = [b"0 0 0", b"16 0 1", b"12 -1 1", b"12 16 1", b"12 5", b"12", b"4 0 8", b"4 0 -9", b"4 0 x", b"4 0 1.5", b"4,0,1", b"1 0 1", b"4 0" + 33 * b" 1",
              b"4 0 --1", b"4 0 -", b"15 0 16384", b"15 0 -16385", b"15 0 1000000", b"x", b"4 0 1 x", b"4 0 0x1", b"-4 0 1", b"4 0 \0", b"4 0 \xff",
+             b"4 0 +1", b"4 0\x0b1", b"4\x0c0 1", b"4 0 1\xa0",
              b"4 0 99999999999999999999999999", b"99999999999999999999 0 1", b"4 -99999999999999999999 1"]
 
 
@@ -277,7 +282,7 @@ def file_cases(made, quick, bench):
     yield f"{GROUP}, bytes", "samples upside down", lambda: upside_down_case(bench)
     for name, text in (("empty", b""), ("comments", b"# 4 0 1\n#\n"), ("spaces and tabs", b" \t\n\n\t"), ("a comment without an end", b"#")):
         yield f"{GROUP}, nothing in the list", name, lambda t=text: empty_case(t, made, bench)
-    for name, text in (("tabs and spaces", b"\t3\t0  2 -1 \n"), ("no end of line", b"3 0 2 -1"), ("a comment behind", b"3 0 2 -1# x"), ("zeros ahead", b"03 00 2 -01\n")):
+    for name, text in SPELLINGS:
         yield f"{GROUP}, spellings", name, lambda t=text: same_case(t, b"3 0 2 -1\n", bench)
     for container in ([], ["--ogg"]):
         yield f"{GROUP}, damage", f"tone{', Ogg' * len(container)}", lambda o=container: damage_case(made, bench, o)
