@@ -204,14 +204,17 @@ def encoding(seconds, runs):
 
 
 def own_list(form, seconds):
-    """A list of 64 linear predictors that predictors/make makes of a sound, once."""
+    """A list of 64 linear predictors that predictors/make makes of a sound, once. Its last line has the processor's seconds."""
     raw = audio(form, seconds)
     path, sound = raw.replace(".raw", ".own.txt"), raw.replace(".raw", ".wav")
     if not os.path.exists(path):
         with wave.open(sound, "wb") as file, open(raw, "rb") as samples:
             file.setparams((form.channels, form.bits // 8, form.rate, 0, "NONE", ""))
             file.writeframes(samples.read())
-        subprocess.run([os.path.join(PREDICTORS, "make"), path, sound], stdout=subprocess.DEVNULL, check=True)
+        taken = once([os.path.join(PREDICTORS, "make"), path + ".part", sound])
+        with open(path + ".part", "a", encoding="ascii") as file:
+            file.write(f"# made in {taken:.0f} s\n")
+        os.rename(path + ".part", path)
         os.remove(sound)
     return path
 
@@ -221,8 +224,11 @@ def lists_for(form, seconds, folder):
     shipped, first = os.path.join(PREDICTORS, "music.txt"), os.path.join(folder, "first.txt")
     with open(shipped, encoding="ascii") as file, open(first, "w", encoding="ascii") as out:
         out.writelines([line for line in file if line.split("#")[0].strip()][:8])
+    own = own_list(form, seconds)
+    with open(own, encoding="ascii") as file:
+        made = file.readlines()[-1].strip("# \n")
     yield "no list", []
-    for name, path in (("8 lines of music.txt", first), ("music.txt", shipped), ("a list of its own", own_list(form, seconds))):
+    for name, path in (("8 lines of music.txt", first), ("music.txt", shipped), (f"a list of its own, {made}", own)):
         yield name, ["--predictors", path]
 
 
