@@ -165,10 +165,10 @@ encoded_are_ogg_items p list a least greatest count frames packets planned_is fi
     let items = map framed (frames_from b a (length frames) 0) in
     let m = beginning Truncated in
     let each : (j : ℕ) → j < length frames → SpellsFrame a (frame_of b a (0 + j)) (slice_index_or frames j []) = λ j h. subst (λ n. SpellsFrame a (frame_of b a n) (slice_index_or frames j [])) (let e : j ≡ 0 + j = omega arith in e) (f.each j h) in
-    let there : (seen : Seen) → ArePacked (behind i true 0 seen) frames items = λ seen.
+    let there : (seen : Seen) → ArePacked (behind Subset i true 0 seen) frames items = λ seen.
     let run = frames_run p a least greatest q k small.0 small.1 frames 0 0 0 seen None [] m refl (omega (arith, f.many)) (λ more. inl refl) (sym (no_samples b (samples_each a.channels))) (sym (ap (λ n. rows_bytes width a.channels n 0) (no_samples b (samples_each a.channels)))) each in
-    frames_packed p a least greatest q k small.0 small.1 frames 0 (behind i true 0 seen) m (joined frames) refl refl refl refl run.0 each in
-    let all = head_packed i items frames there count list few is listed_is fields in
+    frames_packed p a least greatest q k small.0 small.1 frames 0 (behind Subset i true 0 seen) m (joined frames) refl refl refl refl run.0 each in
+    let all = head_packed Subset i items frames there count list few is listed_is fields in
     let stream = encoded_are_streams p list a least greatest frames planned_is fits listed_is fields f s in
     let packed = subst (λ n. ArePacked (start Subset) (packet_spellings count i list frames) (closing (blocks.StreamInfo i ∷ list) ++ map framed (frames_from b a n 0))) f.many all in
     let pieces = closing (blocks.StreamInfo i ∷ list) ++ map framed (frames_of b a) in

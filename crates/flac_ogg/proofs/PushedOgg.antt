@@ -62,10 +62,10 @@ bytes_of packets = map (λ q. q.packet) packets
 
 -- what was written and what is held are an Ogg stream of the items
 pub stands_for : {S : Type 0} (e : PushedOgg S) (items : List Piece) (q : Placed) (qs : List Placed) (written : List Bool) → ArePages e.serial (q ∷ qs) written (bits_of e.middle) (bits_of e.last) e.sequence
-    → StandsFor e.pushed (marked ∷ items) (native_text (bytes_of (q ∷ qs))) → AreStream (bytes_of (q ∷ qs)) items → All IsPlaced (q ∷ qs) → e.serial < 2 ^ 32 → length q.packet ≡ 51 → StandsForOgg e items (q ∷ qs) written
+    → StandsFor e.pushed (marked ∷ items) (native_text (bytes_of (q ∷ qs))) → AreStream Subset (bytes_of (q ∷ qs)) items → All IsPlaced (q ∷ qs) → e.serial < 2 ^ 32 → length q.packet ≡ 51 → StandsForOgg e items (q ∷ qs) written
 stands_for e items q qs written pages plain are good small long = record {
   pages = pages;
-  stream = subst (λ t. OggStream Subset (beginning Truncated) items t) (sym pages.last_is) (ogg_stream e.serial q qs items small long good are);
+  stream = subst (λ t. OggStream Subset (beginning Truncated) items t) (sym pages.last_is) (ogg_stream Subset e.serial q qs items small long good are);
   plain = plain;
   are = are;
   good = good;
@@ -124,9 +124,9 @@ opened_ogg g s list old h e shape good fits small serial are pushed sequence mid
     go (q ∷ qs) texts kinds placed pages =
         let is : IsInfo info = record { rules = keeps_open s (shaped s shape); digest = zero_bytes } in
         let plain = opened s e.pushed.target list shape good fits in
-        let packed = head_packed info [] [] (λ seen. tt) count list (count_small (length list)) is good fits in
+        let packed = head_packed Subset info [] [] (λ seen. tt) count list (count_small (length list)) is good fits in
         let spelled = subst (λ i. ArePacked (start Subset) (packet_spellings count info list []) i) (append-nil items) packed in
-        let are_stream : AreStream (bytes_of (q ∷ qs)) items = record {
+        let are_stream : AreStream Subset (bytes_of (q ∷ qs)) items = record {
           spelled = are_items (start Subset) (bytes_of (q ∷ qs)) items (subst (λ t. ArePacked (start Subset) t items) (sym texts) spelled);
           ends = plain.stream.ends;
           kept = plain.stream.kept;

@@ -69,7 +69,7 @@ pub record StandsForOgg {S : Type 0} (e : PushedOgg S) (items : List Piece) (pac
   pub pages : ArePages e.serial packets written (bits_of e.middle) (bits_of e.last) e.sequence
   pub stream : OggStream Subset (beginning Truncated) items (written ++ bits_of e.last)
   pub plain : StandsFor e.pushed (marked ∷ items) (native_text (map (λ q. q.packet) packets))
-  pub are : AreStream (map (λ q. q.packet) packets) items
+  pub are : AreStream Subset (map (λ q. q.packet) packets) items
   pub good : All IsPlaced packets
   pub small : e.serial < 2 ^ 32
   pub first : (q : Placed) × (qs : List Placed) × (packets ≡ q ∷ qs) × (length q.packet ≡ 51)
