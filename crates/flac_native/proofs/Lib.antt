@@ -39,6 +39,7 @@ pub mod Ordered
 pub mod Pushing
 pub mod Spelled
 pub mod Rooms
+pub mod WrittenFrames
 pub mod Lending
 pub mod Wider
 pub mod Outside

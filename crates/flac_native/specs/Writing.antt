@@ -1,5 +1,5 @@
 -- What encoding writes, and that it is a stream of what was given.
-use Rattle.std.specs.Prelude.{◌≡◌, ℕ, ◌+◌, ◌*◌, ◌<◌, ◌≤◌, Bool, true, List, [], ◌∷◌, ◌++◌, length, slice_index_or, None, Result, OnOk, OnErr, IfErr}
+use Rattle.std.specs.Prelude.{◌≡◌, ℕ, ◌*◌, ◌<◌, ◌≤◌, Bool, true, List, [], ◌∷◌, ◌++◌, length, slice_index_or, None, Result, OnOk, OnErr, IfErr}
 use Rattle.flac_bits.specs.Bits.{unsigned, bits_of, is_nil}
 use Rattle.flac_bits.specs.State.{Rises}
 use Rattle.flac_bits.specs.Written.{Written, Fails}
@@ -103,8 +103,19 @@ pub record IsSpelled (p : Cut) (a : Sound) (number : ℕ) (text : List Bool) : T
 -- These bits were written and sent, at a whole byte, or else the target failed.
 pub record WritesAll {X : Type 0} (text : List Bool) (old new : Written) (result : Result X Why) : Type 0 where
   pub failed : IfErr result (λ e. Fails (old.bits ++ text) old new e)
+  pub known : OnOk result (old.known ≡ true → new.known ≡ true)
   pub counted : OnOk result (new.errors ≡ old.errors)
+  pub names : new.names ≡ old.names
   pub sent : OnOk result (old.known ≡ true → bits_of new.sent ≡ old.bits ++ text)
+
+-- These bits were written, from a whole byte to one, or else the target failed. The checks may have begun anew among them, and the last bits may be held.
+pub record WritesOn {X : Type 0} (text : List Bool) (old new : Written) (result : Result X Why) : Type 0 where
+  pub failed : IfErr result (λ e. Fails (old.bits ++ text) old new e)
+  pub known : OnOk result (old.known ≡ true → new.known ≡ true)
+  pub counted : OnOk result (new.errors ≡ old.errors)
+  pub names : new.names ≡ old.names
+  pub bits : OnOk result (old.known ≡ true → new.bits ≡ old.bits ++ text)
+  pub whole : OnOk result (new.mark.unread ≡ 0)
 
 -- so it is of the least frame of a number
 abbrev pub WritesNext : {X : Type 0} → Cut → Sound → ℕ → Written → Written → Result X Why → Type 0
@@ -130,11 +141,21 @@ pub record SendsBits {S X E : Type 0} (g : target.Ghosts S) (text : List Bool) (
   pub rises : OnErr result (g.known old ≡ true → g.errors old < g.errors new)
   pub risen : OnErr result (Rises (g.errors old) (g.errors new))
 
--- all frames of the samples were sent, each the least of its block, or else a beginning of them
-abbrev pub SendsFrames : {S X E : Type 0} → target.Ghosts S → Cut → Sound → S → S → Result X E → Type 0
-SendsFrames g p a old new result = (frames : List (List Bool)) × AreFrames p a frames × AreLeastFrames p a frames × SendsBits g (joined frames) old new result
+-- each block of the samples has a least frame
+pub record HaveFrames (p : Cut) (a : Sound) : Type 0 where
+  pub frames : List (List Bool)
+  pub are : AreFrames p a frames
+  pub are_least : AreLeastFrames p a frames
 
--- so it is behind bits that were to be sent before them
+-- all frames of the samples were written, each the least of its block
+abbrev pub WritesFrames : {X : Type 0} → Cut → Sound → Written → Written → Result X Why → Type 0
+WritesFrames p a old new result = (frames : List (List Bool)) × AreFrames p a frames × AreLeastFrames p a frames × WritesOn (joined frames) old new result
+
+-- behind other bits they were written and sent
+abbrev pub WritesStream : {X : Type 0} → List Bool → Cut → Sound → Written → Written → Result X Why → Type 0
+WritesStream head p a old new result = (frames : List (List Bool)) × AreFrames p a frames × AreLeastFrames p a frames × WritesAll (head ++ joined frames) old new result
+
+-- behind other bits all of them were sent, or else a beginning
 abbrev pub SendsStream : {S X E : Type 0} → target.Ghosts S → List Bool → Cut → Sound → S → S → Result X E → Type 0
 SendsStream g head p a old new result = (frames : List (List Bool)) × AreFrames p a frames × AreLeastFrames p a frames × SendsBits g (head ++ joined frames) old new result
 

@@ -5,11 +5,11 @@ ghost use Rattle.flac_bits.specs.Bits.{bits_of};
 ghost use Rattle.flac_frame.specs.Audio.{samples_each};
 ghost use Rattle.flac_frame.specs.Encoding.{block_of, WritesFrame};
 ghost use Rattle.flac_native.specs.Given.{fits_plan, blocks_in, frame_of};
-ghost use Rattle.flac_native.specs.Writing.{AreChoices, HasRoom, IsSpelled, WritesNext, SendsFrames};
+ghost use Rattle.flac_native.specs.Writing.{AreChoices, HasRoom, HaveFrames, IsSpelled, WritesNext, WritesFrames};
 
 use crate::plan::Plan;
 use crate::room::Room;
-use flac_bits::{BitWriter, Target, Why, send_all};
+use flac_bits::{BitWriter, Target, Why};
 use flac_frame::{Audio, EncodeBuffers, FrameChoice, encode_frame, write_frame};
 use std::ops::Range;
 
@@ -102,30 +102,28 @@ pub(crate) fn spell_next(
     }
 }
 
-/// Sends all frames, one after another. After an error a prefix of them was sent.
-pub(crate) fn send_frames<W: Target>(
+/// Writes all frames, one after another, at a whole byte.
+pub(crate) fn write_frames<W: Target>(
     plan: &Plan,
     audio: &Audio,
     choices: &[FrameChoice],
     buffers: &mut EncodeBuffers,
-    room: Room,
-    target: &mut W,
+    writer: &mut BitWriter<W>,
 ) -> Result<(), Why>
     requires fits { fits_plan plan.now audio.now ≡ true }
+    requires frames { HaveFrames plan.now audio.now }
     requires buffers { buffers.old ≡ plan.now.block_size }
     requires choices { AreChoices plan.now audio.now choices.now }
-    requires room { HasRoom plan.now audio.now room.places }
-    ensures { SendsFrames W.Target plan.now audio.now target.old target.new result }
+    requires whole { writer.old.mark.unread ≡ 0 }
+    ensures { WritesFrames plan.now audio.now writer.old writer.new result }
 {
     let size = plan.block_size() as usize;
     let total = audio.len();
-    let mut room = room;
     let mut number = 0;
     let mut start = 0;
     while start < total {
         let end = start + size.min(total - start);
-        room = spell_next(plan, audio, start..end, number, choices, buffers, room);
-        send_all(target, room.bytes())?;
+        write_chosen(plan, audio, start..end, number, choices, buffers, writer)?;
         number += 1;
         start = end;
     }
