@@ -7,6 +7,7 @@ pub mod Messages
 pub mod Advancing
 pub mod Deciding
 pub mod WholeBytes
+pub mod Predictors
 pub mod Planned
 pub mod Digests
 pub mod EachFrame

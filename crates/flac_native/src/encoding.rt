@@ -6,7 +6,7 @@ ghost use Rattle.flac_bits.specs.State.{Rises};
 ghost use Rattle.flac_bits.specs.Written.{Writes};
 ghost use Rattle.flac_meta.specs.Listed.{block_fault};
 ghost use Rattle.flac_meta.specs.declared.block.Block.TheVariants as block_of;
-ghost use Rattle.flac_native.specs.Given.{fits_plan, info_of};
+ghost use Rattle.flac_native.specs.Given.{fits_plan, info_of, room_of};
 ghost use Rattle.flac_native.specs.Numbers.{is_of_whole};
 ghost use Rattle.flac_native.specs.Seeking.{table_of, is_table, has_table, repeats_table};
 ghost use Rattle.flac_native.specs.Writing.{blocks_spelling, head_spelling, AreChoices, AreCounted, IsDigest, WritesAll, WritesStream, SendsBits, SendsStream, Encodes, BeginsEncoding};
@@ -143,7 +143,7 @@ fn write_stream<W: Target>(
     writer: &mut BitWriter<W>,
 ) -> Result<(), Why>
     requires fits { fits_plan plan.now audio.now ≡ true }
-    requires room { buffers.old ≡ plan.now.block_size }
+    requires room { buffers.old ≡ room_of plan.now }
     requires counted { AreCounted plan.now audio.now frames.least frames.greatest frames.points.items }
     requires choices { AreChoices plan.now audio.now frames.choices.items }
     requires table { block_fault (block_of.SeekTable frames.points.items) ≡ None }
@@ -168,7 +168,7 @@ fn send_stream<W: Target>(
     target: &mut W,
 ) -> Result<(), Why>
     requires fits { fits_plan plan.now audio.now ≡ true }
-    requires room { buffers.old ≡ plan.now.block_size }
+    requires room { buffers.old ≡ room_of plan.now }
     requires counted { AreCounted plan.now audio.now frames.least frames.greatest frames.points.items }
     requires choices { AreChoices plan.now audio.now frames.choices.items }
     requires table { block_fault (block_of.SeekTable frames.points.items) ≡ None }
@@ -184,7 +184,9 @@ fn send_stream<W: Target>(
 
 /// Encodes samples as a native stream: STREAMINFO with the number of samples, the sizes of the frames and the MD5
 /// digest, the blocks of the list, the seek table if the plan asks for one and there are samples, and a frame for each
-/// block of the plan (RFC 9639, section 6). Each frame is a shortest one over constant, verbatim and fixed predictors.
+/// block of the plan (RFC 9639, section 6). Each frame is a shortest one over constant, verbatim and fixed predictors, and
+/// the plan's linear ones ([`Plan::with_predictors`]). The stream is one of the plan's profile, which is that of the
+/// samples ([`Audio::new_in`]).
 ///
 /// The plan must fit the samples ([`Plan::fits`]).
 ///
@@ -227,9 +229,9 @@ pub fn encode<W: Target>(
     if repeats_table(plan, list) {
         return Err(EncodeFault::RepeatedBlock);
     }
-    let _size = plan.block_size();
     let _blocks = list.blocks();
-    let Ok(mut buffers) = EncodeBuffers::new(alloc, plan.block_size()) else {
+    let size = plan.block_size();
+    let Ok(mut buffers) = EncodeBuffers::new_in(alloc, plan.profile(), size) else {
         return Err(EncodeFault::Memory);
     };
     let Ok(frames) = ChosenFrames::new(alloc, plan, audio, &mut buffers) else {
