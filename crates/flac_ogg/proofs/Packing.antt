@@ -22,7 +22,6 @@ use Rattle.flac_native.proofs.Gathered.{nth, snoc, length-snoc, each_more, sizes
 use Rattle.flac_pages.specs.declared.writing.PacketKind.{PacketKind}
 use Rattle.flac_pages.specs.declared.writing.PacketKind.TheVariants.{Header, Frame}
 use Rattle.flac_ogg.specs.Native.{mapping_spelling, block_spellings}
-use Rattle.flac_ogg.specs.Writing.{IsFrameText}
 
 -- ---- the first packet
 

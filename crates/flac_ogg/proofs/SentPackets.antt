@@ -289,6 +289,6 @@ pub spelled_long : (p : Cut) (a : Sound) (n least greatest : ℕ) (packet : List
     → length packet ≤ greatest
 spelled_long p a n least greatest packet points lt e is =
     let at : n < length e.frames = omega (arith, lt, e.are.many) in
-    let same = as_long a (frame_of p.block_size a n) (bits_of packet) (nth e.frames n) is.least (e.are_least n at) in
+    let same = as_long p.predictors a (frame_of p.block_size a n) (bits_of packet) (nth e.frames n) is.least (e.are_least n at) in
     let within = e.sizes.within n at in
     omega (arith, same, within.1, length-bits_of packet)

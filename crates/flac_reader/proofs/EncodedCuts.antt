@@ -75,7 +75,7 @@ module _ (p : Cut) (list : List Block) (a : Sound) (stream : List ℕ) (e : IsEn
   long = sym (length-bits_of stream) ∙ ap bits_in cut_in_two ∙ length-append head (joined frames)
 
   head_there : Joined grammar (opening p.profile) first (head_parts (stream_info e) others) head
-  head_there = head_joined (stream_info e) others (map framed (frames_of p.block_size a)) (stream_spelling p others a e.written.least e.written.greatest frames) e.written.stream.spelled
+  head_there = head_joined p.profile (stream_info e) others (map framed (frames_of p.block_size a)) (stream_spelling p others a e.written.least e.written.greatest frames) e.written.stream.spelled
 
   start_is : 8 * frames_start (all_blocks e) ≡ length head
   start_is = head_long p.profile (stream_info e) others head head_there (let few = e.few in omega (arith, long, few))

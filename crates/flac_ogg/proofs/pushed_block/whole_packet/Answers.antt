@@ -21,7 +21,7 @@ returns-in-Ok-clause-frame c =
     } in
     let begun : Blank (restarted writer) = record { known = blank.known; bits = blank.bits; unread = fresh_unread writer.mark blank.unread } in
     let is = head_collected (restarted writer) _ text c.collect.result begun (frames_bytes c.args.audio.now.bits wrote.0) wrote.3 c.collect.ensures.bytes in
-    frame_made c.args.audio.now (c.len-end.result - 0) c.args.number wrote.0 c.channels-channels.ensures.sound (omega (arith, c.len-end.ensures)) c.collect.result wrote.1 wrote.2.1 is
+    frame_made c.args.predictors.now c.args.audio.now (c.len-end.result - 0) c.args.number wrote.0 c.channels-channels.ensures.sound (omega (arith, c.len-end.ensures)) c.collect.result wrote.1 wrote.2.1 is
 
 pub returns-in-Ok-clause-least : goal.returns-in-Ok-clause-least
 returns-in-Ok-clause-least c =
