@@ -163,7 +163,7 @@ struct Lists {
 }
 
 /// Those lists.
-fn lists(alloc: Global) -> Result<Lists, Fail> {
+fn lists_to_set(alloc: Global) -> Result<Lists, Fail> {
     Ok(Lists {
         one: list_of(alloc, 1, 0)?,
         high: list_of(alloc, 0, 13)?,
@@ -198,7 +198,7 @@ const ANSWERS: [u8; 9] = [0, 0, 0, 51, 0, 52, 0, 0, 0];
 
 /// What a native encoder writes.
 fn pushed(alloc: Global) -> Result<([u8; 9], Collected), Fail> {
-    let lists = lists(alloc)?;
+    let lists = lists_to_set(alloc)?;
     let blocks = BlockList::new(Vec::new(alloc))?;
     let made = StreamEncoder::new(alloc, 44100, 16, 1, 16, &blocks, Collected::new(alloc));
     drop(blocks);
@@ -209,7 +209,7 @@ fn pushed(alloc: Global) -> Result<([u8; 9], Collected), Fail> {
 
 /// What an Ogg encoder writes.
 fn pushed_pages(alloc: Global) -> Result<([u8; 9], Collected), Fail> {
-    let lists = lists(alloc)?;
+    let lists = lists_to_set(alloc)?;
     let blocks = no_comments(alloc)?;
     let made = OggEncoder::new(alloc, 1, 44100, 16, 1, 16, &blocks, Collected::new(alloc));
     drop(blocks);
