@@ -1,6 +1,7 @@
 use Rattle.std.proofs.Common.{◌≤◌, ◌++◌, map, sym, ap, subst, ◌∙◌, arith}
+use Rattle.flac_subframe.specs.Room.{Room}
 use Rattle.flac_frame.specs.Audio.{samples_each}
-use Rattle.flac_native.specs.Pushing.{Pushed, behind_block, spent_with}
+use Rattle.flac_native.specs.Pushing.{Pushed, shape_of, behind_block, spent_with}
 use Rattle.flac_native.proofs.Pushing.{never_write, not_refused, pushes, begins_push}
 use Rattle.flac_native.proofs.stream_encoder.StreamEncoder.push.Goals as goal
 
@@ -25,7 +26,7 @@ block_bytes-requires-clause-some g c = let a = not_refused _ _ _ _ c.self.view_i
 pub block_bytes-requires-clause-room : goal.block_bytes-requires-clause-room
 block_bytes-requires-clause-room g c =
     let a = not_refused _ _ _ _ c.self.view_is c.self.invariant.shape c.push_fault.ensures c.in_default.is in
-    subst (λ n. samples_each (map (λ b. b.now) c.args.block.now) ≤ n) (sym c.self.invariant.buffers) a.most
+    subst (λ (r : Room). samples_each (map (λ b. b.now) c.args.block.now) ≤ r.block) (sym c.self.invariant.buffers) a.most
 
 pub block_bytes-requires-clause-number : goal.block_bytes-requires-clause-number
 block_bytes-requires-clause-number g c = let a = not_refused _ _ _ _ c.self.view_is c.self.invariant.shape c.push_fault.ensures c.in_default.is in a.number
@@ -40,6 +41,7 @@ invariant_of-self-in-Ok-send_all g c =
     let a = not_refused _ _ _ _ c.self.view_is c.self.invariant.shape c.push_fault.ensures c.in_default.is in
     record {
       shape = c.self.invariant.shape;
+      predictors = c.self.invariant.predictors;
       buffers = c.block_bytes.ensures.kept ∙ c.self.invariant.buffers;
       number = omega (arith, a.number);
       samples = omega (arith, a.samples, c.block_len-len.ensures);
@@ -49,7 +51,8 @@ pub returns-in-Ok-send_all-clause-written : goal.returns-in-Ok-send_all-clause-w
 returns-in-Ok-send_all-clause-written g c =
     let a = not_refused _ _ _ _ c.self.view_is c.self.invariant.shape c.push_fault.ensures c.in_default.is in
     let old : Pushed g.row.W.Denot = record {
-      shape = record { rate = c.self.inside.rate; bits = c.self.inside.bits; channels = c.self.inside.channels; block_size = c.self.inside.block_size };
+      shape = shape_of c.self.inside.format;
+      predictors = c.self.inside.predictors.items;
       number = c.self.inside.number;
       samples = c.self.inside.samples;
       ended = c.self.inside.ended;
@@ -65,7 +68,8 @@ pub returns-clause-begun : goal.returns-clause-begun
 returns-clause-begun g c =
     let a = not_refused _ _ _ _ c.self.view_is c.self.invariant.shape c.push_fault.ensures c.in_default.is in
     let old : Pushed g.row.W.Denot = record {
-      shape = record { rate = c.self.inside.rate; bits = c.self.inside.bits; channels = c.self.inside.channels; block_size = c.self.inside.block_size };
+      shape = shape_of c.self.inside.format;
+      predictors = c.self.inside.predictors.items;
       number = c.self.inside.number;
       samples = c.self.inside.samples;
       ended = c.self.inside.ended;

@@ -1,23 +1,23 @@
 use Rattle.std.proofs.Common.{◌++◌, sym, ap, ◌∙◌, arith}
 use Rattle.std.proofs.lemmas.List.{append-nil}
 use Rattle.flac_bits.specs.Bits.{bits_of}
-use Rattle.flac_native.specs.Pushing.{Shape, open_info}
+use Rattle.flac_native.specs.Pushing.{Shape, shape_of, open_info}
 use Rattle.flac_native.specs.Seeking.{table_of}
 use Rattle.flac_native.specs.Writing.{head_spelling}
 use Rattle.flac_native.proofs.Pushing.{shaped, opened}
-use Rattle.flac_native.proofs.stream_encoder.StreamEncoder.new.Goals as goal
+use Rattle.flac_native.proofs.stream_encoder.StreamEncoder.new_in.Goals as goal
 
-pub new-requires : goal.new-requires
-new-requires g c = let q = shaped _ (sym c.shape_fault.ensures ∙ c.in_default.is) in omega (arith, q.small)
+pub new_in-requires : goal.new_in-requires
+new_in-requires g c = let q = shaped _ (sym c.fault.ensures ∙ c.in_default.is) in omega (arith, q.small)
 
 pub returns-in-Ok-send_head-clause-stands : goal.returns-in-Ok-send_head-clause-stands
 returns-in-Ok-send_head-clause-stands g c =
-    opened (record { rate = c.args.rate; bits = c.args.bits; channels = c.args.channels; block_size = c.args.block_size }) c.send_head.new.target c.args.list.now (sym c.shape_fault.ensures ∙ c.in_default.is)
+    opened (shape_of c.args.format.now) c.send_head.new.target c.args.list.now (sym c.fault.ensures ∙ c.in_default.is)
     c.blocks-blocks.ensures.good c.blocks-blocks.ensures.fits
 
 pub returns-in-Ok-send_head-clause-written : goal.returns-in-Ok-send_head-clause-written
 returns-in-Ok-send_head-clause-written g c = λ known.
-    let shape : Shape = record { rate = c.args.rate; bits = c.args.bits; channels = c.args.channels; block_size = c.args.block_size } in
+    let shape : Shape = shape_of c.args.format.now in
     let old = bits_of (g.W.Target.sent c.args.target) in
     let list = c.args.list.now in
     c.in-Ok-send_head.ensures.sent known
