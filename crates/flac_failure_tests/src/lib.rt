@@ -3,7 +3,11 @@
 #![tactic(auto)]
 
 #[cfg(test)]
+mod memory;
+#[cfg(test)]
 mod pieces;
+#[cfg(test)]
+mod predicted;
 #[cfg(test)]
 mod reads;
 #[cfg(test)]

@@ -2,7 +2,10 @@
 
 use crate::rows::bytes_of;
 use flac_bits::{BitReader, BitWriter, Collected, Memory, Why};
-use flac_header::{FrameHeader, headers_are_spelled, read_header, subset_allows, write_header};
+use flac_header::{
+    FrameHeader, Profile, depth_code_in, headers_are_spelled, rate_code_in, read_header,
+    subset_allows, write_header,
+};
 use std::alloc::Global;
 use std::test::Fail;
 
@@ -127,4 +130,88 @@ fn codes_chosen(rt: HostRuntime) -> Result<(), Fail> {
         assert!(rt; is_chosen(rt.alloc(), row)?, "{row}");
     }
     Ok(())
+}
+
+/// Block size, rate, channel code, depth and frame number; the header that is chosen for them in the streamable subset;
+/// and the one that is chosen without its limits, which leaves a rate or a depth without a code to STREAMINFO.
+const IN_PROFILES: &str = "16 44100 0 16 0 | fff86908000f30 | fff86908000f30
+16 655350 0 32 0 | fff86e0e000fffff49 | fff86e0e000fffff49
+16 65537 0 5 0 |  | fff86000000fc7
+16 65537 0 16 0 |  | fff86008000f96
+16 44100 0 5 0 |  | fff86900000f61
+16 655360 0 24 0 |  | fff8600c000f3d
+16 1048575 0 4 0 |  | fff86000000fc7
+65535 65537 7 5 2147483647 |  | fff87070fdbfbfbfbfbffffeac
+16 0 0 16 0 |  |
+16 1048576 0 16 0 |  |
+16 44100 0 3 0 |  |
+16 44100 0 33 0 |  |
+65536 65537 0 5 0 |  |
+16 65537 11 5 0 |  |
+16 65537 0 5 2147483648 |  |";
+
+/// The number of some words that has this place, 0 if it is no number of 32 bits.
+fn number_at(words: &str, place: usize) -> u32 {
+    let word = words.split_whitespace().nth(place).unwrap_or("");
+    word.parse::<u32>().unwrap_or(0)
+}
+
+/// The header that is chosen in a profile for the numbers of a row.
+fn chosen_in(profile: Profile, words: &str) -> Option<FrameHeader> {
+    let (size, rate) = (number_at(words, 0), number_at(words, 1));
+    let (code, depth) = (number_at(words, 2).min(255) as u8, number_at(words, 3));
+    FrameHeader::chosen_in(
+        profile,
+        size,
+        rate,
+        code,
+        depth,
+        u64::from(number_at(words, 4)),
+    )
+}
+
+/// Whether these bytes are that header; none if there is no such header.
+fn is_chosen_in(alloc: Global, profile: Profile, words: &str, wanted: &str) -> Result<bool, Fail> {
+    let wanted = hex::decode(alloc, wanted)?;
+    let Some(header) = chosen_in(profile, words) else {
+        return Ok(wanted.is_empty());
+    };
+    let found = written(alloc, &header)?;
+    Ok(found.as_slice() == wanted.as_slice())
+}
+
+/// Whether the headers of a row are chosen.
+fn are_chosen(alloc: Global, row: &str) -> Result<bool, Fail> {
+    let (words, rest) = row.split_once(" | ").unwrap_or((row, ""));
+    let (subset, lax) = rest.split_once(" |").unwrap_or((rest, ""));
+    let first = is_chosen_in(alloc, Profile::Subset, words, subset)?;
+    Ok(first && is_chosen_in(alloc, Profile::Lax, words, lax.trim())?)
+}
+
+#[test]
+fn chosen_in_profiles(rt: HostRuntime) -> Result<(), Fail> {
+    for row in IN_PROFILES.lines() {
+        assert!(rt; are_chosen(rt.alloc(), row)?, "{row}");
+    }
+    Ok(())
+}
+
+/// Codes of rates and of depths in both profiles: 0 leaves them to STREAMINFO.
+#[test]
+fn codes_in_profiles(rt: HostRuntime) {
+    assert!(rt; rate_code_in(Profile::Subset, 65537).is_none());
+    assert!(rt; rate_code_in(Profile::Lax, 65537) == Some(0));
+    assert!(rt; rate_code_in(Profile::Lax, 1048575) == Some(0));
+    assert!(rt; rate_code_in(Profile::Lax, 1048576).is_none());
+    assert!(rt; rate_code_in(Profile::Lax, 0).is_none());
+    assert!(rt; rate_code_in(Profile::Lax, 44100) == Some(9));
+    assert!(rt; rate_code_in(Profile::Lax, 655350) == Some(14));
+    assert!(rt; depth_code_in(Profile::Subset, 5).is_none());
+    assert!(rt; depth_code_in(Profile::Lax, 3).is_none());
+    assert!(rt; depth_code_in(Profile::Lax, 4) == Some(0));
+    assert!(rt; depth_code_in(Profile::Lax, 5) == Some(0));
+    assert!(rt; depth_code_in(Profile::Lax, 16) == Some(4));
+    assert!(rt; depth_code_in(Profile::Lax, 31) == Some(0));
+    assert!(rt; depth_code_in(Profile::Lax, 32) == Some(7));
+    assert!(rt; depth_code_in(Profile::Lax, 33).is_none());
 }

@@ -1,7 +1,7 @@
 //! Frames that are chosen before they are written, and the place that they are written into: the sample of `ONE_SAMPLE`, whose frame begins at byte 42.
 
 ghost use Rattle.std.specs.Prelude.{◌≡◌, true};
-ghost use Rattle.flac_native.specs.Given.{fits_plan};
+ghost use Rattle.flac_native.specs.Given.{fits_plan, room_of};
 
 use crate::ogg::sample;
 use flac_bits::{Target, send_all};
@@ -29,7 +29,7 @@ fn chosen(
     buffers: &mut EncodeBuffers,
 ) -> Result<FirstFrame, Why>
     requires fits { fits_plan plan.now audio.now ≡ true }
-    requires room { buffers.old ≡ plan.now.block_size }
+    requires room { buffers.old ≡ room_of plan.now }
 {
     let _size = plan.block_size();
     let frames = ChosenFrames::new(alloc, plan, audio, buffers)?;

@@ -1,17 +1,32 @@
 //! Streams that are written: samples of RFC 9639, appendix D.1, no samples, and blocks of 16 samples whose least subframe is known.
 
+ghost use Rattle.std.specs.Prelude.{◌≡◌, true};
+ghost use Rattle.flac_native.specs.Given.{fits_plan};
+
 use crate::rows::channels_of;
 use flac_bits::Collected;
 use flac_frame::Audio;
 use flac_meta::BlockList;
-use flac_native::{Plan, encode};
+use flac_native::{Plan, Profile, encode};
 use flac_vectors::{EQUAL_8, EQUAL_24, EQUAL_32, NO_SAMPLES, ONE_SAMPLE, RISING, SILENT};
 use std::alloc::Global;
 use std::mem::drop;
 use std::process::Abort;
 use std::test::Fail;
 
-/// A stream of some samples without further blocks.
+/// A stream of some samples by a plan, without further blocks.
+pub(crate) fn encoded_by(alloc: Global, plan: &Plan, audio: &Audio) -> Result<Vec<u8>, Fail>
+    requires { fits_plan plan.now audio.now ≡ true }
+{
+    let list = BlockList::new(Vec::new(alloc))?;
+    let mut target = Collected::new(alloc);
+    let outcome = encode(alloc, plan, &list, audio, &mut target);
+    drop(list);
+    outcome?;
+    Ok(target.into_bytes())
+}
+
+/// The same in blocks of so many samples.
 pub(crate) fn encoded(
     alloc: Global,
     audio: &Audio,
@@ -19,12 +34,7 @@ pub(crate) fn encoded(
     every: u32,
 ) -> Result<Vec<u8>, Fail> {
     let plan = Plan::new(block, audio, every)?;
-    let list = BlockList::new(Vec::new(alloc))?;
-    let mut target = Collected::new(alloc);
-    let outcome = encode(alloc, &plan, &list, audio, &mut target);
-    drop(list);
-    outcome?;
-    Ok(target.into_bytes())
+    encoded_by(alloc, &plan, audio)
 }
 
 /// Encodes channels in blocks of so many samples, and compares what is written.
@@ -82,17 +92,44 @@ fn no_samples(rt: HostRuntime) -> Result<(), Fail> {
     writes_channels(&rt, rt.alloc(), 4096, 16, channels, NO_SAMPLES)
 }
 
-/// Whether a plan that is made for the samples of these channels fits them.
-fn fits(alloc: Global, words: &str) -> Result<bool, Fail> {
+/// Whether a plan that is made for the samples of these channels fits them, and whether it fits the same in another
+/// profile.
+fn fits(alloc: Global, words: &str) -> Result<(bool, bool), Fail> {
     let audio = Audio::new(44100, 16, channels_of(alloc, words)?)?;
+    let other = Audio::new_in(Profile::Lax, 44100, 16, channels_of(alloc, words)?)?;
     let plan = Plan::new(4096, &audio, 0)?;
-    Ok(plan.fits(&audio))
+    Ok((plan.fits(&audio), plan.fits(&other)))
 }
 
 /// A plan fits the samples that it was made for.
 #[test]
 fn plans_fit(rt: HostRuntime) -> Result<(), Fail> {
-    assert!(rt; fits(rt.alloc(), ";25588;10416")?);
-    assert!(rt; fits(rt.alloc(), ";;")?);
+    assert!(rt; fits(rt.alloc(), ";25588;10416")? == (true, false));
+    assert!(rt; fits(rt.alloc(), ";;")? == (true, false));
+    Ok(())
+}
+
+/// The number of the fault for which blocks of so many samples are refused at a rate, 0 if they are not.
+fn block_refused(alloc: Global, profile: Profile, rate: u32, block: u32) -> Result<u8, Fail> {
+    let audio = Audio::new_in(profile, rate, 16, channels_of(alloc, ";0")?)?;
+    match Plan::new(block, &audio, 0) {
+        Ok(plan) => Ok(if plan.block_size() == block { 0 } else { 255 }),
+        Err(fault) => Ok(fault.number()),
+    }
+}
+
+/// The limits of a block in both profiles (RFC 9639, sections 7 and 8.2).
+#[test]
+fn blocks_of_plans(rt: HostRuntime) -> Result<(), Fail> {
+    let (subset, lax) = (Profile::Subset, Profile::Lax);
+    assert!(rt; block_refused(rt.alloc(), subset, 44100, 4608)? == 0);
+    assert!(rt; block_refused(rt.alloc(), subset, 44100, 8192)? == 46);
+    assert!(rt; block_refused(rt.alloc(), subset, 96000, 16384)? == 0);
+    assert!(rt; block_refused(rt.alloc(), subset, 96000, 16385)? == 46);
+    assert!(rt; block_refused(rt.alloc(), lax, 44100, 16)? == 0);
+    assert!(rt; block_refused(rt.alloc(), lax, 44100, 15)? == 46);
+    assert!(rt; block_refused(rt.alloc(), lax, 44100, 8192)? == 0);
+    assert!(rt; block_refused(rt.alloc(), lax, 44100, 65535)? == 0);
+    assert!(rt; block_refused(rt.alloc(), lax, 44100, 65536)? == 46);
     Ok(())
 }

@@ -2,7 +2,7 @@
 
 ghost use Rattle.std.specs.Prelude.{◌≡◌, IfOk};
 
-use crate::rows::{channels_of, fields_of, pair_of};
+use crate::rows::{channels_of, fields_of, pair_of, profile_of};
 use flac_bits::{BitReader, BitWriter, Collected, Memory, Target, Why};
 use flac_frame::{
     Audio, EncodeBuffers, FrameBuffers, FrameChoice, FrameView, SetupFault, channels_are_joined,
@@ -117,18 +117,30 @@ fn out_of_range(rt: HostRuntime) -> Result<(), Fail> {
     Ok(())
 }
 
-/// Sample rate and bit depth; the channels, each after a `;`; and why they are refused.
+/// Sample rate and bit depth, after `lax ` if they are not of the streamable subset; the channels, each after a `;`; and
+/// why they are refused.
 const REFUSED: &str = "65537 10 | ;1; | 40 BadRate
 44100 10 | ;1; | 41 BadDepth
 44100 16 | ;32768; | 43 LengthsDiffer
 44100 16 | ;32768;0 | 44 SampleTooLarge
-384000 32 |  | 42 BadChannels";
+384000 32 |  | 42 BadChannels
+lax 0 3 | ;1; | 40 BadRate
+lax 1048576 3 | ;1; | 40 BadRate
+lax 65537 3 | ;1; | 41 BadDepth
+lax 65537 33 | ;1; | 41 BadDepth
+lax 65537 5 |  | 42 BadChannels
+lax 65537 5 | ;;;;;;;;; | 42 BadChannels
+lax 65537 5 | ;16; | 43 LengthsDiffer
+lax 65537 5 | ;16 | 44 SampleTooLarge
+lax 1048575 4 | ;7;-9 | 44 SampleTooLarge";
 
-/// Samples by their rate and bit depth, and by their channels, each after a `;`.
+/// Samples by their rate and bit depth, after `lax ` if they are not of the streamable subset, and by their channels, each
+/// after a `;`.
 fn audio_of(alloc: Global, format: &str, words: &str) -> Result<Result<Audio, SetupFault>, Fail> {
+    let (profile, format) = profile_of(format);
     let (rate, bits) = pair_of(format)?;
     let channels = channels_of(alloc, words)?;
-    Ok(Audio::new(rate, bits, channels))
+    Ok(Audio::new_in(profile, rate, bits, channels))
 }
 
 /// The fault of what was refused.
@@ -168,8 +180,23 @@ fn shape_of(audio: &Audio) -> (u32, u32, usize, usize, bool) {
 fn audio(rt: HostRuntime) -> Result<(), Fail> {
     let refused = fault_in(Audio::new(384000, 32, Vec::new(rt.alloc())));
     assert!(rt; refused == Some(SetupFault::BadChannels));
-    let audio = audio_of(rt.alloc(), "7000 12", ";2047 0;-2048 1")??;
+    let audio = Audio::new(7000, 12, channels_of(rt.alloc(), ";2047 0;-2048 1")?)?;
     assert!(rt; shape_of(&audio) == (7000, 12, 2, 2, false));
+    assert!(rt; audio.profile() == Profile::Subset);
+    Ok(())
+}
+
+/// The least and the greatest rate and depth outside the streamable subset.
+#[test]
+fn audio_outside_the_subset(rt: HostRuntime) -> Result<(), Fail> {
+    let audio = audio_of(rt.alloc(), "lax 1048575 4", ";7 0;-8 1")??;
+    assert!(rt; shape_of(&audio) == (1048575, 4, 2, 2, false));
+    assert!(rt; audio.profile() == Profile::Lax);
+    let audio = audio_of(rt.alloc(), "lax 1 32", ";2147483647")??;
+    assert!(rt; shape_of(&audio) == (1, 32, 1, 1, false));
+    let audio = audio_of(rt.alloc(), "lax 44100 16", ";")??;
+    assert!(rt; shape_of(&audio) == (44100, 16, 0, 1, true));
+    assert!(rt; audio.profile() == Profile::Lax);
     Ok(())
 }
 
@@ -181,7 +208,7 @@ fn write_all<W: Target>(alloc: Global, audio: &Audio, writer: &mut BitWriter<W>)
     if len == 0 || len > 16 {
         return Err(Why::BlockSize);
     }
-    let mut buffers = EncodeBuffers::new(alloc, 16)?;
+    let mut buffers = EncodeBuffers::new_in(alloc, audio.profile(), 16)?;
     let bytes = encode_frame(audio, 0..len, 0, &mut buffers, writer);
     drop(buffers);
     let bytes = bytes?;
@@ -189,7 +216,7 @@ fn write_all<W: Target>(alloc: Global, audio: &Audio, writer: &mut BitWriter<W>)
     Ok(bytes)
 }
 
-/// The same in two steps: chooses the frame, counts its bytes, and then writes it.
+/// The same in two steps: chooses the frame, keeps that choice, counts its bytes, and then writes it.
 fn write_chosen<W: Target>(
     alloc: Global,
     audio: &Audio,
@@ -201,19 +228,23 @@ fn write_chosen<W: Target>(
     if len == 0 || len > 16 {
         return Err(Why::BlockSize);
     }
-    let mut buffers = EncodeBuffers::new(alloc, 16)?;
-    let mut choice = FrameChoice::new(alloc, audio.channels().len())?;
-    choose_frame(audio, 0..len, 0, &mut buffers, &mut choice);
-    let bytes = choice.frame_bytes(audio, len, 0);
-    let outcome = write_frame(audio, 0..len, 0, &choice, &mut buffers, writer);
+    let profile = audio.profile();
+    let mut buffers = EncodeBuffers::new_in(alloc, profile, 16)?;
+    let mut choice = FrameChoice::new(alloc, profile, audio.channels().len())?;
+    choose_frame(audio, 0..len, 0, &[], &mut buffers, &mut choice);
+    let kept = choice.kept(alloc)?;
+    let bytes = kept.frame_bytes(audio, len, 0);
+    let outcome = write_frame(audio, 0..len, 0, &kept, &[], &mut buffers, writer);
     drop(buffers);
     drop(choice);
+    drop(kept);
     outcome?;
     writer.finish()?;
     Ok(bytes)
 }
 
-/// Sample rate and bit depth; the channels, each after a `;`; and the frame that is written of them.
+/// Sample rate and bit depth, after `lax ` if they are not of the streamable subset; the channels, each after a `;`; and
+/// the frame that is written of them.
 const WRITTEN: &str =
     "# Independent channels, the only one, left and side, side and right, middle and side.
 44100 16 | ;25588;10416 | fff869180000bf0158fd01128b5ab2
@@ -224,7 +255,13 @@ const WRITTEN: &str =
 # Of as many bits: independent before left and side, left and side before side and right, side and right before middle and side.
 44100 16 | ;-1;3 | fff869180000bf10001100098092e0
 44100 8 | ;-8 -6;-10 -8 | fff8698200019603fcfa0301306d
-44100 16 | ;4;2 | fff869980000b411800446001063ed";
+44100 16 | ;4;2 | fff869980000b411800446001063ed
+# Outside the streamable subset: a rate or a depth without a code, or neither; middle and side of 31 bits; and as in the subset.
+lax 65537 5 | ;0 0 0 0 0 0 0 0 0 0 0 0 0 0 0 0 | fff86000000fc700000572
+lax 65537 5 | ;15;-16 | fff86010000048007808c0bd0e
+lax 1048575 4 | ;7 7 7;7 7 7;7 7 7 | fff860200002a700700700702cac
+lax 44100 31 | ;1073741823;-1073741824 | fff869a000000410001007fffffff03eb4
+lax 44100 16 | ;25588;10416 | fff869180000bf0158fd01128b5ab2";
 
 /// The frame of some channels: its length as `encode_frame` returns it, and its bytes.
 fn written(alloc: Global, format: &str, words: &str) -> Result<(u64, Vec<u8>), Fail> {

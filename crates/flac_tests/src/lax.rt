@@ -33,7 +33,7 @@ const ROWS: &str =
 664c614380000022001000100000000000000ac440f00000001000000000000000000000000000000000fff86908000f300000004680 | none | none";
 
 /// Why bytes are refused; `none` if they are a stream.
-fn refusal(alloc: Global, bytes: &[u8], profile: Profile) -> Result<String, Fail> {
+pub(crate) fn refusal(alloc: Global, bytes: &[u8], profile: Profile) -> Result<String, Fail> {
     match verify(alloc, bytes, profile) {
         Ok(()) => Ok(format!(in alloc; "none")?),
         Err(fault) => Ok(format!(in alloc; "{fault}")?),

@@ -15,11 +15,15 @@ mod frames;
 #[cfg(test)]
 mod lax;
 #[cfg(test)]
+mod lax_written;
+#[cfg(test)]
 mod ogg;
 #[cfg(test)]
 mod ogg_decoding;
 #[cfg(test)]
 mod parts;
+#[cfg(test)]
+mod predicted;
 #[cfg(test)]
 mod predictors;
 #[cfg(test)]

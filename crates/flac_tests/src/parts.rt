@@ -131,8 +131,12 @@ fn numbers_of_faults(rt: HostRuntime) {
     assert!(rt; SetupFault::TooLong.number() == 45);
     assert!(rt; SetupFault::BadBlockSize.number() == 46);
     assert!(rt; SetupFault::TooManyPoints.number() == 47);
+    assert!(rt; SetupFault::PredictorOrder.number() == 51);
+    assert!(rt; SetupFault::TooManyPredictors.number() == 52);
     assert!(rt; EncodeFault::Memory.as_str() == "2 Memory");
     assert!(rt; SetupFault::BadRate.as_str() == "40 BadRate");
+    assert!(rt; SetupFault::PredictorOrder.as_str() == "51 PredictorOrder");
+    assert!(rt; SetupFault::TooManyPredictors.as_str() == "52 TooManyPredictors");
 }
 
 /// Checks how something prints.

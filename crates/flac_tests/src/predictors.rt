@@ -5,6 +5,7 @@ ghost use Rattle.std.specs.Prelude.{◌≡◌};
 use crate::subframes::all_fit;
 use flac_bits::{BitWriter, Collected, Target, Why};
 use flac_frame::{Audio, EncodeBuffers, encode_frame_with, frame_widened_is_plain, greatest_order};
+use flac_header::Profile;
 use flac_subframe::{
     Choice, Limits, LinearPredictor, choose, choose_with, choose_with_into,
     widened_family_is_plain, write_subframe_with, write_subframe_with_into,
@@ -272,10 +273,11 @@ fn write_frame_of<W: Target>(
     if len == 0 || len > 16 {
         return Err(Why::BlockSize);
     }
-    if !LinearPredictor::are_within(predictors, greatest_order(audio.rate())) {
+    let profile = audio.profile();
+    if !LinearPredictor::are_within(predictors, greatest_order(profile, audio.rate())) {
         return Err(Why::NotSubset);
     }
-    let mut buffers = EncodeBuffers::new(alloc, 16)?;
+    let mut buffers = EncodeBuffers::new_in(alloc, profile, 16)?;
     let bytes = encode_frame_with(audio, 0..len, 0, predictors, &mut buffers, writer);
     drop(buffers);
     let bytes = bytes?;
@@ -283,9 +285,10 @@ fn write_frame_of<W: Target>(
     Ok(bytes)
 }
 
-/// The frame of two channels or one, each of the same 16 samples at 44100 Hz.
+/// The frame of two channels or one in a profile, each of the same 16 samples at 44100 Hz.
 fn frame_of(
     alloc: Global,
+    profile: Profile,
     channels: usize,
     predictors: &[LinearPredictor],
 ) -> Result<Vec<u8>, Fail> {
@@ -298,7 +301,7 @@ fn frame_of(
         }
         lists.push(samples)?;
     }
-    let audio = Audio::new(44100, 16, lists)?;
+    let audio = Audio::new_in(profile, 44100, 16, lists)?;
     let mut writer = BitWriter::new(Collected::new(alloc));
     let bytes = write_frame_of(alloc, &audio, predictors, &mut writer)?;
     let written = writer.into_target().into_bytes();
@@ -317,21 +320,25 @@ fn writes_a_frame(rt: HostRuntime) -> Result<(), Fail> {
         return Ok(());
     };
     let list = [predictor];
-    let bytes = frame_of(rt.alloc(), 1, &list)?;
+    let (subset, lax) = (Profile::Subset, Profile::Lax);
+    let bytes = frame_of(rt.alloc(), subset, 1, &list)?;
     let wanted = [
         0xFF, 0xF8, 0x69, 0x08, 0x00, 0x0F, 0x30, 0x40, 0x03, 0xE9, 0x00, 0x40, 0xF0, 0x00, 0xB5,
         0xAA,
     ];
     assert!(rt; bytes.as_slice() == wanted.as_slice());
-    assert!(rt; frame_of(rt.alloc(), 1, &[])?.len() == 34);
+    assert!(rt; frame_of(rt.alloc(), lax, 1, &list)? == bytes);
+    assert!(rt; frame_of(rt.alloc(), subset, 1, &[])?.len() == 34);
     // Two channels that are the same: left and side, whose side is constant in 8 + 17 bits.
-    let both = frame_of(rt.alloc(), 2, &list)?;
+    let both = frame_of(rt.alloc(), subset, 2, &list)?;
     assert!(rt; both.get(3..4) == Some([0x88].as_slice()));
     Ok(())
 }
 
 #[test]
 fn knows_the_greatest_order(rt: HostRuntime) {
-    assert!(rt; greatest_order(1) == 12 && greatest_order(48000) == 12);
-    assert!(rt; greatest_order(48001) == 32 && greatest_order(655350) == 32);
+    let (subset, lax) = (Profile::Subset, Profile::Lax);
+    assert!(rt; greatest_order(subset, 1) == 12 && greatest_order(subset, 48000) == 12);
+    assert!(rt; greatest_order(subset, 48001) == 32 && greatest_order(subset, 655350) == 32);
+    assert!(rt; greatest_order(lax, 1) == 32 && greatest_order(lax, 1048575) == 32);
 }

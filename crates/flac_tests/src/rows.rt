@@ -1,7 +1,16 @@
 //! Rows of the tables.
 
+use flac_header::Profile;
 use std::alloc::Global;
 use std::test::Fail;
+
+/// The profile of a format, which begins with `lax ` if it is not of the streamable subset, and its other words.
+pub(crate) fn profile_of(format: &str) -> (Profile, &str) {
+    match format.strip_prefix("lax ") {
+        Some(rest) => (Profile::Lax, rest),
+        None => (Profile::Subset, format),
+    }
+}
 
 /// The three fields of a row, each after a ` | `.
 pub(crate) fn fields_of(row: &str) -> (&str, &str, &str) {

@@ -245,7 +245,7 @@ fn step(state: u64) -> u64 {
 }
 
 /// Noise of 18 bits for a run of samples and of 2 bits for as many, by turns. One of the first samples is odd.
-fn bursts(alloc: Global, len: usize, run: usize) -> Result<Vec<i64>, Fail> {
+pub(crate) fn bursts(alloc: Global, len: usize, run: usize) -> Result<Vec<i64>, Fail> {
     let mut samples = vec![in alloc; 0i64; len]?;
     let mut state = 0x9E37_79B9_7F4A_7C15;
     for i in 0..samples.len() {
