@@ -9,6 +9,7 @@ mod frames;
 mod lines;
 mod list;
 mod listing;
+mod predictors;
 mod raw;
 mod retagging;
 mod runs;
