@@ -9,9 +9,9 @@ use Rattle.flac_bits.specs.Written.{Written, Adds, Fails, Writes}
 use Rattle.flac_bits.specs.declared.why.Why.{Why}
 use Rattle.flac_header.specs.Header.{Header}
 use Rattle.flac_header.specs.Spelling.{header_spelling, restarted}
-use Rattle.flac_subframe.specs.declared.chosen.Choice.{Choice}
+use Rattle.flac_subframe.specs.declared.wide.WideChoice.{WideChoice}
 use Rattle.flac_subframe.specs.declared.limits.Limits.{Limits}
-use Rattle.flac_subframe.specs.Family.{IsMadeWith, form_with}
+use Rattle.flac_subframe.specs.Family.{IsMadeIn, form_in}
 use Rattle.flac_subframe.specs.Spelling.{subframe_spelling, IsSubframe}
 use Rattle.flac_subframe.specs.Subframe.{Form, samples_of}
 use Rattle.flac_frame.specs.Chosen.{forms_of, AreMade, AreChosen}
@@ -25,72 +25,72 @@ use Rattle.flac_frame.proofs.Wholes.{first_fails}
 
 -- ---- one more
 
-made_more : (ps : List LinearPredictor) (cs : List Choice) (block : List (List ℤ)) (c : Choice) (s : List ℤ) → length cs ≡ length block → AreMade ps cs block → IsMadeWith ps c s → AreMade ps (cs ++ c ∷ []) (block ++ s ∷ [])
+made_more : (ps : List LinearPredictor) (cs : List WideChoice) (block : List (List ℤ)) (c : WideChoice) (s : List ℤ) → length cs ≡ length block → AreMade ps cs block → IsMadeIn ps c s → AreMade ps (cs ++ c ∷ []) (block ++ s ∷ [])
 made_more ps [] [] c s e h k = (k, tt)
 made_more ps [] (t ∷ ts) c s e h k = absurd (omega (arith, e))
 made_more ps (d ∷ ds) [] c s e h k = absurd (omega (arith, e))
 made_more ps (d ∷ ds) (t ∷ ts) c s e h k = (h.0, made_more ps ds ts c s (omega (arith, e)) h.1 k)
 
-forms_more : (ps : List LinearPredictor) (cs : List Choice) (block : List (List ℤ)) (c : Choice) (s : List ℤ) → length cs ≡ length block → forms_of ps (cs ++ c ∷ []) (block ++ s ∷ []) ≡ forms_of ps cs block ++ form_with ps c s ∷ []
+forms_more : (ps : List LinearPredictor) (cs : List WideChoice) (block : List (List ℤ)) (c : WideChoice) (s : List ℤ) → length cs ≡ length block → forms_of ps (cs ++ c ∷ []) (block ++ s ∷ []) ≡ forms_of ps cs block ++ form_in ps c s ∷ []
 forms_more ps [] [] c s e = refl
 forms_more ps [] (t ∷ ts) c s e = absurd (omega (arith, e))
 forms_more ps (d ∷ ds) [] c s e = absurd (omega (arith, e))
-forms_more ps (d ∷ ds) (t ∷ ts) c s e = ap (λ l. form_with ps d t ∷ l) (forms_more ps ds ts c s (omega (arith, e)))
+forms_more ps (d ∷ ds) (t ∷ ts) c s e = ap (λ l. form_in ps d t ∷ l) (forms_more ps ds ts c s (omega (arith, e)))
 
 -- what is chosen of the first so many
-pub record FirstChosen (ps : List LinearPredictor) (depth size : ℕ) (choices : List Choice) (i : ℕ) (block : List (List ℤ)) (bits : ℕ) : Type 0 where
-  pub chosen : AreChosen ps depth size (take i choices) block
+pub record FirstChosen (most : ℕ) (ps : List LinearPredictor) (depth size : ℕ) (choices : List WideChoice) (i : ℕ) (block : List (List ℤ)) (bits : ℕ) : Type 0 where
+  pub chosen : AreChosen most ps depth size (take i choices) block
   pub bits_are : bits ≡ length (flat_map (subframe_spelling depth) (forms_of ps (take i choices) block))
 
-pub none_chosen : (ps : List LinearPredictor) (depth size : ℕ) (choices : List Choice) → FirstChosen ps depth size choices 0 [] 0
-none_chosen ps depth size choices = record { chosen = record { made = tt; are = tt; least = tt }; bits_are = refl }
+pub none_chosen : (most : ℕ) (ps : List LinearPredictor) (depth size : ℕ) (choices : List WideChoice) → FirstChosen most ps depth size choices 0 [] 0
+none_chosen most ps depth size choices = record { chosen = record { made = tt; are = tt; least = tt }; bits_are = refl }
 
-module _ (ps : List LinearPredictor) (depth size : ℕ) (deep : 1 ≤ depth) (some : 1 ≤ size) where
-  pub one_chosen : (choices : List Choice) (i : ℕ) (block : List (List ℤ)) (c : Choice) (s : List ℤ) (bits more : ℕ) → length block ≡ i → i < length choices → FirstChosen ps depth size choices i block bits
-      → IsMadeWith ps c s → ((limits : Limits) → 8 ≤ limits.partition → AreWithin limits.linear ps → IsSubframe depth (length s) limits (form_with ps c s)) → samples_of depth (length s) (form_with ps c s) ≡ Some s → IsLeastFor ps depth s (form_with ps c s)
-      → more ≡ length (subframe_spelling depth (form_with ps c s)) → length s ≡ size → FirstChosen ps depth size (set choices i c) (i + 1) (block ++ s ∷ []) (bits + more)
+module _ (most : ℕ) (ps : List LinearPredictor) (depth size : ℕ) (deep : 1 ≤ depth) (some : 1 ≤ size) where
+  pub one_chosen : (choices : List WideChoice) (i : ℕ) (block : List (List ℤ)) (c : WideChoice) (s : List ℤ) (bits more : ℕ) → length block ≡ i → i < length choices → FirstChosen most ps depth size choices i block bits
+      → IsMadeIn ps c s → ((limits : Limits) → most ≤ limits.partition → AreWithin limits.linear ps → IsSubframe depth (length s) limits (form_in ps c s)) → samples_of depth (length s) (form_in ps c s) ≡ Some s → IsLeastFor most ps depth s (form_in ps c s)
+      → more ≡ length (subframe_spelling depth (form_in ps c s)) → length s ≡ size → FirstChosen most ps depth size (set choices i c) (i + 1) (block ++ s ∷ []) (bits + more)
   one_chosen choices i block c s bits more many lt first made valid restored least cost long =
       let long_take : length (take i choices) ≡ length block = length-take-le i choices (omega (arith, lt)) ∙ sym many in
       let is : take (i + 1) (set choices i c) ≡ take i choices ++ c ∷ [] = take_more_set choices i c lt in
-      let forms : forms_of ps (take i choices ++ c ∷ []) (block ++ s ∷ []) ≡ forms_of ps (take i choices) block ++ form_with ps c s ∷ [] = forms_more ps (take i choices) block c s long_take in
+      let forms : forms_of ps (take i choices ++ c ∷ []) (block ++ s ∷ []) ≡ forms_of ps (take i choices) block ++ form_in ps c s ∷ [] = forms_more ps (take i choices) block c s long_take in
       let text = subframe_spelling depth in
-      let are : AreForms ps depth size (forms_of ps (take i choices) block ++ form_with ps c s ∷ []) (block ++ s ∷ []) =
-      forms-append ps depth size deep some (forms_of ps (take i choices) block) (form_with ps c s ∷ []) block (s ∷ []) first.chosen.are
-      (λ limits few within. subst (λ n. IsSubframe depth n limits (form_with ps c s)) long (valid limits few within), subst (λ n. samples_of depth n (form_with ps c s) ≡ Some s) long restored, tt) in
-      let leasts : AreLeast ps depth (forms_of ps (take i choices) block ++ form_with ps c s ∷ []) (block ++ s ∷ []) =
-      least-append ps depth size deep some (forms_of ps (take i choices) block) (form_with ps c s ∷ []) block (s ∷ []) first.chosen.least (least, tt) in
-      let sum : length (flat_map text (forms_of ps (take i choices) block ++ form_with ps c s ∷ [])) ≡ length (flat_map text (forms_of ps (take i choices) block)) + length (text (form_with ps c s)) =
-      ap (λ (t : List Bool). length t) (flat_map-append text (forms_of ps (take i choices) block) (form_with ps c s ∷ []) ∙ ap (λ t. flat_map text (forms_of ps (take i choices) block) ++ t) (append-nil (text (form_with ps c s)))) ∙ length-append (flat_map text (forms_of ps (take i choices) block)) (text (form_with ps c s)) in
+      let are : AreForms most ps depth size (forms_of ps (take i choices) block ++ form_in ps c s ∷ []) (block ++ s ∷ []) =
+      forms-append most ps depth size deep some (forms_of ps (take i choices) block) (form_in ps c s ∷ []) block (s ∷ []) first.chosen.are
+      (λ limits few within. subst (λ n. IsSubframe depth n limits (form_in ps c s)) long (valid limits few within), subst (λ n. samples_of depth n (form_in ps c s) ≡ Some s) long restored, tt) in
+      let leasts : AreLeast most ps depth (forms_of ps (take i choices) block ++ form_in ps c s ∷ []) (block ++ s ∷ []) =
+      least-append most ps depth size deep some (forms_of ps (take i choices) block) (form_in ps c s ∷ []) block (s ∷ []) first.chosen.least (least, tt) in
+      let sum : length (flat_map text (forms_of ps (take i choices) block ++ form_in ps c s ∷ [])) ≡ length (flat_map text (forms_of ps (take i choices) block)) + length (text (form_in ps c s)) =
+      ap (λ (t : List Bool). length t) (flat_map-append text (forms_of ps (take i choices) block) (form_in ps c s ∷ []) ∙ ap (λ t. flat_map text (forms_of ps (take i choices) block) ++ t) (append-nil (text (form_in ps c s)))) ∙ length-append (flat_map text (forms_of ps (take i choices) block)) (text (form_in ps c s)) in
       record {
-        chosen = subst (λ cs. AreChosen ps depth size cs (block ++ s ∷ [])) (sym is) (record {
+        chosen = subst (λ cs. AreChosen most ps depth size cs (block ++ s ∷ [])) (sym is) (record {
           made = made_more ps (take i choices) block c s long_take first.chosen.made made;
-          are = subst (λ fs. AreForms ps depth size fs (block ++ s ∷ [])) (sym forms) are;
-          least = subst (λ fs. AreLeast ps depth fs (block ++ s ∷ [])) (sym forms) leasts;
+          are = subst (λ fs. AreForms most ps depth size fs (block ++ s ∷ [])) (sym forms) are;
+          least = subst (λ fs. AreLeast most ps depth fs (block ++ s ∷ [])) (sym forms) leasts;
         });
         bits_are = omega (arith, first.bits_are, cost, sum, ap (λ cs. length (flat_map text (forms_of ps cs (block ++ s ∷ [])))) is, ap (λ fs. length (flat_map text fs)) forms);
       }
 
 -- ---- all
 
-forms_first : (ps : List LinearPredictor) (cs : List Choice) (block : List (List ℤ)) → forms_of ps (take (length block) cs) block ≡ forms_of ps cs block
+forms_first : (ps : List LinearPredictor) (cs : List WideChoice) (block : List (List ℤ)) → forms_of ps (take (length block) cs) block ≡ forms_of ps cs block
 forms_first ps cs [] = refl
 forms_first ps [] (s ∷ ss) = refl
-forms_first ps (c ∷ cs) (s ∷ ss) = ap (λ l. form_with ps c s ∷ l) (forms_first ps cs ss)
+forms_first ps (c ∷ cs) (s ∷ ss) = ap (λ l. form_in ps c s ∷ l) (forms_first ps cs ss)
 
-made_first : (ps : List LinearPredictor) (cs : List Choice) (block : List (List ℤ)) → AreMade ps (take (length block) cs) block → AreMade ps cs block
+made_first : (ps : List LinearPredictor) (cs : List WideChoice) (block : List (List ℤ)) → AreMade ps (take (length block) cs) block → AreMade ps cs block
 made_first ps cs [] h = tt
 made_first ps [] (s ∷ ss) h = absurd h
 made_first ps (c ∷ cs) (s ∷ ss) h = (h.0, made_first ps cs ss h.1)
 
-pub all_chosen : (ps : List LinearPredictor) (depth size : ℕ) (choices : List Choice) (i : ℕ) (block : List (List ℤ)) (bits : ℕ) → length block ≡ i → FirstChosen ps depth size choices i block bits
-    → AreChosen ps depth size choices block × (bits ≡ length (flat_map (subframe_spelling depth) (forms_of ps choices block)))
-all_chosen ps depth size choices i block bits many first =
-    let f = subst (λ n. FirstChosen ps depth size choices n block bits) (sym many) first in
+pub all_chosen : (most : ℕ) (ps : List LinearPredictor) (depth size : ℕ) (choices : List WideChoice) (i : ℕ) (block : List (List ℤ)) (bits : ℕ) → length block ≡ i → FirstChosen most ps depth size choices i block bits
+    → AreChosen most ps depth size choices block × (bits ≡ length (flat_map (subframe_spelling depth) (forms_of ps choices block)))
+all_chosen most ps depth size choices i block bits many first =
+    let f = subst (λ n. FirstChosen most ps depth size choices n block bits) (sym many) first in
     let forms = forms_first ps choices block in (
       record {
         made = made_first ps choices block f.chosen.made;
-        are = subst (λ fs. AreForms ps depth size fs block) forms f.chosen.are;
-        least = subst (λ fs. AreLeast ps depth fs block) forms f.chosen.least;
+        are = subst (λ fs. AreForms most ps depth size fs block) forms f.chosen.are;
+        least = subst (λ fs. AreLeast most ps depth fs block) forms f.chosen.least;
       },
       f.bits_are ∙ ap (λ fs. length (flat_map (subframe_spelling depth) fs)) forms,
     )
@@ -112,18 +112,18 @@ drop_none [] (suc n) h = refl
 drop_none (x ∷ xs) zero h = absurd (omega (arith, h))
 drop_none (x ∷ xs) (suc n) h = drop_none xs n (omega (arith, h))
 
-module _ (ps : List LinearPredictor) {V : Type 0} (items : V → List ℤ) (depth start size : ℕ) (cs : List Choice) (xs : List V) where
+module _ (ps : List LinearPredictor) {V : Type 0} (items : V → List ℤ) (depth start size : ℕ) (cs : List WideChoice) (xs : List V) where
   abbrev pub block_behind : ℕ → List (List ℤ)
   block_behind i = block_of start size (map items (drop i xs))
 
   abbrev pub text_behind : ℕ → List Bool
   text_behind i = flat_map (subframe_spelling depth) (forms_of ps (drop i cs) (block_behind i))
 
-  module _ (i : ℕ) (c : Choice) (x : V) (few : i < length cs) (lt : i < length xs) (is_c : c ≡ get_or cs i c) (is_x : x ≡ get_or xs i x) where
-    pub made_next : AreMade ps (drop i cs) (block_behind i) → IsMadeWith ps c (take size (drop start (items x))) × AreMade ps (drop (i + 1) cs) (block_behind (i + 1))
+  module _ (i : ℕ) (c : WideChoice) (x : V) (few : i < length cs) (lt : i < length xs) (is_c : c ≡ get_or cs i c) (is_x : x ≡ get_or xs i x) where
+    pub made_next : AreMade ps (drop i cs) (block_behind i) → IsMadeIn ps c (take size (drop start (items x))) × AreMade ps (drop (i + 1) cs) (block_behind (i + 1))
     made_next h = subst (λ ds. AreMade ps ds (block_of start size (map items (x ∷ drop (i + 1) xs)))) (drop_is cs i c few is_c) (subst (λ ys. AreMade ps (drop i cs) (block_of start size (map items ys))) (drop_is xs i x lt is_x) h)
 
-    pub text_next : text_behind i ≡ subframe_spelling depth (form_with ps c (take size (drop start (items x)))) ++ text_behind (i + 1)
+    pub text_next : text_behind i ≡ subframe_spelling depth (form_in ps c (take size (drop start (items x)))) ++ text_behind (i + 1)
     text_next = ap (λ ds. flat_map (subframe_spelling depth) (forms_of ps ds (block_behind i))) (drop_is cs i c few is_c) ∙ ap (λ ys. flat_map (subframe_spelling depth) (forms_of ps (c ∷ drop (i + 1) cs) (block_of start size (map items ys)))) (drop_is xs i x lt is_x)
 
   pub text_last : (i : ℕ) → length xs ≤ i → text_behind i ≡ []
@@ -131,41 +131,26 @@ module _ (ps : List LinearPredictor) {V : Type 0} (items : V → List ℤ) (dept
 
 -- ---- two subframes
 
-pub two_forms : (ps : List LinearPredictor) (cs : List Choice) (x y : Choice) (first second : List ℤ) → 2 ≤ length cs → x ≡ get_or cs 0 x → y ≡ get_or cs 1 y → forms_of ps cs (first ∷ second ∷ []) ≡ form_with ps x first ∷ form_with ps y second ∷ []
+pub two_forms : (ps : List LinearPredictor) (cs : List WideChoice) (x y : WideChoice) (first second : List ℤ) → 2 ≤ length cs → x ≡ get_or cs 0 x → y ≡ get_or cs 1 y → forms_of ps cs (first ∷ second ∷ []) ≡ form_in ps x first ∷ form_in ps y second ∷ []
 two_forms ps [] x y first second h p q = absurd (omega (arith, h))
 two_forms ps (a ∷ []) x y first second h p q = absurd (omega (arith, h))
-two_forms ps (a ∷ b ∷ cs) x y first second h p q = ap (λ z. form_with ps z first ∷ form_with ps b second ∷ []) (sym p) ∙ ap (λ z. form_with ps x first ∷ form_with ps z second ∷ []) (sym q)
+two_forms ps (a ∷ b ∷ cs) x y first second h p q = ap (λ z. form_in ps z first ∷ form_in ps b second ∷ []) (sym p) ∙ ap (λ z. form_in ps x first ∷ form_in ps z second ∷ []) (sym q)
 
-pub first_made : (ps : List LinearPredictor) (cs : List Choice) (x : Choice) (first second : List ℤ) → x ≡ get_or cs 0 x → AreMade ps cs (first ∷ second ∷ []) → IsMadeWith ps x first
+pub first_made : (ps : List LinearPredictor) (cs : List WideChoice) (x : WideChoice) (first second : List ℤ) → x ≡ get_or cs 0 x → AreMade ps cs (first ∷ second ∷ []) → IsMadeIn ps x first
 first_made ps [] x first second p m = absurd m
-first_made ps (a ∷ cs) x first second p m = subst (λ z. IsMadeWith ps z first) (sym p) m.0
+first_made ps (a ∷ cs) x first second p m = subst (λ z. IsMadeIn ps z first) (sym p) m.0
 
-pub second_made : (ps : List LinearPredictor) (cs : List Choice) (y : Choice) (first second : List ℤ) → y ≡ get_or cs 1 y → AreMade ps cs (first ∷ second ∷ []) → IsMadeWith ps y second
+pub second_made : (ps : List LinearPredictor) (cs : List WideChoice) (y : WideChoice) (first second : List ℤ) → y ≡ get_or cs 1 y → AreMade ps cs (first ∷ second ∷ []) → IsMadeIn ps y second
 second_made ps [] y first second q m = absurd m
 second_made ps (a ∷ []) y first second q m = absurd m.1
-second_made ps (a ∷ b ∷ cs) y first second q m = subst (λ z. IsMadeWith ps z second) (sym q) m.1.0
+second_made ps (a ∷ b ∷ cs) y first second q m = subst (λ z. IsMadeIn ps z second) (sym q) m.1.0
 
-pub two_texts : (ps : List LinearPredictor) (depth code d e : ℕ) (cs : List Choice) (x y : Choice) (first second : List ℤ) → 2 ≤ length cs → x ≡ get_or cs 0 x → y ≡ get_or cs 1 y → d ≡ side_bit code 0 → e ≡ side_bit code 1
-    → subframe_spelling (depth + d) (form_with ps x first) ++ subframe_spelling (depth + e) (form_with ps y second) ≡ subframes_spelling depth code 0 (forms_of ps cs (first ∷ second ∷ []))
+pub two_texts : (ps : List LinearPredictor) (depth code d e : ℕ) (cs : List WideChoice) (x y : WideChoice) (first second : List ℤ) → 2 ≤ length cs → x ≡ get_or cs 0 x → y ≡ get_or cs 1 y → d ≡ side_bit code 0 → e ≡ side_bit code 1
+    → subframe_spelling (depth + d) (form_in ps x first) ++ subframe_spelling (depth + e) (form_in ps y second) ≡ subframes_spelling depth code 0 (forms_of ps cs (first ∷ second ∷ []))
 two_texts ps depth code d e cs x y first second h p q is_d is_e =
-    ap (λ n. subframe_spelling (depth + n) (form_with ps x first) ++ subframe_spelling (depth + e) (form_with ps y second)) is_d
-    ∙ ap (λ n. subframe_spelling (depth + side_bit code 0) (form_with ps x first) ++ subframe_spelling (depth + n) (form_with ps y second)) is_e
-    ∙ sym (pair_text depth code (form_with ps x first) (form_with ps y second)) ∙ ap (subframes_spelling depth code 0) (sym (two_forms ps cs x y first second h p q))
-
--- the first of two subframes was not written
-pub first_stops : (ps : List LinearPredictor) (h : Header) (depth d : ℕ) (cs : List Choice) (x : Choice) (first second : List ℤ) (old mid new : Written) (e : Why) → 2 ≤ length cs → x ≡ get_or cs 0 x → d ≡ side_bit h.channel_code 0 → Adds (header_spelling h) (restarted old) mid
-    → Fails (mid.bits ++ subframe_spelling (depth + d) (form_with ps x first)) mid new e
-    → Writes (behind_header h (subframes_spelling depth h.channel_code 0 (forms_of ps cs (first ∷ second ∷ []))) old.mark) (restarted old) new (failed e)
-first_stops ps h depth d cs x first second old mid new e some is bit adds fails =
-    let y : Choice = get_or cs 1 x in
-    let at : y ≡ get_or cs 1 y = second_at cs x some in
-    subst (λ t. Writes (behind_header h t old.mark) (restarted old) new (failed e)) (two_texts ps depth h.channel_code d (side_bit h.channel_code 1) cs x y first second some is at bit refl)
-    (first_fails h _ _ old mid new e adds fails)
-  where
-    second_at : (cs : List Choice) (x : Choice) → 2 ≤ length cs → get_or cs 1 x ≡ get_or cs 1 (get_or cs 1 x)
-    second_at [] x h = absurd (omega (arith, h))
-    second_at (a ∷ []) x h = absurd (omega (arith, h))
-    second_at (a ∷ b ∷ ds) x h = refl
+    ap (λ n. subframe_spelling (depth + n) (form_in ps x first) ++ subframe_spelling (depth + e) (form_in ps y second)) is_d
+    ∙ ap (λ n. subframe_spelling (depth + side_bit code 0) (form_in ps x first) ++ subframe_spelling (depth + n) (form_in ps y second)) is_e
+    ∙ sym (pair_text depth code (form_in ps x first) (form_in ps y second)) ∙ ap (subframes_spelling depth code 0) (sym (two_forms ps cs x y first second h p q))
 
 -- ---- what a code keeps fits
 

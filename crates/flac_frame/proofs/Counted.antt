@@ -5,7 +5,8 @@ use Rattle.flac_bits.specs.Bits.{unsigned}
 use Rattle.flac_bits.specs.Coded.{six_bits, in_bytes, number_spelling}
 use Rattle.flac_bits.proofs.Words.{length-unsigned}
 use Rattle.flac_header.specs.Header.{Header}
-use Rattle.flac_header.specs.Choice.{size_choice, rate_choice, depth_choice, with_codes, chosen_header}
+use Rattle.flac_header.specs.Choice.{size_choice, rate_choice, rate_choice_in, depth_choice_in, stated_rate, with_codes, chosen_header}
+use Rattle.flac_header.specs.declared.subset.Profile.{Profile}
 use Rattle.flac_header.specs.Spelling.{size_spelling, rate_spelling, header_spelling}
 use Rattle.flac_frame.specs.Encoding.{subframes_cost}
 use Rattle.flac_frame.specs.Spelling.{FrameForm, frame_spelling, subframes_spelling}
@@ -135,7 +136,7 @@ record HasFields (s r : Option ℕ) (size rate number : ℕ) (h : Header) : Type
   size_code : s ≡ some_code h.size_code
   rate_code : r ≡ some_code h.rate_code
   sized : h.size ≡ size
-  rated : h.rate ≡ rate
+  rated : h.rate ≡ stated_rate h.rate_code rate
   numbered : h.number ≡ number
 
 with_fields : (s r d : Option ℕ) (size rate code number : ℕ) (h : Header) → with_codes s r d size rate code number ≡ Some h → HasFields s r size rate number h
@@ -143,30 +144,30 @@ with_fields None r d size rate code number h e = absurd cc
 with_fields (Some s) None d size rate code number h e = absurd cc
 with_fields (Some s) (Some r) None size rate code number h e = absurd cc
 with_fields (Some s) (Some r) (Some d) size rate code number h e =
-    let form : Header = record { variable = false; size_code = s; size = size; rate_code = r; rate = rate; channel_code = code; depth_code = d; number = number } in
+    let form : Header = record { variable = false; size_code = s; size = size; rate_code = r; rate = stated_rate r rate; channel_code = code; depth_code = d; number = number } in
     let is : form ≡ h = same_header form h e in
     let made : HasFields (Some s) (Some r) size rate number form = record { size_code = refl; rate_code = refl; sized = refl; rated = refl; numbered = refl } in
     subst (λ k. HasFields (Some s) (Some r) size rate number k) is made
 
-has_fields : (size rate code depth number : ℕ) (h : Header) → chosen_header size rate code depth number ≡ Some h → HasFields (size_choice size) (rate_choice rate) size rate number h
+has_fields : (p : Profile) (size rate code depth number : ℕ) (h : Header) → chosen_header p size rate code depth number ≡ Some h → HasFields (size_choice size) (rate_choice_in p rate) size rate number h
 unfolding chosen_header
-has_fields size rate code depth number h e = go (nat_lt 10 code || nat_le (2 ^ 31) number) e
+has_fields p size rate code depth number h e = go (nat_lt 10 code || nat_le (2 ^ 31) number) e
   where
-    go : (b : Bool) → cond b None (with_codes (size_choice size) (rate_choice rate) (depth_choice depth) size rate code number) ≡ Some h → HasFields (size_choice size) (rate_choice rate) size rate number h
+    go : (b : Bool) → cond b None (with_codes (size_choice size) (rate_choice_in p rate) (depth_choice_in p depth) size rate code number) ≡ Some h → HasFields (size_choice size) (rate_choice_in p rate) size rate number h
     go true e = absurd cc
-    go false e = with_fields (size_choice size) (rate_choice rate) (depth_choice depth) size rate code number h e
+    go false e = with_fields (size_choice size) (rate_choice_in p rate) (depth_choice_in p depth) size rate code number h e
 
 -- under the code that was chosen
 here : (o : Option ℕ) (code : ℕ) (P : ℕ → Type 0) → o ≡ some_code code → IfSome o P → P code
 here o code P e h = subst (λ k. IfSome k P) e h
 
-header_counted : (size rate code depth number n s r : ℕ) (h : Header) → chosen_header size rate code depth number ≡ Some h → length (number_spelling number) ≡ 8 * n
-    → IfSome (size_choice size) (λ k. length (size_spelling k size) ≡ 8 * s) → IfSome (rate_choice rate) (λ k. length (rate_spelling k rate) ≡ 8 * r) → length (header_spelling h) ≡ 8 * (5 + n + s + r)
-header_counted size rate code depth number n s r h is is_n is_s is_r =
-    let f = has_fields size rate code depth number h is in
+header_counted : (p : Profile) (size rate code depth number n s r : ℕ) (h : Header) → chosen_header p size rate code depth number ≡ Some h → length (number_spelling number) ≡ 8 * n
+    → IfSome (size_choice size) (λ k. length (size_spelling k size) ≡ 8 * s) → IfSome (rate_choice_in p rate) (λ k. length (rate_spelling k (stated_rate k rate)) ≡ 8 * r) → length (header_spelling h) ≡ 8 * (5 + n + s + r)
+header_counted p size rate code depth number n s r h is is_n is_s is_r =
+    let f = has_fields p size rate code depth number h is in
     let a : length (number_spelling h.number) ≡ 8 * n = ap (λ v. length (number_spelling v)) f.numbered ∙ is_n in
     let b : length (size_spelling h.size_code h.size) ≡ 8 * s = ap (λ v. length (size_spelling h.size_code v)) f.sized ∙ here (size_choice size) h.size_code (λ k. length (size_spelling k size) ≡ 8 * s) f.size_code is_s in
-    let c : length (rate_spelling h.rate_code h.rate) ≡ 8 * r = ap (λ v. length (rate_spelling h.rate_code v)) f.rated ∙ here (rate_choice rate) h.rate_code (λ k. length (rate_spelling k rate) ≡ 8 * r) f.rate_code is_r in
+    let c : length (rate_spelling h.rate_code h.rate) ≡ 8 * r = ap (λ v. length (rate_spelling h.rate_code v)) f.rated ∙ here (rate_choice_in p rate) h.rate_code (λ k. length (rate_spelling k (stated_rate k rate)) ≡ 8 * r) f.rate_code is_r in
     omega (arith, header_long h, a, b, c)
 
 -- ---- a frame
@@ -184,8 +185,8 @@ pub cost_below : (depth : ℕ) (f : FrameForm) → subframes_cost depth f ≤ le
 cost_below depth f = omega (arith, frame_long depth f)
 
 -- the bytes of the header, those of the subframes and of the check
-pub frame_counted : (size rate code depth number bits n s r : ℕ) (f : FrameForm) → chosen_header size rate code depth number ≡ Some f.header → length (number_spelling number) ≡ 8 * n
-    → IfSome (size_choice size) (λ k. length (size_spelling k size) ≡ 8 * s) → IfSome (rate_choice rate) (λ k. length (rate_spelling k rate) ≡ 8 * r)
+pub frame_counted : (p : Profile) (size rate code depth number bits n s r : ℕ) (f : FrameForm) → chosen_header p size rate code depth number ≡ Some f.header → length (number_spelling number) ≡ 8 * n
+    → IfSome (size_choice size) (λ k. length (size_spelling k size) ≡ 8 * s) → IfSome (rate_choice_in p rate) (λ k. length (rate_spelling k (stated_rate k rate)) ≡ 8 * r)
     → bits ≡ subframes_cost depth f → length (frame_spelling depth f) ≡ 8 * (5 + n + s + r + (bits + 7) / 8 + 2)
-frame_counted size rate code depth number bits n s r f is is_n is_s is_r cost =
-    omega (arith, frame_long depth f, header_counted size rate code depth number n s r f.header is is_n is_s is_r, cost)
+frame_counted p size rate code depth number bits n s r f is is_n is_s is_r cost =
+    omega (arith, frame_long depth f, header_counted p size rate code depth number n s r f.header is is_n is_s is_r, cost)

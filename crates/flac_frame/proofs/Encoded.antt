@@ -26,14 +26,14 @@ module _ (depth size : ℕ) (deep : 1 ≤ depth) (some : 1 ≤ size) where
   abbrev pub IsBlock : List (List ℤ) → Type 0
   IsBlock block = All (λ s. length s ≡ size) block × All (λ s. All (FitsBits depth) s) block
 
-module _ (ps : List LinearPredictor) (depth size : ℕ) (deep : 1 ≤ depth) (some : 1 ≤ size) where
-  pub forms-append : (fs gs : List Form) (a b : List (List ℤ)) → AreForms ps depth size fs a → AreForms ps depth size gs b → AreForms ps depth size (fs ++ gs) (a ++ b)
+module _ (most : ℕ) (ps : List LinearPredictor) (depth size : ℕ) (deep : 1 ≤ depth) (some : 1 ≤ size) where
+  pub forms-append : (fs gs : List Form) (a b : List (List ℤ)) → AreForms most ps depth size fs a → AreForms most ps depth size gs b → AreForms most ps depth size (fs ++ gs) (a ++ b)
   forms-append [] gs [] b h k = k
   forms-append [] gs (s ∷ ss) b h k = absurd h
   forms-append (f ∷ fs) gs [] b h k = absurd h
   forms-append (f ∷ fs) gs (s ∷ ss) b h k = (h.0, h.1, forms-append fs gs ss b h.2 k)
 
-  pub least-append : (fs gs : List Form) (a b : List (List ℤ)) → AreLeast ps depth fs a → AreLeast ps depth gs b → AreLeast ps depth (fs ++ gs) (a ++ b)
+  pub least-append : (fs gs : List Form) (a b : List (List ℤ)) → AreLeast most ps depth fs a → AreLeast most ps depth gs b → AreLeast most ps depth (fs ++ gs) (a ++ b)
   least-append [] gs [] b h k = k
   least-append [] gs (s ∷ ss) b h k = absurd h
   least-append (f ∷ fs) gs [] b h k = absurd h

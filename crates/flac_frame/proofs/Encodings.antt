@@ -1,12 +1,16 @@
 -- What is encoded is a frame of its block.
 use Rattle.std.proofs.Common.{◌≡◌, ◌∙◌, refl, sym, ap, subst, ℕ, ◌≤◌, ◌^◌, ◌%◌, arith, Bool, true, false, cond, ◌&&◌, ◌||◌, nat_eq, nat_lt, nat_le, Option, Some, None}
 use Rattle.std.proofs.lemmas.Bool.Decides.{nat_tests}
-use Rattle.flac_header.specs.Header.{Header, depth_of, greatest_block, allowed}
-use Rattle.flac_header.specs.Choice.{size_choice, rate_choice, depth_choice, with_codes, chosen_header}
-use Rattle.flac_header.specs.declared.subset.Profile.TheVariants.{Subset}
-use Rattle.flac_frame.specs.Frame.{limits_at}
+use Rattle.std.specs.Option.{option_or}
+use Rattle.flac_meta.specs.Info.{Info}
+use Rattle.flac_header.specs.Header.{Header, depth_of, greatest_block, greatest_in, allowed}
+use Rattle.flac_header.specs.Choice.{rate_choice, depth_choice, rate_choice_in, depth_choice_in, stated_rate, with_codes, chosen_header}
+use Rattle.flac_header.specs.declared.subset.Profile.{Profile}
+use Rattle.flac_header.specs.declared.subset.Profile.TheVariants.{Subset, Lax}
+use Rattle.flac_frame.specs.Frame.{limits_at, rate_in, depth_in}
 use Rattle.flac_frame.specs.Spelling.{AreSubframes, FrameSamples}
 use Rattle.flac_frame.specs.Encoding.{EncodingsAreFrames}
+use Rattle.flac_frame.proofs.Family.{opened}
 
 -- ---- the codes that are chosen
 
@@ -102,17 +106,36 @@ depth_told depth =
     let e0 : Tells depth o0 = tells_or depth 8 1 o1 (omega arith) refl e1 in
     e0
 
+-- outside the subset, a code other than 0 tells it
+abbrev Leaves : ℕ → Option ℕ → Type 0
+Leaves depth o = (c : ℕ) → o ≡ Some c → nat_eq c 0 ≡ false → depth_of c ≡ depth
+
+leaves_or : (depth : ℕ) (o : Option ℕ) → Tells depth o → Leaves depth (option_or o (Some 0))
+leaves_or depth None tells c e some = let zero : 0 ≡ c = inner 0 c e in absurd (grind (arith, nat_tests))
+leaves_or depth (Some d) tells c e some = (tells c e).1
+
+leaves_test : (b : Bool) (depth : ℕ) (o : Option ℕ) → Leaves depth o → Leaves depth (cond b None o)
+leaves_test true depth o rest c e some = absurd (no e)
+  where
+    no : {c : ℕ} → None ≡ Some c → ⊥
+    no z = cc
+leaves_test false depth o rest c e some = rest c e some
+
+depth_left : (depth : ℕ) → Leaves depth (depth_choice_in Lax depth)
+unfolding depth_choice_in
+depth_left depth = leaves_test _ depth _ (leaves_or depth (depth_choice depth) (depth_told depth))
+
 -- ---- the header
 
-record Chosen (size rate code bits number : ℕ) (h : Header) : Type 0 where
+-- what a header has of what it was chosen for: its rate and depth are those of STREAMINFO, where these are what it was chosen for
+record Chosen (profile : Profile) (size rate code bits number : ℕ) (h : Header) : Type 0 where
   code_is : h.channel_code ≡ code
   fixed : h.variable ≡ false
   numbered : h.number ≡ number
   sized : h.size ≡ size
-  rated : h.rate ≡ rate
-  rate_code : 1 ≤ h.rate_code
-  depth_code : 1 ≤ h.depth_code
-  depth : depth_of h.depth_code ≡ bits
+  rated : (info : Info) → info.rate ≡ rate → rate_in profile info h ≡ info.rate
+  deep : (info : Info) → info.depth ≡ bits → depth_in profile info h ≡ info.depth
+  may : (info : Info) → info.rate ≡ rate → size ≤ greatest_in profile info.rate → allowed profile h ≡ true
 
 abbrev some_header : Header → Option Header
 some_header h = Some h
@@ -120,23 +143,8 @@ some_header h = Some h
 same_header : (a b : Header) → some_header a ≡ some_header b → a ≡ b
 same_header a b e = cc
 
-with_chosen : (s r d : Option ℕ) (size rate code bits number : ℕ) (h : Header) → IsCode r → Tells bits d → with_codes s r d size rate code number ≡ Some h → Chosen size rate code bits number h
-with_chosen None r d size rate code bits number h p q e = absurd cc
-with_chosen (Some s) None d size rate code bits number h p q e = absurd cc
-with_chosen (Some s) (Some r) None size rate code bits number h p q e = absurd cc
-with_chosen (Some s) (Some r) (Some d) size rate code bits number h p q e =
-    let form : Header = record { variable = false; size_code = s; size = size; rate_code = r; rate = rate; channel_code = code; depth_code = d; number = number } in
-    let is : form ≡ h = same_header form h e in
-    let made : Chosen size rate code bits number form = record { code_is = refl; fixed = refl; numbered = refl; sized = refl; rated = refl; rate_code = p r refl; depth_code = (q d refl).0; depth = (q d refl).1 } in
-    subst (λ k. Chosen size rate code bits number k) is made
-
-chosen_is : (size rate code bits number : ℕ) (h : Header) → chosen_header size rate code bits number ≡ Some h → Chosen size rate code bits number h
-unfolding chosen_header
-chosen_is size rate code bits number h e = go (nat_lt 10 code || nat_le (2 ^ 31) number) e
-  where
-    go : (b : Bool) → cond b None (with_codes (size_choice size) (rate_choice rate) (depth_choice bits) size rate code number) ≡ Some h → Chosen size rate code bits number h
-    go true e = absurd cc
-    go false e = with_chosen (size_choice size) (rate_choice rate) (depth_choice bits) size rate code bits number h (rate_coded rate) (depth_told bits) e
+abbrev header_of : (s r d size rate code number : ℕ) → Header
+header_of s r d size rate code number = record { variable = false; size_code = s; size = size; rate_code = r; rate = stated_rate r rate; channel_code = code; depth_code = d; number = number }
 
 is_allowed : (h : Header) → 1 ≤ h.rate_code → 1 ≤ h.depth_code → h.size ≤ greatest_block h.rate → allowed Subset h ≡ true
 unfolding allowed
@@ -149,21 +157,87 @@ is_allowed h a b c =
     small : (n m : ℕ) → n ≤ m → nat_le n m ≡ true
     small n m le = grind (arith, nat_tests)
 
+stated : (r rate : ℕ) → 1 ≤ r → stated_rate r rate ≡ rate
+stated r rate some = let e : nat_eq r 0 ≡ false = grind (arith, nat_tests) in rw e refl
+
+in_subset : (s r d size rate code bits number : ℕ) → 1 ≤ r → 1 ≤ d → depth_of d ≡ bits → Chosen Subset size rate code bits number (header_of s r d size rate code number)
+in_subset s r d size rate code bits number some more told =
+    let is : stated_rate r rate ≡ rate = stated r rate some in
+    record {
+      code_is = refl;
+      fixed = refl;
+      numbered = refl;
+      sized = refl;
+      rated = λ info e. is ∙ sym e;
+      deep = λ info e. told ∙ sym e;
+      may = λ info e few. is_allowed (header_of s r d size rate code number) some more (subst (λ k. size ≤ greatest_block k) (e ∙ sym is) few);
+    }
+
+-- the rate that is left to STREAMINFO, or stated
+either_rate : (b : Bool) (n rate : ℕ) → n ≡ rate → cond b n (cond b 0 rate) ≡ n
+either_rate true n rate e = refl
+either_rate false n rate e = sym e
+
+either_depth : (b : Bool) (n depth : ℕ) → (b ≡ false → depth ≡ n) → cond b n depth ≡ n
+either_depth true n depth h = refl
+either_depth false n depth h = h refl
+
+in_lax : (s r d size rate code bits number : ℕ) → (nat_eq d 0 ≡ false → depth_of d ≡ bits) → Chosen Lax size rate code bits number (header_of s r d size rate code number)
+unfolding allowed
+in_lax s r d size rate code bits number told = record {
+  code_is = refl;
+  fixed = refl;
+  numbered = refl;
+  sized = refl;
+  rated = λ info e. either_rate (nat_eq r 0) info.rate rate e;
+  deep = λ info e. either_depth (nat_eq d 0) info.depth (depth_of d) (λ some. told some ∙ sym e);
+  may = λ info e few. refl;
+}
+
+with_subset : (s r d : Option ℕ) (size rate code bits number : ℕ) (h : Header) → IsCode r → Tells bits d → with_codes s r d size rate code number ≡ Some h → Chosen Subset size rate code bits number h
+with_subset None r d size rate code bits number h p q e = absurd cc
+with_subset (Some s) None d size rate code bits number h p q e = absurd cc
+with_subset (Some s) (Some r) None size rate code bits number h p q e = absurd cc
+with_subset (Some s) (Some r) (Some d) size rate code bits number h p q e =
+    let is : header_of s r d size rate code number ≡ h = same_header _ h e in
+    subst (λ k. Chosen Subset size rate code bits number k) is (in_subset s r d size rate code bits number (p r refl) (q d refl).0 (q d refl).1)
+
+with_lax : (s r d : Option ℕ) (size rate code bits number : ℕ) (h : Header) → Leaves bits d → with_codes s r d size rate code number ≡ Some h → Chosen Lax size rate code bits number h
+with_lax None r d size rate code bits number h q e = absurd cc
+with_lax (Some s) None d size rate code bits number h q e = absurd cc
+with_lax (Some s) (Some r) None size rate code bits number h q e = absurd cc
+with_lax (Some s) (Some r) (Some d) size rate code bits number h q e =
+    let is : header_of s r d size rate code number ≡ h = same_header _ h e in
+    subst (λ k. Chosen Lax size rate code bits number k) is (in_lax s r d size rate code bits number (q d refl))
+
+rate_coded_in : (rate : ℕ) → IsCode (rate_choice_in Subset rate)
+unfolding rate_choice_in
+rate_coded_in rate = rate_coded rate
+
+depth_told_in : (depth : ℕ) → Tells depth (depth_choice_in Subset depth)
+unfolding depth_choice_in
+depth_told_in depth = depth_told depth
+
+chosen_is : (profile : Profile) (size rate code bits number : ℕ) (h : Header) → chosen_header profile size rate code bits number ≡ Some h → Chosen profile size rate code bits number h
+chosen_is Subset size rate code bits number h e = with_subset _ _ _ size rate code bits number h (rate_coded_in rate) (depth_told_in bits) (opened Subset size rate code bits number h e)
+chosen_is Lax size rate code bits number h e = with_lax _ _ _ size rate code bits number h (depth_left bits) (opened Lax size rate code bits number h e)
+
 -- ---- the frame
 
 pub encodings_are_frames : EncodingsAreFrames
 encodings_are_frames sound size number block f info r d n e =
-    let c = chosen_is size sound.rate e.code sound.bits number f.header e.header in
-    let coded = subst (λ k. AreSubframes sound.bits k size (limits_at Subset sound.rate) 0 f.subframes) (sym c.code_is) e.subframes in
-    let sized = subst (λ k. AreSubframes sound.bits f.header.channel_code k (limits_at Subset sound.rate) 0 f.subframes) (sym c.sized) coded in
-    let limited = subst (λ k. AreSubframes sound.bits f.header.channel_code f.header.size (limits_at Subset k) 0 f.subframes) (sym r) sized in
-    let parts = subst (λ k. AreSubframes k f.header.channel_code f.header.size (limits_at Subset info.rate) 0 f.subframes) (sym d) limited in
+    let p : Profile = sound.profile in
+    let c = chosen_is p size sound.rate e.code sound.bits number f.header e.header in
+    let coded = subst (λ k. AreSubframes sound.bits k size (limits_at p sound.rate) 0 f.subframes) (sym c.code_is) e.subframes in
+    let sized = subst (λ k. AreSubframes sound.bits f.header.channel_code k (limits_at p sound.rate) 0 f.subframes) (sym c.sized) coded in
+    let limited = subst (λ k. AreSubframes sound.bits f.header.channel_code f.header.size (limits_at p k) 0 f.subframes) (sym r) sized in
+    let parts = subst (λ k. AreSubframes k f.header.channel_code f.header.size (limits_at p info.rate) 0 f.subframes) (sym d) limited in
     record {
       fixed = c.fixed;
       numbered = c.numbered;
       sized = c.sized;
-      format = record { rate = c.rated ∙ sym r; channels = e.channels ∙ sym n; depth = c.depth ∙ sym d };
-      allowed = λ few. is_allowed f.header c.rate_code c.depth_code (rw (c.sized, c.rated, ← r) few);
+      format = record { rate = c.rated info r; channels = e.channels ∙ sym n; depth = c.deep info d };
+      allowed = λ few. c.may info r few;
       frame = λ before kept. (
         record { header = e.valid; follows = kept; many = e.many ∙ sym n; subframes = parts },
         subst (λ k. FrameSamples k f block) (sym d) e.samples,

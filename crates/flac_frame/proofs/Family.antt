@@ -3,12 +3,13 @@ use Rattle.std.proofs.Common.{◌≡◌, ◌∙◌, refl, sym, ap, subst, ℕ, �
 use Rattle.std.proofs.lemmas.Bool.Decides.{nat_tests}
 use Rattle.flac_subframe.specs.declared.linear.LinearPredictor.{LinearPredictor}
 use Rattle.flac_header.specs.Header.{Header}
-use Rattle.flac_header.specs.Choice.{size_choice, rate_choice, depth_choice, with_codes, chosen_header}
+use Rattle.flac_header.specs.Choice.{size_choice, rate_choice_in, depth_choice_in, stated_rate, with_codes, chosen_header}
+use Rattle.flac_header.specs.declared.subset.Profile.{Profile}
 use Rattle.flac_header.specs.Spelling.{header_spelling}
 use Rattle.flac_subframe.specs.Spelling.{subframe_spelling}
 use Rattle.flac_subframe.specs.Subframe.{Form}
 use Rattle.flac_frame.specs.Audio.{Sound}
-use Rattle.flac_frame.specs.Encoding.{IsEncoding, AreLeast, EachStands, IsOfWidened, IsLeastWith, subframes_cost}
+use Rattle.flac_frame.specs.Encoding.{partition_limit, IsEncoding, AreLeast, EachStands, IsOfWidened, IsLeastWith, subframes_cost}
 use Rattle.flac_frame.specs.Spelling.{FrameForm, frame_spelling, subframes_spelling}
 use Rattle.flac_frame.specs.Stereo.{kept_as}
 use Rattle.flac_frame.proofs.Short.{header_long, whole_long}
@@ -19,24 +20,24 @@ use Rattle.flac_frame.proofs.Wholes.{texts_are, codes_are}
 some_of : Header → Option Header
 some_of h = Some h
 
-pub opened : (size rate code bits number : ℕ) (h : Header) → chosen_header size rate code bits number ≡ Some h → with_codes (size_choice size) (rate_choice rate) (depth_choice bits) size rate code number ≡ Some h
+pub opened : (p : Profile) (size rate code bits number : ℕ) (h : Header) → chosen_header p size rate code bits number ≡ Some h → with_codes (size_choice size) (rate_choice_in p rate) (depth_choice_in p bits) size rate code number ≡ Some h
 unfolding chosen_header
-opened size rate code bits number h e = go (nat_lt 10 code || nat_le (2 ^ 31) number) e
+opened p size rate code bits number h e = go (nat_lt 10 code || nat_le (2 ^ 31) number) e
   where
-    go : (b : Bool) → cond b None (with_codes (size_choice size) (rate_choice rate) (depth_choice bits) size rate code number) ≡ Some h → with_codes (size_choice size) (rate_choice rate) (depth_choice bits) size rate code number ≡ Some h
+    go : (b : Bool) → cond b None (with_codes (size_choice size) (rate_choice_in p rate) (depth_choice_in p bits) size rate code number) ≡ Some h → with_codes (size_choice size) (rate_choice_in p rate) (depth_choice_in p bits) size rate code number ≡ Some h
     go true e = absurd cc
     go false e = e
 
-pub coded_as : (size rate code bits number : ℕ) (h : Header) → chosen_header size rate code bits number ≡ Some h → (h.channel_code ≡ code) × (h.size ≡ size)
-coded_as size rate code bits number h e = codes_are (size_choice size) (rate_choice rate) (depth_choice bits) size rate code number h (opened size rate code bits number h e)
+pub coded_as : (p : Profile) (size rate code bits number : ℕ) (h : Header) → chosen_header p size rate code bits number ≡ Some h → (h.channel_code ≡ code) × (h.size ≡ size)
+coded_as p size rate code bits number h e = codes_are (size_choice size) (rate_choice_in p rate) (depth_choice_in p bits) size rate code number h (opened p size rate code bits number h e)
 
 inner : (a b : Header) → Some a ≡ Some b → a ≡ b
 inner a b e = cc
 
 same_long : (s r d : Option ℕ) (size rate a b number : ℕ) (h k : Header) → with_codes s r d size rate a number ≡ Some h → with_codes s r d size rate b number ≡ Some k → length (header_spelling h) ≡ length (header_spelling k)
 same_long (Some s) (Some r) (Some d) size rate a b number h k e f =
-    let x : Header = record { variable = false; size_code = s; size = size; rate_code = r; rate = rate; channel_code = a; depth_code = d; number = number } in
-    let y : Header = record { variable = false; size_code = s; size = size; rate_code = r; rate = rate; channel_code = b; depth_code = d; number = number } in
+    let x : Header = record { variable = false; size_code = s; size = size; rate_code = r; rate = stated_rate r rate; channel_code = a; depth_code = d; number = number } in
+    let y : Header = record { variable = false; size_code = s; size = size; rate_code = r; rate = stated_rate r rate; channel_code = b; depth_code = d; number = number } in
     ap (λ z. length (header_spelling z)) (sym (inner x h e)) ∙ header_long x ∙ sym (header_long y) ∙ ap (λ z. length (header_spelling z)) (inner y k f)
 same_long None r d size rate a b number h k e f = absurd cc
 same_long (Some s) None d size rate a b number h k e f = absurd cc
@@ -67,8 +68,8 @@ module _ (ps : List LinearPredictor) (sound : Sound) (size number : ℕ) (block 
     least = record {
       member = m;
       least = λ g n. frame_less sound.bits f g
-          (same_long (size_choice size) (rate_choice sound.rate) (depth_choice sound.bits) size sound.rate m.encoding.code n.encoding.code number f.header g.header
-          (opened size sound.rate m.encoding.code sound.bits number f.header m.encoding.header) (opened size sound.rate n.encoding.code sound.bits number g.header n.encoding.header))
+          (same_long (size_choice size) (rate_choice_in sound.profile sound.rate) (depth_choice_in sound.profile sound.bits) size sound.rate m.encoding.code n.encoding.code number f.header g.header
+          (opened sound.profile size sound.rate m.encoding.code sound.bits number f.header m.encoding.header) (opened sound.profile size sound.rate n.encoding.code sound.bits number g.header n.encoding.header))
           (below g n).0;
     };
     fewest = λ g n. (below g n).0;
@@ -81,38 +82,38 @@ pub kept_same : (code : ℕ) (block : List (List ℤ)) → code ≤ 7 → kept_a
 unfolding kept_as
 kept_same code block few = let a : nat_lt code 8 ≡ true = grind (arith, nat_tests) in rw a refl
 
-all_less : (ps : List LinearPredictor) (depth : ℕ) (fs gs : List Form) (block : List (List ℤ)) → AreLeast ps depth fs block → EachStands ps gs block → length (flat_map (subframe_spelling depth) fs) ≤ length (flat_map (subframe_spelling depth) gs)
-all_less ps depth [] [] [] a b = omega arith
-all_less ps depth [] (g ∷ gs) [] a b = absurd b
-all_less ps depth (f ∷ fs) gs [] a b = absurd a
-all_less ps depth [] gs (s ∷ ss) a b = absurd a
-all_less ps depth (f ∷ fs) [] (s ∷ ss) a b = absurd b
-all_less ps depth (f ∷ fs) (g ∷ gs) (s ∷ ss) a b =
+all_less : (most : ℕ) (ps : List LinearPredictor) (depth : ℕ) (fs gs : List Form) (block : List (List ℤ)) → AreLeast most ps depth fs block → EachStands most ps gs block → length (flat_map (subframe_spelling depth) fs) ≤ length (flat_map (subframe_spelling depth) gs)
+all_less most ps depth [] [] [] a b = omega arith
+all_less most ps depth [] (g ∷ gs) [] a b = absurd b
+all_less most ps depth (f ∷ fs) gs [] a b = absurd a
+all_less most ps depth [] gs (s ∷ ss) a b = absurd a
+all_less most ps depth (f ∷ fs) [] (s ∷ ss) a b = absurd b
+all_less most ps depth (f ∷ fs) (g ∷ gs) (s ∷ ss) a b =
     let one : length (subframe_spelling depth f) ≤ length (subframe_spelling depth g) = a.0.least g b.0 in
-    let rest = all_less ps depth fs gs ss a.1 b.1 in
+    let rest = all_less most ps depth fs gs ss a.1 b.1 in
     omega (arith, length-append (subframe_spelling depth f) (flat_map (subframe_spelling depth) fs), length-append (subframe_spelling depth g) (flat_map (subframe_spelling depth) gs), one, rest)
 
-stands_of : (ps : List LinearPredictor) (depth : ℕ) (fs : List Form) (block : List (List ℤ)) → AreLeast ps depth fs block → EachStands ps fs block
-stands_of ps depth [] [] a = tt
-stands_of ps depth [] (s ∷ ss) a = absurd a
-stands_of ps depth (f ∷ fs) [] a = absurd a
-stands_of ps depth (f ∷ fs) (s ∷ ss) a = (a.0.member, stands_of ps depth fs ss a.1)
+stands_of : (most : ℕ) (ps : List LinearPredictor) (depth : ℕ) (fs : List Form) (block : List (List ℤ)) → AreLeast most ps depth fs block → EachStands most ps fs block
+stands_of most ps depth [] [] a = tt
+stands_of most ps depth [] (s ∷ ss) a = absurd a
+stands_of most ps depth (f ∷ fs) [] a = absurd a
+stands_of most ps depth (f ∷ fs) (s ∷ ss) a = (a.0.member, stands_of most ps depth fs ss a.1)
 
 pub code_once : (b : Bool) (c n : ℕ) → cond b (c + 1) 2 ≡ n → (n ≡ 2 → ⊥) → c + 1 ≡ n
 code_once true c n e other = e
 code_once false c n e other = absurd (other (sym e))
 
-pub independent_least : (ps : List LinearPredictor) (sound : Sound) (size number : ℕ) (block : List (List ℤ)) (f : FrameForm) → (length block ≡ 2 → ⊥) → length block ≤ 8 → IsEncoding sound size number block f → AreLeast ps sound.bits f.subframes block
+pub independent_least : (ps : List LinearPredictor) (sound : Sound) (size number : ℕ) (block : List (List ℤ)) (f : FrameForm) → (length block ≡ 2 → ⊥) → length block ≤ 8 → IsEncoding sound size number block f → AreLeast (partition_limit sound) ps sound.bits f.subframes block
     → IsLeastWith ps sound size number block f
 independent_least ps sound size number block f other few encoding least =
     let depth : ℕ = sound.bits in
     let code = code_once (nat_lt f.header.channel_code 8) f.header.channel_code (length block) encoding.channels other in
     let low : f.header.channel_code ≤ 7 = omega (arith, code, few) in
     let cost : subframes_cost depth f ≡ length (flat_map (subframe_spelling depth) f.subframes) = ap (λ (t : List Bool). length t) (texts_are depth f.header.channel_code size low 0 f.subframes) in
-    least_frame ps sound size number block f (record { encoding = encoding; stand = subst (EachStands ps f.subframes) (sym (kept_same f.header.channel_code block low)) (stands_of ps depth f.subframes block least) })
+    least_frame ps sound size number block f (record { encoding = encoding; stand = subst (EachStands (partition_limit sound) ps f.subframes) (sym (kept_same f.header.channel_code block low)) (stands_of (partition_limit sound) ps depth f.subframes block least) })
     (λ g m.
     let code' = code_once (nat_lt g.header.channel_code 8) g.header.channel_code (length block) m.encoding.channels other in
     let low' : g.header.channel_code ≤ 7 = omega (arith, code', few) in
     let cost' : subframes_cost depth g ≡ length (flat_map (subframe_spelling depth) g.subframes) = ap (λ (t : List Bool). length t) (texts_are depth g.header.channel_code size low' 0 g.subframes) in
-    let less = all_less ps depth f.subframes g.subframes block least (subst (EachStands ps g.subframes) (kept_same g.header.channel_code block low') m.stand) in
+    let less = all_less (partition_limit sound) ps depth f.subframes g.subframes block least (subst (EachStands (partition_limit sound) ps g.subframes) (kept_same g.header.channel_code block low') m.stand) in
     (omega (arith, cost, cost', less), λ lower. absurd (omega (arith, lower, code, code'))))

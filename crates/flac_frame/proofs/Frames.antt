@@ -7,8 +7,7 @@ use Rattle.flac_subframe.specs.declared.linear.LinearPredictor.{LinearPredictor}
 use Rattle.flac_subframe.specs.Handed.{AreWithin}
 use Rattle.flac_bits.specs.Signed.{FitsBits}
 use Rattle.flac_header.specs.Header.{Header, IsHeader, channels_of}
-use Rattle.flac_header.specs.Choice.{size_choice, rate_choice, depth_choice, chosen_header}
-use Rattle.flac_header.specs.declared.subset.Profile.TheVariants.{Subset}
+use Rattle.flac_header.specs.Choice.{size_choice, rate_choice_in, depth_choice_in, chosen_header}
 use Rattle.flac_subframe.specs.declared.limits.Limits.{Limits}
 use Rattle.flac_subframe.specs.Spelling.{subframe_spelling}
 use Rattle.flac_subframe.specs.Subframe.{Form}
@@ -18,12 +17,12 @@ use Rattle.flac_frame.specs.Frame.{limits_at}
 use Rattle.flac_frame.specs.Stereo.{joined, kept_as}
 use Rattle.flac_frame.specs.Spelling.{FrameForm, subframes_spelling, HaveSamples}
 use Rattle.flac_frame.specs.Chosen.{forms_of, AreMade, AreChosen, IsChoiceWith}
-use Rattle.flac_frame.specs.Encoding.{block_of, AreForms, AreLeast, IsEncoding, IsLeastWith, IsShort, subframes_cost}
+use Rattle.flac_frame.specs.Encoding.{block_of, partition_limit, AreForms, AreLeast, IsEncoding, IsLeastWith, IsShort, subframes_cost}
 use Rattle.flac_frame.specs.declared.frame_choice.FrameChoice.{FrameChoice}
 use Rattle.flac_frame.proofs.Encoded.{is_block, part_fits}
 use Rattle.flac_frame.proofs.Short.{all_short, parts_few, frame_short}
 use Rattle.flac_frame.proofs.Family.{independent_least, kept_same}
-use Rattle.flac_frame.proofs.Sounds.{depth_small}
+use Rattle.flac_frame.proofs.Sounds.{depth_small, limit_few}
 use Rattle.flac_frame.proofs.Wholes.{texts_are, subframes_are, samples_are, as_many, not_joined, all_fit_in, codes_are, chosen_as, chosen_there}
 
 -- ---- the whole
@@ -31,26 +30,26 @@ use Rattle.flac_frame.proofs.Wholes.{texts_are, subframes_are, samples_are, as_m
 as_coded : (code : ℕ) → code ≤ 7 → channels_of code ≡ code + 1
 as_coded code few = let a : nat_lt code 8 ≡ true = grind (arith, nat_tests) in rw a refl
 
-pub frame_encoded : (ps : List LinearPredictor) (sound : Sound) → AreWithin (limits_at Subset sound.rate).linear ps → (code size number : ℕ) (block : List (List ℤ)) (fs : List Form) (h : Header) → (length block ≡ 2 → ⊥) → code ≤ 7 → number < 2 ^ 31
-    → (1 ≤ sound.bits) × (sound.bits ≤ 32) → 1 ≤ size → size ≤ 65535 → All (λ s. length s ≡ size) block → chosen_header size sound.rate code sound.bits number ≡ Some h → IsHeader h → code + 1 ≡ length block → All (λ s. All (FitsBits sound.bits) s) block
-    → AreForms ps sound.bits size fs block → AreLeast ps sound.bits fs block → (f : FrameForm) → f ≡ record { header = h; subframes = fs }
+pub frame_encoded : (ps : List LinearPredictor) (sound : Sound) → AreWithin (limits_at sound.profile sound.rate).linear ps → (code size number : ℕ) (block : List (List ℤ)) (fs : List Form) (h : Header) → (length block ≡ 2 → ⊥) → code ≤ 7 → number < 2 ^ 31
+    → (1 ≤ sound.bits) × (sound.bits ≤ 32) → 1 ≤ size → size ≤ 65535 → All (λ s. length s ≡ size) block → chosen_header sound.profile size sound.rate code sound.bits number ≡ Some h → IsHeader h → code + 1 ≡ length block → All (λ s. All (FitsBits sound.bits) s) block
+    → AreForms (partition_limit sound) ps sound.bits size fs block → AreLeast (partition_limit sound) ps sound.bits fs block → (f : FrameForm) → f ≡ record { header = h; subframes = fs }
     → IsEncoding sound size number block f × IsLeastWith ps sound size number block f × IsShort sound.bits f × (subframes_cost sound.bits f ≡ length (flat_map (subframe_spelling sound.bits) fs))
 frame_encoded ps sound within code size number block fs h other independent small deep some few long chosen valid each fits are least f is =
     let depth : ℕ = sound.bits in
-    let codes = codes_are (size_choice size) (rate_choice sound.rate) (depth_choice depth) size sound.rate code number h (sym (chosen_as size sound.rate code depth number (omega (arith, independent)) small) ∙ chosen) in
+    let codes = codes_are (size_choice size) (rate_choice_in sound.profile sound.rate) (depth_choice_in sound.profile depth) size sound.rate code number h (sym (chosen_as sound.profile size sound.rate code depth number (omega (arith, independent)) small) ∙ chosen) in
     let parts_are : flat_map (subframe_spelling depth) fs ≡ subframes_spelling depth h.channel_code 0 fs = sym (ap (λ k. subframes_spelling depth k 0 fs) codes.0 ∙ texts_are depth code size independent 0 fs) in
-    let limits : Limits = limits_at Subset sound.rate in
-    let have = subst (λ k. HaveSamples depth k h.size 0 fs block) (sym codes.0) (subst (λ n. HaveSamples depth code n 0 fs block) (sym codes.1) (samples_are depth code size independent ps 0 fs block are)) in
+    let limits : Limits = limits_at sound.profile sound.rate in
+    let have = subst (λ k. HaveSamples depth k h.size 0 fs block) (sym codes.0) (subst (λ n. HaveSamples depth code n 0 fs block) (sym codes.1) (samples_are depth code size independent (partition_limit sound) ps 0 fs block are)) in
     let short : IsShort depth (record { header = h; subframes = fs }) = frame_short depth (record { header = h; subframes = fs })
-    (omega (arith, ap (λ (t : List Bool). length t) parts_are, all_short ps depth deep.0 size fs block some long fits least, parts_few (length block) depth size (omega (arith, independent, each)) deep.1 few)) in
+    (omega (arith, ap (λ (t : List Bool). length t) parts_are, all_short (partition_limit sound) (limit_few sound.profile sound.rate) ps depth deep.0 size fs block some long fits least, parts_few (length block) depth size (omega (arith, independent, each)) deep.1 few)) in
     let encoding : IsEncoding sound size number block (record { header = h; subframes = fs }) =
     record {
       code = code;
       header = chosen;
       valid = valid;
       channels = ap channels_of codes.0 ∙ as_coded code independent ∙ each;
-      many = as_many depth code size independent ps fs block are;
-      subframes = subframes_are depth code size independent ps limits (omega arith) within 0 fs block are;
+      many = as_many depth code size independent (partition_limit sound) ps fs block are;
+      subframes = subframes_are depth code size independent (partition_limit sound) ps limits (omega arith) within 0 fs block are;
       samples = record {
         kept = block;
         subframes = have;
@@ -81,29 +80,29 @@ module _ {V : Type 0} (items : V → List ℤ) (xs : List V) (sound : Sound) (go
   each_fits_in bits e = from_map (λ c. All (FitsBits bits) c) items xs (subst (λ k. All (λ c. All (FitsBits bits) c) k) (sym are) (subst (λ b. All (λ c. All (FitsBits b) c) sound.channels) (sym e) good.small))
 
   pub bits_small : (bits : ℕ) → bits ≡ sound.bits → (1 ≤ bits) × (bits ≤ 32)
-  bits_small bits e = depth_small bits (ap (λ b. is_some (depth_choice b)) e ∙ good.bits)
+  bits_small bits e = depth_small sound.profile bits (ap (λ b. is_some (depth_choice_in sound.profile b)) e ∙ good.bits)
 
   pub never_none : (size rate code bits number : ℕ) (o : Option Header) → rate ≡ sound.rate → bits ≡ sound.bits → code ≤ 10 → 1 ≤ size → size ≤ 65535 → number < 2 ^ 31
-      → o ≡ chosen_header size rate code bits number → o ≡ None → ⊥
+      → o ≡ chosen_header sound.profile size rate code bits number → o ≡ None → ⊥
   never_none size rate code bits number o r b c some few small is none =
-      chosen_there size rate code bits number some few (ap (λ k. is_some (rate_choice k)) r ∙ good.rate) (ap (λ k. is_some (depth_choice k)) b ∙ good.bits) c small (sym is ∙ none)
+      chosen_there sound.profile size rate code bits number some few (ap (λ k. is_some (rate_choice_in sound.profile k)) r ∙ good.rate) (ap (λ k. is_some (depth_choice_in sound.profile k)) b ∙ good.bits) c small (sym is ∙ none)
 
   -- what was chosen of each channel by itself makes a frame
-  pub apart_choice : (ps : List LinearPredictor) → AreWithin (limits_at Subset sound.rate).linear ps → (start size rate code bits depth number : ℕ) (o : Option Header) (c : FrameChoice) → rate ≡ sound.rate → bits ≡ sound.bits → depth ≡ sound.bits → (length sound.channels ≡ 2 → ⊥) → code ≡ length xs - 1 → c.code ≡ code
-      → 1 ≤ size → size ≤ 65535 → start + size ≤ samples_each sound.channels → number < 2 ^ 31 → o ≡ chosen_header size rate code bits number → IfSome o IsHeader
-      → AreChosen ps depth size c.subframes.items (block_of start size (map items xs)) → c.bits ≡ length (flat_map (subframe_spelling depth) (forms_of ps c.subframes.items (block_of start size (map items xs))))
+  pub apart_choice : (ps : List LinearPredictor) → AreWithin (limits_at sound.profile sound.rate).linear ps → (start size rate code bits depth number : ℕ) (o : Option Header) (c : FrameChoice) → rate ≡ sound.rate → bits ≡ sound.bits → depth ≡ sound.bits → (length sound.channels ≡ 2 → ⊥) → code ≡ length xs - 1 → c.code ≡ code
+      → 1 ≤ size → size ≤ 65535 → start + size ≤ samples_each sound.channels → number < 2 ^ 31 → o ≡ chosen_header sound.profile size rate code bits number → IfSome o IsHeader
+      → AreChosen (partition_limit sound) ps depth size c.subframes.items (block_of start size (map items xs)) → c.bits ≡ length (flat_map (subframe_spelling depth) (forms_of ps c.subframes.items (block_of start size (map items xs))))
       → IsChoiceWith ps sound size number (block_of start size sound.channels) c
   apart_choice ps orders start size rate code bits depth number None c r b d other n coded some few within small is valid chose cost = absurd (never_none size rate code bits number None r b (omega (arith, n, few_channels.1)) some few small is refl)
   apart_choice ps orders start size rate code bits depth number (Some h) c r b d other n coded some few within small is valid chose cost =
       let deep = bits_small sound.bits refl in
-      let chosen : chosen_header size sound.rate code sound.bits number ≡ Some h = ap (λ k. chosen_header size k code sound.bits number) (sym r) ∙ ap (λ k. chosen_header size rate code k number) (sym b) ∙ sym is in
+      let chosen : chosen_header sound.profile size sound.rate code sound.bits number ≡ Some h = ap (λ k. chosen_header sound.profile size k code sound.bits number) (sym r) ∙ ap (λ k. chosen_header sound.profile size rate code k number) (sym b) ∙ sym is in
       let block = is_block items sound.bits start size deep.0 some xs (each_long start size within, each_fits_in sound.bits refl) in
       let all : List (List ℤ) = block_of start size sound.channels in
       let fits = subst (λ k. All (λ s. All (FitsBits sound.bits) s) (block_of start size k)) are block.1 in
       let long = subst (λ k. All (λ s. length s ≡ size) (block_of start size k)) are block.0 in
       let block_long : length all ≡ length xs = length-map sound.channels (λ c. take size (drop start c)) ∙ ap (λ (l : List (List ℤ)). length l) (sym are) ∙ length-map xs items in
       let lengths_are : length sound.channels ≡ length xs = ap (λ (l : List (List ℤ)). length l) (sym are) ∙ length-map xs items in
-      let chose' : AreChosen ps sound.bits size c.subframes.items all = subst (λ k. AreChosen ps sound.bits size c.subframes.items (block_of start size k)) are (subst (λ k. AreChosen ps k size c.subframes.items (block_of start size (map items xs))) d chose) in
+      let chose' : AreChosen (partition_limit sound) ps sound.bits size c.subframes.items all = subst (λ k. AreChosen (partition_limit sound) ps sound.bits size c.subframes.items (block_of start size k)) are (subst (λ k. AreChosen (partition_limit sound) ps k size c.subframes.items (block_of start size (map items xs))) d chose) in
       let cost' : c.bits ≡ length (flat_map (subframe_spelling sound.bits) (forms_of ps c.subframes.items all)) =
       cost ∙ ap (λ k. length (flat_map (subframe_spelling k) (forms_of ps c.subframes.items (block_of start size (map items xs))))) d ∙ ap (λ k. length (flat_map (subframe_spelling sound.bits) (forms_of ps c.subframes.items (block_of start size k)))) are in
       let low : code ≤ 7 = omega (arith, n, few_channels.1) in
@@ -112,7 +111,7 @@ module _ {V : Type 0} (items : V → List ℤ) (xs : List V) (sound : Sound) (go
       let keeps : kept_as c.code all ≡ all = kept_same c.code all (omega (arith, coded, low)) in
       record {
         form = form;
-        header = ap (λ k. chosen_header size sound.rate k sound.bits number) coded ∙ chosen;
+        header = ap (λ k. chosen_header sound.profile size sound.rate k sound.bits number) coded ∙ chosen;
         subframes = ap (forms_of ps c.subframes.items) (sym keeps);
         made = subst (AreMade ps c.subframes.items) (sym keeps) chose'.made;
         encoding = p.0;

@@ -15,6 +15,7 @@ pub mod Frames
 pub mod Pairs
 pub mod PairLeast
 pub mod Encodings
+pub mod SampleCounts
 pub mod PlainFamily
 pub mod Sizes
 pub mod Rooms

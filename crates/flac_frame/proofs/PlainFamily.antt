@@ -5,15 +5,14 @@ use Rattle.std.specs.Int.{int_shr}
 use Rattle.std.proofs.lemmas.Bool.Decides.{nat_tests}
 use Rattle.std.proofs.lemmas.List.{ext_get_or}
 use Rattle.flac_header.specs.Header.{channels_of}
-use Rattle.flac_header.specs.declared.subset.Profile.TheVariants.{Subset}
 use Rattle.flac_subframe.specs.declared.limits.Limits.{Limits}
 use Rattle.flac_subframe.specs.declared.linear.LinearPredictor.{LinearPredictor}
 use Rattle.flac_subframe.specs.Laws.{InFamily, InWidened}
 use Rattle.flac_subframe.specs.Subframe.{Form}
-use Rattle.flac_subframe.proofs.Complete.{widened_whole, none_linear, samples_long}
+use Rattle.flac_subframe.proofs.Complete.{widened_whole, none_linear}
 use Rattle.flac_subframe.proofs.Family.{in_widened, no_linear}
 use Rattle.flac_frame.specs.Audio.{Sound}
-use Rattle.flac_frame.specs.Encoding.{IsEncoding, EachStands, EachInFamily, EachInWidened, FrameFamilyIsPlain, FrameWidenedIsPlain}
+use Rattle.flac_frame.specs.Encoding.{partition_limit, IsEncoding, EachStands, EachInFamily, EachInWidened, FrameFamilyIsPlain, FrameWidenedIsPlain}
 use Rattle.flac_frame.specs.Frame.{limits_at}
 use Rattle.flac_frame.specs.Spelling.{FrameForm, AreSubframes, HaveSamples}
 use Rattle.flac_frame.specs.Stereo.{sample_at, Joined, joined, kept_as, side_of, middle_of}
@@ -21,6 +20,7 @@ use Rattle.flac_frame.proofs.Family.{coded_as, kept_same}
 use Rattle.flac_frame.proofs.Joins.{channels_joined}
 use Rattle.flac_frame.proofs.PairLeast.{by_test, kept_8, kept_9, kept_10}
 use Rattle.flac_frame.proofs.Pairs.{side_long, middle_long, side_at, middle_at}
+use Rattle.flac_frame.proofs.SampleCounts.{samples_long}
 use Rattle.flac_frame.proofs.Wholes.{not_joined}
 
 -- ---- two channels are kept in one way
@@ -65,27 +65,27 @@ abbrev EachLong : ℕ → List (List ℤ) → Type 0
 EachLong n [] = ⊤
 EachLong n (s ∷ ss) = (length s ≡ n) × EachLong n ss
 
-module _ (ps : List LinearPredictor) (depth code size : ℕ) (limits : Limits) (small : limits.partition ≤ 8) where
+module _ (ps : List LinearPredictor) (depth code size : ℕ) (limits : Limits) where
   each_long : (channel : ℕ) (fs : List Form) (ss : List (List ℤ)) → AreSubframes depth code size limits channel fs → HaveSamples depth code size channel fs ss → EachLong size ss × (length ss ≡ length fs)
   each_long channel [] [] valid have = (tt, refl)
   each_long channel [] (s ∷ ss) valid have = absurd have
   each_long channel (f ∷ fs) [] valid have = absurd have
   each_long channel (f ∷ fs) (s ∷ ss) valid have =
       let rest = each_long (channel + 1) fs ss valid.1 have.1 in
-      ((samples_long _ size limits f s small valid.0 have.0, rest.0), omega (arith, rest.1))
+      ((samples_long _ size limits f s valid.0 have.0, rest.0), omega (arith, rest.1))
 
-  each_stands : (channel : ℕ) (fs : List Form) (ss : List (List ℤ)) → AreSubframes depth code size limits channel fs → HaveSamples depth code size channel fs ss → EachInWidened ps fs ss → EachStands ps fs ss
+  each_stands : (channel : ℕ) (fs : List Form) (ss : List (List ℤ)) → AreSubframes depth code size limits channel fs → HaveSamples depth code size channel fs ss → EachInWidened ps fs ss → EachStands limits.partition ps fs ss
   each_stands channel [] [] valid have family = tt
   each_stands channel [] (s ∷ ss) valid have family = absurd have
   each_stands channel (f ∷ fs) [] valid have family = absurd have
   each_stands channel (f ∷ fs) (s ∷ ss) valid have family =
-      (widened_whole 8 _ size limits ps f s small valid.0 have.0 family.0, each_stands (channel + 1) fs ss valid.1 have.1 family.1)
+      (widened_whole limits.partition _ size limits ps f s (omega arith) valid.0 have.0 family.0, each_stands (channel + 1) fs ss valid.1 have.1 family.1)
 
-each_plain : (ps : List LinearPredictor) (fs : List Form) (ss : List (List ℤ)) → EachStands ps fs ss → EachInWidened ps fs ss
-each_plain ps [] [] stand = tt
-each_plain ps [] (s ∷ ss) stand = absurd stand
-each_plain ps (f ∷ fs) [] stand = absurd stand
-each_plain ps (f ∷ fs) (s ∷ ss) stand = (in_widened 8 ps f s stand.0, each_plain ps fs ss stand.1)
+each_plain : (most : ℕ) (ps : List LinearPredictor) (fs : List Form) (ss : List (List ℤ)) → EachStands most ps fs ss → EachInWidened ps fs ss
+each_plain most ps [] [] stand = tt
+each_plain most ps [] (s ∷ ss) stand = absurd stand
+each_plain most ps (f ∷ fs) [] stand = absurd stand
+each_plain most ps (f ∷ fs) (s ∷ ss) stand = (in_widened most ps f s stand.0, each_plain most ps fs ss stand.1)
 
 -- where no linear predictor is handed in
 each_family : (fs : List Form) (ss : List (List ℤ)) → EachInWidened [] fs ss → EachInFamily fs ss
@@ -128,31 +128,31 @@ paired code n t e = go (nat_lt code 8) t e
     go false t e = sym e
 
 module _ (ps : List LinearPredictor) (sound : Sound) (size number : ℕ) (block : List (List ℤ)) (f : FrameForm) (e : IsEncoding sound size number block f) where
-  subframes_valid : AreSubframes sound.bits f.header.channel_code f.header.size (limits_at Subset sound.rate) 0 f.subframes
+  subframes_valid : AreSubframes sound.bits f.header.channel_code f.header.size (limits_at sound.profile sound.rate) 0 f.subframes
   subframes_valid =
-      let codes = coded_as size sound.rate e.code sound.bits number f.header e.header in
-      subst (λ z. AreSubframes sound.bits f.header.channel_code z (limits_at Subset sound.rate) 0 f.subframes) (sym codes.1)
-      (subst (λ c. AreSubframes sound.bits c size (limits_at Subset sound.rate) 0 f.subframes) (sym codes.0) e.subframes)
+      let codes = coded_as sound.profile size sound.rate e.code sound.bits number f.header e.header in
+      subst (λ z. AreSubframes sound.bits f.header.channel_code z (limits_at sound.profile sound.rate) 0 f.subframes) (sym codes.1)
+      (subst (λ c. AreSubframes sound.bits c size (limits_at sound.profile sound.rate) 0 f.subframes) (sym codes.0) e.subframes)
 
   -- the subframes have just what the channel code keeps of the block
   kept_is : kept_as f.header.channel_code block ≡ e.samples.kept
   kept_is =
       let code : ℕ = f.header.channel_code in
       let kept : List (List ℤ) = e.samples.kept in
-      let each = each_long ps sound.bits code f.header.size (limits_at Subset sound.rate) (omega arith) 0 f.subframes kept subframes_valid e.samples.subframes in
+      let each = each_long ps sound.bits code f.header.size (limits_at sound.profile sound.rate) 0 f.subframes kept subframes_valid e.samples.subframes in
       by_test (nat_lt code 8)
       (λ t. let low : code ≤ 7 = grind (arith, nat_tests) in kept_same code block low ∙ sym e.samples.joined ∙ not_joined 1 code 1 low kept)
       (λ t. let over : 7 < code = grind (arith, nat_tests) in
       let two : length block ≡ 2 = paired code (length block) t e.channels in
       pair_back code f.header.size kept block over (omega (arith, e.valid.channel_code)) (each.1 ∙ e.many ∙ two) two each.0 e.samples.joined)
 
-  stand : EachInWidened ps f.subframes e.samples.kept → EachStands ps f.subframes e.samples.kept
-  stand family = each_stands ps sound.bits f.header.channel_code f.header.size (limits_at Subset sound.rate) (omega arith) 0 f.subframes e.samples.kept subframes_valid e.samples.subframes family
+  stand : EachInWidened ps f.subframes e.samples.kept → EachStands (partition_limit sound) ps f.subframes e.samples.kept
+  stand family = each_stands ps sound.bits f.header.channel_code f.header.size (limits_at sound.profile sound.rate) 0 f.subframes e.samples.kept subframes_valid e.samples.subframes family
 
 pub frame_widened_plain : FrameWidenedIsPlain
 frame_widened_plain ps sound size number block f = (
-  λ o. (o.encoding, subst (EachInWidened ps f.subframes) (kept_is ps sound size number block f o.encoding) (each_plain ps f.subframes (kept_as f.header.channel_code block) o.stand)),
-  λ p. record { encoding = p.0; stand = subst (EachStands ps f.subframes) (sym (kept_is ps sound size number block f p.0)) (stand ps sound size number block f p.0 p.1) },
+  λ o. (o.encoding, subst (EachInWidened ps f.subframes) (kept_is ps sound size number block f o.encoding) (each_plain (partition_limit sound) ps f.subframes (kept_as f.header.channel_code block) o.stand)),
+  λ p. record { encoding = p.0; stand = subst (EachStands (partition_limit sound) ps f.subframes) (sym (kept_is ps sound size number block f p.0)) (stand ps sound size number block f p.0 p.1) },
 )
 
 pub frame_family_plain : FrameFamilyIsPlain

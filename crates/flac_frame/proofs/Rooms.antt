@@ -1,5 +1,17 @@
--- Arrays with places enough, after calls that leave their lengths.
-use Rattle.std.proofs.Common.{◌≡◌, ℕ, ◌+◌, ◌<◌, ◌≤◌, arith}
+-- Places enough, after calls that leave them.
+use Rattle.std.proofs.Common.{◌≡◌, ◌∙◌, ap, subst, sym, ℕ, ◌+◌, ◌<◌, ◌≤◌, ◌^◌, arith, ℤ, List, length, Some}
+use Rattle.std.proofs.Math.Nat.{pow-le-pow_right}
+use Rattle.flac_header.specs.declared.subset.Profile.{Profile}
+use Rattle.flac_subframe.specs.declared.limits.Limits.{Limits}
+use Rattle.flac_subframe.specs.declared.linear.LinearPredictor.{LinearPredictor}
+use Rattle.flac_subframe.specs.Chosen.{offered}
+use Rattle.flac_subframe.specs.Family.{Stands}
+use Rattle.flac_subframe.specs.Handed.{AreWithin}
+use Rattle.flac_subframe.specs.Least.{IsLeast}
+use Rattle.flac_subframe.specs.Spelling.{subframe_spelling, IsSubframe}
+use Rattle.flac_subframe.specs.Subframe.{Form, samples_of}
+use Rattle.flac_frame.specs.Frame.{limits_at}
+use Rattle.flac_frame.specs.Pair.{IsChosen}
 
 -- as many are placed, in an array that is as long
 pub room_for : (n m places before : ℕ) → n ≡ m → places ≡ before → m ≤ before → n ≤ places
@@ -13,3 +25,28 @@ few_of n m k p q = omega arith
 
 pub deeper : (depth : ℕ) → (1 ≤ depth) × (depth ≤ 32) → (1 ≤ depth + 1) × (depth + 1 ≤ 33)
 deeper depth d = (omega (arith, d.0), omega (arith, d.1))
+
+-- places for the partitions of a greater order
+pub wide_for : (n m places : ℕ) → n ≤ m → 2 ^ m ≤ places → 2 ^ n ≤ places
+wide_for n m places le wide = let p : 2 ^ n ≤ 2 ^ m = pow-le-pow_right {n = 2} (omega arith) {i = n} {j = m} le in omega (arith, p, wide)
+
+pub wide_still : (n before after : ℕ) → after ≡ before → n ≤ before → n ≤ after
+wide_still n before after same le = omega arith
+
+-- ---- the limits of samples
+
+pub limits_are : (p q : Profile) (rate own : ℕ) (l : Limits) → l ≡ limits_at p rate → p ≡ q → rate ≡ own → l ≡ limits_at q own
+limits_are p q rate own l is e f = is ∙ ap (λ k. limits_at k rate) e ∙ ap (limits_at q) f
+
+pub partition_is : (p q : Profile) (rate own : ℕ) (l : Limits) → l ≡ limits_at p rate → p ≡ q → rate ≡ own → l.partition ≡ (limits_at q own).partition
+partition_is p q rate own l is e f = ap (λ (k : Limits). k.partition) (limits_are p q rate own l is e f)
+
+pub chosen_of : (most : ℕ) (ps : List LinearPredictor) (depth : ℕ) (s : List ℤ) (f : Form) (bits : ℕ) (l : Limits) → l.partition ≡ most
+    → IsLeast (λ g. Stands l.partition (offered ps) g s) (λ g. length (subframe_spelling depth g)) f → bits ≡ length (subframe_spelling depth f)
+    → ((limits : Limits) → l.partition ≤ limits.partition → AreWithin limits.linear ps → IsSubframe depth (length s) limits f) → samples_of depth (length s) f ≡ Some s → IsChosen most ps depth s f bits
+chosen_of most ps depth s f bits l is least cost valid samples = record {
+  least = subst (λ n. IsLeast (λ g. Stands n (offered ps) g s) (λ g. length (subframe_spelling depth g)) f) is least;
+  cost = cost;
+  valid = λ limits le. valid limits (omega (arith, le, is));
+  samples = samples;
+}

@@ -109,20 +109,20 @@ header_few h = omega (arith, header_long h, number_few h.number, size_few h.size
 
 -- ---- a subframe
 
-module _ (ps : List LinearPredictor) (depth : ℕ) (deep : 1 ≤ depth) where
+module _ (most : ℕ) (wide : most ≤ 15) (ps : List LinearPredictor) (depth : ℕ) (deep : 1 ≤ depth) where
   plain_long : (k : ℕ) (t : List ℤ) → length (subframe_spelling depth (record { wasted = k; content = Verbatim t })) ≡ 8 + k + (depth - k) * length t
   unfolding content_spelling
   plain_long k t = length-subframe depth (record { wasted = k; content = Verbatim t }) ∙ ap (λ n. 8 + k + n) (length-samples (depth - k) t)
 
   -- the samples themselves, without the bits that all lack, take no fewer bits
-  pub one_short : (f : Form) (s : List ℤ) → 0 < length s → All (FitsBits depth) s → IsLeastFor ps depth s f → length (subframe_spelling depth f) ≤ 8 + depth + depth * length s
+  pub one_short : (f : Form) (s : List ℤ) → 0 < length s → All (FitsBits depth) s → IsLeastFor most ps depth s f → length (subframe_spelling depth f) ≤ 8 + depth + depth * length s
   one_short f s some fits least =
       let k : ℕ = f.wasted in
       let t : List ℤ = least.member.body.1 in
       let so : s ≡ map (times_power k) t = least.member.body.3 in
-      let stands : Stands 8 (offered ps) (record { wasted = k; content = Verbatim t }) s = record { wasted = least.member.wasted; body = (verbatim t, t, refl, so, refl) } in
-      let limits : Limits = record { partition = 8; linear = 32 } in
-      let left : k < depth = (widened_stand 8 depth limits ps f s deep some (omega arith) (omega arith) (all_within ps) fits least.member).0.left in
+      let stands : Stands most (offered ps) (record { wasted = k; content = Verbatim t }) s = record { wasted = least.member.wasted; body = (verbatim t, t, refl, so, refl) } in
+      let limits : Limits = record { partition = most; linear = 32 } in
+      let left : k < depth = (widened_stand most depth limits ps f s deep some (omega arith) wide (all_within ps) fits least.member).0.left in
       let long : length t ≡ length s = sym (length-map t (times_power k)) ∙ ap (λ (l : List ℤ). length l) (sym so) in
       let le = least.least (record { wasted = k; content = Verbatim t }) stands in
       let few : (depth - k) * length t ≤ depth * length s = subst (λ n. (depth - k) * length t ≤ depth * n) long (mul-le-mul_right (length t) (omega arith)) in
@@ -131,7 +131,7 @@ module _ (ps : List LinearPredictor) (depth : ℕ) (deep : 1 ≤ depth) where
   one_more : (n m a b c : ℕ) → c ≡ a + b → a ≤ m → b ≤ n * m → c ≤ suc n * m
   one_more n m a b c e h k = omega (arith, e, h, k)
 
-  pub all_short : (size : ℕ) (fs : List Form) (block : List (List ℤ)) → 0 < size → All (λ s. length s ≡ size) block → All (λ s. All (FitsBits depth) s) block → AreLeast ps depth fs block
+  pub all_short : (size : ℕ) (fs : List Form) (block : List (List ℤ)) → 0 < size → All (λ s. length s ≡ size) block → All (λ s. All (FitsBits depth) s) block → AreLeast most ps depth fs block
       → length (flat_map (subframe_spelling depth) fs) ≤ length block * (8 + depth + depth * size)
   all_short size [] [] some long fits least = omega arith
   all_short size [] (s ∷ ss) some long fits least = absurd least

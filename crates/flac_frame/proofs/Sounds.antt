@@ -12,7 +12,11 @@ use Rattle.std.proofs.lemmas.Bool.{ltb-true}
 use Rattle.std.proofs.lemmas.List.Elements.{All-nil, All-cons}
 use Rattle.flac_bits.specs.Signed.{FitsBits}
 use Rattle.std.proofs.lemmas.Bool.Decides.{nat_tests}
-use Rattle.flac_header.specs.Choice.{depth_choice, rate_choice}
+use Rattle.flac_header.specs.Choice.{depth_choice, depth_choice_in, rate_choice_in}
+use Rattle.flac_header.specs.declared.subset.Profile.{Profile}
+use Rattle.flac_header.specs.declared.subset.Profile.TheVariants.{Subset, Lax}
+use Rattle.flac_frame.specs.Frame.{limits_at}
+use Rattle.flac_frame.specs.Encoding.{most_in}
 
 pub samples_in_first : {X : Type 0} (f : X → List ℤ) (xs : List X) (d : X) → 0 < length xs → length (get_or (map f xs) 0 []) ≡ length (f (get_or xs 0 d))
 samples_in_first f [] d h = absurd (omega (arith, h))
@@ -51,9 +55,32 @@ pub not_long : (n : ℕ) → n < 2 ^ 36 → cond (nat_le (2 ^ 36) n) (Some TooLo
 not_long n h = let e : nat_le (2 ^ 36) n ≡ false = grind (arith, nat_tests) in rw e refl
 
 -- a depth that has a code
-pub depth_small : (d : ℕ) → is_some (depth_choice d) ≡ true → (1 ≤ d) × (d ≤ 32)
+subset_small : (d : ℕ) → is_some (depth_choice d) ≡ true → (1 ≤ d) × (d ≤ 32)
 unfolding depth_choice
-depth_small d h = grind (arith, nat_tests)
+subset_small d h = grind (arith, nat_tests)
+
+within_small : (d : ℕ) (o : Option ℕ) → is_some (cond (nat_lt d 4 || nat_lt 32 d) None o) ≡ true → (1 ≤ d) × (d ≤ 32)
+within_small d o h = go (nat_lt d 4) (nat_lt 32 d) refl refl h
+  where
+    go : (a b : Bool) → nat_lt d 4 ≡ a → nat_lt 32 d ≡ b → is_some (cond (a || b) None o) ≡ true → (1 ≤ d) × (d ≤ 32)
+    go true b e f h = absurd cc
+    go false true e f h = absurd cc
+    go false false e f h = let low : 4 ≤ d = grind (arith, nat_tests) in let high : d ≤ 32 = grind (arith, nat_tests) in (omega (arith, low), high)
+
+pub depth_small : (p : Profile) (d : ℕ) → is_some (depth_choice_in p d) ≡ true → (1 ≤ d) × (d ≤ 32)
+unfolding depth_choice_in
+depth_small Subset d h = subset_small d h
+depth_small Lax d h = within_small d _ h
+
+-- ---- the greatest partition order
+
+pub limit_few : (p : Profile) (rate : ℕ) → (limits_at p rate).partition ≤ 15
+limit_few Subset rate = omega arith
+limit_few Lax rate = omega arith
+
+pub limit_same : (p : Profile) (rate : ℕ) → (limits_at p rate).partition ≡ most_in p
+limit_same Subset rate = refl
+limit_same Lax rate = refl
 
 -- ---- what holds of samples that can be encoded
 
@@ -91,19 +118,19 @@ counts_are n e = (grind (arith, nat_tests), grind (arith, nat_tests))
 not_over : (n : ℕ) → nat_le (2 ^ 36) n ≡ false → n < 2 ^ 36
 not_over n e = grind (arith, nat_tests)
 
-pub sound_is : (rate bits : ℕ) (cs : List (List ℤ)) → audio_fault rate bits cs ≡ None → IsSound (record { rate = rate; bits = bits; channels = cs })
+pub sound_is : (profile : Profile) (rate bits : ℕ) (cs : List (List ℤ)) → audio_fault profile rate bits cs ≡ None → IsSound (record { profile = profile; rate = rate; bits = bits; channels = cs })
 unfolding audio_fault channels_fault
-sound_is rate bits cs e =
-    let a = none_here (is_none (rate_choice rate)) BadRate _ e in
-    let b = none_here (is_none (depth_choice bits)) BadDepth _ a.1 in
+sound_is profile rate bits cs e =
+    let a = none_here (is_none (rate_choice_in profile rate)) BadRate _ e in
+    let b = none_here (is_none (depth_choice_in profile bits)) BadDepth _ a.1 in
     let c = none_here (nat_eq (length cs) 0 || nat_lt 8 (length cs)) BadChannels _ b.1 in
     let d = none_here (not (as_long cs)) LengthsDiffer _ c.1 in
     let f = none_here (not (each_small bits cs)) SampleTooLarge _ d.1 in
     let g = none_here (nat_le (2 ^ 36) (samples_each cs)) TooLong None f.1 in
     let n = counts_are (length cs) c.0 in
     record {
-      rate = is_there (rate_choice rate) a.0;
-      bits = is_there (depth_choice bits) b.0;
+      rate = is_there (rate_choice_in profile rate) a.0;
+      bits = is_there (depth_choice_in profile bits) b.0;
       some = n.0;
       few = n.1;
       long = all_of (λ c. length c ≡ samples_each cs) (λ c. nat_eq (length c) (samples_each cs)) (same_length (samples_each cs)) cs (kept_true (as_long cs) d.0);

@@ -12,7 +12,8 @@ use Rattle.flac_bits.proofs.Laws.{past-append}
 use Rattle.flac_bits.proofs.Writing.{fails_first, fails_then, writes_then}
 use Rattle.flac_bits.proofs.ItemSpellings.{fresh_unread, fresh_check16}
 use Rattle.flac_header.specs.Header.{Header}
-use Rattle.flac_header.specs.Choice.{size_choice, rate_choice, depth_choice, with_codes, chosen_header}
+use Rattle.flac_header.specs.Choice.{size_choice, rate_choice_in, depth_choice_in, stated_rate, with_codes, chosen_header}
+use Rattle.flac_header.specs.declared.subset.Profile.{Profile}
 use Rattle.flac_header.specs.Spelling.{header_spelling, restarted}
 use Rattle.flac_subframe.specs.declared.limits.Limits.{Limits}
 use Rattle.flac_subframe.specs.Spelling.{subframe_spelling, IsSubframe}
@@ -73,23 +74,23 @@ module _ (depth code size : ℕ) (independent : code ≤ 7) where
   texts_are channel [] = refl
   texts_are channel (f ∷ fs) = ap (λ n. subframe_spelling n f ++ subframes_spelling depth code (channel + 1) fs) (no_side channel) ∙ ap (λ t. subframe_spelling depth f ++ t) (texts_are (channel + 1) fs)
 
-  pub subframes_are : (ps : List LinearPredictor) (limits : Limits) → 8 ≤ limits.partition → AreWithin limits.linear ps → (channel : ℕ) (fs : List Form) (block : List (List ℤ)) → AreForms ps depth size fs block → AreSubframes depth code size limits channel fs
-  subframes_are ps limits few within channel [] [] h = tt
-  subframes_are ps limits few within channel [] (s ∷ ss) h = absurd h
-  subframes_are ps limits few within channel (f ∷ fs) [] h = absurd h
-  subframes_are ps limits few within channel (f ∷ fs) (s ∷ ss) h = (subst (λ n. IsSubframe n size limits f) (sym (no_side channel)) (h.0 limits few within), subframes_are ps limits few within (channel + 1) fs ss h.2)
+  pub subframes_are : (most : ℕ) (ps : List LinearPredictor) (limits : Limits) → most ≤ limits.partition → AreWithin limits.linear ps → (channel : ℕ) (fs : List Form) (block : List (List ℤ)) → AreForms most ps depth size fs block → AreSubframes depth code size limits channel fs
+  subframes_are most ps limits few within channel [] [] h = tt
+  subframes_are most ps limits few within channel [] (s ∷ ss) h = absurd h
+  subframes_are most ps limits few within channel (f ∷ fs) [] h = absurd h
+  subframes_are most ps limits few within channel (f ∷ fs) (s ∷ ss) h = (subst (λ n. IsSubframe n size limits f) (sym (no_side channel)) (h.0 limits few within), subframes_are most ps limits few within (channel + 1) fs ss h.2)
 
-  pub samples_are : (ps : List LinearPredictor) (channel : ℕ) (fs : List Form) (block : List (List ℤ)) → AreForms ps depth size fs block → HaveSamples depth code size channel fs block
-  samples_are ps channel [] [] h = tt
-  samples_are ps channel [] (s ∷ ss) h = absurd h
-  samples_are ps channel (f ∷ fs) [] h = absurd h
-  samples_are ps channel (f ∷ fs) (s ∷ ss) h = (subst (λ n. samples_of n size f ≡ Some s) (sym (no_side channel)) h.1, samples_are ps (channel + 1) fs ss h.2)
+  pub samples_are : (most : ℕ) (ps : List LinearPredictor) (channel : ℕ) (fs : List Form) (block : List (List ℤ)) → AreForms most ps depth size fs block → HaveSamples depth code size channel fs block
+  samples_are most ps channel [] [] h = tt
+  samples_are most ps channel [] (s ∷ ss) h = absurd h
+  samples_are most ps channel (f ∷ fs) [] h = absurd h
+  samples_are most ps channel (f ∷ fs) (s ∷ ss) h = (subst (λ n. samples_of n size f ≡ Some s) (sym (no_side channel)) h.1, samples_are most ps (channel + 1) fs ss h.2)
 
-  pub as_many : (ps : List LinearPredictor) (fs : List Form) (block : List (List ℤ)) → AreForms ps depth size fs block → length fs ≡ length block
-  as_many ps [] [] h = refl
-  as_many ps [] (s ∷ ss) h = absurd h
-  as_many ps (f ∷ fs) [] h = absurd h
-  as_many ps (f ∷ fs) (s ∷ ss) h = ap suc (as_many ps fs ss h.2)
+  pub as_many : (most : ℕ) (ps : List LinearPredictor) (fs : List Form) (block : List (List ℤ)) → AreForms most ps depth size fs block → length fs ≡ length block
+  as_many most ps [] [] h = refl
+  as_many most ps [] (s ∷ ss) h = absurd h
+  as_many most ps (f ∷ fs) [] h = absurd h
+  as_many most ps (f ∷ fs) (s ∷ ss) h = ap suc (as_many most ps fs ss h.2)
 
   pub not_joined : (block : List (List ℤ)) → joined code block ≡ block
   unfolding joined
@@ -161,7 +162,7 @@ codes_there (Some s) (Some r) None size rate code number a b c e = absurd cc
 
 pub codes_are : (s r d : Option ℕ) (size rate code number : ℕ) (h : Header) → with_codes s r d size rate code number ≡ Some h → (h.channel_code ≡ code) × (h.size ≡ size)
 codes_are (Some s) (Some r) (Some d) size rate code number h e =
-    let form : Header = record { variable = false; size_code = s; size = size; rate_code = r; rate = rate; channel_code = code; depth_code = d; number = number } in
+    let form : Header = record { variable = false; size_code = s; size = size; rate_code = r; rate = stated_rate r rate; channel_code = code; depth_code = d; number = number } in
     let same : form ≡ h = inner form h e in (sym (ap (λ (k : Header). k.channel_code) same), sym (ap (λ (k : Header). k.size) same))
   where
     inner : (a b : Header) → some_of a ≡ some_of b → a ≡ b
@@ -170,13 +171,13 @@ codes_are None r d size rate code number h e = absurd cc
 codes_are (Some s) None d size rate code number h e = absurd cc
 codes_are (Some s) (Some r) None size rate code number h e = absurd cc
 
-pub chosen_as : (size rate code bits number : ℕ) → code ≤ 10 → number < 2 ^ 31 → chosen_header size rate code bits number ≡ with_codes (size_choice size) (rate_choice rate) (depth_choice bits) size rate code number
+pub chosen_as : (p : Profile) (size rate code bits number : ℕ) → code ≤ 10 → number < 2 ^ 31 → chosen_header p size rate code bits number ≡ with_codes (size_choice size) (rate_choice_in p rate) (depth_choice_in p bits) size rate code number
 unfolding chosen_header
-chosen_as size rate code bits number few small =
+chosen_as p size rate code bits number few small =
     let a : nat_lt 10 code ≡ false = grind (arith, nat_tests) in
     let b : nat_le (2 ^ 31) number ≡ false = grind (arith, nat_tests) in
     rw (a, b) refl
 
-pub chosen_there : (size rate code bits number : ℕ) → 1 ≤ size → size ≤ 65535 → is_some (rate_choice rate) ≡ true → is_some (depth_choice bits) ≡ true → code ≤ 10 → number < 2 ^ 31 → chosen_header size rate code bits number ≡ None → ⊥
-chosen_there size rate code bits number some less r d few small e =
-    codes_there (size_choice size) (rate_choice rate) (depth_choice bits) size rate code number (size_has_code size some less) r d (sym (chosen_as size rate code bits number few small) ∙ e)
+pub chosen_there : (p : Profile) (size rate code bits number : ℕ) → 1 ≤ size → size ≤ 65535 → is_some (rate_choice_in p rate) ≡ true → is_some (depth_choice_in p bits) ≡ true → code ≤ 10 → number < 2 ^ 31 → chosen_header p size rate code bits number ≡ None → ⊥
+chosen_there p size rate code bits number some less r d few small e =
+    codes_there (size_choice size) (rate_choice_in p rate) (depth_choice_in p bits) size rate code number (size_has_code size some less) r d (sym (chosen_as p size rate code bits number few small) ∙ e)

@@ -35,10 +35,14 @@ pub record IsChoiceWith (ps : List LinearPredictor) (sound : Sound) (size number
   pub short : IsShort sound.bits form
   pub cost : c.bits ≡ subframes_cost sound.bits form
 
+-- each place has room for partition orders up to a greatest
+abbrev pub AllWide : (most : ℕ) → List WideChoice → Type 0
+AllWide most choices = All (λ c. 2 ^ most ≤ vec_len c.codings) choices
+
 -- there is a place for the subframe of each channel, with partition orders up to a greatest
 pub record HasPlaces (channels most : ℕ) (c : FrameChoice) : Type 0 where
   pub many : channels ≤ length c.subframes.items
-  pub wide : All (λ s. 2 ^ most ≤ vec_len s.codings) c.subframes.items
+  pub wide : AllWide most c.subframes.items
 
 -- the choices are of the least subframes of channels, each by itself
 pub record AreChosen (most : ℕ) (ps : List LinearPredictor) (depth size : ℕ) (choices : List WideChoice) (block : List (List ℤ)) : Type 0 where

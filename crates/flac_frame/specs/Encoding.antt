@@ -49,6 +49,10 @@ pub record IsEncoding (sound : Sound) (size number : ℕ) (block : List (List �
   pub subframes : AreSubframes sound.bits code size (limits_at sound.profile sound.rate) 0 f.subframes
   pub samples : FrameSamples sound.bits f block
 
+-- the greatest partition order of a profile's subframes: 8 in the subset, 15 otherwise, whatever the rate (sections 7 and 9.2.7)
+abbrev pub most_in : Profile → ℕ
+most_in profile = (limits_at profile 0).partition
+
 -- the greatest partition order of the samples' subframes
 abbrev pub partition_limit : Sound → ℕ
 partition_limit sound = (limits_at sound.profile sound.rate).partition

@@ -1,13 +1,15 @@
 -- The least of the ways to keep two channels.
-use Rattle.std.specs.Prelude.{◌≡◌, ℕ, ◌+◌, ◌≤◌, ◌<◌, ◌⊎◌, cond, nat_eq, ℤ, List, [], ◌∷◌, length, Some}
+use Rattle.std.specs.Prelude.{◌≡◌, ℕ, ◌+◌, ◌≤◌, ◌<◌, ◌^◌, ◌⊎◌, cond, nat_eq, ℤ, List, length, vec_len, Some}
 use Rattle.flac_subframe.specs.declared.limits.Limits.{Limits}
 use Rattle.flac_subframe.specs.declared.linear.LinearPredictor.{LinearPredictor}
+use Rattle.flac_subframe.specs.declared.wide.WideChoice.{WideChoice}
+use Rattle.flac_subframe.specs.Family.{IsMadeIn, form_in}
 use Rattle.flac_subframe.specs.Handed.{AreWithin}
 use Rattle.flac_subframe.specs.Spelling.{subframe_spelling, IsSubframe}
 use Rattle.flac_subframe.specs.Subframe.{Form, samples_of}
 use Rattle.flac_frame.specs.Encoding.{IsLeastFor}
-use Rattle.flac_frame.specs.Frame.{side_bit}
-use Rattle.flac_frame.specs.Stereo.{kept_as, side_of, middle_of}
+use Rattle.flac_frame.specs.Stereo.{side_of, middle_of}
+use Rattle.flac_frame.specs.declared.pair_choices.PairChoices.{PairChoices}
 
 -- the codes of two channels (RFC 9639, section 9.1.3)
 abbrev pub IsPairCode : ℕ → Type 0
@@ -30,29 +32,32 @@ pub record IsChosen (most : ℕ) (ps : List LinearPredictor) (depth : ℕ) (s : 
   pub valid : (limits : Limits) → most ≤ limits.partition → AreWithin limits.linear ps → IsSubframe depth (length s) limits f
   pub samples : samples_of depth (length s) f ≡ Some s
 
--- What a frame keeps of two channels in the fewest bits: a channel code, and for each of two subframes a depth, samples and a form. Left, right, side and middle
--- have least forms, the code is the first that is least by their bits, and what it keeps has two of them.
-pub record IsKept (most : ℕ) (ps : List LinearPredictor) (depth : ℕ) (left right : List ℤ) (code d e : ℕ) (first second : List ℤ) (f g : Form) : Type 0 where
-  pub left_form : Form
-  pub right_form : Form
-  pub side_form : Form
-  pub middle_form : Form
-  pub left_bits : ℕ
-  pub right_bits : ℕ
-  pub side_bits : ℕ
-  pub middle_bits : ℕ
-  pub left_chosen : IsChosen most ps depth left left_form left_bits
-  pub right_chosen : IsChosen most ps depth right right_form right_bits
-  pub side_chosen : IsChosen most ps (depth + 1) (side_of left right) side_form side_bits
-  pub middle_chosen : IsChosen most ps depth (middle_of left right) middle_form middle_bits
-  pub best : IsFirstLeast (pair_cost left_bits right_bits side_bits middle_bits) code
-  pub kept : kept_as code (left ∷ right ∷ []) ≡ first ∷ second ∷ []
-  pub first_depth : d ≡ depth + side_bit code 0
-  pub second_depth : e ≡ depth + side_bit code 1
-  pub first_long : length first ≡ length left
-  pub second_long : length second ≡ length left
-  pub first_bits : ℕ
-  pub second_bits : ℕ
-  pub first_chosen : IsChosen most ps d first f first_bits
-  pub second_chosen : IsChosen most ps e second g second_bits
-  pub sum : first_bits + second_bits ≡ pair_cost left_bits right_bits side_bits middle_bits code
+-- what was chosen of samples makes a least form of them
+pub record IsPlane (most : ℕ) (ps : List LinearPredictor) (depth : ℕ) (s : List ℤ) (c : WideChoice) : Type 0 where
+  pub chosen : IsChosen most ps depth s (form_in ps c s) c.bits
+  pub made : IsMadeIn ps c s
+
+-- what was chosen of left and right, of their side and of their middle (section 4.2)
+pub record ArePlanes (most : ℕ) (ps : List LinearPredictor) (depth : ℕ) (left right : List ℤ) (c : PairChoices) : Type 0 where
+  pub lefts : IsPlane most ps depth left c.left
+  pub rights : IsPlane most ps depth right c.right
+  pub sides : IsPlane most ps (depth + 1) (side_of left right) c.side
+  pub middles : IsPlane most ps depth (middle_of left right) c.middle
+
+-- how many bits two subframes take under a code
+abbrev pub choices_cost : PairChoices → ℕ → ℕ
+choices_cost c code = pair_cost c.left.bits c.right.bits c.side.bits c.middle.bits code
+
+-- which of the choices a code keeps first, and which second
+abbrev pub first_kept : ℕ → PairChoices → WideChoice
+first_kept code c = cond (nat_eq code 9) c.side (cond (nat_eq code 10) c.middle c.left)
+
+abbrev pub second_kept : ℕ → PairChoices → WideChoice
+second_kept code c = cond (nat_eq code 8) c.side (cond (nat_eq code 9) c.right (cond (nat_eq code 10) c.side c.right))
+
+-- each place has room for partition orders up to a greatest
+pub record AreWide (most : ℕ) (c : PairChoices) : Type 0 where
+  pub left : 2 ^ most ≤ vec_len c.left.codings
+  pub right : 2 ^ most ≤ vec_len c.right.codings
+  pub side : 2 ^ most ≤ vec_len c.side.codings
+  pub middle : 2 ^ most ≤ vec_len c.middle.codings

@@ -7,17 +7,18 @@ ghost use Rattle.flac_frame.specs.Audio.{samples_each, channels_fault, audio_fau
 
 use crate::samples::excess;
 use crate::setup::SetupFault;
-use flac_header::{depth_code, rate_code};
+use flac_header::{Profile, depth_code_in, rate_code_in};
 use std::marker::Model;
 
-/// Samples to be encoded: their rate in Hz, the bits per sample, and the samples of 1 to 8 channels of one length. They
-/// are always such as can be encoded.
+/// Samples to be encoded: the profile of the streams that they may be in, their rate in Hz, the bits per sample, and the
+/// samples of 1 to 8 channels of one length. They are always such as can be encoded.
 ///
 /// ```
 /// let audio = Audio::new(44100, 16, channels)?;
 /// ```
 #[derive(Debug, Drop)]
 pub struct Audio {
+    profile: Profile,
     rate: u32,
     bits: u32,
     channels: Vec<Vec<i32>>,
@@ -29,9 +30,9 @@ impl Model for Audio {
 
     ghost Value = { Sound };
 
-    ghost view = { λ a. record { rate = a.rate; bits = a.bits; channels = map (λ c. c.items) a.channels.items } };
+    ghost view = { λ a. record { profile = a.profile; rate = a.rate; bits = a.bits; channels = map (λ c. c.items) a.channels.items } };
 
-    ghost invariant = { λ a. audio_fault a.rate a.bits (map (λ c. c.items) a.channels.items) ≡ None };
+    ghost invariant = { λ a. audio_fault a.profile a.rate a.bits (map (λ c. c.items) a.channels.items) ≡ None };
 }
 
 /// How many samples the first channel has; 0 if there is none.
@@ -98,52 +99,81 @@ fn channels_fault(channels: &[Vec<i32>], bits: u32) -> Option<SetupFault>
 
 /// Why samples cannot be encoded, or `None` if they can.
 #[tactic(auto, unfolding(crate::specs::Audio::audio_fault), using(crate::proofs::Sounds::depth_small))]
-fn fault_of(rate: u32, bits: u32, channels: &[Vec<i32>]) -> Option<SetupFault>
-    ensures { result ≡ audio_fault rate bits (map (λ c. c.items) channels.now) }
+fn fault_of(profile: Profile, rate: u32, bits: u32, channels: &[Vec<i32>]) -> Option<SetupFault>
+    ensures { result ≡ audio_fault profile rate bits (map (λ c. c.items) channels.now) }
 {
-    if rate_code(rate).is_none() {
+    if rate_code_in(profile, rate).is_none() {
         return Some(SetupFault::BadRate);
     }
-    if depth_code(bits).is_none() {
+    if depth_code_in(profile, bits).is_none() {
         return Some(SetupFault::BadDepth);
     }
     channels_fault(channels, bits)
 }
 
 impl Audio {
-    /// Makes samples of a rate in Hz, of `bits` bits each: one vector for each channel (RFC 9639, sections 9.1.2 to
-    /// 9.1.4).
+    /// Makes samples for streams of the streamable subset: as [`Audio::new_in`] does for [`Profile::Subset`].
+    ///
+    /// # Errors
+    /// Those of [`Audio::new_in`].
+    pub fn new(rate: u32, bits: u32, channels: Vec<Vec<i32>>) -> Result<Audio, SetupFault>
+        ensures { MatchResult result (λ a. a ≡ record { profile = Profile.Subset; rate = rate; bits = bits; channels = map (λ c. c.items) channels.items }) (λ e. audio_fault Profile.Subset rate bits (map (λ c. c.items) channels.items) ≡ Some e) }
+    {
+        Audio::new_in(Profile::Subset, rate, bits, channels)
+    }
+
+    /// Makes samples for streams of a profile, with a rate in Hz, of `bits` bits each: one vector for each channel (RFC
+    /// 9639, sections 7, 8.2 and 9.1.2 to 9.1.4).
+    ///
+    /// ```
+    /// let audio = Audio::new_in(Profile::Lax, 65537, 5, channels)?;
+    /// ```
     ///
     /// # Errors
     /// The first of these that applies:
     ///
-    /// - [`SetupFault::BadRate`] if the rate is neither 1 to 65535 nor a multiple of 10 up to 655350;
-    /// - [`SetupFault::BadDepth`] if `bits` is not 8, 12, 16, 20, 24 or 32;
+    /// - [`SetupFault::BadRate`] if the profile is [`Profile::Subset`] and the rate is neither 1 to 65535 nor a multiple of
+    ///   10 up to 655350; or the profile is [`Profile::Lax`] and the rate is not 1 to 1048575;
+    /// - [`SetupFault::BadDepth`] if the profile is [`Profile::Subset`] and `bits` is not 8, 12, 16, 20, 24 or 32; or the
+    ///   profile is [`Profile::Lax`] and `bits` is not 4 to 32;
     /// - [`SetupFault::BadChannels`] if there is no channel, or there are more than 8;
     /// - [`SetupFault::LengthsDiffer`] if the channels differ in length;
     /// - [`SetupFault::SampleTooLarge`] if a sample is below -2^(bits - 1), or is 2^(bits - 1) or more;
     /// - [`SetupFault::TooLong`] if a channel has 2^36 samples or more.
-    pub fn new(rate: u32, bits: u32, channels: Vec<Vec<i32>>) -> Result<Audio, SetupFault>
-        ensures { MatchResult result (λ a. a ≡ record { rate = rate; bits = bits; channels = map (λ c. c.items) channels.items }) (λ e. audio_fault rate bits (map (λ c. c.items) channels.items) ≡ Some e) }
+    pub fn new_in(
+        profile: Profile,
+        rate: u32,
+        bits: u32,
+        channels: Vec<Vec<i32>>,
+    ) -> Result<Audio, SetupFault>
+        ensures { MatchResult result (λ a. a ≡ record { profile = profile; rate = rate; bits = bits; channels = map (λ c. c.items) channels.items }) (λ e. audio_fault profile rate bits (map (λ c. c.items) channels.items) ≡ Some e) }
     {
-        if let Some(fault) = fault_of(rate, bits, &channels) {
+        if let Some(fault) = fault_of(profile, rate, bits, &channels) {
             return Err(fault);
         }
         Ok(Audio {
+            profile,
             rate,
             bits,
             channels,
         })
     }
 
-    /// The sample rate in Hz, 1 to 655350.
+    /// The profile of the streams that the samples may be in.
+    pub fn profile(&self) -> Profile
+        ensures { result ≡ self.now.profile }
+    {
+        self.profile
+    }
+
+    /// The sample rate in Hz: 1 to 655350 in [`Profile::Subset`], 1 to 1048575 in [`Profile::Lax`].
     pub fn rate(&self) -> u32
         ensures { result ≡ self.now.rate }
     {
         self.rate
     }
 
-    /// Bits per sample: 8, 12, 16, 20, 24 or 32.
+    /// Bits per sample: 8, 12, 16, 20, 24 or 32 in [`Profile::Subset`], 4 to 32 in [`Profile::Lax`].
     pub fn bits(&self) -> u32
         ensures { result ≡ self.now.bits }
     {

@@ -3,31 +3,11 @@
 ghost use Rattle.std.specs.Prelude.{◌≡◌, ◌≢◌, ◌≤◌, ◌<◌, ◌+◌, ◌*◌, OnOk, IfOk, length, cond, Some, None, [], nat_le, All, IsTrue, IfErr};
 ghost use Rattle.flac_bits.specs.Signed.{FitsBits};
 ghost use Rattle.flac_bits.specs.Reading.{Counts, Reads};
-ghost use Rattle.flac_meta.specs.Info.{Info};
-ghost use Rattle.flac_frame.specs.Frame.{limits_of, side_bit, subframes};
+ghost use Rattle.flac_frame.specs.Frame.{side_bit, subframes};
 ghost use Rattle.flac_frame.specs.View.{chunks};
 
 use flac_bits::{BitReader, Source, Why};
-use flac_header::Profile;
-use flac_meta::StreamInfo;
 use flac_subframe::{Limits, read_subframe};
-
-/// What the profile allows of a subframe.
-pub(crate) fn limits_of(info: &StreamInfo, profile: Profile) -> Limits
-    ensures limits { result ≡ limits_of profile info.now }
-    ensures small { (result.partition ≤ 15) × (result.linear ≤ 32) }
-{
-    match profile {
-        Profile::Subset => Limits {
-            partition: 8,
-            linear: if info.rate() <= 48000 { 12 } else { 32 },
-        },
-        Profile::Lax => Limits {
-            partition: 15,
-            linear: 32,
-        },
-    }
-}
 
 /// How many bits the samples of a channel have more than those of the stream: 1 for a side channel (RFC 9639, section
 /// 4.2).

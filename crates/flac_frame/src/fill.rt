@@ -8,8 +8,9 @@ ghost use Rattle.flac_header.specs.Header.{greatest_in, channels_of};
 ghost use Rattle.flac_frame.specs.View.{frame_in};
 
 use crate::before::Before;
-use crate::channels::{limits_of, read_subframes};
+use crate::channels::read_subframes;
 use crate::end::read_end;
+use crate::limits::limits_at;
 use crate::start::read_start;
 use crate::stereo::join_channels;
 use flac_bits::{BitReader, Source, Why};
@@ -37,7 +38,7 @@ fn read_body<R: Source>(
     let channels = info.channels() as usize;
     let depth = info.depth() as u32;
     let block = header.size();
-    let limits = limits_of(info, profile);
+    let limits = limits_at(profile, info.rate());
     let fits = read_subframes(
         bits,
         depth,

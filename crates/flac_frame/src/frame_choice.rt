@@ -1,26 +1,31 @@
 //! How a block of samples is written as a frame.
 
-ghost use Rattle.std.specs.Prelude.{◌≡◌, ◌≤◌, ◌*◌, List, ℤ, length, IfOk, IfErr, IfSome};
+ghost use Rattle.std.specs.Prelude.{◌≡◌, ◌≤◌, ◌*◌, ℕ, List, ℤ, length, IfOk, IfErr, IfSome};
 ghost use Rattle.flac_bits.specs.Coded.{number_spelling};
-ghost use Rattle.flac_header.specs.Choice.{size_choice, rate_choice};
+ghost use Rattle.flac_header.specs.Choice.{size_choice, rate_choice_in, stated_rate};
 ghost use Rattle.flac_header.specs.Spelling.{size_spelling, rate_spelling};
-ghost use Rattle.flac_frame.specs.Chosen.{IsFrameChoice};
+ghost use Rattle.flac_subframe.specs.declared.linear.LinearPredictor.{LinearPredictor};
+ghost use Rattle.flac_frame.specs.Audio.{Sound};
+ghost use Rattle.flac_frame.specs.Chosen.{IsChoiceWith, HasPlaces};
+ghost use Rattle.flac_frame.specs.Encoding.{most_in};
 ghost use Rattle.flac_frame.specs.Spelling.{frame_spelling};
 
 use crate::audio::Audio;
+use crate::limits::limits_at;
 use flac_bits::Why;
-use flac_header::rate_code;
-use flac_subframe::Choice;
+use flac_header::{Profile, rate_code_in};
+use flac_subframe::WideChoice;
 use std::alloc::Global;
 
 /// How a block of samples is written as a frame, as [`crate::choose_frame`] chooses it: the channel code, and the
-/// subframe of each channel (RFC 9639, section 9). It has no samples, and takes some 310 bytes for each channel,
-/// whatever the block size.
+/// subframe of each channel (RFC 9639, section 9). It has no samples. For each channel it takes some 320 bytes in
+/// [`Profile::Subset`], and some 33 kB in [`Profile::Lax`]; a copy that [`FrameChoice::kept`] makes takes one byte for
+/// each partition of its residuals.
 #[derive(Drop)]
 pub struct FrameChoice {
     pub(crate) code: u8,
     pub(crate) bits: u64,
-    pub(crate) subframes: Vec<Choice>,
+    pub(crate) subframes: Vec<WideChoice>,
 }
 
 /// How many bytes a frame number takes in a header (RFC 9639, section 9.1.5).
@@ -73,12 +78,13 @@ fn size_bytes(size: u32) -> u64
     }
 }
 
-/// How many bytes a sample rate takes in a header: none if a code names it (RFC 9639, section 9.1.7).
-fn rate_bytes(rate: u32) -> u64
-    ensures long { IfSome (rate_choice rate) (λ code. length (rate_spelling code rate) ≡ 8 * result) }
+/// How many bytes a sample rate takes in a header under a profile: none if a code names it, or leaves it to STREAMINFO
+/// (RFC 9639, section 9.1.7).
+fn rate_bytes(profile: Profile, rate: u32) -> u64
+    ensures long { IfSome (rate_choice_in profile rate) (λ code. length (rate_spelling code (stated_rate code rate)) ≡ 8 * result) }
     ensures few { result ≤ 2 }
 {
-    let Some(code) = rate_code(rate) else {
+    let Some(code) = rate_code_in(profile, rate) else {
         return 0;
     };
     if code == 12 {
@@ -94,18 +100,20 @@ fn rate_bytes(rate: u32) -> u64
 }
 
 impl FrameChoice {
-    /// Allocates places for the subframes of at most `channels` channels. Nothing is chosen yet.
+    /// Allocates places for the subframes of `channels` channels in a profile. Nothing is chosen yet.
     ///
     /// # Errors
-    /// [`Why::Memory`] if the allocation fails.
-    pub fn new(alloc: Global, channels: usize) -> Result<FrameChoice, Why>
-        ensures places { IfOk result (λ choice. length choice.subframes.items ≡ channels) }
+    /// [`Why::Memory`] if an allocation fails.
+    pub fn new(alloc: Global, profile: Profile, channels: usize) -> Result<FrameChoice, Why>
+        ensures places { IfOk result (HasPlaces channels (most_in profile)) }
+        ensures many { IfOk result (λ c. length c.subframes.items ≡ channels) }
         ensures memory { IfErr result (λ e. e ≡ Why.Memory) }
     {
+        let limits = limits_at(profile, 0);
         let mut subframes = Vec::with_capacity(alloc, channels)?;
         for channel in 0..channels {
             let _channel = channel;
-            subframes.push(Choice::silence())?;
+            subframes.push(WideChoice::new(alloc, &limits)?)?;
         }
         Ok(FrameChoice {
             code: 0,
@@ -114,17 +122,39 @@ impl FrameChoice {
         })
     }
 
+    /// The same choice in as little memory as it needs: one byte for each partition of its residuals. It can be written,
+    /// and is no place for another choice.
+    ///
+    /// # Errors
+    /// [`Why::Memory`] if an allocation fails.
+    pub fn kept(&self, alloc: Global) -> Result<FrameChoice, Why>
+        ensures same { IfOk result (λ c. (ps : List LinearPredictor) (sound : Sound) (size number : ℕ) (block : List (List ℤ)) → IsChoiceWith ps sound size number block self.now → IsChoiceWith ps sound size number block c) }
+        ensures many { IfOk result (λ c. length c.subframes.items ≡ length self.now.subframes.items) }
+        ensures memory { IfErr result (λ e. e ≡ Why.Memory) }
+    {
+        let channels = self.subframes.len();
+        let mut subframes = Vec::with_capacity(alloc, channels)?;
+        for channel in 0..channels {
+            subframes.push(self.subframes[channel].kept(alloc)?)?;
+        }
+        Ok(FrameChoice {
+            code: self.code,
+            bits: self.bits,
+            subframes,
+        })
+    }
+
     /// How many bytes the frame has that was chosen for a block of `size` samples of each channel and this number, 1 to
     /// 16777215. Nothing is written.
     pub fn frame_bytes(&self, audio: &Audio, size: usize, number: u64) -> u64
         requires few { size ≤ 65535 }
-        requires chosen { (block : List (List ℤ)) × IsFrameChoice audio.now size number block self.now }
-        ensures bytes { (block : List (List ℤ)) (is : IsFrameChoice audio.now size number block self.now) → length (frame_spelling audio.now.bits is.form) ≡ 8 * result }
+        requires chosen { (ps : List LinearPredictor) × (block : List (List ℤ)) × IsChoiceWith ps audio.now size number block self.now }
+        ensures bytes { (ps : List LinearPredictor) (block : List (List ℤ)) (is : IsChoiceWith ps audio.now size number block self.now) → length (frame_spelling audio.now.bits is.form) ≡ 8 * result }
         ensures few { (1 ≤ result) × (result ≤ 16777215) }
     {
         let coded = number_bytes(number);
         let sized = size_bytes(size as u32);
-        let rated = rate_bytes(audio.rate());
+        let rated = rate_bytes(audio.profile(), audio.rate());
         let header = 5 + coded + sized + rated;
         header + (self.bits + 7) / 8 + 2
     }

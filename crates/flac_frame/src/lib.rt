@@ -7,25 +7,30 @@ mod before;
 mod buffers;
 mod channels;
 mod encode;
+mod encode_buffers;
 mod end;
 mod fill;
 mod frame_choice;
-mod orders;
+mod limits;
 mod pair;
+mod pair_choices;
 mod plane;
+mod planes;
 mod promises;
 mod samples;
 mod setup;
 mod start;
 mod stereo;
+mod subject;
 mod view;
 
 pub use audio::Audio;
 pub use before::Before;
 pub use buffers::FrameBuffers;
-pub use encode::{EncodeBuffers, choose_frame, encode_frame, encode_frame_with, write_frame};
+pub use encode::{choose_frame, encode_frame, encode_frame_with, write_frame};
+pub use encode_buffers::EncodeBuffers;
 pub use frame_choice::FrameChoice;
-pub use orders::greatest_order;
+pub use limits::greatest_order;
 pub use promises::{
     channels_are_joined, encodings_are_frames, forms_stand_for_samples, frame_family_is_plain,
     frame_widened_is_plain, frames_are_spelled, frames_follow,

@@ -1,30 +1,29 @@
 //! Two channels in the decorrelation that takes the fewest bits (RFC 9639, section 4.2).
 
-ghost use Rattle.std.specs.Prelude.{◌≡◌, ◌<◌, ◌≤◌, ◌+◌, ◌^◌, ◌-ℤ◌, ◌+ℤ◌, ◌∷◌, [], ℕ, length, take, drop, slice_set, All};
+ghost use Rattle.std.specs.Prelude.{◌≡◌, ◌<◌, ◌≤◌, ◌+◌, ◌*◌, ◌^◌, ◌-ℤ◌, ◌+ℤ◌, ◌∷◌, [], ℕ, length, take, drop, All};
 ghost use Rattle.std.specs.Int.{int_shr};
 ghost use Rattle.flac_bits.specs.Signed.{FitsBits};
 ghost use Rattle.flac_bits.specs.Written.{Writes};
-ghost use Rattle.flac_header.specs.Spelling.{restarted};
-ghost use Rattle.flac_header.specs.declared.subset.Profile.TheVariants.{Subset};
-ghost use Rattle.flac_subframe.specs.Family.{IsMadeWith, form_with};
 ghost use Rattle.flac_subframe.specs.Handed.{AreWithin};
-ghost use Rattle.flac_subframe.specs.Spelling.{subframe_spelling};
 ghost use Rattle.flac_frame.specs.Audio.{samples_each};
-ghost use Rattle.flac_frame.specs.Chosen.{forms_of, AreMade, IsChoiceWith};
-ghost use Rattle.flac_frame.specs.Encoding.{block_of, behind_header};
+ghost use Rattle.flac_frame.specs.Chosen.{forms_of, AreMade, IsChoiceWith, HasPlaces};
+ghost use Rattle.flac_frame.specs.Encoding.{block_of, partition_limit};
 ghost use Rattle.flac_frame.specs.Frame.{side_bit, limits_at};
-ghost use Rattle.flac_frame.specs.Pair.{IsPairCode, IsFirstLeast, IsKept, pair_cost};
+ghost use Rattle.flac_frame.specs.Pair.{IsPairCode, IsFirstLeast, ArePlanes, AreWide, pair_cost, choices_cost};
 ghost use Rattle.flac_frame.specs.Spelling.{subframes_spelling};
 ghost use Rattle.flac_frame.specs.Stereo.{side_of, middle_of, kept_as};
 
 use crate::audio::Audio;
 use crate::channels::side_bit;
-use crate::encode::{widen, write_end};
+use crate::encode::widen;
 use crate::frame_choice::FrameChoice;
-use crate::plane::{Plane, choose_plane};
+use crate::pair_choices::PairChoices;
+use crate::plane::choose_plane;
+use crate::planes::Planes;
+use crate::subject::Subject;
 use flac_bits::{BitWriter, Target, Why};
-use flac_header::{FrameHeader, write_header};
-use flac_subframe::{Choice, LinearPredictor, write_subframe_with_into};
+use flac_header::FrameHeader;
+use flac_subframe::{Workspace, write_subframe_in};
 
 /// The side of two samples (RFC 9639, section 4.2).
 #[inline(always)]
@@ -67,107 +66,77 @@ fn split_channels(left: &[i32], right: &[i32], side: &mut [i64], middle: &mut [i
     }
 }
 
-/// The channel code of two channels whose subframes take the fewest bits: independent 1, left and side 8, side and right 9, middle and side 10;
-/// the first of equals.
-fn least_code(left: u64, right: u64, side: u64, middle: u64) -> u8
+/// The channel code of two channels whose subframes take the fewest bits, from those that left, right, side and middle
+/// take, and these bits: 1 for left and right, 8 for left and side, 9 for side and right, 10 for middle and side; the
+/// first of equals.
+fn least_code(left: u64, right: u64, side: u64, middle: u64) -> (u8, u64)
     requires left { left ≤ 2 ^ 61 }
     requires right { right ≤ 2 ^ 61 }
     requires side { side ≤ 2 ^ 61 }
     requires middle { middle ≤ 2 ^ 61 }
-    ensures { IsFirstLeast (pair_cost left right side middle) result }
+    ensures best { IsFirstLeast (pair_cost left right side middle) result.0 }
+    ensures bits { result.1 ≡ pair_cost left right side middle result.0 }
 {
     let independent = left + right;
     let left_side = left + side;
     let side_right = side + right;
     let middle_side = middle + side;
     if independent <= left_side.min(side_right).min(middle_side) {
-        return 1;
+        return (1, independent);
     }
     if left_side <= side_right.min(middle_side) {
-        return 8;
+        return (8, left_side);
     }
     if side_right <= middle_side {
-        return 9;
+        return (9, side_right);
     }
-    10
+    (10, middle_side)
 }
 
-/// Two channels as a frame keeps them: the channel code, and each subframe's samples with how they are written.
-#[derive(Drop)]
-struct KeptPair<'a> {
-    code: u8,
-    first: Plane<'a>,
-    second: Plane<'a>,
-}
-
-/// Chooses what two channels, whose side and middle are given, are kept as.
-fn choose_kept<'a>(
-    left: &'a [i64],
-    right: &'a [i64],
-    side: &'a [i64],
-    middle: &'a [i64],
-    depth: u32,
-    predictors: &[LinearPredictor],
-    shortened: &mut [i64],
-    values: &mut [i64],
-    folds: &mut [u32],
-) -> KeptPair<'a>
-    requires some { 0 < length left.now }
-    requires few { length left.now ≤ 65535 }
-    requires right { length right.now ≡ length left.now }
-    requires side { side.now ≡ side_of left.now right.now }
-    requires middle { middle.now ≡ middle_of left.now right.now }
-    requires depth { (1 ≤ depth) × (depth ≤ 32) }
-    requires left_fits { All (FitsBits depth) left.now }
-    requires right_fits { All (FitsBits depth) right.now }
-    requires places { length left.now ≤ length shortened.old }
-    requires values { length left.now ≤ length values.old }
-    requires folds { length left.now ≤ length folds.old }
-    ensures kept { IsKept predictors.now depth left.now right.now result.code result.first.depth result.second.depth result.first.samples.now result.second.samples.now (form_with predictors.now result.first.choice result.first.samples.now) (form_with predictors.now result.second.choice result.second.samples.now) }
-    ensures bits { (result.first.choice.bits ≡ length (subframe_spelling result.first.depth (form_with predictors.now result.first.choice result.first.samples.now))) × (result.second.choice.bits ≡ length (subframe_spelling result.second.depth (form_with predictors.now result.second.choice result.second.samples.now))) }
-    ensures small { (result.first.choice.bits ≤ 2 ^ 61) × (result.second.choice.bits ≤ 2 ^ 61) }
-    ensures first_made { IsMadeWith predictors.now result.first.choice result.first.samples.now }
-    ensures second_made { IsMadeWith predictors.now result.second.choice result.second.samples.now }
+/// Chooses a shortest subframe of left, right, side and middle each. Returns the channel code whose two subframes take
+/// the fewest bits, and these bits.
+fn choose_planes(
+    subject: &Subject<'_>,
+    planes: &Planes<'_>,
+    choices: &mut PairChoices,
+    workspace: &mut Workspace,
+) -> (u8, u64)
+    requires block { length planes.now.left.now ≤ workspace.old.block }
+    requires partition { partition_limit subject.now.audio.now ≤ workspace.old.most }
+    requires wide { AreWide workspace.old.most choices.old }
+    requires orders { AreWithin (limits_at subject.now.audio.now.profile subject.now.audio.now.rate).linear subject.now.predictors.now }
+    ensures planes { ArePlanes (partition_limit subject.now.audio.now) subject.now.predictors.now planes.now.depth planes.now.left.now planes.now.right.now choices.new }
+    ensures best { IsFirstLeast (choices_cost choices.new) result.0 }
+    ensures bits { result.1 ≡ choices_cost choices.new result.0 }
+    ensures wide { AreWide workspace.old.most choices.new }
+    ensures room { workspace.new ≡ workspace.old }
 {
-    let lefts = choose_plane(left, depth, predictors, shortened, values, folds);
-    let rights = choose_plane(right, depth, predictors, shortened, values, folds);
-    let sides = choose_plane(side, depth + 1, predictors, shortened, values, folds);
-    let middles = choose_plane(middle, depth, predictors, shortened, values, folds);
-    let code = least_code(
-        lefts.choice.bits(),
-        rights.choice.bits(),
-        sides.choice.bits(),
-        middles.choice.bits(),
+    let depth = planes.depth;
+    choose_plane(planes.left, depth, subject, workspace, &mut choices.left);
+    choose_plane(planes.right, depth, subject, workspace, &mut choices.right);
+    choose_plane(
+        planes.side,
+        depth + 1,
+        subject,
+        workspace,
+        &mut choices.side,
     );
-    if code == 8 {
-        return KeptPair {
-            code,
-            first: lefts,
-            second: sides,
-        };
-    }
-    if code == 9 {
-        return KeptPair {
-            code,
-            first: sides,
-            second: rights,
-        };
-    }
-    if code == 10 {
-        return KeptPair {
-            code,
-            first: middles,
-            second: sides,
-        };
-    }
-    KeptPair {
-        code,
-        first: lefts,
-        second: rights,
-    }
+    choose_plane(
+        planes.middle,
+        depth,
+        subject,
+        workspace,
+        &mut choices.middle,
+    );
+    least_code(
+        choices.left.bits(),
+        choices.right.bits(),
+        choices.side.bits(),
+        choices.middle.bits(),
+    )
 }
 
-/// So many samples of a channel from one on.
+/// `size` samples of a channel from `start` on.
 fn part_of(channel: &[i32], start: usize, size: usize) -> &[i32]
     requires { start + size ≤ length channel.now }
     ensures { result.now ≡ take size (drop start channel.now) }
@@ -175,7 +144,7 @@ fn part_of(channel: &[i32], start: usize, size: usize) -> &[i32]
     &channel[start..start + size]
 }
 
-/// Puts so many samples of two channels from one on into places, and their side and middle.
+/// Puts samples of two channels from `start` on into places, and their side and middle.
 fn split_pair(
     audio: &Audio,
     start: usize,
@@ -204,62 +173,56 @@ fn split_pair(
     split_channels(lefts, rights, side, middle);
 }
 
-/// Puts two subframes into the first places.
-fn place_two(places: &mut [Choice], first: Choice, second: Choice)
-    requires { 2 ≤ length places.old }
-    ensures { places.new ≡ slice_set (slice_set places.old 0 first) 1 second }
-{
-    places[0] = first;
-    places[1] = second;
-}
-
-/// Chooses how so many samples of two channels from one on are written as the frame of a number.
+/// Chooses how a block of two channels is written as a frame, with places for four times as many samples.
 pub(crate) fn choose_pair(
-    audio: &Audio,
-    start: usize,
-    number: u64,
-    predictors: &[LinearPredictor],
-    left: &mut [i64],
-    right: &mut [i64],
-    side: &mut [i64],
-    middle: &mut [i64],
-    shortened: &mut [i64],
-    values: &mut [i64],
-    folds: &mut [u32],
+    subject: &Subject<'_>,
+    places: &mut [i64],
+    choices: &mut PairChoices,
+    workspace: &mut Workspace,
     choice: &mut FrameChoice,
 )
-    requires two { length audio.now.channels ≡ 2 }
-    requires some { 0 < length left.old }
-    requires few { length left.old ≤ 65535 }
-    requires within { start + length left.old ≤ samples_each audio.now.channels }
-    requires right { length right.old ≡ length left.old }
-    requires side { length side.old ≡ length left.old }
-    requires middle { length middle.old ≡ length left.old }
-    requires places { length left.old ≤ length shortened.old }
-    requires values { length left.old ≤ length values.old }
-    requires folds { length left.old ≤ length folds.old }
-    requires choices { 2 ≤ length choice.old.subframes.items }
-    requires number { number < 2 ^ 31 }
-    requires orders { AreWithin (limits_at Subset audio.now.rate).linear predictors.now }
-    ensures chosen { IsChoiceWith predictors.now audio.now (length left.old) number (block_of start (length left.old) audio.now.channels) choice.new }
-    ensures places { length choice.new.subframes.items ≡ length choice.old.subframes.items }
+    requires two { length subject.now.audio.now.channels ≡ 2 }
+    requires places { 4 * subject.now.size ≤ length places.old }
+    requires block { subject.now.size ≤ workspace.old.block }
+    requires partition { partition_limit subject.now.audio.now ≤ workspace.old.most }
+    requires wide { AreWide workspace.old.most choices.old }
+    requires choices { HasPlaces 2 workspace.old.most choice.old }
+    requires number { subject.now.number < 2 ^ 31 }
+    requires orders { AreWithin (limits_at subject.now.audio.now.profile subject.now.audio.now.rate).linear subject.now.predictors.now }
+    ensures chosen { IsChoiceWith subject.now.predictors.now subject.now.audio.now subject.now.size subject.now.number (block_of subject.now.start subject.now.size subject.now.audio.now.channels) choice.new }
+    ensures wide { AreWide workspace.old.most choices.new }
+    ensures choices { HasPlaces 2 workspace.old.most choice.new }
+    ensures many { length choice.new.subframes.items ≡ length choice.old.subframes.items }
+    ensures room { workspace.new ≡ workspace.old }
 {
-    let size = left.len() as u32;
-    let depth = audio.bits();
+    let audio = subject.audio;
     let _channels = audio.channels();
-    split_pair(audio, start, left, right, side, middle);
-    let kept = choose_kept(
-        left, right, side, middle, depth, predictors, shortened, values, folds,
-    );
-    let _header = FrameHeader::chosen(size, audio.rate(), kept.code, depth, number);
-    let KeptPair {
+    let size = subject.size;
+    let (left, rest) = places.split_at_mut(size);
+    let (right, rest) = rest.split_at_mut(size);
+    let (side, rest) = rest.split_at_mut(size);
+    let middle = &mut rest[..size];
+    split_pair(audio, subject.start, left, right, side, middle);
+    let depth = audio.bits();
+    let planes = Planes {
+        left,
+        right,
+        side,
+        middle,
+        depth,
+    };
+    let (code, bits) = choose_planes(subject, &planes, choices, workspace);
+    let _header = FrameHeader::chosen_in(
+        audio.profile(),
+        size as u32,
+        audio.rate(),
         code,
-        first,
-        second,
-    } = kept;
+        depth,
+        subject.number,
+    );
     choice.code = code;
-    choice.bits = first.choice.bits() + second.choice.bits();
-    place_two(&mut choice.subframes, first.choice, second.choice);
+    choice.bits = bits;
+    choices.keep(code, &mut choice.subframes);
 }
 
 /// Puts what a channel code keeps of two channels into places of 64 bits (RFC 9639, section 9.1.3).
@@ -289,7 +252,7 @@ fn put_kept(code: u8, left: &[i32], right: &[i32], first: &mut [i64], second: &m
     widen(right, second);
 }
 
-/// Puts what a channel code keeps of so many samples of two channels from one on into places of 64 bits.
+/// Puts what a channel code keeps of two channels' samples from `start` on into places of 64 bits.
 fn keep_pair(code: u8, audio: &Audio, start: usize, first: &mut [i64], second: &mut [i64])
     requires code { IsPairCode code }
     requires two { length audio.now.channels ≡ 2 }
@@ -306,91 +269,66 @@ fn keep_pair(code: u8, audio: &Audio, start: usize, first: &mut [i64], second: &
     put_kept(code, left, right, first, second);
 }
 
-/// Writes the subframes that were chosen of two channels as a channel code keeps them, behind their header.
-fn write_kept<W: Target>(
-    header: &FrameHeader,
+/// Writes the subframes that were chosen of what a channel code keeps of two channels.
+fn write_two<W: Target>(
+    subject: &Subject<'_>,
+    choice: &FrameChoice,
     first: &[i64],
     second: &[i64],
-    depth: u32,
-    predictors: &[LinearPredictor],
-    shortened: &mut [i64],
-    values: &mut [i64],
-    subframes: &[Choice],
+    workspace: &mut Workspace,
     writer: &mut BitWriter<W>,
 ) -> Result<(), Why>
     requires some { 0 < length first.now }
-    requires few { length first.now ≤ 65535 }
+    requires block { length first.now ≤ workspace.old.block }
     requires second { length second.now ≡ length first.now }
-    requires depth { (1 ≤ depth) × (depth ≤ 32) }
-    requires first_fits { All (FitsBits (depth + side_bit header.now.channel_code 0)) first.now }
-    requires second_fits { All (FitsBits (depth + side_bit header.now.channel_code 1)) second.now }
-    requires places { length first.now ≤ length shortened.old }
-    requires values { length first.now ≤ length values.old }
-    requires made { AreMade predictors.now subframes.now (first.now ∷ second.now ∷ []) }
-    requires choices { 2 ≤ length subframes.now }
-    requires whole { writer.old.mark.unread ≡ 0 }
-    ensures { Writes (behind_header header.now (subframes_spelling depth header.now.channel_code 0 (forms_of predictors.now subframes.now (first.now ∷ second.now ∷ []))) writer.old.mark) (restarted writer.old) writer.new result }
+    requires first_fits { All (FitsBits (subject.now.audio.now.bits + side_bit choice.now.code 0)) first.now }
+    requires second_fits { All (FitsBits (subject.now.audio.now.bits + side_bit choice.now.code 1)) second.now }
+    requires made { AreMade subject.now.predictors.now choice.now.subframes.items (first.now ∷ second.now ∷ []) }
+    requires choices { 2 ≤ length choice.now.subframes.items }
+    ensures text { Writes (subframes_spelling subject.now.audio.now.bits choice.now.code 0 (forms_of subject.now.predictors.now choice.now.subframes.items (first.now ∷ second.now ∷ []))) writer.old writer.new result }
+    ensures room { workspace.new ≡ workspace.old }
 {
-    let code = header.channel_code();
-    write_header(header, writer)?;
-    write_subframe_with_into(
-        &subframes[0],
-        predictors,
+    let code = choice.code;
+    let depth = subject.audio.bits();
+    let _channels = subject.audio.channels();
+    write_subframe_in(
+        &choice.subframes[0],
+        subject.predictors,
         first,
         depth + side_bit(code, 0),
-        shortened,
-        values,
+        workspace,
         writer,
     )?;
-    write_subframe_with_into(
-        &subframes[1],
-        predictors,
+    write_subframe_in(
+        &choice.subframes[1],
+        subject.predictors,
         second,
         depth + side_bit(code, 1),
-        shortened,
-        values,
-        writer,
-    )?;
-    write_end(writer)
-}
-
-/// Writes so many samples of two channels from one on, as they were chosen to be written, behind their header.
-pub(crate) fn write_pair<W: Target>(
-    header: &FrameHeader,
-    audio: &Audio,
-    start: usize,
-    predictors: &[LinearPredictor],
-    first: &mut [i64],
-    second: &mut [i64],
-    shortened: &mut [i64],
-    values: &mut [i64],
-    subframes: &[Choice],
-    writer: &mut BitWriter<W>,
-) -> Result<(), Why>
-    requires two { length audio.now.channels ≡ 2 }
-    requires some { 0 < length first.old }
-    requires few { length first.old ≤ 65535 }
-    requires within { start + length first.old ≤ samples_each audio.now.channels }
-    requires second { length second.old ≡ length first.old }
-    requires places { length first.old ≤ length shortened.old }
-    requires values { length first.old ≤ length values.old }
-    requires code { IsPairCode header.now.channel_code }
-    requires made { AreMade predictors.now subframes.now (kept_as header.now.channel_code (block_of start (length first.old) audio.now.channels)) }
-    requires choices { 2 ≤ length subframes.now }
-    requires whole { writer.old.mark.unread ≡ 0 }
-    ensures { Writes (behind_header header.now (subframes_spelling audio.now.bits header.now.channel_code 0 (forms_of predictors.now subframes.now (kept_as header.now.channel_code (block_of start (length first.old) audio.now.channels)))) writer.old.mark) (restarted writer.old) writer.new result }
-{
-    let _channels = audio.channels();
-    keep_pair(header.channel_code(), audio, start, first, second);
-    write_kept(
-        header,
-        first,
-        second,
-        audio.bits(),
-        predictors,
-        shortened,
-        values,
-        subframes,
+        workspace,
         writer,
     )
+}
+
+/// Writes the subframes that were chosen of a block of two channels, with places for twice as many samples.
+pub(crate) fn write_pair<W: Target>(
+    subject: &Subject<'_>,
+    choice: &FrameChoice,
+    places: &mut [i64],
+    workspace: &mut Workspace,
+    writer: &mut BitWriter<W>,
+) -> Result<(), Why>
+    requires two { length subject.now.audio.now.channels ≡ 2 }
+    requires places { 2 * subject.now.size ≤ length places.old }
+    requires block { subject.now.size ≤ workspace.old.block }
+    requires code { IsPairCode choice.now.code }
+    requires made { AreMade subject.now.predictors.now choice.now.subframes.items (kept_as choice.now.code (block_of subject.now.start subject.now.size subject.now.audio.now.channels)) }
+    requires choices { 2 ≤ length choice.now.subframes.items }
+    ensures text { Writes (subframes_spelling subject.now.audio.now.bits choice.now.code 0 (forms_of subject.now.predictors.now choice.now.subframes.items (kept_as choice.now.code (block_of subject.now.start subject.now.size subject.now.audio.now.channels)))) writer.old writer.new result }
+    ensures room { workspace.new ≡ workspace.old }
+{
+    let size = subject.size;
+    let (first, rest) = places.split_at_mut(size);
+    let second = &mut rest[..size];
+    keep_pair(choice.code, subject.audio, subject.start, first, second);
+    write_two(subject, choice, first, second, workspace, writer)
 }

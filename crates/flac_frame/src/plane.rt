@@ -1,56 +1,46 @@
 //! A channel as a frame has it, and its shortest subframe.
 
-ghost use Rattle.std.specs.Prelude.{◌≡◌, ◌<◌, ◌≤◌, ◌^◌, length, All};
+ghost use Rattle.std.specs.Prelude.{◌≡◌, ◌<◌, ◌≤◌, ◌^◌, length, vec_len, All};
 ghost use Rattle.flac_bits.specs.Signed.{FitsBits};
-ghost use Rattle.flac_subframe.specs.Family.{IsMadeWith, form_with};
+ghost use Rattle.flac_subframe.specs.Family.{IsMadeIn, form_in};
+ghost use Rattle.flac_subframe.specs.Handed.{AreWithin};
+ghost use Rattle.flac_frame.specs.Encoding.{partition_limit};
+ghost use Rattle.flac_frame.specs.Frame.{limits_at};
 ghost use Rattle.flac_frame.specs.Pair.{IsChosen};
 
-use flac_subframe::{Choice, Limits, LinearPredictor, choose_with_into};
+use crate::limits::limits_at;
+use crate::subject::Subject;
+use flac_subframe::{WideChoice, Workspace, choose_in};
 
-/// A channel as a frame has it: its samples, their depth, and how they are written.
-#[derive(Drop)]
-pub(crate) struct Plane<'a> {
-    pub(crate) samples: &'a [i64],
-    pub(crate) depth: u32,
-    pub(crate) choice: Choice,
-    ghost some: { 0 < length samples.now },
-    ghost few: { length samples.now ≤ 65535 },
-    ghost deep: { (1 ≤ depth) × (depth ≤ 33) },
-    ghost fits: { All (FitsBits depth) samples.now },
-}
-
-/// Chooses the least subframe of some samples, with linear predictors beside the fixed ones.
-pub(crate) fn choose_plane<'a>(
-    samples: &'a [i64],
+/// Chooses a shortest subframe of some samples of a depth, under the profile and with the predictors of a subject.
+pub(crate) fn choose_plane(
+    samples: &[i64],
     depth: u32,
-    predictors: &[LinearPredictor],
-    shortened: &mut [i64],
-    values: &mut [i64],
-    folds: &mut [u32],
-) -> Plane<'a>
+    subject: &Subject<'_>,
+    workspace: &mut Workspace,
+    choice: &mut WideChoice,
+)
     requires some { 0 < length samples.now }
-    requires few { length samples.now ≤ 65535 }
+    requires block { length samples.now ≤ workspace.old.block }
     requires depth { (1 ≤ depth) × (depth ≤ 33) }
     requires fits { All (FitsBits depth) samples.now }
-    requires places { length samples.now ≤ length shortened.old }
-    requires values { length samples.now ≤ length values.old }
-    requires folds { length samples.now ≤ length folds.old }
-    ensures samples { result.samples.now ≡ samples.now }
-    ensures depth { result.depth ≡ depth }
-    ensures chosen { IsChosen predictors.now result.depth result.samples.now (form_with predictors.now result.choice result.samples.now) result.choice.bits }
-    ensures made { IsMadeWith predictors.now result.choice result.samples.now }
-    ensures small { result.choice.bits ≤ 2 ^ 61 }
+    requires partition { partition_limit subject.now.audio.now ≤ workspace.old.most }
+    requires places { 2 ^ partition_limit subject.now.audio.now ≤ vec_len choice.old.codings }
+    requires orders { AreWithin (limits_at subject.now.audio.now.profile subject.now.audio.now.rate).linear subject.now.predictors.now }
+    ensures chosen { IsChosen (partition_limit subject.now.audio.now) subject.now.predictors.now depth samples.now (form_in subject.now.predictors.now choice.new samples.now) choice.new.bits }
+    ensures made { IsMadeIn subject.now.predictors.now choice.new samples.now }
+    ensures small { choice.new.bits ≤ 2 ^ 61 }
+    ensures places { vec_len choice.new.codings ≡ vec_len choice.old.codings }
+    ensures room { workspace.new ≡ workspace.old }
 {
-    let limits = Limits {
-        partition: 8,
-        linear: 32,
-    };
-    let choice = choose_with_into(
-        samples, depth, &limits, predictors, shortened, values, folds,
-    );
-    Plane {
+    let audio = subject.audio;
+    let limits = limits_at(audio.profile(), audio.rate());
+    choose_in(
         samples,
         depth,
+        &limits,
+        subject.predictors,
+        workspace,
         choice,
-    }
+    );
 }

@@ -1,6 +1,6 @@
 //! The shortest subframe of some samples, with partition orders up to 15, worked out in arrays that are made once.
 
-ghost use Rattle.std.specs.Prelude.{◌≡◌, ◌<◌, ◌≤◌, ◌-◌, ◌*◌, ◌^◌, length, map, All, IfOk, IfErr, vec_len};
+ghost use Rattle.std.specs.Prelude.{◌≡◌, ◌<◌, ◌≤◌, ◌-◌, ◌*◌, ◌^◌, ℤ, List, length, map, take, All, IfOk, IfErr, vec_len};
 ghost use Rattle.flac_bits.specs.Signed.{FitsBits};
 ghost use Rattle.flac_bits.specs.Written.{Writes};
 ghost use Rattle.flac_bits.specs.declared.why.Why.{Why};
@@ -13,6 +13,7 @@ ghost use Rattle.flac_subframe.specs.Spelling.{subframe_spelling, IsSubframe};
 ghost use Rattle.flac_subframe.specs.Subframe.{samples_of};
 ghost use Rattle.flac_subframe.specs.Wasted.{IsWasted, times_power, shortened};
 ghost use Rattle.flac_subframe.specs.declared.limits.Limits.{Limits};
+ghost use Rattle.flac_subframe.specs.declared.linear.LinearPredictor.{LinearPredictor};
 
 use crate::choice::search;
 use crate::halving::{Found, power};
@@ -72,6 +73,42 @@ impl WideChoice {
         ensures { result ≡ self.now.bits }
     {
         self.bits
+    }
+
+    /// The codings that the choice has, the first of its places.
+    fn codings_used(&self) -> &[u8]
+        ensures same { take (2 ^ self.now.found.halvings) result.now ≡ take (2 ^ self.now.found.halvings) self.now.codings.items }
+        ensures exact { self.now.found.halvings ≤ 15 → 2 ^ self.now.found.halvings ≤ vec_len self.now.codings → length result.now ≡ 2 ^ self.now.found.halvings }
+    {
+        let places = self.codings.len();
+        if self.found.halvings > 15 {
+            return &self.codings;
+        }
+        &self.codings[..power(self.found.halvings).min(places)]
+    }
+
+    /// A copy of the choice with places for just its own codings, one byte for each partition. A copy of which the rest is not needed
+    /// takes so much less memory than a place for any choice; it can be written as this one is.
+    ///
+    /// # Errors
+    /// [`Why::Memory`] if an allocation fails.
+    pub fn kept(&self, alloc: Global) -> Result<WideChoice, Why>
+        ensures same { IfOk result (λ c. (predictors : List LinearPredictor) (samples : List ℤ) → form_in predictors c samples ≡ form_in predictors self.now samples) }
+        ensures made { IfOk result (λ c. (predictors : List LinearPredictor) (samples : List ℤ) → IsMadeIn predictors self.now samples → IsMadeIn predictors c samples) }
+        ensures bits { IfOk result (λ c. c.bits ≡ self.now.bits) }
+        ensures exact { IfOk result (λ c. self.now.found.halvings ≤ 15 → 2 ^ self.now.found.halvings ≤ vec_len self.now.codings → vec_len c.codings ≡ 2 ^ self.now.found.halvings) }
+        ensures memory { IfErr result (λ e. e ≡ Why.Memory) }
+    {
+        let used = self.codings_used();
+        let mut codings = vec![in alloc; 0u8; used.len()]?;
+        codings.copy_from_slice(used);
+        Ok(WideChoice {
+            wasted: self.wasted,
+            kind: self.kind,
+            found: self.found,
+            codings,
+            bits: self.bits,
+        })
     }
 
     /// The same with its codings lent.
