@@ -1,3 +1,4 @@
+pub mod Asked
 pub mod Counted
 pub mod Encoded
 pub mod Lined

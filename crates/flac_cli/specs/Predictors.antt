@@ -1,10 +1,11 @@
 -- The text of a list of linear predictors: in each line one, PRECISION SHIFT C1 C2 .., or none. They are the fields of a subframe with a
 -- linear predictor, the coefficient for the nearest sample first (RFC 9639, section 9.2.6).
-use Rattle.std.specs.Prelude.{◌+◌, ◌-◌, ◌*◌, ◌^◌, ◌==◌, ◌||◌, ◌&&◌, ℕ, Bool, cond, nat_lt, ℤ, ◌≡◌, pos, negsuc, neg_ℤ, List, [], ◌∷◌, ◌++◌, length, drop, Option, Some, None, option_map, option_and_then, Result, Ok, Err}
+use Rattle.std.specs.Prelude.{◌+◌, ◌-◌, ◌*◌, ◌^◌, ◌==◌, ◌||◌, ◌&&◌, ℕ, Bool, cond, nat_lt, ℤ, ◌≡◌, pos, negsuc, neg_ℤ, List, [], ◌∷◌, ◌++◌, length, map, drop, Option, Some, None, option_map, option_and_then, Result, Ok, Err}
 use Rattle.std.specs.List.{filter, list_all, slice_split, before_first}
 use Rattle.std.specs.Str.Parse.{starts_with_minus}
 use Rattle.flac_subframe.specs.Bodies.{Chooses, linear}
 use Rattle.flac_subframe.specs.Handed.{predictor_of}
+use Rattle.flac_subframe.specs.declared.linear.LinearPredictor.{LinearPredictor}
 use Rattle.flac_cli.specs.declared.predictors.Line.{Line}
 use Rattle.flac_cli.specs.declared.predictors.Line.TheVariants as line
 use Rattle.flac_cli.specs.declared.predictors.ListFault.{ListFault}
@@ -80,6 +81,10 @@ lines_after number found (line ∷ more) = elim (line_in line) [ None ↦ Err nu
 -- the predictors of a text, or the number of its first wrong line, counted from 1
 abbrev pub predictors_in : (text : List ℕ) → Result (List Chooses) ℕ
 predictors_in text = lines_after 1 [] (slice_split (λ byte. byte == 10) text)
+
+-- the text is a list of just these predictors
+abbrev pub AreListed : (text : List ℕ) → List LinearPredictor → Type 0
+AreListed text ps = predictors_in text ≡ Ok (map predictor_of ps)
 
 -- what was found in a line
 abbrev pub found_in : Line → Option (List Chooses)
