@@ -1,17 +1,15 @@
 -- What a target was sent while it was borrowed.
-use Rattle.std.proofs.Common.{inl, inr, ◌≡◌, ◌∙◌, refl, sym, ap, subst, ℕ, ◌%◌, arith, nat_eq, Bool, true, false, cond, ◌&&◌, List, [], ◌∷◌, ◌++◌, length, take, Result, Ok, Err, OnOk, IfOk}
+use Rattle.std.proofs.Common.{inl, inr, ◌≡◌, ◌∙◌, refl, sym, ap, subst, ℕ, arith, nat_eq, Bool, true, false, cond, ◌&&◌, List, [], ◌∷◌, ◌++◌, length, take, Result, Ok, Err, OnOk, IfOk}
 use Rattle.std.proofs.lemmas.Bool.{cases_Bool, and_parts, and_from, eqb-true, eq-eqb}
 use Rattle.flac_bits.specs.Bits.{bits_of}
-use Rattle.flac_bits.specs.State.{Mark}
-use Rattle.flac_bits.specs.Written.{Written, Adds, Writes, begins}
+use Rattle.flac_bits.specs.Written.{Written, begins}
 use Rattle.flac_bits.specs.declared.why.Why.{Why}
 use Rattle.flac_bits.specs.declared.why.Why.TheVariants.{Truncated}
 use Rattle.flac_bits.specs.declared.target.Target as target
 use Rattle.flac_bits.proofs.Holding.{bits_of-append}
-use Rattle.flac_bits.proofs.ItemSpellings.{behind_whole}
 use Rattle.flac_bits.proofs.Writing.{begins_is}
 use Rattle.flac_native.specs.Lent.{has_still, sent_since, named}
-use Rattle.flac_native.specs.Writing.{SendsBits}
+use Rattle.flac_native.specs.Writing.{WritesAll, SendsBits}
 
 -- ---- what was sent before is still there
 
@@ -108,12 +106,6 @@ same_named m n a b xs ys e =
 
 -- ---- a writer over a target that is borrowed
 
--- whole bytes that were written are sent
-pub whole_sent : {X : Type 0} (text : List Bool) (old mid new : Written) (r : Result X Why) → Adds text old mid → old.mark.unread ≡ 0 → length text % 8 ≡ 0 → OnOk r (mid.known ≡ true → mid.mark.unread ≡ 0 → bits_of new.sent ≡ mid.bits)
-    → OnOk r (old.known ≡ true → bits_of new.sent ≡ old.bits ++ text)
-whole_sent text old mid new (Err e) adds unread whole sent = tt
-whole_sent text old mid new (Ok x) adds unread whole sent = λ k. sent (adds.known k) (ap (λ (m : Mark). m.unread) adds.mark ∙ behind_whole text old.mark unread whole) ∙ adds.bits k
-
 module _ {S : Type 0} (g : target.Ghosts S) where
   -- it has written nothing yet
   pub record Lends (old : S) (name : ℕ) (w : Written) : Type 0 where
@@ -147,15 +139,11 @@ module _ {S : Type 0} (g : target.Ghosts S) where
     pub errors : g.errors new ≡ w.errors
     pub names : name ∷ named (g.sent began) (g.names new) ≡ w.names
 
-  names_kept : {X : Type 0} (text : List Bool) (first last : Written) (r : Result X Why) → Writes text first last r → last.names ≡ first.names
-  names_kept text first last (Ok x) adds = adds.names
-  names_kept text first last (Err e) fails = fails.names
-
   -- the same reference is given back, to what had been sent the same
-  pub same_lent : {X : Type 0} (text : List Bool) (old began new : S) (name again : ℕ) (first last : Written) (r : Result X Why) → Lends old name first → Returns began new again last → Writes text first last r
+  pub same_lent : (old began new : S) (name again : ℕ) (first last : Written) → Lends old name first → Returns began new again last → last.names ≡ first.names
       → (again ≡ name) × ((g.sent began ≡ g.sent old) × (g.names new ≡ g.names old))
-  same_lent text old began new name again first last r lends returns w =
-      same_named again name (g.sent began) (g.sent old) (g.names new) (g.names old) (returns.names ∙ names_kept text first last r w ∙ lends.names)
+  same_lent old began new name again first last lends returns kept =
+      same_named again name (g.sent began) (g.sent old) (g.names new) (g.names old) (returns.names ∙ kept ∙ lends.names)
 
   known_first : (old : S) (name : ℕ) (first : Written) → Lends old name first → g.known old ≡ true → first.known ≡ true
   known_first old name first lends k = lends.known ∙ and_from (g.known old) _ k (still_self (g.sent old))
@@ -164,26 +152,27 @@ module _ {S : Type 0} (g : target.Ghosts S) where
   blank old name first lends = lends.bits ∙ ap bits_of (since_self (g.sent old))
 
   -- what the writer wrote and sent was sent to the target
-  pub lent_sends : {X : Type 0} (text : List Bool) (old began new : S) (name again : ℕ) (first last : Written) (r : Result X Why) → Lends old name first → Returns began new again last → Writes text first last r
-      → OnOk r (first.known ≡ true → bits_of last.sent ≡ first.bits ++ text) → SendsBits g text old new r
-  lent_sends text old began new name again first last (Ok x) lends returns adds whole =
+  pub lent_sends : {X : Type 0} (text : List Bool) (old began new : S) (name again : ℕ) (first last : Written) (r : Result X Why) → Lends old name first → Returns began new again last → WritesAll text first last r
+      → SendsBits g text old new r
+  lent_sends text old began new name again first last (Ok x) lends returns w =
       let known = known_first old name first lends in
-      let same = same_lent text old began new name again first last (Ok x) lends returns adds in
+      let same = same_lent old began new name again first last lends returns w.names in
       record {
-        known = λ k. (and_parts (g.known new) _ (returns.known ∙ adds.known (known k))).0;
+        known = λ k. (and_parts (g.known new) _ (returns.known ∙ w.known (known k))).0;
         sent = λ k.
-            let s = since_is (g.sent began) (g.sent new) text (ap bits_of returns.sent ∙ whole (known k) ∙ ap (λ b. b ++ text) (blank old name first lends)) in
+            let s = since_is (g.sent began) (g.sent new) text (ap bits_of returns.sent ∙ w.sent (known k) ∙ ap (λ b. b ++ text) (blank old name first lends)) in
             ap bits_of (s.1 ∙ ap (λ l. l ++ s.0) same.1.0) ∙ bits_of-append (g.sent old) s.0 ∙ ap (λ t. bits_of (g.sent old) ++ t) s.2;
         begun = tt;
         names = same.1.1;
-        counted = returns.errors ∙ adds.errors ∙ lends.errors;
-        kept = omega (arith, returns.errors, adds.errors, lends.errors);
+        counted = returns.errors ∙ w.counted ∙ lends.errors;
+        kept = omega (arith, returns.errors, w.counted, lends.errors);
         rises = tt;
         risen = tt;
       }
-  lent_sends {X = X} text old began new name again first last (Err e) lends returns fails whole =
+  lent_sends text old began new name again first last (Err e) lends returns w =
       let known = known_first old name first lends in
-      let same = same_lent {X = X} text old began new name again first last (Err e) lends returns fails in
+      let fails = w.failed in
+      let same = same_lent old began new name again first last lends returns w.names in
       record {
         known = tt;
         sent = tt;

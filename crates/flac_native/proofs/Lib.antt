@@ -7,6 +7,7 @@ pub mod Messages
 pub mod Advancing
 pub mod Deciding
 pub mod WholeBytes
+pub mod Predictors
 pub mod Planned
 pub mod Digests
 pub mod EachFrame
@@ -39,6 +40,7 @@ pub mod Ordered
 pub mod Pushing
 pub mod Spelled
 pub mod Rooms
+pub mod WrittenFrames
 pub mod Lending
 pub mod Wider
 pub mod Outside

@@ -1,11 +1,11 @@
 -- Without the subset's limits nothing is outside the subset.
-use Rattle.std.proofs.Common.{◌≡◌, ◌≢◌, ℕ, zero, suc, ◌+◌, ◌-◌, ◌*◌, ◌/◌, ◌%◌, ◌^◌, ◌<◌, Bool, true, false, not, cond, ◌&&◌, nat_eq, nat_lt, List, [], ◌∷◌, length, Option, Some, None, ℤ, ◌⊎◌, inl, inr, refl, sym, subst, ◌∙◌, arith}
+use Rattle.std.proofs.Common.{◌≡◌, ◌≢◌, ℕ, zero, suc, ◌+◌, ◌-◌, ◌*◌, ◌/◌, ◌^◌, ◌<◌, Bool, true, false, cond, nat_eq, nat_lt, List, [], ◌∷◌, length, Option, Some, None, ℤ, inl, inr, refl, sym, subst, ◌∙◌, arith}
 use Rattle.std.specs.Bool.{⊤}
 use Rattle.std.proofs.lemmas.Bool.Decides.{nat_tests}
 use Rattle.flac_bits.specs.State.{Mark, past, fresh}
-use Rattle.flac_bits.specs.Layout.{Layout, Rule, done, bind, bits, unary, judge, refuse, mark, ◌>>=◌, choose}
+use Rattle.flac_bits.specs.Layout.{Layout, Rule, done, bind, bits, unary, judge, refuse, mark, choose}
 use Rattle.flac_bits.specs.Meaning.{Shows, BreaksFirst}
-use Rattle.flac_bits.specs.Items.{Joined, Refused, StopsAt, after, mark_behind}
+use Rattle.flac_bits.specs.Items.{Joined, StopsAt, after, mark_behind}
 use Rattle.flac_bits.specs.Lists.{list_of}
 use Rattle.flac_bits.specs.LittleEndian.{little_32}
 use Rattle.flac_bits.specs.Number.{number, continued, some_or_bad, lead_form}
@@ -15,7 +15,6 @@ use Rattle.flac_bits.specs.declared.why.Why.{Why}
 use Rattle.flac_bits.specs.declared.why.Why.TheVariants.{NotSubset, ReservedCode, FrameTooLong, SampleRange}
 use Rattle.flac_bits.proofs.Meaning.{past-short}
 use Rattle.flac_header.specs.Header.{header, size_field, rate_field, allowed}
-use Rattle.flac_header.specs.declared.subset.Profile.{Profile}
 use Rattle.flac_header.specs.declared.subset.Profile.TheVariants.{Lax}
 use Rattle.flac_meta.specs.Info.{Info, stream_info, info_sizes, info_format}
 use Rattle.flac_meta.specs.Header.{block_header}
@@ -33,7 +32,6 @@ use Rattle.flac_frame.specs.Frame.{frame, stream_header, header_rules, frame_bod
 use Rattle.flac_frame.specs.declared.before.Before.{Before}
 use Rattle.flac_native.specs.Stream.{Piece, Stand, Progress, grammar, layout, layout_in, marker, frame_behind, end_rules}
 use Rattle.flac_native.specs.Wider.{NothingIsOutsideLax}
-use Rattle.flac_native.specs.declared.fault.Place.{Place}
 use Rattle.flac_native.specs.declared.phase.Phase.{Phase}
 use Rattle.flac_native.specs.declared.phase.Phase.TheVariants.{Opening, Blocks, Frames}
 use Rattle.flac_native.proofs.Onwards.{after_profile}

@@ -1,11 +1,20 @@
 -- What holds of a plan.
-use Rattle.std.proofs.Common.{◌≡◌, ℕ, ◌^◌, ◌<◌, ◌≤◌, Bool, true, false, cond, ◌&&◌, ◌||◌, nat_eq, nat_lt, nat_le, length, Option, Some, None, is_none, refl, arith}
+use Rattle.std.proofs.Common.{◌≡◌, ℕ, ◌^◌, ◌<◌, ◌≤◌, Bool, true, false, cond, ◌&&◌, ◌||◌, nat_eq, nat_lt, nat_le, length, Option, Some, None, is_none, List, refl, sym, ap, subst, ◌∙◌, arith}
 use Rattle.std.proofs.lemmas.Bool.Decides.{nat_tests}
 use Rattle.flac_meta.specs.Info.{KeepsRules}
-use Rattle.flac_header.specs.Header.{greatest_block}
-use Rattle.flac_header.specs.Choice.{rate_choice, depth_choice}
+use Rattle.flac_header.specs.Header.{greatest_block, greatest_in}
+use Rattle.flac_header.specs.Choice.{rate_choice, depth_choice, rate_choice_in, depth_choice_in}
+use Rattle.flac_header.specs.declared.subset.Profile.{Profile}
+use Rattle.flac_header.specs.declared.subset.Profile.TheVariants.{Subset, Lax}
+use Rattle.flac_subframe.specs.Handed.{AreWithin}
+use Rattle.flac_subframe.specs.Room.{Room}
+use Rattle.flac_subframe.specs.declared.linear.LinearPredictor.{LinearPredictor}
+use Rattle.flac_frame.specs.Encoding.{partition_limit}
+use Rattle.flac_frame.specs.Frame.{limits_at}
+use Rattle.flac_frame.specs.declared.setup.SetupFault.TheVariants.{BadRate, BadDepth, BadChannels, TooLong, BadBlockSize, TooManyPoints}
 use Rattle.flac_frame.specs.Audio.{Sound, samples_each}
-use Rattle.flac_native.specs.Given.{Cut, fits_plan, blocks_in, points_before, plan_fault, info_of}
+use Rattle.flac_native.specs.Given.{Cut, with_predictors, same_profile, fits_plan, room_of, blocks_in, points_before, predictors_fault, plan_fault, info_of}
+use Rattle.flac_native.proofs.Predictors.{within, partition_is}
 
 -- ---- tests in a row
 
@@ -36,15 +45,16 @@ same a b e = grind (arith, nat_tests)
 -- ---- a plan
 
 pub record Planned (p : Cut) : Type 0 where
-  pub rate : is_none (rate_choice p.rate) ≡ false
-  pub bits : is_none (depth_choice p.bits) ≡ false
+  pub rate : is_none (rate_choice_in p.profile p.rate) ≡ false
+  pub bits : is_none (depth_choice_in p.profile p.bits) ≡ false
   pub some : 1 ≤ p.channels
   pub few : p.channels ≤ 8
   pub least : 16 ≤ p.block_size
-  pub greatest : p.block_size ≤ greatest_block p.rate
+  pub greatest : p.block_size ≤ greatest_in p.profile p.rate
   pub total : p.total < 2 ^ 36
   pub blocks : blocks_in p.block_size p.total ≤ 2 ^ 31
   pub points : points_before p.block_size p.total p.seek_every (blocks_in p.block_size p.total) ≤ 932067
+  pub predictors : predictors_fault p.profile p.rate p.predictors ≡ None
 
 pub planned : (p : Cut) → plan_fault p ≡ None → Planned p
 unfolding plan_fault
@@ -64,48 +74,102 @@ planned p e =
       some = not_zero p.channels channels.0;
       few = not_less 8 p.channels channels.1;
       least = not_less p.block_size 16 sizes.0;
-      greatest = not_less (greatest_block p.rate) p.block_size sizes.1;
+      greatest = not_less (greatest_in p.profile p.rate) p.block_size sizes.1;
       total = not_at_most (2 ^ 36) p.total counts.0;
       blocks = not_less (2 ^ 31) (blocks_in p.block_size p.total) counts.1;
       points = not_less 932067 (points_before p.block_size p.total p.seek_every (blocks_in p.block_size p.total)) g.0;
+      predictors = g.1;
     }
+
+-- another last test
+instead : {A : Type 0} (b : Bool) (x : A) (rest other : Option A) → (rest ≡ None → other ≡ None) → cond b (Some x) rest ≡ None → cond b (Some x) other ≡ None
+instead true x rest other f e = absurd cc
+instead false x rest other f e = f e
+
+-- so it is with other predictors that can be tried
+pub still_planned : (p : Cut) (ps : List LinearPredictor) → plan_fault p ≡ None → predictors_fault p.profile p.rate ps ≡ None → plan_fault (with_predictors p ps) ≡ None
+unfolding plan_fault
+still_planned p ps e new =
+    let points = points_before p.block_size p.total p.seek_every (blocks_in p.block_size p.total) in
+    instead (is_none (rate_choice_in p.profile p.rate)) BadRate _ _
+    (instead (is_none (depth_choice_in p.profile p.bits)) BadDepth _ _
+    (instead (nat_eq p.channels 0 || nat_lt 8 p.channels) BadChannels _ _
+    (instead (nat_lt p.block_size 16 || nat_lt (greatest_in p.profile p.rate) p.block_size) BadBlockSize _ _
+    (instead (nat_le (2 ^ 36) p.total || nat_lt (2 ^ 31) (blocks_in p.block_size p.total)) TooLong _ _
+    (instead (nat_lt 932067 points) TooManyPoints (predictors_fault p.profile p.rate p.predictors) (predictors_fault p.profile p.rate ps) (λ old. new)))))) e
 
 -- these samples are those that the plan was made for
 pub record Fit (p : Cut) (a : Sound) : Type 0 where
+  pub profile : p.profile ≡ a.profile
   pub rate : p.rate ≡ a.rate
   pub bits : p.bits ≡ a.bits
   pub channels : p.channels ≡ length a.channels
   pub total : p.total ≡ samples_each a.channels
+
+same_is : (a b : Profile) → same_profile a b ≡ true → a ≡ b
+same_is Subset Subset e = refl
+same_is Subset Lax e = absurd cc
+same_is Lax Subset e = absurd cc
+same_is Lax Lax e = refl
 
 pub fit : (p : Cut) (a : Sound) → fits_plan p a ≡ true → Fit p a
 fit p a e =
     let x = both_true _ _ e in
     let y = both_true _ _ x.0 in
     let z = both_true _ _ y.0 in
-    record { rate = same _ _ z.0; bits = same _ _ z.1; channels = same _ _ y.1; total = same _ _ x.1 }
+    let w = both_true _ _ z.0 in
+    record { profile = same_is p.profile a.profile w.0; rate = same _ _ w.1; bits = same _ _ z.1; channels = same _ _ y.1; total = same _ _ x.1 }
 
-pub rate_range : (rate : ℕ) → is_none (rate_choice rate) ≡ false → (1 ≤ rate) × (rate < 2 ^ 20)
+-- ---- what the profile allows
+
+plain_rate : (rate : ℕ) → is_none (rate_choice rate) ≡ false → (1 ≤ rate) × (rate < 2 ^ 20)
 unfolding rate_choice
-rate_range rate e = grind (arith, nat_tests)
+plain_rate rate e = grind (arith, nat_tests)
 
-pub depth_range : (depth : ℕ) → is_none (depth_choice depth) ≡ false → (8 ≤ depth) × (depth ≤ 32)
+plain_depth : (depth : ℕ) → is_none (depth_choice depth) ≡ false → (4 ≤ depth) × (depth ≤ 32)
 unfolding depth_choice
-depth_range depth e = grind (arith, nat_tests)
+plain_depth depth e = grind (arith, nat_tests)
 
-pub greatest_small : (rate : ℕ) → greatest_block rate ≤ 16384
-greatest_small rate = go (nat_le rate 48000)
+none_left : {A : Type 0} (b : Bool) (o : Option A) → is_none (cond b None o) ≡ false → b ≡ false
+none_left true o e = absurd cc
+none_left false o e = refl
+
+pub rate_range : (profile : Profile) (rate : ℕ) → is_none (rate_choice_in profile rate) ≡ false → (1 ≤ rate) × (rate < 2 ^ 20)
+unfolding rate_choice_in
+rate_range Subset rate e = plain_rate rate e
+rate_range Lax rate e = let b = either_false _ _ (none_left (nat_eq rate 0 || nat_lt 1048575 rate) _ e) in let most = not_less 1048575 rate b.1 in (not_zero rate b.0, omega (arith, most))
+
+pub depth_range : (profile : Profile) (depth : ℕ) → is_none (depth_choice_in profile depth) ≡ false → (4 ≤ depth) × (depth ≤ 32)
+unfolding depth_choice_in
+depth_range Subset depth e = plain_depth depth e
+depth_range Lax depth e = let b = either_false _ _ (none_left (nat_lt depth 4 || nat_lt 32 depth) _ e) in (not_less depth 4 b.0, not_less 32 depth b.1)
+
+pub greatest_small : (profile : Profile) (rate : ℕ) → greatest_in profile rate ≤ 65535
+greatest_small Subset rate = go (nat_le rate 48000)
   where
-    go : (b : Bool) → cond b 4608 16384 ≤ 16384
+    go : (b : Bool) → cond b 4608 16384 ≤ 65535
     go true = omega arith
     go false = omega arith
+greatest_small Lax rate = omega arith
 
-pub block_small : (p : Cut) → Planned p → p.block_size ≤ 16384
-block_small p q = omega (arith, q.greatest, greatest_small p.rate)
+pub block_small : (p : Cut) → Planned p → p.block_size ≤ 65535
+block_small p q = omega (arith, q.greatest, greatest_small p.profile p.rate)
+
+-- the plan's predictors can be tried for the samples
+pub orders_of : (p : Cut) (a : Sound) → Planned p → Fit p a → AreWithin (limits_at a.profile a.rate).linear p.predictors
+orders_of p a q f =
+    subst (λ x. AreWithin (limits_at x a.rate).linear p.predictors) f.profile (subst (λ r. AreWithin (limits_at p.profile r).linear p.predictors) f.rate (within p.profile p.rate p.predictors q.predictors))
+
+-- the plan's arrays have room for the partition orders of the samples
+pub partition_of : (p : Cut) (a : Sound) (r : Room) → Fit p a → r ≡ room_of p → partition_limit a ≤ r.most
+partition_of p a r f is =
+    let most : r.most ≡ (limits_at a.profile 0).partition = ap (λ (x : Room). x.most) is ∙ ap (λ x. (limits_at x 0).partition) f.profile in
+    omega (arith, partition_is a.profile a.rate, most)
 
 pub keeps_rules : (p : Cut) (a : Sound) (least greatest : ℕ) → Planned p → Fit p a → least < 2 ^ 24 → greatest < 2 ^ 24 → KeepsRules (info_of p a least greatest)
 keeps_rules p a least greatest q f l g =
-    let rate = rate_range p.rate q.rate in
-    let depth = depth_range p.bits q.bits in
+    let rate = rate_range p.profile p.rate q.rate in
+    let depth = depth_range p.profile p.bits q.bits in
     let small = block_small p q in
     record {
       least_block = q.least;

@@ -1,5 +1,5 @@
 -- What an encoder that is pushed to has written is a stream.
-use Rattle.std.proofs.Common.{◌≡◌, ℕ, suc, zero, ◌+◌, ◌*◌, ◌^◌, ◌<◌, ◌≤◌, ℤ, Bool, true, false, not, cond, ◌||◌, nat_eq, nat_lt, nat_le, List, [], ◌∷◌, ◌++◌, length, map, take, drop, All, Option, Some, None, is_none, ◌⊎◌, inl, inr, refl, sym, ap, subst, ◌∙◌, arith}
+use Rattle.std.proofs.Common.{◌≡◌, ℕ, suc, zero, ◌+◌, ◌*◌, ◌^◌, ◌<◌, ◌≤◌, ℤ, Bool, true, false, not, cond, ◌||◌, nat_eq, nat_lt, nat_le, List, [], ◌∷◌, ◌++◌, length, map, All, Option, Some, None, is_none, ◌⊎◌, inl, inr, refl, sym, ap, subst, ◌∙◌, arith}
 use Rattle.std.proofs.Common.{Vec, Global, Result, Ok, Err, IfOk}
 use Rattle.std.specs.Prelude.{option_map, replicate}
 use Rattle.std.specs.Option.{option_or}
@@ -11,7 +11,7 @@ use Rattle.flac_bits.specs.State.{Mark, past, fresh}
 use Rattle.flac_bits.specs.Forms.{IsBytes, AreBytes}
 use Rattle.flac_bits.specs.Meaning.{Spells, AllKept}
 use Rattle.flac_bits.specs.Fence.{InRoom}
-use Rattle.flac_bits.specs.Items.{Stream, Joined, after, mark_behind}
+use Rattle.flac_bits.specs.Items.{Joined, after, mark_behind}
 use Rattle.flac_bits.specs.declared.why.Why.TheVariants.{Truncated}
 use Rattle.flac_bits.proofs.Handing.{after-append, Joined-append}
 use Rattle.flac_bits.proofs.ItemSpellings.{fresh_unread, fresh_check8, fresh_check16, behind_whole}
@@ -29,7 +29,7 @@ use Rattle.flac_bits.specs.declared.target.Target as target
 use Rattle.flac_bits.proofs.Holding.{bits_of-append}
 use Rattle.flac_frame.specs.Audio.{Sound, IsSound, samples_each, as_long, each_small, channels_fault, audio_fault}
 use Rattle.flac_frame.specs.declared.setup.SetupFault.{SetupFault}
-use Rattle.flac_frame.specs.declared.setup.SetupFault.TheVariants.{BadRate, BadDepth, BadChannels, LengthsDiffer, SampleTooLarge, TooLong, BadBlockSize}
+use Rattle.flac_frame.specs.declared.setup.SetupFault.TheVariants.{BadChannels, LengthsDiffer, SampleTooLarge, TooLong, BadBlockSize}
 use Rattle.flac_frame.specs.Encoding.{IsEncoding, IsLeastFrame, IsShort, block_of as part_of}
 use Rattle.flac_frame.specs.Frame.{Frame, frame, header_rules, left_by}
 use Rattle.flac_frame.specs.Spelling.{FrameForm, frame_spelling}

@@ -1,5 +1,5 @@
 -- The frame that a place in memory was sent.
-use Rattle.std.proofs.Common.{◌≡◌, ◌∙◌, refl, sym, ap, subst, ℕ, zero, suc, ◌+◌, ◌*◌, ◌<◌, ◌≤◌, arith, Bool, true, List, [], ◌∷◌, ◌++◌, length, length-append, Result, Ok, Err, OnOk}
+use Rattle.std.proofs.Common.{◌≡◌, ◌∙◌, refl, sym, ap, subst, ℕ, zero, suc, ◌*◌, ◌<◌, ◌≤◌, arith, Bool, true, List, [], ◌∷◌, ◌++◌, length, length-append, Result, Ok, Err, OnOk}
 use Rattle.std.proofs.lemmas.List.{append-nil}
 use Rattle.flac_bits.specs.Bits.{unsigned, bits_of}
 use Rattle.flac_bits.specs.State.{Mark, fresh}
@@ -21,21 +21,33 @@ use Rattle.flac_native.proofs.Spelled.{as_long, begins_long}
 -- ---- bits, and the rest that is held
 
 pub all_failed : (X : Type 0) (text : List Bool) (old new : Written) (e : Why) → Fails (old.bits ++ text) old new e → WritesAll {X = X} text old new (Err e)
-all_failed X text old new e fails = record { failed = fails; counted = tt; sent = tt }
+all_failed X text old new e fails = record { failed = fails; known = tt; counted = tt; names = fails.names; sent = tt }
 
 pub all_written : {X : Type 0} (text : List Bool) (old mid new : Written) (r : Result X Why) → Adds text old mid → mid.mark.unread ≡ 0 → Writes [] mid new r → OnOk r (mid.known ≡ true → mid.mark.unread ≡ 0 → bits_of new.sent ≡ mid.bits)
     → WritesAll text old new r
-all_written text old mid new (Ok x) adds unread last sent = record { failed = tt; counted = last.errors ∙ adds.errors; sent = λ known. sent (adds.known known) unread ∙ adds.bits known }
-all_written text old mid new (Err e) adds unread last sent = record { failed = subst (λ k. Fails (old.bits ++ k) old new e) (append-nil text) (fails_then [] adds last); counted = tt; sent = tt }
+all_written text old mid new (Ok x) adds unread last sent = record {
+  failed = tt;
+  known = λ known. last.known (adds.known known);
+  counted = last.errors ∙ adds.errors;
+  names = last.names ∙ adds.names;
+  sent = λ known. sent (adds.known known) unread ∙ adds.bits known;
+}
+all_written text old mid new (Err e) adds unread last sent = record {
+  failed = subst (λ k. Fails (old.bits ++ k) old new e) (append-nil text) (fails_then [] adds last);
+  known = tt;
+  counted = tt;
+  names = last.names ∙ adds.names;
+  sent = tt;
+}
 
 -- ---- a frame
 
-unstarted : (bits : List Bool) (old new : Written) (e : Why) → Fails bits (restarted old) new e → Fails bits old new e
+pub unstarted : (bits : List Bool) (old new : Written) (e : Why) → Fails bits (restarted old) new e → Fails bits old new e
 unstarted bits old new e f = record { reason = f.reason; kept = f.kept; names = f.names; rises = f.rises; begun = f.begun; risen = f.risen }
 
 all_unstarted : {X : Type 0} (text : List Bool) (old new : Written) (r : Result X Why) → WritesAll text (restarted old) new r → WritesAll text old new r
-all_unstarted text old new (Ok x) w = record { failed = tt; counted = w.counted; sent = w.sent }
-all_unstarted text old new (Err e) w = record { failed = unstarted (old.bits ++ text) old new e w.failed; counted = tt; sent = tt }
+all_unstarted text old new (Ok x) w = record { failed = tt; known = w.known; counted = w.counted; names = w.names; sent = w.sent }
+all_unstarted text old new (Err e) w = record { failed = unstarted (old.bits ++ text) old new e w.failed; known = tt; counted = tt; names = w.names; sent = tt }
 
 pub next_failed : (X : Type 0) (p : Cut) (a : Sound) (number : ℕ) (old new : Written) (f : FrameForm) (e : Why) → IsSpelled p a number (frame_spelling a.bits f) → Fails (old.bits ++ frame_spelling a.bits f) (restarted old) new e → WritesNext {X = X} p a number old new (Err e)
 next_failed X p a number old new f e is fails = (frame_spelling a.bits f, is, all_failed X (frame_spelling a.bits f) old new e (unstarted (old.bits ++ frame_spelling a.bits f) old new e fails))

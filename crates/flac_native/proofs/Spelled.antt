@@ -1,25 +1,21 @@
 -- Frames that are written and sent one after another.
-use Rattle.std.proofs.Common.{◌≡◌, ◌∙◌, refl, sym, ap, subst, ℕ, zero, suc, ◌+◌, ◌-◌, ◌*◌, ◌/◌, ◌^◌, ◌<◌, ◌≤◌, arith, Bool, true, false, List, [], ◌∷◌, ◌++◌, append_assoc, length, length-append, drop, take, get_or, Result, Ok, Err, OnOk, IfErr}
-use Rattle.std.proofs.lemmas.Bool.{cases_lt}
+use Rattle.std.proofs.Common.{◌≡◌, ◌∙◌, refl, sym, ap, subst, ℕ, zero, suc, ◌+◌, ◌*◌, ◌/◌, ◌<◌, ◌≤◌, arith, Bool, true, false, List, [], ◌∷◌, ◌++◌, append_assoc, length, drop, Result, Ok, Err}
 use Rattle.std.proofs.lemmas.List.{append-nil, length-drop, get_or-drop}
 use Rattle.flac_bits.specs.Bits.{bits_of}
-use Rattle.flac_bits.specs.Forms.{joined}
 use Rattle.flac_bits.specs.Sending.{Sends}
-use Rattle.flac_bits.specs.Written.{Written, Adds, Fails, Writes, begins}
+use Rattle.flac_bits.specs.Written.{begins}
 use Rattle.flac_bits.specs.declared.why.Why.{Why}
 use Rattle.flac_bits.specs.declared.target.Target as target
 use Rattle.flac_bits.proofs.Counting.{rises_then}
 use Rattle.flac_bits.proofs.Holding.{bits_of-append}
-use Rattle.flac_header.specs.Spelling.{restarted}
-use Rattle.flac_meta.proofs.Tied.{joined_append}
 use Rattle.flac_frame.specs.Audio.{Sound, samples_each}
 use Rattle.flac_frame.specs.Encoding.{block_of, IsEncoding, IsLeastFrame, IsShort}
 use Rattle.flac_frame.specs.Frame.{Frame}
 use Rattle.flac_frame.specs.Spelling.{FrameForm, frame_spelling}
-use Rattle.flac_native.specs.Given.{Cut, blocks_in, size_of, frame_of}
+use Rattle.flac_native.specs.Given.{Cut, size_of, frame_of}
 use Rattle.flac_native.specs.Seeking.{points_from, points_of, point_at}
-use Rattle.flac_native.specs.Writing.{SpellsFrame, SpellsLeast, AreFrames, AreLeastFrames, AreSizes, IsSpelled, SendsBits}
-use Rattle.flac_native.proofs.Gathered.{nth, snoc, length-snoc, each_more}
+use Rattle.flac_native.specs.Writing.{SpellsLeast, AreFrames, AreLeastFrames, AreSizes, IsSpelled, SendsBits}
+use Rattle.flac_native.proofs.Gathered.{nth}
 
 -- ---- least frames of a block are as long
 
@@ -128,57 +124,6 @@ each_append P (x ∷ xs) ys left right (suc i) lt =
 
 pub each_drop : (P : ℕ → List Bool → Type 0) (n : ℕ) (xs : List (List Bool)) → ((i : ℕ) → i < length xs → P i (nth xs i)) → (j : ℕ) → j < length (drop n xs) → P (n + j) (nth (drop n xs) j)
 each_drop P n xs all j lt = subst (P (n + j)) (sym (get_or-drop n xs j [])) (all (n + j) (let h = length-drop n xs in omega (arith, h, lt)))
-
--- ---- frames so far
-
--- so many frames were sent
-pub record SentFrames {S : Type 0} (g : target.Ghosts S) (p : Cut) (a : Sound) (number : ℕ) (old new : S) : Type 0 where
-  pub frames : List (List Bool)
-  pub many : length frames ≡ number
-  pub each : (i : ℕ) → i < length frames → SpellsFrame a (frame_of p.block_size a i) (nth frames i)
-  pub each_least : (i : ℕ) → i < length frames → SpellsLeast a (frame_of p.block_size a i) (nth frames i)
-  pub sends : SendsBits g (joined frames) old new came_out
-
-module _ {S : Type 0} (g : target.Ghosts S) (p : Cut) (a : Sound) where
-  pub frames_none : (w : S) → SentFrames g p a 0 w w
-  frames_none w = record { frames = []; many = refl; each = λ i h. absurd (omega arith); each_least = λ i h. absurd (omega arith); sends = bits_none g w }
-
-  one_more : (frames : List (List Bool)) (t : List Bool) → joined frames ++ t ≡ joined (snoc frames t)
-  one_more frames t = ap (λ k. joined frames ++ k) (sym (append-nil t)) ∙ joined_append frames (t ∷ [])
-
-  pub frames_more : (number : ℕ) (old mid new : S) (t : List Bool) → SentFrames g p a number old mid → IsSpelled p a number t → SendsBits g t mid new came_out → SentFrames g p a (number + 1) old new
-  frames_more number old mid new t s is sends = record {
-    frames = snoc s.frames t;
-    many = omega (arith, length-snoc s.frames t, s.many);
-    each = each_more (λ i k. SpellsFrame a (frame_of p.block_size a i) k) s.frames t s.each (subst (λ n. SpellsFrame a (frame_of p.block_size a n) t) (sym s.many) is.frame);
-    each_least = each_more (λ i k. SpellsLeast a (frame_of p.block_size a i) k) s.frames t s.each_least (subst (λ n. SpellsLeast a (frame_of p.block_size a n) t) (sym s.many) is.least);
-    sends = subst (λ k. SendsBits g k old new came_out) (one_more s.frames t) (bits_then g came_out s.sends sends);
-  }
-
-  -- the frames that were sent, the one that was not sent whole, and those behind it
-  pub frames_fail : (number : ℕ) (old mid new : S) (t : List Bool) (e f : Why) (others : List (List Bool)) → number < length others → AreFrames p a others → AreLeastFrames p a others → SentFrames g p a number old mid → IsSpelled p a number t
-      → SendsBits {X = Unit {0}} g t mid new (Err e)
-      → (frames : List (List Bool)) × AreFrames p a frames × AreLeastFrames p a frames × SendsBits {X = Unit {0}} g (joined frames) old new (Err f)
-  frames_fail number old mid new t e f others lt are least s is sends =
-      let front = snoc s.frames t in
-      let rest = drop (number + 1) others in
-      let long : length front ≡ number + 1 = omega (arith, length-snoc s.frames t, s.many) in
-      let each_front = each_more (λ i k. SpellsFrame a (frame_of p.block_size a i) k) s.frames t s.each (subst (λ n. SpellsFrame a (frame_of p.block_size a n) t) (sym s.many) is.frame) in
-      let least_front = each_more (λ i k. SpellsLeast a (frame_of p.block_size a i) k) s.frames t s.each_least (subst (λ n. SpellsLeast a (frame_of p.block_size a n) t) (sym s.many) is.least) in
-      let each_rest = each_drop (λ i k. SpellsFrame a (frame_of p.block_size a i) k) (number + 1) others are.each in
-      let least_rest = each_drop (λ i k. SpellsLeast a (frame_of p.block_size a i) k) (number + 1) others least in
-      let failed : SendsBits {X = Unit {0}} g ((joined s.frames ++ t) ++ joined rest) old new (Err f) = bits_fault g (joined rest) (bits_then g (Err e) s.sends sends) in (
-        front ++ rest,
-        record {
-          many = omega (arith, length-append front rest, length-drop (number + 1) others, long, lt, are.many);
-          each = each_append (λ i k. SpellsFrame a (frame_of p.block_size a i) k) front rest each_front (λ j h. subst (λ n. SpellsFrame a (frame_of p.block_size a (n + j)) (nth rest j)) (sym long) (each_rest j h));
-        },
-        each_append (λ i k. SpellsLeast a (frame_of p.block_size a i) k) front rest least_front (λ j h. subst (λ n. SpellsLeast a (frame_of p.block_size a (n + j)) (nth rest j)) (sym long) (least_rest j h)),
-        subst (λ k. SendsBits {X = Unit {0}} g k old new (Err f)) (ap (λ k. k ++ joined rest) (one_more s.frames t) ∙ joined_append front rest) failed,
-      )
-
-  pub frames_all : (number : ℕ) (old new : S) → SentFrames g p a number old new → number ≡ blocks_in p.block_size (samples_each a.channels) → (frames : List (List Bool)) × AreFrames p a frames × AreLeastFrames p a frames × SendsBits g (joined frames) old new came_out
-  frames_all number old new s all = (s.frames, record { many = s.many ∙ all; each = s.each }, s.each_least, s.sends)
 
 -- ---- the same sizes and points
 

@@ -1,39 +1,75 @@
 -- What is encoded: STREAMINFO, blocks, and samples that are cut into frames.
-use Rattle.std.specs.Prelude.{ℕ, zero, suc, ◌+◌, ◌-◌, ◌*◌, ◌/◌, ◌^◌, min, Bool, false, cond, ◌&&◌, ◌||◌, nat_eq, nat_lt, nat_le, List, [], ◌∷◌, ◌++◌, length, map, Option, Some, None, is_none}
+use Rattle.std.specs.Prelude.{ℕ, zero, suc, ◌+◌, ◌-◌, ◌*◌, ◌/◌, ◌^◌, min, Bool, true, false, not, cond, ◌&&◌, ◌||◌, nat_eq, nat_lt, nat_le, List, [], ◌∷◌, ◌++◌, length, map, Option, Some, None, is_none, Vec}
+use Rattle.std.specs.Global.{Global}
+use Rattle.std.specs.List.{list_all}
 use Rattle.flac_bits.specs.Bits.{is_nil, bit_value}
 use Rattle.flac_meta.specs.Info.{Info}
 use Rattle.flac_meta.specs.declared.block.Block.{Block}
 use Rattle.flac_meta.specs.declared.block.Block.TheVariants as blocks
-use Rattle.flac_header.specs.Header.{greatest_block}
-use Rattle.flac_header.specs.Choice.{rate_choice, depth_choice}
-use Rattle.flac_frame.specs.Frame.{Frame}
+use Rattle.flac_header.specs.Header.{greatest_in}
+use Rattle.flac_header.specs.Choice.{rate_choice_in, depth_choice_in}
+use Rattle.flac_header.specs.declared.subset.Profile.{Profile}
+use Rattle.flac_header.specs.declared.subset.Profile.TheVariants.{Subset, Lax}
+use Rattle.flac_subframe.specs.Room.{Room}
+use Rattle.flac_subframe.specs.declared.linear.LinearPredictor.{LinearPredictor}
+use Rattle.flac_frame.specs.Frame.{Frame, limits_at}
 use Rattle.flac_frame.specs.Audio.{Sound, samples_each}
-use Rattle.flac_frame.specs.Encoding.{block_of}
+use Rattle.flac_frame.specs.Encoding.{block_of, most_in}
 use Rattle.flac_frame.specs.declared.setup.SetupFault.{SetupFault}
-use Rattle.flac_frame.specs.declared.setup.SetupFault.TheVariants.{BadRate, BadDepth, BadChannels, TooLong, BadBlockSize, TooManyPoints}
+use Rattle.flac_frame.specs.declared.setup.SetupFault.TheVariants.{BadRate, BadDepth, BadChannels, TooLong, BadBlockSize, TooManyPoints, PredictorOrder, TooManyPredictors}
 use Rattle.flac_native.specs.Message.{sample_width, rows_bytes}
 use Rattle.flac_native.specs.Stream.{Piece, marked, block, framed}
 use Rattle.md5.specs.Md5.{md5}
 
 -- ---- a plan
 
--- How samples are cut: the samples of a block, the rate, the bits of a sample, the channels and the samples of each that the plan was made for, and the
--- samples from one seek point to the next, 0 where there is none.
+-- How samples are cut: the samples of a block; the profile, the rate, the bits of a sample, the channels and the samples of each that the plan was made for; the
+-- samples from one seek point to the next, 0 where there is none; and the linear predictors that are tried beside the fixed ones.
 pub record Cut : Type 0 where
+  pub profile : Profile
   pub block_size : ℕ
   pub rate : ℕ
   pub bits : ℕ
   pub channels : ℕ
   pub total : ℕ
   pub seek_every : ℕ
+  pub predictors : List LinearPredictor
 
 abbrev pub cut_of : (block_size : ℕ) → Sound → (seek_every : ℕ) → Cut
-cut_of block_size a seek_every =
-    record { block_size = block_size; rate = a.rate; bits = a.bits; channels = length a.channels; total = samples_each a.channels; seek_every = seek_every }
+cut_of block_size a seek_every = record {
+  profile = a.profile;
+  block_size = block_size;
+  rate = a.rate;
+  bits = a.bits;
+  channels = length a.channels;
+  total = samples_each a.channels;
+  seek_every = seek_every;
+  predictors = [];
+}
+
+-- the predictors of a list that may be left out
+abbrev pub listed : Option (Vec LinearPredictor Global) → List LinearPredictor
+listed None = []
+listed (Some v) = v.items
+
+-- the same with these predictors
+abbrev pub with_predictors : Cut → List LinearPredictor → Cut
+with_predictors p ps = record p { predictors = ps }
+
+abbrev pub same_profile : Profile → Profile → Bool
+same_profile Subset Subset = true
+same_profile Subset Lax = false
+same_profile Lax Subset = false
+same_profile Lax Lax = true
 
 -- these are samples that the plan was made for
 abbrev pub fits_plan : Cut → Sound → Bool
-fits_plan p a = nat_eq p.rate a.rate && nat_eq p.bits a.bits && nat_eq p.channels (length a.channels) && nat_eq p.total (samples_each a.channels)
+fits_plan p a =
+    same_profile p.profile a.profile && nat_eq p.rate a.rate && nat_eq p.bits a.bits && nat_eq p.channels (length a.channels) && nat_eq p.total (samples_each a.channels)
+
+-- working arrays that have room for the plan's frames
+abbrev pub room_of : Cut → Room
+room_of p = record { block = p.block_size; most = most_in p.profile }
 
 -- how many blocks hold so many samples
 abbrev pub blocks_in : (block_size total : ℕ) → ℕ
@@ -53,18 +89,29 @@ abbrev pub points_before : (block_size total every n : ℕ) → ℕ
 points_before block_size total every zero = 0
 points_before block_size total every (suc n) = points_before block_size total every n + bit_value (has_point block_size total every n)
 
--- Why samples of a format cannot be cut into blocks, if so. No frame header of the streamable subset, or no STREAMINFO, tells the format, which is so
--- of no samples that can be encoded (RFC 9639, sections 7, 8.2 and 9.1); a block has 16 samples or more (section 8.2), and no more than the subset allows
--- at the rate; a frame number has 31 bits (section 9.1.5), and the number of samples 36; the points of a seek table, each of 18 bytes, stand in one block
--- (sections 8.1 and 8.5).
+-- each of these predictors has an order of at most the greatest
+abbrev pub orders_fit : (greatest : ℕ) → List LinearPredictor → Bool
+orders_fit greatest ps = list_all (λ x. nat_le (length x.coefficients.items) greatest) ps
+
+-- Why linear predictors cannot be tried, if so: there are more than 64, or one has an order that the profile does not allow at the rate (RFC 9639, sections 7 and
+-- 9.2.6).
+unfoldable pub predictors_fault : Profile → (rate : ℕ) → List LinearPredictor → Option SetupFault
+predictors_fault profile rate ps =
+    cond (nat_lt 64 (length ps)) (Some TooManyPredictors) (cond (not (orders_fit (limits_at profile rate).linear ps)) (Some PredictorOrder) None)
+
+-- Why samples of a format cannot be cut into blocks, if so. No frame header of the profile, or no STREAMINFO, tells the format, which is so of no samples that can
+-- be encoded (RFC 9639, sections 7, 8.2 and 9.1); a block has 16 samples or more (section 8.2), and no more than the profile allows at the rate; a frame number
+-- has 31 bits (section 9.1.5), and the number of samples 36; the points of a seek table, each of 18 bytes, stand in one block (sections 8.1 and 8.5); or the
+-- predictors cannot be tried.
 unfoldable pub plan_fault : Cut → Option SetupFault
 plan_fault p =
-    cond (is_none (rate_choice p.rate)) (Some BadRate)
-    (cond (is_none (depth_choice p.bits)) (Some BadDepth)
+    cond (is_none (rate_choice_in p.profile p.rate)) (Some BadRate)
+    (cond (is_none (depth_choice_in p.profile p.bits)) (Some BadDepth)
     (cond (nat_eq p.channels 0 || nat_lt 8 p.channels) (Some BadChannels)
-    (cond (nat_lt p.block_size 16 || nat_lt (greatest_block p.rate) p.block_size) (Some BadBlockSize)
+    (cond (nat_lt p.block_size 16 || nat_lt (greatest_in p.profile p.rate) p.block_size) (Some BadBlockSize)
     (cond (nat_le (2 ^ 36) p.total || nat_lt (2 ^ 31) (blocks_in p.block_size p.total)) (Some TooLong)
-    (cond (nat_lt 932067 (points_before p.block_size p.total p.seek_every (blocks_in p.block_size p.total))) (Some TooManyPoints) None)))))
+    (cond (nat_lt 932067 (points_before p.block_size p.total p.seek_every (blocks_in p.block_size p.total))) (Some TooManyPoints)
+    (predictors_fault p.profile p.rate p.predictors))))))
 
 -- ---- what is written
 

@@ -1,14 +1,15 @@
 -- An encoder that samples are pushed to, a block at a time, and the stream that it has written.
-use Rattle.std.specs.Prelude.{◌≡◌, ◌⊎◌, ℕ, suc, ◌+◌, ◌*◌, ◌≤◌, ◌^◌, ℤ, Bool, true, false, not, cond, ◌||◌, nat_eq, nat_lt, nat_le, List, [], ◌∷◌, ◌++◌, length, replicate, Option, Some, None, is_none, option_map}
+use Rattle.std.specs.Prelude.{◌≡◌, ◌⊎◌, ℕ, suc, ◌+◌, ◌^◌, ℤ, Bool, true, false, not, cond, ◌||◌, nat_eq, nat_lt, nat_le, List, [], ◌∷◌, ◌++◌, length, replicate, Option, Some, None, is_none, option_map}
 use Rattle.std.specs.Option.{option_or}
 use Rattle.flac_bits.specs.Bits.{bits_of}
 use Rattle.flac_bits.specs.Items.{Stream, after}
 use Rattle.flac_bits.specs.declared.target.Target as target
 use Rattle.flac_bits.specs.declared.why.Why.TheVariants.{Truncated}
-use Rattle.flac_header.specs.declared.subset.Profile.TheVariants.{Subset}
+use Rattle.flac_header.specs.declared.subset.Profile.{Profile}
 use Rattle.flac_meta.specs.Info.{Info}
-use Rattle.flac_header.specs.Header.{greatest_block}
-use Rattle.flac_header.specs.Choice.{rate_choice, depth_choice}
+use Rattle.flac_header.specs.Header.{greatest_in}
+use Rattle.flac_header.specs.Choice.{rate_choice_in, depth_choice_in}
+use Rattle.flac_subframe.specs.declared.linear.LinearPredictor.{LinearPredictor}
 use Rattle.flac_frame.specs.Audio.{Sound, samples_each, as_long, each_small}
 use Rattle.flac_frame.specs.Frame.{Frame}
 use Rattle.flac_frame.specs.declared.before.Before.{Before}
@@ -19,25 +20,30 @@ use Rattle.flac_native.specs.Stream.{Piece, framed, grammar, opening}
 use Rattle.flac_native.specs.Stream as stream
 use Rattle.flac_native.specs.Writing.{SpellsFrame, SpellsLeast}
 use Rattle.flac_native.specs.declared.encode_fault.EncodeFault.{EncodeFault}
+use Rattle.flac_native.specs.declared.stream_format.StreamFormat.{StreamFormat}
 use Rattle.flac_native.specs.declared.encode_fault.EncodeFault.TheVariants.{Memory, BlockSize, Spent, Write, Setup}
 
 -- ---- the format
 
--- the rate in Hz, the bits of a sample, the channels, and the samples of each channel in a block
+-- the profile, the rate in Hz, the bits of a sample, the channels, and the samples of each channel in a block
 pub record Shape : Type 0 where
+  pub profile : Profile
   pub rate : ℕ
   pub bits : ℕ
   pub channels : ℕ
   pub block_size : ℕ
 
--- Why nothing of a format can be encoded, if so: a frame header of the streamable subset has no code for the rate or for the depth (RFC 9639, sections 7,
--- 9.1.2 and 9.1.4); there are 1 to 8 channels (section 9.1.3); a block has 16 samples or more (section 8.2), and no more than the subset allows at the rate.
+-- Why nothing of a format can be encoded, if so: a frame header of the profile has no code for the rate or for the depth (RFC 9639, sections 7, 9.1.2 and
+-- 9.1.4); there are 1 to 8 channels (section 9.1.3); a block has 16 samples or more (section 8.2), and no more than the profile allows at the rate.
 unfoldable pub shape_fault : Shape → Option SetupFault
 shape_fault s =
-    cond (is_none (rate_choice s.rate)) (Some BadRate)
-    (cond (is_none (depth_choice s.bits)) (Some BadDepth)
+    cond (is_none (rate_choice_in s.profile s.rate)) (Some BadRate)
+    (cond (is_none (depth_choice_in s.profile s.bits)) (Some BadDepth)
     (cond (nat_eq s.channels 0 || nat_lt 8 s.channels) (Some BadChannels)
-    (cond (nat_lt s.block_size 16 || nat_lt (greatest_block s.rate) s.block_size) (Some BadBlockSize) None)))
+    (cond (nat_lt s.block_size 16 || nat_lt (greatest_in s.profile s.rate) s.block_size) (Some BadBlockSize) None)))
+
+abbrev pub shape_of : StreamFormat → Shape
+shape_of f = record { profile = f.profile; rate = f.rate; bits = f.bits; channels = f.channels; block_size = f.block_size }
 
 -- STREAMINFO of a format, where the sizes of the frames, the number of samples and the digest are unknown (section 8.2)
 abbrev pub open_info : Shape → Info
@@ -55,10 +61,11 @@ open_info s = record {
 
 -- ---- the encoder
 
--- The format; how many frames were pushed, which is the number of the next, and how many samples of each channel they have; whether the last of them is shorter
--- than the block size; whether the target has failed; and the target.
+-- The format; the linear predictors that are tried for the next frame beside the fixed ones; how many frames were pushed, which is the number of the next, and how
+-- many samples of each channel they have; whether the last of them is shorter than the block size; whether the target has failed; and the target.
 pub record Pushed (S : Type 0) : Type 0 where
   pub shape : Shape
+  pub predictors : List LinearPredictor
   pub number : ℕ
   pub samples : ℕ
   pub ended : Bool
@@ -67,15 +74,20 @@ pub record Pushed (S : Type 0) : Type 0 where
 
 -- nothing was pushed
 abbrev pub unpushed : {S : Type 0} → Shape → S → Pushed S
-unpushed shape t = record { shape = shape; number = 0; samples = 0; ended = false; spent = false; target = t }
+unpushed shape t = record { shape = shape; predictors = []; number = 0; samples = 0; ended = false; spent = false; target = t }
 
 -- one more block, of so many samples, was pushed
 abbrev pub behind_block : {S : Type 0} → Pushed S → ℕ → S → Pushed S
-behind_block e n t = record { shape = e.shape; number = e.number + 1; samples = e.samples + n; ended = nat_lt n e.shape.block_size; spent = e.spent; target = t }
+behind_block e n t =
+    record { shape = e.shape; predictors = e.predictors; number = e.number + 1; samples = e.samples + n; ended = nat_lt n e.shape.block_size; spent = e.spent; target = t }
 
 -- the target has failed
 abbrev pub spent_with : {S : Type 0} → Pushed S → S → Pushed S
-spent_with e t = record { shape = e.shape; number = e.number; samples = e.samples; ended = e.ended; spent = true; target = t }
+spent_with e t = record { shape = e.shape; predictors = e.predictors; number = e.number; samples = e.samples; ended = e.ended; spent = true; target = t }
+
+-- these predictors are tried from now on
+abbrev pub trying : {S : Type 0} → Pushed S → List LinearPredictor → Pushed S
+trying e ps = record { shape = e.shape; predictors = ps; number = e.number; samples = e.samples; ended = e.ended; spent = e.spent; target = e.target }
 
 -- Why a block does not have the format, if so: one list of samples for each channel, all of one length, and each sample a number of so many bits.
 unfoldable pub block_fault : (channels bits : ℕ) → List (List ℤ) → Option SetupFault
@@ -118,27 +130,27 @@ due block_size number = cond (nat_eq number 0) None (Some (record { first_size =
 -- The encoder stands for this stream, which may end here: its STREAMINFO is that of the format, it has the frames and the samples that were pushed, and as long as
 -- no block was short the next frame is still due.
 pub record StandsFor {S : Type 0} (e : Pushed S) (items : List Piece) (text : List Bool) : Type 0 where
-  pub stream : Stream grammar (opening Subset) (beginning Truncated) items text
-  pub info : (after grammar (opening Subset) items).stand.info ≡ Some (open_info e.shape)
+  pub stream : Stream grammar (opening e.shape.profile) (beginning Truncated) items text
+  pub info : (after grammar (opening e.shape.profile) items).stand.info ≡ Some (open_info e.shape)
   pub frames : frames_in items ≡ e.number
-  pub samples : (after grammar (opening Subset) items).samples ≡ e.samples
-  pub before : e.ended ≡ false → (after grammar (opening Subset) items).stand.before ≡ due e.shape.block_size e.number
+  pub samples : (after grammar (opening e.shape.profile) items).samples ≡ e.samples
+  pub before : e.ended ≡ false → (after grammar (opening e.shape.profile) items).stand.before ≡ due e.shape.block_size e.number
 
 -- ---- a block
 
 -- samples of the format
 abbrev pub sound_of : Shape → List (List ℤ) → Sound
-sound_of s block = record { rate = s.rate; bits = s.bits; channels = block }
+sound_of s block = record { profile = s.profile; rate = s.rate; bits = s.bits; channels = block }
 
 -- the frame of a number that has just these samples
 abbrev pub frame_with : (number : ℕ) → List (List ℤ) → Frame
 frame_with number block = record { variable = false; number = number; size = samples_each block; channels = block }
 
--- The bits are the next frame: it has just the samples of the block, no frame of its family is shorter, and behind whatever stream the encoder stood for they are
--- that stream with the frame as one more item.
+-- The bits are the next frame: it has just the samples of the block, no frame of its family, with the predictors of the encoder, is shorter, and behind whatever
+-- stream the encoder stood for they are that stream with the frame as one more item.
 pub record IsNext {S : Type 0} (old new : Pushed S) (block : List (List ℤ)) (text : List Bool) : Type 0 where
   pub spells : SpellsFrame (sound_of old.shape block) (frame_with old.number block) text
-  pub least : SpellsLeast (sound_of old.shape block) (frame_with old.number block) text
+  pub least : SpellsLeast old.predictors (sound_of old.shape block) (frame_with old.number block) text
   pub stands : (items : List Piece) (before : List Bool) → StandsFor old items before → StandsFor new (items ++ framed (frame_with old.number block) ∷ []) (before ++ text)
 
 -- the target was sent the next frame, behind what it had

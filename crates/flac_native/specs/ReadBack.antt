@@ -3,7 +3,7 @@ use Rattle.std.specs.Prelude.{◌≡◌, ◌<◌, ℕ, ℤ, Bool, List, [], ◌�
 use Rattle.flac_bits.specs.State.{Mark}
 use Rattle.flac_bits.specs.Items.{Stream, Refused}
 use Rattle.flac_bits.specs.declared.why.Why.{Why}
-use Rattle.flac_header.specs.declared.subset.Profile.TheVariants.{Subset}
+use Rattle.flac_header.specs.declared.subset.Profile.{Profile}
 use Rattle.flac_meta.specs.declared.block.Block.{Block}
 use Rattle.flac_frame.specs.Audio.{Sound, IsSound}
 use Rattle.flac_native.specs.Stream.{Piece, marked, block, framed, grammar, opening}
@@ -12,11 +12,11 @@ use Rattle.flac_native.specs.Seeking.{points_of, table_of}
 use Rattle.flac_native.specs.Writing.{Encodes}
 use Rattle.flac_native.specs.declared.fault.Place.{Place}
 
--- The bits are a stream of these parts and of no others, and nothing in them is refused.
-pub record IsOnly (m : Mark) (parts : List Piece) (text : List Bool) : Type 0 where
-  pub stream : Stream grammar (opening Subset) m parts text
-  pub only : (items : List Piece) → Stream grammar (opening Subset) m items text → items ≡ parts
-  pub accepted : (items : List Piece) (at : Place) (why : Why) → Refused grammar (opening Subset) m items text at why → ⊥
+-- In a profile the bits are a stream of these parts and of no others, and nothing in them is refused.
+pub record IsOnly (profile : Profile) (m : Mark) (parts : List Piece) (text : List Bool) : Type 0 where
+  pub stream : Stream grammar (opening profile) m parts text
+  pub only : (items : List Piece) → Stream grammar (opening profile) m items text → items ≡ parts
+  pub accepted : (items : List Piece) (at : Place) (why : Why) → Refused grammar (opening profile) m items text at why → ⊥
 
 -- the samples of one channel in all frames, in order
 abbrev pub channel_in : ℕ → List Piece → List ℤ
@@ -37,7 +37,7 @@ parts_of p list a before after e = given p (list ++ table_of (points_of p e.fram
 pub record IsReadBack (m : Mark) (p : Cut) (a : Sound) (parts : List Piece) (before after : List Bool) : Type 0 where
   pub text : List Bool
   pub added : after ≡ before ++ text
-  pub only : IsOnly m parts text
+  pub only : IsOnly p.profile m parts text
   pub samples : plan_fault p ≡ None → IsSound a → HaveSamples a parts
 
 -- So it is of all that encoding writes, read from a whole byte on.

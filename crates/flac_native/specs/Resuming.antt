@@ -5,7 +5,6 @@ use Rattle.flac_bits.specs.Forms.{joined}
 use Rattle.flac_bits.specs.Items.{Joined, Stream, after}
 use Rattle.flac_bits.specs.declared.why.Why.TheVariants.{Truncated}
 use Rattle.flac_header.specs.declared.subset.Profile.{Profile}
-use Rattle.flac_header.specs.declared.subset.Profile.TheVariants.{Subset}
 use Rattle.flac_meta.specs.Header.{nothing_seen}
 use Rattle.flac_meta.specs.Info.{Info}
 use Rattle.flac_frame.specs.Audio.{Sound}
@@ -32,7 +31,7 @@ resumed profile i = at_frames profile (untold i)
 abbrev pub EncodedAreResumed : Type 0
 EncodedAreResumed = (p : Cut) (a : Sound) (least greatest : ℕ) (frames : List (List Bool)) (number : ℕ) → plan_fault p ≡ None → fits_plan p a ≡ true → AreFrames p a frames → AreSizes frames least greatest
     → number ≤ length frames
-    → Stream grammar (resumed Subset (info_of p a least greatest)) (beginning Truncated) (map framed (frames_from p.block_size a (length frames - number) number)) (joined (drop number frames))
+    → Stream grammar (resumed p.profile (info_of p a least greatest)) (beginning Truncated) (map framed (frames_from p.block_size a (length frames - number) number)) (joined (drop number frames))
 
 -- ---- what is read from a frame on
 

@@ -1,5 +1,5 @@
 -- What a place in memory was sent.
-use Rattle.std.specs.Prelude.{ℕ, zero, suc, List, [], ◌∷◌}
+use Rattle.std.specs.Prelude.{ℕ, zero, suc, List, ◌∷◌}
 
 -- As many ones as there are places, a zero, and the bytes: so it is told of a place that was lent how large it is.
 abbrev pub placed : (places : ℕ) → (bytes : List ℕ) → List ℕ

@@ -1,5 +1,5 @@
 -- What encoding writes, and that it is a stream of what was given.
-use Rattle.std.specs.Prelude.{◌≡◌, ℕ, ◌+◌, ◌*◌, ◌<◌, ◌≤◌, Bool, true, List, [], ◌∷◌, ◌++◌, length, slice_index_or, None, Result, OnOk, OnErr, IfErr}
+use Rattle.std.specs.Prelude.{ℤ, ◌≡◌, ℕ, ◌*◌, ◌<◌, ◌≤◌, Bool, true, List, [], ◌∷◌, ◌++◌, length, slice_index_or, None, Result, OnOk, OnErr, IfErr}
 use Rattle.flac_bits.specs.Bits.{unsigned, bits_of, is_nil}
 use Rattle.flac_bits.specs.State.{Rises}
 use Rattle.flac_bits.specs.Written.{Written, Fails}
@@ -8,7 +8,6 @@ use Rattle.flac_bits.specs.declared.target.Target as target
 use Rattle.flac_bits.specs.Forms.{joined}
 use Rattle.flac_bits.specs.Items.{Stream}
 use Rattle.flac_bits.specs.declared.why.Why.TheVariants.{Truncated}
-use Rattle.flac_header.specs.declared.subset.Profile.TheVariants.{Subset}
 use Rattle.flac_meta.specs.Info.{Info}
 use Rattle.flac_meta.specs.Listed.{list_fault, info_seen}
 use Rattle.flac_meta.specs.Spelling.{block_spelling}
@@ -17,8 +16,9 @@ use Rattle.flac_meta.specs.declared.seek_table.SeekPoint.{SeekPoint}
 use Rattle.flac_meta.specs.declared.block.Block.{Block}
 use Rattle.flac_meta.specs.declared.block.Block.TheVariants as blocks
 use Rattle.flac_frame.specs.Audio.{Sound, samples_each}
-use Rattle.flac_frame.specs.Chosen.{IsFrameChoice}
-use Rattle.flac_frame.specs.Encoding.{IsEncoding, IsLeastFrame}
+use Rattle.flac_subframe.specs.declared.linear.LinearPredictor.{LinearPredictor}
+use Rattle.flac_frame.specs.Chosen.{IsChoiceWith}
+use Rattle.flac_frame.specs.Encoding.{IsEncoding, IsLeastWith}
 use Rattle.flac_frame.specs.declared.frame_choice.FrameChoice.{FrameChoice}
 use Rattle.flac_frame.specs.Frame.{Frame}
 use Rattle.flac_frame.specs.Spelling.{FrameForm, frame_spelling}
@@ -42,15 +42,15 @@ pub record AreFrames (p : Cut) (a : Sound) (frames : List (List Bool)) : Type 0 
   pub many : length frames ≡ blocks_in p.block_size (samples_each a.channels)
   pub each : (i : ℕ) → i < length frames → SpellsFrame a (frame_of p.block_size a i) (slice_index_or frames i [])
 
--- the bits spell the least frame of a block of samples
-pub record SpellsLeast (a : Sound) (f : Frame) (text : List Bool) : Type 0 where
+-- the bits spell the least frame of a block of samples, where these linear predictors are tried beside the fixed ones
+pub record SpellsLeast (ps : List LinearPredictor) (a : Sound) (f : Frame) (text : List Bool) : Type 0 where
   pub form : FrameForm
-  pub least : IsLeastFrame a f.size f.number f.channels form
+  pub least : IsLeastWith ps a f.size f.number f.channels form
   pub spelling : text ≡ frame_spelling a.bits form
 
--- each frame is the least of its block
+-- each frame is the least of its block, with the plan's predictors
 abbrev pub AreLeastFrames : Cut → Sound → List (List Bool) → Type 0
-AreLeastFrames p a frames = (i : ℕ) → i < length frames → SpellsLeast a (frame_of p.block_size a i) (slice_index_or frames i [])
+AreLeastFrames p a frames = (i : ℕ) → i < length frames → SpellsLeast p.predictors a (frame_of p.block_size a i) (slice_index_or frames i [])
 
 -- the least and the greatest size of the frames in bytes, 0 where there is no frame
 pub record AreSizes (frames : List (List Bool)) (least greatest : ℕ) : Type 0 where
@@ -75,12 +75,12 @@ abbrev pub stream_spelling : Cut → List Block → Sound → (least greatest : 
 stream_spelling p list a least greatest frames =
     unsigned 32 0x664C6143 ++ (blocks_spelling (blocks.StreamInfo (info_of p a least greatest) ∷ list) ++ joined frames)
 
--- So what is written is a stream of what was given: of samples that a plan was made for, and of blocks that may stand behind STREAMINFO.
+-- So what is written is a stream of what was given, and of the plan's profile: of samples that a plan was made for, and of blocks that may stand behind STREAMINFO.
 abbrev pub EncodedAreStreams : Type 0
 EncodedAreStreams =
     (p : Cut) (list : List Block) (a : Sound) (least greatest : ℕ) (frames : List (List Bool)) → plan_fault p ≡ None → fits_plan p a ≡ true → list_fault info_seen list ≡ None → AllAre FitsFields list
     → AreFrames p a frames → AreSizes frames least greatest
-    → Stream grammar (opening Subset) (beginning Truncated) (given p list a least greatest) (stream_spelling p list a least greatest frames)
+    → Stream grammar (opening p.profile) (beginning Truncated) (given p list a least greatest) (stream_spelling p list a least greatest frames)
 
 -- what is known of the frames of the samples before they are written: each is the least of its block, the shortest and the longest have so many bytes, and these are
 -- their points
@@ -98,13 +98,24 @@ IsDigest a digest = digest ≡ md5 (sound_message a)
 -- the bits are those of the least frame of a number, and a short one
 pub record IsSpelled (p : Cut) (a : Sound) (number : ℕ) (text : List Bool) : Type 0 where
   pub frame : SpellsFrame a (frame_of p.block_size a number) text
-  pub least : SpellsLeast a (frame_of p.block_size a number) text
+  pub least : SpellsLeast p.predictors a (frame_of p.block_size a number) text
 
 -- These bits were written and sent, at a whole byte, or else the target failed.
 pub record WritesAll {X : Type 0} (text : List Bool) (old new : Written) (result : Result X Why) : Type 0 where
   pub failed : IfErr result (λ e. Fails (old.bits ++ text) old new e)
+  pub known : OnOk result (old.known ≡ true → new.known ≡ true)
   pub counted : OnOk result (new.errors ≡ old.errors)
+  pub names : new.names ≡ old.names
   pub sent : OnOk result (old.known ≡ true → bits_of new.sent ≡ old.bits ++ text)
+
+-- These bits were written, from a whole byte to one, or else the target failed. The checks may have begun anew among them, and the last bits may be held.
+pub record WritesOn {X : Type 0} (text : List Bool) (old new : Written) (result : Result X Why) : Type 0 where
+  pub failed : IfErr result (λ e. Fails (old.bits ++ text) old new e)
+  pub known : OnOk result (old.known ≡ true → new.known ≡ true)
+  pub counted : OnOk result (new.errors ≡ old.errors)
+  pub names : new.names ≡ old.names
+  pub bits : OnOk result (old.known ≡ true → new.bits ≡ old.bits ++ text)
+  pub whole : OnOk result (new.mark.unread ≡ 0)
 
 -- so it is of the least frame of a number
 abbrev pub WritesNext : {X : Type 0} → Cut → Sound → ℕ → Written → Written → Result X Why → Type 0
@@ -112,8 +123,13 @@ WritesNext p a number old new result = (text : List Bool) × IsSpelled p a numbe
 
 -- it was chosen how the frame of a number is written
 pub record IsChoiceOf (p : Cut) (a : Sound) (number : ℕ) (c : FrameChoice) : Type 0 where
-  pub chosen : IsFrameChoice a (frame_of p.block_size a number).size number (frame_of p.block_size a number).channels c
+  pub chosen : IsChoiceWith p.predictors a (frame_of p.block_size a number).size number (frame_of p.block_size a number).channels c
   pub places : length a.channels ≤ length c.subframes.items
+
+-- the second choice is the first, whatever was chosen
+pub record IsKept (c kept : FrameChoice) : Type 0 where
+  pub same : (ps : List LinearPredictor) (a : Sound) (size number : ℕ) (block : List (List ℤ)) → IsChoiceWith ps a size number block c → IsChoiceWith ps a size number block kept
+  pub many : length kept.subframes.items ≡ length c.subframes.items
 
 -- these are the choices of the first frames
 abbrev pub AreChoices : Cut → Sound → List FrameChoice → Type 0
@@ -130,11 +146,21 @@ pub record SendsBits {S X E : Type 0} (g : target.Ghosts S) (text : List Bool) (
   pub rises : OnErr result (g.known old ≡ true → g.errors old < g.errors new)
   pub risen : OnErr result (Rises (g.errors old) (g.errors new))
 
--- all frames of the samples were sent, each the least of its block, or else a beginning of them
-abbrev pub SendsFrames : {S X E : Type 0} → target.Ghosts S → Cut → Sound → S → S → Result X E → Type 0
-SendsFrames g p a old new result = (frames : List (List Bool)) × AreFrames p a frames × AreLeastFrames p a frames × SendsBits g (joined frames) old new result
+-- each block of the samples has a least frame
+pub record HaveFrames (p : Cut) (a : Sound) : Type 0 where
+  pub frames : List (List Bool)
+  pub are : AreFrames p a frames
+  pub are_least : AreLeastFrames p a frames
 
--- so it is behind bits that were to be sent before them
+-- all frames of the samples were written, each the least of its block
+abbrev pub WritesFrames : {X : Type 0} → Cut → Sound → Written → Written → Result X Why → Type 0
+WritesFrames p a old new result = (frames : List (List Bool)) × AreFrames p a frames × AreLeastFrames p a frames × WritesOn (joined frames) old new result
+
+-- behind other bits they were written and sent
+abbrev pub WritesStream : {X : Type 0} → List Bool → Cut → Sound → Written → Written → Result X Why → Type 0
+WritesStream head p a old new result = (frames : List (List Bool)) × AreFrames p a frames × AreLeastFrames p a frames × WritesAll (head ++ joined frames) old new result
+
+-- behind other bits all of them were sent, or else a beginning
 abbrev pub SendsStream : {S X E : Type 0} → target.Ghosts S → List Bool → Cut → Sound → S → S → Result X E → Type 0
 SendsStream g head p a old new result = (frames : List (List Bool)) × AreFrames p a frames × AreLeastFrames p a frames × SendsBits g (head ++ joined frames) old new result
 
@@ -155,7 +181,7 @@ pub record Encodes (p : Cut) (list : List Block) (a : Sound) (before after : Lis
   pub are_least : AreLeastFrames p a frames
   pub sizes : AreSizes frames least greatest
   pub written : after ≡ before ++ stream_spelling p (list ++ table_of (points_of p frames)) a least greatest frames
-  pub stream : Stream grammar (opening Subset) (beginning Truncated) (given p (list ++ table_of (points_of p frames)) a least greatest)
+  pub stream : Stream grammar (opening p.profile) (beginning Truncated) (given p (list ++ table_of (points_of p frames)) a least greatest)
       (stream_spelling p (list ++ table_of (points_of p frames)) a least greatest frames)
 
 -- What was written is a beginning of such a stream, behind the bits that were there.

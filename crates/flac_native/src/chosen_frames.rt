@@ -5,8 +5,9 @@ ghost use Rattle.flac_meta.specs.Listed.{block_fault};
 ghost use Rattle.flac_meta.specs.declared.block.Block.TheVariants as block_of;
 ghost use Rattle.flac_bits.specs.Bits.{bits_of};
 ghost use Rattle.flac_frame.specs.Audio.{samples_each};
-ghost use Rattle.flac_native.specs.Given.{fits_plan, blocks_in, info_of};
-ghost use Rattle.flac_native.specs.Writing.{AreCounted, AreChoices, HasRoom, IsDigest, IsSpelled};
+ghost use Rattle.flac_frame.specs.declared.frame_choice.FrameChoice.{FrameChoice};
+ghost use Rattle.flac_native.specs.Given.{fits_plan, blocks_in, info_of, room_of};
+ghost use Rattle.flac_native.specs.Writing.{AreCounted, AreChoices, HasRoom, IsDigest, IsKept, IsSpelled};
 
 use crate::digest::feed_block;
 use crate::encoded_info::info_with;
@@ -30,7 +31,7 @@ const KEPT: usize = 1000;
 /// written; each choice is a shortest frame of its block, so the sizes are the same.
 ///
 /// ```
-/// let mut buffers = EncodeBuffers::new(alloc, plan.block_size())?;
+/// let mut buffers = EncodeBuffers::new_in(alloc, plan.profile(), plan.block_size())?;
 /// let frames = ChosenFrames::new(alloc, &plan, &audio, &mut buffers)?;
 /// let mut room = frames.room(alloc)?;
 /// room = frames.write(&plan, &audio, 0, &mut buffers, room);
@@ -59,30 +60,26 @@ fn greatest_with(greatest: u64, bytes: u64) -> u64
     if greatest < bytes { bytes } else { greatest }
 }
 
-/// Keeps a choice if fewer than `most` are kept, and returns one to fill next.
+/// Keeps a choice, in as little memory as it needs, if fewer than `most` are kept.
 fn keep(
     alloc: Global,
-    channels: usize,
     choices: &mut Vec<FrameChoice>,
-    choice: FrameChoice,
+    choice: &FrameChoice,
     most: usize,
-) -> Result<FrameChoice, Why>
-    requires { length choice.subframes.items ≡ channels }
-    ensures kept { OnOk result (choices.new.items ≡ cond (nat_lt (length choices.old.items) most) (choices.old.items ++ choice ∷ []) choices.old.items) }
-    ensures places { IfOk result (λ next. length next.subframes.items ≡ channels) }
+) -> Result<(), Why>
+    ensures kept { OnOk result ((kept : FrameChoice) × IsKept choice.now kept × (choices.new.items ≡ cond (nat_lt (length choices.old.items) most) (choices.old.items ++ kept ∷ []) choices.old.items)) }
     ensures memory { IfErr result (λ e. e ≡ Why.Memory) }
 {
     if choices.len() < most {
-        let next = FrameChoice::new(alloc, channels)?;
-        choices.push(choice)?;
-        return Ok(next);
+        let kept = choice.kept(alloc)?;
+        choices.push(kept)?;
     }
-    Ok(choice)
+    Ok(())
 }
 
 impl ChosenFrames {
     /// Chooses how each frame is written, counts its bytes, and computes the digest of the samples. The plan must fit
-    /// the samples, and the buffers must have the plan's block size.
+    /// the samples, and the buffers must have the plan's profile and block size.
     ///
     /// # Errors
     /// [`Why::Memory`] if an allocation fails.
@@ -93,7 +90,7 @@ impl ChosenFrames {
         buffers: &mut EncodeBuffers,
     ) -> Result<ChosenFrames, Why>
         requires fits { fits_plan plan.now audio.now ≡ true }
-        requires room { buffers.old ≡ plan.now.block_size }
+        requires room { buffers.old ≡ room_of plan.now }
         ensures kept { buffers.new ≡ buffers.old }
         ensures counted { IfOk result (λ f. AreCounted plan.now audio.now f.least f.greatest f.points.items) }
         ensures choices { IfOk result (λ f. AreChoices plan.now audio.now f.choices.items) }
@@ -107,7 +104,8 @@ impl ChosenFrames {
         let channels = audio.channels().len();
         let most = total / KEPT + 1;
         let mut choices = Vec::new(alloc);
-        let mut choice = FrameChoice::new(alloc, channels)?;
+        let mut choice = FrameChoice::new(alloc, plan.profile(), channels)?;
+        let predictors = plan.predictors();
         let mut points = Vec::new(alloc);
         let mut least = 0;
         let mut greatest = 0;
@@ -119,9 +117,9 @@ impl ChosenFrames {
             let end = start + size.min(total - start);
             plan.note_point(number, offset, &mut points)?;
             feed_block(&mut hasher, audio, start, end - start);
-            choose_frame(audio, start..end, number, buffers, &mut choice);
+            choose_frame(audio, start..end, number, predictors, buffers, &mut choice);
             let bytes = choice.frame_bytes(audio, end - start, number);
-            choice = keep(alloc, channels, &mut choices, choice, most)?;
+            keep(alloc, &mut choices, &choice, most)?;
             least = least_with(number, least, bytes);
             greatest = greatest_with(greatest, bytes);
             offset += bytes;
@@ -174,7 +172,7 @@ impl ChosenFrames {
     }
 
     /// Writes frame `number`, counted from 0, into a place for the longest frame, in place of what is there. The plan,
-    /// the samples and the block size of the buffers must be those of the choice.
+    /// the samples, and the profile and block size of the buffers must be those of the choice.
     pub fn write(
         &self,
         plan: &Plan,
@@ -185,7 +183,7 @@ impl ChosenFrames {
     ) -> Room
         requires fits { fits_plan plan.now audio.now ≡ true }
         requires choices { AreChoices plan.now audio.now self.now.choices.items }
-        requires buffers { buffers.old ≡ plan.now.block_size }
+        requires buffers { buffers.old ≡ room_of plan.now }
         requires few { number < blocks_in plan.now.block_size (samples_each audio.now.channels) }
         requires room { HasRoom plan.now audio.now room.places }
         ensures kept { buffers.new ≡ buffers.old }

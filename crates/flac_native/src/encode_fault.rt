@@ -31,7 +31,7 @@ pub enum EncodeFault {
 }
 
 impl EncodeFault {
-    /// The number of the reason: 2, 9, 19, 37, 38 or 39, or 40 to 47 of [`SetupFault`].
+    /// The number of the reason: 2, 9, 19, 37, 38 or 39, or 40 to 47, 51 or 52 of [`SetupFault`].
     pub fn number(self) -> u8
         ensures { result ≡ fault_number self }
     {

@@ -6,18 +6,17 @@ ghost use Rattle.flac_bits.specs.State.{Rises};
 ghost use Rattle.flac_bits.specs.Written.{Writes};
 ghost use Rattle.flac_meta.specs.Listed.{block_fault};
 ghost use Rattle.flac_meta.specs.declared.block.Block.TheVariants as block_of;
-ghost use Rattle.flac_native.specs.Given.{fits_plan, info_of};
+ghost use Rattle.flac_native.specs.Given.{fits_plan, info_of, room_of};
 ghost use Rattle.flac_native.specs.Numbers.{is_of_whole};
 ghost use Rattle.flac_native.specs.Seeking.{table_of, is_table, has_table, repeats_table};
-ghost use Rattle.flac_native.specs.Writing.{blocks_spelling, head_spelling, AreChoices, HasRoom, IsDigest, SendsBits, SendsStream, Encodes, BeginsEncoding};
+ghost use Rattle.flac_native.specs.Writing.{blocks_spelling, head_spelling, AreChoices, AreCounted, IsDigest, WritesAll, WritesStream, SendsBits, SendsStream, Encodes, BeginsEncoding};
 
 use crate::chosen_frames::ChosenFrames;
 use crate::encode_fault::EncodeFault;
-use crate::frames::send_frames;
+use crate::frames::write_frames;
 use crate::in_order::write_each;
 use crate::lent::Lent;
 use crate::plan::Plan;
-use crate::room::Room;
 use flac_bits::{BitWriter, Target, Why};
 use flac_frame::{Audio, EncodeBuffers};
 use flac_meta::{Block, BlockList, SeekPoint, SeekTable, StreamInfo, write_block};
@@ -63,8 +62,22 @@ pub(crate) fn write_blocks<W: Target>(
 }
 
 /// Writes what comes before the frames: the marker fLaC, STREAMINFO, the blocks and the seek table (RFC 9639, section
-/// 6). It sends what the writer holds.
+/// 6).
 fn write_head<W: Target>(
+    info: StreamInfo,
+    list: &BlockList,
+    points: Vec<SeekPoint>,
+    writer: &mut BitWriter<W>,
+) -> Result<(), Why>
+    requires { block_fault (block_of.SeekTable points.items) ≡ None }
+    ensures { Writes (head_spelling info (list.now ++ table_of points.items)) writer.old writer.new result }
+{
+    writer.put(32, 0x664C6143)?;
+    write_blocks(info, list, points, writer)
+}
+
+/// Writes what comes before the frames, and sends it.
+fn finish_head<W: Target>(
     info: StreamInfo,
     list: &BlockList,
     points: Vec<SeekPoint>,
@@ -72,11 +85,9 @@ fn write_head<W: Target>(
 ) -> Result<(), Why>
     requires table { block_fault (block_of.SeekTable points.items) ≡ None }
     requires whole { writer.old.mark.unread ≡ 0 }
-    ensures writes { Writes (head_spelling info (list.now ++ table_of points.items)) writer.old writer.new result }
-    ensures sent { OnOk result (writer.old.known ≡ true → bits_of writer.new.sent ≡ writer.old.bits ++ head_spelling info (list.now ++ table_of points.items)) }
+    ensures { WritesAll (head_spelling info (list.now ++ table_of points.items)) writer.old writer.new result }
 {
-    writer.put(32, 0x664C6143)?;
-    write_blocks(info, list, points, writer)?;
+    write_head(info, list, points, writer)?;
     writer.finish()
 }
 
@@ -91,7 +102,7 @@ pub(crate) fn send_head<W: Target>(
     ensures { SendsBits W.Target (head_spelling info (list.now ++ table_of points.items)) target.old target.new result }
 {
     let mut writer = BitWriter::new(Lent::over(target));
-    let outcome = write_head(info, list, points, &mut writer);
+    let outcome = finish_head(info, list, points, &mut writer);
     let _target = writer.into_target().into_target();
     outcome
 }
@@ -122,6 +133,31 @@ fn repeats_table(plan: &Plan, list: &BlockList) -> bool
     plan.seek_every() > 0 && has_table(list.blocks())
 }
 
+/// Writes what comes before the frames, and then the frames, and sends all of it.
+fn write_stream<W: Target>(
+    plan: &Plan,
+    list: &BlockList,
+    audio: &Audio,
+    frames: ChosenFrames,
+    buffers: &mut EncodeBuffers,
+    writer: &mut BitWriter<W>,
+) -> Result<(), Why>
+    requires fits { fits_plan plan.now audio.now ≡ true }
+    requires room { buffers.old ≡ room_of plan.now }
+    requires counted { AreCounted plan.now audio.now frames.least frames.greatest frames.points.items }
+    requires choices { AreChoices plan.now audio.now frames.choices.items }
+    requires table { block_fault (block_of.SeekTable frames.points.items) ≡ None }
+    requires sizes { (frames.least ≤ frames.greatest) × (frames.greatest < 2 ^ 24) }
+    requires digest { IsDigest audio.now frames.digest }
+    requires whole { writer.old.mark.unread ≡ 0 }
+    ensures { WritesStream (head_spelling (info_of plan.now audio.now frames.least frames.greatest) (list.now ++ table_of frames.points.items)) plan.now audio.now writer.old writer.new result }
+{
+    let info = frames.info(plan, audio);
+    write_head(info, list, frames.points, writer)?;
+    write_frames(plan, audio, frames.choices.as_slice(), buffers, writer)?;
+    writer.finish()
+}
+
 /// Sends what comes before the frames, and then the frames. After an error a prefix of them was sent.
 fn send_stream<W: Target>(
     plan: &Plan,
@@ -129,40 +165,35 @@ fn send_stream<W: Target>(
     audio: &Audio,
     frames: ChosenFrames,
     buffers: &mut EncodeBuffers,
-    room: Room,
     target: &mut W,
 ) -> Result<(), Why>
     requires fits { fits_plan plan.now audio.now ≡ true }
-    requires room { buffers.old ≡ plan.now.block_size }
+    requires room { buffers.old ≡ room_of plan.now }
+    requires counted { AreCounted plan.now audio.now frames.least frames.greatest frames.points.items }
     requires choices { AreChoices plan.now audio.now frames.choices.items }
     requires table { block_fault (block_of.SeekTable frames.points.items) ≡ None }
     requires sizes { (frames.least ≤ frames.greatest) × (frames.greatest < 2 ^ 24) }
     requires digest { IsDigest audio.now frames.digest }
-    requires places { HasRoom plan.now audio.now room.places }
     ensures { SendsStream W.Target (head_spelling (info_of plan.now audio.now frames.least frames.greatest) (list.now ++ table_of frames.points.items)) plan.now audio.now target.old target.new result }
 {
-    let info = frames.info(plan, audio);
-    send_head(info, list, frames.points, target)?;
-    send_frames(
-        plan,
-        audio,
-        frames.choices.as_slice(),
-        buffers,
-        room,
-        target,
-    )
+    let mut writer = BitWriter::new(Lent::over(target));
+    let outcome = write_stream(plan, list, audio, frames, buffers, &mut writer);
+    let _target = writer.into_target().into_target();
+    outcome
 }
 
 /// Encodes samples as a native stream: STREAMINFO with the number of samples, the sizes of the frames and the MD5
 /// digest, the blocks of the list, the seek table if the plan asks for one and there are samples, and a frame for each
-/// block of the plan (RFC 9639, section 6). Each frame is a shortest one over constant, verbatim and fixed predictors.
+/// block of the plan (RFC 9639, section 6). Each frame is a shortest one over constant, verbatim and fixed predictors, and
+/// the plan's linear ones ([`Plan::with_predictors`]). The stream is one of the plan's profile, which is that of the
+/// samples ([`Audio::new_in`]).
 ///
 /// The plan must fit the samples ([`Plan::fits`]).
 ///
 /// It goes over the samples twice: first it chooses how each frame is written, then it writes one after another. Beside
-/// the samples it holds the seek points, one frame, and some 560 bytes for each channel of each frame. If blocks have
-/// fewer than 1000 samples, it keeps the choices of the first frames only, and makes the others again. Blocks are sent
-/// as they are written.
+/// the samples it holds the seek points, some 560 bytes for each channel of each frame, and 4096 bytes of what is
+/// written; no frame is held. If blocks have fewer than 1000 samples, it keeps the choices of the first frames only, and
+/// makes the others again.
 ///
 /// ```
 /// let plan = Plan::new(4096, &audio, 0)?;
@@ -198,18 +229,15 @@ pub fn encode<W: Target>(
     if repeats_table(plan, list) {
         return Err(EncodeFault::RepeatedBlock);
     }
-    let _size = plan.block_size();
     let _blocks = list.blocks();
-    let Ok(mut buffers) = EncodeBuffers::new(alloc, plan.block_size()) else {
+    let size = plan.block_size();
+    let Ok(mut buffers) = EncodeBuffers::new_in(alloc, plan.profile(), size) else {
         return Err(EncodeFault::Memory);
     };
     let Ok(frames) = ChosenFrames::new(alloc, plan, audio, &mut buffers) else {
         return Err(EncodeFault::Memory);
     };
-    let Ok(room) = frames.room(alloc) else {
-        return Err(EncodeFault::Memory);
-    };
-    match send_stream(plan, list, audio, frames, &mut buffers, room, target) {
+    match send_stream(plan, list, audio, frames, &mut buffers, target) {
         Ok(()) => Ok(()),
         Err(_) => Err(EncodeFault::Write),
     }

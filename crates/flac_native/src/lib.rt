@@ -6,6 +6,8 @@
 //! | decode into a [`Sink`] | [`decode`] |
 //! | read a stream from a frame on | [`Decoder::resume`] |
 //! | encode samples that are all there | [`Audio`], [`Plan`] and [`encode`] |
+//! | encode outside the streamable subset | [`Audio::new_in`] |
+//! | try linear predictors of one's own | [`LinearPredictor`] and [`Plan::with_predictors`] |
 //! | encode a block at a time | [`StreamEncoder`] |
 //! | replace the comments | [`retag`] |
 //!
@@ -51,6 +53,7 @@ mod rows;
 mod sink;
 mod steps;
 mod stream_encoder;
+mod stream_format;
 mod subset;
 mod track;
 
@@ -65,12 +68,13 @@ pub use fault::{Fault, Place};
 pub use flac_bits::{
     BitReader, BitWriter, Collected, Counted, Memory, Pieces, Source, Target, Why,
 };
-pub use flac_frame::{Audio, FrameView, SetupFault};
+pub use flac_frame::{Audio, FrameView, SetupFault, greatest_order};
 pub use flac_header::Profile;
 pub use flac_meta::{
     Block, BlockList, Bytes, Comments, CueIndex, CueIndices, CueSheet, CueTrack, CueTracks,
     Picture, SeekPoint, SeekTable, StreamInfo, Texts,
 };
+pub use flac_subframe::LinearPredictor;
 pub use handing::hand_out;
 pub use item::Item;
 pub use laws::{
@@ -89,4 +93,5 @@ pub use retagging::retag;
 pub use room::Room;
 pub use sink::{Sink, SinkFault};
 pub use stream_encoder::StreamEncoder;
+pub use stream_format::StreamFormat;
 pub use track::Track;

@@ -1,24 +1,38 @@
 //! How samples are divided into frames.
 
-ghost use Rattle.std.specs.Prelude.{◌≡◌, ◌<◌, ◌≤◌, ◌*◌, ◌^◌, ◌++◌, MatchResult, IfOk, OnOk, IfErr, true, Some, None};
-ghost use Rattle.flac_native.specs.Given.{blocks_in, has_point, points_before, cut_of, fits_plan, plan_fault};
+ghost use Rattle.std.specs.Prelude.{◌≡◌, ◌<◌, ◌≤◌, ◌*◌, ◌^◌, ◌++◌, [], MatchResult, IfOk, OnOk, IfErr, true, Some, None};
+ghost use Rattle.flac_native.specs.Given.{same_profile, blocks_in, has_point, points_before, cut_of, with_predictors, fits_plan, predictors_fault, plan_fault};
 ghost use Rattle.flac_native.specs.Seeking.{point_at};
 
-use crate::subset::greatest_block;
+use crate::subset::greatest_in;
 use flac_bits::Why;
-use flac_frame::{Audio, SetupFault};
-use flac_header::{depth_code, rate_code};
+use flac_frame::{Audio, SetupFault, greatest_order};
+use flac_header::{Profile, depth_code_in, rate_code_in};
 use flac_meta::SeekPoint;
+use flac_subframe::LinearPredictor;
 use std::marker::Model;
 
 /// The most points that a seek table of one block has: each has 18 bytes, and a block at most 16777215 (RFC 9639,
 /// sections 8.1 and 8.5).
 const MOST_POINTS: u64 = 932067;
 
-/// How samples of one format and length are divided into frames, and which frames have a seek point. All frames have
-/// the same block size, but the last may be shorter (RFC 9639, section 9.1).
-#[derive(Clone, Copy, Debug, PartialEq, Eq)]
+/// The most linear predictors that are tried for each frame.
+const MOST_PREDICTORS: usize = 64;
+
+/// How samples of one format and length are divided into frames, which frames have a seek point, and which linear
+/// predictors are tried for each frame. All frames have the same block size, but the last may be shorter (RFC 9639,
+/// section 9.1).
+#[derive(Debug, Drop)]
 pub struct Plan {
+    asked: Asked,
+    /// `None` stands for an empty list.
+    predictors: Option<Vec<LinearPredictor>>,
+}
+
+/// What a plan is made of, but for its predictors.
+#[derive(Clone, Copy, Debug, PartialEq, Eq)]
+struct Asked {
+    profile: Profile,
     block_size: u32,
     rate: u32,
     bits: u32,
@@ -29,15 +43,40 @@ pub struct Plan {
 
 impl Model for Plan {
     ghost use Rattle.std.specs.Prelude.{◌≡◌, None};
-    ghost use Rattle.flac_native.specs.Given.{Cut, plan_fault};
+    ghost use Rattle.flac_native.specs.Given.{Cut, listed, plan_fault};
 
     ghost Value = { Cut };
 
-    ghost view = { λ p. record { block_size = p.block_size; rate = p.rate; bits = p.bits; channels = p.channels; total = p.total; seek_every = p.seek_every } };
+    ghost view = { λ p. record { profile = p.asked.profile; block_size = p.asked.block_size; rate = p.asked.rate; bits = p.asked.bits; channels = p.asked.channels; total = p.asked.total; seek_every = p.asked.seek_every; predictors = listed p.predictors } };
 
-    ghost invariant = { λ p. plan_fault (record { block_size = p.block_size; rate = p.rate; bits = p.bits; channels = p.channels; total = p.total; seek_every = p.seek_every }) ≡ None };
+    ghost invariant = { λ p. plan_fault (record { profile = p.asked.profile; block_size = p.asked.block_size; rate = p.asked.rate; bits = p.asked.bits; channels = p.asked.channels; total = p.asked.total; seek_every = p.asked.seek_every; predictors = listed p.predictors }) ≡ None };
+}
 
-    ghost inverse = { λ c. record { block_size = c.block_size; rate = c.rate; bits = c.bits; channels = c.channels; total = c.total; seek_every = c.seek_every } };
+/// Whether two profiles are the same.
+fn same_profile(one: Profile, other: Profile) -> bool
+    ensures { result ≡ same_profile one other }
+{
+    match one {
+        Profile::Subset => matches!(other, Profile::Subset),
+        Profile::Lax => matches!(other, Profile::Lax),
+    }
+}
+
+/// Why linear predictors cannot be tried in a profile at a rate in Hz, or `None` if they can.
+pub(crate) fn predictors_fault(
+    profile: Profile,
+    rate: u32,
+    predictors: &[LinearPredictor],
+) -> Option<SetupFault>
+    ensures { result ≡ predictors_fault profile rate predictors.now }
+{
+    if predictors.len() > MOST_PREDICTORS {
+        return Some(SetupFault::TooManyPredictors);
+    }
+    if !LinearPredictor::are_within(predictors, greatest_order(profile, rate)) {
+        return Some(SetupFault::PredictorOrder);
+    }
+    None
 }
 
 /// Whether the frame of this number holds a sample whose index is a multiple of `every`; false if `every` is 0.
@@ -59,7 +98,7 @@ fn has_point(size: u64, total: u64, every: u64, number: u64) -> bool
 /// How many frames have a seek point.
 fn count_points(size: u64, total: u64, every: u64) -> u64
     requires size { 16 ≤ size }
-    requires most { size ≤ 16384 }
+    requires most { size ≤ 65535 }
     requires total { total < 2 ^ 36 }
     requires every { every < 2 ^ 32 }
     ensures { result ≡ points_before size total every (blocks_in size total) }
@@ -75,42 +114,37 @@ fn count_points(size: u64, total: u64, every: u64) -> u64
 }
 
 /// Why samples of this format and length cannot be divided into blocks, or `None` if they can.
-#[tactic(auto, unfolding(crate::specs::Given::plan_fault))]
-fn fault_of(
-    block_size: u32,
-    rate: u32,
-    bits: u32,
-    channels: u64,
-    total: u64,
-    seek_every: u32,
-) -> Option<SetupFault>
-    ensures { result ≡ plan_fault (record { block_size = block_size; rate = rate; bits = bits; channels = channels; total = total; seek_every = seek_every }) }
+#[tactic(auto, unfolding(crate::specs::Given::plan_fault, crate::specs::Given::predictors_fault))]
+fn fault_of(asked: &Asked) -> Option<SetupFault>
+    ensures { result ≡ plan_fault (record { profile = asked.now.profile; block_size = asked.now.block_size; rate = asked.now.rate; bits = asked.now.bits; channels = asked.now.channels; total = asked.now.total; seek_every = asked.now.seek_every; predictors = [] }) }
 {
-    if rate_code(rate).is_none() {
+    if rate_code_in(asked.profile, asked.rate).is_none() {
         return Some(SetupFault::BadRate);
     }
-    if depth_code(bits).is_none() {
+    if depth_code_in(asked.profile, asked.bits).is_none() {
         return Some(SetupFault::BadDepth);
     }
-    if channels < 1 || channels > 8 {
+    if asked.channels < 1 || asked.channels > 8 {
         return Some(SetupFault::BadChannels);
     }
-    if block_size < 16 || block_size > greatest_block(rate) {
+    if asked.block_size < 16 || asked.block_size > greatest_in(asked.profile, asked.rate) {
         return Some(SetupFault::BadBlockSize);
     }
-    let size = block_size as u64;
+    let size = asked.block_size as u64;
+    let total = asked.total;
     if total >= 1 << 36 || (total + (size - 1)) / size > 1 << 31 {
         return Some(SetupFault::TooLong);
     }
-    if count_points(size, total, seek_every as u64) > MOST_POINTS {
+    if count_points(size, total, asked.seek_every as u64) > MOST_POINTS {
         return Some(SetupFault::TooManyPoints);
     }
     None
 }
 
 impl Plan {
-    /// Makes a plan for these samples, with `block_size` samples of each channel in a frame. If `seek_every` is not 0,
-    /// each frame that holds a sample whose index is a multiple of it gets a seek point (RFC 9639, section 8.5).
+    /// Makes a plan for these samples, in their profile, with `block_size` samples of each channel in a frame. If
+    /// `seek_every` is not 0, each frame that holds a sample whose index is a multiple of it gets a seek point (RFC 9639,
+    /// section 8.5). It has no linear predictors: see [`Plan::with_predictors`].
     ///
     /// ```
     /// let plan = Plan::new(4096, &audio, 44100)?; // a seek point for each second at 44100 Hz
@@ -119,54 +153,103 @@ impl Plan {
     /// # Errors
     /// The first of these that applies:
     ///
-    /// - [`SetupFault::BadBlockSize`] if the block size is below 16, above 16384, or above 4608 at a rate of 48000 Hz
-    ///   or less (RFC 9639, section 7);
+    /// - [`SetupFault::BadBlockSize`] if the block size is below 16; or if it is above 16384, or above 4608 at a rate of
+    ///   48000 Hz or less, in [`Profile::Subset`] (RFC 9639, section 7); or above 65535 in [`Profile::Lax`];
     /// - [`SetupFault::TooLong`] if there are 2^36 samples of each channel or more, or more than 2^31 frames;
     /// - [`SetupFault::TooManyPoints`] if there would be more than 932067 seek points.
     pub fn new(block_size: u32, audio: &Audio, seek_every: u32) -> Result<Plan, SetupFault>
         ensures made { MatchResult result (λ p. p ≡ cut_of block_size audio.now seek_every) (λ e. plan_fault (cut_of block_size audio.now seek_every) ≡ Some e) }
         ensures fits { IfOk result (λ p. fits_plan p audio.now ≡ true) }
     {
-        let rate = audio.rate();
-        let bits = audio.bits();
-        let channels = audio.channels().len() as u64;
-        let total = audio.len() as u64;
-        if let Some(fault) = fault_of(block_size, rate, bits, channels, total, seek_every) {
+        let asked = Asked {
+            profile: audio.profile(),
+            block_size,
+            rate: audio.rate(),
+            bits: audio.bits(),
+            channels: audio.channels().len() as u64,
+            total: audio.len() as u64,
+            seek_every,
+        };
+        if let Some(fault) = fault_of(&asked) {
             return Err(fault);
         }
         Ok(Plan {
-            block_size,
-            rate,
-            bits,
-            channels,
-            total,
-            seek_every,
+            asked,
+            predictors: None,
         })
     }
 
-    /// Whether these samples have the rate, depth, channels and length of those that the plan was made for.
+    /// The same plan, with linear predictors that are tried for each subframe beside the constant, verbatim and fixed
+    /// ones: at most 64, of orders that the profile allows at the rate, 32 in [`Profile::Lax`] and above 48000 Hz, else 12
+    /// (RFC 9639, sections 7 and 9.2.6). Each frame is then a shortest one over these too. They take the place of those
+    /// that the plan had; an empty list is as none.
+    ///
+    /// ```
+    /// let mut predictors = Vec::new(rt.alloc());
+    /// if let Some(doubled) = LinearPredictor::new(3, 0, &[2, -1]) {
+    ///     predictors.push(doubled)?;
+    /// }
+    /// let plan = Plan::new(4096, &audio, 0)?.with_predictors(predictors)?;
+    /// ```
+    ///
+    /// # Errors
+    /// [`SetupFault::TooManyPredictors`] if there are more than 64, else [`SetupFault::PredictorOrder`] if an order is too
+    /// large. The plan is not returned then.
+    pub fn with_predictors(self, predictors: Vec<LinearPredictor>) -> Result<Plan, SetupFault>
+        ensures { MatchResult result (λ p. p ≡ with_predictors self predictors.items) (λ e. predictors_fault self.profile self.rate predictors.items ≡ Some e) }
+    {
+        let asked = self.asked;
+        if let Some(fault) = predictors_fault(asked.profile, asked.rate, predictors.as_slice()) {
+            return Err(fault);
+        }
+        Ok(Plan {
+            asked,
+            predictors: Some(predictors),
+        })
+    }
+
+    /// Whether these samples have the profile, rate, depth, channels and length of those that the plan was made for.
     pub fn fits(&self, audio: &Audio) -> bool
         ensures { result ≡ fits_plan self.now audio.now }
     {
-        self.rate == audio.rate()
-            && self.bits == audio.bits()
-            && self.channels == audio.channels().len() as u64
-            && self.total == audio.len() as u64
+        same_profile(self.asked.profile, audio.profile())
+            && self.asked.rate == audio.rate()
+            && self.asked.bits == audio.bits()
+            && self.asked.channels == audio.channels().len() as u64
+            && self.asked.total == audio.len() as u64
     }
 
-    /// How many samples of each channel a frame has, 16 to 16384. The last frame may have fewer.
+    /// The profile of the stream: that of the samples that the plan was made for.
+    pub fn profile(&self) -> Profile
+        ensures { result ≡ self.now.profile }
+    {
+        self.asked.profile
+    }
+
+    /// The linear predictors that are tried for each frame, at most 64.
+    pub fn predictors(&self) -> &[LinearPredictor]
+        ensures { result.now ≡ self.now.predictors }
+    {
+        match &self.predictors {
+            Some(predictors) => predictors.as_slice(),
+            None => &[],
+        }
+    }
+
+    /// How many samples of each channel a frame has: 16 to 16384 in [`Profile::Subset`], 16 to 65535 in [`Profile::Lax`].
+    /// The last frame may have fewer.
     pub fn block_size(&self) -> u32
         ensures value { result ≡ self.now.block_size }
         ensures good { plan_fault self.now ≡ None }
     {
-        self.block_size
+        self.asked.block_size
     }
 
     /// The distance of seek points in samples, as it was asked for; 0 if there is no seek table.
     pub fn seek_every(&self) -> u32
         ensures { result ≡ self.now.seek_every }
     {
-        self.seek_every
+        self.asked.seek_every
     }
 
     /// Adds the seek point of the frame of this number, if it has one. The frame begins `offset` bytes after the first
@@ -181,10 +264,11 @@ impl Plan {
         ensures noted { OnOk result (points.new.items ≡ points.old.items ++ point_at self.now number offset) }
         ensures memory { IfErr result (λ e. e ≡ Why.Memory) }
     {
-        let size = self.block_size as u64;
-        if has_point(size, self.total, self.seek_every as u64, number) {
+        let asked = self.asked;
+        let size = asked.block_size as u64;
+        if has_point(size, asked.total, asked.seek_every as u64, number) {
             let sample = size * number;
-            let length = size.min(self.total - sample) as u16;
+            let length = size.min(asked.total - sample) as u16;
             points.push(SeekPoint {
                 sample,
                 offset,

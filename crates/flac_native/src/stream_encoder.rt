@@ -3,8 +3,11 @@
 ghost use Rattle.std.specs.Prelude.{◌≡◌, ◌≢◌, ◌++◌, ◌≤◌, ◌<◌, ◌+◌, ◌^◌, ◌↔◌, map, option_map, true, IfOk, OnOk, IfErr, None, Err};
 ghost use Rattle.flac_bits.specs.Bits.{bits_of};
 ghost use Rattle.flac_bits.specs.State.{Rises};
+ghost use Rattle.std.specs.Prelude.{Bool, List, MatchResult, Some};
 ghost use Rattle.flac_frame.specs.Audio.{samples_each};
-ghost use Rattle.flac_native.specs.Pushing.{shape_fault, open_info, unpushed, behind_block, spent_with, size_fault, push_fault, IsFirst, StandsFor, Pushes, BeginsPush};
+ghost use Rattle.flac_native.specs.Given.{predictors_fault};
+ghost use Rattle.flac_native.specs.Stream.{Piece};
+ghost use Rattle.flac_native.specs.Pushing.{shape_of, shape_fault, open_info, unpushed, behind_block, spent_with, trying, size_fault, push_fault, IsFirst, StandsFor, Pushes, BeginsPush};
 ghost use Rattle.flac_native.specs.declared.encode_fault.EncodeFault.TheVariants.{Setup};
 ghost use Rattle.flac_native.specs.Whole.{head_parts};
 ghost use Rattle.flac_native.specs.Writing.{head_spelling};
@@ -12,17 +15,19 @@ ghost use Rattle.flac_native.specs.Writing.{head_spelling};
 use crate::block_bytes::{block_bytes, block_fault, block_len};
 use crate::encode_fault::EncodeFault;
 use crate::encoding::send_head;
-use crate::subset::greatest_block;
+use crate::plan::predictors_fault;
+use crate::stream_format::StreamFormat;
 use flac_bits::{Target, send_all};
 use flac_frame::{EncodeBuffers, SetupFault};
-use flac_header::{depth_code, rate_code};
-use flac_meta::{BlockList, StreamInfo};
+use flac_header::Profile;
+use flac_meta::BlockList;
+use flac_subframe::LinearPredictor;
 use std::alloc::Global;
 use std::marker::Model;
 
 /// Encodes a native stream a block at a time, as a recorder does whose samples are not all there yet (RFC 9639, section
 /// 6). [`StreamEncoder::new`] writes the marker, STREAMINFO and the metadata blocks, each [`StreamEncoder::push`] one
-/// frame, and [`StreamEncoder::finish`] returns the target.
+/// frame, and [`StreamEncoder::finish`] returns the target. [`StreamEncoder::new_in`] does so for a profile.
 ///
 /// After each call that returns `Ok`, what was written is a whole stream. Its STREAMINFO states neither the number of
 /// samples nor the sizes of the frames nor the digest, since they are not known when it is written (section 8.2).
@@ -35,10 +40,8 @@ use std::marker::Model;
 #[derive(Drop)]
 pub struct StreamEncoder<W: Target> {
     alloc: Global,
-    rate: u32,
-    bits: u32,
-    channels: u32,
-    block_size: u32,
+    format: StreamFormat,
+    predictors: Vec<LinearPredictor>,
     number: u64,
     samples: u64,
     ended: bool,
@@ -49,12 +52,15 @@ pub struct StreamEncoder<W: Target> {
 
 impl<W: Target> Model for StreamEncoder<W> {
     ghost use Rattle.std.specs.Prelude.{◌≡◌, ◌<◌, ◌≤◌, ◌^◌, None};
-    ghost use Rattle.flac_native.specs.Pushing.{Pushed, shape_fault};
+    ghost use Rattle.flac_frame.specs.Encoding.{most_in};
+    ghost use Rattle.flac_native.specs.Given.{predictors_fault};
+    ghost use Rattle.flac_native.specs.Pushing.{Pushed, shape_of, shape_fault};
 
     ghost Value = { Pushed W };
 
     ghost view = { λ e. record {
-      shape = record { rate = e.rate; bits = e.bits; channels = e.channels; block_size = e.block_size };
+      shape = shape_of e.format;
+      predictors = e.predictors.items;
       number = e.number;
       samples = e.samples;
       ended = e.ended;
@@ -63,69 +69,21 @@ impl<W: Target> Model for StreamEncoder<W> {
     } };
 
     ghost invariant = { λ e. record {
-      shape : shape_fault (record { rate = e.rate; bits = e.bits; channels = e.channels; block_size = e.block_size }) ≡ None;
-      buffers : e.buffers ≡ e.block_size;
+      shape : shape_fault (shape_of e.format) ≡ None;
+      predictors : predictors_fault e.format.profile e.format.rate e.predictors.items ≡ None;
+      buffers : e.buffers ≡ record { block = e.format.block_size; most = most_in e.format.profile };
       number : e.number ≤ 2 ^ 31;
       samples : e.samples < 2 ^ 36;
     } };
 }
 
-/// Why nothing of a format can be encoded, or `None` if it can.
-#[tactic(auto, unfolding(crate::specs::Pushing::shape_fault))]
-fn shape_fault(rate: u32, bits: u32, channels: u32, block_size: u32) -> Option<SetupFault>
-    ensures { result ≡ shape_fault (record { rate = rate; bits = bits; channels = channels; block_size = block_size }) }
-{
-    if rate_code(rate).is_none() {
-        return Some(SetupFault::BadRate);
-    }
-    if depth_code(bits).is_none() {
-        return Some(SetupFault::BadDepth);
-    }
-    if channels < 1 || channels > 8 {
-        return Some(SetupFault::BadChannels);
-    }
-    if block_size < 16 || block_size > greatest_block(rate) {
-        return Some(SetupFault::BadBlockSize);
-    }
-    None
-}
-
-/// STREAMINFO of a format, in which everything that depends on the samples is unknown (RFC 9639, section 8.2).
-fn open_info(rate: u32, bits: u32, channels: u32, block_size: u32) -> StreamInfo
-    requires { shape_fault (record { rate = rate; bits = bits; channels = channels; block_size = block_size }) ≡ None }
-    ensures { result ≡ open_info (record { rate = rate; bits = bits; channels = channels; block_size = block_size }) }
-{
-    let size = block_size as u16;
-    let info = StreamInfo::new(
-        size,
-        size,
-        0,
-        0,
-        rate,
-        channels as u8,
-        bits as u8,
-        0,
-        [0; 16],
-    );
-    match info {
-        Ok(info) => info,
-        Err(_) => unreachable!(),
-    }
-}
-
 impl<W: Target + Drop> StreamEncoder<W> {
-    /// Writes the marker, STREAMINFO and the blocks of the list, and makes an encoder for this format (RFC 9639,
-    /// sections 6 to 8):
-    ///
-    /// - the sample rate in Hz: 1 to 65535, or a multiple of 10 up to 655350 (section 9.1.2);
-    /// - 8, 12, 16, 20, 24 or 32 bits per sample;
-    /// - 1 to 8 channels;
-    /// - a block size of 16 to 16384 samples of each channel, at most 4608 if the rate is at most 48000 Hz (section 7).
+    /// Makes an encoder for the streamable subset, and writes the marker, STREAMINFO and the blocks of the list, as
+    /// [`StreamEncoder::new_in`] does for [`Profile::Subset`]: with a sample rate in Hz, bits per sample, a number of
+    /// channels, and a block size in samples of each channel ([`StreamFormat`] has their ranges).
     ///
     /// # Errors
-    /// [`EncodeFault::Setup`] with `BadRate`, `BadDepth`, `BadChannels` or `BadBlockSize`, the first that applies. Else
-    /// [`EncodeFault::Memory`] if an allocation fails, or [`EncodeFault::Write`] if the target returns an error. The
-    /// target is not returned then.
+    /// Those of [`StreamEncoder::new_in`].
     pub fn new(
         alloc: Global,
         rate: u32,
@@ -135,32 +93,67 @@ impl<W: Target + Drop> StreamEncoder<W> {
         list: &BlockList,
         target: W,
     ) -> Result<StreamEncoder<W>, EncodeFault>
-        ensures made { IfOk result (λ e. e ≡ unpushed (record { rate = rate; bits = bits; channels = channels; block_size = block_size }) e.target) }
+        ensures made { IfOk result (λ e. e ≡ unpushed (record { profile = Profile.Subset; rate = rate; bits = bits; channels = channels; block_size = block_size }) e.target) }
         ensures stands { IfOk result (λ e. StandsFor e (head_parts (open_info e.shape) list.now) (head_spelling (open_info e.shape) list.now)) }
         ensures written { IfOk result (λ e. W.known target ≡ true → bits_of (W.sent e.target) ≡ bits_of (W.sent target) ++ head_spelling (open_info e.shape) list.now) }
         ensures known { IfOk result (λ e. W.known target ≡ true → W.known e.target ≡ true) }
         ensures counted { IfOk result (λ e. W.errors e.target ≡ W.errors target) }
         ensures names { IfOk result (λ e. W.names e.target ≡ W.names target) }
-        ensures accepted { OnOk result (shape_fault (record { rate = rate; bits = bits; channels = channels; block_size = block_size }) ≡ None) }
-        ensures refused { IfErr result (λ e. IsFirst (option_map Setup (shape_fault (record { rate = rate; bits = bits; channels = channels; block_size = block_size }))) e) }
+        ensures accepted { OnOk result (shape_fault (record { profile = Profile.Subset; rate = rate; bits = bits; channels = channels; block_size = block_size }) ≡ None) }
+        ensures refused { IfErr result (λ e. IsFirst (option_map Setup (shape_fault (record { profile = Profile.Subset; rate = rate; bits = bits; channels = channels; block_size = block_size }))) e) }
     {
-        if let Some(fault) = shape_fault(rate, bits, channels, block_size) {
+        let format = StreamFormat {
+            profile: Profile::Subset,
+            rate,
+            bits,
+            channels,
+            block_size,
+        };
+        StreamEncoder::new_in(alloc, &format, list, target)
+    }
+
+    /// Makes an encoder for this format, and writes the marker, STREAMINFO and the blocks of the list (RFC 9639, sections
+    /// 6 to 8). No linear predictors are tried yet: see [`StreamEncoder::set_predictors`].
+    ///
+    /// ```
+    /// let format = StreamFormat { profile: Profile::Lax, rate: 1000000, bits: 14, channels: 1, block_size: 32768 };
+    /// let mut encoder = StreamEncoder::new_in(alloc, &format, &blocks, file)?;
+    /// ```
+    ///
+    /// # Errors
+    /// [`EncodeFault::Setup`] with `BadRate`, `BadDepth`, `BadChannels` or `BadBlockSize`, the first that applies
+    /// ([`StreamFormat::fault`]). Else [`EncodeFault::Memory`] if an allocation fails, or [`EncodeFault::Write`] if the
+    /// target returns an error. The target is not returned then.
+    pub fn new_in(
+        alloc: Global,
+        format: &StreamFormat,
+        list: &BlockList,
+        target: W,
+    ) -> Result<StreamEncoder<W>, EncodeFault>
+        ensures made { IfOk result (λ e. e ≡ unpushed (shape_of format.now) e.target) }
+        ensures stands { IfOk result (λ e. StandsFor e (head_parts (open_info e.shape) list.now) (head_spelling (open_info e.shape) list.now)) }
+        ensures written { IfOk result (λ e. W.known target ≡ true → bits_of (W.sent e.target) ≡ bits_of (W.sent target) ++ head_spelling (open_info e.shape) list.now) }
+        ensures known { IfOk result (λ e. W.known target ≡ true → W.known e.target ≡ true) }
+        ensures counted { IfOk result (λ e. W.errors e.target ≡ W.errors target) }
+        ensures names { IfOk result (λ e. W.names e.target ≡ W.names target) }
+        ensures accepted { OnOk result (shape_fault (shape_of format.now) ≡ None) }
+        ensures refused { IfErr result (λ e. IsFirst (option_map Setup (shape_fault (shape_of format.now))) e) }
+    {
+        if let Some(fault) = format.fault() {
             return Err(EncodeFault::Setup(fault));
         }
         let _blocks = list.blocks();
-        let Ok(buffers) = EncodeBuffers::new(alloc, block_size) else {
+        let Ok(buffers) = EncodeBuffers::new_in(alloc, format.profile, format.block_size) else {
             return Err(EncodeFault::Memory);
         };
-        let info = open_info(rate, bits, channels, block_size);
+        let info = format.open_info();
         let points = Vec::new(alloc);
         let mut target = target;
         match send_head(info, list, points, &mut target) {
             Ok(()) => Ok(StreamEncoder {
                 alloc,
-                rate,
-                bits,
-                channels,
-                block_size,
+                format: *format,
+                predictors: Vec::new(alloc),
                 number: 0,
                 samples: 0,
                 ended: false,
@@ -171,6 +164,29 @@ impl<W: Target + Drop> StreamEncoder<W> {
             Err(_) => Err(EncodeFault::Write),
         }
     }
+
+    /// Sets the linear predictors that are tried for each subframe of the frames pushed from now on, beside the constant,
+    /// verbatim and fixed ones: at most 64, of orders that the profile allows at the rate, 32 in [`Profile::Lax`] and above
+    /// 48000 Hz, else 12 (RFC 9639, sections 7 and 9.2.6). They take the place of those before; an empty list is as none.
+    ///
+    /// # Errors
+    /// [`SetupFault::TooManyPredictors`] if there are more than 64, else [`SetupFault::PredictorOrder`] if an order is too
+    /// large. The encoder is as it was then.
+    pub fn set_predictors(&mut self, predictors: Vec<LinearPredictor>) -> Result<(), SetupFault>
+        ensures set { OnOk result (self.new ≡ trying self.old predictors.items) }
+        ensures stands { OnOk result ((items : List Piece) (text : List Bool) → StandsFor self.old items text → StandsFor self.new items text) }
+        ensures accepted { OnOk result (predictors_fault self.old.shape.profile self.old.shape.rate predictors.items ≡ None) }
+        ensures refused { IfErr result (λ e. predictors_fault self.old.shape.profile self.old.shape.rate predictors.items ≡ Some e) }
+        ensures kept { IfErr result (λ e. self.new ≡ self.old) }
+    {
+        let StreamFormat { profile, rate, .. } = self.format;
+        if let Some(fault) = predictors_fault(profile, rate, predictors.as_slice()) {
+            return Err(fault);
+        }
+        self.predictors = predictors;
+        Ok(())
+    }
+
     /// Why a block of `len` samples cannot be the next frame, or `None` if it can.
     #[tactic(auto, unfolding(crate::specs::Pushing::size_fault))]
     fn size_fault(&self, len: u64) -> Option<EncodeFault>
@@ -179,7 +195,7 @@ impl<W: Target + Drop> StreamEncoder<W> {
         if len >= (1 << 36) - self.samples || self.number >= 1 << 31 {
             return Some(EncodeFault::Setup(SetupFault::TooLong));
         }
-        if len == 0 || len > self.block_size as u64 {
+        if len == 0 || len > self.format.block_size as u64 {
             return Some(EncodeFault::Setup(SetupFault::BadBlockSize));
         }
         if self.ended {
@@ -196,7 +212,7 @@ impl<W: Target + Drop> StreamEncoder<W> {
         if self.spent {
             return Some(EncodeFault::Spent);
         }
-        if let Some(fault) = block_fault(self.channels, self.bits, block) {
+        if let Some(fault) = block_fault(self.format.channels, self.format.bits, block) {
             return Some(EncodeFault::Setup(fault));
         }
         self.size_fault(block_len(block) as u64)
@@ -204,7 +220,7 @@ impl<W: Target + Drop> StreamEncoder<W> {
 
     /// Writes a block as the next frame, and sends all of it. `block` has one slice for each channel, of 1 to as many
     /// samples as the block size. Only the last block may be shorter than the block size (RFC 9639, section 9.1). The
-    /// frame is as short as one of [`crate::encode`].
+    /// frame is as short as one of [`crate::encode`] with the same predictors.
     ///
     /// # Errors
     /// The first of these that applies:
@@ -241,8 +257,8 @@ impl<W: Target + Drop> StreamEncoder<W> {
         let len = block_len(block) as u64;
         let Ok(frame) = block_bytes(
             self.alloc,
-            self.rate,
-            self.bits,
+            &self.format,
+            self.predictors.as_slice(),
             block,
             self.number,
             &mut self.buffers,
@@ -253,7 +269,7 @@ impl<W: Target + Drop> StreamEncoder<W> {
             Ok(()) => {
                 self.number += 1;
                 self.samples += len;
-                self.ended = len < self.block_size as u64;
+                self.ended = len < self.format.block_size as u64;
                 Ok(())
             }
             Err(_) => {

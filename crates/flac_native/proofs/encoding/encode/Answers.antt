@@ -1,12 +1,8 @@
 use Rattle.std.proofs.Common.{refl, sym, ◌∙◌, arith}
 use Rattle.flac_bits.specs.Bits.{bits_of}
 use Rattle.flac_native.proofs.Planned.{planned, block_small}
-use Rattle.flac_native.proofs.Rooms.{room_of}
 use Rattle.flac_native.proofs.Sendings.{given_encodes, all_sent, some_sent}
 use Rattle.flac_native.proofs.encoding.encode.Goals as goal
-
-pub send_stream-requires-clause-places : goal.send_stream-requires-clause-places
-send_stream-requires-clause-places g c = room_of c.args.plan.now c.args.audio.now _ _ _ _ c.in-Ok-new.ensures.counted c.in-Ok-room.ensures.places
 
 pub returns-in-Ok-send_stream-clause-written : goal.returns-in-Ok-send_stream-clause-written
 returns-in-Ok-send_stream-clause-written g c = λ known.

@@ -11,8 +11,9 @@ returns g c =
     let text : List Bool = head_spelling c.args.info (c.args.list.now ++ table_of c.args.points.items) in
     let lent = c.over.result in
     let back = c.into_target.result in
-    let w = c.write_head-outcome.new.writer in
-    let r = c.write_head-outcome.result in
+    let w = c.finish_head-outcome.new.writer in
+    let r = c.finish_head-outcome.result in
+    let all = c.finish_head-outcome.ensures in
     let first = lends_at t old lent.target.now lent.began.value lent.target.ghost_name c.new-writer.result c.over.ensures.target c.over.ensures.began c.new-writer.ensures in
     let last : Returns t back.began.value back.target.now back.target.ghost_name w = record {
       known = c.into_target.ensures.known;
@@ -20,6 +21,6 @@ returns g c =
       errors = c.into_target.ensures.errors;
       names = c.into_target.ensures.names;
     } in
-    let same = (same_lent t text old back.began.value back.target.now lent.target.ghost_name back.target.ghost_name c.new-writer.result w r first last c.write_head-outcome.ensures.writes).0 in
-    let sends = lent_sends t text old back.began.value back.target.now lent.target.ghost_name back.target.ghost_name c.new-writer.result w r first last c.write_head-outcome.ensures.writes c.write_head-outcome.ensures.sent in
+    let same = (same_lent t old back.began.value back.target.now lent.target.ghost_name back.target.ghost_name c.new-writer.result w first last all.names).0 in
+    let sends = lent_sends t text old back.began.value back.target.now lent.target.ghost_name back.target.ghost_name c.new-writer.result w r first last all in
     subst (λ n. SendsBits t text old n r) (search (rules, same)) sends

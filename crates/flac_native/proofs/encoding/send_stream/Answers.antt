@@ -1,23 +1,29 @@
-use Rattle.std.proofs.Common.{◌++◌, subst, sym}
-use Rattle.std.proofs.lemmas.Result.{err_from_is_err_and}
+use Rattle.std.proofs.Common.{rules, subst, ◌++◌, List, Bool}
 use Rattle.flac_bits.specs.Forms.{joined}
+use Rattle.flac_native.specs.Given.{info_of}
 use Rattle.flac_native.specs.Seeking.{table_of}
-use Rattle.flac_native.specs.Writing.{AreChoices}
-use Rattle.flac_native.proofs.Spelled.{bits_then, bits_fault}
+use Rattle.flac_native.specs.Writing.{head_spelling, SendsBits}
+use Rattle.flac_native.proofs.Lending.{lends_at, Returns, same_lent, lent_sends}
 use Rattle.flac_native.proofs.encoding.send_stream.Goals as goal
-
-pub send_frames-requires-clause-choices : goal.send_frames-requires-clause-choices
-send_frames-requires-clause-choices g c = subst (AreChoices c.args.plan.now c.args.audio.now) (sym c.as_slice.ensures.value) c.requires.choices
-
-pub returns-in_err-send_head : goal.returns-in_err-send_head
-returns-in_err-send_head g c =
-    let p = err_from_is_err_and c.from_residual.result c.from_residual.ensures.1 in
-    let room = c.requires.places in
-    let list = c.args.list.now ++ table_of c.args.frames.points.items in
-    rw (p.1, ← c.info-info.ensures) (room.frames, room.are, room.are_least, bits_fault g.W.Target (joined room.frames) c.in_err-send_head.ensures)
 
 pub returns : goal.returns
 returns g c =
-    let w = c.send_frames.ensures in
-    let list = c.args.list.now ++ table_of c.args.frames.points.items in
-    rw (← c.info-info.ensures) (w.0, w.1, w.2, bits_then g.W.Target c.send_frames.result c.in_ok-send_head.ensures w.3)
+    let t = g.W.Target in
+    let old = c.args.target.now in
+    let frames = c.args.frames in
+    let lent = c.over.result in
+    let back = c.into_target.result in
+    let w = c.write_stream-outcome.new.writer in
+    let r = c.write_stream-outcome.result in
+    let all = c.write_stream-outcome.ensures in
+    let text : List Bool = head_spelling (info_of c.args.plan.now c.args.audio.now frames.least frames.greatest) (c.args.list.now ++ table_of frames.points.items) ++ joined all.0 in
+    let first = lends_at t old lent.target.now lent.began.value lent.target.ghost_name c.new-writer.result c.over.ensures.target c.over.ensures.began c.new-writer.ensures in
+    let last : Returns t back.began.value back.target.now back.target.ghost_name w = record {
+      known = c.into_target.ensures.known;
+      sent = c.into_target.ensures.sent;
+      errors = c.into_target.ensures.errors;
+      names = c.into_target.ensures.names;
+    } in
+    let same = (same_lent t old back.began.value back.target.now lent.target.ghost_name back.target.ghost_name c.new-writer.result w first last all.3.names).0 in
+    let sends = lent_sends t text old back.began.value back.target.now lent.target.ghost_name back.target.ghost_name c.new-writer.result w r first last all.3 in
+    (all.0, all.1, all.2, subst (λ n. SendsBits t text old n r) (search (rules, same)) sends)

@@ -1,4 +1,3 @@
-use Rattle.std.proofs.Common.{◌≡◌}
 use Rattle.std.proofs.lemmas.Result.{err_from_is_err_and}
 use Rattle.flac_native.proofs.Rooms.{next_failed, next_written}
 use Rattle.flac_native.proofs.Spelled.{spelled_of}

@@ -1,4 +1,4 @@
-use Rattle.std.proofs.Common.{◌≡◌, ◌≤◌, ◌<◌, ◌-◌, ◌*◌, ◌+◌, ◌^◌, min, max, sym, ap, subst, ◌∙◌, ◌++◌, arith, ℕ, ℤ, List, length, None, refl}
+use Rattle.std.proofs.Common.{◌≡◌, ◌≤◌, ◌<◌, ◌-◌, ◌*◌, ◌+◌, ◌^◌, min, max, sym, ap, subst, ◌∙◌, arith, ℕ, List, length, None}
 use Rattle.std.proofs.Math.Nat.{mul-suc}
 use Rattle.std.proofs.lemmas.Bool.Decides.{nat_tests}
 use Rattle.std.proofs.lemmas.List.{length-map}
@@ -7,7 +7,6 @@ use Rattle.flac_meta.specs.declared.seek_table.SeekPoint.{SeekPoint}
 use Rattle.flac_meta.specs.declared.block.Block.TheVariants as block_of
 use Rattle.flac_frame.specs.Audio.{Sound, samples_each}
 use Rattle.flac_native.specs.Given.{Cut, blocks_in, sound_message}
-use Rattle.flac_native.specs.Seeking.{point_at}
 use Rattle.flac_native.specs.Writing.{AreChoices, AreCounted}
 use Rattle.flac_native.proofs.Messages.{fed_none, fed_more, fed_all}
 use Rattle.flac_native.proofs.Planned.{Planned, planned, fit, block_small}

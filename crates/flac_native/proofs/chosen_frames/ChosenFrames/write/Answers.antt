@@ -1,10 +1,10 @@
-use Rattle.std.proofs.Common.{◌≡◌, ◌≤◌, ◌<◌, ◌*◌, ◌^◌, ap, sym, subst, ◌∙◌, arith, ℕ}
+use Rattle.std.proofs.Common.{◌≡◌, ◌≤◌, ◌<◌, ◌*◌, ◌^◌, ap, sym, subst, ◌∙◌, arith}
 use Rattle.std.proofs.Math.Nat.{mul_comm}
 use Rattle.flac_frame.specs.Audio.{samples_each}
 use Rattle.flac_native.specs.Given.{blocks_in}
 use Rattle.flac_native.specs.Writing.{AreChoices}
 use Rattle.flac_native.proofs.Encoded.{least_part}
-use Rattle.flac_native.proofs.Planned.{planned, fit, block_small}
+use Rattle.flac_native.proofs.Planned.{planned, fit}
 use Rattle.flac_native.proofs.chosen_frames.ChosenFrames.write.Goals as goal
 
 pub overflow_mul-start : goal.overflow_mul-start

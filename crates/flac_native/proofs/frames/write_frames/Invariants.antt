@@ -1,15 +1,13 @@
-use Rattle.std.proofs.Common.{◌≡◌, ◌≤◌, ◌-◌, ◌*◌, min, length}
+use Rattle.std.proofs.Common.{◌≡◌, ◌≤◌, ◌-◌, ◌*◌, min}
 use Rattle.flac_frame.specs.Audio.{samples_each}
 use Rattle.flac_native.specs.Given.{blocks_in}
-use Rattle.flac_native.specs.Writing.{HasRoom}
-use Rattle.flac_native.proofs.Spelled.{SentFrames}
-use Rattle.flac_native.proofs.frames.send_frames.Given as goal
+use Rattle.flac_native.proofs.WrittenFrames.{WrittenFrames}
+use Rattle.flac_native.proofs.frames.write_frames.Given as goal
 
 abbrev pub invariant-loop-start : goal.invariant-loop-start
 invariant-loop-start g l = record {
-  sent : SentFrames g.W.Target l.plan l.audio l.number l.fn.target l.target;
+  written : WrittenFrames l.plan l.audio l.number l.fn.writer l.writer;
   buffers : l.buffers ≡ l.plan.block_size;
-  room : l.room.places ≡ l.fn.room.places;
   start : l.start ≡ min (samples_each l.audio.channels) (l.plan.block_size * l.number);
   few : l.number ≤ blocks_in l.plan.block_size (samples_each l.audio.channels);
 }

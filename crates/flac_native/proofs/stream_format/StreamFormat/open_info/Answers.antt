@@ -1,6 +1,6 @@
 use Rattle.std.proofs.Common.{arith}
 use Rattle.flac_native.proofs.Pushing.{shaped, keeps_open}
-use Rattle.flac_native.proofs.stream_encoder.open_info.Goals as goal
+use Rattle.flac_native.proofs.stream_format.StreamFormat.open_info.Goals as goal
 
 pub overflow_cast-size : goal.overflow_cast-size
 overflow_cast-size c = let q = shaped _ c.requires in omega (arith, q.small)

@@ -1,0 +1,90 @@
+-- Linear predictors that can be tried.
+use Rattle.std.proofs.Common.{◌≡◌, ℕ, ◌<◌, ◌≤◌, Bool, true, false, not, cond, ◌&&◌, nat_lt, nat_le, List, [], ◌∷◌, length, All, IsTrue, ◌↔◌, Some, None, refl, sym, ap, subst, ◌∙◌, inl, inr, Option, arith}
+use Rattle.std.specs.List.{list_all}
+use Rattle.std.proofs.lemmas.Bool.{cases_Bool}
+use Rattle.std.proofs.lemmas.Bool.Decides.{nat_tests}
+use Rattle.std.proofs.lemmas.List.Elements.{All-nil, All-cons, All-head, All-tail}
+use Rattle.flac_header.specs.declared.subset.Profile.{Profile}
+use Rattle.flac_header.specs.declared.subset.Profile.TheVariants.{Subset, Lax}
+use Rattle.flac_subframe.specs.Handed.{AreWithin}
+use Rattle.flac_subframe.specs.declared.linear.LinearPredictor.{LinearPredictor}
+use Rattle.flac_frame.specs.Encoding.{most_in}
+use Rattle.flac_frame.specs.Frame.{limits_at}
+use Rattle.flac_frame.specs.declared.setup.SetupFault.TheVariants.{PredictorOrder, TooManyPredictors}
+use Rattle.flac_native.specs.Given.{orders_fit, predictors_fault}
+
+-- ---- the orders
+
+abbrev IsWithin : ℕ → LinearPredictor → Type 0
+IsWithin n p = length p.coefficients.items ≤ n
+
+both : (a b : Bool) → (a && b) ≡ true → (a ≡ true) × (b ≡ true)
+both true b e = (refl, e)
+both false b e = absurd cc
+
+joined : (a b : Bool) → a ≡ true → b ≡ true → (a && b) ≡ true
+joined a b e f = rw (e, f) refl
+
+at_most : (a n : ℕ) → nat_le a n ≡ true → a ≤ n
+at_most a n e = grind (arith, nat_tests)
+
+is_most : (a n : ℕ) → a ≤ n → nat_le a n ≡ true
+is_most a n e = grind (arith, nat_tests)
+
+orders_are : (n : ℕ) (ps : List LinearPredictor) → orders_fit n ps ≡ true → AreWithin n ps
+orders_are n [] e = All-nil (IsWithin n)
+orders_are n (p ∷ ps) e = let b = both (nat_le (length p.coefficients.items) n) (orders_fit n ps) e in All-cons (IsWithin n) p ps (at_most (length p.coefficients.items) n b.0) (orders_are n ps b.1)
+
+orders_back : (n : ℕ) (ps : List LinearPredictor) → AreWithin n ps → orders_fit n ps ≡ true
+orders_back n [] h = refl
+orders_back n (p ∷ ps) h =
+    joined (nat_le (length p.coefficients.items) n) (orders_fit n ps) (is_most (length p.coefficients.items) n (All-head (IsWithin n) p ps h)) (orders_back n ps (All-tail (IsWithin n) p ps h))
+
+none_here : {A : Type 0} (b : Bool) (x : A) (rest : Option A) → cond b (Some x) rest ≡ None → (b ≡ false) × (rest ≡ None)
+none_here true x rest e = absurd cc
+none_here false x rest e = (refl, e)
+
+not_false : (b : Bool) → not b ≡ false → b ≡ true
+not_false true e = refl
+not_false false e = absurd cc
+
+-- what can be tried has orders that the profile allows
+pub within : (profile : Profile) (rate : ℕ) (ps : List LinearPredictor) → predictors_fault profile rate ps ≡ None → AreWithin (limits_at profile rate).linear ps
+unfolding predictors_fault
+within profile rate ps e =
+    let a = none_here (nat_lt 64 (length ps)) TooManyPredictors _ e in
+    let b = none_here (not (orders_fit (limits_at profile rate).linear ps)) PredictorOrder None a.1 in
+    orders_are (limits_at profile rate).linear ps (not_false _ b.0)
+
+-- ---- the tests
+
+module _ (profile : Profile) (rate : ℕ) (ps : List LinearPredictor) where
+  pub too_many : 64 < length ps → Some TooManyPredictors ≡ predictors_fault profile rate ps
+  unfolding predictors_fault
+  too_many h = let e : nat_lt 64 (length ps) ≡ true = grind (arith, nat_tests) in rw e refl
+
+  few_enough : length ps ≤ 64 → nat_lt 64 (length ps) ≡ false
+  few_enough h = grind (arith, nat_tests)
+
+  pub too_large : length ps ≤ 64 → (limit : ℕ) (r : Bool) → limit ≡ (limits_at profile rate).linear → IsTrue r ↔ AreWithin limit ps → r ≡ false → Some PredictorOrder ≡ predictors_fault profile rate ps
+  unfolding predictors_fault
+  too_large few limit r is test wrong = elim (cases_Bool (orders_fit (limits_at profile rate).linear ps)) [
+    | inl e ↦
+        let right : r ≡ true = test.1 (subst (λ n. AreWithin n ps) (sym is) (orders_are (limits_at profile rate).linear ps e)) in
+        absurd cc
+    | inr e ↦ let f : nat_lt 64 (length ps) ≡ false = few_enough few in rw (f, e) refl
+  ]
+
+  pub can_be_tried : length ps ≤ 64 → (limit : ℕ) (r : Bool) → limit ≡ (limits_at profile rate).linear → IsTrue r ↔ AreWithin limit ps → r ≡ true → None ≡ predictors_fault profile rate ps
+  unfolding predictors_fault
+  can_be_tried few limit r is test right =
+      let e : orders_fit (limits_at profile rate).linear ps ≡ true = orders_back (limits_at profile rate).linear ps (subst (λ n. AreWithin n ps) is (test.0 right)) in
+      let f : nat_lt 64 (length ps) ≡ false = few_enough few in
+      rw (f, e) refl
+
+-- ---- the partition orders
+
+-- a profile allows the same partition orders at each rate
+pub partition_is : (profile : Profile) (rate : ℕ) → (limits_at profile rate).partition ≡ most_in profile
+partition_is Subset rate = refl
+partition_is Lax rate = refl
