@@ -15,6 +15,7 @@ use Rattle.flac_cli.specs.Predictors.{AreListed}
 use Rattle.flac_cli.specs.Raw.{IsRaw}
 use Rattle.flac_cli.specs.Samples.{all_samples}
 use Rattle.flac_cli.specs.Streams.{profile_of}
+use Rattle.flac_cli.specs.declared.runs.Task.{Task}
 use Rattle.flac_jobs.specs.declared.formats.Container.{Container}
 use Rattle.flac_jobs.specs.declared.formats.Container.TheVariants as container
 use Rattle.flac_jobs.specs.declared.jobs.Job.{Job}
@@ -54,10 +55,13 @@ pub record EncodesRaw (asked : Asked) (bytes : List ℕ) (before after : List Bo
   pub back : all_samples 0 (parts_in asked.container (cut_as asked audio predictors) (comment_list asked.words) audio before after encodes) ≡ bytes
 
 -- what a job asks for whose list has this text, if it is an encoding
-abbrev pub asked_by : Job → (list : List ℕ) → Option Asked
-asked_by (job.Encode input output format c comments lax predictors) list =
+abbrev pub asked_for : Job → (list : List ℕ) → Option Asked
+asked_for (job.Encode input output format c comments lax predictors) list =
     Some (record { profile = profile_of lax; format = format; container = c; words = map (λ w. w.now) comments.items; list = list })
-asked_by other list = None
+asked_for other list = None
+
+abbrev pub asked_by : Task → Option Asked
+asked_by task = asked_for task.job.now task.list.now
 
 -- so it is where the job is an encoding
 abbrev pub HasEncoded : Option Asked → (bytes : List ℕ) → (before after : List Bool) → Type 0

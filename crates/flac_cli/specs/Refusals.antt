@@ -24,6 +24,8 @@ use Rattle.flac_cli.specs.Encoded.{comment_list, cut_as}
 use Rattle.flac_cli.specs.Predictors.{predictors_in, AreListed}
 use Rattle.flac_cli.specs.Raw.{raw_channels, raw_sound}
 use Rattle.flac_cli.specs.declared.encoding.Refusal.{Refusal}
+use Rattle.flac_cli.specs.declared.predictors.ListFault.{ListFault}
+use Rattle.flac_cli.specs.declared.predictors.ListFault.TheVariants as faults
 use Rattle.flac_cli.specs.declared.encoding.Refusal.TheVariants.{Input, Setup, RawLength, Line, Output}
 use Rattle.flac_jobs.specs.declared.formats.Format.{Format}
 use Rattle.flac_jobs.specs.declared.formats.Container.{Container}
@@ -72,6 +74,11 @@ text_of (Setup fault) = setup.text_of fault
 text_of RawLength = codes "48 RawLength"
 text_of (Line number) = codes "53 PredictorLine"
 text_of (Output fault) = numbers.text_of fault
+
+-- why an encoding is refused whose list is
+abbrev pub refusal_of : ListFault → Refusal
+refusal_of faults.Memory = Input why.Memory
+refusal_of (faults.Line number) = Line number
 
 -- no fault of what was asked for: out of memory, or the target failed
 abbrev pub IsOutside : Refusal → Type 0

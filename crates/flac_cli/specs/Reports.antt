@@ -1,9 +1,11 @@
 -- What the program reports of an encoding.
-use Rattle.std.specs.Prelude.{◌≡◌, ◌⊎◌, ℕ, true, List, ◌++◌, codes, decimal, Option, Some, None, unwrap_or}
+use Rattle.std.specs.Prelude.{◌≡◌, ◌⊎◌, ℕ, true, List, ◌++◌, codes, Option, Some, None, unwrap_or}
 use Rattle.flac_bits.specs.declared.target.Target as target
 use Rattle.flac_frame.specs.declared.setup.SetupFault.TheVariants as setup
 use Rattle.flac_native.specs.declared.encode_fault.EncodeFault.TheVariants as encode
 use Rattle.flac_cli.specs.Asked.{Asked}
+use Rattle.flac_cli.specs.Lined.{text_at}
+use Rattle.flac_cli.specs.declared.lines.At.TheVariants as at
 use Rattle.flac_cli.specs.Refusals.{IsReason, text_of}
 use Rattle.flac_cli.specs.declared.encoding.Refusal.{Refusal}
 use Rattle.flac_cli.specs.declared.encoding.Refusal.TheVariants.{Setup, Line, Output}
@@ -30,7 +32,7 @@ path_of files other = files.input
 
 -- the reason as it is printed: after the number of its line, if it has one
 abbrev pub line_text : Refusal → List ℕ
-line_text (Line number) = codes "line " ++ (decimal number ++ (codes ": " ++ text_of (Line number)))
+line_text (Line number) = text_at (at.Line number) (text_of (Line number))
 line_text other = text_of other
 
 -- the target tells its bytes, and answered no error in the call

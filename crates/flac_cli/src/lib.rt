@@ -17,4 +17,4 @@ mod samples;
 mod texts;
 
 pub use flac_jobs::{Container, Format, Job, LineFault};
-pub use runs::run;
+pub use runs::{Task, run};
