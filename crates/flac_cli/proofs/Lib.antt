@@ -2,6 +2,7 @@ pub mod Back
 pub mod Counting
 pub mod Failed
 pub mod Lined
+pub mod Listed
 pub mod Outcomes
 pub mod Refused
 pub mod Reported
