@@ -5,23 +5,18 @@ use Rattle.std.proofs.lemmas.Grind.{flat_map-append}
 use Rattle.flac_subframe.specs.declared.linear.LinearPredictor.{LinearPredictor}
 use Rattle.flac_subframe.specs.Handed.{AreWithin}
 use Rattle.flac_bits.specs.Signed.{FitsBits}
-use Rattle.flac_bits.specs.Written.{Written, Adds, Fails, Writes}
-use Rattle.flac_bits.specs.declared.why.Why.{Why}
-use Rattle.flac_header.specs.Header.{Header}
-use Rattle.flac_header.specs.Spelling.{header_spelling, restarted}
 use Rattle.flac_subframe.specs.declared.wide.WideChoice.{WideChoice}
 use Rattle.flac_subframe.specs.declared.limits.Limits.{Limits}
 use Rattle.flac_subframe.specs.Family.{IsMadeIn, form_in}
 use Rattle.flac_subframe.specs.Spelling.{subframe_spelling, IsSubframe}
 use Rattle.flac_subframe.specs.Subframe.{Form, samples_of}
 use Rattle.flac_frame.specs.Chosen.{forms_of, AreMade, AreChosen}
-use Rattle.flac_frame.specs.Encoding.{block_of, AreForms, AreLeast, IsLeastFor, behind_header}
+use Rattle.flac_frame.specs.Encoding.{block_of, AreForms, AreLeast, IsLeastFor}
 use Rattle.flac_frame.specs.Frame.{side_bit}
 use Rattle.flac_frame.specs.Spelling.{subframes_spelling}
 use Rattle.flac_frame.specs.Stereo.{side_of, middle_of}
-use Rattle.flac_frame.proofs.Encoded.{forms-append, least-append, failed}
+use Rattle.flac_frame.proofs.Encoded.{forms-append, least-append}
 use Rattle.flac_frame.proofs.Pairs.{side_fits, middle_fits}
-use Rattle.flac_frame.proofs.Wholes.{first_fails}
 
 -- ---- one more
 
@@ -128,6 +123,12 @@ module _ (ps : List LinearPredictor) {V : Type 0} (items : V → List ℤ) (dept
 
   pub text_last : (i : ℕ) → length xs ≤ i → text_behind i ≡ []
   text_last i h = ap (λ ys. flat_map (subframe_spelling depth) (forms_of ps (drop i cs) (block_of start size (map items ys)))) (drop_none xs i h)
+
+-- the texts of all, whose choices and channels are the same, at a depth that is the same
+pub texts_same : (ps : List LinearPredictor) (depth own start size : ℕ) (cs items : List WideChoice) (xs channels : List (List ℤ)) → depth ≡ own → cs ≡ items → xs ≡ channels
+    → flat_map (subframe_spelling depth) (forms_of ps cs (block_of start size xs)) ≡ flat_map (subframe_spelling own) (forms_of ps items (block_of start size channels))
+texts_same ps depth own start size cs items xs channels d c x =
+    ap (λ k. flat_map (subframe_spelling k) (forms_of ps cs (block_of start size xs))) d ∙ ap (λ k. flat_map (subframe_spelling own) (forms_of ps k (block_of start size xs))) c ∙ ap (λ k. flat_map (subframe_spelling own) (forms_of ps items (block_of start size k))) x
 
 -- ---- two subframes
 

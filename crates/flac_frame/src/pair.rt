@@ -15,7 +15,7 @@ ghost use Rattle.flac_frame.specs.Stereo.{side_of, middle_of, kept_as};
 
 use crate::audio::Audio;
 use crate::channels::side_bit;
-use crate::encode::widen;
+use crate::encode::{part_of, widen};
 use crate::frame_choice::FrameChoice;
 use crate::pair_choices::PairChoices;
 use crate::plane::choose_plane;
@@ -134,14 +134,6 @@ fn choose_planes(
         choices.side.bits(),
         choices.middle.bits(),
     )
-}
-
-/// `size` samples of a channel from `start` on.
-fn part_of(channel: &[i32], start: usize, size: usize) -> &[i32]
-    requires { start + size ≤ length channel.now }
-    ensures { result.now ≡ take size (drop start channel.now) }
-{
-    &channel[start..start + size]
 }
 
 /// Puts samples of two channels from `start` on into places, and their side and middle.
