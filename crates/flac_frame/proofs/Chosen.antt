@@ -5,23 +5,18 @@ use Rattle.std.proofs.lemmas.Grind.{flat_map-append}
 use Rattle.flac_subframe.specs.declared.linear.LinearPredictor.{LinearPredictor}
 use Rattle.flac_subframe.specs.Handed.{AreWithin}
 use Rattle.flac_bits.specs.Signed.{FitsBits}
-use Rattle.flac_bits.specs.Written.{Written, Adds, Fails, Writes}
-use Rattle.flac_bits.specs.declared.why.Why.{Why}
-use Rattle.flac_header.specs.Header.{Header}
-use Rattle.flac_header.specs.Spelling.{header_spelling, restarted}
 use Rattle.flac_subframe.specs.declared.wide.WideChoice.{WideChoice}
 use Rattle.flac_subframe.specs.declared.limits.Limits.{Limits}
 use Rattle.flac_subframe.specs.Family.{IsMadeIn, form_in}
 use Rattle.flac_subframe.specs.Spelling.{subframe_spelling, IsSubframe}
 use Rattle.flac_subframe.specs.Subframe.{Form, samples_of}
 use Rattle.flac_frame.specs.Chosen.{forms_of, AreMade, AreChosen}
-use Rattle.flac_frame.specs.Encoding.{block_of, AreForms, AreLeast, IsLeastFor, behind_header}
+use Rattle.flac_frame.specs.Encoding.{block_of, AreForms, AreLeast, IsLeastFor}
 use Rattle.flac_frame.specs.Frame.{side_bit}
 use Rattle.flac_frame.specs.Spelling.{subframes_spelling}
 use Rattle.flac_frame.specs.Stereo.{side_of, middle_of}
-use Rattle.flac_frame.proofs.Encoded.{forms-append, least-append, failed}
+use Rattle.flac_frame.proofs.Encoded.{forms-append, least-append}
 use Rattle.flac_frame.proofs.Pairs.{side_fits, middle_fits}
-use Rattle.flac_frame.proofs.Wholes.{first_fails}
 
 -- ---- one more
 

@@ -44,13 +44,6 @@ header_stops h parts old new e fails = fails_first (header_spelling h) (parts ++
 pub parts_stop : (h : Header) (parts : List Bool) (old mid new : Written) (e : Why) → Adds (header_spelling h) (restarted old) mid → Fails (mid.bits ++ parts) mid new e → Writes (behind_header h parts old.mark) (restarted old) new (failed e)
 parts_stop h parts old mid new e adds fails = fails_then _ adds (fails_first parts _ fails)
 
--- one of two subframes was not written
-pub first_fails : (h : Header) (a b : List Bool) (old mid new : Written) (e : Why) → Adds (header_spelling h) (restarted old) mid → Fails (mid.bits ++ a) mid new e → Writes (behind_header h (a ++ b) old.mark) (restarted old) new (failed e)
-first_fails h a b old mid new e adds fails = fails_then _ adds (fails_first (a ++ b) _ (fails_first a b fails))
-
-pub second_fails : (h : Header) (a b : List Bool) (old mid end new : Written) (e : Why) → Adds (header_spelling h) (restarted old) mid → Adds a mid end → Fails (end.bits ++ b) end new e → Writes (behind_header h (a ++ b) old.mark) (restarted old) new (failed e)
-second_fails h a b old mid end new e adds first fails = fails_then _ adds (fails_first (a ++ b) _ (fails_then b first fails))
-
 -- it is the spelling of a frame
 pub text_is : (depth : ℕ) (h : Header) (parts : List Bool) (fs : List Form) (m : Mark) → m.unread ≡ 0 → parts ≡ subframes_spelling depth h.channel_code 0 fs → behind_header h parts m ≡ frame_spelling depth (record { header = h; subframes = fs })
 unfolding frame_spelling

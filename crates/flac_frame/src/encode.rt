@@ -280,10 +280,12 @@ pub fn choose_frame(
     ensures places { HasPlaces (length audio.now.channels) buffers.old.most choice.new }
     ensures many { length choice.new.subframes.items ≡ length choice.old.subframes.items }
 {
+    let _places = buffers.places.len();
+    let first = range.start;
     let subject = Subject {
         audio,
-        start: range.start,
-        size: range.end - range.start,
+        start: first,
+        size: range.end - first,
         number,
         predictors,
     };
@@ -326,10 +328,12 @@ pub fn write_frame<W: Target>(
     ensures kept { buffers.new ≡ buffers.old }
     ensures wrote { WritesFrameWith predictors.now audio.now (range.end - range.start) number (block_of range.start (range.end - range.start) audio.now.channels) writer.old writer.new result }
 {
+    let _places = buffers.places.len();
+    let begin = range.start;
     let subject = Subject {
         audio,
-        start: range.start,
-        size: range.end - range.start,
+        start: begin,
+        size: range.end - begin,
         number,
         predictors,
     };
@@ -397,10 +401,13 @@ pub fn encode_frame_with<W: Target>(
 {
     let _channels = audio.channels();
     let before = writer.bytes_written();
+    let _places = buffers.places.len();
+    let start = range.start;
+    let size = range.end - range.start;
     let subject = Subject {
         audio,
-        start: range.start,
-        size: range.end - range.start,
+        start,
+        size,
         number,
         predictors,
     };

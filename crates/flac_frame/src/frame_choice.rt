@@ -132,10 +132,10 @@ impl FrameChoice {
         ensures many { IfOk result (λ c. length c.subframes.items ≡ length self.now.subframes.items) }
         ensures memory { IfErr result (λ e. e ≡ Why.Memory) }
     {
-        let channels = self.subframes.len();
-        let mut subframes = Vec::with_capacity(alloc, channels)?;
-        for channel in 0..channels {
-            subframes.push(self.subframes[channel].kept(alloc)?)?;
+        let own = self.subframes.as_slice();
+        let mut subframes = Vec::with_capacity(alloc, own.len())?;
+        for channel in 0..own.len() {
+            subframes.push(own[channel].kept(alloc)?)?;
         }
         Ok(FrameChoice {
             code: self.code,

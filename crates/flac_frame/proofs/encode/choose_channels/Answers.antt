@@ -5,7 +5,6 @@ use Rattle.std.proofs.lemmas.Nat.{mul-le}
 use Rattle.flac_bits.specs.Signed.{FitsBits}
 use Rattle.flac_subframe.specs.Family.{form_in}
 use Rattle.flac_subframe.specs.Handed.{AreWithin}
-use Rattle.flac_subframe.specs.Room.{Room}
 use Rattle.flac_subframe.specs.Spelling.{subframe_spelling}
 use Rattle.flac_subframe.specs.declared.wide.WideChoice.{WideChoice}
 use Rattle.flac_frame.specs.Chosen.{forms_of, AreChosen}

@@ -1,10 +1,8 @@
-use Rattle.std.proofs.Common.{◌≡◌, ◌∙◌, ◌+◌, ◌≤◌, [], ◌∷◌, ap, sym, subst, All, arith}
+use Rattle.std.proofs.Common.{[], ◌∷◌, sym, subst, arith}
 use Rattle.std.proofs.lemmas.Result.{err_from_is_err_and}
-use Rattle.flac_bits.specs.Signed.{FitsBits}
 use Rattle.flac_bits.specs.Written.{Writes}
 use Rattle.flac_bits.proofs.Writing.{fails_first, writes_then}
 use Rattle.flac_frame.specs.Chosen.{AreMade}
-use Rattle.flac_frame.specs.Frame.{side_bit}
 use Rattle.flac_frame.proofs.Chosen.{first_made, second_made, pair_texts}
 use Rattle.flac_frame.proofs.Encoded.{failed}
 use Rattle.flac_frame.proofs.Sounds.{depth_small}
