@@ -12,7 +12,7 @@ use Rattle.flac_frame.specs.Encoding.{IsEncoding, IsLeastWith, block_of}
 use Rattle.flac_frame.specs.Spelling.{frame_spelling}
 use Rattle.flac_frame.specs.declared.frame_choice.FrameChoice.{FrameChoice}
 use Rattle.flac_native.specs.Given.{Cut, blocks_in, size_of, frame_of}
-use Rattle.flac_native.specs.Writing.{SpellsFrame, SpellsLeast, AreSizes, AreCounted, IsChoiceOf, AreChoices}
+use Rattle.flac_native.specs.Writing.{SpellsFrame, SpellsLeast, AreSizes, AreCounted, IsChoiceOf, AreChoices, IsKept}
 use Rattle.flac_native.specs.Seeking.{point_at, points_of}
 use Rattle.flac_native.proofs.Encoded.{least_part, all_parts}
 use Rattle.flac_native.proofs.Tables.{bytes_of, bytes_more, points_more}
@@ -119,6 +119,16 @@ pub choice_back : (p : Cut) (a : Sound) (number start n : ℕ) (c : FrameChoice)
     → IsChoiceWith p.predictors a (size_of p.block_size (samples_each a.channels) number) number (block_of (p.block_size * number) (size_of p.block_size (samples_each a.channels) number) a.channels) c → IsChoiceWith p.predictors a n number (block_of start n a.channels) c
 choice_back p a number start n c start_is n_is is =
     subst (λ k. IsChoiceWith p.predictors a n number (block_of k n a.channels) c) (sym start_is) (subst (λ k. IsChoiceWith p.predictors a k number (block_of (p.block_size * number) k a.channels) c) (sym n_is) is)
+
+-- what is kept of a choice is a choice of the same frame
+pub kept_choice : (p : Cut) (a : Sound) (number : ℕ) (c kept : FrameChoice) → IsKept c kept → IsChoiceOf p a number c → IsChoiceOf p a number kept
+kept_choice p a number c kept k is = record {
+  chosen = k.same p.predictors a (frame_of p.block_size a number).size number (frame_of p.block_size a number).channels is.chosen;
+  places = omega (arith, k.many, is.places);
+}
+
+pub itself : (c : FrameChoice) → IsKept c c
+itself c = record { same = λ ps a size number block is. is; many = refl }
 
 pub gathered_more : (p : Cut) (a : Sound) (number offset least greatest bytes start n : ℕ) (c : FrameChoice) (points more : List SeekPoint) → Gathered p a number offset least greatest points
     → more ≡ points ++ point_at p number offset → start ≡ p.block_size * number → n ≡ size_of p.block_size (samples_each a.channels) number

@@ -56,6 +56,11 @@ within profile rate ps e =
     let b = none_here (not (orders_fit (limits_at profile rate).linear ps)) PredictorOrder None a.1 in
     orders_are (limits_at profile rate).linear ps (not_false _ b.0)
 
+-- an empty list can always be tried
+pub none_tried : (profile : Profile) (rate : ℕ) (ps : List LinearPredictor) → ps ≡ [] → predictors_fault profile rate ps ≡ None
+unfolding predictors_fault
+none_tried profile rate ps is = rw is refl
+
 -- ---- the tests
 
 module _ (profile : Profile) (rate : ℕ) (ps : List LinearPredictor) where

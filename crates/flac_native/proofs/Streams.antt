@@ -28,7 +28,8 @@ use Rattle.flac_header.specs.declared.subset.Profile.{Profile}
 use Rattle.flac_frame.specs.Audio.{Sound, samples_each}
 use Rattle.flac_native.specs.Decoding.{beginning}
 use Rattle.flac_native.specs.Message.{rows_bytes, sample_width}
-use Rattle.flac_native.specs.Stream.{Piece, marked, block, framed, Stand, Progress, opening, layout, layout_in, marker, next, raised, phase_behind, end_rules, is_unknown, may_end_in}
+use Rattle.flac_bits.specs.Items.{Stream}
+use Rattle.flac_native.specs.Stream.{Piece, marked, block, framed, Stand, Progress, grammar, opening, layout, layout_in, marker, next, raised, phase_behind, end_rules, is_unknown, may_end_in}
 use Rattle.flac_native.specs.declared.phase.Phase.{Phase}
 use Rattle.flac_native.specs.declared.phase.Phase.TheVariants.{Opening, Blocks, Frames}
 use Rattle.md5.specs.Md5.{md5}
