@@ -140,10 +140,10 @@ module _ (s : FlacProvedSettings) (samples : List ℤ) (n : ℕ) where
     unfolding samples_fault
     bad_length part is = rw (counts_fit s.channels some few, ne_eqb (length samples % s.channels) 0 part, is) refl
 
-    pub bad_samples : (f : SetupFault) (channels : List (List ℤ)) → length samples % s.channels ≡ 0 → channels ≡ (sound_of s samples).channels → audio_fault s.rate s.bits channels ≡ Some f
+    pub bad_samples : (f : SetupFault) (channels : List (List ℤ)) → length samples % s.channels ≡ 0 → channels ≡ (sound_of s samples).channels → audio_fault Subset s.rate s.bits channels ≡ Some f
         → n ≡ setup.number_of f → option_map setup.number_of (samples_fault s samples) ≡ Some n
     unfolding samples_fault
     bad_samples f channels whole are bad is =
         let all : nat_eq (length samples % s.channels) 0 ≡ true = rw whole refl in
-        let fault : audio_fault s.rate s.bits (sound_of s samples).channels ≡ Some f = subst (λ l. audio_fault s.rate s.bits l ≡ Some f) are bad in
+        let fault : audio_fault Subset s.rate s.bits (sound_of s samples).channels ≡ Some f = subst (λ l. audio_fault Subset s.rate s.bits l ≡ Some f) are bad in
         rw (counts_fit s.channels some few, all, fault, is) refl

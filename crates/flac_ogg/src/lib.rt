@@ -32,6 +32,7 @@ mod packet_bytes;
 mod packets;
 mod parts;
 mod places;
+mod predictors;
 mod pushed_block;
 mod round_trip;
 mod sending;
@@ -48,7 +49,8 @@ pub use flac_meta::{
     Picture, SeekPoint, SeekTable, StreamInfo, Texts,
 };
 pub use flac_native::{
-    Decoder, EncodeFault, Fault, Item, Place, Plan, Profile, Sink, SinkFault, decode,
+    Decoder, EncodeFault, Fault, Item, LinearPredictor, Place, Plan, Profile, Sink, SinkFault,
+    decode,
 };
 pub use flac_pages::{PacketBytes, Pages};
 pub use laws::{
