@@ -3,8 +3,8 @@ use Rattle.std.proofs.lemmas.Bool.Decides.{nat_tests}
 use Rattle.flac_native.proofs.Gathered.{itself}
 use Rattle.flac_native.proofs.chosen_frames.keep.Goals as goal
 
-pub returns-then-choices-ge-most-clause-kept : goal.returns-then-choices-ge-most-clause-kept
-returns-then-choices-ge-most-clause-kept c =
+pub returns-then-len-most-clause-kept : goal.returns-then-len-most-clause-kept
+returns-then-len-most-clause-kept c =
     let old = c.args.choices.now.items in
     let over : nat_lt (length old) c.args.most ≡ false = grind (arith, nat_tests) in
     (c.args.choice.now, itself c.args.choice.now, ap (λ b. cond b (old ++ c.args.choice.now ∷ []) old) (sym over))

@@ -86,7 +86,7 @@ frame_bytes-bytes-requires-clause-few c =
     omega (arith, c.min.ensures, c.block_size-size.ensures.value, block_small p (planned p c.block_size-size.ensures.good))
 
 pub frame_bytes-bytes-requires-clause-chosen : goal.frame_bytes-bytes-requires-clause-chosen
-frame_bytes-bytes-requires-clause-chosen c = (_, (_, c.choose_frame.ensures.chosen))
+frame_bytes-bytes-requires-clause-chosen c = (_, _, c.choose_frame.ensures.chosen)
 
 pub overflow_add-offset : goal.overflow_add-offset
 overflow_add-offset c =
