@@ -9,9 +9,10 @@ use Rattle.flac_bits.specs.declared.why.Why.TheVariants as why
 use Rattle.flac_meta.specs.Listed.{list_fault, info_seen}
 use Rattle.flac_meta.specs.declared.block.Block.{Block}
 use Rattle.flac_frame.specs.Audio.{Sound, audio_fault}
+use Rattle.flac_header.specs.declared.subset.Profile.TheVariants.{Subset}
 use Rattle.flac_frame.specs.Setup as setup
 use Rattle.flac_frame.specs.declared.setup.SetupFault.{SetupFault}
-use Rattle.flac_frame.specs.declared.setup.SetupFault.TheVariants.{BadRate, BadDepth, BadChannels, LengthsDiffer, SampleTooLarge, TooLong, BadBlockSize, TooManyPoints}
+use Rattle.flac_frame.specs.declared.setup.SetupFault.TheVariants.{BadRate, BadDepth, BadChannels, LengthsDiffer, SampleTooLarge, TooLong, BadBlockSize, TooManyPoints, PredictorOrder, TooManyPredictors}
 use Rattle.flac_native.specs.Given.{Cut, plan_fault}
 use Rattle.flac_native.specs.Numbers.{fault_number, is_of_whole}
 use Rattle.flac_native.specs.declared.encode_fault.EncodeFault.{EncodeFault}
@@ -32,6 +33,8 @@ some_setup SampleTooLarge = omega arith
 some_setup TooLong = omega arith
 some_setup BadBlockSize = omega arith
 some_setup TooManyPoints = omega arith
+some_setup PredictorOrder = omega arith
+some_setup TooManyPredictors = omega arith
 
 pub some_encode : (e : EncodeFault) → 1 ≤ fault_number e
 some_encode Memory = omega arith

@@ -47,9 +47,9 @@ use Rattle.flac_ogg.specs.Headers.{AreHeaders}
 use Rattle.flac_ogg.specs.Listed.{texts_of}
 use Rattle.flac_ogg.specs.Mapping.{is_first_block, packet_layout}
 use Rattle.flac_ogg.specs.Native.{mapping_spelling, block_spellings, packet_spellings, native_text, AreStream}
-use Rattle.flac_ogg.specs.Pushing.{ArePages, PushedOgg, StandsForOgg, Opens, IsNextPacket, PushesOgg, BeginsPushOgg}
+use Rattle.flac_ogg.specs.Pushing.{ArePages, PushedOgg, trying_ogg, StandsForOgg, Opens, IsNextPacket, PushesOgg, BeginsPushOgg}
 use Rattle.flac_ogg.specs.Stream.{start, packet_start, closed_packet, AreItems, OggStream}
-use Rattle.flac_ogg.specs.Writing.{header_count, frame_at, IsFrameText}
+use Rattle.flac_ogg.specs.Writing.{header_count}
 use Rattle.flac_ogg.specs.declared.headers.Headers.{Headers}
 use Rattle.flac_ogg.proofs.Headed.{alone}
 use Rattle.flac_ogg.proofs.NativeBlocks.{ArePacked, are_items, packed_later, head_packed}
@@ -76,6 +76,19 @@ stands_for e items q qs written pages plain subset are good small long =
       small = small;
       first = (q, qs, refl, long);
     }
+
+-- so they are whatever predictors are tried next
+pub stands_trying : {S : Type 0} (e : PushedOgg S) (ps : List LinearPredictor) (items : List Piece) (packets : List Placed) (written : List Bool) → StandsForOgg e items packets written → StandsForOgg (trying_ogg e ps) items packets written
+stands_trying e ps items packets written h = record {
+  subset = h.subset;
+  pages = h.pages;
+  stream = h.stream;
+  plain = record { stream = h.plain.stream; info = h.plain.info; frames = h.plain.frames; samples = h.plain.samples; before = h.plain.before };
+  are = h.are;
+  good = h.good;
+  small = h.small;
+  first = h.first;
+}
 
 -- ---- the head
 

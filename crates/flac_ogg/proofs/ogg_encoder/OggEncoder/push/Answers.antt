@@ -126,7 +126,8 @@ returns-in-Ok-send_all-clause-written g c =
     let new : PushedOgg g.row.W.Denot = record { pushed = behind_block old.pushed c.block_len-len.result t; serial = old.serial; sequence = h.next; middle = h.middle.items; last = h.last.items } in
     let pushed : new.pushed ≡ behind_block old.pushed (samples_each block) t = ap (λ n. behind_block old.pushed n t) c.block_len-len.ensures in
     let frame = subst (λ p. SpellsFrame (sound_of old.pushed.shape block) (frame_with old.pushed.number block) (bits_of p)) (sym c.as_slice-2.ensures.value) c.in-Ok.ensures.frame in
-    let least = subst (λ p. SpellsLeast old.pushed.predictors (sound_of old.pushed.shape block) (frame_with old.pushed.number block) (bits_of p)) (sym c.as_slice-2.ensures.value) c.in-Ok.ensures.least in
+    let tried = subst (λ (ps : List LinearPredictor). SpellsLeast ps (sound_of old.pushed.shape block) (frame_with old.pushed.number block) (bits_of c.in-Ok.packet.items)) c.as_slice.ensures.value c.in-Ok.ensures.least in
+    let least = subst (λ p. SpellsLeast old.pushed.predictors (sound_of old.pushed.shape block) (frame_with old.pushed.number block) (bits_of p)) (sym c.as_slice-2.ensures.value) tried in
     let middle = c.in-Ok-hold_frame.ensures.middle ∙ ap (λ n. packet_spelling (record { serial = old.serial; sequence = old.sequence; kind = Frame (old.pushed.samples + n); first = false; last = false }) packet) c.block_len-len.ensures in
     let last = c.in-Ok-hold_frame.ensures.last ∙ ap (λ n. packet_spelling (record { serial = old.serial; sequence = old.sequence; kind = Frame (old.pushed.samples + n); first = false; last = true }) packet) c.block_len-len.ensures in
     rw (← c.self.view_is) (λ known.
@@ -169,7 +170,8 @@ returns-clause-begun g c =
     let new : PushedOgg g.row.W.Denot = record { pushed = behind_block old.pushed c.block_len-len.result t; serial = old.serial; sequence = h.next; middle = h.middle.items; last = h.last.items } in
     let pushed : new.pushed ≡ behind_block old.pushed (samples_each block) t = ap (λ n. behind_block old.pushed n t) c.block_len-len.ensures in
     let frame = subst (λ p. SpellsFrame (sound_of old.pushed.shape block) (frame_with old.pushed.number block) (bits_of p)) (sym c.as_slice-2.ensures.value) c.in-Ok.ensures.frame in
-    let least = subst (λ p. SpellsLeast old.pushed.predictors (sound_of old.pushed.shape block) (frame_with old.pushed.number block) (bits_of p)) (sym c.as_slice-2.ensures.value) c.in-Ok.ensures.least in
+    let tried = subst (λ (ps : List LinearPredictor). SpellsLeast ps (sound_of old.pushed.shape block) (frame_with old.pushed.number block) (bits_of c.in-Ok.packet.items)) c.as_slice.ensures.value c.in-Ok.ensures.least in
+    let least = subst (λ p. SpellsLeast old.pushed.predictors (sound_of old.pushed.shape block) (frame_with old.pushed.number block) (bits_of p)) (sym c.as_slice-2.ensures.value) tried in
     let middle = c.in-Ok-hold_frame.ensures.middle ∙ ap (λ n. packet_spelling (record { serial = old.serial; sequence = old.sequence; kind = Frame (old.pushed.samples + n); first = false; last = false }) packet) c.block_len-len.ensures in
     let last = c.in-Ok-hold_frame.ensures.last ∙ ap (λ n. packet_spelling (record { serial = old.serial; sequence = old.sequence; kind = Frame (old.pushed.samples + n); first = false; last = true }) packet) c.block_len-len.ensures in
     let now : PushedOgg g.row.W.Denot = record { pushed = spent_with old.pushed t; serial = old.serial; sequence = old.sequence; middle = old.middle; last = old.last } in
