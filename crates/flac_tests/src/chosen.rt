@@ -4,12 +4,13 @@ ghost use Rattle.std.specs.Prelude.{◌≡◌, true};
 ghost use Rattle.flac_native.specs.Given.{fits_plan, room_of};
 
 use crate::ogg::sample;
+use crate::predicted::{list_of, wave};
 use flac_bits::{Target, send_all};
 use flac_frame::{Audio, EncodeBuffers};
-use flac_native::{ChosenFrames, Plan, Room, Why};
-use flac_vectors::ONE_SAMPLE;
+use flac_native::{ChosenFrames, Plan, Profile, Room, Why};
+use flac_vectors::{ONE_SAMPLE, WAVE, WAVE_PREDICTED};
 use std::alloc::Global;
-use std::process::Abort;
+use std::mem::drop;
 use std::test::Fail;
 
 /// What is known of frames before they are written, and the first of them.
@@ -45,17 +46,40 @@ fn chosen(
     })
 }
 
+/// Whether samples by a plan, which are one frame, have this digest and this frame, of so many bytes: those of a stream.
+fn comes_of(alloc: Global, plan: &Plan, audio: &Audio, stream: &str, len: u32) -> Result<bool, Fail>
+    requires { fits_plan plan.now audio.now ≡ true }
+{
+    let stream = hex::decode(alloc, stream)?;
+    let size = plan.block_size();
+    let mut buffers = EncodeBuffers::new_in(alloc, plan.profile(), size)?;
+    let chosen = chosen(alloc, plan, audio, &mut buffers);
+    drop(buffers);
+    let chosen = chosen?;
+    Ok(
+        (chosen.least, chosen.greatest) == (len, len)
+            && Some(chosen.digest.as_slice()) == stream.get(26..42)
+            && Some(chosen.room.bytes()) == stream.get(42..),
+    )
+}
+
 /// The frame of the sample is 15 bytes long, its digest is the MD5 of F4 63 B0 28, and its bytes are those of the stream.
 #[test]
 fn chosen_frames(rt: HostRuntime) -> Result<(), Fail> {
-    let stream = hex::decode(rt.alloc(), ONE_SAMPLE)?;
     let audio = sample(rt.alloc())?;
     let plan = Plan::new(4096, &audio, 0)?;
-    let mut buffers = EncodeBuffers::new(rt.alloc(), 4096)?;
-    let chosen = chosen(rt.alloc(), &plan, &audio, &mut buffers)?;
-    assert!(rt; (chosen.least, chosen.greatest) == (15, 15));
-    assert!(rt; Some(chosen.digest.as_slice()) == stream.get(26..42));
-    assert!(rt; Some(chosen.room.bytes()) == stream.get(42..));
+    assert!(rt; comes_of(rt.alloc(), &plan, &audio, ONE_SAMPLE, 15)?);
+    Ok(())
+}
+
+/// A frame by a linear predictor, of 16 bytes, and of the same samples without it, of 34.
+#[test]
+fn chosen_by_a_predictor(rt: HostRuntime) -> Result<(), Fail> {
+    let audio = wave(rt.alloc(), Profile::Subset, 44100)?;
+    let plan = Plan::new(16, &audio, 0)?;
+    assert!(rt; comes_of(rt.alloc(), &plan, &audio, WAVE, 34)?);
+    let plan = plan.with_predictors(list_of(rt.alloc(), 1, 0)?)?;
+    assert!(rt; comes_of(rt.alloc(), &plan, &audio, WAVE_PREDICTED, 16)?);
     Ok(())
 }
 

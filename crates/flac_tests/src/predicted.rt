@@ -7,7 +7,9 @@ use crate::pushing::number_of;
 use flac_bits::{Collected, Memory};
 use flac_frame::Audio;
 use flac_meta::BlockList;
-use flac_native::{Decoder, LinearPredictor, Plan, Profile, SetupFault, StreamEncoder};
+use flac_native::{
+    Decoder, LinearPredictor, Plan, Profile, SetupFault, StreamEncoder, StreamFormat,
+};
 use flac_ogg::{OggEncoder, ogg_decoder};
 use flac_vectors::{
     WAVE, WAVE_PAGES, WAVE_PREDICTED, WAVE_PREDICTED_PAGES, WAVES_PUSHED, WAVES_PUSHED_PAGES,
@@ -30,7 +32,11 @@ fn predictor_of(order: usize) -> Option<LinearPredictor> {
 }
 
 /// As many predictors of order 1, and behind them one of another order, if this is not 0.
-fn list_of(alloc: Global, count: usize, order: usize) -> Result<Vec<LinearPredictor>, Fail> {
+pub(crate) fn list_of(
+    alloc: Global,
+    count: usize,
+    order: usize,
+) -> Result<Vec<LinearPredictor>, Fail> {
     let mut list = Vec::new(alloc);
     for _ in 0..count {
         if let Some(predictor) = predictor_of(1) {
@@ -44,7 +50,7 @@ fn list_of(alloc: Global, count: usize, order: usize) -> Result<Vec<LinearPredic
 }
 
 /// These samples of one channel.
-fn wave(alloc: Global, profile: Profile, rate: u32) -> Result<Audio, Fail> {
+pub(crate) fn wave(alloc: Global, profile: Profile, rate: u32) -> Result<Audio, Fail> {
     let channels = vec![in alloc; SAMPLES.to_vec(alloc)?]?;
     Ok(Audio::new_in(profile, rate, 16, channels)?)
 }
@@ -195,6 +201,44 @@ fn push_waves<E: Encoder>(encoder: &mut E, lists: Lists) -> [u8; 9] {
 
 /// What these calls return.
 const ANSWERS: [u8; 9] = [0, 0, 0, 51, 0, 52, 0, 0, 0];
+
+/// The number of the fault for which an encoder of a profile and a rate refuses such a list, 0 if it does not.
+fn refused_list(
+    alloc: Global,
+    profile: Profile,
+    rate: u32,
+    count: usize,
+    order: usize,
+) -> Result<u8, Fail> {
+    let format = StreamFormat {
+        profile,
+        rate,
+        bits: 16,
+        channels: 1,
+        block_size: 16,
+    };
+    let list = list_of(alloc, count, order)?;
+    let blocks = BlockList::new(Vec::new(alloc))?;
+    let made = StreamEncoder::new_in(alloc, &format, &blocks, Collected::new(alloc));
+    drop(blocks);
+    let mut encoder = made?;
+    let number = encoder.set(list);
+    drop(encoder);
+    Ok(number)
+}
+
+/// The same limits as of plans.
+#[test]
+fn lists_of_encoders(rt: HostRuntime) -> Result<(), Fail> {
+    let alloc = rt.alloc();
+    let (subset, lax) = (Profile::Subset, Profile::Lax);
+    assert!(rt; refused_list(alloc, subset, 44100, 63, 12)? == 0);
+    assert!(rt; refused_list(alloc, subset, 44100, 0, 16)? == 51);
+    assert!(rt; refused_list(alloc, subset, 96000, 0, 32)? == 0);
+    assert!(rt; refused_list(alloc, lax, 44100, 63, 32)? == 0);
+    assert!(rt; refused_list(alloc, lax, 44100, 64, 32)? == 52);
+    Ok(())
+}
 
 /// What a native encoder writes.
 fn pushed(alloc: Global) -> Result<([u8; 9], Collected), Fail> {
