@@ -1,5 +1,5 @@
 -- Why raw samples are refused.
-use Rattle.std.proofs.Common.{◌≡◌, ◌≢◌, ◌↔◌, ◌⊎◌, ◌≤◌, ◌<◌, ◌*◌, ◌%◌, ◌-◌, ◌^◌, ◌&&◌, ◌||◌, ℕ, Bool, true, false, cond, nat_eq, nat_lt, nat_le, ℤ, pos, negsuc, List, [], ◌∷◌, length, All, Option, Some, None, is_some, is_none, Result, Ok, Err, OnOk, IfErr, refl, sym, ap, ◌∙◌, subst, arith, inl, inr}
+use Rattle.std.proofs.Common.{◌≡◌, ◌≢◌, ◌↔◌, ◌⊎◌, ◌≤◌, ◌<◌, ◌*◌, ◌%◌, ◌-◌, ◌^◌, ◌&&◌, ◌||◌, ℕ, Bool, true, false, cond, nat_eq, nat_lt, nat_le, ℤ, pos, negsuc, List, [], ◌∷◌, ◌++◌, length, All, Option, Some, None, is_some, is_none, Result, Ok, Err, OnOk, IfErr, refl, sym, ap, ◌∙◌, subst, arith, inl, inr}
 use Rattle.std.specs.List.{list_all}
 use Rattle.std.proofs.lemmas.Bool.{lt-ltb, ne_eqb}
 use Rattle.std.proofs.lemmas.Bool.Decides.{nat_tests}
@@ -26,6 +26,7 @@ use Rattle.flac_cli.specs.Encoded.{comment_list, cut_as}
 use Rattle.flac_cli.specs.Predictors.{AreListed, IsWrongLine}
 use Rattle.flac_cli.specs.Raw.{AreChannels, raw_channels, raw_sound}
 use Rattle.flac_cli.specs.Refusals.{format_fault, raw_fault, stream_fault, refusal, refusal_of, IsReason, IsOutside}
+use Rattle.flac_cli.specs.Reports.{Files, fault_line, path_of, line_text, IsReport}
 use Rattle.flac_cli.specs.declared.encoding.Refusal.{Refusal}
 use Rattle.flac_cli.specs.declared.encoding.Refusal.TheVariants.{Input, Setup, RawLength, Output}
 use Rattle.flac_cli.specs.declared.predictors.ListFault.{ListFault}
@@ -208,3 +209,11 @@ module _ (asked : Asked) (ps : List LinearPredictor) (bytes : List ℕ) where
             let stream : stream_fault asked.container (cut_as asked (raw_sound asked.profile asked.format bytes) ps) (comment_list asked.words) ≡ None =
             subst (λ k. stream_fault asked.container k (comment_list asked.words) ≡ None) raw_cut (subst (λ bs. stream_fault asked.container p bs ≡ None) listed h) in
             rw (raw, planned_raw, fit, stream) refl
+
+-- what is reported of an encoding that is refused, if the target did not fail
+pub reported : (asked : Asked) (bytes : List ℕ) (files : Files) (e : Refusal) (status : ℕ) (before after : List ℕ) → status ≡ 1 → after ≡ before ++ fault_line (path_of files e) (line_text e)
+    → (e ≡ Output Write → ⊥) → IsOutside e ⊎ IsReason asked bytes (Some e) → IsReport asked bytes files status before after
+reported asked bytes files e status before after one line never (inr h) = inl (Some e, h, (one, line))
+reported asked bytes files e status before after one line never (inl (inl m)) = inr (one, subst (λ r. after ≡ before ++ fault_line (path_of files r) (line_text r)) m line)
+reported asked bytes files e status before after one line never (inl (inr (inl m))) = inr (one, subst (λ r. after ≡ before ++ fault_line (path_of files r) (line_text r)) m line)
+reported asked bytes files e status before after one line never (inl (inr (inr w))) = absurd (never w)
