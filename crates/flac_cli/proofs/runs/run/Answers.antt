@@ -23,5 +23,5 @@ returns-in-Ok-clause-refused g c = λ tells served told.
 pub returns-in-Err-clause-refused : goal.returns-in-Err-clause-refused
 returns-in-Err-clause-refused g c = λ tells served told.
     rw (c.in-Encode.is, ← c.profile_of-in-Encode.ensures, ← c.as_slice.ensures.value)
-    (reported _ (g.R.Source.coming c.args.source.now) _ c.in-Err.refusal _ _ _ c.refuse_encoding.ensures.status (rw ← c.in-Encode.is (c.refuse_encoding.ensures.line told.0 told.1))
+    (reported _ (g.R.Source.coming c.args.source.now) _ c.in-Err.refusal _ _ _ c.refuse_encoding.ensures.status (rw c.in-Encode.is at (c.refuse_encoding.ensures.line told.0 told.1))
     (λ is. absurd (omega (arith, c.in-Err.ensures.failed is served.0, served.1))) (c.in-Err.ensures.refused tells.0 tells.2))
