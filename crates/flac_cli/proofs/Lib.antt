@@ -4,6 +4,7 @@ pub mod Failed
 pub mod Lined
 pub mod Listed
 pub mod Outcomes
+pub mod Planning
 pub mod Refused
 pub mod Reported
 pub mod Rows

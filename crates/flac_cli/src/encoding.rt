@@ -181,9 +181,10 @@ fn plan_of(
     ensures good { IfOk result (λ p. plan_fault p ≡ None) }
 {
     let plan = Plan::new(format.block, audio, format.seek_every)?;
-    let plan = plan.with_predictors(predictors)?;
     let _size = plan.block_size();
-    Ok(plan)
+    let tried = plan.with_predictors(predictors)?;
+    let _size = tried.block_size();
+    Ok(tried)
 }
 
 /// The comments that these words are, with the program's vendor.

@@ -220,12 +220,7 @@ impl<W: Target> fmt::Write for Lines<W> {
 }
 
 /// Sends the line of an error through a buffer.
-fn put_line<W: Target>(
-    lines: &mut Lines<W>,
-    path: &str,
-    at: At,
-    text: &str,
-) -> Result<(), Why>
+fn put_line<W: Target>(lines: &mut Lines<W>, path: &str, at: At, text: &str) -> Result<(), Why>
     requires { lines.old.held ≡ 0 }
     ensures { Adds W.Target (fault_line path.now (text_at at text.now)) lines.old.target lines.new.target [] [] result }
 {
@@ -241,12 +236,7 @@ fn put_line<W: Target>(
 ///
 /// # Errors
 /// [`Why::Write`] if the target fails.
-pub(crate) fn write_line<E: Target>(
-    err: &mut E,
-    path: &str,
-    at: At,
-    text: &str,
-) -> Result<(), Why>
+pub(crate) fn write_line<E: Target>(err: &mut E, path: &str, at: At, text: &str) -> Result<(), Why>
     ensures sent { OnOk result (E.known err.old ≡ true → E.sent err.new ≡ E.sent err.old ++ fault_line path.now (text_at at text.now)) }
     ensures failed { OnErr result (E.known err.old ≡ true → E.errors err.old < E.errors err.new) }
 {
