@@ -1,4 +1,4 @@
-use Rattle.std.proofs.Common.{◌≡◌, ◌<◌, ◌≤◌, ◌+◌, ◌*◌, ◌/◌, ◌^◌, [], ◌++◌, List, Bool, length, sym, subst, arith}
+use Rattle.std.proofs.Common.{◌≤◌, ◌+◌, ◌*◌, ◌/◌, [], ◌++◌, List, Bool, length, subst, arith}
 use Rattle.flac_bits.specs.Bits.{bits_of, is_nil}
 use Rattle.flac_meta.specs.Spelling.{block_spelling}
 use Rattle.flac_meta.specs.declared.block.Block.TheVariants as block_of
