@@ -9,9 +9,10 @@ use Rattle.flac_bits.specs.declared.why.Why.TheVariants as why
 use Rattle.flac_meta.specs.Listed.{list_fault, info_seen}
 use Rattle.flac_meta.specs.declared.block.Block.{Block}
 use Rattle.flac_frame.specs.Audio.{Sound, audio_fault}
+use Rattle.flac_header.specs.declared.subset.Profile.TheVariants.{Subset}
 use Rattle.flac_frame.specs.Setup as setup
 use Rattle.flac_frame.specs.declared.setup.SetupFault.{SetupFault}
-use Rattle.flac_frame.specs.declared.setup.SetupFault.TheVariants.{BadRate, BadDepth, BadChannels, LengthsDiffer, SampleTooLarge, TooLong, BadBlockSize, TooManyPoints}
+use Rattle.flac_frame.specs.declared.setup.SetupFault.TheVariants.{BadRate, BadDepth, BadChannels, LengthsDiffer, SampleTooLarge, TooLong, BadBlockSize, TooManyPoints, PredictorOrder, TooManyPredictors}
 use Rattle.flac_native.specs.Given.{Cut, plan_fault}
 use Rattle.flac_native.specs.Numbers.{fault_number, is_of_whole}
 use Rattle.flac_native.specs.declared.encode_fault.EncodeFault.{EncodeFault}
@@ -32,6 +33,8 @@ some_setup SampleTooLarge = omega arith
 some_setup TooLong = omega arith
 some_setup BadBlockSize = omega arith
 some_setup TooManyPoints = omega arith
+some_setup PredictorOrder = omega arith
+some_setup TooManyPredictors = omega arith
 
 pub some_encode : (e : EncodeFault) → 1 ≤ fault_number e
 some_encode Memory = omega arith
@@ -140,10 +143,10 @@ module _ (s : FlacProvedSettings) (samples : List ℤ) (n : ℕ) where
     unfolding samples_fault
     bad_length part is = rw (counts_fit s.channels some few, ne_eqb (length samples % s.channels) 0 part, is) refl
 
-    pub bad_samples : (f : SetupFault) (channels : List (List ℤ)) → length samples % s.channels ≡ 0 → channels ≡ (sound_of s samples).channels → audio_fault s.rate s.bits channels ≡ Some f
+    pub bad_samples : (f : SetupFault) (channels : List (List ℤ)) → length samples % s.channels ≡ 0 → channels ≡ (sound_of s samples).channels → audio_fault Subset s.rate s.bits channels ≡ Some f
         → n ≡ setup.number_of f → option_map setup.number_of (samples_fault s samples) ≡ Some n
     unfolding samples_fault
     bad_samples f channels whole are bad is =
         let all : nat_eq (length samples % s.channels) 0 ≡ true = rw whole refl in
-        let fault : audio_fault s.rate s.bits (sound_of s samples).channels ≡ Some f = subst (λ l. audio_fault s.rate s.bits l ≡ Some f) are bad in
+        let fault : audio_fault Subset s.rate s.bits (sound_of s samples).channels ≡ Some f = subst (λ l. audio_fault Subset s.rate s.bits l ≡ Some f) are bad in
         rw (counts_fit s.channels some few, all, fault, is) refl

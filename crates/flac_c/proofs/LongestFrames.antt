@@ -5,14 +5,16 @@ use Rattle.std.proofs.lemmas.List.{length-map}
 use Rattle.flac_bits.specs.Forms.{joined}
 use Rattle.flac_bits.specs.Signed.{FitsBits}
 use Rattle.flac_header.specs.Header.{Header, IsHeader, channels_of}
-use Rattle.flac_header.specs.Choice.{size_choice, rate_choice, depth_choice, with_codes, chosen_header}
+use Rattle.flac_header.specs.Choice.{size_choice, rate_choice_in, depth_choice_in, stated_rate, with_codes, chosen_header}
 use Rattle.flac_header.specs.Spelling.{header_spelling}
-use Rattle.flac_header.specs.declared.subset.Profile.TheVariants.{Subset}
+use Rattle.flac_header.specs.declared.subset.Profile.{Profile}
+use Rattle.flac_header.specs.declared.subset.Profile.TheVariants.{Subset, Lax}
 use Rattle.flac_subframe.specs.declared.limits.Limits.{Limits}
+use Rattle.flac_subframe.specs.declared.linear.LinearPredictor.{LinearPredictor}
 use Rattle.flac_subframe.specs.Spelling.{subframe_spelling}
 use Rattle.flac_subframe.proofs.Family.{none_within}
 use Rattle.flac_frame.specs.Audio.{Sound, IsSound, samples_each}
-use Rattle.flac_frame.specs.Encoding.{block_of, EachStands, IsEncoding, IsOfFamily, IsLeastFrame, subframes_cost}
+use Rattle.flac_frame.specs.Encoding.{block_of, EachStands, IsEncoding, IsOfWidened, IsLeastWith, partition_limit, subframes_cost}
 use Rattle.flac_frame.specs.Frame.{limits_at, Frame}
 use Rattle.flac_frame.specs.Stereo.{kept_as}
 use Rattle.flac_frame.specs.Spelling.{FrameForm, frame_spelling, subframes_spelling, HaveSamples}
@@ -37,7 +39,7 @@ inner a b e = cc
 
 with_code : (s r d : Option ℕ) (size rate a b number : ℕ) (h : Header) → with_codes s r d size rate a number ≡ Some h → with_codes s r d size rate b number ≡ Some (record h { channel_code = b })
 with_code (Some s) (Some r) (Some d) size rate a b number h e =
-    let x : Header = record { variable = false; size_code = s; size = size; rate_code = r; rate = rate; channel_code = a; depth_code = d; number = number } in
+    let x : Header = record { variable = false; size_code = s; size = size; rate_code = r; rate = stated_rate r rate; channel_code = a; depth_code = d; number = number } in
     ap (λ (k : Header). some_of (record k { channel_code = b })) (inner x h e)
 with_code None r d size rate a b number h e = absurd cc
 with_code (Some s) None d size rate a b number h e = absurd cc
@@ -47,13 +49,13 @@ not_none : (b : Bool) (o : Option Header) (h : Header) → cond b None o ≡ som
 not_none true o h e = absurd cc
 not_none false o h e = (refl, e)
 
-recoded : (size rate a b bits number : ℕ) (h : Header) → b ≤ 10 → chosen_header size rate a bits number ≡ Some h → chosen_header size rate b bits number ≡ Some (record h { channel_code = b })
+recoded : (profile : Profile) (size rate a b bits number : ℕ) (h : Header) → b ≤ 10 → chosen_header profile size rate a bits number ≡ Some h → chosen_header profile size rate b bits number ≡ Some (record h { channel_code = b })
 unfolding chosen_header
-recoded size rate a b bits number h few e =
-    let p = not_none (nat_lt 10 a || nat_le (2 ^ 31) number) (with_codes (size_choice size) (rate_choice rate) (depth_choice bits) size rate a number) h e in
+recoded profile size rate a b bits number h few e =
+    let p = not_none (nat_lt 10 a || nat_le (2 ^ 31) number) (with_codes (size_choice size) (rate_choice_in profile rate) (depth_choice_in profile bits) size rate a number) h e in
     let low : nat_lt 10 b ≡ false = grind (arith, nat_tests) in
     let small : nat_le (2 ^ 31) number ≡ false = (either_false (nat_lt 10 a) (nat_le (2 ^ 31) number) p.0).1 in
-    rw (low, small) (with_code (size_choice size) (rate_choice rate) (depth_choice bits) size rate a b number h p.1)
+    rw (low, small) (with_code (size_choice size) (rate_choice_in profile rate) (depth_choice_in profile bits) size rate a b number h p.1)
 
 still_header : (h : Header) (b : ℕ) → b < 11 → IsHeader h → IsHeader (record h { channel_code = b })
 still_header h b few v = record {
@@ -70,24 +72,28 @@ still_header h b few v = record {
 
 -- ---- the frame of channels each by itself
 
+limit_some : (profile : Profile) (rate : ℕ) → 8 ≤ (limits_at profile rate).partition
+limit_some Subset rate = omega arith
+limit_some Lax rate = omega arith
+
 as_coded : (code : ℕ) → code ≤ 7 → channels_of code ≡ code + 1
 as_coded code few = let a : nat_lt code 8 ≡ true = grind (arith, nat_tests) in rw a refl
 
-module _ (sound : Sound) (size number : ℕ) (block : List (List ℤ)) (f : FrameForm) (deep : 1 ≤ sound.bits) (some : 1 ≤ size) (one : 1 ≤ length block) (few : length block ≤ 8)
-    (long : All (λ s. length s ≡ size) block) (fits : All (λ s. All (FitsBits sound.bits) s) block) (least : IsLeastFrame sound size number block f) where
+module _ (predictors : List LinearPredictor) (sound : Sound) (size number : ℕ) (block : List (List ℤ)) (f : FrameForm) (deep : 1 ≤ sound.bits) (some : 1 ≤ size) (one : 1 ≤ length block) (few : length block ≤ 8)
+    (long : All (λ s. length s ≡ size) block) (fits : All (λ s. All (FitsBits sound.bits) s) block) (least : IsLeastWith predictors sound size number block f) where
   plain : Plain sound.bits size block
   plain = plain_block sound.bits size deep some block long fits
 
-  plain_cost : (c : ℕ) → c + 1 ≡ length block → (g : FrameForm) → g ≡ record { header = record f.header { channel_code = c }; subframes = plain.forms } → IsOfFamily sound size number block g × (subframes_cost sound.bits g ≤ length block * (8 + sound.bits * size))
+  plain_cost : (c : ℕ) → c + 1 ≡ length block → (g : FrameForm) → g ≡ record { header = record f.header { channel_code = c }; subframes = plain.forms } → IsOfWidened predictors sound size number block g × (subframes_cost sound.bits g ≤ length block * (8 + sound.bits * size))
   plain_cost c each g is =
       let depth : ℕ = sound.bits in
       let low : c ≤ 7 = omega (arith, each, few) in
       let own : IsEncoding sound size number block f = least.least.member.encoding in
       let h : Header = record f.header { channel_code = c } in
-      let chosen : chosen_header size sound.rate c depth number ≡ Some h = recoded size sound.rate own.code c depth number f.header (omega (arith, low)) own.header in
-      let sized : f.header.size ≡ size = (coded_as size sound.rate own.code depth number f.header own.header).1 in
-      let have : HaveSamples depth c f.header.size 0 plain.forms block = subst (λ n. HaveSamples depth c n 0 plain.forms block) (sym sized) (samples_are depth c size low [] 0 plain.forms block plain.are) in
-      let limits : Limits = limits_at Subset sound.rate in
+      let chosen : chosen_header sound.profile size sound.rate c depth number ≡ Some h = recoded sound.profile size sound.rate own.code c depth number f.header (omega (arith, low)) own.header in
+      let sized : f.header.size ≡ size = (coded_as sound.profile size sound.rate own.code depth number f.header own.header).1 in
+      let have : HaveSamples depth c f.header.size 0 plain.forms block = subst (λ n. HaveSamples depth c n 0 plain.forms block) (sym sized) (samples_are depth c size low 8 [] 0 plain.forms block plain.are) in
+      let limits : Limits = limits_at sound.profile sound.rate in
       let cost : length (subframes_spelling depth c 0 plain.forms) ≤ length block * (8 + depth * size) = omega (arith, ap (λ (t : List Bool). length t) (texts_are depth c size low 0 plain.forms), plain.few) in
       let encoding : IsEncoding sound size number block (record { header = h; subframes = plain.forms }) =
       record {
@@ -95,11 +101,11 @@ module _ (sound : Sound) (size number : ℕ) (block : List (List ℤ)) (f : Fram
         header = chosen;
         valid = still_header f.header c (omega (arith, low)) own.valid;
         channels = as_coded c low ∙ each;
-        many = as_many depth c size low [] plain.forms block plain.are;
-        subframes = subframes_are depth c size low [] limits (omega arith) (none_within limits.linear) 0 plain.forms block plain.are;
+        many = as_many depth c size low 8 [] plain.forms block plain.are;
+        subframes = subframes_are depth c size low 8 [] limits (limit_some sound.profile sound.rate) (none_within limits.linear) 0 plain.forms block plain.are;
         samples = record { kept = block; subframes = have; joined = not_joined depth c size low block; fit = all_fit_in depth c size low block fits };
       } in
-      rw is (record { encoding = encoding; stand = subst (EachStands [] plain.forms) (sym (kept_same c block low)) plain.stand }, cost)
+      rw is (record { encoding = encoding; stand = subst (EachStands (partition_limit sound) predictors plain.forms) (sym (kept_same c block low)) (plain.stand (partition_limit sound) predictors) }, cost)
 
   pub least_cost : subframes_cost sound.bits f ≤ length block * (8 + sound.bits * size)
   least_cost =
@@ -122,12 +128,12 @@ module _ (p : Cut) (a : Sound) (good : IsSound a) (some : 16 ≤ p.block_size) w
   abbrev total : ℕ
   total = samples_each a.channels
 
-  one_long : (number : ℕ) (text : List Bool) → number < blocks_in p.block_size total → SpellsLeast a (frame_of p.block_size a number) text
+  one_long : (number : ℕ) (text : List Bool) → number < blocks_in p.block_size total → SpellsLeast p.predictors a (frame_of p.block_size a number) text
       → length text ≤ 151 + length a.channels * (8 + a.bits * size_of p.block_size total number)
   one_long number text lt spells =
       let start : ℕ = p.block_size * number in
       let size : ℕ = size_of p.block_size total number in
-      let deep = depth_small a.bits good.bits in
+      let deep = depth_small a.profile a.bits good.bits in
       let here : start < total = least_part p.block_size total number some lt in
       let size_some : 1 ≤ size = omega (arith, here, some) in
       let within : start + size ≤ total = omega (arith, here) in
@@ -138,7 +144,7 @@ module _ (p : Cut) (a : Sound) (good : IsSound a) (some : 16 ≤ p.block_size) w
       let long = subst (λ b. All (λ s. length s ≡ size) b) same facts.0 in
       let fits = subst (λ b. All (λ s. All (FitsBits a.bits) s) b) same facts.1 in
       let many : length block ≡ length a.channels = length-map a.channels (λ c. take size (drop start c)) in
-      let cost = least_cost a size number block spells.form deep.0 size_some (omega (arith, many, good.some)) (omega (arith, many, good.few)) long fits spells.least in
+      let cost = least_cost p.predictors a size number block spells.form deep.0 size_some (omega (arith, many, good.some)) (omega (arith, many, good.few)) long fits spells.least in
       let bound : length (frame_spelling a.bits spells.form) ≤ 151 + length block * (8 + a.bits * size) = frame_long a.bits spells.form (length block * (8 + a.bits * size)) cost in
       let bound' : length (frame_spelling a.bits spells.form) ≤ 151 + length a.channels * (8 + a.bits * size) = subst (λ n. length (frame_spelling a.bits spells.form) ≤ 151 + n * (8 + a.bits * size)) many bound in
       subst (λ (t : List Bool). length t ≤ 151 + length a.channels * (8 + a.bits * size)) (sym spells.spelling) bound'

@@ -14,6 +14,7 @@ use Rattle.flac_meta.specs.declared.comments.Comments.{Comments}
 use Rattle.flac_meta.specs.declared.block.Block.{Block}
 use Rattle.flac_meta.specs.declared.block.Block.TheVariants.{StreamInfo, VorbisComment}
 use Rattle.flac_frame.specs.Audio.{Sound, samples_each}
+use Rattle.flac_header.specs.declared.subset.Profile.TheVariants.{Subset}
 use Rattle.flac_frame.proofs.Sounds.{depth_small}
 use Rattle.flac_native.specs.Given.{Cut, blocks_in, info_of, sound_message}
 use Rattle.flac_native.specs.Seeking.{points_of, table_of}
@@ -128,7 +129,7 @@ module _ (s : FlacProvedSettings) (samples : List ℤ) (can : CanBeEncoded s sam
       let around = mul-le (151 + 8 * n) (blocks_in s.block_size total) 215 (parts_of each s.block_size) (omega (arith, good.few)) blocks in
       let product : total * n ≡ length samples = ap (λ k. k * n) each_is ∙ ap (λ k. each * k) many_channels ∙ all_are in
       let same : n * s.bits * total ≡ s.bits * length samples = turned n s.bits total (length samples) product in
-      omega (arith, all, around, same, raw_enough s.bits (length samples) (depth_small s.bits good.bits).1)
+      omega (arith, all, around, same, raw_enough s.bits (length samples) (depth_small Subset s.bits good.bits).1)
 
 -- ---- the stream
 

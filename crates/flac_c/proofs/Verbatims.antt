@@ -8,7 +8,8 @@ use Rattle.std.proofs.lemmas.List.Elements.{All-head, All-tail}
 use Rattle.flac_bits.specs.Signed.{FitsBits}
 use Rattle.flac_subframe.specs.declared.limits.Limits.{Limits}
 use Rattle.flac_subframe.specs.Bodies.{verbatim}
-use Rattle.flac_subframe.specs.Chosen.{fixed_below}
+use Rattle.flac_subframe.specs.Chosen.{fixed_below, offered}
+use Rattle.flac_subframe.specs.declared.linear.LinearPredictor.{LinearPredictor}
 use Rattle.flac_subframe.specs.Family.{Stands}
 use Rattle.flac_subframe.specs.Numbers.{sample_at}
 use Rattle.flac_subframe.specs.Spelling.{content_spelling, subframe_spelling, IsSubframe}
@@ -108,8 +109,9 @@ module _ (depth : ℕ) (deep : 1 ≤ depth) (s : List ℤ) (fits : All (FitsBits
   abbrev pub verbatim_form : Form
   verbatim_form = record { wasted = dropped.wasted; content = Verbatim dropped.rest }
 
-  pub verbatim_stands : Stands 8 (fixed_below 5) verbatim_form s
-  verbatim_stands = record { wasted = dropped.is; body = (verbatim dropped.rest, dropped.rest, refl, dropped.times, refl) }
+  -- whatever partition orders and predictors there are
+  pub verbatim_stands : (most : ℕ) (ps : List LinearPredictor) → Stands most (offered ps) verbatim_form s
+  verbatim_stands most ps = record { wasted = dropped.is; body = (verbatim dropped.rest, dropped.rest, refl, dropped.times, refl) }
 
 -- ---- how long the subframe is
 
@@ -141,21 +143,21 @@ verbatim_few depth deep s fits some =
 -- forms of the channels of a block, which take few bits
 pub record Plain (depth size : ℕ) (block : List (List ℤ)) : Type 0 where
   pub forms : List Form
-  pub are : AreForms [] depth size forms block
-  pub stand : EachStands [] forms block
+  pub are : AreForms 8 [] depth size forms block
+  pub stand : (most : ℕ) (ps : List LinearPredictor) → EachStands most ps forms block
   pub few : length (flat_map (subframe_spelling depth) forms) ≤ length block * (8 + depth * size)
 
 one_more : (n m a b c : ℕ) → c ≡ a + b → a ≤ m → b ≤ n * m → c ≤ suc n * m
 one_more n m a b c e h k = omega (arith, e, h, k)
 
 pub plain_block : (depth size : ℕ) → 1 ≤ depth → 1 ≤ size → (block : List (List ℤ)) → All (λ s. length s ≡ size) block → All (λ s. All (FitsBits depth) s) block → Plain depth size block
-plain_block depth size deep some [] long fits = record { forms = []; are = tt; stand = tt; few = omega arith }
+plain_block depth size deep some [] long fits = record { forms = []; are = tt; stand = λ most ps. tt; few = omega arith }
 plain_block depth size deep some (s ∷ ss) long fits =
     let here : length s ≡ size = All-head (λ s. length s ≡ size) s ss long in
     let fit : All (FitsBits depth) s = All-head (λ s. All (FitsBits depth) s) s ss fits in
     let rest = plain_block depth size deep some ss (All-tail (λ s. length s ≡ size) s ss long) (All-tail (λ s. All (FitsBits depth) s) s ss fits) in
     let f : Form = verbatim_form depth deep s fit in
-    let stands : Stands 8 (fixed_below 5) f s = verbatim_stands depth deep s fit in
+    let stands : Stands 8 (fixed_below 5) f s = verbatim_stands depth deep s fit 8 [] in
     let some' : 0 < length s = omega (arith, here, some) in
     let valid : (limits : Limits) → 8 ≤ limits.partition → IsSubframe depth size limits f = λ limits enough. subst (λ n. IsSubframe depth n limits f) here (may_stand depth limits f s deep some' enough fit stands).0 in
     let samples : samples_of depth size f ≡ Some s = subst (λ n. samples_of depth n f ≡ Some s) here (may_stand depth (record { partition = 8; linear = 0 }) f s deep some' (omega arith) fit stands).1 in
@@ -163,6 +165,6 @@ plain_block depth size deep some (s ∷ ss) long fits =
     record {
       forms = f ∷ rest.forms;
       are = (λ limits enough within. valid limits enough, samples, rest.are);
-      stand = (stands, rest.stand);
+      stand = λ most ps. (verbatim_stands depth deep s fit most ps, rest.stand most ps);
       few = one_more (length ss) (8 + depth * size) _ _ _ (length-append (subframe_spelling depth f) (flat_map (subframe_spelling depth) rest.forms)) few rest.few;
     }

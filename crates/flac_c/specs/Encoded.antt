@@ -6,6 +6,7 @@ use Rattle.flac_meta.specs.Listed.{list_fault, info_seen}
 use Rattle.flac_meta.specs.declared.block.Block.{Block}
 use Rattle.flac_meta.specs.declared.block.Block.TheVariants.{VorbisComment}
 use Rattle.flac_meta.specs.declared.comments.Comments.{Comments}
+use Rattle.flac_header.specs.declared.subset.Profile.TheVariants.{Subset}
 use Rattle.flac_frame.specs.Audio.{Sound, IsSound, audio_fault}
 use Rattle.flac_frame.specs.Setup as setup
 use Rattle.flac_frame.specs.declared.setup.SetupFault.{SetupFault}
@@ -21,7 +22,7 @@ use Rattle.flac_c.specs.declared.encoding.FlacProvedSettings.{FlacProvedSettings
 
 -- the samples as channels of as many samples each
 abbrev pub sound_of : FlacProvedSettings → List ℤ → Sound
-sound_of s samples = record { rate = s.rate; bits = s.bits; channels = channels_at samples s.channels (length samples / s.channels) s.channels }
+sound_of s samples = record { profile = Subset; rate = s.rate; bits = s.bits; channels = channels_at samples s.channels (length samples / s.channels) s.channels }
 
 abbrev pub plan_of : FlacProvedSettings → Sound → Cut
 plan_of s a = cut_of s.block_size a s.seek_every
@@ -46,7 +47,7 @@ blocks_of t = VorbisComment (comments_of t) ∷ []
 unfoldable pub samples_fault : FlacProvedSettings → List ℤ → Option SetupFault
 samples_fault s samples =
     cond (nat_eq s.channels 0 || nat_lt 8 s.channels) (Some BadChannels)
-    (cond (nat_eq (length samples % s.channels) 0) (audio_fault s.rate s.bits (sound_of s samples).channels) (Some LengthsDiffer))
+    (cond (nat_eq (length samples % s.channels) 0) (audio_fault Subset s.rate s.bits (sound_of s samples).channels) (Some LengthsDiffer))
 
 -- The number of the first reason why samples are not encoded so: how they are cut into blocks, the comments, or the container.
 unfoldable pub stream_fault : FlacProvedSettings → FlacProvedTags → Sound → Option ℕ

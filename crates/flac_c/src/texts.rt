@@ -78,10 +78,10 @@ fn reason_of(number: u32) -> Option<Why>
     Some(reasons[number as usize - 1])
 }
 
-/// The reason with this number, 40 to 47.
+/// The reason with this number, 40 to 47, 51 or 52.
 fn setup_of(number: u32) -> Option<SetupFault>
     ensures each { (fault : SetupFault) → setup_number fault ≡ number → result ≡ Some fault }
-    ensures other { (number < 40) ⊎ (47 < number) → result ≡ None }
+    ensures other { (number < 40) ⊎ (((47 < number) × (number < 51)) ⊎ (52 < number)) → result ≡ None }
 {
     let faults = [
         SetupFault::BadRate,
@@ -93,6 +93,12 @@ fn setup_of(number: u32) -> Option<SetupFault>
         SetupFault::BadBlockSize,
         SetupFault::TooManyPoints,
     ];
+    if number == 51 {
+        return Some(SetupFault::PredictorOrder);
+    }
+    if number == 52 {
+        return Some(SetupFault::TooManyPredictors);
+    }
     if number < 40 || number > 47 {
         return None;
     }
@@ -100,13 +106,13 @@ fn setup_of(number: u32) -> Option<SetupFault>
 }
 
 /// Copies the number and the name of a reason, as `26 FrameCheck`, to the front of `out`, as far as there is room, and
-/// returns the length of this text in bytes. The rest of `out` is unchanged. The text is empty for 0 and for numbers
-/// above 47.
+/// returns the length of this text in bytes. The rest of `out` is unchanged. The text is empty for numbers
+/// of no reason: 0, 48 to 50, and those above 52.
 #[unsafe(no_mangle)]
 pub extern "C" fn flac_proved_strerror(number: u32, out: &mut [u8]) -> usize
     ensures reason { (why : Why) → number_of why ≡ number → IsCopied (text_of why) out.old out.new result }
     ensures setup { (fault : SetupFault) → setup_number fault ≡ number → IsCopied (setup_text fault) out.old out.new result }
-    ensures other { (number ≡ 0) ⊎ (47 < number) → IsCopied [] out.old out.new result }
+    ensures other { (number ≡ 0) ⊎ (((47 < number) × (number < 51)) ⊎ (52 < number)) → IsCopied [] out.old out.new result }
 {
     if let Some(why) = reason_of(number) {
         return copy(why.as_str().as_bytes(), out);

@@ -5,23 +5,18 @@ use Rattle.std.proofs.lemmas.Grind.{flat_map-append}
 use Rattle.flac_subframe.specs.declared.linear.LinearPredictor.{LinearPredictor}
 use Rattle.flac_subframe.specs.Handed.{AreWithin}
 use Rattle.flac_bits.specs.Signed.{FitsBits}
-use Rattle.flac_bits.specs.Written.{Written, Adds, Fails, Writes}
-use Rattle.flac_bits.specs.declared.why.Why.{Why}
-use Rattle.flac_header.specs.Header.{Header}
-use Rattle.flac_header.specs.Spelling.{header_spelling, restarted}
 use Rattle.flac_subframe.specs.declared.wide.WideChoice.{WideChoice}
 use Rattle.flac_subframe.specs.declared.limits.Limits.{Limits}
 use Rattle.flac_subframe.specs.Family.{IsMadeIn, form_in}
 use Rattle.flac_subframe.specs.Spelling.{subframe_spelling, IsSubframe}
 use Rattle.flac_subframe.specs.Subframe.{Form, samples_of}
 use Rattle.flac_frame.specs.Chosen.{forms_of, AreMade, AreChosen}
-use Rattle.flac_frame.specs.Encoding.{block_of, AreForms, AreLeast, IsLeastFor, behind_header}
+use Rattle.flac_frame.specs.Encoding.{block_of, AreForms, AreLeast, IsLeastFor}
 use Rattle.flac_frame.specs.Frame.{side_bit}
 use Rattle.flac_frame.specs.Spelling.{subframes_spelling}
 use Rattle.flac_frame.specs.Stereo.{side_of, middle_of}
-use Rattle.flac_frame.proofs.Encoded.{forms-append, least-append, failed}
+use Rattle.flac_frame.proofs.Encoded.{forms-append, least-append}
 use Rattle.flac_frame.proofs.Pairs.{side_fits, middle_fits}
-use Rattle.flac_frame.proofs.Wholes.{first_fails}
 
 -- ---- one more
 
@@ -129,6 +124,12 @@ module _ (ps : List LinearPredictor) {V : Type 0} (items : V → List ℤ) (dept
   pub text_last : (i : ℕ) → length xs ≤ i → text_behind i ≡ []
   text_last i h = ap (λ ys. flat_map (subframe_spelling depth) (forms_of ps (drop i cs) (block_of start size (map items ys)))) (drop_none xs i h)
 
+-- the texts of all, whose choices and channels are the same, at a depth that is the same
+pub texts_same : (ps : List LinearPredictor) (depth own start size : ℕ) (cs items : List WideChoice) (xs channels : List (List ℤ)) → depth ≡ own → cs ≡ items → xs ≡ channels
+    → flat_map (subframe_spelling depth) (forms_of ps cs (block_of start size xs)) ≡ flat_map (subframe_spelling own) (forms_of ps items (block_of start size channels))
+texts_same ps depth own start size cs items xs channels d c x =
+    ap (λ k. flat_map (subframe_spelling k) (forms_of ps cs (block_of start size xs))) d ∙ ap (λ k. flat_map (subframe_spelling own) (forms_of ps k (block_of start size xs))) c ∙ ap (λ k. flat_map (subframe_spelling own) (forms_of ps items (block_of start size k))) x
+
 -- ---- two subframes
 
 pub two_forms : (ps : List LinearPredictor) (cs : List WideChoice) (x y : WideChoice) (first second : List ℤ) → 2 ≤ length cs → x ≡ get_or cs 0 x → y ≡ get_or cs 1 y → forms_of ps cs (first ∷ second ∷ []) ≡ form_in ps x first ∷ form_in ps y second ∷ []
@@ -145,12 +146,19 @@ second_made ps [] y first second q m = absurd m
 second_made ps (a ∷ []) y first second q m = absurd m.1
 second_made ps (a ∷ b ∷ cs) y first second q m = subst (λ z. IsMadeIn ps z second) (sym q) m.1.0
 
-pub two_texts : (ps : List LinearPredictor) (depth code d e : ℕ) (cs : List WideChoice) (x y : WideChoice) (first second : List ℤ) → 2 ≤ length cs → x ≡ get_or cs 0 x → y ≡ get_or cs 1 y → d ≡ side_bit code 0 → e ≡ side_bit code 1
+two_texts : (ps : List LinearPredictor) (depth code d e : ℕ) (cs : List WideChoice) (x y : WideChoice) (first second : List ℤ) → 2 ≤ length cs → x ≡ get_or cs 0 x → y ≡ get_or cs 1 y → d ≡ side_bit code 0 → e ≡ side_bit code 1
     → subframe_spelling (depth + d) (form_in ps x first) ++ subframe_spelling (depth + e) (form_in ps y second) ≡ subframes_spelling depth code 0 (forms_of ps cs (first ∷ second ∷ []))
 two_texts ps depth code d e cs x y first second h p q is_d is_e =
     ap (λ n. subframe_spelling (depth + n) (form_in ps x first) ++ subframe_spelling (depth + e) (form_in ps y second)) is_d
     ∙ ap (λ n. subframe_spelling (depth + side_bit code 0) (form_in ps x first) ++ subframe_spelling (depth + n) (form_in ps y second)) is_e
     ∙ sym (pair_text depth code (form_in ps x first) (form_in ps y second)) ∙ ap (subframes_spelling depth code 0) (sym (two_forms ps cs x y first second h p q))
+
+-- the texts of two subframes, whose choices are the first of a list that is the same, at depths that are the same
+pub pair_texts : (ps : List LinearPredictor) (own depth code d e : ℕ) (items cs : List WideChoice) (x y : WideChoice) (first second : List ℤ) → depth ≡ own → cs ≡ items → 2 ≤ length items → x ≡ get_or cs 0 x → y ≡ get_or cs 1 y → d ≡ side_bit code 0 → e ≡ side_bit code 1
+    → subframe_spelling (depth + d) (form_in ps x first) ++ subframe_spelling (depth + e) (form_in ps y second) ≡ subframes_spelling own code 0 (forms_of ps items (first ∷ second ∷ []))
+pair_texts ps own depth code d e items cs x y first second is same two p q is_d is_e =
+    let many : 2 ≤ length cs = omega (arith, two, ap (λ (l : List WideChoice). length l) same) in
+    two_texts ps depth code d e cs x y first second many p q is_d is_e ∙ ap (λ k. subframes_spelling k code 0 (forms_of ps cs (first ∷ second ∷ []))) is ∙ ap (λ l. subframes_spelling own code 0 (forms_of ps l (first ∷ second ∷ []))) same
 
 -- ---- what a code keeps fits
 

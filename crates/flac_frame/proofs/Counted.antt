@@ -1,11 +1,11 @@
 -- How long a frame is that is not written yet.
-use Rattle.std.proofs.Common.{◌≡◌, ◌∙◌, sym, ap, subst, ℕ, ◌+◌, ◌*◌, ◌-◌, ◌/◌, ◌%◌, ◌^◌, ◌≤◌, arith, Bool, true, false, cond, ◌||◌, nat_eq, nat_lt, nat_le, List, [], ◌++◌, length, length-append, Option, Some, None, IfSome, refl}
+use Rattle.std.proofs.Common.{◌≡◌, ◌∙◌, ap, subst, ℕ, ◌+◌, ◌*◌, ◌-◌, ◌/◌, ◌%◌, ◌^◌, ◌≤◌, arith, Bool, true, false, cond, ◌||◌, nat_eq, nat_lt, nat_le, List, [], ◌++◌, length, length-append, Option, Some, None, IfSome, refl}
 use Rattle.std.proofs.lemmas.Bool.Decides.{nat_tests}
 use Rattle.flac_bits.specs.Bits.{unsigned}
 use Rattle.flac_bits.specs.Coded.{six_bits, in_bytes, number_spelling}
 use Rattle.flac_bits.proofs.Words.{length-unsigned}
 use Rattle.flac_header.specs.Header.{Header}
-use Rattle.flac_header.specs.Choice.{size_choice, rate_choice, rate_choice_in, depth_choice_in, stated_rate, with_codes, chosen_header}
+use Rattle.flac_header.specs.Choice.{size_choice, rate_choice_in, depth_choice_in, stated_rate, with_codes, chosen_header}
 use Rattle.flac_header.specs.declared.subset.Profile.{Profile}
 use Rattle.flac_header.specs.Spelling.{size_spelling, rate_spelling, header_spelling}
 use Rattle.flac_frame.specs.Encoding.{subframes_cost}
@@ -113,8 +113,8 @@ counted_of (Some code) size n e = size_long code size ∙ ap (λ k. 8 * k) e
 pub size_counted : (size n : ℕ) → field_of size ≡ n → IfSome (size_choice size) (λ code. length (size_spelling code size) ≡ 8 * n)
 size_counted size n e = counted_of (size_choice size) size n (subst (λ k. Takes k (size_choice size)) e (takes_field size))
 
-pub rate_counted : (rate code n : ℕ) → some_code code ≡ rate_choice rate → rate_bytes code ≡ n → IfSome (rate_choice rate) (λ k. length (rate_spelling k rate) ≡ 8 * n)
-rate_counted rate code n is e = subst (λ o. IfSome o (λ k. length (rate_spelling k rate) ≡ 8 * n)) is (rate_long code rate ∙ ap (λ k. 8 * k) e)
+pub rate_counted : (p : Profile) (rate code n : ℕ) → some_code code ≡ rate_choice_in p rate → rate_bytes code ≡ n → IfSome (rate_choice_in p rate) (λ k. length (rate_spelling k (stated_rate k rate)) ≡ 8 * n)
+rate_counted p rate code n is e = subst (λ o. IfSome o (λ k. length (rate_spelling k (stated_rate k rate)) ≡ 8 * n)) is (rate_long code (stated_rate code rate) ∙ ap (λ k. 8 * k) e)
 
 pub no_rate : (code : ℕ) → (code ≡ 12 → ⊥) → (code ≡ 13 → ⊥) → (code ≡ 14 → ⊥) → rate_bytes code ≡ 0
 no_rate code p q r =

@@ -7,6 +7,7 @@ use Rattle.flac_subframe.specs.declared.linear.LinearPredictor.{LinearPredictor}
 use Rattle.flac_subframe.specs.Handed.{AreWithin}
 use Rattle.flac_bits.specs.Signed.{FitsBits}
 use Rattle.flac_header.specs.Header.{Header, IsHeader, channels_of}
+use Rattle.flac_header.specs.declared.subset.Profile.{Profile}
 use Rattle.flac_header.specs.Choice.{size_choice, rate_choice_in, depth_choice_in, chosen_header}
 use Rattle.flac_subframe.specs.declared.limits.Limits.{Limits}
 use Rattle.flac_subframe.specs.Spelling.{subframe_spelling}
@@ -23,7 +24,7 @@ use Rattle.flac_frame.proofs.Encoded.{is_block, part_fits}
 use Rattle.flac_frame.proofs.Short.{all_short, parts_few, frame_short}
 use Rattle.flac_frame.proofs.Family.{independent_least, kept_same}
 use Rattle.flac_frame.proofs.Sounds.{depth_small, limit_few}
-use Rattle.flac_frame.proofs.Wholes.{texts_are, subframes_are, samples_are, as_many, not_joined, all_fit_in, codes_are, chosen_as, chosen_there}
+use Rattle.flac_frame.proofs.Wholes.{texts_are, subframes_are, samples_are, as_many, not_joined, all_fit_in, codes_are, chosen_as, header_at, header_never}
 
 -- ---- the whole
 
@@ -79,45 +80,44 @@ module _ {V : Type 0} (items : V → List ℤ) (xs : List V) (sound : Sound) (go
   pub each_fits_in : (bits : ℕ) → bits ≡ sound.bits → All (λ v. All (FitsBits bits) (items v)) xs
   each_fits_in bits e = from_map (λ c. All (FitsBits bits) c) items xs (subst (λ k. All (λ c. All (FitsBits bits) c) k) (sym are) (subst (λ b. All (λ c. All (FitsBits b) c) sound.channels) (sym e) good.small))
 
+  pub one_long : (start size i : ℕ) (x : V) → start + size ≤ samples_each sound.channels → i < length xs → x ≡ get_or xs i x → start + size ≤ length (items x)
+  one_long start size i x within lt is = subst (λ v. start + size ≤ length (items v)) (sym is) (each_long start size within i x lt)
+
+  pub one_fits : (start size i bits : ℕ) (x : V) → bits ≡ sound.bits → i < length xs → x ≡ get_or xs i x → All (FitsBits bits) (take size (drop start (items x)))
+  one_fits start size i bits x e lt is = part_fits items bits start size (items x) (subst (λ v. All (FitsBits bits) (items v)) (sym is) (each_fits_in bits e i x lt))
+
   pub bits_small : (bits : ℕ) → bits ≡ sound.bits → (1 ≤ bits) × (bits ≤ 32)
   bits_small bits e = depth_small sound.profile bits (ap (λ b. is_some (depth_choice_in sound.profile b)) e ∙ good.bits)
 
-  pub never_none : (size rate code bits number : ℕ) (o : Option Header) → rate ≡ sound.rate → bits ≡ sound.bits → code ≤ 10 → 1 ≤ size → size ≤ 65535 → number < 2 ^ 31
-      → o ≡ chosen_header sound.profile size rate code bits number → o ≡ None → ⊥
-  never_none size rate code bits number o r b c some few small is none =
-      chosen_there sound.profile size rate code bits number some few (ap (λ k. is_some (rate_choice_in sound.profile k)) r ∙ good.rate) (ap (λ k. is_some (depth_choice_in sound.profile k)) b ∙ good.bits) c small (sym is ∙ none)
-
   -- what was chosen of each channel by itself makes a frame
-  pub apart_choice : (ps : List LinearPredictor) → AreWithin (limits_at sound.profile sound.rate).linear ps → (start size rate code bits depth number : ℕ) (o : Option Header) (c : FrameChoice) → rate ≡ sound.rate → bits ≡ sound.bits → depth ≡ sound.bits → (length sound.channels ≡ 2 → ⊥) → code ≡ length xs - 1 → c.code ≡ code
-      → 1 ≤ size → size ≤ 65535 → start + size ≤ samples_each sound.channels → number < 2 ^ 31 → o ≡ chosen_header sound.profile size rate code bits number → IfSome o IsHeader
-      → AreChosen (partition_limit sound) ps depth size c.subframes.items (block_of start size (map items xs)) → c.bits ≡ length (flat_map (subframe_spelling depth) (forms_of ps c.subframes.items (block_of start size (map items xs))))
+  pub apart_choice : (ps : List LinearPredictor) → AreWithin (limits_at sound.profile sound.rate).linear ps → (start size number : ℕ) (profile : Profile) (rate code bits : ℕ) (o : Option Header) (c : FrameChoice) → profile ≡ sound.profile → rate ≡ sound.rate → bits ≡ sound.bits
+      → (length sound.channels ≡ 2 → ⊥) → code ≡ length xs - 1 → c.code ≡ code → 1 ≤ size → size ≤ 65535 → start + size ≤ samples_each sound.channels → number < 2 ^ 31 → o ≡ chosen_header profile size rate code bits number → IfSome o IsHeader
+      → AreChosen (partition_limit sound) ps sound.bits size c.subframes.items (block_of start size sound.channels) → c.bits ≡ length (flat_map (subframe_spelling sound.bits) (forms_of ps c.subframes.items (block_of start size sound.channels)))
       → IsChoiceWith ps sound size number (block_of start size sound.channels) c
-  apart_choice ps orders start size rate code bits depth number None c r b d other n coded some few within small is valid chose cost = absurd (never_none size rate code bits number None r b (omega (arith, n, few_channels.1)) some few small is refl)
-  apart_choice ps orders start size rate code bits depth number (Some h) c r b d other n coded some few within small is valid chose cost =
+  apart_choice ps orders start size number profile rate code bits None c p r b other n coded some few within small is valid chose cost =
+      absurd (header_never sound good profile size rate code bits number p r b (omega (arith, n, few_channels.1)) some few small (sym is))
+  apart_choice ps orders start size number profile rate code bits (Some h) c p r b other n coded some few within small is valid chose cost =
       let deep = bits_small sound.bits refl in
-      let chosen : chosen_header sound.profile size sound.rate code sound.bits number ≡ Some h = ap (λ k. chosen_header sound.profile size k code sound.bits number) (sym r) ∙ ap (λ k. chosen_header sound.profile size rate code k number) (sym b) ∙ sym is in
+      let chosen : chosen_header sound.profile size sound.rate code sound.bits number ≡ Some h = header_at sound profile size rate code bits number (Some h) h p r b is refl in
       let block = is_block items sound.bits start size deep.0 some xs (each_long start size within, each_fits_in sound.bits refl) in
       let all : List (List ℤ) = block_of start size sound.channels in
       let fits = subst (λ k. All (λ s. All (FitsBits sound.bits) s) (block_of start size k)) are block.1 in
       let long = subst (λ k. All (λ s. length s ≡ size) (block_of start size k)) are block.0 in
-      let block_long : length all ≡ length xs = length-map sound.channels (λ c. take size (drop start c)) ∙ ap (λ (l : List (List ℤ)). length l) (sym are) ∙ length-map xs items in
       let lengths_are : length sound.channels ≡ length xs = ap (λ (l : List (List ℤ)). length l) (sym are) ∙ length-map xs items in
-      let chose' : AreChosen (partition_limit sound) ps sound.bits size c.subframes.items all = subst (λ k. AreChosen (partition_limit sound) ps sound.bits size c.subframes.items (block_of start size k)) are (subst (λ k. AreChosen (partition_limit sound) ps k size c.subframes.items (block_of start size (map items xs))) d chose) in
-      let cost' : c.bits ≡ length (flat_map (subframe_spelling sound.bits) (forms_of ps c.subframes.items all)) =
-      cost ∙ ap (λ k. length (flat_map (subframe_spelling k) (forms_of ps c.subframes.items (block_of start size (map items xs))))) d ∙ ap (λ k. length (flat_map (subframe_spelling sound.bits) (forms_of ps c.subframes.items (block_of start size k)))) are in
+      let block_long : length all ≡ length sound.channels = length-map sound.channels (λ c. take size (drop start c)) in
       let low : code ≤ 7 = omega (arith, n, few_channels.1) in
       let form : FrameForm = record { header = h; subframes = forms_of ps c.subframes.items all } in
-      let p = frame_encoded ps sound orders code size number all (forms_of ps c.subframes.items all) h (λ e. other (omega (arith, e, block_long, lengths_are))) low small deep some few long chosen valid (omega (arith, n, few_channels.0, block_long)) fits chose'.are chose'.least form refl in
+      let made = frame_encoded ps sound orders code size number all (forms_of ps c.subframes.items all) h (λ e. other (sym block_long ∙ e)) low small deep some few long chosen valid (omega (arith, n, few_channels.0, block_long, lengths_are)) fits chose.are chose.least form refl in
       let keeps : kept_as c.code all ≡ all = kept_same c.code all (omega (arith, coded, low)) in
       record {
         form = form;
         header = ap (λ k. chosen_header sound.profile size sound.rate k sound.bits number) coded ∙ chosen;
         subframes = ap (forms_of ps c.subframes.items) (sym keeps);
-        made = subst (AreMade ps c.subframes.items) (sym keeps) chose'.made;
-        encoding = p.0;
-        least = p.1;
-        short = p.2;
-        cost = cost' ∙ sym p.3;
+        made = subst (AreMade ps c.subframes.items) (sym keeps) chose.made;
+        encoding = made.0;
+        least = made.1;
+        short = made.2;
+        cost = cost ∙ sym made.3;
       }
 
 -- ---- two channels of vectors

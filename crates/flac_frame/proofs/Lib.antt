@@ -22,5 +22,6 @@ pub mod Rooms
 pub mod Chosen
 pub mod Counted
 pub mod Written
+pub mod Copies
 pub mod Interleaved
 pub mod Wider

@@ -1,5 +1,5 @@
 -- The least frame of two channels.
-use Rattle.std.proofs.Common.{◌≡◌, ◌∙◌, refl, sym, ap, subst, inl, inr, ℕ, ◌+◌, ◌*◌, ◌≤◌, ◌<◌, arith, ℤ, Bool, true, false, cond, nat_eq, nat_lt, List, [], ◌∷◌, ◌++◌, length, length-append, set, ◌^◌, Option, Some, None, is_some, IfSome, All}
+use Rattle.std.proofs.Common.{◌≡◌, ◌∙◌, refl, sym, ap, subst, inl, inr, ℕ, ◌+◌, ◌*◌, ◌≤◌, ◌<◌, arith, ℤ, Bool, true, false, cond, nat_eq, nat_lt, List, [], ◌∷◌, ◌++◌, length, length-append, set, ◌^◌, Option, Some, None, IfSome, All}
 use Rattle.std.proofs.lemmas.Bool.Decides.{nat_tests}
 use Rattle.std.proofs.lemmas.List.{append-nil}
 use Rattle.std.proofs.lemmas.Nat.{mul-le}
@@ -7,7 +7,7 @@ use Rattle.flac_subframe.specs.declared.linear.LinearPredictor.{LinearPredictor}
 use Rattle.flac_subframe.specs.Handed.{AreWithin}
 use Rattle.flac_bits.specs.Signed.{FitsBits}
 use Rattle.flac_header.specs.Header.{Header, IsHeader, channels_of}
-use Rattle.flac_header.specs.Choice.{rate_choice_in, depth_choice_in, chosen_header}
+use Rattle.flac_header.specs.Choice.{chosen_header}
 use Rattle.flac_header.specs.declared.subset.Profile.{Profile}
 use Rattle.flac_subframe.specs.declared.wide.WideChoice.{WideChoice}
 use Rattle.flac_subframe.specs.Family.{form_in}
@@ -27,7 +27,7 @@ use Rattle.flac_frame.proofs.Family.{coded_as, least_frame, kept_same}
 use Rattle.flac_frame.proofs.Pairs.{side_long, middle_long, left_side, side_right, middle_side}
 use Rattle.flac_frame.proofs.Short.{one_short, frame_short}
 use Rattle.flac_frame.proofs.Sounds.{depth_small, limit_few}
-use Rattle.flac_frame.proofs.Wholes.{not_joined, chosen_there}
+use Rattle.flac_frame.proofs.Wholes.{not_joined, header_at, header_never}
 
 pub by_test : {R : Type 0} (b : Bool) → (b ≡ true → R) → (b ≡ false → R) → R
 by_test true f g = f refl
@@ -309,11 +309,6 @@ module _ (most : ℕ) (ps : List LinearPredictor) (depth : ℕ) (left right : Li
 
 -- ---- what the code knows
 
-pub header_at : (sound : Sound) (profile : Profile) (size rate code bits number : ℕ) (o : Option Header) (h : Header) → profile ≡ sound.profile → rate ≡ sound.rate → bits ≡ sound.bits → o ≡ chosen_header profile size rate code bits number → o ≡ Some h
-    → chosen_header sound.profile size sound.rate code sound.bits number ≡ Some h
-header_at sound profile size rate code bits number o h p r b is there =
-    ap (λ k. chosen_header k size sound.rate code sound.bits number) (sym p) ∙ ap (λ k. chosen_header profile size k code sound.bits number) (sym r) ∙ ap (λ k. chosen_header profile size rate code k number) (sym b) ∙ sym is ∙ there
-
 pub only_1 : (code : ℕ) → IsPairCode code → (code ≡ 8 → ⊥) → (code ≡ 9 → ⊥) → (code ≡ 10 → ⊥) → code ≡ 1
 only_1 code (inl e) a b d = e
 only_1 code (inr (inl e)) a b d = absurd (a e)
@@ -381,8 +376,7 @@ pub pair_choice : (ps : List LinearPredictor) (sound : Sound) (number n : ℕ) (
     → (profile : Profile) (rate bits : ℕ) (o : Option Header) → profile ≡ sound.profile → rate ≡ sound.rate → bits ≡ sound.bits → o ≡ chosen_header profile n rate code bits number → IfSome o IsHeader → number < 2 ^ 31
     → (made : FrameChoice) (old : List WideChoice) → 2 ≤ length old → made.code ≡ code → made.subframes.items ≡ set (set old 0 (first_kept code c)) 1 (second_kept code c) → made.bits ≡ choices_cost c code → IsChoiceWith ps sound n number block made
 pair_choice ps sound number n left right block c code planes best good orders some few left_long right_long left_fits right_fits is profile rate bits None p r b chosen valid small made old two coded placed sum =
-    absurd (chosen_there profile n rate code bits number some few (ap (λ z. is_some (rate_choice_in z rate)) p ∙ ap (λ z. is_some (rate_choice_in sound.profile z)) r ∙ good.rate)
-    (ap (λ z. is_some (depth_choice_in z bits)) p ∙ ap (λ z. is_some (depth_choice_in sound.profile z)) b ∙ good.bits) (few_codes code best.one) small (sym chosen))
+    absurd (header_never sound good profile n rate code bits number p r b (few_codes code best.one) some few small (sym chosen))
 pair_choice ps sound number n left right block c code planes best good orders some few left_long right_long left_fits right_fits is profile rate bits (Some h) p r b chosen valid small made old two coded placed sum =
     let there : chosen_header sound.profile n sound.rate code sound.bits number ≡ Some h = header_at sound profile n rate code bits number (Some h) h p r b chosen refl in
     let at : chosen_header sound.profile (length left) sound.rate code sound.bits number ≡ Some h = ap (λ z. chosen_header sound.profile z sound.rate code sound.bits number) left_long ∙ there in

@@ -1,5 +1,5 @@
 -- Places enough, after calls that leave them.
-use Rattle.std.proofs.Common.{◌≡◌, ◌∙◌, ap, subst, sym, ℕ, ◌+◌, ◌<◌, ◌≤◌, ◌^◌, arith, ℤ, List, length, Some}
+use Rattle.std.proofs.Common.{◌≡◌, ◌∙◌, ap, subst, ℕ, ◌<◌, ◌≤◌, ◌^◌, arith, ℤ, List, length, Some}
 use Rattle.std.proofs.Math.Nat.{pow-le-pow_right}
 use Rattle.flac_header.specs.declared.subset.Profile.{Profile}
 use Rattle.flac_subframe.specs.declared.limits.Limits.{Limits}
@@ -22,9 +22,6 @@ some_of n m same lt = omega arith
 
 pub few_of : (n m k : ℕ) → n ≤ m → m ≤ k → n ≤ k
 few_of n m k p q = omega arith
-
-pub deeper : (depth : ℕ) → (1 ≤ depth) × (depth ≤ 32) → (1 ≤ depth + 1) × (depth + 1 ≤ 33)
-deeper depth d = (omega (arith, d.0), omega (arith, d.1))
 
 -- places for the partitions of a greater order
 pub wide_for : (n m places : ℕ) → n ≤ m → 2 ^ m ≤ places → 2 ^ n ≤ places

@@ -1,5 +1,5 @@
 -- How many samples a subframe has.
-use Rattle.std.proofs.Common.{◌≡◌, ◌∙◌, refl, sym, ap, ℕ, ◌+◌, ◌-◌, arith, ℤ, List, ◌++◌, Bool, true, false, cond, Some, None, length, length-append, map}
+use Rattle.std.proofs.Common.{◌≡◌, ◌∙◌, refl, sym, ap, ℕ, ◌-◌, arith, ℤ, List, ◌++◌, Bool, true, false, cond, Some, None, length, length-append, map}
 use Rattle.std.proofs.lemmas.List.{length-map, length-replicate}
 use Rattle.flac_subframe.specs.declared.limits.Limits.{Limits}
 use Rattle.flac_subframe.specs.Prediction.{fixed_coefficients, Restored}

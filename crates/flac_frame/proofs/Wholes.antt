@@ -19,6 +19,7 @@ use Rattle.flac_subframe.specs.declared.limits.Limits.{Limits}
 use Rattle.flac_subframe.specs.Spelling.{subframe_spelling, IsSubframe}
 use Rattle.flac_subframe.specs.Subframe.{Form, samples_of}
 use Rattle.flac_subframe.proofs.Samples.{all_fit_is}
+use Rattle.flac_frame.specs.Audio.{Sound, IsSound}
 use Rattle.flac_frame.specs.Frame.{side_bit, each_fits}
 use Rattle.flac_frame.specs.Stereo.{joined}
 use Rattle.flac_frame.specs.Spelling.{frame_spelling, subframes_spelling, filled, checked, AreSubframes, HaveSamples}
@@ -42,13 +43,6 @@ header_stops h parts old new e fails = fails_first (header_spelling h) (parts ++
 -- what stands behind it was not written
 pub parts_stop : (h : Header) (parts : List Bool) (old mid new : Written) (e : Why) → Adds (header_spelling h) (restarted old) mid → Fails (mid.bits ++ parts) mid new e → Writes (behind_header h parts old.mark) (restarted old) new (failed e)
 parts_stop h parts old mid new e adds fails = fails_then _ adds (fails_first parts _ fails)
-
--- one of two subframes was not written
-pub first_fails : (h : Header) (a b : List Bool) (old mid new : Written) (e : Why) → Adds (header_spelling h) (restarted old) mid → Fails (mid.bits ++ a) mid new e → Writes (behind_header h (a ++ b) old.mark) (restarted old) new (failed e)
-first_fails h a b old mid new e adds fails = fails_then _ adds (fails_first (a ++ b) _ (fails_first a b fails))
-
-pub second_fails : (h : Header) (a b : List Bool) (old mid end new : Written) (e : Why) → Adds (header_spelling h) (restarted old) mid → Adds a mid end → Fails (end.bits ++ b) end new e → Writes (behind_header h (a ++ b) old.mark) (restarted old) new (failed e)
-second_fails h a b old mid end new e adds first fails = fails_then _ adds (fails_first (a ++ b) _ (fails_then b first fails))
 
 -- it is the spelling of a frame
 pub text_is : (depth : ℕ) (h : Header) (parts : List Bool) (fs : List Form) (m : Mark) → m.unread ≡ 0 → parts ≡ subframes_spelling depth h.channel_code 0 fs → behind_header h parts m ≡ frame_spelling depth (record { header = h; subframes = fs })
@@ -181,3 +175,15 @@ chosen_as p size rate code bits number few small =
 pub chosen_there : (p : Profile) (size rate code bits number : ℕ) → 1 ≤ size → size ≤ 65535 → is_some (rate_choice_in p rate) ≡ true → is_some (depth_choice_in p bits) ≡ true → code ≤ 10 → number < 2 ^ 31 → chosen_header p size rate code bits number ≡ None → ⊥
 chosen_there p size rate code bits number some less r d few small e =
     codes_there (size_choice size) (rate_choice_in p rate) (depth_choice_in p bits) size rate code number (size_has_code size some less) r d (sym (chosen_as p size rate code bits number few small) ∙ e)
+
+-- the header of samples
+pub header_at : (sound : Sound) (profile : Profile) (size rate code bits number : ℕ) (o : Option Header) (h : Header) → profile ≡ sound.profile → rate ≡ sound.rate → bits ≡ sound.bits → o ≡ chosen_header profile size rate code bits number → o ≡ Some h
+    → chosen_header sound.profile size sound.rate code sound.bits number ≡ Some h
+header_at sound profile size rate code bits number o h p r b is there =
+    ap (λ k. chosen_header k size sound.rate code sound.bits number) (sym p) ∙ ap (λ k. chosen_header profile size k code sound.bits number) (sym r) ∙ ap (λ k. chosen_header profile size rate code k number) (sym b) ∙ sym is ∙ there
+
+pub header_never : (sound : Sound) → IsSound sound → (profile : Profile) (size rate code bits number : ℕ) → profile ≡ sound.profile → rate ≡ sound.rate → bits ≡ sound.bits → code ≤ 10 → 1 ≤ size → size ≤ 65535 → number < 2 ^ 31
+    → chosen_header profile size rate code bits number ≡ None → ⊥
+header_never sound good profile size rate code bits number p r b coded some few small none =
+    chosen_there profile size rate code bits number some few (ap (λ z. is_some (rate_choice_in z rate)) p ∙ ap (λ z. is_some (rate_choice_in sound.profile z)) r ∙ good.rate)
+    (ap (λ z. is_some (depth_choice_in z bits)) p ∙ ap (λ z. is_some (depth_choice_in sound.profile z)) b ∙ good.bits) coded small none

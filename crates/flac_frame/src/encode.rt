@@ -1,6 +1,6 @@
 //! Encodes blocks of samples as frames.
 
-ghost use Rattle.std.specs.Prelude.{◌≡◌, ◌≤◌, ◌<◌, ◌+◌, ◌-◌, ◌*◌, ◌^◌, true, map, length, flat_map, IfOk};
+ghost use Rattle.std.specs.Prelude.{◌≡◌, ◌≤◌, ◌<◌, ◌+◌, ◌-◌, ◌*◌, ◌^◌, true, length, take, drop, flat_map, IfOk};
 ghost use Rattle.flac_bits.specs.Written.{Writes};
 ghost use Rattle.flac_subframe.specs.Handed.{AreWithin};
 ghost use Rattle.flac_subframe.specs.Spelling.{subframe_spelling};
@@ -34,6 +34,15 @@ pub(crate) fn widen(samples: &[i32], out: &mut [i64])
     }
 }
 
+/// `size` samples of a channel from `start` on.
+pub(crate) fn part_of(channel: &[i32], start: usize, size: usize) -> &[i32]
+    requires { start + size ≤ length channel.now }
+    ensures part { result.now ≡ take size (drop start channel.now) }
+    ensures long { length result.now ≡ size }
+{
+    &channel[start..start + size]
+}
+
 /// Chooses a shortest subframe of each channel by itself, and returns how many bits they take.
 fn choose_channels(
     subject: &Subject<'_>,
@@ -54,14 +63,13 @@ fn choose_channels(
 {
     let audio = subject.audio;
     let start = subject.start;
-    let size = samples.len();
+    let size = subject.size;
     let depth = audio.bits();
     let limits = limits_at(audio.profile(), audio.rate());
     let channels = audio.channels();
     let mut bits = 0;
     for i in 0..channels.len() {
-        let channel = &channels[i];
-        widen(&channel[start..start + size], samples);
+        widen(part_of(&channels[i], start, size), samples);
         let choice = &mut subframes[i];
         choose_in(
             samples,
@@ -96,9 +104,10 @@ fn choose_apart(
     ensures room { workspace.new ≡ workspace.old }
 {
     let audio = subject.audio;
-    let size = samples.len() as u32;
+    let size = subject.size as u32;
     let depth = audio.bits();
-    choice.code = audio.channels().len() as u8 - 1;
+    let channels = audio.channels();
+    choice.code = channels.len() as u8 - 1;
     choice.bits = choose_channels(subject, samples, workspace, &mut choice.subframes);
     let _header = FrameHeader::chosen_in(
         audio.profile(),
@@ -131,7 +140,8 @@ fn choose_first(
     ensures many { length choice.new.subframes.items ≡ length choice.old.subframes.items }
     ensures room { workspace.new ≡ workspace.old }
 {
-    if subject.audio.channels().len() == 2 {
+    let channels = subject.audio.channels();
+    if channels.len() == 2 {
         choose_pair(subject, places, choices, workspace, choice);
         return;
     }
@@ -155,13 +165,12 @@ fn write_channels<W: Target>(
 {
     let audio = subject.audio;
     let start = subject.start;
-    let size = samples.len();
+    let size = subject.size;
     let depth = audio.bits();
     let channels = audio.channels();
     let subframes = choice.subframes.as_slice();
     for i in 0..channels.len() {
-        let channel = &channels[i];
-        widen(&channel[start..start + size], samples);
+        widen(part_of(&channels[i], start, size), samples);
         write_subframe_in(
             &subframes[i],
             subject.predictors,
@@ -198,7 +207,8 @@ fn write_subframes<W: Target>(
     ensures text { Writes (subframes_spelling subject.now.audio.now.bits choice.now.code 0 (forms_of subject.now.predictors.now choice.now.subframes.items (kept_as choice.now.code (block_of subject.now.start subject.now.size subject.now.audio.now.channels)))) writer.old writer.new result }
     ensures room { workspace.new ≡ workspace.old }
 {
-    if subject.audio.channels().len() == 2 {
+    let channels = subject.audio.channels();
+    if channels.len() == 2 {
         return write_pair(subject, choice, places, workspace, writer);
     }
     let size = subject.size;
@@ -243,13 +253,14 @@ fn write_first<W: Target>(
 /// Each subframe is a shortest one over constant, verbatim, the fixed predictors and the linear ones that are passed. A
 /// linear predictor is used only if its order is below the number of samples and each residual value is above -2^31 and
 /// below 2^31. Among equals the fixed ones come first, then the linear ones in the order of the list. Two channels are
-/// written as left and right, left and side, side and right, or mid and side (section 9.1.3), whichever takes the fewest
-/// bits; among equals the first.
+/// written as left and right, left and side, side and right, or mid and side (section 9.1.3), whichever takes the
+/// fewest bits; among equals the first.
 ///
 /// The range is within the samples, not empty, and no longer than the buffers' blocks; the number is below 2^31. The
-/// order of each predictor is at most [`crate::greatest_order`]: [`LinearPredictor::are_within`] tests it. The buffers
-/// are made for the profile of the samples or for [`flac_header::Profile::Lax`], and the choice for that of the buffers. The
-/// choice has a place for each channel.
+/// order of each predictor is at most [`crate::greatest_order`]: [`LinearPredictor::are_within`] tests it.
+///
+/// The buffers are made for the profile of the samples, or for [`flac_header::Profile::Lax`]; the choice is made for the
+/// profile of the buffers, and has a place for each channel. Nothing is allocated.
 pub fn choose_frame(
     audio: &Audio,
     range: Range<usize>,
@@ -270,10 +281,12 @@ pub fn choose_frame(
     ensures places { HasPlaces (length audio.now.channels) buffers.old.most choice.new }
     ensures many { length choice.new.subframes.items ≡ length choice.old.subframes.items }
 {
+    let _places = buffers.places.len();
+    let first = range.start;
     let subject = Subject {
         audio,
-        start: range.start,
-        size: range.end - range.start,
+        start: first,
+        size: range.end - first,
         number,
         predictors,
     };
@@ -316,10 +329,12 @@ pub fn write_frame<W: Target>(
     ensures kept { buffers.new ≡ buffers.old }
     ensures wrote { WritesFrameWith predictors.now audio.now (range.end - range.start) number (block_of range.start (range.end - range.start) audio.now.channels) writer.old writer.new result }
 {
+    let _places = buffers.places.len();
+    let begin = range.start;
     let subject = Subject {
         audio,
-        start: range.start,
-        size: range.end - range.start,
+        start: begin,
+        size: range.end - begin,
         number,
         predictors,
     };
@@ -387,10 +402,13 @@ pub fn encode_frame_with<W: Target>(
 {
     let _channels = audio.channels();
     let before = writer.bytes_written();
+    let _places = buffers.places.len();
+    let start = range.start;
+    let size = range.end - range.start;
     let subject = Subject {
         audio,
-        start: range.start,
-        size: range.end - range.start,
+        start,
+        size,
         number,
         predictors,
     };

@@ -18,7 +18,7 @@ use flac_subframe::WideChoice;
 use std::alloc::Global;
 
 /// How a block of samples is written as a frame, as [`crate::choose_frame`] chooses it: the channel code, and the
-/// subframe of each channel (RFC 9639, section 9). It has no samples. For each channel it takes some 320 bytes in
+/// subframe of each channel (RFC 9639, section 9). It has no samples. For each channel it takes some 340 bytes in
 /// [`Profile::Subset`], and some 33 kB in [`Profile::Lax`]; a copy that [`FrameChoice::kept`] makes takes one byte for
 /// each partition of its residuals.
 #[derive(Drop)]
@@ -122,8 +122,8 @@ impl FrameChoice {
         })
     }
 
-    /// The same choice in as little memory as it needs: one byte for each partition of its residuals. It can be written,
-    /// and is no place for another choice.
+    /// Copies the choice into as little memory as it needs: one byte for each partition of its residuals. The copy can be
+    /// written, and is no place for another choice.
     ///
     /// # Errors
     /// [`Why::Memory`] if an allocation fails.
@@ -132,10 +132,10 @@ impl FrameChoice {
         ensures many { IfOk result (λ c. length c.subframes.items ≡ length self.now.subframes.items) }
         ensures memory { IfErr result (λ e. e ≡ Why.Memory) }
     {
-        let channels = self.subframes.len();
-        let mut subframes = Vec::with_capacity(alloc, channels)?;
-        for channel in 0..channels {
-            subframes.push(self.subframes[channel].kept(alloc)?)?;
+        let own = self.subframes.as_slice();
+        let mut subframes = Vec::with_capacity(alloc, own.len())?;
+        for channel in 0..own.len() {
+            subframes.push(own[channel].kept(alloc)?)?;
         }
         Ok(FrameChoice {
             code: self.code,

@@ -15,7 +15,7 @@ ghost use Rattle.flac_frame.specs.Stereo.{side_of, middle_of, kept_as};
 
 use crate::audio::Audio;
 use crate::channels::side_bit;
-use crate::encode::widen;
+use crate::encode::{part_of, widen};
 use crate::frame_choice::FrameChoice;
 use crate::pair_choices::PairChoices;
 use crate::plane::choose_plane;
@@ -134,14 +134,6 @@ fn choose_planes(
         choices.side.bits(),
         choices.middle.bits(),
     )
-}
-
-/// `size` samples of a channel from `start` on.
-fn part_of(channel: &[i32], start: usize, size: usize) -> &[i32]
-    requires { start + size ≤ length channel.now }
-    ensures { result.now ≡ take size (drop start channel.now) }
-{
-    &channel[start..start + size]
 }
 
 /// Puts samples of two channels from `start` on into places, and their side and middle.
@@ -289,24 +281,16 @@ fn write_two<W: Target>(
     ensures room { workspace.new ≡ workspace.old }
 {
     let code = choice.code;
-    let depth = subject.audio.bits();
     let _channels = subject.audio.channels();
-    write_subframe_in(
-        &choice.subframes[0],
-        subject.predictors,
-        first,
-        depth + side_bit(code, 0),
-        workspace,
-        writer,
-    )?;
-    write_subframe_in(
-        &choice.subframes[1],
-        subject.predictors,
-        second,
-        depth + side_bit(code, 1),
-        workspace,
-        writer,
-    )
+    let depth = subject.audio.bits();
+    let subframes = choice.subframes.as_slice();
+    let left = &subframes[0];
+    let right = &subframes[1];
+    let left_depth = depth + side_bit(code, 0);
+    let right_depth = depth + side_bit(code, 1);
+    let predictors = subject.predictors;
+    write_subframe_in(left, predictors, first, left_depth, workspace, writer)?;
+    write_subframe_in(right, predictors, second, right_depth, workspace, writer)
 }
 
 /// Writes the subframes that were chosen of a block of two channels, with places for twice as many samples.

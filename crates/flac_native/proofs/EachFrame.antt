@@ -8,10 +8,9 @@ use Rattle.flac_bits.specs.Meaning.{Spells, AllKept}
 use Rattle.flac_bits.proofs.ItemSpellings.{fresh_unread, fresh_check8, fresh_check16}
 use Rattle.flac_meta.specs.Info.{Info, KeepsRules}
 use Rattle.flac_meta.specs.declared.seen.Seen.{Seen}
-use Rattle.flac_header.specs.Header.{Header, channels_of, depth_of, greatest_block}
-use Rattle.flac_header.specs.declared.subset.Profile.TheVariants.{Subset}
+use Rattle.flac_header.specs.Header.{Header, channels_of, greatest_in}
 use Rattle.flac_frame.specs.Audio.{Sound, samples_each}
-use Rattle.flac_frame.specs.Frame.{Frame, frame, header_rules, left_by, breaks_sequence, breaks_size}
+use Rattle.flac_frame.specs.Frame.{Frame, frame, header_rules, rate_in, depth_in, left_by, breaks_sequence, breaks_size}
 use Rattle.flac_frame.specs.declared.before.Before.{Before}
 use Rattle.flac_frame.specs.Spelling.{frame_spelling}
 use Rattle.flac_frame.proofs.Encodings.{encodings_are_frames}
@@ -84,20 +83,20 @@ module _ (p : Cut) (a : Sound) (info : Info) (q : Planned p) (f : Fit p a) (suit
       go (Some k) (inr e) full = let is : k ≡ full_before b number = cc in rw (full, is) refl
 
   pub frame_here : (number : ℕ) (before : Option Before) (m : Mark) (t : List Bool) → m.unread ≡ 0 → (before ≡ None) ⊎ (before ≡ Some (full_before b number)) → SpellsFrame a (frame_of b a number) t
-      → Spells (frame Subset info before) (fresh m) t (frame_of b a number)
+      → Spells (frame a.profile info before) (fresh m) t (frame_of b a number)
   frame_here number before m t z left s =
       let h = s.form.header in
       let size = size_of b total number in
       let x = frame_of b a number in
       let r = encodings_are_frames a size number x.channels s.form info suits.rate suits.depth (suits.channels ∙ sym (length-map a.channels (λ c. take size (drop (b * number) c)))) s.encoding in
-      let in_rate : size ≤ greatest_block info.rate = subst (λ r. size ≤ greatest_block r) (f.rate ∙ sym suits.rate) (omega (arith, q.greatest)) in
+      let in_rate : size ≤ greatest_in a.profile info.rate = subst (λ r. size ≤ greatest_in a.profile r) (f.rate ∙ sym suits.rate) (subst (λ x. size ≤ greatest_in x p.rate) f.profile (omega (arith, q.greatest))) in
       let at_most : h.size ≤ b = omega (arith, r.sized) in
-      let follows : AllKept (header_rules Subset info before h) = (
+      let follows : AllKept (header_rules a.profile info before h) = (
         ap not (r.allowed in_rate),
-        (same_three h.rate info.rate (channels_of h.channel_code) info.channels (depth_of h.depth_code) info.depth r.format.rate r.format.channels r.format.depth, (follows_on b number before h r.fixed r.numbered left, (sized info b number before h suits.least_block suits.greatest_block at_most left, tt))),
+        (same_three (rate_in a.profile info h) info.rate (channels_of h.channel_code) info.channels (depth_in a.profile info h) info.depth r.format.rate r.format.channels r.format.depth, (follows_on b number before h r.fixed r.numbered left, (sized info b number before h suits.least_block suits.greatest_block at_most left, tt))),
       ) in
       let k = r.frame before follows in
-      (frames_spelled Subset info before (fresh m) t x suits.rules (fresh_unread m z) (fresh_check8 m z) (fresh_check16 m z)).1 (record {
+      (frames_spelled a.profile info before (fresh m) t x suits.rules (fresh_unread m z) (fresh_check8 m z) (fresh_check16 m z)).1 (record {
         form = s.form;
         valid = k.0;
         spelling = s.spelling ∙ ap (λ d. frame_spelling d s.form) (sym suits.depth);
@@ -106,12 +105,12 @@ module _ (p : Cut) (a : Sound) (info : Info) (q : Planned p) (f : Fit p a) (suit
       })
 
   abbrev pub at_frame : ℕ → Seen → Option Before → ℕ → List ℕ → Progress
-  at_frame index seen before samples message = record { stand = record { profile = Subset; phase = Frames; index = index; seen = seen; info = Some info; before = before }; samples = samples; message = message }
+  at_frame index seen before samples message = record { stand = record { profile = a.profile; phase = Frames; index = index; seen = seen; info = Some info; before = before }; samples = samples; message = message }
 
   abbrev pub width : ℕ
   width = sample_width a.bits
 
-  pub as_piece : (index samples : ℕ) (seen : Seen) (before : Option Before) (message : List ℕ) (m : Mark) (t : List Bool) (x : Frame) → Spells (frame Subset info before) m t x
+  pub as_piece : (index samples : ℕ) (seen : Seen) (before : Option Before) (message : List ℕ) (m : Mark) (t : List Bool) (x : Frame) → Spells (frame a.profile info before) m t x
       → Spells (layout (at_frame index seen before samples message).stand) m t (framed x)
   unfolding layout frame_behind
   as_piece index samples seen before message m t x s = (x, t, [], sym (append-nil t), s, (refl, refl))

@@ -11,7 +11,6 @@ use Rattle.flac_bits.proofs.ItemSpellings.{fresh_unread, behind_whole}
 use Rattle.flac_meta.specs.Info.{Info}
 use Rattle.flac_meta.specs.declared.block.Block.{Block}
 use Rattle.flac_meta.specs.declared.block.Block.TheVariants as block_of
-use Rattle.flac_header.specs.declared.subset.Profile.TheVariants.{Subset}
 use Rattle.flac_header.specs.declared.subset.Profile.{Profile}
 use Rattle.flac_frame.specs.Audio.{Sound, samples_each}
 use Rattle.flac_frame.specs.declared.before.Before.{Before}
@@ -58,30 +57,30 @@ front_of p m (x ∷ xs) ys text (part, left, split, spelled, fits, others) =
 -- ---- the marker and the blocks
 
 -- a head that can be read is read from the bits that are written for it
-pub head_joined : (i : Info) (list : List Block) (more : List Piece) (text : List Bool) → Joined grammar (opening Subset) first (head_parts i list ++ more) text → Joined grammar (opening Subset) first (head_parts i list) (head_spelling i list)
-head_joined i list more text j =
+pub head_joined : (profile : Profile) (i : Info) (list : List Block) (more : List Piece) (text : List Bool) → Joined grammar (opening profile) first (head_parts i list ++ more) text → Joined grammar (opening profile) first (head_parts i list) (head_spelling i list)
+head_joined profile i list more text j =
     let marker = unsigned 32 0x664C6143 in
-    let head = front_of (opening Subset) first (head_parts i list) more text j in
-    let all = valid_after Subset first i list head.0 head.1 in
+    let head = front_of (opening profile) first (head_parts i list) more text j in
+    let all = valid_after profile first i list head.0 head.1 in
     let mark = past marker (fresh first) in
     let u : mark.unread ≡ 0 = behind_whole marker (fresh first) (fresh_unread first refl) refl in
-    (marker, blocks_spelling (block_of.StreamInfo i ∷ list), refl, marker_here Subset (fresh first), tt, spelled_blocks (next (opening Subset) marked) mark (block_of.StreamInfo i) list refl u all)
+    (marker, blocks_spelling (block_of.StreamInfo i ∷ list), refl, marker_here profile (fresh first), tt, spelled_blocks (next (opening profile) marked) mark (block_of.StreamInfo i) list refl u all)
 
 -- where frames come, with this in the stand
 abbrev standing : Profile → Phase → Option Info → Option Before → Progress → Progress
 standing profile phase info before s = record { stand = record { profile = profile; phase = phase; index = s.stand.index; seen = s.stand.seen; info = info; before = before }; samples = s.samples; message = s.message }
 
-as_standing : (i : Info) (s : Progress) → AtFrames Subset i s → s ≡ standing Subset Frames (Some i) None s
-as_standing i s at =
-    ap (λ k. standing k s.stand.phase s.stand.info s.stand.before s) at.judged ∙ ap (λ k. standing Subset k s.stand.info s.stand.before s) at.phase
-    ∙ ap (λ k. standing Subset Frames k s.stand.before s) at.info ∙ ap (λ k. standing Subset Frames (Some i) k s) at.before
+as_standing : (profile : Profile) (i : Info) (s : Progress) → AtFrames profile i s → s ≡ standing profile Frames (Some i) None s
+as_standing profile i s at =
+    ap (λ k. standing k s.stand.phase s.stand.info s.stand.before s) at.judged ∙ ap (λ k. standing profile k s.stand.info s.stand.before s) at.phase
+    ∙ ap (λ k. standing profile Frames k s.stand.before s) at.info ∙ ap (λ k. standing profile Frames (Some i) k s) at.before
 
 -- ---- and the first frames
 
-pub up_to_frame : (p : Cut) (list : List Block) (a : Sound) (least greatest : ℕ) (frames : List (List Bool)) (number : ℕ) → plan_fault p ≡ None → fits_plan p a ≡ true → AreFrames p a frames → AreSizes frames least greatest → number ≤ length frames
-    → Joined grammar (opening Subset) first (head_parts (info_of p a least greatest) list) (head_spelling (info_of p a least greatest) list)
-    → Reaches (info_of p a least greatest) (opening Subset) first (head_parts (info_of p a least greatest) list ++ map framed (frames_from p.block_size a number 0)) (head_spelling (info_of p a least greatest) list ++ joined (take number frames))
-up_to_frame p list a least greatest frames number planned_is fits f s few head =
+up_to_here : (p : Cut) (list : List Block) (a : Sound) (least greatest : ℕ) (frames : List (List Bool)) (number : ℕ) → plan_fault p ≡ None → fits_plan p a ≡ true → AreFrames p a frames → AreSizes frames least greatest → number ≤ length frames
+    → Joined grammar (opening a.profile) first (head_parts (info_of p a least greatest) list) (head_spelling (info_of p a least greatest) list)
+    → Reaches (info_of p a least greatest) (opening a.profile) first (head_parts (info_of p a least greatest) list ++ map framed (frames_from p.block_size a number 0)) (head_spelling (info_of p a least greatest) list ++ joined (take number frames))
+up_to_here p list a least greatest frames number planned_is fits f s few head =
     let q = planned p planned_is in
     let k = fit p a fits in
     let small = least_small p a frames least greatest f s in
@@ -90,16 +89,26 @@ up_to_frame p list a least greatest frames number planned_is fits f s few head =
     let suits : Suits p a i = record { least_block = refl; greatest_block = refl; rate = refl; channels = refl; depth = refl; rules = keeps_rules p a least greatest q k small.0 small.1 } in
     let texts = take number frames in
     let long : length texts ≡ number = length-take-le number frames few in
-    let all = valid_after Subset first i list (head_spelling i list) head in
-    let here = after grammar (opening Subset) (head_parts i list) in
-    let at = head_leaves Subset i list all.1 in
+    let all = valid_after a.profile first i list (head_spelling i list) head in
+    let here = after grammar (opening a.profile) (head_parts i list) in
+    let at = head_leaves a.profile i list all.1 in
     let each : (j : ℕ) → j < length texts → SpellsFrame a (frame_of b a (0 + j)) (slice_index_or texts j []) = λ j h.
     subst (λ t. SpellsFrame a (frame_of b a (0 + j)) t) (sym (get_or-take number frames j [] (omega (arith, h, long))))
     (subst (λ n. SpellsFrame a (frame_of b a n) (slice_index_or frames j [])) (let e : j ≡ 0 + j = omega arith in e) (f.each j (omega (arith, h, long, few)))) in
     let more : (m : Mark) → m.unread ≡ 0 → Reaches i here m (map framed (frames_from b a number 0)) (joined texts) = λ m z.
     let r = frames_on p a i q k suits texts 0 here.stand.index here.samples here.stand.seen None here.message m z (omega (arith, long, few, f.many)) (λ more. inl refl) each in
-    subst (λ n. Reaches i here m (map framed (frames_from b a n 0)) (joined texts)) long (subst (λ w. Reaches i w m (map framed (frames_from b a (length texts) 0)) (joined texts)) (sym (as_standing i here at)) r) in
-    and_then i (opening Subset) first (head_parts i list) (map framed (frames_from b a number 0)) (head_spelling i list) (joined texts) nothing_told refl head more
+    subst (λ n. Reaches i here m (map framed (frames_from b a n 0)) (joined texts)) long (subst (λ w. Reaches i w m (map framed (frames_from b a (length texts) 0)) (joined texts)) (sym (as_standing a.profile i here at)) r) in
+    and_then i (opening a.profile) first (head_parts i list) (map framed (frames_from b a number 0)) (head_spelling i list) (joined texts) nothing_told refl head more
+
+pub up_to_frame : (p : Cut) (list : List Block) (a : Sound) (least greatest : ℕ) (frames : List (List Bool)) (number : ℕ) → plan_fault p ≡ None → fits_plan p a ≡ true → AreFrames p a frames → AreSizes frames least greatest → number ≤ length frames
+    → Joined grammar (opening p.profile) first (head_parts (info_of p a least greatest) list) (head_spelling (info_of p a least greatest) list)
+    → Reaches (info_of p a least greatest) (opening p.profile) first (head_parts (info_of p a least greatest) list ++ map framed (frames_from p.block_size a number 0)) (head_spelling (info_of p a least greatest) list ++ joined (take number frames))
+up_to_frame p list a least greatest frames number planned_is fits f s few head =
+    let k = fit p a fits in
+    let i = info_of p a least greatest in
+    let there = subst (λ x. Joined grammar (opening x) first (head_parts i list) (head_spelling i list)) k.profile head in
+    subst (λ x. Reaches i (opening x) first (head_parts i list ++ map framed (frames_from p.block_size a number 0)) (head_spelling i list ++ joined (take number frames))) (sym k.profile)
+    (up_to_here p list a least greatest frames number planned_is fits f s few there)
 
 -- ---- the parts before a frame, and those from it on
 

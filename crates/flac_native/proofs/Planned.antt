@@ -1,15 +1,15 @@
 -- What holds of a plan.
-use Rattle.std.proofs.Common.{◌≡◌, ℕ, ◌^◌, ◌<◌, ◌≤◌, Bool, true, false, cond, ◌&&◌, ◌||◌, nat_eq, nat_lt, nat_le, length, Option, Some, None, is_none, List, refl, sym, ap, subst, ◌∙◌, arith}
+use Rattle.std.proofs.Common.{◌≡◌, ℕ, ◌^◌, ◌<◌, ◌≤◌, Bool, true, false, cond, ◌&&◌, ◌||◌, nat_eq, nat_lt, nat_le, length, Option, Some, None, is_none, List, refl, ap, subst, ◌∙◌, arith}
 use Rattle.std.proofs.lemmas.Bool.Decides.{nat_tests}
 use Rattle.flac_meta.specs.Info.{KeepsRules}
-use Rattle.flac_header.specs.Header.{greatest_block, greatest_in}
+use Rattle.flac_header.specs.Header.{greatest_in}
 use Rattle.flac_header.specs.Choice.{rate_choice, depth_choice, rate_choice_in, depth_choice_in}
 use Rattle.flac_header.specs.declared.subset.Profile.{Profile}
 use Rattle.flac_header.specs.declared.subset.Profile.TheVariants.{Subset, Lax}
 use Rattle.flac_subframe.specs.Handed.{AreWithin}
 use Rattle.flac_subframe.specs.Room.{Room}
 use Rattle.flac_subframe.specs.declared.linear.LinearPredictor.{LinearPredictor}
-use Rattle.flac_frame.specs.Encoding.{partition_limit}
+use Rattle.flac_frame.specs.Encoding.{partition_limit, most_in}
 use Rattle.flac_frame.specs.Frame.{limits_at}
 use Rattle.flac_frame.specs.declared.setup.SetupFault.TheVariants.{BadRate, BadDepth, BadChannels, TooLong, BadBlockSize, TooManyPoints}
 use Rattle.flac_frame.specs.Audio.{Sound, samples_each}
@@ -159,6 +159,10 @@ block_small p q = omega (arith, q.greatest, greatest_small p.profile p.rate)
 pub orders_of : (p : Cut) (a : Sound) → Planned p → Fit p a → AreWithin (limits_at a.profile a.rate).linear p.predictors
 orders_of p a q f =
     subst (λ x. AreWithin (limits_at x a.rate).linear p.predictors) f.profile (subst (λ r. AreWithin (limits_at p.profile r).linear p.predictors) f.rate (within p.profile p.rate p.predictors q.predictors))
+
+-- arrays that were made for the plan
+pub room_is : (p : Cut) (r : Room) (size : ℕ) (profile : Profile) → size ≡ p.block_size → profile ≡ p.profile → r ≡ record { block = size; most = most_in profile } → r ≡ room_of p
+room_is p r size profile s x is = is ∙ ap (λ n. record { block = n; most = most_in profile }) s ∙ ap (λ k. record { block = p.block_size; most = most_in k }) x
 
 -- the plan's arrays have room for the partition orders of the samples
 pub partition_of : (p : Cut) (a : Sound) (r : Room) → Fit p a → r ≡ room_of p → partition_limit a ≤ r.most

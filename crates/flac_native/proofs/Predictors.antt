@@ -1,6 +1,5 @@
 -- Linear predictors that can be tried.
-use Rattle.std.proofs.Common.{◌≡◌, ℕ, ◌<◌, ◌≤◌, Bool, true, false, not, cond, ◌&&◌, nat_lt, nat_le, List, [], ◌∷◌, length, All, IsTrue, ◌↔◌, Some, None, refl, sym, ap, subst, ◌∙◌, inl, inr, Option, arith}
-use Rattle.std.specs.List.{list_all}
+use Rattle.std.proofs.Common.{◌≡◌, ℕ, ◌<◌, ◌≤◌, Bool, true, false, not, cond, ◌&&◌, nat_lt, nat_le, List, [], ◌∷◌, length, IsTrue, ◌↔◌, Some, None, refl, sym, subst, inl, inr, Option, arith}
 use Rattle.std.proofs.lemmas.Bool.{cases_Bool}
 use Rattle.std.proofs.lemmas.Bool.Decides.{nat_tests}
 use Rattle.std.proofs.lemmas.List.Elements.{All-nil, All-cons, All-head, All-tail}
@@ -55,6 +54,11 @@ within profile rate ps e =
     let a = none_here (nat_lt 64 (length ps)) TooManyPredictors _ e in
     let b = none_here (not (orders_fit (limits_at profile rate).linear ps)) PredictorOrder None a.1 in
     orders_are (limits_at profile rate).linear ps (not_false _ b.0)
+
+-- an empty list can always be tried
+pub none_tried : (profile : Profile) (rate : ℕ) (ps : List LinearPredictor) → ps ≡ [] → predictors_fault profile rate ps ≡ None
+unfolding predictors_fault
+none_tried profile rate ps is = rw is refl
 
 -- ---- the tests
 

@@ -21,17 +21,17 @@ use Rattle.flac_meta.specs.Valid.{AllAre, FitsFields, IsInfo}
 use Rattle.flac_meta.specs.declared.seen.Seen.{Seen}
 use Rattle.flac_meta.specs.declared.block.Block.{Block}
 use Rattle.flac_meta.specs.declared.block.Block.TheVariants as block_of
-use Rattle.flac_header.specs.Choice.{rate_choice, depth_choice}
-use Rattle.flac_header.specs.Header.{channels_of, depth_of, greatest_block}
-use Rattle.flac_header.specs.declared.subset.Profile.TheVariants.{Subset}
+use Rattle.flac_header.specs.Choice.{rate_choice_in, depth_choice_in}
+use Rattle.flac_header.specs.Header.{channels_of, greatest_in}
+use Rattle.flac_subframe.specs.declared.linear.LinearPredictor.{LinearPredictor}
 use Rattle.flac_bits.specs.declared.why.Why.{Why}
 use Rattle.flac_bits.specs.declared.target.Target as target
 use Rattle.flac_bits.proofs.Holding.{bits_of-append}
 use Rattle.flac_frame.specs.Audio.{Sound, IsSound, samples_each, as_long, each_small, channels_fault, audio_fault}
 use Rattle.flac_frame.specs.declared.setup.SetupFault.{SetupFault}
 use Rattle.flac_frame.specs.declared.setup.SetupFault.TheVariants.{BadChannels, LengthsDiffer, SampleTooLarge, TooLong, BadBlockSize}
-use Rattle.flac_frame.specs.Encoding.{IsEncoding, IsLeastFrame, IsShort, block_of as part_of}
-use Rattle.flac_frame.specs.Frame.{Frame, frame, header_rules, left_by}
+use Rattle.flac_frame.specs.Encoding.{IsEncoding, IsLeastWith, IsShort, block_of as part_of}
+use Rattle.flac_frame.specs.Frame.{Frame, frame, header_rules, rate_in, depth_in, left_by}
 use Rattle.flac_frame.specs.Spelling.{FrameForm, frame_spelling}
 use Rattle.flac_frame.specs.declared.before.Before.{Before}
 use Rattle.flac_frame.proofs.Encodings.{encodings_are_frames}
@@ -65,14 +65,14 @@ pub record Shaped (s : Shape) : Type 0 where
   pub some : 1 ≤ s.channels
   pub few : s.channels ≤ 8
   pub least : 16 ≤ s.block_size
-  pub greatest : s.block_size ≤ greatest_block s.rate
-  pub small : s.block_size ≤ 16384
+  pub greatest : s.block_size ≤ greatest_in s.profile s.rate
+  pub small : s.block_size ≤ 65535
   pub least_rate : 1 ≤ s.rate
   pub rate : s.rate < 2 ^ 20
-  pub least_bits : 8 ≤ s.bits
+  pub least_bits : 4 ≤ s.bits
   pub bits : s.bits ≤ 32
-  pub has_rate : is_none (rate_choice s.rate) ≡ false
-  pub has_bits : is_none (depth_choice s.bits) ≡ false
+  pub has_rate : is_none (rate_choice_in s.profile s.rate) ≡ false
+  pub has_bits : is_none (depth_choice_in s.profile s.bits) ≡ false
 
 pub shaped : (s : Shape) → shape_fault s ≡ None → Shaped s
 unfolding shape_fault
@@ -83,15 +83,15 @@ shaped s e =
     let d = first_none _ _ _ c.1 in
     let channels = either_false _ _ c.0 in
     let sizes = either_false _ _ d.0 in
-    let greatest = not_less (greatest_block s.rate) s.block_size sizes.1 in
-    let rate = rate_range s.rate a.0 in
-    let bits = depth_range s.bits b.0 in
+    let greatest = not_less (greatest_in s.profile s.rate) s.block_size sizes.1 in
+    let rate = rate_range s.profile s.rate a.0 in
+    let bits = depth_range s.profile s.bits b.0 in
     record {
       some = not_zero s.channels channels.0;
       few = not_less 8 s.channels channels.1;
       least = not_less s.block_size 16 sizes.0;
       greatest = greatest;
-      small = omega (arith, greatest, greatest_small s.rate);
+      small = omega (arith, greatest, greatest_small s.profile s.rate);
       least_rate = rate.0;
       rate = rate.1;
       least_bits = bits.0;
@@ -146,28 +146,28 @@ may_end q i phase told = rw (phase, told) refl
 kept_at : (q : Progress) (s : Shape) → q.stand.info ≡ Some (open_info s) → AllKept (end_rules q.stand.info q.samples q.message)
 kept_at q s told = rw told (kept_open s q.samples q.message)
 
-head_run : (s : Shape) (list : List Block) → Shaped s → list_fault info_seen list ≡ None → AllAre FitsFields list → Joined grammar (opening Subset) (beginning Truncated) (head_parts (open_info s) list) (head_spelling (open_info s) list)
+head_run : (s : Shape) (list : List Block) → Shaped s → list_fault info_seen list ≡ None → AllAre FitsFields list → Joined grammar (opening s.profile) (beginning Truncated) (head_parts (open_info s) list) (head_spelling (open_info s) list)
 head_run s list q good fits =
     let i = open_info s in
     let is : IsInfo i = record { rules = keeps_open s q; digest = zero_bytes } in
-    let there : (seen : Seen) (m : Mark) → m.unread ≡ 0 → Runs i [] (behind Subset i true 0 seen) m [] [] = λ seen m z. (refl, record { phase = refl; info = refl; samples = refl; message = refl }) in
+    let there : (seen : Seen) (m : Mark) → m.unread ≡ 0 → Runs i [] (behind s.profile i true 0 seen) m [] [] = λ seen m z. (refl, record { phase = refl; info = refl; samples = refl; message = refl }) in
     let start = beginning Truncated in
     let marker = unsigned 32 0x664C6143 in
     let m = past marker (fresh start) in
     let z : m.unread ≡ 0 = behind_whole marker (fresh start) refl refl in
     let blocks = blocks_spelling (block_of.StreamInfo i ∷ list) in
     let parts = closing (block_of.StreamInfo i ∷ list) in
-    let r = one_more i [] (opening Subset) start marked (parts ++ []) marker (blocks ++ []) (marker_here Subset (fresh start)) tt (info_run Subset i [] [] [] there list m z is good fits) in
-    subst (λ k. Joined grammar (opening Subset) start (marked ∷ k) (marker ++ blocks)) (append-nil parts) (subst (λ t. Joined grammar (opening Subset) start (marked ∷ (parts ++ [])) (marker ++ t)) (append-nil blocks) r.0)
+    let r = one_more i [] (opening s.profile) start marked (parts ++ []) marker (blocks ++ []) (marker_here s.profile (fresh start)) tt (info_run s.profile i [] [] [] there list m z is good fits) in
+    subst (λ k. Joined grammar (opening s.profile) start (marked ∷ k) (marker ++ blocks)) (append-nil parts) (subst (λ t. Joined grammar (opening s.profile) start (marked ∷ (parts ++ [])) (marker ++ t)) (append-nil blocks) r.0)
 
 pub opened : {S : Type 0} (s : Shape) (t : S) (list : List Block) → shape_fault s ≡ None → list_fault info_seen list ≡ None → AllAre FitsFields list
     → StandsFor (unpushed s t) (head_parts (open_info s) list) (head_spelling (open_info s) list)
 opened s t list fault good fits =
     let i = open_info s in
     let j = head_run s list (shaped s fault) good fits in
-    let all = valid_after Subset (beginning Truncated) i list (head_spelling i list) j in
-    let at = head_leaves Subset i list all.1 in
-    let q = after grammar (opening Subset) (head_parts i list) in
+    let all = valid_after s.profile (beginning Truncated) i list (head_spelling i list) j in
+    let at = head_leaves s.profile i list all.1 in
+    let q = after grammar (opening s.profile) (head_parts i list) in
     record {
       stream = record { spelled = j; ends = may_end q i at.phase at.info; kept = kept_at q s at.info };
       info = at.info;
@@ -205,23 +205,23 @@ module _ (s : Shape) (q : Shaped s) (number : ℕ) (channels : List (List ℤ)) 
   abbrev f : Frame
   f = frame_with number channels
 
-  frame_due : (before : Option Before) (m : Mark) (t : List Bool) → m.unread ≡ 0 → before ≡ due s.block_size number → SpellsFrame (sound_of s channels) f t → Spells (frame Subset info before) (fresh m) t f
+  frame_due : (before : Option Before) (m : Mark) (t : List Bool) → m.unread ≡ 0 → before ≡ due s.block_size number → SpellsFrame (sound_of s channels) f t → Spells (frame s.profile info before) (fresh m) t f
   frame_due before m t z left k =
       let h = k.form.header in
       let size = samples_each channels in
       let behind = is_due s.block_size number before left in
       let r = encodings_are_frames (sound_of s channels) size number channels k.form info refl refl (sym many) k.encoding in
-      let in_rate : size ≤ greatest_block info.rate = omega (arith, small, q.greatest) in
+      let in_rate : size ≤ greatest_in s.profile info.rate = omega (arith, small, q.greatest) in
       let at_most : h.size ≤ s.block_size = omega (arith, r.sized, small) in
-      let follows : AllKept (header_rules Subset info before h) = (
+      let follows : AllKept (header_rules s.profile info before h) = (
         ap not (r.allowed in_rate),
         (
-          same_three h.rate info.rate (channels_of h.channel_code) info.channels (depth_of h.depth_code) info.depth r.format.rate r.format.channels r.format.depth,
+          same_three (rate_in s.profile info h) info.rate (channels_of h.channel_code) info.channels (depth_in s.profile info h) info.depth r.format.rate r.format.channels r.format.depth,
           (follows_on s.block_size number before h r.fixed r.numbered behind, (sized info s.block_size number before h refl refl at_most behind, tt)),
         ),
       ) in
       let w = r.frame before follows in
-      (frames_spelled Subset info before (fresh m) t f (keeps_open s q) (fresh_unread m z) (fresh_check8 m z) (fresh_check16 m z)).1 (record {
+      (frames_spelled s.profile info before (fresh m) t f (keeps_open s q) (fresh_unread m z) (fresh_check8 m z) (fresh_check16 m z)).1 (record {
         form = k.form;
         valid = w.0;
         spelling = k.spelling;
@@ -244,19 +244,19 @@ stands_on e t channels text fault many small going k items before h =
     let s = e.shape in
     let q = shaped s fault in
     let f = frame_with e.number channels in
-    let p = after grammar (opening Subset) items in
+    let p = after grammar (opening e.shape.profile) items in
     let start = beginning Truncated in
     let j = h.stream.spelled in
-    let m = mark_behind grammar (opening Subset) start items before j in
-    let z : m.unread ≡ 0 = ends_whole (opening Subset) start items before j nothing_told refl in
+    let m = mark_behind grammar (opening e.shape.profile) start items before j in
+    let z : m.unread ≡ 0 = ends_whole (opening e.shape.profile) start items before j nothing_told refl in
     let phase : p.stand.phase ≡ Frames = frames_now p.stand.phase p.stand.info h.stream.ends in
     let due_is = h.before going in
     let here = frame_due s q e.number channels many small p.stand.before m text z due_is k in
-    let judged = subst (λ r. Spells (frame r (open_info s) p.stand.before) (fresh m) text f) (sym (after_profile (opening Subset) items)) here in
+    let judged = subst (λ r. Spells (frame r (open_info s) p.stand.before) (fresh m) text f) (sym (after_profile (opening e.shape.profile) items)) here in
     let spelled = as_part p.stand (open_info s) (fresh m) text f phase h.info judged in
     let room = in_room p.stand.phase (fresh m) text phase (fresh_unread m z) k.short in
-    let more = Joined-append grammar (opening Subset) start items (framed f) before text j spelled room in
-    let then : after grammar (opening Subset) (items ++ framed f ∷ []) ≡ next p (framed f) = after-append grammar (opening Subset) items (framed f) in
+    let more = Joined-append grammar (opening e.shape.profile) start items (framed f) before text j spelled room in
+    let then : after grammar (opening e.shape.profile) (items ++ framed f ∷ []) ≡ next p (framed f) = after-append grammar (opening e.shape.profile) items (framed f) in
     let r = next p (framed f) in
     let ends : may_end_in r.stand.phase r.stand.info ≡ true = may_end r (open_info s) phase h.info in
     let kept : AllKept (end_rules r.stand.info r.samples r.message) = kept_at r s h.info in
@@ -285,7 +285,7 @@ still_room : (samples n number : ℕ) → (nat_le (2 ^ 36) (samples + n) || nat_
 still_room samples n number e = (grind (arith, nat_tests), grind (arith, nat_tests), grind (arith, nat_tests))
 
 pub record Accepted {S : Type 0} (e : Pushed S) (block : List (List ℤ)) : Type 0 where
-  pub good : audio_fault e.shape.rate e.shape.bits block ≡ None
+  pub good : audio_fault e.shape.profile e.shape.rate e.shape.bits block ≡ None
   pub many : length block ≡ e.shape.channels
   pub some : 0 < samples_each block
   pub most : samples_each block ≤ e.shape.block_size
@@ -323,7 +323,7 @@ accepted e block shape h =
 
 -- ---- its frame
 
-module _ (a : Sound) (n number : ℕ) (form : FrameForm) (sound : IsSound a) (size : n ≡ samples_each a.channels) where
+module _ (ps : List LinearPredictor) (a : Sound) (n number : ℕ) (form : FrameForm) (sound : IsSound a) (size : n ≡ samples_each a.channels) where
   whole_here : part_of 0 n a.channels ≡ a.channels
   whole_here = whole_block n a.channels (subst (λ k. All (λ c. length c ≡ k) a.channels) (sym size) sound.long)
 
@@ -340,15 +340,15 @@ module _ (a : Sound) (n number : ℕ) (form : FrameForm) (sound : IsSound a) (si
   frame_made (Err e) encoded short is = tt
   frame_made (Ok v) encoded short is = frame_text v encoded short is
 
-  least_text : (v : Vec ℕ Global) → IsLeastFrame a n number (part_of 0 n a.channels) form → bits_of v.items ≡ frame_spelling a.bits form → SpellsLeast a (frame_with number a.channels) (bits_of v.items)
+  least_text : (v : Vec ℕ Global) → IsLeastWith ps a n number (part_of 0 n a.channels) form → bits_of v.items ≡ frame_spelling a.bits form → SpellsLeast ps a (frame_with number a.channels) (bits_of v.items)
   least_text v chosen is = record {
     form = form;
-    least = subst (λ k. IsLeastFrame a k number a.channels form) size (subst (λ cs. IsLeastFrame a n number cs form) whole_here chosen);
+    least = subst (λ k. IsLeastWith ps a k number a.channels form) size (subst (λ cs. IsLeastWith ps a n number cs form) whole_here chosen);
     spelling = is;
   }
 
-  pub least_made : (r : Result (Vec ℕ Global) Why) → IsLeastFrame a n number (part_of 0 n a.channels) form → IfOk r (λ v. bits_of v.items ≡ frame_spelling a.bits form)
-      → IfOk r (λ v. SpellsLeast a (frame_with number a.channels) (bits_of v.items))
+  pub least_made : (r : Result (Vec ℕ Global) Why) → IsLeastWith ps a n number (part_of 0 n a.channels) form → IfOk r (λ v. bits_of v.items ≡ frame_spelling a.bits form)
+      → IfOk r (λ v. SpellsLeast ps a (frame_with number a.channels) (bits_of v.items))
   least_made (Err e) chosen is = tt
   least_made (Ok v) chosen is = least_text v chosen is
 
@@ -389,7 +389,7 @@ module _ {X : Type 0} (f : X → List ℤ) (xs : List X) (channels bits : ℕ) w
 -- ---- what was sent
 
 module _ {S : Type 0} (g : target.Ghosts S) (old new : Pushed S) (block : List (List ℤ)) (bytes : List ℕ) (shape : shape_fault old.shape ≡ None) (accept : Accepted old block)
-    (frame_is : SpellsFrame (sound_of old.shape block) (frame_with old.number block) (bits_of bytes)) (least_is : SpellsLeast (sound_of old.shape block) (frame_with old.number block) (bits_of bytes)) where
+    (frame_is : SpellsFrame (sound_of old.shape block) (frame_with old.number block) (bits_of bytes)) (least_is : SpellsLeast old.predictors (sound_of old.shape block) (frame_with old.number block) (bits_of bytes)) where
   next_to : (to : Pushed S) → to ≡ behind_block old (samples_each block) to.target → IsNext old to block (bits_of bytes)
   next_to to is = record {
     spells = frame_is;

@@ -8,7 +8,7 @@ use Rattle.flac_bits.specs.Items.{Stream}
 use Rattle.flac_bits.specs.declared.why.Why.TheVariants.{Truncated}
 use Rattle.flac_meta.specs.declared.block.Block.{Block}
 use Rattle.flac_meta.specs.declared.block.Block.TheVariants as blocks
-use Rattle.flac_header.specs.declared.subset.Profile.TheVariants.{Subset}
+use Rattle.flac_header.specs.declared.subset.Profile.{Profile}
 use Rattle.flac_frame.specs.Audio.{Sound, IsSound, samples_each}
 use Rattle.flac_native.specs.Decoding.{beginning}
 use Rattle.flac_native.specs.Stream.{Piece, framed, grammar, opening}
@@ -21,9 +21,9 @@ use Rattle.flac_native.proofs.Encoded.{all_parts}
 use Rattle.flac_native.proofs.Deciding.{one_answer}
 use Rattle.flac_native.proofs.AnyMark.{stream_any}
 
-only_these : (m : Mark) (parts : List Piece) (text : List Bool) → Stream grammar (opening Subset) m parts text → IsOnly m parts text
-only_these m parts text s =
-    let one = one_answer (opening Subset) m text in
+only_these : (profile : Profile) (m : Mark) (parts : List Piece) (text : List Bool) → Stream grammar (opening profile) m parts text → IsOnly profile m parts text
+only_these profile m parts text s =
+    let one = one_answer (opening profile) m text in
     record { stream = s; only = λ items t. one.streams items parts t s; accepted = λ items at why r. one.either parts items at why s r }
 
 -- ---- the samples
@@ -81,6 +81,6 @@ encoded_are_read_back m p list a before after z e =
     record {
       text = text;
       added = e.written;
-      only = only_these m parts text (stream_any Subset (beginning Truncated) m parts text refl z e.stream);
+      only = only_these p.profile m parts text (stream_any p.profile (beginning Truncated) m parts text refl z e.stream);
       samples = have_samples p list a before after e;
     }

@@ -5,13 +5,12 @@ use Rattle.std.proofs.lemmas.List.{get_or-drop, length-drop}
 use Rattle.flac_bits.specs.State.{Mark, past, fresh}
 use Rattle.flac_bits.specs.Forms.{joined}
 use Rattle.flac_bits.specs.Meaning.{AllKept}
-use Rattle.flac_bits.specs.Items.{Joined, after}
+use Rattle.flac_bits.specs.Items.{Joined, Stream, after}
 use Rattle.flac_bits.specs.declared.why.Why.TheVariants.{Truncated}
 use Rattle.flac_bits.proofs.ItemSpellings.{fresh_unread, behind_whole}
 use Rattle.flac_meta.specs.Header.{nothing_seen}
 use Rattle.flac_meta.specs.Info.{Info, KeepsRules}
 use Rattle.flac_meta.specs.declared.seen.Seen.{Seen}
-use Rattle.flac_header.specs.declared.subset.Profile.TheVariants.{Subset}
 use Rattle.flac_frame.specs.Audio.{Sound, samples_each}
 use Rattle.flac_frame.specs.Frame.{left_by}
 use Rattle.flac_frame.specs.declared.before.Before.{Before}
@@ -94,6 +93,7 @@ encoded_are_resumed p a least greatest frames number planned_is fits f s few =
     let each : (j : ℕ) → j < length texts → SpellsFrame a (frame_of b a (number + j)) (slice_index_or texts j []) = λ j h.
     subst (λ t. SpellsFrame a (frame_of b a (number + j)) t) (sym (get_or-drop number frames j [])) (f.each (number + j) (omega (arith, h, long))) in
     let r = frames_on p a (untold i) q k suits texts number 0 0 nothing_seen None [] (beginning Truncated) refl (omega (arith, long, few, f.many)) (λ more. inl refl) each in
-    let joins = subst (λ n. Joined grammar (resumed Subset i) (beginning Truncated) (map framed (frames_from b a n number)) (joined texts)) long r.0 in
-    let among = subst (λ n. Among (untold i) (after grammar (resumed Subset i) (map framed (frames_from b a n number)))) long r.1 in
-    record { spelled = joins; ends = may_end (untold i) _ among; kept = ends_well i _ among }
+    let joins = subst (λ n. Joined grammar (resumed a.profile i) (beginning Truncated) (map framed (frames_from b a n number)) (joined texts)) long r.0 in
+    let among = subst (λ n. Among (untold i) (after grammar (resumed a.profile i) (map framed (frames_from b a n number)))) long r.1 in
+    subst (λ x. Stream grammar (resumed x i) (beginning Truncated) (map framed (frames_from b a (length frames - number) number)) (joined texts)) (sym k.profile)
+    (record { spelled = joins; ends = may_end (untold i) _ among; kept = ends_well i _ among })

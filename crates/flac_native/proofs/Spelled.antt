@@ -9,8 +9,9 @@ use Rattle.flac_bits.specs.declared.target.Target as target
 use Rattle.flac_bits.proofs.Counting.{rises_then}
 use Rattle.flac_bits.proofs.Holding.{bits_of-append}
 use Rattle.flac_frame.specs.Audio.{Sound, samples_each}
-use Rattle.flac_frame.specs.Encoding.{block_of, IsEncoding, IsLeastFrame, IsShort}
+use Rattle.flac_frame.specs.Encoding.{block_of, IsEncoding, IsLeastWith, IsShort}
 use Rattle.flac_frame.specs.Frame.{Frame}
+use Rattle.flac_subframe.specs.declared.linear.LinearPredictor.{LinearPredictor}
 use Rattle.flac_frame.specs.Spelling.{FrameForm, frame_spelling}
 use Rattle.flac_native.specs.Given.{Cut, size_of, frame_of}
 use Rattle.flac_native.specs.Seeking.{points_from, points_of, point_at}
@@ -19,19 +20,19 @@ use Rattle.flac_native.proofs.Gathered.{nth}
 
 -- ---- least frames of a block are as long
 
-pub as_long : (a : Sound) (f : Frame) (t u : List Bool) → SpellsLeast a f t → SpellsLeast a f u → length t ≡ length u
-as_long a f t u x y =
+pub as_long : (ps : List LinearPredictor) (a : Sound) (f : Frame) (t u : List Bool) → SpellsLeast ps a f t → SpellsLeast ps a f u → length t ≡ length u
+as_long ps a f t u x y =
     let p : length (frame_spelling a.bits x.form) ≤ length (frame_spelling a.bits y.form) = x.least.least.least y.form y.least.least.member in
     let q : length (frame_spelling a.bits y.form) ≤ length (frame_spelling a.bits x.form) = y.least.least.least x.form x.least.least.member in
     omega (arith, p, q, ap (λ (k : List Bool). length k) x.spelling, ap (λ (k : List Bool). length k) y.spelling)
 
 -- what is written of a block is the frame of its number
 pub spelled_of : (p : Cut) (a : Sound) (number start n : ℕ) (f : FrameForm) → start ≡ p.block_size * number → n ≡ size_of p.block_size (samples_each a.channels) number → IsEncoding a n number (block_of start n a.channels) f
-    → IsLeastFrame a n number (block_of start n a.channels) f → IsShort a.bits f → IsSpelled p a number (frame_spelling a.bits f)
+    → IsLeastWith p.predictors a n number (block_of start n a.channels) f → IsShort a.bits f → IsSpelled p a number (frame_spelling a.bits f)
 spelled_of p a number start n f start_is n_is encoding least short =
     let size = size_of p.block_size (samples_each a.channels) number in
     let e : IsEncoding a size number (block_of (p.block_size * number) size a.channels) f = subst (λ k. IsEncoding a k number (block_of (p.block_size * number) k a.channels) f) n_is (subst (λ k. IsEncoding a n number (block_of k n a.channels) f) start_is encoding) in
-    let l : IsLeastFrame a size number (block_of (p.block_size * number) size a.channels) f = subst (λ k. IsLeastFrame a k number (block_of (p.block_size * number) k a.channels) f) n_is (subst (λ k. IsLeastFrame a n number (block_of k n a.channels) f) start_is least) in
+    let l : IsLeastWith p.predictors a size number (block_of (p.block_size * number) size a.channels) f = subst (λ k. IsLeastWith p.predictors a k number (block_of (p.block_size * number) k a.channels) f) n_is (subst (λ k. IsLeastWith p.predictors a n number (block_of k n a.channels) f) start_is least) in
     record { frame = record { form = f; encoding = e; spelling = refl; short = short }; least = record { form = f; least = l; spelling = refl } }
 
 -- ---- a beginning is no longer
@@ -151,5 +152,5 @@ same_sizes ts us least greatest h s = record {
 -- the frames that are sent have the sizes and the points of those that were counted
 pub alike : (p : Cut) (a : Sound) (ts us : List (List Bool)) (least greatest : ℕ) → AreFrames p a ts → AreLeastFrames p a ts → AreFrames p a us → AreLeastFrames p a us → AreSizes us least greatest → AreSizes ts least greatest × (points_of p ts ≡ points_of p us)
 alike p a ts us least greatest are least_ts others least_us sizes =
-    let long : AsLong ts us = (are.many ∙ sym others.many, λ i lt. as_long a (frame_of p.block_size a i) (nth ts i) (nth us i) (least_ts i lt) (least_us i (omega (arith, lt, are.many, others.many)))) in
+    let long : AsLong ts us = (are.many ∙ sym others.many, λ i lt. as_long p.predictors a (frame_of p.block_size a i) (nth ts i) (nth us i) (least_ts i lt) (least_us i (omega (arith, lt, are.many, others.many)))) in
     (same_sizes ts us least greatest long sizes, same_points p 0 0 ts us long)

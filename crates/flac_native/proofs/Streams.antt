@@ -25,11 +25,11 @@ use Rattle.flac_meta.specs.declared.block.Block.TheVariants as blocks
 use Rattle.flac_meta.proofs.Blocks.{blocks_spelled}
 use Rattle.flac_meta.proofs.Steps.{zeros_are}
 use Rattle.flac_header.specs.declared.subset.Profile.{Profile}
-use Rattle.flac_header.specs.declared.subset.Profile.TheVariants.{Subset}
 use Rattle.flac_frame.specs.Audio.{Sound, samples_each}
 use Rattle.flac_native.specs.Decoding.{beginning}
 use Rattle.flac_native.specs.Message.{rows_bytes, sample_width}
-use Rattle.flac_native.specs.Stream.{Piece, marked, block, framed, Stand, Progress, opening, layout, layout_in, marker, next, raised, phase_behind, end_rules, is_unknown, may_end_in}
+use Rattle.flac_bits.specs.Items.{Stream}
+use Rattle.flac_native.specs.Stream.{Piece, marked, block, framed, Stand, Progress, grammar, opening, layout, layout_in, marker, next, raised, phase_behind, end_rules, is_unknown, may_end_in}
 use Rattle.flac_native.specs.declared.phase.Phase.{Phase}
 use Rattle.flac_native.specs.declared.phase.Phase.TheVariants.{Opening, Blocks, Frames}
 use Rattle.md5.specs.Md5.{md5}
@@ -199,12 +199,13 @@ encoded_are_streams p list a least greatest frames planned_is fits listed_is fie
     let b = p.block_size in
     let width = sample_width a.bits in
     let items = map framed (frames_from b a (length frames) 0) in
-    let there : (seen : Seen) (m : Mark) → m.unread ≡ 0 → Runs i message (behind Subset i true 0 seen) m items (joined frames) = λ seen m z.
+    let there : (seen : Seen) (m : Mark) → m.unread ≡ 0 → Runs i message (behind a.profile i true 0 seen) m items (joined frames) = λ seen m z.
     frames_run p a least greatest q k small.0 small.1 frames 0 0 0 seen None [] m z (omega (arith, f.many)) (λ more. inl refl) (sym (no_samples b (samples_each a.channels))) (sym (ap (λ n. rows_bytes width a.channels n 0) (no_samples b (samples_each a.channels)))) (λ j h. subst (λ n. SpellsFrame a (frame_of b a n) (slice_index_or frames j [])) (let e : j ≡ 0 + j = omega arith in e) (f.each j h)) in
     let start = beginning Truncated in
     let m = past (unsigned 32 0x664C6143) (fresh start) in
     let z : m.unread ≡ 0 = behind_whole (unsigned 32 0x664C6143) (fresh start) refl refl in
-    let r = one_more i message (opening Subset) start marked (closing (blocks.StreamInfo i ∷ list) ++ items) (unsigned 32 0x664C6143) (blocks_spelling (blocks.StreamInfo i ∷ list) ++ joined frames) (marker_here Subset (fresh start)) tt
-    (info_run Subset i message items (joined frames) there list m z is listed_is fields) in
-    let all : Runs i message (opening Subset) start (given p list a least greatest) (stream_spelling p list a least greatest frames) = subst (λ n. Runs i message (opening Subset) start (marked ∷ (closing (blocks.StreamInfo i ∷ list) ++ map framed (frames_from b a n 0))) (stream_spelling p list a least greatest frames)) f.many r in
-    record { spelled = all.0; ends = may_end i message _ all.1; kept = ends_well i message _ all.1 refl }
+    let r = one_more i message (opening a.profile) start marked (closing (blocks.StreamInfo i ∷ list) ++ items) (unsigned 32 0x664C6143) (blocks_spelling (blocks.StreamInfo i ∷ list) ++ joined frames) (marker_here a.profile (fresh start)) tt
+    (info_run a.profile i message items (joined frames) there list m z is listed_is fields) in
+    let all : Runs i message (opening a.profile) start (given p list a least greatest) (stream_spelling p list a least greatest frames) = subst (λ n. Runs i message (opening a.profile) start (marked ∷ (closing (blocks.StreamInfo i ∷ list) ++ map framed (frames_from b a n 0))) (stream_spelling p list a least greatest frames)) f.many r in
+    subst (λ x. Stream grammar (opening x) (beginning Truncated) (given p list a least greatest) (stream_spelling p list a least greatest frames)) (sym k.profile)
+    (record { spelled = all.0; ends = may_end i message _ all.1; kept = ends_well i message _ all.1 refl })

@@ -20,15 +20,17 @@ use flac_meta::{SeekPoint, StreamInfo};
 use md5::{Digest, Md5};
 use std::alloc::Global;
 
-/// One choice is kept for each 1000 samples of each channel: a choice takes some 560 bytes for each channel.
+/// One choice is kept for each 1000 samples of each channel: it takes some 100 bytes for each channel, and one for each
+/// partition of its residuals.
 const KEPT: usize = 1000;
 
 /// How the frames of a plan are written, chosen before any of them is written: the sizes of the frames, and the choices
 /// of the first ones (RFC 9639, section 9).
 ///
 /// As many choices are kept as there are thousands of samples, and one more: all, if blocks have 1000 samples or more.
-/// They take at most a seventh of the memory of the samples. Frames without a choice are chosen again when they are
-/// written; each choice is a shortest frame of its block, so the sizes are the same.
+/// They take at most a tenth of the memory of the samples, in [`Profile::Lax`](flac_header::Profile::Lax) at most three
+/// tenths. Frames without a choice are chosen again when they are written; each choice is a shortest frame of its
+/// block, so the sizes are the same.
 ///
 /// ```
 /// let mut buffers = EncodeBuffers::new_in(alloc, plan.profile(), plan.block_size())?;
@@ -70,10 +72,11 @@ fn keep(
     ensures kept { OnOk result ((kept : FrameChoice) × IsKept choice.now kept × (choices.new.items ≡ cond (nat_lt (length choices.old.items) most) (choices.old.items ++ kept ∷ []) choices.old.items)) }
     ensures memory { IfErr result (λ e. e ≡ Why.Memory) }
 {
-    if choices.len() < most {
-        let kept = choice.kept(alloc)?;
-        choices.push(kept)?;
+    if choices.len() >= most {
+        return Ok(());
     }
+    let kept = choice.kept(alloc)?;
+    choices.push(kept)?;
     Ok(())
 }
 

@@ -184,16 +184,17 @@ fn send_stream<W: Target>(
 
 /// Encodes samples as a native stream: STREAMINFO with the number of samples, the sizes of the frames and the MD5
 /// digest, the blocks of the list, the seek table if the plan asks for one and there are samples, and a frame for each
-/// block of the plan (RFC 9639, section 6). Each frame is a shortest one over constant, verbatim and fixed predictors, and
-/// the plan's linear ones ([`Plan::with_predictors`]). The stream is one of the plan's profile, which is that of the
-/// samples ([`Audio::new_in`]).
+/// block of the plan (RFC 9639, section 6). Each frame is a shortest one over constant, verbatim and fixed predictors,
+/// and the plan's linear ones ([`Plan::with_predictors`]). The stream is one of the plan's profile, which is that of
+/// the samples ([`Audio::new_in`]).
 ///
 /// The plan must fit the samples ([`Plan::fits`]).
 ///
 /// It goes over the samples twice: first it chooses how each frame is written, then it writes one after another. Beside
-/// the samples it holds the seek points, some 560 bytes for each channel of each frame, and 4096 bytes of what is
-/// written; no frame is held. If blocks have fewer than 1000 samples, it keeps the choices of the first frames only, and
-/// makes the others again.
+/// the samples it holds the seek points, at most some 350 bytes for each channel of each frame, and up to 4096 bytes of
+/// what is written; no frame is held. Outside the subset a channel of a frame takes some 100 bytes, and one for each
+/// partition of the residuals. If blocks have fewer than 1000 samples, it keeps the choices of the first frames only,
+/// and makes the others again.
 ///
 /// ```
 /// let plan = Plan::new(4096, &audio, 0)?;

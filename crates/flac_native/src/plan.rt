@@ -143,8 +143,8 @@ fn fault_of(asked: &Asked) -> Option<SetupFault>
 
 impl Plan {
     /// Makes a plan for these samples, in their profile, with `block_size` samples of each channel in a frame. If
-    /// `seek_every` is not 0, each frame that holds a sample whose index is a multiple of it gets a seek point (RFC 9639,
-    /// section 8.5). It has no linear predictors: see [`Plan::with_predictors`].
+    /// `seek_every` is not 0, each frame that holds a sample whose index is a multiple of it gets a seek point (RFC
+    /// 9639, section 8.5). It has no linear predictors: see [`Plan::with_predictors`].
     ///
     /// ```
     /// let plan = Plan::new(4096, &audio, 44100)?; // a seek point for each second at 44100 Hz
@@ -153,8 +153,8 @@ impl Plan {
     /// # Errors
     /// The first of these that applies:
     ///
-    /// - [`SetupFault::BadBlockSize`] if the block size is below 16; or if it is above 16384, or above 4608 at a rate of
-    ///   48000 Hz or less, in [`Profile::Subset`] (RFC 9639, section 7); or above 65535 in [`Profile::Lax`];
+    /// - [`SetupFault::BadBlockSize`] if the block size is below 16; or if it is above 16384, or above 4608 at a rate
+    ///   of 48000 Hz or less, in [`Profile::Subset`] (RFC 9639, section 7); or above 65535 in [`Profile::Lax`];
     /// - [`SetupFault::TooLong`] if there are 2^36 samples of each channel or more, or more than 2^31 frames;
     /// - [`SetupFault::TooManyPoints`] if there would be more than 932067 seek points.
     pub fn new(block_size: u32, audio: &Audio, seek_every: u32) -> Result<Plan, SetupFault>
@@ -180,9 +180,9 @@ impl Plan {
     }
 
     /// The same plan, with linear predictors that are tried for each subframe beside the constant, verbatim and fixed
-    /// ones: at most 64, of orders that the profile allows at the rate, 32 in [`Profile::Lax`] and above 48000 Hz, else 12
-    /// (RFC 9639, sections 7 and 9.2.6). Each frame is then a shortest one over these too. They take the place of those
-    /// that the plan had; an empty list is as none.
+    /// ones: at most 64, of orders that the profile allows at the rate, 32 in [`Profile::Lax`] and above 48000 Hz, else
+    /// 12 (RFC 9639, sections 7 and 9.2.6). Each frame is then a shortest one over these too. They take the place of
+    /// those that the plan had; an empty list is as none.
     ///
     /// ```
     /// let mut predictors = Vec::new(rt.alloc());
@@ -193,8 +193,8 @@ impl Plan {
     /// ```
     ///
     /// # Errors
-    /// [`SetupFault::TooManyPredictors`] if there are more than 64, else [`SetupFault::PredictorOrder`] if an order is too
-    /// large. The plan is not returned then.
+    /// [`SetupFault::TooManyPredictors`] if there are more than 64, else [`SetupFault::PredictorOrder`] if an order is
+    /// too large. The plan is not returned then.
     pub fn with_predictors(self, predictors: Vec<LinearPredictor>) -> Result<Plan, SetupFault>
         ensures { MatchResult result (λ p. p ≡ with_predictors self predictors.items) (λ e. predictors_fault self.profile self.rate predictors.items ≡ Some e) }
     {
@@ -236,8 +236,8 @@ impl Plan {
         }
     }
 
-    /// How many samples of each channel a frame has: 16 to 16384 in [`Profile::Subset`], 16 to 65535 in [`Profile::Lax`].
-    /// The last frame may have fewer.
+    /// How many samples of each channel a frame has: 16 to 16384 in [`Profile::Subset`], 16 to 65535 in
+    /// [`Profile::Lax`]. The last frame may have fewer.
     pub fn block_size(&self) -> u32
         ensures value { result ≡ self.now.block_size }
         ensures good { plan_fault self.now ≡ None }

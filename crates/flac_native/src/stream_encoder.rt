@@ -112,8 +112,8 @@ impl<W: Target + Drop> StreamEncoder<W> {
         StreamEncoder::new_in(alloc, &format, list, target)
     }
 
-    /// Makes an encoder for this format, and writes the marker, STREAMINFO and the blocks of the list (RFC 9639, sections
-    /// 6 to 8). No linear predictors are tried yet: see [`StreamEncoder::set_predictors`].
+    /// Makes an encoder for this format, and writes the marker, STREAMINFO and the blocks of the list (RFC 9639,
+    /// sections 6 to 8). No linear predictors are tried yet: see [`StreamEncoder::set_predictors`].
     ///
     /// ```
     /// let format = StreamFormat { profile: Profile::Lax, rate: 1000000, bits: 14, channels: 1, block_size: 32768 };
@@ -165,13 +165,14 @@ impl<W: Target + Drop> StreamEncoder<W> {
         }
     }
 
-    /// Sets the linear predictors that are tried for each subframe of the frames pushed from now on, beside the constant,
-    /// verbatim and fixed ones: at most 64, of orders that the profile allows at the rate, 32 in [`Profile::Lax`] and above
-    /// 48000 Hz, else 12 (RFC 9639, sections 7 and 9.2.6). They take the place of those before; an empty list is as none.
+    /// Sets the linear predictors that are tried for each subframe of the frames pushed from now on, beside the
+    /// constant, verbatim and fixed ones: at most 64, of orders that the profile allows at the rate, 32 in
+    /// [`Profile::Lax`] and above 48000 Hz, else 12 (RFC 9639, sections 7 and 9.2.6). They take the place of those
+    /// before; an empty list is as none.
     ///
     /// # Errors
-    /// [`SetupFault::TooManyPredictors`] if there are more than 64, else [`SetupFault::PredictorOrder`] if an order is too
-    /// large. The encoder is as it was then.
+    /// [`SetupFault::TooManyPredictors`] if there are more than 64, else [`SetupFault::PredictorOrder`] if an order is
+    /// too large. The encoder is as it was then.
     pub fn set_predictors(&mut self, predictors: Vec<LinearPredictor>) -> Result<(), SetupFault>
         ensures set { OnOk result (self.new ≡ trying self.old predictors.items) }
         ensures stands { OnOk result ((items : List Piece) (text : List Bool) → StandsFor self.old items text → StandsFor self.new items text) }
@@ -255,10 +256,11 @@ impl<W: Target + Drop> StreamEncoder<W> {
             return Err(fault);
         }
         let len = block_len(block) as u64;
+        let predictors = self.predictors.as_slice();
         let Ok(frame) = block_bytes(
             self.alloc,
             &self.format,
-            self.predictors.as_slice(),
+            predictors,
             block,
             self.number,
             &mut self.buffers,

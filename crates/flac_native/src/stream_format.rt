@@ -11,8 +11,8 @@ use flac_meta::StreamInfo;
 /// The format of a stream that is encoded a block at a time (RFC 9639, sections 7, 8.2 and 9.1):
 ///
 /// - the profile of the stream;
-/// - the sample rate in Hz: in [`Profile::Subset`] 1 to 65535, or a multiple of 10 up to 655350, in [`Profile::Lax`] 1 to
-///   1048575;
+/// - the sample rate in Hz: in [`Profile::Subset`] 1 to 65535, or a multiple of 10 up to 655350, in [`Profile::Lax`] 1
+///   to 1048575;
 /// - the bits per sample: in [`Profile::Subset`] 8, 12, 16, 20, 24 or 32, in [`Profile::Lax`] 4 to 32;
 /// - 1 to 8 channels;
 /// - the samples of each channel in a block: in [`Profile::Subset`] 16 to 16384, at most 4608 if the rate is at most

@@ -15,7 +15,7 @@ use Rattle.flac_meta.specs.Valid.{AllAre, FitsFields, IsInfo, IsBlock}
 use Rattle.flac_meta.specs.declared.seen.Seen.{Seen}
 use Rattle.flac_meta.specs.declared.block.Block.{Block}
 use Rattle.flac_meta.specs.declared.block.Block.TheVariants as blocks
-use Rattle.flac_header.specs.declared.subset.Profile.TheVariants.{Subset}
+use Rattle.flac_header.specs.declared.subset.Profile.{Profile}
 use Rattle.flac_native.specs.Stream.{Piece, block, Progress, layout, next, raised, phase_behind, room_in}
 use Rattle.flac_native.specs.Given.{closing}
 use Rattle.flac_native.specs.declared.phase.Phase.TheVariants.{Blocks}
@@ -72,12 +72,12 @@ listed seen b first e fits =
 
 -- ---- the blocks behind STREAMINFO
 
-module _ (i : Info) where
+module _ (profile : Profile) (i : Info) where
   abbrev at_block : ℕ → Seen → Progress
-  at_block index seen = record { stand = record { profile = Subset; phase = Blocks; index = index; seen = seen; info = Some i; before = None }; samples = 0; message = [] }
+  at_block index seen = record { stand = record { profile = profile; phase = Blocks; index = index; seen = seen; info = Some i; before = None }; samples = 0; message = [] }
 
   abbrev pub behind : Bool → ℕ → Seen → Progress
-  behind last index seen = record { stand = record { profile = Subset; phase = phase_behind last; index = cond last 0 (raised index); seen = seen; info = Some i; before = None }; samples = 0; message = [] }
+  behind last index seen = record { stand = record { profile = profile; phase = phase_behind last; index = cond last 0 (raised index); seen = seen; info = Some i; before = None }; samples = 0; message = [] }
 
   goes_on : (last : Bool) (b : Block) (index : ℕ) (seen : Seen) → seen.stream_info ≡ true → came seen b ≡ false → (next (at_block index seen) (block last b) ≡ behind last index (seen_after seen b)) × ((seen_after seen b).stream_info ≡ true)
   goes_on last (blocks.StreamInfo info) index seen first e = absurd (two seen.stream_info first e)
@@ -125,19 +125,19 @@ module _ (i : Info) where
           (0x0100, version, unsigned 16 count ++ (marker ++ []), refl, (omega arith, refl), (count, unsigned 16 count, marker ++ [], refl, (small, refl), (0x664C6143, marker, [], refl, (omega arith, refl), (refl, (refl, tt))))),
         )
 
-    first_here : (count : ℕ) (last : Bool) → count < 2 ^ 16 → IsInfo i → IsPacked (start Subset) (mapping_spelling count ++ block_spelling last (blocks.StreamInfo i)) (block last (blocks.StreamInfo i))
+    first_here : (count : ℕ) (last : Bool) → count < 2 ^ 16 → IsInfo i → IsPacked (start profile) (mapping_spelling count ++ block_spelling last (blocks.StreamInfo i)) (block last (blocks.StreamInfo i))
     unfolding packet_layout
     first_here count last small is =
         let b = blocks.StreamInfo i in
         let front = mapping_spelling count in
         let valid : IsBlock nothing_seen b = record { first = λ h. refl; once = refl; written = refl; fits = is } in
         record {
-          spelled = (tt, front, block_spelling last b, refl, mapping_here count (packet_start None) small, block_here (start Subset).stand (past front (packet_start None)) last b refl valid);
+          spelled = (tt, front, block_spelling last b, refl, mapping_here count (packet_start None) small, block_here (start profile).stand (past front (packet_start None)) last b refl valid);
           fits = tt;
           ended = refl;
         }
 
     pub head_packed : (count : ℕ) (list : List Block) → count < 2 ^ 16 → IsInfo i → list_fault info_seen list ≡ None → AllAre FitsFields list
-        → ArePacked (start Subset) (packet_spellings count i list texts) (closing (blocks.StreamInfo i ∷ list) ++ items)
+        → ArePacked (start profile) (packet_spellings count i list texts) (closing (blocks.StreamInfo i ∷ list) ++ items)
     head_packed count [] small is e fits = (first_here count true small is, there info_seen)
     head_packed count (c ∷ cs) small is e fits = (first_here count false small is, blocks_packed c cs (raised 0) info_seen refl (behind_block false 0) e fits)

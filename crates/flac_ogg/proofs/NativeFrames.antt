@@ -13,11 +13,10 @@ use Rattle.flac_bits.proofs.ItemSpellings.{behind_whole}
 use Rattle.flac_meta.specs.Info.{Info, KeepsRules}
 use Rattle.flac_meta.specs.Valid.{IsInfo}
 use Rattle.flac_meta.specs.declared.seen.Seen.{Seen}
-use Rattle.flac_header.specs.Header.{Header, channels_of, depth_of, greatest_block}
-use Rattle.flac_header.specs.declared.subset.Profile.TheVariants.{Subset}
+use Rattle.flac_header.specs.Header.{Header, channels_of, greatest_in}
 use Rattle.flac_meta.specs.declared.block.Block.TheVariants as blocks
 use Rattle.flac_frame.specs.Audio.{Sound, samples_each}
-use Rattle.flac_frame.specs.Frame.{Frame, frame, header_rules, breaks_sequence, breaks_size}
+use Rattle.flac_frame.specs.Frame.{Frame, frame, header_rules, rate_in, depth_in, breaks_sequence, breaks_size}
 use Rattle.flac_frame.specs.declared.before.Before.{Before}
 use Rattle.flac_frame.proofs.Encodings.{encodings_are_frames}
 use Rattle.flac_frame.proofs.FrameTie.{frames_spelled, frames_bytes}
@@ -33,7 +32,7 @@ use Rattle.flac_native.proofs.Encoded.{frames_run}
 use Rattle.flac_native.proofs.Planned.{Planned, Fit, planned, fit, keeps_rules}
 use Rattle.flac_native.proofs.Streams.{encoded_are_streams}
 use Rattle.flac_ogg.specs.Mapping.{is_first_block}
-use Rattle.flac_ogg.specs.Stream.{start, packet_start}
+use Rattle.flac_ogg.specs.Stream.{start, packet_start, AreItems}
 use Rattle.flac_ogg.specs.Native.{packet_spellings, EncodedAreOggItems}
 use Rattle.flac_ogg.proofs.NativeItems.{AtByte, at_fresh}
 use Rattle.flac_ogg.proofs.NativeBlocks.{ArePacked, are_items, packed_later, behind, head_packed}
@@ -84,29 +83,29 @@ module _ (p : Cut) (a : Sound) (least greatest : ℕ) (q : Planned p) (f : Fit p
   at_ number = frame_of p.block_size a number
 
   -- where some bits spell the frame, those of each encoding do
-  encoding_here : (number : ℕ) (before : Option Before) (m : Mark) (front text : List Bool) → AtByte m → Spells (frame Subset info before) m front (at_ number) → SpellsFrame a (at_ number) text
-      → Spells (frame Subset info before) (packet_start None) text (at_ number)
+  encoding_here : (number : ℕ) (before : Option Before) (m : Mark) (front text : List Bool) → AtByte m → Spells (frame a.profile info before) m front (at_ number) → SpellsFrame a (at_ number) text
+      → Spells (frame a.profile info before) (packet_start None) text (at_ number)
   encoding_here number before m front text at spelled s =
       let x = at_ number in
       let size = size_of p.block_size (samples_each a.channels) number in
-      let other = (frames_spelled Subset info before m front x rules at.unread at.check8 at.check16).0 spelled in
+      let other = (frames_spelled a.profile info before m front x rules at.unread at.check8 at.check16).0 spelled in
       let h = s.form.header in
       let k = other.form.header in
       let r = encodings_are_frames a size number x.channels s.form info refl refl (sym (length-map a.channels (λ c. take size (drop (p.block_size * number) c)))) s.encoding in
-      let in_rate : size ≤ greatest_block a.rate = subst (λ r. size ≤ greatest_block r) f.rate (omega (arith, q.greatest)) in
+      let in_rate : size ≤ greatest_in a.profile a.rate = subst (λ k. size ≤ greatest_in k a.rate) f.profile (subst (λ r. size ≤ greatest_in p.profile r) f.rate (omega (arith, q.greatest))) in
       let fixed : h.variable ≡ k.variable = r.fixed ∙ ap (λ (z : Frame). z.variable) other.frame in
       let numbered : h.number ≡ k.number = r.numbered ∙ ap (λ (z : Frame). z.number) other.frame in
       let sized : h.size ≡ k.size = r.sized ∙ ap (λ (z : Frame). z.size) other.frame in
       let kept = other.valid.follows in
-      let follows : AllKept (header_rules Subset info before h) = (
+      let follows : AllKept (header_rules a.profile info before h) = (
         ap not (r.allowed in_rate),
         (
-          same_three h.rate a.rate (channels_of h.channel_code) (length a.channels) (depth_of h.depth_code) a.bits r.format.rate r.format.channels r.format.depth,
+          same_three (rate_in a.profile info h) a.rate (channels_of h.channel_code) (length a.channels) (depth_in a.profile info h) a.bits r.format.rate r.format.channels r.format.depth,
           (same_sequence before h k fixed numbered ∙ kept.1.1.0, (same_size info before h k fixed sized ∙ kept.1.1.1.0, tt)),
         ),
       ) in
       let valid = r.frame before follows in
-      (frames_spelled Subset info before (packet_start None) text x rules refl refl refl).1 (record {
+      (frames_spelled a.profile info before (packet_start None) text x rules refl refl refl).1 (record {
         form = s.form;
         valid = valid.0;
         spelling = s.spelling;
@@ -114,9 +113,9 @@ module _ (p : Cut) (a : Sound) (least greatest : ℕ) (q : Planned p) (f : Fit p
         samples = valid.1;
       })
 
-  front_whole : (before : Option Before) (m : Mark) (front : List Bool) (x : Frame) → AtByte m → Spells (frame Subset info before) m front x → length front % 8 ≡ 0
+  front_whole : (before : Option Before) (m : Mark) (front : List Bool) (x : Frame) → AtByte m → Spells (frame a.profile info before) m front x → length front % 8 ≡ 0
   front_whole before m front x at spelled =
-      let other = (frames_spelled Subset info before m front x rules at.unread at.check8 at.check16).0 spelled in
+      let other = (frames_spelled a.profile info before m front x rules at.unread at.check8 at.check16).0 spelled in
       ap (λ (k : List Bool). length k % 8) other.spelling ∙ frames_bytes info.depth other.form
 
   not_first : (s : Stand) → s.phase ≡ Frames → is_first_block s.phase s.index ≡ false
@@ -125,7 +124,7 @@ module _ (p : Cut) (a : Sound) (least greatest : ℕ) (q : Planned p) (f : Fit p
   frame_fits : (s : Stand) (text : List Bool) → s.phase ≡ Frames → length text ≤ 8 * 16777215 → InRoom (room_in s.phase) (packet_start None) text
   frame_fits s text e short = subst (λ z. InRoom (room_in z) (packet_start None) text) (sym e) (omega (arith, short))
 
-  frames_packed : (texts : List (List Bool)) (number : ℕ) (s : Progress) (m : Mark) (text : List Bool) → s.stand.profile ≡ Subset → s.stand.phase ≡ Frames → s.stand.info ≡ Some info → m.unread ≡ 0
+  frames_packed : (texts : List (List Bool)) (number : ℕ) (s : Progress) (m : Mark) (text : List Bool) → s.stand.profile ≡ a.profile → s.stand.phase ≡ Frames → s.stand.info ≡ Some info → m.unread ≡ 0
       → Joined grammar s m (map framed (frames_from p.block_size a (length texts) number)) text → ((j : ℕ) → j < length texts → SpellsFrame a (at_ (number + j)) (slice_index_or texts j []))
       → ArePacked s texts (map framed (frames_from p.block_size a (length texts) number))
   frames_packed [] number s m text judged phase told z j each = tt
@@ -165,11 +164,12 @@ encoded_are_ogg_items p list a least greatest count frames packets planned_is fi
     let items = map framed (frames_from b a (length frames) 0) in
     let m = beginning Truncated in
     let each : (j : ℕ) → j < length frames → SpellsFrame a (frame_of b a (0 + j)) (slice_index_or frames j []) = λ j h. subst (λ n. SpellsFrame a (frame_of b a n) (slice_index_or frames j [])) (let e : j ≡ 0 + j = omega arith in e) (f.each j h) in
-    let there : (seen : Seen) → ArePacked (behind i true 0 seen) frames items = λ seen.
+    let there : (seen : Seen) → ArePacked (behind a.profile i true 0 seen) frames items = λ seen.
     let run = frames_run p a least greatest q k small.0 small.1 frames 0 0 0 seen None [] m refl (omega (arith, f.many)) (λ more. inl refl) (sym (no_samples b (samples_each a.channels))) (sym (ap (λ n. rows_bytes width a.channels n 0) (no_samples b (samples_each a.channels)))) each in
-    frames_packed p a least greatest q k small.0 small.1 frames 0 (behind i true 0 seen) m (joined frames) refl refl refl refl run.0 each in
-    let all = head_packed i items frames there count list few is listed_is fields in
+    frames_packed p a least greatest q k small.0 small.1 frames 0 (behind a.profile i true 0 seen) m (joined frames) refl refl refl refl run.0 each in
+    let all = head_packed a.profile i items frames there count list few is listed_is fields in
     let stream = encoded_are_streams p list a least greatest frames planned_is fits listed_is fields f s in
-    let packed = subst (λ n. ArePacked (start Subset) (packet_spellings count i list frames) (closing (blocks.StreamInfo i ∷ list) ++ map framed (frames_from b a n 0))) f.many all in
+    let packed = subst (λ n. ArePacked (start a.profile) (packet_spellings count i list frames) (closing (blocks.StreamInfo i ∷ list) ++ map framed (frames_from b a n 0))) f.many all in
     let pieces = closing (blocks.StreamInfo i ∷ list) ++ map framed (frames_of b a) in
-    record { spelled = are_items (start Subset) packets pieces (subst (λ t. ArePacked (start Subset) t pieces) (sym are) packed); ends = stream.ends; kept = stream.kept }
+    let spelled = are_items (start a.profile) packets pieces (subst (λ t. ArePacked (start a.profile) t pieces) (sym are) packed) in
+    record { spelled = subst (λ r. AreItems (start r) packets pieces) (sym k.profile) spelled; ends = stream.ends; kept = stream.kept }

@@ -1,28 +1,18 @@
 -- The packets of what is encoded.
-use Rattle.std.proofs.Common.{◌≡◌, ℕ, zero, suc, ◌+◌, ◌*◌, ◌<◌, ◌≤◌, min, max, Bool, nat_eq, List, [], ◌∷◌, ◌++◌, length, take, get_or, replicate, None, refl, sym, ap, subst, ◌∙◌, arith, Result, Ok, Err, Vec, Global, IfOk}
+use Rattle.std.proofs.Common.{◌≡◌, ℕ, zero, suc, ◌+◌, ◌<◌, Bool, nat_eq, List, [], ◌∷◌, ◌++◌, length, take, get_or, replicate, None, refl, sym, ap, ◌∙◌, arith}
 use Rattle.std.proofs.lemmas.Bool.Decides.{nat_tests}
-use Rattle.flac_bits.specs.Bits.{unsigned, bits_of, is_nil}
-use Rattle.flac_bits.specs.declared.why.Why.{Why}
+use Rattle.flac_bits.specs.Bits.{unsigned, is_nil}
 use Rattle.flac_bits.proofs.Words.{length-unsigned}
-use Rattle.flac_bits.proofs.Holding.{length-bits_of}
 use Rattle.flac_meta.specs.Info.{Info}
 use Rattle.flac_meta.specs.Listed.{block_fault}
 use Rattle.flac_meta.specs.Spelling.{block_spelling}
 use Rattle.flac_meta.specs.declared.block.Block.{Block}
 use Rattle.flac_meta.specs.declared.block.Block.TheVariants as block_of
-use Rattle.flac_frame.specs.Audio.{Sound, samples_each}
-use Rattle.flac_frame.specs.Encoding.{IsEncoding, IsLeastFrame, IsShort}
-use Rattle.flac_frame.specs.Encoding as encoding
-use Rattle.flac_frame.specs.Spelling.{FrameForm, frame_spelling}
-use Rattle.flac_native.specs.Given.{Cut, blocks_in, size_of, frame_of}
-use Rattle.flac_native.specs.Writing.{SpellsFrame, SpellsLeast, AreSizes}
 use Rattle.flac_native.proofs.WholeBytes.{Whole, length-joined}
 use Rattle.flac_native.proofs.BlocksWritten.{nil_is}
-use Rattle.flac_native.proofs.Gathered.{nth, snoc, length-snoc, each_more, sizes_with, least_with, no_sizes, all_gathered}
 use Rattle.flac_pages.specs.declared.writing.PacketKind.{PacketKind}
-use Rattle.flac_pages.specs.declared.writing.PacketKind.TheVariants.{Header, Frame}
+use Rattle.flac_pages.specs.declared.writing.PacketKind.TheVariants.{Header}
 use Rattle.flac_ogg.specs.Native.{mapping_spelling, block_spellings}
-use Rattle.flac_ogg.specs.Writing.{IsFrameText}
 
 -- ---- the first packet
 
@@ -71,17 +61,3 @@ headers n = replicate n Header
 pub headers_more : (i : ℕ) → headers (i + 1) ≡ headers i ++ Header ∷ []
 headers_more zero = refl
 headers_more (suc i) = let e : suc i + 1 ≡ suc (i + 1) = omega arith in ap headers e ∙ ap (λ (l : List PacketKind). Header ∷ l) (headers_more i)
-
--- ---- the frames
-
-pub frame_text : (a : Sound) (start size number : ℕ) (f : FrameForm) (text : List Bool) → IsEncoding a size number (encoding.block_of start size a.channels) f → IsLeastFrame a size number (encoding.block_of start size a.channels) f
-    → IsShort a.bits f → text ≡ frame_spelling a.bits f → IsFrameText a start size number text
-frame_text a start size number f text encoded chosen short is =
-    record { frame = record { form = f; encoding = encoded; spelling = is; short = omega (arith, ap (λ (k : List Bool). length k) is, short) }; least = record { form = f; least = chosen; spelling = is } }
-
--- and so it is where they were collected
-pub frame_collected : (a : Sound) (start size number : ℕ) (f : FrameForm) (r : Result (Vec ℕ Global) Why) → IsEncoding a size number (encoding.block_of start size a.channels) f
-    → IsLeastFrame a size number (encoding.block_of start size a.channels) f → IsShort a.bits f → IfOk r (λ v. bits_of v.items ≡ frame_spelling a.bits f)
-    → IfOk r (λ v. IsFrameText a start size number (bits_of v.items))
-frame_collected a start size number f (Err e) encoded chosen short is = tt
-frame_collected a start size number f (Ok v) encoded chosen short is = frame_text a start size number f (bits_of v.items) encoded chosen short is

@@ -1,6 +1,5 @@
 -- What an encoder of an Ogg stream that samples are pushed to stands for.
 use Rattle.std.proofs.Common.{◌≡◌, ℕ, suc, zero, ◌+◌, ◌*◌, ◌^◌, ◌<◌, ◌≤◌, ℤ, Bool, true, false, not, cond, nat_eq, List, [], ◌∷◌, ◌++◌, length, length-append, map, drop, get_or, replicate, Option, Some, None, ◌⊎◌, inl, inr, refl, sym, ap, subst, ◌∙◌, arith, append_assoc}
-use Rattle.std.proofs.Common.{Vec, Global, Result, Ok, Err, IfOk}
 use Rattle.std.specs.List.{All}
 use Rattle.std.proofs.lemmas.Bool.Decides.{nat_tests}
 use Rattle.std.proofs.lemmas.List.{append-nil}
@@ -19,12 +18,11 @@ use Rattle.flac_meta.specs.Spelling.{block_spelling}
 use Rattle.flac_meta.specs.Valid.{AllAre, FitsFields, IsInfo}
 use Rattle.flac_meta.specs.declared.block.Block.{Block}
 use Rattle.flac_meta.specs.declared.block.Block.TheVariants as block_of
-use Rattle.flac_header.specs.Header.{channels_of, depth_of, greatest_block}
+use Rattle.flac_header.specs.Header.{channels_of, greatest_in}
 use Rattle.flac_header.specs.declared.subset.Profile.TheVariants.{Subset}
-use Rattle.flac_bits.specs.declared.why.Why.{Why}
-use Rattle.flac_frame.specs.Audio.{Sound, IsSound, samples_each}
-use Rattle.flac_frame.specs.Encoding.{block_of as part_of}
-use Rattle.flac_frame.specs.Frame.{Frame, frame, header_rules}
+use Rattle.flac_subframe.specs.declared.linear.LinearPredictor.{LinearPredictor}
+use Rattle.flac_frame.specs.Audio.{samples_each}
+use Rattle.flac_frame.specs.Frame.{Frame, frame, header_rules, rate_in, depth_in}
 use Rattle.flac_frame.specs.declared.before.Before.{Before}
 use Rattle.flac_frame.proofs.Encodings.{encodings_are_frames}
 use Rattle.flac_frame.proofs.FrameTie.{frames_spelled}
@@ -37,7 +35,7 @@ use Rattle.flac_native.specs.Pushing.{Shape, shape_fault, open_info, Pushed, unp
 use Rattle.flac_native.specs.Writing.{blocks_spelling, head_spelling, SpellsFrame, SpellsLeast}
 use Rattle.flac_native.proofs.EachFrame.{same_three, follows_on, sized, full_before}
 use Rattle.flac_native.proofs.Onwards.{as_part, after_profile}
-use Rattle.flac_native.proofs.Pushing.{Shaped, shaped, keeps_open, opened, Accepted, stands_on, whole_block}
+use Rattle.flac_native.proofs.Pushing.{Shaped, shaped, keeps_open, opened, Accepted, stands_on}
 use Rattle.flac_pages.specs.declared.writing.PacketKind.TheVariants as kind_of
 use Rattle.flac_pages.specs.Placed.{Placed, IsPlaced, marks_of, sequence_behind}
 use Rattle.flac_pages.specs.Written.{packet_spelling}
@@ -46,9 +44,9 @@ use Rattle.flac_ogg.specs.Headers.{AreHeaders}
 use Rattle.flac_ogg.specs.Listed.{texts_of}
 use Rattle.flac_ogg.specs.Mapping.{is_first_block, packet_layout}
 use Rattle.flac_ogg.specs.Native.{mapping_spelling, block_spellings, packet_spellings, native_text, AreStream}
-use Rattle.flac_ogg.specs.Pushing.{ArePages, PushedOgg, StandsForOgg, Opens, IsNextPacket, PushesOgg, BeginsPushOgg}
+use Rattle.flac_ogg.specs.Pushing.{ArePages, PushedOgg, trying_ogg, StandsForOgg, Opens, IsNextPacket, PushesOgg, BeginsPushOgg}
 use Rattle.flac_ogg.specs.Stream.{start, packet_start, closed_packet, AreItems, OggStream}
-use Rattle.flac_ogg.specs.Writing.{header_count, frame_at, IsFrameText}
+use Rattle.flac_ogg.specs.Writing.{header_count}
 use Rattle.flac_ogg.specs.declared.headers.Headers.{Headers}
 use Rattle.flac_ogg.proofs.Headed.{alone}
 use Rattle.flac_ogg.proofs.NativeBlocks.{ArePacked, are_items, packed_later, head_packed}
@@ -62,15 +60,31 @@ bytes_of packets = map (λ q. q.packet) packets
 
 -- what was written and what is held are an Ogg stream of the items
 pub stands_for : {S : Type 0} (e : PushedOgg S) (items : List Piece) (q : Placed) (qs : List Placed) (written : List Bool) → ArePages e.serial (q ∷ qs) written (bits_of e.middle) (bits_of e.last) e.sequence
-    → StandsFor e.pushed (marked ∷ items) (native_text (bytes_of (q ∷ qs))) → AreStream (bytes_of (q ∷ qs)) items → All IsPlaced (q ∷ qs) → e.serial < 2 ^ 32 → length q.packet ≡ 51 → StandsForOgg e items (q ∷ qs) written
-stands_for e items q qs written pages plain are good small long = record {
-  pages = pages;
-  stream = subst (λ t. OggStream Subset (beginning Truncated) items t) (sym pages.last_is) (ogg_stream e.serial q qs items small long good are);
-  plain = plain;
-  are = are;
-  good = good;
-  small = small;
-  first = (q, qs, refl, long);
+    → StandsFor e.pushed (marked ∷ items) (native_text (bytes_of (q ∷ qs))) → e.pushed.shape.profile ≡ Subset → AreStream e.pushed.shape.profile (bytes_of (q ∷ qs)) items → All IsPlaced (q ∷ qs) → e.serial < 2 ^ 32 → length q.packet ≡ 51 → StandsForOgg e items (q ∷ qs) written
+stands_for e items q qs written pages plain subset are good small long =
+    let these : AreStream Subset (bytes_of (q ∷ qs)) items = subst (λ k. AreStream k (bytes_of (q ∷ qs)) items) subset are in
+    record {
+      subset = subset;
+      pages = pages;
+      stream = subst (λ t. OggStream Subset (beginning Truncated) items t) (sym pages.last_is) (ogg_stream Subset e.serial q qs items small long good these);
+      plain = plain;
+      are = these;
+      good = good;
+      small = small;
+      first = (q, qs, refl, long);
+    }
+
+-- so they are whatever predictors are tried next
+pub stands_trying : {S : Type 0} (e : PushedOgg S) (ps : List LinearPredictor) (items : List Piece) (packets : List Placed) (written : List Bool) → StandsForOgg e items packets written → StandsForOgg (trying_ogg e ps) items packets written
+stands_trying e ps items packets written h = record {
+  subset = h.subset;
+  pages = h.pages;
+  stream = h.stream;
+  plain = record { stream = h.plain.stream; info = h.plain.info; frames = h.plain.frames; samples = h.plain.samples; before = h.plain.before };
+  are = h.are;
+  good = h.good;
+  small = h.small;
+  first = h.first;
 }
 
 -- ---- the head
@@ -104,10 +118,10 @@ module _ (info : Info) (list : List Block) (digest : IsBytes 16 info.digest) whe
       let here : bits_of (drop 13 q.packet) ≡ block = sym (behind_mapping q.packet mapping block first (mapping_long (header_count (length list)))) in
       ap (λ t. unsigned 32 0x664C6143 ++ (t ++ joined (texts_of qs))) here ∙ ap (λ t. unsigned 32 0x664C6143 ++ (block ++ t)) (ap joined others ∙ joined_blocks list)
 
-pub opened_ogg : {S : Type 0} (g : target.Ghosts S) (s : Shape) (list : List Block) (old : S) (h : Headers) (e : PushedOgg S) → shape_fault s ≡ None → list_fault info_seen list ≡ None → AllAre FitsFields list → e.serial < 2 ^ 32
+pub opened_ogg : {S : Type 0} (g : target.Ghosts S) (s : Shape) (list : List Block) (old : S) (h : Headers) (e : PushedOgg S) → s.profile ≡ Subset → shape_fault s ≡ None → list_fault info_seen list ≡ None → AllAre FitsFields list → e.serial < 2 ^ 32
     → h.serial ≡ e.serial → AreHeaders (packet_spellings (header_count (length list)) (open_info s) list []) h → e.pushed ≡ unpushed s e.pushed.target → e.sequence ≡ h.held.next → e.middle ≡ h.held.middle.items
     → e.last ≡ h.held.last.items → (g.known old ≡ true → g.sent e.pushed.target ≡ g.sent old ++ h.sent.items) → Opens g list old e
-opened_ogg g s list old h e shape good fits small serial are pushed sequence middle last sent = go are.packets are.texts_are are.kinds_are are.good are.pages
+opened_ogg g s list old h e subset shape good fits small serial are pushed sequence middle last sent = go are.packets are.texts_are are.kinds_are are.good are.pages
   where
     info : Info
     info = open_info s
@@ -124,10 +138,10 @@ opened_ogg g s list old h e shape good fits small serial are pushed sequence mid
     go (q ∷ qs) texts kinds placed pages =
         let is : IsInfo info = record { rules = keeps_open s (shaped s shape); digest = zero_bytes } in
         let plain = opened s e.pushed.target list shape good fits in
-        let packed = head_packed info [] [] (λ seen. tt) count list (count_small (length list)) is good fits in
-        let spelled = subst (λ i. ArePacked (start Subset) (packet_spellings count info list []) i) (append-nil items) packed in
-        let are_stream : AreStream (bytes_of (q ∷ qs)) items = record {
-          spelled = are_items (start Subset) (bytes_of (q ∷ qs)) items (subst (λ t. ArePacked (start Subset) t items) (sym texts) spelled);
+        let packed = head_packed s.profile info [] [] (λ seen. tt) count list (count_small (length list)) is good fits in
+        let spelled = subst (λ i. ArePacked (start s.profile) (packet_spellings count info list []) i) (append-nil items) packed in
+        let are_stream : AreStream s.profile (bytes_of (q ∷ qs)) items = record {
+          spelled = are_items (start s.profile) (bytes_of (q ∷ qs)) items (subst (λ t. ArePacked (start s.profile) t items) (sym texts) spelled);
           ends = plain.stream.ends;
           kept = plain.stream.kept;
         } in
@@ -137,7 +151,9 @@ opened_ogg g s list old h e shape good fits small serial are pushed sequence mid
         let held : ArePages e.serial (q ∷ qs) (bits_of h.sent.items) (bits_of e.middle) (bits_of e.last) e.sequence = rw (← serial, sequence, middle, last) pages in
         let many : length (packet_spellings count info list []) ≡ length list + 1 = omega (arith, length-append (block_spellings list) [], count_blocks list) in
         let told : open_info e.pushed.shape ≡ info = ap (λ (p : Pushed _). open_info p.shape) pushed in
-        let stands = stands_for e items q qs (bits_of h.sent.items) held there are_stream placed small (first_long info list zero_bytes q.packet first) in
+        let shaped_as : s.profile ≡ e.pushed.shape.profile = sym (ap (λ (p : Pushed _). p.shape.profile) pushed) in
+        let same_stream = subst (λ k. AreStream k (bytes_of (q ∷ qs)) items) shaped_as are_stream in
+        let stands = stands_for e items q qs (bits_of h.sent.items) held there (sym shaped_as ∙ subset) same_stream placed small (first_long info list zero_bytes q.packet first) in
         record {
           packets = q ∷ qs;
           text = bits_of h.sent.items;
@@ -178,7 +194,7 @@ is_due b (suc n) before e = let k : nat_eq (suc n) 0 ≡ false = grind (arith, n
 
 -- the bits are the frame where it is due
 frame_due : (s : Shape) (q : Shaped s) (number : ℕ) (channels : List (List ℤ)) (before : Option Before) (t : List Bool) → length channels ≡ s.channels → samples_each channels ≤ s.block_size → before ≡ due s.block_size number
-    → SpellsFrame (sound_of s channels) (frame_with number channels) t → Spells (frame Subset (open_info s) before) (packet_start None) t (frame_with number channels)
+    → SpellsFrame (sound_of s channels) (frame_with number channels) t → Spells (frame s.profile (open_info s) before) (packet_start None) t (frame_with number channels)
 frame_due s q number channels before t many small left k =
     let info = open_info s in
     let f = frame_with number channels in
@@ -186,17 +202,17 @@ frame_due s q number channels before t many small left k =
     let size = samples_each channels in
     let behind = is_due s.block_size number before left in
     let r = encodings_are_frames (sound_of s channels) size number channels k.form info refl refl (sym many) k.encoding in
-    let in_rate : size ≤ greatest_block info.rate = omega (arith, small, q.greatest) in
+    let in_rate : size ≤ greatest_in s.profile info.rate = omega (arith, small, q.greatest) in
     let at_most : h.size ≤ s.block_size = omega (arith, r.sized, small) in
-    let follows : AllKept (header_rules Subset info before h) = (
+    let follows : AllKept (header_rules s.profile info before h) = (
       ap not (r.allowed in_rate),
       (
-        same_three h.rate info.rate (channels_of h.channel_code) info.channels (depth_of h.depth_code) info.depth r.format.rate r.format.channels r.format.depth,
+        same_three (rate_in s.profile info h) info.rate (channels_of h.channel_code) info.channels (depth_in s.profile info h) info.depth r.format.rate r.format.channels r.format.depth,
         (follows_on s.block_size number before h r.fixed r.numbered behind, (sized info s.block_size number before h refl refl at_most behind, tt)),
       ),
     ) in
     let w = r.frame before follows in
-    (frames_spelled Subset info before (packet_start None) t f (keeps_open s q) refl refl refl).1 (record {
+    (frames_spelled s.profile info before (packet_start None) t f (keeps_open s q) refl refl refl).1 (record {
       form = k.form;
       valid = w.0;
       spelling = k.spelling;
@@ -224,13 +240,13 @@ module _ {S : Type 0} (old new : PushedOgg S) (t : S) (block : List (List ℤ)) 
   q = record { packet = packet; kind = kind_of.Frame (old.pushed.samples + samples_each block) }
 
   frame_item : (items : List Piece) (plain : List Bool) → StandsFor old.pushed (marked ∷ items) plain
-      → IsItem (room_in (after grammar (start Subset) items).stand.phase) (packet_layout (after grammar (start Subset) items).stand) (packet_start None) (closed_packet packet) (framed f)
+      → IsItem (room_in (after grammar (start old.pushed.shape.profile) items).stand.phase) (packet_layout (after grammar (start old.pushed.shape.profile) items).stand) (packet_start None) (closed_packet packet) (framed f)
   frame_item items plain h =
       let s = old.pushed.shape in
-      let p = after grammar (start Subset) items in
+      let p = after grammar (start s.profile) items in
       let phase : p.stand.phase ≡ Frames = frames_now p.stand.phase p.stand.info h.stream.ends in
       let here = frame_due s (shaped s shape) old.pushed.number block p.stand.before (bits_of packet) accept.many accept.most (h.before accept.going) text_is in
-      let judged = subst (λ k. Spells (frame k (open_info s) p.stand.before) (packet_start None) (bits_of packet) f) (sym (after_profile (start Subset) items)) here in
+      let judged = subst (λ k. Spells (frame k (open_info s) p.stand.before) (packet_start None) (bits_of packet) f) (sym (after_profile (start s.profile) items)) here in
       packed_later p (bits_of packet) (framed f) (not_first p.stand.phase p.stand.index phase) (as_part p.stand (open_info s) (packet_start None) (bits_of packet) f phase h.info judged)
       (in_room p.stand.phase (bits_of packet) phase text_is.short)
 
@@ -256,9 +272,12 @@ module _ {S : Type 0} (old new : PushedOgg S) (t : S) (block : List (List ℤ)) 
           (subst (λ e. StandsFor e (marked ∷ (items ++ framed f ∷ [])) (native_text (bytes_of (p ∷ ps)) ++ bits_of packet)) (sym pushed)
           (stands_on old.pushed t block (bits_of packet) shape accept.many accept.most accept.going text_is (marked ∷ items) (native_text (bytes_of (p ∷ ps))) plain))
 
-      spelled : AreItems (start Subset) (bytes_of (p ∷ (ps ++ q ∷ []))) (items ++ framed f ∷ [])
-      spelled = subst (λ l. AreItems (start Subset) (p.packet ∷ l) (items ++ framed f ∷ [])) (sym (bytes_more ps q))
-          (items_more (start Subset) (bytes_of (p ∷ ps)) items packet (framed f) (subst (λ l. AreItems (start Subset) (bytes_of l) items) same h.are.spelled) (frame_item items (native_text (bytes_of (p ∷ ps))) plain))
+      there : AreItems (start old.pushed.shape.profile) (bytes_of packets) items
+      there = subst (λ k. AreItems (start k) (bytes_of packets) items) (sym h.subset) h.are.spelled
+
+      spelled : AreItems (start old.pushed.shape.profile) (bytes_of (p ∷ (ps ++ q ∷ []))) (items ++ framed f ∷ [])
+      spelled = subst (λ l. AreItems (start old.pushed.shape.profile) (p.packet ∷ l) (items ++ framed f ∷ [])) (sym (bytes_more ps q))
+          (items_more (start old.pushed.shape.profile) (bytes_of (p ∷ ps)) items packet (framed f) (subst (λ l. AreItems (start old.pushed.shape.profile) (bytes_of l) items) same there) (frame_item items (native_text (bytes_of (p ∷ ps))) plain))
 
       pages : ArePages new.serial (p ∷ (ps ++ q ∷ [])) (written ++ bits_of old.middle) (bits_of new.middle) (bits_of new.last) new.sequence
       pages = subst (λ s. ArePages s (p ∷ (ps ++ q ∷ [])) (written ++ bits_of old.middle) (bits_of new.middle) (bits_of new.last) new.sequence) (sym serial)
@@ -271,20 +290,26 @@ module _ {S : Type 0} (old new : PushedOgg S) (t : S) (block : List (List ℤ)) 
       good : All IsPlaced (p ∷ (ps ++ q ∷ []))
       good = All-append IsPlaced (p ∷ ps) (q ∷ []) (subst (λ l. All IsPlaced l) same h.good) (alone q placed)
 
+      format : new.pushed.shape.profile ≡ old.pushed.shape.profile
+      format = ap (λ (e : Pushed S). e.shape.profile) pushed
+
+      spelled_now : AreItems (start new.pushed.shape.profile) (bytes_of (p ∷ (ps ++ q ∷ []))) (items ++ framed f ∷ [])
+      spelled_now = subst (λ k. AreItems (start k) (bytes_of (p ∷ (ps ++ q ∷ []))) (items ++ framed f ∷ [])) (sym format) spelled
+
       whole : StandsForOgg new (items ++ framed f ∷ []) (p ∷ (ps ++ q ∷ [])) (written ++ bits_of old.middle)
-      whole = stands_for new (items ++ framed f ∷ []) p (ps ++ q ∷ []) (written ++ bits_of old.middle) pages more (record { spelled = spelled; ends = more.stream.ends; kept = more.stream.kept }) good
+      whole = stands_for new (items ++ framed f ∷ []) p (ps ++ q ∷ []) (written ++ bits_of old.middle) pages more (format ∙ h.subset) (record { spelled = spelled_now; ends = more.stream.ends; kept = more.stream.kept }) good
           (omega (arith, serial, h.small)) h.first.3
 
-  pub next_packet : SpellsLeast (sound_of old.pushed.shape block) f (bits_of packet) → AreBytes packet → new.pushed ≡ behind_block old.pushed (samples_each block) t → new.serial ≡ old.serial → new.sequence ≡ sequence_behind old.sequence packet
+  pub next_packet : SpellsLeast old.pushed.predictors (sound_of old.pushed.shape block) f (bits_of packet) → AreBytes packet → new.pushed ≡ behind_block old.pushed (samples_each block) t → new.serial ≡ old.serial → new.sequence ≡ sequence_behind old.sequence packet
       → bits_of new.middle ≡ packet_spelling (marks_of old.serial old.sequence false false q) packet → bits_of new.last ≡ packet_spelling (marks_of old.serial old.sequence false true q) packet → IsNextPacket old new block q
   next_packet least small pushed serial sequence middle last = record { kind = refl; spells = text_is; least = least; stands = stands_next small pushed serial sequence middle last }
 
-  pub pushes_ogg : (g : target.Ghosts S) → SpellsLeast (sound_of old.pushed.shape block) f (bits_of packet) → AreBytes packet → new.pushed ≡ behind_block old.pushed (samples_each block) t → new.serial ≡ old.serial
+  pub pushes_ogg : (g : target.Ghosts S) → SpellsLeast old.pushed.predictors (sound_of old.pushed.shape block) f (bits_of packet) → AreBytes packet → new.pushed ≡ behind_block old.pushed (samples_each block) t → new.serial ≡ old.serial
       → new.sequence ≡ sequence_behind old.sequence packet → bits_of new.middle ≡ packet_spelling (marks_of old.serial old.sequence false false q) packet
       → bits_of new.last ≡ packet_spelling (marks_of old.serial old.sequence false true q) packet → g.sent new.pushed.target ≡ g.sent old.pushed.target ++ old.middle → PushesOgg g block old new
   pushes_ogg g least small pushed serial sequence middle last sent = record { packet = q; next = next_packet least small pushed serial sequence middle last; sent = ap bits_of sent ∙ bits_of-append (g.sent old.pushed.target) old.middle }
 
-  pub begins_ogg : (g : target.Ghosts S) (now : PushedOgg S) → SpellsLeast (sound_of old.pushed.shape block) f (bits_of packet) → AreBytes packet → new.pushed ≡ behind_block old.pushed (samples_each block) t → new.serial ≡ old.serial
+  pub begins_ogg : (g : target.Ghosts S) (now : PushedOgg S) → SpellsLeast old.pushed.predictors (sound_of old.pushed.shape block) f (bits_of packet) → AreBytes packet → new.pushed ≡ behind_block old.pushed (samples_each block) t → new.serial ≡ old.serial
       → new.sequence ≡ sequence_behind old.sequence packet → bits_of new.middle ≡ packet_spelling (marks_of old.serial old.sequence false false q) packet
       → bits_of new.last ≡ packet_spelling (marks_of old.serial old.sequence false true q) packet → (front rest : List ℕ) → old.middle ≡ front ++ rest → g.sent now.pushed.target ≡ g.sent old.pushed.target ++ front → BeginsPushOgg g block old now
   begins_ogg g now least small pushed serial sequence middle last front rest cut sent = record {
@@ -296,19 +321,3 @@ module _ {S : Type 0} (old new : PushedOgg S) (t : S) (block : List (List ℤ)) 
     held = ap bits_of cut ∙ bits_of-append front rest;
     sent = ap bits_of sent ∙ bits_of-append (g.sent old.pushed.target) front;
   }
-
--- ---- the frame of all samples
-
-module _ (a : Sound) (n number : ℕ) (sound : IsSound a) (size : n ≡ samples_each a.channels) where
-  all_samples : frame_at a 0 n number ≡ frame_with number a.channels
-  all_samples =
-      let whole : part_of 0 n a.channels ≡ a.channels = whole_block n a.channels (subst (λ k. All (λ c. length c ≡ k) a.channels) (sym size) sound.long) in
-      ap (λ cs. record { variable = false; number = number; size = n; channels = cs }) whole ∙ ap (λ k. record { variable = false; number = number; size = k; channels = a.channels }) size
-
-  pub frames_whole : (r : Result (Vec ℕ Global) Why) → IfOk r (λ v. IsFrameText a 0 n number (bits_of v.items)) → IfOk r (λ v. SpellsFrame a (frame_with number a.channels) (bits_of v.items))
-  frames_whole (Err e) is = tt
-  frames_whole (Ok v) is = subst (λ (x : Frame). SpellsFrame a x (bits_of v.items)) all_samples is.frame
-
-  pub frames_least : (r : Result (Vec ℕ Global) Why) → IfOk r (λ v. IsFrameText a 0 n number (bits_of v.items)) → IfOk r (λ v. SpellsLeast a (frame_with number a.channels) (bits_of v.items))
-  frames_least (Err e) is = tt
-  frames_least (Ok v) is = subst (λ (x : Frame). SpellsLeast a x (bits_of v.items)) all_samples is.least

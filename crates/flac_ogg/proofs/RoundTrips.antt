@@ -11,7 +11,6 @@ use Rattle.flac_bits.specs.Layout.{Reason, number_at}
 use Rattle.flac_bits.specs.declared.why.Why.TheVariants.{Truncated}
 use Rattle.flac_bits.proofs.Laws.{at_, number_again}
 use Rattle.flac_meta.specs.declared.block.Block.{Block}
-use Rattle.flac_header.specs.declared.subset.Profile.TheVariants.{Subset}
 use Rattle.flac_frame.specs.Audio.{Sound}
 use Rattle.flac_native.specs.Decoding.{beginning}
 use Rattle.flac_native.specs.Stream.{Piece, grammar, opening}
@@ -45,7 +44,7 @@ is_just r items once whole = record {
 }
 
 pub encoded_ogg_is_read : EncodedOggIsRead
-encoded_ogg_is_read serial p list a before after e = is_just (ogg_reading Subset (beginning Truncated) (placed.stream_spelling serial e.packets)) _ (one_ogg_reading Subset _ _) e.stream
+encoded_ogg_is_read serial p list a before after e = is_just (ogg_reading p.profile (beginning Truncated) (placed.stream_spelling serial e.packets)) _ (one_ogg_reading p.profile _ _) e.stream
 
 -- ---- the first byte
 
@@ -101,27 +100,27 @@ pub ogg_bytes : (serial : ℕ) (p : Cut) (list : List Block) (a : Sound) (bytes 
 ogg_bytes serial p list a bytes small e =
     let items = ogg_items p list a e.are.least e.are.greatest in
     let page : begins_page bytes ≡ true = begins_ogg serial p list a bytes e.packets small e.are e.written in
-    let whole : OggStream Subset (beginning Truncated) items (bits_of bytes) = subst (λ k. OggStream Subset (beginning Truncated) items k) (sym e.written) e.stream in
-    let just = is_just (ogg_reading Subset (beginning Truncated) (bits_of bytes)) items (one_ogg_reading Subset _ _) whole in
+    let whole : OggStream p.profile (beginning Truncated) items (bits_of bytes) = subst (λ k. OggStream p.profile (beginning Truncated) items k) (sym e.written) e.stream in
+    let just = is_just (ogg_reading p.profile (beginning Truncated) (bits_of bytes)) items (one_ogg_reading p.profile _ _) whole in
     record {
       encodes = e;
       container = page;
-      read = subst (λ k. IsJust (read_either Subset k (beginning Truncated) (bits_of bytes)) items) (sym page) just;
+      read = subst (λ k. IsJust (read_either p.profile k (beginning Truncated) (bits_of bytes)) items) (sym page) just;
     }
 
 pub native_bytes : (p : Cut) (list : List Block) (a : Sound) (bytes : List ℕ) → AreBytes bytes → Encodes p list a [] (bits_of bytes) → NativeBytes p list a bytes
 native_bytes p list a bytes small e =
     let items = given p (list ++ table_of (points_of p e.frames)) a e.least e.greatest in
     let marker : begins_page bytes ≡ false = first_byte bytes 102 small (omega arith) (record { rest = _; text = e.written }) in
-    let whole : Stream grammar (opening Subset) (beginning Truncated) items (bits_of bytes) = subst (λ k. Stream grammar (opening Subset) (beginning Truncated) items k) (sym e.written) e.stream in
-    let just = is_just (by_grammar grammar (opening Subset) (beginning Truncated) (bits_of bytes)) items (one_answer (opening Subset) (beginning Truncated) (bits_of bytes)) whole in
+    let whole : Stream grammar (opening p.profile) (beginning Truncated) items (bits_of bytes) = subst (λ k. Stream grammar (opening p.profile) (beginning Truncated) items k) (sym e.written) e.stream in
+    let just = is_just (by_grammar grammar (opening p.profile) (beginning Truncated) (bits_of bytes)) items (one_answer (opening p.profile) (beginning Truncated) (bits_of bytes)) whole in
     record {
       encodes = e;
       container = marker;
-      read = subst (λ k. IsJust (read_either Subset k (beginning Truncated) (bits_of bytes)) items) (sym marker) just;
+      read = subst (λ k. IsJust (read_either p.profile k (beginning Truncated) (bits_of bytes)) items) (sym marker) just;
     }
 
 -- so they are a stream of some items
-pub read_whole : (serial : Option ℕ) (p : Cut) (list : List Block) (a : Sound) (bytes : List ℕ) → EncodedBytes serial p list a bytes → (items : List Piece) × IsJust (bytes_reading Subset bytes) items
+pub read_whole : (serial : Option ℕ) (p : Cut) (list : List Block) (a : Sound) (bytes : List ℕ) → EncodedBytes serial p list a bytes → (items : List Piece) × IsJust (bytes_reading p.profile bytes) items
 read_whole None p list a bytes e = (_, e.read)
 read_whole (Some serial) p list a bytes e = (_, e.read)

@@ -1,5 +1,5 @@
 -- Frames that are sent one after another, each in the pages of a packet.
-use Rattle.std.proofs.Common.{◌≡◌, ℕ, zero, suc, ◌+◌, ◌-◌, ◌*◌, ◌/◌, ◌%◌, ◌^◌, ◌<◌, ◌≤◌, min, Bool, true, false, nat_eq, List, [], ◌∷◌, ◌++◌, length, length-append, drop, map, refl, sym, ap, subst, ◌∙◌, arith, append_assoc, Result, Ok, Err, ◌⊎◌, inl, inr}
+use Rattle.std.proofs.Common.{◌≡◌, ℕ, zero, suc, ◌+◌, ◌*◌, ◌/◌, ◌%◌, ◌^◌, ◌<◌, ◌≤◌, min, Bool, true, false, nat_eq, List, [], ◌∷◌, ◌++◌, length, length-append, drop, refl, sym, ap, subst, ◌∙◌, arith, append_assoc, Result, Ok, Err, inl, inr}
 use Rattle.std.specs.Int.{to_le_bytes, w32, w64}
 use Rattle.std.specs.List.{All, flat_map, range_with_len}
 use Rattle.std.proofs.Math.Nat.{mul-suc}
@@ -30,7 +30,7 @@ use Rattle.flac_pages.specs.declared.writing.PacketMarks.{PacketMarks}
 use Rattle.flac_pages.specs.Packets.{lacing_of}
 use Rattle.flac_pages.specs.Page.{Page, page_spelling}
 use Rattle.flac_pages.specs.Placed.{Placed, IsPlaced, marks_of, sequence_behind, pages_from}
-use Rattle.flac_pages.specs.Written.{page_at, pages_of_packet, packet_spelling, granule_at}
+use Rattle.flac_pages.specs.Written.{page_at, pages_of_packet, packet_spelling}
 use Rattle.flac_ogg.specs.Listed.{texts_of, kinds_in}
 use Rattle.flac_ogg.specs.Pushing.{open_from, number_behind}
 use Rattle.flac_ogg.specs.Writing.{frames_to, SendsPackets}
@@ -121,7 +121,7 @@ pub record SentPackets {S : Type 0} (g : target.Ghosts S) (serial from : ℕ) (p
   pub packets : List Placed
   pub many : length frames ≡ number
   pub each : (i : ℕ) → i < length frames → SpellsFrame a (frame_of p.block_size a i) (nth frames i)
-  pub each_least : (i : ℕ) → i < length frames → SpellsLeast a (frame_of p.block_size a i) (nth frames i)
+  pub each_least : (i : ℕ) → i < length frames → SpellsLeast p.predictors a (frame_of p.block_size a i) (nth frames i)
   pub texts : texts_of packets ≡ frames
   pub kinds : kinds_in packets ≡ frames_to p.block_size (samples_each a.channels) number
   pub good : All IsPlaced packets
@@ -154,7 +154,7 @@ module _ {S : Type 0} (g : target.Ghosts S) (serial from : ℕ) (p : Cut) (a : S
         packets = s.packets ++ q ∷ [];
         many = omega (arith, length-snoc s.frames t, s.many);
         each = each_more (λ i k. SpellsFrame a (frame_of p.block_size a i) k) s.frames t s.each (subst (λ n. SpellsFrame a (frame_of p.block_size a n) t) (sym s.many) is.frame);
-        each_least = each_more (λ i k. SpellsLeast a (frame_of p.block_size a i) k) s.frames t s.each_least (subst (λ n. SpellsLeast a (frame_of p.block_size a n) t) (sym s.many) is.least);
+        each_least = each_more (λ i k. SpellsLeast p.predictors a (frame_of p.block_size a i) k) s.frames t s.each_least (subst (λ n. SpellsLeast p.predictors a (frame_of p.block_size a n) t) (sym s.many) is.least);
         texts = texts_append s.packets (q ∷ []) ∙ ap (λ (l : List (List Bool)). l ++ t ∷ []) s.texts;
         kinds = kinds_append s.packets (q ∷ []) ∙ ap (λ (l : List PacketKind). l ++ q.kind ∷ []) s.kinds ∙ ap (frames_to p.block_size total) up;
         good = All-append IsPlaced s.packets (q ∷ []) s.good (All-cons IsPlaced q [] (record { bytes = small; position = position }) (All-nil IsPlaced));
@@ -165,7 +165,7 @@ module _ {S : Type 0} (g : target.Ghosts S) (serial from : ℕ) (p : Cut) (a : S
   -- The packet of a number, and frames behind it.
   pub packets_end : {X E : Type 0} (number sequence : ℕ) (old mid new : S) (packet : List ℕ) (last : Bool) (rest : List (List Bool)) (r : Result X E) → total < 2 ^ 64 → AreBytes packet → (s : SentPackets g serial from p a number sequence old mid)
       → IsSpelled p a number (bits_of packet) → number + 1 + length rest ≡ blocks_in p.block_size total → is_nil rest ≡ last
-      → ((j : ℕ) → j < length rest → SpellsFrame a (frame_of p.block_size a (number + 1 + j)) (nth rest j)) → ((j : ℕ) → j < length rest → SpellsLeast a (frame_of p.block_size a (number + 1 + j)) (nth rest j))
+      → ((j : ℕ) → j < length rest → SpellsFrame a (frame_of p.block_size a (number + 1 + j)) (nth rest j)) → ((j : ℕ) → j < length rest → SpellsLeast p.predictors a (frame_of p.block_size a (number + 1 + j)) (nth rest j))
       → ((more : List Bool) → (rest ≡ [] → more ≡ []) → SendsBits g ((open_from serial from false (s.packets) ++ packet_spelling (marks_of serial sequence false last (frame_packet number packet)) packet) ++ more) old new r)
       → SendsPackets g serial from p a old new r
   packets_end number sequence old mid new packet last rest r few small s is all end each_rest least_rest sends =
@@ -190,14 +190,14 @@ module _ {S : Type 0} (g : target.Ghosts S) (serial from : ℕ) (p : Cut) (a : S
       ∙ ap (λ l. so_far ++ (packet_spelling (marks_of serial sequence false l q) packet ++ tail)) (same_end b total (suc number) rest ∙ end)
       ∙ sym (append_assoc so_far here tail) in
       let each_front = each_more (λ i k. SpellsFrame a (frame_of b a i) k) s.frames t s.each (subst (λ n. SpellsFrame a (frame_of b a n) t) (sym s.many) is.frame) in
-      let least_front = each_more (λ i k. SpellsLeast a (frame_of b a i) k) s.frames t s.each_least (subst (λ n. SpellsLeast a (frame_of b a n) t) (sym s.many) is.least) in
+      let least_front = each_more (λ i k. SpellsLeast p.predictors a (frame_of b a i) k) s.frames t s.each_least (subst (λ n. SpellsLeast p.predictors a (frame_of b a n) t) (sym s.many) is.least) in
       record {
         frames = front ++ rest;
         are = record {
           many = omega (arith, length-append front rest, long, all);
           each = each_append (λ i k. SpellsFrame a (frame_of b a i) k) front rest each_front (λ j h. subst (λ n. SpellsFrame a (frame_of b a (n + j)) (nth rest j)) (sym long) (each_rest j h));
         };
-        are_least = each_append (λ i k. SpellsLeast a (frame_of b a i) k) front rest least_front (λ j h. subst (λ n. SpellsLeast a (frame_of b a (n + j)) (nth rest j)) (sym long) (least_rest j h));
+        are_least = each_append (λ i k. SpellsLeast p.predictors a (frame_of b a i) k) front rest least_front (λ j h. subst (λ n. SpellsLeast p.predictors a (frame_of b a (n + j)) (nth rest j)) (sym long) (least_rest j h));
         packets = s.packets ++ q ∷ behind;
         texts = texts_append s.packets (q ∷ behind) ∙ ap (λ (l : List (List Bool)). l ++ (t ∷ texts_of behind)) s.texts ∙ ap (λ (l : List (List Bool)). s.frames ++ (t ∷ l)) (texts_packed b total (suc number) rest whole)
             ∙ sym (append_assoc s.frames (t ∷ []) rest);
@@ -224,7 +224,7 @@ module _ {S : Type 0} (g : target.Ghosts S) (serial from : ℕ) (p : Cut) (a : S
       let rest = drop (number + 1) others in
       let many : number + 1 + length rest ≡ blocks_in p.block_size total = omega (arith, length-drop (number + 1) others, are.many, lt) in
       packets_end number sequence old mid new packet last rest (Err f) few small s is many (ends_with rest (number + 1) (blocks_in p.block_size total) many ∙ test)
-      (each_drop (λ i k. SpellsFrame a (frame_of p.block_size a i) k) (number + 1) others are.each) (each_drop (λ i k. SpellsLeast a (frame_of p.block_size a i) k) (number + 1) others least)
+      (each_drop (λ i k. SpellsFrame a (frame_of p.block_size a i) k) (number + 1) others are.each) (each_drop (λ i k. SpellsLeast p.predictors a (frame_of p.block_size a i) k) (number + 1) others least)
       (λ more none. bits_fault g more (bits_then g (Err e) s.sends sends))
 
 -- ---- where the loop stands
@@ -289,6 +289,6 @@ pub spelled_long : (p : Cut) (a : Sound) (n least greatest : ℕ) (packet : List
     → length packet ≤ greatest
 spelled_long p a n least greatest packet points lt e is =
     let at : n < length e.frames = omega (arith, lt, e.are.many) in
-    let same = as_long a (frame_of p.block_size a n) (bits_of packet) (nth e.frames n) is.least (e.are_least n at) in
+    let same = as_long p.predictors a (frame_of p.block_size a n) (bits_of packet) (nth e.frames n) is.least (e.are_least n at) in
     let within = e.sizes.within n at in
     omega (arith, same, within.1, length-bits_of packet)

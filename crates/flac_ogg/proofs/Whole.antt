@@ -1,5 +1,5 @@
 -- All packets of what is encoded, and the Ogg stream of them.
-use Rattle.std.proofs.Common.{◌≡◌, ℕ, suc, ◌+◌, ◌^◌, ◌<◌, Bool, true, List, [], ◌∷◌, ◌++◌, length, length-append, append-nil, map, get_or, ◌-◌, nat_eq, None, refl, sym, ap, subst, ◌∙◌, arith}
+use Rattle.std.proofs.Common.{◌≡◌, ℕ, ◌^◌, ◌<◌, Bool, true, List, [], ◌∷◌, ◌++◌, length, length-append, append-nil, map, get_or, ◌-◌, nat_eq, None, refl, sym, ap, subst, ◌∙◌, arith}
 use Rattle.std.specs.List.{All}
 use Rattle.std.proofs.lemmas.Bool.Decides.{nat_tests}
 use Rattle.flac_bits.specs.Bits.{unsigned, bits_of, is_nil}
@@ -8,18 +8,18 @@ use Rattle.flac_bits.specs.Forms.{IsBytes}
 use Rattle.flac_bits.specs.declared.why.Why.TheVariants.{Truncated}
 use Rattle.flac_bits.proofs.Meaning.{past-short}
 use Rattle.flac_bits.proofs.Words.{length-unsigned}
-use Rattle.flac_bits.proofs.Holding.{length-bits_of, bits_of-append}
+use Rattle.flac_bits.proofs.Holding.{length-bits_of}
 use Rattle.flac_meta.specs.Info.{Info}
 use Rattle.flac_meta.specs.Listed.{list_fault, info_seen}
 use Rattle.flac_meta.specs.Spelling as s
 use Rattle.flac_meta.specs.Valid.{AllAre, FitsFields}
 use Rattle.flac_meta.specs.declared.block.Block.{Block}
 use Rattle.flac_meta.specs.declared.block.Block.TheVariants as block_of
-use Rattle.flac_header.specs.declared.subset.Profile.TheVariants.{Subset}
-use Rattle.flac_frame.specs.Audio.{Sound, samples_each}
+use Rattle.flac_header.specs.declared.subset.Profile.{Profile}
+use Rattle.flac_frame.specs.Audio.{Sound}
 use Rattle.flac_native.specs.Decoding.{beginning}
 use Rattle.flac_native.specs.Stream.{Piece}
-use Rattle.flac_native.specs.Given.{Cut, fits_plan, plan_fault, blocks_in, info_of, sound_message}
+use Rattle.flac_native.specs.Given.{Cut, fits_plan, plan_fault, info_of, sound_message}
 use Rattle.flac_native.proofs.BlocksWritten.{nil_is}
 use Rattle.flac_native.proofs.Digests.{digest_is_bytes}
 use Rattle.flac_native.proofs.WholeBytes.{length-joined, header_long}
@@ -28,8 +28,7 @@ use Rattle.flac_pages.specs.Packets.{at_page}
 use Rattle.flac_pages.specs.Placed.{Placed, IsPlaced, stream_pages, stream_spelling}
 use Rattle.flac_pages.proofs.PlacedPages.{written_pages_are_good}
 use Rattle.flac_ogg.specs.Stream.{OggStream}
-use Rattle.flac_ogg.specs.Native.{mapping_spelling, block_spellings, AreStream}
-use Rattle.flac_ogg.specs.Listed.{texts_of}
+use Rattle.flac_ogg.specs.Native.{mapping_spelling, AreStream}
 use Rattle.flac_ogg.specs.Writing.{ArePackets, EncodesOgg, BeginsOgg, header_count}
 use Rattle.flac_ogg.proofs.NativeFrames.{encoded_are_ogg_items}
 use Rattle.flac_ogg.proofs.Packing.{mapping_long}
@@ -79,9 +78,9 @@ ends_well : (m : Mark) → m.short ≡ Truncated → end_fault (record { left = 
 unfolding end_fault
 ends_well m is = ap unless_over is
 
-pub ogg_stream : (serial : ℕ) (q : Placed) (qs : List Placed) (items : List Piece) → serial < 2 ^ 32 → length q.packet ≡ 51 → All IsPlaced (q ∷ qs) → AreStream (map (λ x. x.packet) (q ∷ qs)) items
-    → OggStream Subset (beginning Truncated) items (stream_spelling serial (q ∷ qs))
-ogg_stream serial q qs items small long good are =
+pub ogg_stream : (profile : Profile) (serial : ℕ) (q : Placed) (qs : List Placed) (items : List Piece) → serial < 2 ^ 32 → length q.packet ≡ 51 → All IsPlaced (q ∷ qs) → AreStream profile (map (λ x. x.packet) (q ∷ qs)) items
+    → OggStream profile (beginning Truncated) items (stream_spelling serial (q ∷ qs))
+ogg_stream profile serial q qs items small long good are =
     let m = beginning Truncated in
     let text = stream_spelling serial (q ∷ qs) in
     let h = written_pages_are_good serial q qs m small long good in
@@ -111,7 +110,7 @@ encodes_ogg serial p list a (q ∷ qs) before small planned fits may fields good
     let first : bits_of q.packet ≡ mapping_spelling count ++ s.block_spelling (is_nil list) (block_of.StreamInfo (info_of p a are.least are.greatest)) = ap (λ (t : List (List Bool)). get_or t 0 []) are.texts in
     let long = first_size count (is_nil list) p a are.least are.greatest q.packet first in
     let items = encoded_are_ogg_items p list a are.least are.greatest count are.frames (map (λ x. x.packet) (q ∷ qs)) planned fits may fields are.are are.sizes (count_small (length list)) are.texts in
-    record { packets = q ∷ qs; are = are; written = refl; stream = ogg_stream serial q qs _ small long good items }
+    record { packets = q ∷ qs; are = are; written = refl; stream = ogg_stream p.profile serial q qs _ small long good items }
 
 -- ---- what of it was sent
 

@@ -13,7 +13,6 @@ use Rattle.flac_meta.specs.Valid.{AllAre, FitsFields}
 use Rattle.flac_meta.specs.declared.block.Block.{Block}
 use Rattle.flac_meta.specs.declared.block.Block.TheVariants as blocks
 use Rattle.flac_header.specs.declared.subset.Profile.{Profile}
-use Rattle.flac_header.specs.declared.subset.Profile.TheVariants.{Subset}
 use Rattle.flac_frame.specs.Audio.{Sound}
 use Rattle.flac_native.specs.Decoding.{beginning}
 use Rattle.flac_native.specs.Stream.{Piece, marked, framed, opening, grammar}
@@ -51,15 +50,16 @@ block_spellings (b ∷ bs) = block_spelling (is_nil bs) b ∷ block_spellings bs
 abbrev pub packet_spellings : (count : ℕ) → Info → List Block → (frames : List (List Bool)) → List (List Bool)
 packet_spellings count info list frames = (mapping_spelling count ++ block_spelling (is_nil list) (blocks.StreamInfo info)) ∷ (block_spellings list ++ frames)
 
--- the packets are just these items, and a stream may end behind them
-pub record AreStream (packets : List (List ℕ)) (items : List Piece) : Type 0 where
-  pub spelled : AreItems (start Subset) packets items
-  pub ends : grammar.may_end (after grammar (start Subset) items) ≡ true
-  pub kept : AllKept (grammar.at_end (after grammar (start Subset) items))
+-- the packets are just these items, and a stream of the profile may end behind them
+pub record AreStream (profile : Profile) (packets : List (List ℕ)) (items : List Piece) : Type 0 where
+  pub spelled : AreItems (start profile) packets items
+  pub ends : grammar.may_end (after grammar (start profile) items) ≡ true
+  pub kept : AllKept (grammar.at_end (after grammar (start profile) items))
 
--- So packets of what is encoded are the items of a stream of what was given: of samples that a plan was made for, and of blocks that may stand behind STREAMINFO.
+-- So packets of what is encoded are the items of a stream of what was given, and of the plan's profile: of samples that a plan was made for, and of blocks that may
+-- stand behind STREAMINFO.
 abbrev pub EncodedAreOggItems : Type 0
 EncodedAreOggItems =
     (p : Cut) (list : List Block) (a : Sound) (least greatest count : ℕ) (frames : List (List Bool)) (packets : List (List ℕ)) → plan_fault p ≡ None → fits_plan p a ≡ true → list_fault info_seen list ≡ None → AllAre FitsFields list
     → AreFrames p a frames → AreSizes frames least greatest → count < 2 ^ 16 → map bits_of packets ≡ packet_spellings count (info_of p a least greatest) list frames
-    → AreStream packets (closing (blocks.StreamInfo (info_of p a least greatest) ∷ list) ++ map framed (frames_of p.block_size a))
+    → AreStream p.profile packets (closing (blocks.StreamInfo (info_of p a least greatest) ∷ list) ++ map framed (frames_of p.block_size a))

@@ -8,11 +8,12 @@ use Rattle.flac_bits.specs.declared.why.Why.TheVariants.{Truncated}
 use Rattle.flac_meta.specs.declared.block.Block.{Block}
 use Rattle.flac_meta.specs.declared.block.Block.TheVariants as blocks
 use Rattle.flac_header.specs.declared.subset.Profile.TheVariants.{Subset}
+use Rattle.flac_subframe.specs.declared.linear.LinearPredictor.{LinearPredictor}
 use Rattle.flac_frame.specs.Audio.{samples_each}
 use Rattle.flac_native.specs.Decoding.{beginning}
 use Rattle.flac_native.specs.Stream.{Piece, marked, framed}
 use Rattle.flac_native.specs.Given.{closing}
-use Rattle.flac_native.specs.Pushing.{Shape, shape_fault, open_info, Pushed, StandsFor, sound_of, frame_with}
+use Rattle.flac_native.specs.Pushing.{Shape, shape_fault, open_info, Pushed, trying, StandsFor, sound_of, frame_with}
 use Rattle.flac_native.specs.Writing.{SpellsFrame, SpellsLeast}
 use Rattle.flac_native.specs.declared.encode_fault.EncodeFault.{EncodeFault}
 use Rattle.flac_native.specs.declared.encode_fault.EncodeFault.TheVariants.{BadMapping, Setup}
@@ -54,6 +55,10 @@ pub record PushedOgg (S : Type 0) : Type 0 where
   pub middle : List ℕ
   pub last : List ℕ
 
+-- these predictors are tried from now on
+abbrev pub trying_ogg : {S : Type 0} → PushedOgg S → List LinearPredictor → PushedOgg S
+trying_ogg e ps = record { pushed = trying e.pushed ps; serial = e.serial; sequence = e.sequence; middle = e.middle; last = e.last }
+
 -- Why an encoder cannot be made, if so: the format, or the list does not begin with a Vorbis comment.
 abbrev pub open_fault : Shape → List Block → Option EncodeFault
 open_fault s list = option_or (option_map Setup (shape_fault s)) (cond (begins_with_comment list) None (Some BadMapping))
@@ -66,10 +71,11 @@ listed_fault other listed = cond listed other BadMapping
 -- The encoder stands for this Ogg stream: of what was written and of the packet that is held back, marked last. Its packets are these, the first with the 51 bytes of
 -- FLAC's first one, and each is one of these items. The items are those of the native stream that the encoder's state stands for.
 pub record StandsForOgg {S : Type 0} (e : PushedOgg S) (items : List Piece) (packets : List Placed) (written : List Bool) : Type 0 where
+  pub subset : e.pushed.shape.profile ≡ Subset
   pub pages : ArePages e.serial packets written (bits_of e.middle) (bits_of e.last) e.sequence
   pub stream : OggStream Subset (beginning Truncated) items (written ++ bits_of e.last)
   pub plain : StandsFor e.pushed (marked ∷ items) (native_text (map (λ q. q.packet) packets))
-  pub are : AreStream (map (λ q. q.packet) packets) items
+  pub are : AreStream Subset (map (λ q. q.packet) packets) items
   pub good : All IsPlaced packets
   pub small : e.serial < 2 ^ 32
   pub first : (q : Placed) × (qs : List Placed) × (packets ≡ q ∷ qs) × (length q.packet ≡ 51)
@@ -85,12 +91,13 @@ pub record Opens {S : Type 0} (g : target.Ghosts S) (list : List Block) (old : S
   pub stands : StandsForOgg e (closing (blocks.StreamInfo (open_info e.pushed.shape) ∷ list)) packets text
   pub sent : g.known old ≡ true → bits_of (g.sent e.pushed.target) ≡ bits_of (g.sent old) ++ text
 
--- The packet is the next frame: it has just the samples of the block, no frame of its family is shorter, its last page states the samples so far, and after
--- whatever stream the encoder stood for it now stands for that stream with the frame as one more item in one more packet. The packet that was held is then written.
+-- The packet is the next frame: it has just the samples of the block, no frame of its family, with the predictors of the encoder, is shorter, its last page states
+-- the samples so far, and after whatever stream the encoder stood for it now stands for that stream with the frame as one more item in one more packet. The packet
+-- that was held is then written.
 pub record IsNextPacket {S : Type 0} (old new : PushedOgg S) (block : List (List ℤ)) (q : Placed) : Type 0 where
   pub kind : q.kind ≡ kind_of.Frame (old.pushed.samples + samples_each block)
   pub spells : SpellsFrame (sound_of old.pushed.shape block) (frame_with old.pushed.number block) (bits_of q.packet)
-  pub least : SpellsLeast (sound_of old.pushed.shape block) (frame_with old.pushed.number block) (bits_of q.packet)
+  pub least : SpellsLeast old.pushed.predictors (sound_of old.pushed.shape block) (frame_with old.pushed.number block) (bits_of q.packet)
   pub stands : (items : List Piece) (packets : List Placed) (written : List Bool) → StandsForOgg old items packets written
       → StandsForOgg new (items ++ framed (frame_with old.pushed.number block) ∷ []) (packets ++ q ∷ []) (written ++ bits_of old.middle)
 

@@ -6,7 +6,6 @@ use Rattle.flac_bits.specs.declared.why.Why.{Why}
 use Rattle.flac_bits.specs.declared.why.Why.TheVariants.{Truncated}
 use Rattle.flac_meta.specs.declared.block.Block.{Block}
 use Rattle.flac_meta.specs.declared.block.Block.TheVariants as blocks
-use Rattle.flac_header.specs.declared.subset.Profile.TheVariants.{Subset}
 use Rattle.flac_frame.specs.Audio.{Sound}
 use Rattle.flac_native.specs.Decoding.{beginning}
 use Rattle.flac_native.specs.Stream.{Piece, framed}
@@ -30,25 +29,25 @@ pub record IsJust (r : Reading Piece Place) (items : List Piece) : Type 0 where
 abbrev pub ogg_items : Cut → List Block → Sound → (least greatest : ℕ) → List Piece
 ogg_items p list a least greatest = closing (blocks.StreamInfo (info_of p a least greatest) ∷ list) ++ map framed (frames_of p.block_size a)
 
--- So what is encoded as an Ogg stream is one of just what was given.
+-- So what is encoded as an Ogg stream is one of just what was given, in the plan's profile.
 abbrev pub EncodedOggIsRead : Type 0
 EncodedOggIsRead =
     (serial : ℕ) (p : Cut) (list : List Block) (a : Sound) (before after : List Bool) (e : EncodesOgg serial p list a before after)
-    → IsJust (ogg_reading Subset (beginning Truncated) (stream_spelling serial e.packets)) (ogg_items p list a e.are.least e.are.greatest)
+    → IsJust (ogg_reading p.profile (beginning Truncated) (stream_spelling serial e.packets)) (ogg_items p list a e.are.least e.are.greatest)
 
 -- ---- in memory
 
--- the bytes are what is encoded as a native stream, and are read as one of just what was given
+-- the bytes are what is encoded as a native stream, and are read in the plan's profile as one of just what was given
 pub record NativeBytes (p : Cut) (list : List Block) (a : Sound) (bytes : List ℕ) : Type 0 where
   pub encodes : Encodes p list a [] (bits_of bytes)
   pub container : begins_page bytes ≡ false
-  pub read : IsJust (bytes_reading Subset bytes) (given p (list ++ table_of (points_of p encodes.frames)) a encodes.least encodes.greatest)
+  pub read : IsJust (bytes_reading p.profile bytes) (given p (list ++ table_of (points_of p encodes.frames)) a encodes.least encodes.greatest)
 
--- the bytes are what is encoded as the Ogg stream of a number, and are read as one of just what was given
+-- the bytes are what is encoded as the Ogg stream of a number, and are read in the plan's profile as one of just what was given
 pub record OggBytes (serial : ℕ) (p : Cut) (list : List Block) (a : Sound) (bytes : List ℕ) : Type 0 where
   pub encodes : EncodesOgg serial p list a [] (bits_of bytes)
   pub container : begins_page bytes ≡ true
-  pub read : IsJust (bytes_reading Subset bytes) (ogg_items p list a encodes.are.least encodes.are.greatest)
+  pub read : IsJust (bytes_reading p.profile bytes) (ogg_items p list a encodes.are.least encodes.are.greatest)
 
 -- an Ogg stream where its number is given, otherwise a native one
 abbrev pub EncodedBytes : Option ℕ → Cut → List Block → Sound → List ℕ → Type 0

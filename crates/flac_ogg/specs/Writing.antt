@@ -5,14 +5,11 @@ use Rattle.flac_bits.specs.declared.target.Target as target
 use Rattle.flac_bits.specs.declared.why.Why.TheVariants.{Truncated}
 use Rattle.flac_meta.specs.declared.block.Block.{Block}
 use Rattle.flac_meta.specs.declared.block.Block.TheVariants as blocks
-use Rattle.flac_header.specs.declared.subset.Profile.TheVariants.{Subset}
 use Rattle.flac_frame.specs.Audio.{Sound, samples_each}
-use Rattle.flac_frame.specs.Encoding.{block_of}
-use Rattle.flac_frame.specs.Frame.{Frame}
 use Rattle.flac_native.specs.Decoding.{beginning}
 use Rattle.flac_native.specs.Stream.{framed}
 use Rattle.flac_native.specs.Given.{Cut, blocks_in, info_of, frames_of, closing}
-use Rattle.flac_native.specs.Writing.{AreFrames, AreLeastFrames, AreSizes, SpellsFrame, SpellsLeast, SendsBits}
+use Rattle.flac_native.specs.Writing.{AreFrames, AreLeastFrames, AreSizes, SendsBits}
 use Rattle.flac_pages.specs.declared.writing.PacketKind.{PacketKind}
 use Rattle.flac_pages.specs.declared.writing.PacketKind.TheVariants as kind_of
 use Rattle.flac_pages.specs.Page.{page_spelling}
@@ -33,15 +30,6 @@ may_be_ogg p list = nat_eq p.seek_every 0 && begins_with_comment list
 -- how many header packets follow the first one, in 16 bits: 0 where they are more than these can tell
 abbrev pub header_count : ℕ → ℕ
 header_count n = cond (nat_lt 65535 n) 0 n
-
--- the block of samples from one on as the frame of a number
-abbrev pub frame_at : Sound → (start size number : ℕ) → Frame
-frame_at a start size number = record { variable = false; number = number; size = size; channels = block_of start size a.channels }
-
--- the bits are the least frame of these samples, and short
-pub record IsFrameText (a : Sound) (start size number : ℕ) (text : List Bool) : Type 0 where
-  pub frame : SpellsFrame a (frame_at a start size number) text
-  pub least : SpellsLeast a (frame_at a start size number) text
 
 -- the first n frames, each with the number of samples so far at its end
 abbrev pub frames_to : (block_size total n : ℕ) → List PacketKind
@@ -86,12 +74,12 @@ pub record SendsOgg {S X E : Type 0} (g : target.Ghosts S) (serial : ℕ) (p : C
   pub good : All IsPlaced packets
   pub sends : SendsBits g (stream_spelling serial (headers ++ packets)) old new result
 
--- Behind the bits that were there, an Ogg stream of what was given was written, of these packets.
+-- Behind the bits that were there, an Ogg stream of what was given, and of the plan's profile, was written, of these packets.
 pub record EncodesOgg (serial : ℕ) (p : Cut) (list : List Block) (a : Sound) (before after : List Bool) : Type 0 where
   pub packets : List Placed
   pub are : ArePackets p list a packets
   pub written : after ≡ before ++ stream_spelling serial packets
-  pub stream : OggStream Subset (beginning Truncated) (closing (blocks.StreamInfo (info_of p a are.least are.greatest) ∷ list) ++ map framed (frames_of p.block_size a)) (stream_spelling serial packets)
+  pub stream : OggStream p.profile (beginning Truncated) (closing (blocks.StreamInfo (info_of p a are.least are.greatest) ∷ list) ++ map framed (frames_of p.block_size a)) (stream_spelling serial packets)
 
 -- What was written is a beginning of such a stream, behind the bits that were there.
 pub record BeginsOgg (serial : ℕ) (p : Cut) (list : List Block) (a : Sound) (before after : List Bool) : Type 0 where

@@ -1,25 +1,24 @@
 //! Encodes samples as an Ogg stream.
 
-ghost use Rattle.std.specs.Prelude.{◌≡◌, ◌≢◌, [], ◌++◌, ◌≤◌, ◌<◌, ◌-◌, ◌^◌, ◌↔◌, length, nat_eq, true, false, IfOk, IfErr, OnOk, None, Err};
+ghost use Rattle.std.specs.Prelude.{◌≡◌, ◌≢◌, [], ◌++◌, ◌≤◌, ◌<◌, ◌^◌, ◌↔◌, length, nat_eq, true, false, IfOk, IfErr, OnOk, None, Err};
 ghost use Rattle.flac_bits.specs.Bits.{bits_of};
 ghost use Rattle.flac_bits.specs.State.{Rises};
 ghost use Rattle.flac_bits.specs.Written.{Writes};
 ghost use Rattle.flac_meta.specs.Listed.{block_fault};
 ghost use Rattle.flac_meta.specs.Spelling.{block_spelling};
 ghost use Rattle.flac_meta.specs.declared.block.Block.TheVariants as block_of;
-ghost use Rattle.flac_frame.specs.Audio.{samples_each};
 ghost use Rattle.flac_native.specs.Given.{fits_plan, info_of};
 ghost use Rattle.flac_native.specs.Numbers.{is_of_whole};
 ghost use Rattle.flac_native.specs.Writing.{IsDigest};
 ghost use Rattle.flac_ogg.specs.Headers.{AreHeaders};
 ghost use Rattle.flac_ogg.specs.Native.{mapping_spelling, packet_spellings};
-ghost use Rattle.flac_ogg.specs.Writing.{begins_with_comment, may_be_ogg, header_count, IsFrameText, EncodesOgg, BeginsOgg};
+ghost use Rattle.flac_ogg.specs.Writing.{begins_with_comment, may_be_ogg, header_count, EncodesOgg, BeginsOgg};
 
 use crate::headers::Headers;
 use crate::memory::{collect, in_memory};
 use crate::sending::{page_room, send_stream};
 use flac_bits::{BitWriter, Collected, Target, Why};
-use flac_frame::{Audio, EncodeBuffers, encode_frame};
+use flac_frame::{Audio, EncodeBuffers};
 use flac_meta::{Block, BlockList, StreamInfo, write_block};
 use flac_native::{ChosenFrames, EncodeFault, Plan};
 use std::alloc::Global;
@@ -98,30 +97,6 @@ pub(crate) fn block_packet(alloc: Global, block: &Block, last: bool) -> Result<V
     }
 }
 
-/// Samples `start` to `end` as frame `number`, in memory. Its only error is `Memory`: an allocation failed.
-pub(crate) fn frame_packet(
-    alloc: Global,
-    audio: &Audio,
-    start: usize,
-    end: usize,
-    number: u64,
-    buffers: &mut EncodeBuffers,
-) -> Result<Vec<u8>, Why>
-    requires some { start < end }
-    requires within { end ≤ samples_each audio.now.channels }
-    requires room { end - start ≤ buffers.old }
-    requires number { number < 2 ^ 31 }
-    ensures kept { buffers.new ≡ buffers.old }
-    ensures frame { IfOk result (λ packet. IsFrameText audio.now start (end - start) number (bits_of packet.items)) }
-    ensures memory { IfErr result (λ e. e ≡ Why.Memory) }
-{
-    let mut writer = BitWriter::new(Collected::new(alloc));
-    match encode_frame(audio, start..end, number, buffers, &mut writer) {
-        Ok(_) => collect(writer),
-        Err(why) => Err(in_memory(why)),
-    }
-}
-
 /// The header packets: the mapping with STREAMINFO, which is that of frames that were chosen, and a block each. Its only error is `Memory`: an allocation failed.
 fn header_packets(
     alloc: Global,
@@ -148,7 +123,7 @@ fn header_packets(
 
 /// Encodes samples as an Ogg stream with this serial number: the mapping with STREAMINFO, the blocks of the list, and a
 /// frame for each block of the plan, each in a packet of its own that begins a page (RFC 9639, section 10.1; RFC 3533).
-/// The frames are those of [`flac_native::encode`].
+/// The frames are those of [`flac_native::encode`], and the stream is one of the plan's profile.
 ///
 /// Pages of header packets have granule position 0. A page on which a frame ends has the number of samples so far; the
 /// pages before it have all ones.
@@ -189,9 +164,10 @@ pub fn encode_ogg<W: Target>(
     if !may_be_ogg(plan, list) {
         return Err(EncodeFault::BadMapping);
     }
-    let _size = plan.block_size();
     let _blocks = list.blocks();
-    let Ok(mut buffers) = EncodeBuffers::new(alloc, plan.block_size()) else {
+    let size = plan.block_size();
+    let profile = plan.profile();
+    let Ok(mut buffers) = EncodeBuffers::new_in(alloc, profile, size) else {
         return Err(EncodeFault::Memory);
     };
     let Ok(frames) = ChosenFrames::new(alloc, plan, audio, &mut buffers) else {

@@ -8,6 +8,8 @@
 //! | decode a native or an Ogg stream into a sink | [`decode_any`] |
 //! | verify a stream in memory | [`verify`] |
 //! | encode samples that are all there | [`Audio`], [`Plan`] and [`encode_ogg`] |
+//! | encode outside the streamable subset | [`Audio::new_in`] |
+//! | try linear predictors of one's own | [`LinearPredictor`] and [`Plan::with_predictors`] |
 //! | encode into memory, and decode again | [`encode_and_decode`] |
 //! | encode a block at a time | [`OggEncoder`] |
 //!
@@ -32,6 +34,7 @@ mod packet_bytes;
 mod packets;
 mod parts;
 mod places;
+mod predictors;
 mod pushed_block;
 mod round_trip;
 mod sending;
@@ -48,7 +51,8 @@ pub use flac_meta::{
     Picture, SeekPoint, SeekTable, StreamInfo, Texts,
 };
 pub use flac_native::{
-    Decoder, EncodeFault, Fault, Item, Place, Plan, Profile, Sink, SinkFault, decode,
+    Decoder, EncodeFault, Fault, Item, LinearPredictor, Place, Plan, Profile, Sink, SinkFault,
+    decode,
 };
 pub use flac_pages::{PacketBytes, Pages};
 pub use laws::{

@@ -1,37 +1,40 @@
 //! Encodes an Ogg stream a block at a time.
 
-ghost use Rattle.std.specs.Prelude.{◌≡◌, ◌≢◌, ◌⊎◌, ◌++◌, ◌≤◌, ◌<◌, ◌+◌, ◌^◌, ◌↔◌, map, cond, option_map, true, false, IfOk, OnOk, IfErr, None, Some, Err};
+ghost use Rattle.std.specs.Prelude.{◌≡◌, ◌≢◌, List, Bool, ◌⊎◌, ◌++◌, ◌≤◌, ◌<◌, ◌+◌, ◌^◌, ◌↔◌, map, cond, option_map, true, false, IfOk, OnOk, IfErr, None, Some, Err};
 ghost use Rattle.std.specs.Option.{option_or};
 ghost use Rattle.flac_bits.specs.Bits.{bits_of};
 ghost use Rattle.flac_bits.specs.Forms.{AreBytes};
 ghost use Rattle.flac_bits.specs.State.{Rises};
 ghost use Rattle.flac_frame.specs.Audio.{samples_each};
-ghost use Rattle.flac_native.specs.Pushing.{shape_fault, open_info, unpushed, behind_block, spent_with, block_fault, size_fault, push_fault, IsFirst};
+ghost use Rattle.flac_native.specs.Given.{predictors_fault};
+ghost use Rattle.flac_native.specs.Stream.{Piece};
+ghost use Rattle.flac_native.specs.Pushing.{shape_of, shape_fault, open_info, unpushed, behind_block, spent_with, block_fault, size_fault, push_fault, IsFirst};
 ghost use Rattle.flac_native.specs.Writing.{head_spelling};
 ghost use Rattle.flac_native.specs.declared.encode_fault.EncodeFault.TheVariants.{Spent, Setup};
-ghost use Rattle.flac_pages.specs.Placed.{sequence_behind};
+ghost use Rattle.flac_pages.specs.Placed.{Placed, sequence_behind};
 ghost use Rattle.flac_pages.specs.Written.{packet_spelling};
 ghost use Rattle.flac_pages.specs.declared.writing.PacketKind.TheVariants.{Frame};
 ghost use Rattle.flac_ogg.specs.Judging.{Judges};
-ghost use Rattle.flac_ogg.specs.Pushing.{open_fault, listed_fault, Opens, PushesOgg, BeginsPushOgg, EndsOgg};
+ghost use Rattle.flac_ogg.specs.Pushing.{open_fault, listed_fault, trying_ogg, StandsForOgg, Opens, PushesOgg, BeginsPushOgg, EndsOgg};
 
 use crate::encoding::begins_with_comment;
 use crate::headers::headers_of;
 use crate::held_packet::HeldPacket;
 use crate::judge::{block_fault, judge_of};
 use crate::packet_bytes::bytes_fit;
+use crate::predictors::predictors_fault;
 use crate::pushed_block::{block_len, pushed_packet};
 use crate::round_trip::in_memory;
 use flac_bits::{Collected, Target, Why, send_all};
 use flac_frame::{EncodeBuffers, SetupFault};
 use flac_meta::BlockList;
-use flac_native::{EncodeFault, StreamEncoder};
+use flac_native::{EncodeFault, LinearPredictor, Profile, StreamEncoder, StreamFormat};
 use flac_pages::{PacketKind, PacketMarks};
 use std::alloc::Global;
 use std::marker::Model;
 
-/// Encodes an Ogg stream a block at a time, as a recorder does whose samples are not all there yet (RFC 9639, section
-/// 10.1). [`OggEncoder::new`] writes the header packets, of STREAMINFO and the metadata blocks, [`OggEncoder::push`]
+/// Encodes an Ogg stream of the streamable subset a block at a time, as a recorder does whose samples are not all there
+/// yet (RFC 9639, sections 7 and 10.1). [`OggEncoder::new`] writes the header packets, of STREAMINFO and the metadata blocks, [`OggEncoder::push`]
 /// makes a packet of one frame, and [`OggEncoder::finish`] ends the stream and returns the target.
 ///
 /// The last packet is held back until the next one comes or the stream ends, since the last page of a stream is marked.
@@ -47,10 +50,8 @@ use std::marker::Model;
 pub struct OggEncoder<W: Target> {
     alloc: Global,
     serial: u32,
-    rate: u32,
-    bits: u32,
-    channels: u32,
-    block_size: u32,
+    format: StreamFormat,
+    predictors: Vec<LinearPredictor>,
     number: u64,
     samples: u64,
     ended: bool,
@@ -63,7 +64,9 @@ pub struct OggEncoder<W: Target> {
 
 impl<W: Target> Model for OggEncoder<W> {
     ghost use Rattle.std.specs.Prelude.{◌≡◌, ◌<◌, ◌≤◌, ◌^◌, None};
-    ghost use Rattle.flac_native.specs.Pushing.{shape_fault};
+    ghost use Rattle.flac_frame.specs.Encoding.{most_in};
+    ghost use Rattle.flac_native.specs.Given.{predictors_fault};
+    ghost use Rattle.flac_native.specs.Pushing.{shape_of, shape_fault};
     ghost use Rattle.flac_ogg.specs.Judging.{Judges};
     ghost use Rattle.flac_ogg.specs.Pushing.{PushedOgg};
 
@@ -71,7 +74,8 @@ impl<W: Target> Model for OggEncoder<W> {
 
     ghost view = { λ e. record {
       pushed = record {
-        shape = record { rate = e.rate; bits = e.bits; channels = e.channels; block_size = e.block_size };
+        shape = shape_of e.format;
+        predictors = e.predictors.items;
         number = e.number;
         samples = e.samples;
         ended = e.ended;
@@ -85,9 +89,10 @@ impl<W: Target> Model for OggEncoder<W> {
     } };
 
     ghost invariant = { λ e. record {
-      shape : shape_fault (record { rate = e.rate; bits = e.bits; channels = e.channels; block_size = e.block_size }) ≡ None;
-      judge : Judges e.channels e.bits e.judge;
-      buffers : e.buffers ≡ e.block_size;
+      shape : shape_fault (shape_of e.format) ≡ None;
+      predictors : predictors_fault e.format.profile e.format.rate e.predictors.items ≡ None;
+      judge : Judges e.format.channels e.format.bits e.judge;
+      buffers : e.buffers ≡ record { block = e.format.block_size; most = most_in e.format.profile };
       number : e.number ≤ 2 ^ 31;
       samples : e.samples < 2 ^ 36;
     } };
@@ -97,18 +102,15 @@ impl<W: Target> Model for OggEncoder<W> {
 /// the format can be encoded.
 fn native_head(
     alloc: Global,
-    rate: u32,
-    bits: u32,
-    channels: u32,
-    block_size: u32,
+    format: &StreamFormat,
     list: &BlockList,
 ) -> Result<Vec<u8>, EncodeFault>
-    ensures head { IfOk result (λ head. bits_of head.items ≡ head_spelling (open_info (record { rate = rate; bits = bits; channels = channels; block_size = block_size })) list.now) }
-    ensures accepted { OnOk result (shape_fault (record { rate = rate; bits = bits; channels = channels; block_size = block_size }) ≡ None) }
-    ensures refused { IfErr result (λ e. IsFirst (option_map Setup (shape_fault (record { rate = rate; bits = bits; channels = channels; block_size = block_size }))) e) }
+    ensures head { IfOk result (λ head. bits_of head.items ≡ head_spelling (open_info (shape_of format.now)) list.now) }
+    ensures accepted { OnOk result (shape_fault (shape_of format.now) ≡ None) }
+    ensures refused { IfErr result (λ e. IsFirst (option_map Setup (shape_fault (shape_of format.now))) e) }
 {
     let target = Collected::new(alloc);
-    match StreamEncoder::new(alloc, rate, bits, channels, block_size, list, target) {
+    match StreamEncoder::new_in(alloc, format, list, target) {
         Ok(encoder) => match encoder.finish() {
             Ok(target) => Ok(target.into_bytes()),
             Err(fault) => Err(in_memory(fault)),
@@ -134,21 +136,14 @@ fn listed_fault(fault: EncodeFault, listed: bool) -> EncodeFault
 }
 
 /// The same, if the list begins with a Vorbis comment.
-fn open_head(
-    alloc: Global,
-    rate: u32,
-    bits: u32,
-    channels: u32,
-    block_size: u32,
-    list: &BlockList,
-) -> Result<Vec<u8>, EncodeFault>
-    ensures head { IfOk result (λ head. bits_of head.items ≡ head_spelling (open_info (record { rate = rate; bits = bits; channels = channels; block_size = block_size })) list.now) }
-    ensures accepted { OnOk result (shape_fault (record { rate = rate; bits = bits; channels = channels; block_size = block_size }) ≡ None) }
-    ensures listed { OnOk result (open_fault (record { rate = rate; bits = bits; channels = channels; block_size = block_size }) list.now ≡ None) }
-    ensures refused { IfErr result (λ e. IsFirst (open_fault (record { rate = rate; bits = bits; channels = channels; block_size = block_size }) list.now) e) }
+fn open_head(alloc: Global, format: &StreamFormat, list: &BlockList) -> Result<Vec<u8>, EncodeFault>
+    ensures head { IfOk result (λ head. bits_of head.items ≡ head_spelling (open_info (shape_of format.now)) list.now) }
+    ensures accepted { OnOk result (shape_fault (shape_of format.now) ≡ None) }
+    ensures listed { OnOk result (open_fault (shape_of format.now) list.now ≡ None) }
+    ensures refused { IfErr result (λ e. IsFirst (open_fault (shape_of format.now) list.now) e) }
 {
     let listed = begins_with_comment(list.blocks());
-    match native_head(alloc, rate, bits, channels, block_size, list) {
+    match native_head(alloc, format, list) {
         Ok(head) => {
             if listed {
                 Ok(head)
@@ -208,7 +203,7 @@ fn hold_frame(
 impl<W: Target + Drop> OggEncoder<W> {
     /// Makes an encoder for this format, and writes the header packets: the mapping with STREAMINFO, and one for each
     /// block of the list (RFC 9639, section 10.1; RFC 3533). It holds the last of them back. Their pages have granule
-    /// position 0.
+    /// position 0. No linear predictors are tried yet: see [`OggEncoder::set_predictors`].
     ///
     /// - `serial` is the serial number of the stream.
     /// - The sample rate in Hz, bits per sample, channels and block size are those of
@@ -230,16 +225,23 @@ impl<W: Target + Drop> OggEncoder<W> {
         list: &BlockList,
         target: W,
     ) -> Result<OggEncoder<W>, EncodeFault>
-        ensures made { IfOk result (λ e. e.pushed ≡ unpushed (record { rate = rate; bits = bits; channels = channels; block_size = block_size }) e.pushed.target) }
+        ensures made { IfOk result (λ e. e.pushed ≡ unpushed (record { profile = Profile.Subset; rate = rate; bits = bits; channels = channels; block_size = block_size }) e.pushed.target) }
         ensures serial { IfOk result (λ e. e.serial ≡ serial) }
         ensures opens { IfOk result (λ e. Opens W.Target list.now target e) }
         ensures known { IfOk result (λ e. W.known target ≡ true → W.known e.pushed.target ≡ true) }
         ensures counted { IfOk result (λ e. W.errors e.pushed.target ≡ W.errors target) }
         ensures names { IfOk result (λ e. W.names e.pushed.target ≡ W.names target) }
-        ensures accepted { OnOk result (open_fault (record { rate = rate; bits = bits; channels = channels; block_size = block_size }) list.now ≡ None) }
-        ensures refused { IfErr result (λ e. IsFirst (open_fault (record { rate = rate; bits = bits; channels = channels; block_size = block_size }) list.now) e) }
+        ensures accepted { OnOk result (open_fault (record { profile = Profile.Subset; rate = rate; bits = bits; channels = channels; block_size = block_size }) list.now ≡ None) }
+        ensures refused { IfErr result (λ e. IsFirst (open_fault (record { profile = Profile.Subset; rate = rate; bits = bits; channels = channels; block_size = block_size }) list.now) e) }
     {
-        let head = open_head(alloc, rate, bits, channels, block_size, list)?;
+        let format = StreamFormat {
+            profile: Profile::Subset,
+            rate,
+            bits,
+            channels,
+            block_size,
+        };
+        let head = open_head(alloc, &format, list)?;
         let _blocks = list.blocks();
         let Ok(judge) = judge_of(alloc, rate, bits, channels) else {
             return Err(EncodeFault::Memory);
@@ -255,10 +257,8 @@ impl<W: Target + Drop> OggEncoder<W> {
             Ok(()) => Ok(OggEncoder {
                 alloc,
                 serial,
-                rate,
-                bits,
-                channels,
-                block_size,
+                format,
+                predictors: Vec::new(alloc),
                 number: 0,
                 samples: 0,
                 ended: false,
@@ -272,6 +272,36 @@ impl<W: Target + Drop> OggEncoder<W> {
         }
     }
 
+    /// Sets the linear predictors that are tried for each subframe of the frames pushed from now on, beside the constant,
+    /// verbatim and fixed ones: at most 64, of an order of at most 12 at 48000 Hz or less, else 32 (RFC 9639, sections 7
+    /// and 9.2.6). They take the place of those before; an empty list is as none. The packet that is held is not changed.
+    ///
+    /// ```
+    /// let mut predictors = Vec::new(rt.alloc());
+    /// if let Some(line) = LinearPredictor::new(3, 0, &[2, -1]) {
+    ///     predictors.push(line)?;
+    /// }
+    /// encoder.set_predictors(predictors)?;
+    /// ```
+    ///
+    /// # Errors
+    /// [`SetupFault::TooManyPredictors`] if there are more than 64, else [`SetupFault::PredictorOrder`] if an order is too
+    /// large. The encoder is as it was then.
+    pub fn set_predictors(&mut self, predictors: Vec<LinearPredictor>) -> Result<(), SetupFault>
+        ensures set { OnOk result (self.new ≡ trying_ogg self.old predictors.items) }
+        ensures stands { OnOk result ((items : List Piece) (packets : List Placed) (written : List Bool) → StandsForOgg self.old items packets written → StandsForOgg self.new items packets written) }
+        ensures accepted { OnOk result (predictors_fault self.old.pushed.shape.profile self.old.pushed.shape.rate predictors.items ≡ None) }
+        ensures refused { IfErr result (λ e. predictors_fault self.old.pushed.shape.profile self.old.pushed.shape.rate predictors.items ≡ Some e) }
+        ensures kept { IfErr result (λ e. self.new ≡ self.old) }
+    {
+        let StreamFormat { profile, rate, .. } = self.format;
+        if let Some(fault) = predictors_fault(profile, rate, predictors.as_slice()) {
+            return Err(fault);
+        }
+        self.predictors = predictors;
+        Ok(())
+    }
+
     /// Why a block of `len` samples cannot be the next frame, or `None` if it can.
     #[tactic(auto, unfolding(flac_native::specs::Pushing::size_fault))]
     fn size_fault(&self, len: u64) -> Option<EncodeFault>
@@ -280,7 +310,7 @@ impl<W: Target + Drop> OggEncoder<W> {
         if len >= (1 << 36) - self.samples || self.number >= 1 << 31 {
             return Some(EncodeFault::Setup(SetupFault::TooLong));
         }
-        if len == 0 || len > self.block_size as u64 {
+        if len == 0 || len > self.format.block_size as u64 {
             return Some(EncodeFault::Setup(SetupFault::BadBlockSize));
         }
         if self.ended {
@@ -291,7 +321,7 @@ impl<W: Target + Drop> OggEncoder<W> {
 
     /// Makes a block the next frame and holds its packet back, and writes the packet that was held. `block` has one
     /// slice for each channel, of 1 to as many samples as the block size. Only the last block may be shorter than the
-    /// block size (RFC 9639, section 9.1). The frame is as short as one of [`crate::encode_ogg`].
+    /// block size (RFC 9639, section 9.1). The frame is as short as one of [`crate::encode_ogg`] with the same predictors.
     ///
     /// Each packet begins a page. The page on which the frame ends has the number of samples so far as its granule
     /// position; the pages before it have all ones.
@@ -333,8 +363,8 @@ impl<W: Target + Drop> OggEncoder<W> {
         }
         let Ok(packet) = pushed_packet(
             self.alloc,
-            self.rate,
-            self.bits,
+            &self.format,
+            self.predictors.as_slice(),
             block,
             self.number,
             &mut self.buffers,
@@ -355,7 +385,7 @@ impl<W: Target + Drop> OggEncoder<W> {
             Ok(()) => {
                 self.number += 1;
                 self.samples = end;
-                self.ended = len < self.block_size as u64;
+                self.ended = len < self.format.block_size as u64;
                 self.held = held;
                 Ok(())
             }

@@ -81,18 +81,18 @@ fn ogg_bytes(
     }
 }
 
-/// Decodes a stream again. Its only error is `Memory`: an allocation failed.
-fn decode_again(alloc: Global, bytes: &[u8]) -> Result<(), Why>
-    requires { (items : List Piece) × IsJust (bytes_reading Profile.Subset bytes.now) items }
+/// Decodes a stream of a profile again. Its only error is `Memory`: an allocation failed.
+fn decode_again(alloc: Global, bytes: &[u8], profile: Profile) -> Result<(), Why>
+    requires { (items : List Piece) × IsJust (bytes_reading profile bytes.now) items }
     ensures memory { IfErr result (λ e. e ≡ Why.Memory) }
 {
-    match verify(alloc, bytes, Profile::Subset) {
+    match verify(alloc, bytes, profile) {
         Ok(()) => Ok(()),
         Err(fault) => Err(fault.why),
     }
 }
 
-/// Encodes samples into memory, decodes the bytes again, and returns them: an Ogg stream with this serial number (RFC
+/// Encodes samples into memory, decodes the bytes again in the plan's profile, and returns them: an Ogg stream with this serial number (RFC
 /// 9639, section 10.1), or without one a native stream (section 6). They are a stream of exactly what was given, as if
 /// by [`encode_ogg`] or [`encode`].
 ///
@@ -125,7 +125,7 @@ pub fn encode_and_decode(
         Some(serial) => ogg_bytes(alloc, serial, plan, list, audio)?,
         None => native_bytes(alloc, plan, list, audio)?,
     };
-    match decode_again(alloc, bytes.as_slice()) {
+    match decode_again(alloc, bytes.as_slice(), plan.profile()) {
         Ok(()) => Ok(bytes),
         Err(_) => Err(EncodeFault::Memory),
     }

@@ -3,7 +3,7 @@
 ghost use Rattle.std.specs.Prelude.{◌≡◌, ◌∷◌, ◌≤◌, ◌<◌, ◌+◌, ◌*◌, ◌/◌, List, Bool, length, true, IfOk, IfErr};
 ghost use Rattle.flac_bits.specs.Bits.{bits_of};
 ghost use Rattle.flac_frame.specs.Audio.{samples_each};
-ghost use Rattle.flac_native.specs.Given.{fits_plan};
+ghost use Rattle.flac_native.specs.Given.{fits_plan, room_of};
 ghost use Rattle.flac_native.specs.Writing.{AreCounted, AreChoices, HasRoom, WritesAll};
 ghost use Rattle.flac_pages.specs.Placed.{sequence_behind};
 ghost use Rattle.flac_pages.specs.Written.{packet_spelling};
@@ -75,7 +75,7 @@ fn send_frames<W: Target>(
     requires some { 0 < samples_each audio.now.channels }
     requires counted { AreCounted plan.now audio.now frames.now.least frames.now.greatest frames.now.points.items }
     requires choices { AreChoices plan.now audio.now frames.now.choices.items }
-    requires buffers { buffers.old ≡ plan.now.block_size }
+    requires buffers { buffers.old ≡ room_of plan.now }
     requires room { HasRoom plan.now audio.now room.places }
     requires pages { 65307 * (frames.now.greatest / 65025 + 1) ≤ pages.places }
     ensures { SendsPackets W.Target serial from plan.now audio.now target.old target.new result }
@@ -123,7 +123,7 @@ pub(crate) fn send_stream<W: Target>(
     requires fits { fits_plan plan.now audio.now ≡ true }
     requires counted { AreCounted plan.now audio.now frames.now.least frames.now.greatest frames.now.points.items }
     requires choices { AreChoices plan.now audio.now frames.now.choices.items }
-    requires buffers { buffers.old ≡ plan.now.block_size }
+    requires buffers { buffers.old ≡ room_of plan.now }
     requires room { HasRoom plan.now audio.now room.places }
     requires pages { 65307 * (frames.now.greatest / 65025 + 1) ≤ pages.places }
     ensures { (first : List Bool) (texts : List (List Bool)) (h : AreHeaders (first ∷ texts) headers.now) → SendsOgg W.Target headers.now.serial plan.now audio.now h.packets target.old target.new result }

@@ -13,7 +13,6 @@ use Rattle.flac_meta.specs.declared.seek_table.SeekPoint.{SeekPoint}
 use Rattle.flac_meta.specs.declared.block.Block.{Block}
 use Rattle.flac_meta.specs.declared.block.Block.TheVariants as block_of
 use Rattle.flac_meta.proofs.Tied.{joined_append}
-use Rattle.flac_header.specs.declared.subset.Profile.TheVariants.{Subset}
 use Rattle.flac_frame.specs.Audio.{Sound}
 use Rattle.flac_frame.proofs.FrameTie.{frames_bytes}
 use Rattle.flac_native.specs.Decoding.{beginning}
@@ -66,8 +65,8 @@ module _ (p : Cut) (list : List Block) (a : Sound) (stream : List ℕ) (e : IsEn
   pub text_is : bits_of stream ≡ stream_spelling p others a e.written.least e.written.greatest frames
   text_is = e.written.written
 
-  pub stream_there : Stream grammar (opening Subset) first parts (bits_of stream)
-  stream_there = subst (λ t. Stream grammar (opening Subset) first parts t) (sym text_is) e.written.stream
+  pub stream_there : Stream grammar (opening p.profile) first parts (bits_of stream)
+  stream_there = subst (λ t. Stream grammar (opening p.profile) first parts t) (sym text_is) e.written.stream
 
   cut_in_two : bits_of stream ≡ head ++ joined frames
   cut_in_two = text_is ∙ sym (append_assoc (unsigned 32 0x664C6143) (blocks_spelling (block_of.StreamInfo (stream_info e) ∷ others)) (joined frames))
@@ -75,11 +74,11 @@ module _ (p : Cut) (list : List Block) (a : Sound) (stream : List ℕ) (e : IsEn
   long : 8 * length stream ≡ length head + length (joined frames)
   long = sym (length-bits_of stream) ∙ ap bits_in cut_in_two ∙ length-append head (joined frames)
 
-  head_there : Joined grammar (opening Subset) first (head_parts (stream_info e) others) head
-  head_there = head_joined (stream_info e) others (map framed (frames_of p.block_size a)) (stream_spelling p others a e.written.least e.written.greatest frames) e.written.stream.spelled
+  head_there : Joined grammar (opening p.profile) first (head_parts (stream_info e) others) head
+  head_there = head_joined p.profile (stream_info e) others (map framed (frames_of p.block_size a)) (stream_spelling p others a e.written.least e.written.greatest frames) e.written.stream.spelled
 
   start_is : 8 * frames_start (all_blocks e) ≡ length head
-  start_is = head_long Subset (stream_info e) others head head_there (let few = e.few in omega (arith, long, few))
+  start_is = head_long p.profile (stream_info e) others head head_there (let few = e.few in omega (arith, long, few))
 
   -- the frames before one
   module _ (number : ℕ) (among : number ≤ frame_count e) where
@@ -117,7 +116,7 @@ module _ (p : Cut) (list : List Block) (a : Sound) (stream : List ℕ) (e : IsEn
         same_front (head ++ joined before) (joined (drop number frames)) (bits_of (take at stream)) (bits_of (drop at stream)) all
         (omega (arith, at_is, length-bits_of (take at stream), length-take at stream, within))
 
-    pub cut_here : Cuts Subset stream (stream_info e) at (frames_at e number)
+    pub cut_here : Cuts p.profile stream (stream_info e) at (frames_at e number)
     cut_here =
         let i = stream_info e in
         let w = e.written in
@@ -125,8 +124,8 @@ module _ (p : Cut) (list : List Block) (a : Sound) (stream : List ℕ) (e : IsEn
         let r = up_to_frame p others a w.least w.greatest frames number e.planned e.fits w.are w.sizes among head_there in
         record {
           front = front;
-          whole = subst (λ k. Stream grammar (opening Subset) first k (bits_of stream)) (given_split p others a w.least w.greatest (frame_count e) number w.are.many among) stream_there;
-          before = subst (λ t. Joined grammar (opening Subset) first front t) bytes_are r.0;
+          whole = subst (λ k. Stream grammar (opening p.profile) first k (bits_of stream)) (given_split p others a w.least w.greatest (frame_count e) number w.are.many among) stream_there;
+          before = subst (λ t. Joined grammar (opening p.profile) first front t) bytes_are r.0;
           known = r.1.info;
         }
 
@@ -149,7 +148,7 @@ point_cut p list a stream e x n =
       number = n.number;
       among = n.among;
       sample = n.sample;
-      cuts = subst (λ o. Cuts Subset stream (stream_info e) (frames_start (all_blocks e) + o) (frames_at e n.number)) (sym (offset_is p list a stream e x n)) (cut_here p list a stream e n.number few);
+      cuts = subst (λ o. Cuts p.profile stream (stream_info e) (frames_start (all_blocks e) + o) (frames_at e n.number)) (sym (offset_is p list a stream e x n)) (cut_here p list a stream e n.number few);
     }
 
 pub points_are_cut : PointsAreCut

@@ -13,7 +13,6 @@ use Rattle.flac_meta.specs.Valid.{AllAre}
 use Rattle.flac_meta.specs.declared.seek_table.SeekPoint.{SeekPoint}
 use Rattle.flac_meta.specs.declared.block.Block.{Block}
 use Rattle.flac_meta.specs.declared.block.Block.TheVariants as block_of
-use Rattle.flac_header.specs.declared.subset.Profile.TheVariants.{Subset}
 use Rattle.flac_frame.specs.Audio.{Sound, samples_each}
 use Rattle.flac_frame.specs.Frame.{Frame}
 use Rattle.flac_native.specs.Decoding.{beginning}
@@ -179,7 +178,7 @@ module _ (p : Cut) (list : List Block) (a : Sound) (stream : List ℕ) (e : IsEn
         among = f.among;
         offset = f.is;
         first = f.first;
-        cuts = subst (λ n. Cuts Subset stream (stream_info e) n (frames_at e f.number)) same (cut_here p list a stream e f.number f.among);
+        cuts = subst (λ n. Cuts p.profile stream (stream_info e) n (frames_at e f.number)) same (cut_here p list a stream e f.number f.among);
       }
 
 -- ---- what a reader keeps of the blocks
@@ -234,7 +233,7 @@ points_kept p list a stream e All none =
 
 -- ---- the laws
 
-read_there : (p : Cut) (list : List Block) (a : Sound) (stream : List ℕ) (e : IsEncoded p list a stream) → IsReadAs (by_grammar grammar (opening Subset) (beginning Truncated) (bits_of stream)) (all_blocks e) (frames_of p.block_size a) None
+read_there : (p : Cut) (list : List Block) (a : Sound) (stream : List ℕ) (e : IsEncoded p list a stream) → IsReadAs (by_grammar grammar (opening p.profile) (beginning Truncated) (bits_of stream)) (all_blocks e) (frames_of p.block_size a) None
 read_there p list a stream e = record {
   parts = given p (list ++ table_of (points_of p e.written.frames)) a e.written.least e.written.greatest;
   read = stream_there p list a stream e;
@@ -242,7 +241,7 @@ read_there p list a stream e = record {
 }
 
 -- the reader knows the STREAMINFO that was written
-info_is : {C : Type 0} {g : container.Ghosts C} (p : Cut) (list : List Block) (a : Sound) (stream : List ℕ) (e : IsEncoded p list a stream) (keep : Keep) (reader : Reader C g) → Opens (by_grammar grammar (opening Subset) (beginning Truncated) (bits_of stream)) keep reader → stream_info e ≡ reader.info
+info_is : {C : Type 0} {g : container.Ghosts C} (p : Cut) (list : List Block) (a : Sound) (stream : List ℕ) (e : IsEncoded p list a stream) (keep : Keep) (reader : Reader C g) → Opens (by_grammar grammar (opening p.profile) (beginning Truncated) (bits_of stream)) keep reader → stream_info e ≡ reader.info
 info_is p list a stream e keep reader opens =
     let blocks = opens.blocks (all_blocks e) (frames_of p.block_size a) None (read_there p list a stream e) in
     same_info reader.info (stream_info e) (first_info reader.blocks.items) opens.info (ap first_info blocks ∙ info_kept keep (stream_info e) (list ++ table_of (points_of p e.written.frames)))

@@ -9,7 +9,6 @@ use Rattle.flac_meta.specs.Valid.{AllAre}
 use Rattle.flac_meta.specs.declared.seek_table.SeekPoint.{SeekPoint}
 use Rattle.flac_meta.specs.declared.block.Block.{Block}
 use Rattle.flac_meta.specs.declared.block.Block.TheVariants as blocks
-use Rattle.flac_header.specs.declared.subset.Profile.TheVariants.{Subset}
 use Rattle.flac_frame.specs.Audio.{Sound}
 use Rattle.flac_frame.specs.Frame.{Frame}
 use Rattle.flac_native.specs.Decoding.{beginning}
@@ -61,14 +60,14 @@ bytes_before e number = length (joined (take number e.written.frames)) / 8
 -- It is cut at each of its frames, and behind the last.
 abbrev pub FramesAreCut : Type 0
 FramesAreCut = (p : Cut) (list : List Block) (a : Sound) (stream : List ℕ) (e : IsEncoded p list a stream) (number : ℕ) → number ≤ frame_count e
-    → Cuts Subset stream (stream_info e) (frames_start (all_blocks e) + bytes_before e number) (frames_at e number)
+    → Cuts p.profile stream (stream_info e) (frames_start (all_blocks e) + bytes_before e number) (frames_at e number)
 
 -- It is cut at the offset of a point: there the frame comes whose first sample the point names.
 pub record IsCutAt {p : Cut} {list : List Block} {a : Sound} {stream : List ℕ} (e : IsEncoded p list a stream) (x : SeekPoint) : Type 0 where
   pub number : ℕ
   pub among : number < frame_count e
   pub sample : x.sample ≡ p.block_size * number
-  pub cuts : Cuts Subset stream (stream_info e) (frames_start (all_blocks e) + x.offset) (frames_at e number)
+  pub cuts : Cuts p.profile stream (stream_info e) (frames_start (all_blocks e) + x.offset) (frames_at e number)
 
 -- So it is at each point of its seek table.
 abbrev pub PointsAreCut : Type 0
@@ -82,12 +81,12 @@ pub record IsSoughtFrom {p : Cut} {list : List Block} {a : Sound} {stream : List
   pub among : number ≤ frame_count e
   pub offset : offset_before sample points ≡ bytes_before e number
   pub first : p.block_size * number ≤ sample
-  pub cuts : Cuts Subset stream info (search_start start sample points) (frames_at e number)
+  pub cuts : Cuts p.profile stream info (search_start start sample points) (frames_at e number)
 
--- So it is for each reader that opened the stream as one of the subset, whichever blocks it keeps, if no seek table was among the given blocks.
+-- So it is for each reader that opened the stream in the plan's profile, whichever blocks it keeps, if no seek table was among the given blocks.
 abbrev pub SearchesAreCut : {C : Type 0} → container.Ghosts C → Type 0
 SearchesAreCut {C = C} g = (p : Cut) (list : List Block) (a : Sound) (stream : List ℕ) (e : IsEncoded p list a stream) (keep : Keep) (reader : Reader C g) (sample : ℕ) → has_table list ≡ false
-    → Opens (by_grammar grammar (opening Subset) (beginning Truncated) (bits_of stream)) keep reader → IsSoughtFrom e reader.info reader.start sample (first_points reader.blocks.items)
+    → Opens (by_grammar grammar (opening p.profile) (beginning Truncated) (bits_of stream)) keep reader → IsSoughtFrom e reader.info reader.start sample (first_points reader.blocks.items)
 
 -- the frames from the one on that holds a sample; none if the stream does not have so many samples
 abbrev pub frames_holding : {p : Cut} {list : List Block} {a : Sound} {stream : List ℕ} → IsEncoded p list a stream → ℕ → List Frame
@@ -98,10 +97,10 @@ abbrev pub GivesFrames : {D : Type 0} {h : container.Ghosts D} → List Frame �
 GivesFrames {h = h} frames (Ok reader) = FramesCome h reader.ahead (stage_of reader.decoder) frames None
 GivesFrames frames (Err f) = f.why ≢ Memory → ⊥
 
--- What such a reader seeks in the bytes of the stream by the subset, as the clause `whole` of `Reader::seek_in` says it, is found: the frame that holds the sample comes next, and then
+-- What such a reader seeks in the bytes of the stream in that profile, as the clause `whole` of `Reader::seek_in` says it, is found: the frame that holds the sample comes next, and then
 -- all frames behind it.
 abbrev pub SamplesAreFound : {C D : Type 0} → container.Ghosts C → container.Ghosts D → Type 0
 SamplesAreFound {C = C} {D = D} g h = (p : Cut) (list : List Block) (a : Sound) (stream : List ℕ) (e : IsEncoded p list a stream) (keep : Keep) (reader : Reader C g) (sample : ℕ) (result : Result (Reader D h) Fault) → has_table list ≡ false
-    → Opens (by_grammar grammar (opening Subset) (beginning Truncated) (bits_of stream)) keep reader
-    → ((frames : List Frame) → Cuts Subset stream reader.info (search_start reader.start sample (first_points reader.blocks.items)) frames → SeeksFrames reader.info sample frames result)
+    → Opens (by_grammar grammar (opening p.profile) (beginning Truncated) (bits_of stream)) keep reader
+    → ((frames : List Frame) → Cuts p.profile stream reader.info (search_start reader.start sample (first_points reader.blocks.items)) frames → SeeksFrames reader.info sample frames result)
     → GivesFrames (frames_holding e sample) result

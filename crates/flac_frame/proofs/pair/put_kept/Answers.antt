@@ -1,7 +1,7 @@
 use Rattle.std.proofs.Common.{◌∙◌, ap, sym, subst, ℤ, List, All, [], ◌∷◌}
 use Rattle.flac_bits.specs.Signed.{FitsBits}
 use Rattle.flac_frame.specs.Frame.{side_bit}
-use Rattle.flac_frame.specs.Stereo.{kept_as, side_of, middle_of}
+use Rattle.flac_frame.specs.Stereo.{kept_as, side_of}
 use Rattle.flac_frame.proofs.Chosen.{plain_at, side_at, middle_at}
 use Rattle.flac_frame.proofs.PairLeast.{only_1, kept_1, kept_8, kept_9, kept_10, bits_1, bits_8, bits_9, bits_10}
 use Rattle.flac_frame.proofs.pair.put_kept.Goals as goal

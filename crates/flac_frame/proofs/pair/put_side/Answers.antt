@@ -1,4 +1,4 @@
-use Rattle.std.proofs.Common.{◌≡◌, ◌∙◌, ℤ, pos, length, get_or, SFits, to_z, of_z, w32, w64, rules, arith}
+use Rattle.std.proofs.Common.{◌≡◌, ◌∙◌, ℤ, pos, get_or, SFits, to_z, of_z, w32, w64, rules, arith}
 use Rattle.std.proofs.lemmas.Int.{to_z-of_z}
 use Rattle.flac_frame.proofs.Pairs.{side_more, side_done, less_read}
 use Rattle.flac_frame.proofs.pair.put_side.Goals as goal

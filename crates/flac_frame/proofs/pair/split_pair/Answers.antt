@@ -8,8 +8,8 @@ pub returns-clause-block : goal.returns-clause-block
 returns-clause-block c =
     let e = c.channels-channels.ensures in
     let n : ℕ = length c.args.left.now in
-    let left : c.widen.new.out ≡ take n (drop c.args.start c.index-channels-0.result.items) = c.widen.ensures ∙ c.part_of-lefts.ensures ∙ ap (λ k. take n (drop c.args.start k)) c.deref.ensures.value in
-    let right : c.widen-2.new.out ≡ take n (drop c.args.start c.index-channels-1.result.items) = c.widen-2.ensures ∙ c.part_of-rights.ensures ∙ ap (λ k. take n (drop c.args.start k)) c.deref-2.ensures.value in
+    let left : c.widen.new.out ≡ take n (drop c.args.start c.index-channels-0.result.items) = c.widen.ensures ∙ c.part_of-lefts.ensures.part ∙ ap (λ k. take n (drop c.args.start k)) c.deref.ensures.value in
+    let right : c.widen-2.new.out ≡ take n (drop c.args.start c.index-channels-1.result.items) = c.widen-2.ensures ∙ c.part_of-rights.ensures.part ∙ ap (λ k. take n (drop c.args.start k)) c.deref-2.ensures.value in
     ap (λ (k : List ℤ). k ∷ c.widen-2.new.out ∷ []) left ∙ ap (λ (k : List ℤ). take n (drop c.args.start c.index-channels-0.result.items) ∷ k ∷ []) right
     ∙ two_blocks (λ v. v.items) c.channels-channels.result.now c.args.audio.now e.sound e.items c.args.start n c.index-channels-0.result c.index-channels-1.result c.requires.two c.index-channels-0.is c.index-channels-1.is
 
@@ -23,12 +23,12 @@ pub returns-clause-left_fits : goal.returns-clause-left_fits
 returns-clause-left_fits c =
     let e = c.channels-channels.ensures in
     let n : ℕ = length c.args.left.now in
-    let is : c.widen.new.out ≡ take n (drop c.args.start c.index-channels-0.result.items) = c.widen.ensures ∙ c.part_of-lefts.ensures ∙ ap (λ k. take n (drop c.args.start k)) c.deref.ensures.value in
+    let is : c.widen.new.out ≡ take n (drop c.args.start c.index-channels-0.result.items) = c.widen.ensures ∙ c.part_of-lefts.ensures.part ∙ ap (λ k. take n (drop c.args.start k)) c.deref.ensures.value in
     subst (All (FitsBits c.args.audio.now.bits)) (sym is) (part_small (λ v. v.items) c.channels-channels.result.now c.args.audio.now e.sound e.items c.args.start n 0 c.index-channels-0.result c.requires.two (omega arith) c.index-channels-0.is)
 
 pub returns-clause-right_fits : goal.returns-clause-right_fits
 returns-clause-right_fits c =
     let e = c.channels-channels.ensures in
     let n : ℕ = length c.args.left.now in
-    let is : c.widen-2.new.out ≡ take n (drop c.args.start c.index-channels-1.result.items) = c.widen-2.ensures ∙ c.part_of-rights.ensures ∙ ap (λ k. take n (drop c.args.start k)) c.deref-2.ensures.value in
+    let is : c.widen-2.new.out ≡ take n (drop c.args.start c.index-channels-1.result.items) = c.widen-2.ensures ∙ c.part_of-rights.ensures.part ∙ ap (λ k. take n (drop c.args.start k)) c.deref-2.ensures.value in
     subst (All (FitsBits c.args.audio.now.bits)) (sym is) (part_small (λ v. v.items) c.channels-channels.result.now c.args.audio.now e.sound e.items c.args.start n 1 c.index-channels-1.result c.requires.two (omega arith) c.index-channels-1.is)

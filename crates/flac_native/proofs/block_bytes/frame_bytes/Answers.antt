@@ -6,6 +6,7 @@ use Rattle.flac_frame.specs.Spelling.{frame_spelling}
 use Rattle.flac_frame.proofs.FrameTie.{frames_bytes}
 use Rattle.flac_header.specs.Spelling.{restarted}
 use Rattle.flac_native.proofs.Heads.{Blank, head_collected}
+use Rattle.flac_native.proofs.Predictors.{partition_is}
 use Rattle.flac_native.proofs.Pushing.{frame_made, least_made}
 use Rattle.flac_native.proofs.block_bytes.frame_bytes.Goals as goal
 
@@ -21,7 +22,7 @@ returns-in-Ok-clause-frame c =
     } in
     let begun : Blank (restarted writer) = record { known = blank.known; bits = blank.bits; unread = fresh_unread writer.mark blank.unread } in
     let is = head_collected (restarted writer) _ text c.collect.result begun (frames_bytes c.args.audio.now.bits wrote.0) wrote.3 c.collect.ensures.bytes in
-    frame_made c.args.audio.now (c.len-end.result - 0) c.args.number wrote.0 c.channels-channels.ensures.sound (omega (arith, c.len-end.ensures)) c.collect.result wrote.1 wrote.2.1 is
+    frame_made c.args.predictors.now c.args.audio.now (c.len-end.result - 0) c.args.number wrote.0 c.channels-channels.ensures.sound (omega (arith, c.len-end.ensures)) c.collect.result wrote.1 wrote.2.1 is
 
 pub returns-in-Ok-clause-least : goal.returns-in-Ok-clause-least
 returns-in-Ok-clause-least c =
@@ -35,7 +36,10 @@ returns-in-Ok-clause-least c =
     } in
     let begun : Blank (restarted writer) = record { known = blank.known; bits = blank.bits; unread = fresh_unread writer.mark blank.unread } in
     let is = head_collected (restarted writer) _ text c.collect.result begun (frames_bytes c.args.audio.now.bits wrote.0) wrote.3 c.collect.ensures.bytes in
-    least_made c.args.audio.now (c.len-end.result - 0) c.args.number wrote.0 c.channels-channels.ensures.sound (omega (arith, c.len-end.ensures)) c.collect.result wrote.2.0 is
+    least_made c.args.predictors.now c.args.audio.now (c.len-end.result - 0) c.args.number wrote.0 c.channels-channels.ensures.sound (omega (arith, c.len-end.ensures)) c.collect.result wrote.2.0 is
 
 pub returns-in-Err-clause-memory : goal.returns-in-Err-clause-memory
 returns-in-Err-clause-memory c = let wrote = c.in-Err.ensures.wrote in c.in_memory.ensures.target wrote.3.reason
+
+pub encode_frame_with-requires-clause-partition : goal.encode_frame_with-requires-clause-partition
+encode_frame_with-requires-clause-partition c = omega (arith, partition_is c.args.audio.now.profile c.args.audio.now.rate, c.requires.most)

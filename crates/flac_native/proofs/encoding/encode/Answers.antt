@@ -41,5 +41,5 @@ returns-clause-names g c = c.in-Err.ensures.3.names
 pub returns-in-Ok-send_stream-clause-names : goal.returns-in-Ok-send_stream-clause-names
 returns-in-Ok-send_stream-clause-names g c = c.in-Ok-send_stream.ensures.3.names
 
-pub new-requires : goal.new-requires
-new-requires g c = omega (arith, block_small c.args.plan.now (planned c.args.plan.now c.block_size-size.ensures.good), c.block_size.ensures.value)
+pub new_in-requires : goal.new_in-requires
+new_in-requires g c = omega (arith, block_small c.args.plan.now (planned c.args.plan.now c.block_size-size.ensures.good), c.block_size-size.ensures.value)

@@ -1,10 +1,10 @@
-use Rattle.std.proofs.Common.{◌≡◌, ◌<◌, ◌≤◌, ◌+◌, ◌*◌, ◌/◌, ◌^◌, [], ◌++◌, List, Bool, length, sym, subst, arith}
+use Rattle.std.proofs.Common.{◌≤◌, ◌+◌, ◌*◌, ◌/◌, [], ◌++◌, List, Bool, length, subst, arith}
 use Rattle.flac_bits.specs.Bits.{bits_of, is_nil}
 use Rattle.flac_meta.specs.Spelling.{block_spelling}
 use Rattle.flac_meta.specs.declared.block.Block.TheVariants as block_of
 use Rattle.flac_native.specs.Given.{info_of}
 use Rattle.flac_native.specs.Writing.{AreCounted}
-use Rattle.flac_native.proofs.Planned.{planned, block_small}
+use Rattle.flac_native.proofs.Planned.{planned, block_small, room_is}
 use Rattle.flac_native.proofs.Rooms.{room_of}
 use Rattle.flac_ogg.specs.Native.{mapping_spelling, block_spellings}
 use Rattle.flac_ogg.specs.Writing.{header_count, EncodesOgg, BeginsOgg}
@@ -12,8 +12,11 @@ use Rattle.flac_ogg.proofs.SentOgg.{ogg_encodes}
 use Rattle.flac_ogg.proofs.Whole.{all_sent, some_sent}
 use Rattle.flac_ogg.proofs.encoding.encode_ogg.Goals as goal
 
-pub new-requires : goal.new-requires
-new-requires g c = omega (arith, block_small c.args.plan.now (planned c.args.plan.now c.block_size-size.ensures.good), c.block_size.ensures.value)
+pub new_in-requires : goal.new_in-requires
+new_in-requires g c = omega (arith, block_small c.args.plan.now (planned c.args.plan.now c.block_size-size.ensures.good), c.block_size-size.ensures.value)
+
+pub new-requires-clause-room : goal.new-requires-clause-room
+new-requires-clause-room g c = room_is c.args.plan.now c.in-Ok.buffers c.block_size-size.result c.profile-profile.result c.block_size-size.ensures.value c.profile-profile.ensures c.in-Ok.ensures.ok
 
 pub send_stream-requires-clause-room : goal.send_stream-requires-clause-room
 send_stream-requires-clause-room g c = room_of c.args.plan.now c.args.audio.now _ _ _ _ c.in-Ok-new.ensures.counted c.in-Ok-room.ensures.places

@@ -1,7 +1,6 @@
 use Rattle.std.proofs.Common.{◌≡◌, ◌<◌, ◌≤◌, ◌-◌, ◌*◌, min}
-use Rattle.flac_bits.specs.declared.why.Why.{Why}
 use Rattle.flac_frame.specs.Audio.{samples_each}
-use Rattle.flac_native.specs.Given.{blocks_in}
+use Rattle.flac_native.specs.Given.{blocks_in, room_of}
 use Rattle.flac_native.proofs.Spelled.{came_out}
 use Rattle.flac_ogg.specs.Writing.{SendsPackets}
 use Rattle.flac_ogg.proofs.SentPackets.{SentPackets}
@@ -11,7 +10,7 @@ abbrev pub invariant-loop-start : goal.invariant-loop-start
 invariant-loop-start g l = record {
   going : l.number < blocks_in l.plan.block_size (samples_each l.audio.channels) → SentPackets g.W.Target l.serial l.from l.plan l.audio l.number l.sequence l.fn.target l.target;
   over : l.number ≡ blocks_in l.plan.block_size (samples_each l.audio.channels) → SendsPackets g.W.Target l.serial l.from l.plan l.audio l.fn.target l.target came_out;
-  buffers : l.buffers ≡ l.plan.block_size;
+  buffers : l.buffers ≡ room_of l.plan;
   room : l.room.places ≡ l.fn.room.places;
   pages : l.pages.places ≡ l.fn.pages.places;
   start : l.start ≡ min (samples_each l.audio.channels) (l.plan.block_size * l.number);

@@ -1,18 +1,35 @@
-use Rattle.std.proofs.Common.{◌≡◌, ◌≤◌, ◌<◌, ◌-◌, ◌*◌, ◌+◌, ◌^◌, min, max, sym, ap, subst, ◌∙◌, arith, ℕ, List, length, None}
+use Rattle.std.proofs.Common.{ℤ, Vec, Global, map, ◌≡◌, ◌≤◌, ◌<◌, ◌-◌, ◌*◌, ◌+◌, ◌^◌, min, max, sym, ap, subst, ◌∙◌, arith, ℕ, List, length, None}
 use Rattle.std.proofs.Math.Nat.{mul-suc}
 use Rattle.std.proofs.lemmas.Bool.Decides.{nat_tests}
 use Rattle.std.proofs.lemmas.List.{length-map}
 use Rattle.flac_meta.specs.Listed.{block_fault}
 use Rattle.flac_meta.specs.declared.seek_table.SeekPoint.{SeekPoint}
 use Rattle.flac_meta.specs.declared.block.Block.TheVariants as block_of
+use Rattle.flac_header.specs.declared.subset.Profile.{Profile}
+use Rattle.flac_subframe.specs.Handed.{AreWithin}
+use Rattle.flac_subframe.specs.Room.{Room}
 use Rattle.flac_frame.specs.Audio.{Sound, samples_each}
-use Rattle.flac_native.specs.Given.{Cut, blocks_in, sound_message}
-use Rattle.flac_native.specs.Writing.{AreChoices, AreCounted}
+use Rattle.flac_frame.specs.Chosen.{IsChoiceWith, HasPlaces}
+use Rattle.flac_frame.specs.Encoding.{block_of, most_in}
+use Rattle.flac_frame.specs.Frame.{limits_at}
+use Rattle.flac_frame.specs.declared.frame_choice.FrameChoice.{FrameChoice}
+use Rattle.flac_native.specs.Given.{Cut, blocks_in, room_of, sound_message}
+use Rattle.flac_native.specs.Writing.{AreChoices, AreCounted, IsChoiceOf}
 use Rattle.flac_native.proofs.Messages.{fed_none, fed_more, fed_all}
-use Rattle.flac_native.proofs.Planned.{Planned, planned, fit, block_small}
+use Rattle.flac_native.proofs.Planned.{Planned, planned, fit, block_small, orders_of, partition_of}
 use Rattle.flac_native.proofs.Tables.{table_good}
-use Rattle.flac_native.proofs.Gathered.{Gathered, least_with, gathered_none, gathered_more, choice_of, no_choices, choices_more, still_some, all_gathered, all_counted}
+use Rattle.flac_native.proofs.Gathered.{Gathered, least_with, gathered_none, gathered_more, choice_of, kept_choice, no_choices, choices_more, still_some, all_gathered, all_counted}
 use Rattle.flac_native.proofs.chosen_frames.ChosenFrames.new.Goals as goal
+
+many_channels : (vecs : List (Vec ℤ Global)) (channels : List (List ℤ)) → map (λ v. v.items) vecs ≡ channels → length vecs ≡ length channels
+many_channels vecs channels is = sym (length-map vecs (λ v. v.items)) ∙ ap length is
+
+-- the places that were made for the plan's profile
+first_places : (p : Cut) (a : Sound) (r : Room) (channels : ℕ) (profile : Profile) (c : FrameChoice) → channels ≡ length a.channels → profile ≡ p.profile → r ≡ room_of p → HasPlaces channels (most_in profile) c
+    → HasPlaces (length a.channels) r.most c
+first_places p a r channels profile c many same room places =
+    let most : most_in profile ≡ r.most = ap most_in same ∙ ap (λ (x : Room). x.most) (sym room) in
+    subst (λ n. HasPlaces n r.most c) many (subst (λ m. HasPlaces channels m c) most places)
 
 ordered : (n least greatest bytes : ℕ) {l m : ℕ} → least ≤ greatest → l ≡ least_with n least bytes → m ≡ max greatest bytes → l ≤ m
 ordered n least greatest bytes h e f = grind (arith, nat_tests)
@@ -22,7 +39,7 @@ loop-start-init c = record {
   gathered = subst (λ l. Gathered c.args.plan.now c.args.audio.now 0 0 0 0 l) (sym c.new-points.ensures.items) (gathered_none c.args.plan.now c.args.audio.now);
   choices = subst (AreChoices c.args.plan.now c.args.audio.now) (sym c.new-choices.ensures.items) (no_choices c.args.plan.now c.args.audio.now);
   kept = omega (arith, ap length c.new-choices.ensures.items);
-  places = c.in_ok-choice.ensures.places;
+  places = first_places c.args.plan.now c.args.audio.now c.args.buffers.now _ _ c.in_ok-choice.choice (many_channels c.channels-channels.result.now _ c.channels-channels.ensures.items) c.profile.ensures c.requires.room c.in_ok-choice.ensures.places;
   fed = fed_none c.args.audio.now c.new-hasher.result c.new-hasher.ensures;
   buffers = c.requires.room;
   start = omega arith;
@@ -46,10 +63,22 @@ choose_frame-requires-clause-number c =
     let blocks : blocks_in p.block_size total ≤ 2 ^ 31 = subst (λ t. blocks_in p.block_size t ≤ 2 ^ 31) f.total q.blocks in
     omega (arith, still_some p.block_size total c.loop-start.number q.least more, blocks)
 
+pub choose_frame-requires-clause-partition : goal.choose_frame-requires-clause-partition
+choose_frame-requires-clause-partition c = partition_of c.args.plan.now c.args.audio.now _ (fit c.args.plan.now c.args.audio.now c.requires.fits) c.loop-start.invariant.buffers
+
+pub choose_frame-requires-clause-orders : goal.choose_frame-requires-clause-orders
+choose_frame-requires-clause-orders c =
+    let p = c.args.plan.now in
+    let a = c.args.audio.now in
+    subst (AreWithin (limits_at a.profile a.rate).linear) (sym c.predictors-predictors.ensures) (orders_of p a (planned p c.block_size-size.ensures.good) (fit p a c.requires.fits))
+
+pub choose_frame-requires-clause-room : goal.choose_frame-requires-clause-room
+choose_frame-requires-clause-room c =
+    let block : c.loop-start.buffers.block ≡ c.args.plan.now.block_size = ap (λ (r : Room). r.block) c.loop-start.invariant.buffers in
+    omega (arith, c.min.ensures, c.block_size-size.ensures.value, block)
+
 pub choose_frame-requires-clause-places : goal.choose_frame-requires-clause-places
-choose_frame-requires-clause-places c =
-    let many : length c.channels-channels.result.now ≡ length c.args.audio.now.channels = sym (length-map c.channels-channels.result.now (λ v. v.items)) ∙ ap length c.channels-channels.ensures.items in
-    omega (arith, c.loop-start.invariant.places, many)
+choose_frame-requires-clause-places c = c.loop-start.invariant.places
 
 pub frame_bytes-bytes-requires-clause-few : goal.frame_bytes-bytes-requires-clause-few
 frame_bytes-bytes-requires-clause-few c =
@@ -57,7 +86,7 @@ frame_bytes-bytes-requires-clause-few c =
     omega (arith, c.min.ensures, c.block_size-size.ensures.value, block_small p (planned p c.block_size-size.ensures.good))
 
 pub frame_bytes-bytes-requires-clause-chosen : goal.frame_bytes-bytes-requires-clause-chosen
-frame_bytes-bytes-requires-clause-chosen c = (_, c.choose_frame.ensures.chosen)
+frame_bytes-bytes-requires-clause-chosen c = (_, _, c.choose_frame.ensures.chosen)
 
 pub overflow_add-offset : goal.overflow_add-offset
 overflow_add-offset c =
@@ -68,7 +97,7 @@ overflow_add-offset c =
     let more : p.block_size * c.loop-start.number < total = omega (arith, c.loop-start.invariant.start, c.loop-start-test.true, c.len-total.ensures) in
     let f = fit p c.args.audio.now c.requires.fits in
     let blocks : blocks_in p.block_size total ≤ 2 ^ 31 = subst (λ t. blocks_in p.block_size t ≤ 2 ^ 31) f.total q.blocks in
-    omega (arith, c.frame_bytes-bytes.ensures.bytes _ is, is.short, c.loop-start.invariant.gathered.count, still_some p.block_size total c.loop-start.number q.least more, blocks)
+    omega (arith, c.frame_bytes-bytes.ensures.bytes _ _ is, is.short, c.loop-start.invariant.gathered.count, still_some p.block_size total c.loop-start.number q.least more, blocks)
 
 pub loop-start-preserved : goal.loop-start-preserved
 loop-start-preserved c =
@@ -88,13 +117,16 @@ loop-start-preserved c =
     let up : b * (n + 1) ≡ b * n + b = omega (arith, mul-suc b n) in
     let at : c.loop-start.start ≡ b * n = omega (arith, inv.start, more) in
     let part : c.loop-start.start + c.min.result - c.loop-start.start ≡ min b (total - b * n) = omega (arith, step, at, size_is, total_is) in
-    let is = c.choose_frame.ensures.chosen in
+    let size : ℕ = c.loop-start.start + c.min.result - c.loop-start.start in
     let choice = c.choose_frame.new.choice in
+    let is : IsChoiceWith p.predictors a size n (block_of c.loop-start.start size a.channels) choice =
+    subst (λ ps. IsChoiceWith ps a size n (block_of c.loop-start.start size a.channels) choice) c.predictors-predictors.ensures c.choose_frame.ensures.chosen in
     let bytes : ℕ = c.frame_bytes-bytes.result in
     let now = c.note_point.new.points.items in
-    let g = gathered_more p a n c.loop-start.offset c.loop-start.least c.loop-start.greatest bytes c.loop-start.start _ choice c.loop-start.points.items now inv.gathered c.in_ok-note_point.ensures.noted at part is (c.frame_bytes-bytes.ensures.bytes _ is) in
-    let many : length c.channels-channels.result.now ≡ length a.channels = sym (length-map c.channels-channels.result.now (λ v. v.items)) ∙ ap length c.channels-channels.ensures.items in
-    let kept = choices_more p a c.loop-start.choices.items c.keep.new.choices.items choice n _ inv.choices inv.kept (record { chosen = choice_of p a n c.loop-start.start _ choice at part is; places = omega (arith, c.choose_frame.ensures.places, inv.places, many) }) c.in_ok-choice-2.ensures.kept in
+    let g = gathered_more p a n c.loop-start.offset c.loop-start.least c.loop-start.greatest bytes c.loop-start.start _ choice c.loop-start.points.items now inv.gathered c.in_ok-note_point.ensures.noted at part is (c.frame_bytes-bytes.ensures.bytes _ _ is) in
+    let keeps = c.in_ok-keep.ensures.kept in
+    let chosen : IsChoiceOf p a n choice = record { chosen = choice_of p a n c.loop-start.start _ choice at part is; places = c.choose_frame.ensures.places.many } in
+    let kept = choices_more p a c.loop-start.choices.items c.keep.new.choices.items keeps.0 n _ inv.choices inv.kept (kept_choice p a n choice keeps.0 keeps.1 chosen) keeps.2 in
     let max_is : c.greatest_with-greatest.result ≡ max c.loop-start.greatest bytes = c.greatest_with-greatest.ensures in
     let least_is : c.least_with-least.result ≡ least_with n c.loop-start.least bytes = c.least_with-least.ensures in
     let made = subst (λ l. Gathered p a (n + 1) (c.loop-start.offset + bytes) l c.greatest_with-greatest.result now) (sym least_is) (subst (λ m. Gathered p a (n + 1) (c.loop-start.offset + bytes) (least_with n c.loop-start.least bytes) m now) (sym max_is) g.0) in
@@ -102,7 +134,7 @@ loop-start-preserved c =
       gathered = made;
       choices = kept.0;
       kept = kept.1;
-      places = c.in_ok-choice-2.ensures.places;
+      places = subst (λ (r : Room). HasPlaces (length a.channels) r.most choice) (sym c.choose_frame.ensures.kept) c.choose_frame.ensures.places;
       fed = fed_more a c.loop-start.hasher c.feed_block.new.hasher c.loop-start.start c.min.result (c.loop-start.start + c.min.result - c.loop-start.start) (omega arith) c.feed_block.ensures inv.fed;
       buffers = c.choose_frame.ensures.kept ∙ inv.buffers;
       start = omega (arith, at, step, up, more, size_is, total_is);

@@ -1,6 +1,7 @@
 use Rattle.std.proofs.Common.{◌≡◌, ◌≤◌, ◌-◌, ◌*◌, min, length}
 use Rattle.flac_frame.specs.Audio.{samples_each}
-use Rattle.flac_native.specs.Given.{blocks_in}
+use Rattle.flac_frame.specs.Chosen.{HasPlaces}
+use Rattle.flac_native.specs.Given.{blocks_in, room_of}
 use Rattle.flac_native.specs.Message.{sample_width, rows_bytes}
 use Rattle.flac_native.specs.Writing.{AreChoices}
 use Rattle.flac_native.proofs.Gathered.{Gathered}
@@ -12,9 +13,9 @@ invariant-loop-start l = record {
   gathered : Gathered l.plan l.audio l.number l.offset l.least l.greatest l.points.items;
   choices : AreChoices l.plan l.audio l.choices.items;
   kept : length l.choices.items ≡ min l.number l.most;
-  places : length l.choice.subframes.items ≡ l.channels;
+  places : HasPlaces (length l.audio.channels) l.buffers.most l.choice;
   fed : Holds l.hasher (rows_bytes (sample_width l.audio.bits) l.audio.channels l.start 0);
-  buffers : l.buffers ≡ l.plan.block_size;
+  buffers : l.buffers ≡ room_of l.plan;
   start : l.start ≡ min (samples_each l.audio.channels) (l.plan.block_size * l.number);
   few : l.number ≤ blocks_in l.plan.block_size (samples_each l.audio.channels);
   greatest : l.greatest ≤ 16777215;

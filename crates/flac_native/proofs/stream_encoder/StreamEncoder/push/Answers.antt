@@ -1,6 +1,9 @@
 use Rattle.std.proofs.Common.{◌≤◌, ◌++◌, map, sym, ap, subst, ◌∙◌, arith}
+use Rattle.flac_subframe.specs.Room.{Room}
 use Rattle.flac_frame.specs.Audio.{samples_each}
-use Rattle.flac_native.specs.Pushing.{Pushed, behind_block, spent_with}
+use Rattle.flac_bits.specs.Bits.{bits_of}
+use Rattle.flac_native.specs.Writing.{SpellsLeast}
+use Rattle.flac_native.specs.Pushing.{Pushed, shape_of, sound_of, frame_with, behind_block, spent_with}
 use Rattle.flac_native.proofs.Pushing.{never_write, not_refused, pushes, begins_push}
 use Rattle.flac_native.proofs.stream_encoder.StreamEncoder.push.Goals as goal
 
@@ -25,7 +28,7 @@ block_bytes-requires-clause-some g c = let a = not_refused _ _ _ _ c.self.view_i
 pub block_bytes-requires-clause-room : goal.block_bytes-requires-clause-room
 block_bytes-requires-clause-room g c =
     let a = not_refused _ _ _ _ c.self.view_is c.self.invariant.shape c.push_fault.ensures c.in_default.is in
-    subst (λ n. samples_each (map (λ b. b.now) c.args.block.now) ≤ n) (sym c.self.invariant.buffers) a.most
+    subst (λ (r : Room). samples_each (map (λ b. b.now) c.args.block.now) ≤ r.block) (sym c.self.invariant.buffers) a.most
 
 pub block_bytes-requires-clause-number : goal.block_bytes-requires-clause-number
 block_bytes-requires-clause-number g c = let a = not_refused _ _ _ _ c.self.view_is c.self.invariant.shape c.push_fault.ensures c.in_default.is in a.number
@@ -40,6 +43,7 @@ invariant_of-self-in-Ok-send_all g c =
     let a = not_refused _ _ _ _ c.self.view_is c.self.invariant.shape c.push_fault.ensures c.in_default.is in
     record {
       shape = c.self.invariant.shape;
+      predictors = c.self.invariant.predictors;
       buffers = c.block_bytes.ensures.kept ∙ c.self.invariant.buffers;
       number = omega (arith, a.number);
       samples = omega (arith, a.samples, c.block_len-len.ensures);
@@ -49,7 +53,8 @@ pub returns-in-Ok-send_all-clause-written : goal.returns-in-Ok-send_all-clause-w
 returns-in-Ok-send_all-clause-written g c =
     let a = not_refused _ _ _ _ c.self.view_is c.self.invariant.shape c.push_fault.ensures c.in_default.is in
     let old : Pushed g.row.W.Denot = record {
-      shape = record { rate = c.self.inside.rate; bits = c.self.inside.bits; channels = c.self.inside.channels; block_size = c.self.inside.block_size };
+      shape = shape_of c.self.inside.format;
+      predictors = c.self.inside.predictors.items;
       number = c.self.inside.number;
       samples = c.self.inside.samples;
       ended = c.self.inside.ended;
@@ -57,15 +62,19 @@ returns-in-Ok-send_all-clause-written g c =
       target = c.self.inside.target;
     } in
     let new = c.send_all.new.target in
+    let block = map (λ b. b.now) c.args.block.now in
+    let least : SpellsLeast old.predictors (sound_of old.shape block) (frame_with old.number block) (bits_of c.in-Ok.frame.items) =
+    subst (λ ps. SpellsLeast ps (sound_of old.shape block) (frame_with old.number block) (bits_of c.in-Ok.frame.items)) c.as_slice-predictors.ensures.value c.in-Ok.ensures.least in
     rw (← c.self.view_is) (λ known.
-    pushes g.W.Target old (behind_block old c.block_len-len.result new) (map (λ b. b.now) c.args.block.now) c.in-Ok.frame.items c.self.invariant.shape a c.in-Ok.ensures.frame c.in-Ok.ensures.least
+    pushes g.W.Target old (behind_block old c.block_len-len.result new) (map (λ b. b.now) c.args.block.now) c.in-Ok.frame.items c.self.invariant.shape a c.in-Ok.ensures.frame least
     (ap (λ n. behind_block old n new) c.block_len-len.ensures) (c.in-Ok-send_all.ensures.sends.sent known ∙ ap (λ l. g.W.Target.sent c.self.inside.target ++ l) c.as_slice.ensures.value))
 
 pub returns-clause-begun : goal.returns-clause-begun
 returns-clause-begun g c =
     let a = not_refused _ _ _ _ c.self.view_is c.self.invariant.shape c.push_fault.ensures c.in_default.is in
     let old : Pushed g.row.W.Denot = record {
-      shape = record { rate = c.self.inside.rate; bits = c.self.inside.bits; channels = c.self.inside.channels; block_size = c.self.inside.block_size };
+      shape = shape_of c.self.inside.format;
+      predictors = c.self.inside.predictors.items;
       number = c.self.inside.number;
       samples = c.self.inside.samples;
       ended = c.self.inside.ended;
@@ -73,7 +82,10 @@ returns-clause-begun g c =
       target = c.self.inside.target;
     } in
     let new = c.send_all.new.target in
+    let block = map (λ b. b.now) c.args.block.now in
+    let least : SpellsLeast old.predictors (sound_of old.shape block) (frame_with old.number block) (bits_of c.in-Ok.frame.items) =
+    subst (λ ps. SpellsLeast ps (sound_of old.shape block) (frame_with old.number block) (bits_of c.in-Ok.frame.items)) c.as_slice-predictors.ensures.value c.in-Ok.ensures.least in
     rw (← c.self.view_is) (λ w known.
     let b = c.in-Err.ensures.sends.begun known in
-    begins_push g.W.Target old (spent_with old new) (map (λ b. b.now) c.args.block.now) c.in-Ok.frame.items c.self.invariant.shape a c.in-Ok.ensures.frame c.in-Ok.ensures.least
+    begins_push g.W.Target old (spent_with old new) (map (λ b. b.now) c.args.block.now) c.in-Ok.frame.items c.self.invariant.shape a c.in-Ok.ensures.frame least
     b.0 b.1 (sym c.as_slice.ensures.value ∙ b.2) b.3)

@@ -5,11 +5,11 @@ use Rattle.flac_native.proofs.stream_format.StreamFormat.open_info.Goals as goal
 pub overflow_cast-size : goal.overflow_cast-size
 overflow_cast-size c = let q = shaped _ c.requires in omega (arith, q.small)
 
-pub overflow_cast-channels : goal.overflow_cast-channels
-overflow_cast-channels c = let q = shaped _ c.requires in omega (arith, q.few)
+pub overflow_cast-self : goal.overflow_cast-self
+overflow_cast-self c = let q = shaped _ c.requires in omega (arith, q.few)
 
-pub overflow_cast-bits : goal.overflow_cast-bits
-overflow_cast-bits c = let q = shaped _ c.requires in omega (arith, q.bits)
+pub overflow_cast-self-2 : goal.overflow_cast-self-2
+overflow_cast-self-2 c = let q = shaped _ c.requires in omega (arith, q.bits)
 
 pub unreachable-requires : goal.unreachable-requires
 unreachable-requires c =

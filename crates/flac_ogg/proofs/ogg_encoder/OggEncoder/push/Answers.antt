@@ -1,7 +1,11 @@
-use Rattle.std.proofs.Common.{◌≡◌, ◌≤◌, ◌+◌, ◌++◌, ℕ, List, true, false, map, inl, inr, refl, sym, ap, subst, ◌∙◌, arith}
+use Rattle.std.proofs.Common.{◌≡◌, ◌≤◌, ◌+◌, ◌++◌, ℕ, List, None, true, false, map, inl, inr, refl, sym, ap, subst, ◌∙◌, arith}
 use Rattle.flac_bits.specs.Bits.{bits_of}
+use Rattle.flac_subframe.specs.Room.{Room}
+use Rattle.flac_subframe.specs.declared.linear.LinearPredictor.{LinearPredictor}
 use Rattle.flac_frame.specs.Audio.{samples_each}
-use Rattle.flac_native.specs.Pushing.{behind_block, spent_with, sound_of, frame_with}
+use Rattle.flac_frame.specs.Encoding.{most_in}
+use Rattle.flac_native.specs.Given.{predictors_fault}
+use Rattle.flac_native.specs.Pushing.{behind_block, spent_with, shape_of, sound_of, frame_with}
 use Rattle.flac_native.specs.Writing.{SpellsFrame, SpellsLeast}
 use Rattle.flac_native.proofs.Pushing.{never_write, not_refused}
 use Rattle.flac_pages.specs.Written.{packet_spelling}
@@ -52,7 +56,14 @@ pub pushed_packet-requires-clause-room : goal.pushed_packet-requires-clause-room
 pushed_packet-requires-clause-room g c =
     let at = fault_at _ _ c.self.inside.judge (map (λ b. b.now) c.args.block.now) _ _ _ c.self.view_is c.self.invariant.judge c.block_len-len.ensures c.size_fault-size.ensures c.push_fault.ensures.fault in
     let a = not_refused _ _ _ _ refl c.self.invariant.shape at.0 c.in_default.is in
-    subst (λ n. samples_each (map (λ b. b.now) c.args.block.now) ≤ n) (sym c.self.invariant.buffers) a.most
+    subst (λ (r : Room). samples_each (map (λ b. b.now) c.args.block.now) ≤ r.block) (sym c.self.invariant.buffers) a.most
+
+pub pushed_packet-requires-clause-most : goal.pushed_packet-requires-clause-most
+pushed_packet-requires-clause-most g c = subst (λ (r : Room). most_in c.self.inside.format.profile ≤ r.most) (sym c.self.invariant.buffers) (omega arith)
+
+pub pushed_packet-requires-clause-predictors : goal.pushed_packet-requires-clause-predictors
+pushed_packet-requires-clause-predictors g c =
+    subst (λ (l : List LinearPredictor). predictors_fault c.self.inside.format.profile c.self.inside.format.rate l ≡ None) (sym c.as_slice.ensures.value) c.self.invariant.predictors
 
 pub pushed_packet-requires-clause-number : goal.pushed_packet-requires-clause-number
 pushed_packet-requires-clause-number g c =
@@ -82,6 +93,7 @@ invariant_of-self-in-Ok-send_all g c =
     let a = not_refused _ _ _ _ refl c.self.invariant.shape at.0 c.in_default.is in
     record {
       shape = c.self.invariant.shape;
+      predictors = c.self.invariant.predictors;
       judge = same_judge _ _ _ _ c.push_fault.ensures.kept c.self.invariant.judge;
       buffers = c.pushed_packet.ensures.kept ∙ c.self.invariant.buffers;
       number = omega (arith, a.number);
@@ -94,7 +106,8 @@ returns-in-Ok-send_all-clause-written g c =
     let a = not_refused _ _ _ _ refl c.self.invariant.shape at.0 c.in_default.is in
     let old : PushedOgg g.row.W.Denot = record {
       pushed = record {
-        shape = record { rate = c.self.inside.rate; bits = c.self.inside.bits; channels = c.self.inside.channels; block_size = c.self.inside.block_size };
+        shape = shape_of c.self.inside.format;
+        predictors = c.self.inside.predictors.items;
         number = c.self.inside.number;
         samples = c.self.inside.samples;
         ended = c.self.inside.ended;
@@ -109,16 +122,17 @@ returns-in-Ok-send_all-clause-written g c =
     let block = map (λ b. b.now) c.args.block.now in
     let t = c.send_all.new.target in
     let h = c.in-Ok-hold_frame.held in
-    let packet : List ℕ = c.as_slice.result.now in
+    let packet : List ℕ = c.as_slice-2.result.now in
     let new : PushedOgg g.row.W.Denot = record { pushed = behind_block old.pushed c.block_len-len.result t; serial = old.serial; sequence = h.next; middle = h.middle.items; last = h.last.items } in
     let pushed : new.pushed ≡ behind_block old.pushed (samples_each block) t = ap (λ n. behind_block old.pushed n t) c.block_len-len.ensures in
-    let frame = subst (λ p. SpellsFrame (sound_of old.pushed.shape block) (frame_with old.pushed.number block) (bits_of p)) (sym c.as_slice.ensures.value) c.in-Ok.ensures.frame in
-    let least = subst (λ p. SpellsLeast (sound_of old.pushed.shape block) (frame_with old.pushed.number block) (bits_of p)) (sym c.as_slice.ensures.value) c.in-Ok.ensures.least in
+    let frame = subst (λ p. SpellsFrame (sound_of old.pushed.shape block) (frame_with old.pushed.number block) (bits_of p)) (sym c.as_slice-2.ensures.value) c.in-Ok.ensures.frame in
+    let tried = subst (λ (ps : List LinearPredictor). SpellsLeast ps (sound_of old.pushed.shape block) (frame_with old.pushed.number block) (bits_of c.in-Ok.packet.items)) c.as_slice.ensures.value c.in-Ok.ensures.least in
+    let least = subst (λ p. SpellsLeast old.pushed.predictors (sound_of old.pushed.shape block) (frame_with old.pushed.number block) (bits_of p)) (sym c.as_slice-2.ensures.value) tried in
     let middle = c.in-Ok-hold_frame.ensures.middle ∙ ap (λ n. packet_spelling (record { serial = old.serial; sequence = old.sequence; kind = Frame (old.pushed.samples + n); first = false; last = false }) packet) c.block_len-len.ensures in
     let last = c.in-Ok-hold_frame.ensures.last ∙ ap (λ n. packet_spelling (record { serial = old.serial; sequence = old.sequence; kind = Frame (old.pushed.samples + n); first = false; last = true }) packet) c.block_len-len.ensures in
     rw (← c.self.view_is) (λ known.
     pushes_ogg old new t block packet c.self.invariant.shape a frame g.W.Target least c.in-Ok-hold_frame.ensures.bytes pushed refl c.in-Ok-hold_frame.ensures.next middle last
-    (c.in-Ok-send_all.ensures.sends.sent known ∙ ap (λ l. g.W.Target.sent c.self.inside.target ++ l) c.as_slice-2.ensures.value))
+    (c.in-Ok-send_all.ensures.sends.sent known ∙ ap (λ l. g.W.Target.sent c.self.inside.target ++ l) c.as_slice-3.ensures.value))
 
 pub returns-in-Ok-send_all-clause-accepted : goal.returns-in-Ok-send_all-clause-accepted
 returns-in-Ok-send_all-clause-accepted g c =
@@ -136,7 +150,8 @@ returns-clause-begun g c =
     let a = not_refused _ _ _ _ refl c.self.invariant.shape at.0 c.in_default.is in
     let old : PushedOgg g.row.W.Denot = record {
       pushed = record {
-        shape = record { rate = c.self.inside.rate; bits = c.self.inside.bits; channels = c.self.inside.channels; block_size = c.self.inside.block_size };
+        shape = shape_of c.self.inside.format;
+        predictors = c.self.inside.predictors.items;
         number = c.self.inside.number;
         samples = c.self.inside.samples;
         ended = c.self.inside.ended;
@@ -151,15 +166,16 @@ returns-clause-begun g c =
     let block = map (λ b. b.now) c.args.block.now in
     let t = c.send_all.new.target in
     let h = c.in-Ok-hold_frame.held in
-    let packet : List ℕ = c.as_slice.result.now in
+    let packet : List ℕ = c.as_slice-2.result.now in
     let new : PushedOgg g.row.W.Denot = record { pushed = behind_block old.pushed c.block_len-len.result t; serial = old.serial; sequence = h.next; middle = h.middle.items; last = h.last.items } in
     let pushed : new.pushed ≡ behind_block old.pushed (samples_each block) t = ap (λ n. behind_block old.pushed n t) c.block_len-len.ensures in
-    let frame = subst (λ p. SpellsFrame (sound_of old.pushed.shape block) (frame_with old.pushed.number block) (bits_of p)) (sym c.as_slice.ensures.value) c.in-Ok.ensures.frame in
-    let least = subst (λ p. SpellsLeast (sound_of old.pushed.shape block) (frame_with old.pushed.number block) (bits_of p)) (sym c.as_slice.ensures.value) c.in-Ok.ensures.least in
+    let frame = subst (λ p. SpellsFrame (sound_of old.pushed.shape block) (frame_with old.pushed.number block) (bits_of p)) (sym c.as_slice-2.ensures.value) c.in-Ok.ensures.frame in
+    let tried = subst (λ (ps : List LinearPredictor). SpellsLeast ps (sound_of old.pushed.shape block) (frame_with old.pushed.number block) (bits_of c.in-Ok.packet.items)) c.as_slice.ensures.value c.in-Ok.ensures.least in
+    let least = subst (λ p. SpellsLeast old.pushed.predictors (sound_of old.pushed.shape block) (frame_with old.pushed.number block) (bits_of p)) (sym c.as_slice-2.ensures.value) tried in
     let middle = c.in-Ok-hold_frame.ensures.middle ∙ ap (λ n. packet_spelling (record { serial = old.serial; sequence = old.sequence; kind = Frame (old.pushed.samples + n); first = false; last = false }) packet) c.block_len-len.ensures in
     let last = c.in-Ok-hold_frame.ensures.last ∙ ap (λ n. packet_spelling (record { serial = old.serial; sequence = old.sequence; kind = Frame (old.pushed.samples + n); first = false; last = true }) packet) c.block_len-len.ensures in
     let now : PushedOgg g.row.W.Denot = record { pushed = spent_with old.pushed t; serial = old.serial; sequence = old.sequence; middle = old.middle; last = old.last } in
     rw (← c.self.view_is) (λ w known.
     let b = c.in-Err.ensures.sends.begun known in
     begins_ogg old new t block packet c.self.invariant.shape a frame g.W.Target now least c.in-Ok-hold_frame.ensures.bytes pushed refl c.in-Ok-hold_frame.ensures.next middle last
-    b.0 b.1 (sym c.as_slice-2.ensures.value ∙ b.2) b.3)
+    b.0 b.1 (sym c.as_slice-3.ensures.value ∙ b.2) b.3)
