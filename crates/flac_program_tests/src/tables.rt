@@ -348,8 +348,8 @@ pub(crate) const PREDICTED: &str =
 --block 16 --predictors a.txt --ogg | 1 0 -1 | 0 | PREDICTED_MAPPING VENDOR PREDICTED_PAGE
 # An order of 16, which a block of 16 samples does not use: above 12 in the subset at this rate.
 --block 16 --predictors a.txt | 2 0 1 0 0 0 0 0 0 0 0 0 0 0 0 0 0 1 | 1 |  |  | flac: a.txt: 51 PredictorOrder;
---block 16 --predictors a.txt | 2 0 1 0 0 0 0 0 0 0 0 0 1 | 1 |  |  | flac: a.txt: 51 PredictorOrder;
---block 16 --predictors a.txt | 2 0 1 0 0 0 0 0 0 0 0 1 | 0 | PLAIN COMMENTS PLAIN_FRAME
+--block 16 --predictors a.txt | 2 0 1 0 0 0 0 0 0 0 0 0 0 0 1 | 1 |  |  | flac: a.txt: 51 PredictorOrder;
+--block 16 --predictors a.txt | 2 0 1 0 0 0 0 0 0 0 0 0 0 1 | 0 | PLAIN COMMENTS PLAIN_FRAME
 --block 16 --predictors a.txt --lax | 2 0 1 0 0 0 0 0 0 0 0 0 0 0 0 0 0 1 | 0 | PLAIN COMMENTS PLAIN_FRAME
 # Lines that are no predictor, of which the first is named.
 --block 16 --predictors a.txt | 1 0 -1;;1 0 1;1 0 | 1 |  |  | flac: a.txt: line 3: 53 PredictorLine;
@@ -367,8 +367,8 @@ pub(crate) const PREDICTED: &str =
 --block 16 --predictors a.txt | 2 0 0 0 0 0 0 0 0 0 0 0 0 0 0 0 0 0 0 0 0 0 0 0 0 0 0 0 0 0 0 0 0 0 0 | 1 |  |  | flac: a.txt: line 1: 53 PredictorLine;
 # A wrong line goes before all other reasons, and a wrong order goes after those of the samples and the block size.
 --block 15 --predictors a.txt | 3 | 1 |  |  | flac: a.txt: line 1: 53 PredictorLine;
---block 15 --predictors a.txt | 2 0 1 0 0 0 0 0 0 0 0 0 1 | 1 |  |  | flac: a.raw: 46 BadBlockSize;
---block 16 --seek-every 1 --predictors a.txt | 2 0 1 0 0 0 0 0 0 0 0 0 1 | 1 |  |  | flac: a.txt: 51 PredictorOrder;";
+--block 15 --predictors a.txt | 2 0 1 0 0 0 0 0 0 0 0 0 0 0 1 | 1 |  |  | flac: a.raw: 46 BadBlockSize;
+--block 16 --seek-every 1 --predictors a.txt | 2 0 1 0 0 0 0 0 0 0 0 0 0 0 1 | 1 |  |  | flac: a.txt: 51 PredictorOrder;";
 
 /// Formats of raw samples, and the number of bytes of seventeen samples of each channel.
 pub(crate) const COME_BACK: &str = "--bits 8 --channels 1 | 17
@@ -435,7 +435,7 @@ flac decode a.flac a.raw | Decode { input: "a.flac", output: "a.raw", lax: false
 flac decode a.flac a.raw --lax | Decode { input: "a.flac", output: "a.raw", lax: true }
 flac list a.flac | List { input: "a.flac", lax: false }
 flac list a.flac --lax | List { input: "a.flac", lax: true }
-flac retag a.flac b.flac A=b | Retag { input: "a.flac", output: "b.flac", comments: ["A=b"], lax: false, predictors: None }
+flac retag a.flac b.flac A=b | Retag { input: "a.flac", output: "b.flac", comments: ["A=b"] }
 flac encode a.raw a.flac --rate 44100 --channels 2 --bits 16 --seek-every 5 A=b | Encode { input: "a.raw", output: "a.flac", format: Format { rate: 44100, channels: 2, bits: 16, block: 4096, seek_every: 5 }, container: Native, comments: ["A=b"], lax: false, predictors: None }
 flac encode a.raw a.oga --rate 44100 --channels 2 --bits 16 --ogg --serial 7 | Encode { input: "a.raw", output: "a.oga", format: Format { rate: 44100, channels: 2, bits: 16, block: 4096, seek_every: 0 }, container: Ogg { serial: 7 }, comments: [], lax: false, predictors: None }
 flac encode a.raw a.oga --rate 44100 --channels 2 --bits 16 --ogg --block 4096 | Encode { input: "a.raw", output: "a.oga", format: Format { rate: 44100, channels: 2, bits: 16, block: 4096, seek_every: 0 }, container: Ogg { serial: 1 }, comments: [], lax: false, predictors: None }
