@@ -1,22 +1,16 @@
 -- Packets that lie one after another in memory.
-use Rattle.std.proofs.Common.{◌≡◌, ℕ, zero, suc, ◌+◌, ◌/◌, ◌-◌, ◌^◌, ◌<◌, ◌≤◌, Bool, true, List, [], ◌∷◌, ◌++◌, length, take, drop, get_or, map, refl, sym, ap, subst, ◌∙◌, arith, length-append, append_assoc, Result, Ok, Err, Vec, Global, IfOk}
-use Rattle.std.specs.List.{All, flat_map, range_with_len}
+use Rattle.std.proofs.Common.{◌≡◌, ℕ, ◌+◌, ◌/◌, Bool, List, [], ◌∷◌, ◌++◌, length, map, refl, sym, ap, subst}
+use Rattle.std.specs.List.{flat_map, range_with_len}
 use Rattle.std.specs.Int.{to_le_bytes, w32, w64}
-use Rattle.std.proofs.Math.Seq.{take-append_seam}
-use Rattle.std.proofs.lemmas.List.{append-nil, length-take, length-drop}
 use Rattle.std.proofs.lemmas.List.Concat.{flat_map-cons}
-use Rattle.std.proofs.lemmas.List.Elements.{All-append}
 use Rattle.flac_bits.specs.Bits.{bits_of}
-use Rattle.flac_bits.specs.Forms.{AreBytes, joined}
-use Rattle.flac_bits.specs.declared.why.Why.{Why}
+use Rattle.flac_bits.specs.Forms.{joined}
 use Rattle.flac_native.proofs.WholeBytes.{Whole, whole_nil, whole_append, bits_whole}
-use Rattle.flac_pages.specs.declared.writing.PacketAt.{PacketAt}
 use Rattle.flac_pages.specs.declared.writing.PacketKind.{PacketKind}
 use Rattle.flac_pages.specs.Page.{Page, page_spelling}
-use Rattle.flac_pages.specs.Placed.{Placed, IsPlaced, AreInOrder, placed_in, end_of, stream_pages, stream_spelling}
+use Rattle.flac_pages.specs.Placed.{Placed, stream_pages, stream_spelling}
 use Rattle.flac_pages.specs.declared.writing.PacketMarks.{PacketMarks}
-use Rattle.flac_pages.specs.Written.{granule_at, page_at, packet_spelling}
-use Rattle.flac_pages.proofs.PlacedMore.{packets_placed}
+use Rattle.flac_pages.specs.Written.{page_at, packet_spelling}
 use Rattle.flac_ogg.specs.Listed.{texts_of, kinds_in}
 
 -- ---- packets behind others

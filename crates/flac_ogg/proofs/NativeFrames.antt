@@ -14,7 +14,6 @@ use Rattle.flac_meta.specs.Info.{Info, KeepsRules}
 use Rattle.flac_meta.specs.Valid.{IsInfo}
 use Rattle.flac_meta.specs.declared.seen.Seen.{Seen}
 use Rattle.flac_header.specs.Header.{Header, channels_of, greatest_in}
-use Rattle.flac_header.specs.declared.subset.Profile.{Profile}
 use Rattle.flac_meta.specs.declared.block.Block.TheVariants as blocks
 use Rattle.flac_frame.specs.Audio.{Sound, samples_each}
 use Rattle.flac_frame.specs.Frame.{Frame, frame, header_rules, rate_in, depth_in, breaks_sequence, breaks_size}

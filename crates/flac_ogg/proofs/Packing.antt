@@ -1,26 +1,17 @@
 -- The packets of what is encoded.
-use Rattle.std.proofs.Common.{◌≡◌, ℕ, zero, suc, ◌+◌, ◌*◌, ◌<◌, ◌≤◌, min, max, Bool, nat_eq, List, [], ◌∷◌, ◌++◌, length, take, get_or, replicate, None, refl, sym, ap, subst, ◌∙◌, arith, Result, Ok, Err, Vec, Global, IfOk}
+use Rattle.std.proofs.Common.{◌≡◌, ℕ, zero, suc, ◌+◌, ◌<◌, Bool, nat_eq, List, [], ◌∷◌, ◌++◌, length, take, get_or, replicate, None, refl, sym, ap, ◌∙◌, arith}
 use Rattle.std.proofs.lemmas.Bool.Decides.{nat_tests}
-use Rattle.flac_bits.specs.Bits.{unsigned, bits_of, is_nil}
-use Rattle.flac_bits.specs.declared.why.Why.{Why}
+use Rattle.flac_bits.specs.Bits.{unsigned, is_nil}
 use Rattle.flac_bits.proofs.Words.{length-unsigned}
-use Rattle.flac_bits.proofs.Holding.{length-bits_of}
 use Rattle.flac_meta.specs.Info.{Info}
 use Rattle.flac_meta.specs.Listed.{block_fault}
 use Rattle.flac_meta.specs.Spelling.{block_spelling}
 use Rattle.flac_meta.specs.declared.block.Block.{Block}
 use Rattle.flac_meta.specs.declared.block.Block.TheVariants as block_of
-use Rattle.flac_frame.specs.Audio.{Sound, samples_each}
-use Rattle.flac_frame.specs.Encoding.{IsEncoding, IsLeastWith, IsShort}
-use Rattle.flac_frame.specs.Encoding as encoding
-use Rattle.flac_frame.specs.Spelling.{FrameForm, frame_spelling}
-use Rattle.flac_native.specs.Given.{Cut, blocks_in, size_of, frame_of}
-use Rattle.flac_native.specs.Writing.{SpellsFrame, SpellsLeast, AreSizes}
 use Rattle.flac_native.proofs.WholeBytes.{Whole, length-joined}
 use Rattle.flac_native.proofs.BlocksWritten.{nil_is}
-use Rattle.flac_native.proofs.Gathered.{nth, snoc, length-snoc, each_more, sizes_with, least_with, no_sizes, all_gathered}
 use Rattle.flac_pages.specs.declared.writing.PacketKind.{PacketKind}
-use Rattle.flac_pages.specs.declared.writing.PacketKind.TheVariants.{Header, Frame}
+use Rattle.flac_pages.specs.declared.writing.PacketKind.TheVariants.{Header}
 use Rattle.flac_ogg.specs.Native.{mapping_spelling, block_spellings}
 
 -- ---- the first packet

@@ -1,6 +1,5 @@
 -- What an encoder of an Ogg stream that samples are pushed to stands for.
 use Rattle.std.proofs.Common.{◌≡◌, ℕ, suc, zero, ◌+◌, ◌*◌, ◌^◌, ◌<◌, ◌≤◌, ℤ, Bool, true, false, not, cond, nat_eq, List, [], ◌∷◌, ◌++◌, length, length-append, map, drop, get_or, replicate, Option, Some, None, ◌⊎◌, inl, inr, refl, sym, ap, subst, ◌∙◌, arith, append_assoc}
-use Rattle.std.proofs.Common.{Vec, Global, Result, Ok, Err, IfOk}
 use Rattle.std.specs.List.{All}
 use Rattle.std.proofs.lemmas.Bool.Decides.{nat_tests}
 use Rattle.std.proofs.lemmas.List.{append-nil}
@@ -21,10 +20,8 @@ use Rattle.flac_meta.specs.declared.block.Block.{Block}
 use Rattle.flac_meta.specs.declared.block.Block.TheVariants as block_of
 use Rattle.flac_header.specs.Header.{channels_of, greatest_in}
 use Rattle.flac_header.specs.declared.subset.Profile.TheVariants.{Subset}
-use Rattle.flac_bits.specs.declared.why.Why.{Why}
 use Rattle.flac_subframe.specs.declared.linear.LinearPredictor.{LinearPredictor}
-use Rattle.flac_frame.specs.Audio.{Sound, IsSound, samples_each}
-use Rattle.flac_frame.specs.Encoding.{block_of as part_of}
+use Rattle.flac_frame.specs.Audio.{samples_each}
 use Rattle.flac_frame.specs.Frame.{Frame, frame, header_rules, rate_in, depth_in}
 use Rattle.flac_frame.specs.declared.before.Before.{Before}
 use Rattle.flac_frame.proofs.Encodings.{encodings_are_frames}
@@ -38,7 +35,7 @@ use Rattle.flac_native.specs.Pushing.{Shape, shape_fault, open_info, Pushed, unp
 use Rattle.flac_native.specs.Writing.{blocks_spelling, head_spelling, SpellsFrame, SpellsLeast}
 use Rattle.flac_native.proofs.EachFrame.{same_three, follows_on, sized, full_before}
 use Rattle.flac_native.proofs.Onwards.{as_part, after_profile}
-use Rattle.flac_native.proofs.Pushing.{Shaped, shaped, keeps_open, opened, Accepted, stands_on, whole_block}
+use Rattle.flac_native.proofs.Pushing.{Shaped, shaped, keeps_open, opened, Accepted, stands_on}
 use Rattle.flac_pages.specs.declared.writing.PacketKind.TheVariants as kind_of
 use Rattle.flac_pages.specs.Placed.{Placed, IsPlaced, marks_of, sequence_behind}
 use Rattle.flac_pages.specs.Written.{packet_spelling}

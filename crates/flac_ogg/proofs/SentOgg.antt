@@ -1,5 +1,5 @@
 -- A whole stream that is sent: header packets, and frames behind them.
-use Rattle.std.proofs.Common.{◌≡◌, ℕ, zero, suc, ◌+◌, ◌*◌, ◌^◌, ◌<◌, ◌≤◌, Bool, true, false, List, [], ◌∷◌, ◌++◌, length, map, None, refl, sym, ap, subst, ◌∙◌, arith, append_assoc, Result, Ok, Err, ◌⊎◌, inl, inr, replicate}
+use Rattle.std.proofs.Common.{◌≡◌, ℕ, zero, suc, ◌+◌, ◌^◌, ◌<◌, ◌≤◌, Bool, true, false, List, [], ◌∷◌, ◌++◌, length, map, None, refl, sym, ap, subst, ◌∙◌, arith, append_assoc, Result, Err, ◌⊎◌, inl, inr, replicate}
 use Rattle.std.specs.List.{All, flat_map}
 use Rattle.std.proofs.lemmas.List.{append-nil, length-map}
 use Rattle.std.proofs.lemmas.List.Elements.{All-append}
@@ -27,7 +27,7 @@ use Rattle.flac_ogg.specs.Headers.{AreHeaders}
 use Rattle.flac_ogg.specs.Listed.{texts_of, kinds_in}
 use Rattle.flac_ogg.specs.Native.{mapping_spelling, block_spellings, packet_spellings}
 use Rattle.flac_ogg.specs.Pushing.{open_from, number_behind}
-use Rattle.flac_ogg.specs.Writing.{header_count, frames_to, kinds_of, ArePackets, EncodesOgg, BeginsOgg, SendsPackets, SendsOgg}
+use Rattle.flac_ogg.specs.Writing.{header_count, frames_to, ArePackets, EncodesOgg, SendsPackets, SendsOgg}
 use Rattle.flac_ogg.specs.declared.headers.Headers.{Headers}
 use Rattle.flac_ogg.proofs.Listing.{texts_append, kinds_append}
 use Rattle.flac_ogg.proofs.OpenPages.{is_first}

@@ -1,5 +1,5 @@
 -- All packets of what is encoded, and the Ogg stream of them.
-use Rattle.std.proofs.Common.{◌≡◌, ℕ, suc, ◌+◌, ◌^◌, ◌<◌, Bool, true, List, [], ◌∷◌, ◌++◌, length, length-append, append-nil, map, get_or, ◌-◌, nat_eq, None, refl, sym, ap, subst, ◌∙◌, arith}
+use Rattle.std.proofs.Common.{◌≡◌, ℕ, ◌^◌, ◌<◌, Bool, true, List, [], ◌∷◌, ◌++◌, length, length-append, append-nil, map, get_or, ◌-◌, nat_eq, None, refl, sym, ap, subst, ◌∙◌, arith}
 use Rattle.std.specs.List.{All}
 use Rattle.std.proofs.lemmas.Bool.Decides.{nat_tests}
 use Rattle.flac_bits.specs.Bits.{unsigned, bits_of, is_nil}
@@ -8,7 +8,7 @@ use Rattle.flac_bits.specs.Forms.{IsBytes}
 use Rattle.flac_bits.specs.declared.why.Why.TheVariants.{Truncated}
 use Rattle.flac_bits.proofs.Meaning.{past-short}
 use Rattle.flac_bits.proofs.Words.{length-unsigned}
-use Rattle.flac_bits.proofs.Holding.{length-bits_of, bits_of-append}
+use Rattle.flac_bits.proofs.Holding.{length-bits_of}
 use Rattle.flac_meta.specs.Info.{Info}
 use Rattle.flac_meta.specs.Listed.{list_fault, info_seen}
 use Rattle.flac_meta.specs.Spelling as s
@@ -16,10 +16,10 @@ use Rattle.flac_meta.specs.Valid.{AllAre, FitsFields}
 use Rattle.flac_meta.specs.declared.block.Block.{Block}
 use Rattle.flac_meta.specs.declared.block.Block.TheVariants as block_of
 use Rattle.flac_header.specs.declared.subset.Profile.{Profile}
-use Rattle.flac_frame.specs.Audio.{Sound, samples_each}
+use Rattle.flac_frame.specs.Audio.{Sound}
 use Rattle.flac_native.specs.Decoding.{beginning}
 use Rattle.flac_native.specs.Stream.{Piece}
-use Rattle.flac_native.specs.Given.{Cut, fits_plan, plan_fault, blocks_in, info_of, sound_message}
+use Rattle.flac_native.specs.Given.{Cut, fits_plan, plan_fault, info_of, sound_message}
 use Rattle.flac_native.proofs.BlocksWritten.{nil_is}
 use Rattle.flac_native.proofs.Digests.{digest_is_bytes}
 use Rattle.flac_native.proofs.WholeBytes.{length-joined, header_long}
@@ -28,8 +28,7 @@ use Rattle.flac_pages.specs.Packets.{at_page}
 use Rattle.flac_pages.specs.Placed.{Placed, IsPlaced, stream_pages, stream_spelling}
 use Rattle.flac_pages.proofs.PlacedPages.{written_pages_are_good}
 use Rattle.flac_ogg.specs.Stream.{OggStream}
-use Rattle.flac_ogg.specs.Native.{mapping_spelling, block_spellings, AreStream}
-use Rattle.flac_ogg.specs.Listed.{texts_of}
+use Rattle.flac_ogg.specs.Native.{mapping_spelling, AreStream}
 use Rattle.flac_ogg.specs.Writing.{ArePackets, EncodesOgg, BeginsOgg, header_count}
 use Rattle.flac_ogg.proofs.NativeFrames.{encoded_are_ogg_items}
 use Rattle.flac_ogg.proofs.Packing.{mapping_long}

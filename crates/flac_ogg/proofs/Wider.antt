@@ -1,12 +1,11 @@
 -- An Ogg stream of the streamable subset is one of the same items without the subset's limits.
-use Rattle.std.proofs.Common.{◌≡◌, ℕ, Bool, true, false, List, [], ◌∷◌, None, refl, sym, subst, ◌∙◌}
+use Rattle.std.proofs.Common.{◌≡◌, ℕ, true, false, List, [], ◌∷◌, None, refl, sym, subst, ◌∙◌}
 use Rattle.flac_bits.specs.Bits.{bits_of}
-use Rattle.flac_bits.specs.State.{Mark, past}
+use Rattle.flac_bits.specs.State.{past}
 use Rattle.flac_bits.specs.Layout.{Layout}
 use Rattle.flac_bits.specs.Meaning.{Spells, AllKept}
 use Rattle.flac_header.specs.declared.subset.Profile.TheVariants.{Subset, Lax}
 use Rattle.flac_native.specs.Stream.{Piece, Progress, grammar, layout, next, room_in}
-use Rattle.flac_native.specs.declared.phase.Phase.TheVariants.{Frames}
 use Rattle.flac_native.proofs.Onwards.{next_profile}
 use Rattle.flac_native.proofs.Wider.{lax, in_lax, part_lax, next_lax, after_lax, IsBegun}
 use Rattle.flac_pages.specs.Items.{IsItem}

@@ -166,7 +166,8 @@ pub fn encode_ogg<W: Target>(
     }
     let _blocks = list.blocks();
     let size = plan.block_size();
-    let Ok(mut buffers) = EncodeBuffers::new_in(alloc, plan.profile(), size) else {
+    let profile = plan.profile();
+    let Ok(mut buffers) = EncodeBuffers::new_in(alloc, profile, size) else {
         return Err(EncodeFault::Memory);
     };
     let Ok(frames) = ChosenFrames::new(alloc, plan, audio, &mut buffers) else {

@@ -8,6 +8,8 @@
 //! | decode a native or an Ogg stream into a sink | [`decode_any`] |
 //! | verify a stream in memory | [`verify`] |
 //! | encode samples that are all there | [`Audio`], [`Plan`] and [`encode_ogg`] |
+//! | encode outside the streamable subset | [`Audio::new_in`] |
+//! | try linear predictors of one's own | [`LinearPredictor`] and [`Plan::with_predictors`] |
 //! | encode into memory, and decode again | [`encode_and_decode`] |
 //! | encode a block at a time | [`OggEncoder`] |
 //!

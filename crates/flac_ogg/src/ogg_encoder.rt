@@ -33,8 +33,8 @@ use flac_pages::{PacketKind, PacketMarks};
 use std::alloc::Global;
 use std::marker::Model;
 
-/// Encodes an Ogg stream a block at a time, as a recorder does whose samples are not all there yet (RFC 9639, section
-/// 10.1). [`OggEncoder::new`] writes the header packets, of STREAMINFO and the metadata blocks, [`OggEncoder::push`]
+/// Encodes an Ogg stream of the streamable subset a block at a time, as a recorder does whose samples are not all there
+/// yet (RFC 9639, sections 7 and 10.1). [`OggEncoder::new`] writes the header packets, of STREAMINFO and the metadata blocks, [`OggEncoder::push`]
 /// makes a packet of one frame, and [`OggEncoder::finish`] ends the stream and returns the target.
 ///
 /// The last packet is held back until the next one comes or the stream ends, since the last page of a stream is marked.
@@ -203,7 +203,7 @@ fn hold_frame(
 impl<W: Target + Drop> OggEncoder<W> {
     /// Makes an encoder for this format, and writes the header packets: the mapping with STREAMINFO, and one for each
     /// block of the list (RFC 9639, section 10.1; RFC 3533). It holds the last of them back. Their pages have granule
-    /// position 0.
+    /// position 0. No linear predictors are tried yet: see [`OggEncoder::set_predictors`].
     ///
     /// - `serial` is the serial number of the stream.
     /// - The sample rate in Hz, bits per sample, channels and block size are those of

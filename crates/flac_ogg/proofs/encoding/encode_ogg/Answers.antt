@@ -1,4 +1,4 @@
-use Rattle.std.proofs.Common.{◌≡◌, ◌<◌, ◌≤◌, ◌+◌, ◌*◌, ◌/◌, ◌^◌, [], ◌++◌, List, Bool, length, sym, subst, arith}
+use Rattle.std.proofs.Common.{◌≤◌, ◌+◌, ◌*◌, ◌/◌, [], ◌++◌, List, Bool, length, subst, arith}
 use Rattle.flac_bits.specs.Bits.{bits_of, is_nil}
 use Rattle.flac_meta.specs.Spelling.{block_spelling}
 use Rattle.flac_meta.specs.declared.block.Block.TheVariants as block_of
@@ -16,7 +16,7 @@ pub new_in-requires : goal.new_in-requires
 new_in-requires g c = omega (arith, block_small c.args.plan.now (planned c.args.plan.now c.block_size-size.ensures.good), c.block_size-size.ensures.value)
 
 pub new-requires-clause-room : goal.new-requires-clause-room
-new-requires-clause-room g c = room_is c.args.plan.now c.in-Ok.buffers c.block_size-size.result c.profile.result c.block_size-size.ensures.value c.profile.ensures c.in-Ok.ensures.ok
+new-requires-clause-room g c = room_is c.args.plan.now c.in-Ok.buffers c.block_size-size.result c.profile-profile.result c.block_size-size.ensures.value c.profile-profile.ensures c.in-Ok.ensures.ok
 
 pub send_stream-requires-clause-room : goal.send_stream-requires-clause-room
 send_stream-requires-clause-room g c = room_of c.args.plan.now c.args.audio.now _ _ _ _ c.in-Ok-new.ensures.counted c.in-Ok-room.ensures.places

@@ -1,4 +1,4 @@
-use Rattle.std.proofs.Common.{◌≡◌, ◌∙◌, ◌+◌, ◌*◌, ◌/◌, ◌≤◌, ap, sym, length, nat_lt, ℕ, List, arith, []}
+use Rattle.std.proofs.Common.{◌≡◌, ◌∙◌, ap, sym, nat_lt, ℕ, List, arith, []}
 use Rattle.flac_bits.specs.Bits.{bits_of}
 use Rattle.flac_bits.specs.Written.{Written}
 use Rattle.flac_native.specs.Room.{placed}

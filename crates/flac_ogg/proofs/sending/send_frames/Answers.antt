@@ -1,9 +1,7 @@
-use Rattle.std.proofs.Common.{◌≡◌, ◌≤◌, ◌<◌, ◌-◌, ◌*◌, ◌+◌, ◌/◌, ◌^◌, ◌∙◌, min, sym, ap, subst, refl, length, arith, ℕ, zero, suc, true, false, nat_eq}
+use Rattle.std.proofs.Common.{◌≡◌, ◌≤◌, ◌<◌, ◌*◌, ◌+◌, ◌^◌, ◌∙◌, min, sym, ap, subst, refl, length, arith, ℕ, suc, true, false, nat_eq}
 use Rattle.std.proofs.Math.Nat.{mul-suc}
-use Rattle.std.proofs.lemmas.Bool.Decides.{nat_tests}
 use Rattle.std.proofs.lemmas.Result.{err_from_is_err_and}
 use Rattle.flac_bits.specs.Bits.{bits_of}
-use Rattle.flac_bits.proofs.Holding.{length-bits_of}
 use Rattle.flac_frame.specs.Audio.{samples_each}
 use Rattle.flac_native.specs.Given.{blocks_in}
 use Rattle.flac_native.specs.Writing.{HasRoom, IsSpelled, SendsBits}

@@ -1,5 +1,4 @@
 use Rattle.std.proofs.Common.{◌≡◌, ◌<◌, ◌≤◌, ◌-◌, ◌*◌, min}
-use Rattle.flac_bits.specs.declared.why.Why.{Why}
 use Rattle.flac_frame.specs.Audio.{samples_each}
 use Rattle.flac_native.specs.Given.{blocks_in, room_of}
 use Rattle.flac_native.proofs.Spelled.{came_out}

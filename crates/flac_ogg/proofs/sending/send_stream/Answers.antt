@@ -1,8 +1,7 @@
-use Rattle.std.proofs.Common.{◌≡◌, ◌<◌, ◌^◌, ◌∙◌, sym, arith, ℕ}
+use Rattle.std.proofs.Common.{◌≡◌, ◌<◌, ◌^◌, arith}
 use Rattle.std.proofs.lemmas.Result.{err_from_is_err_and}
 use Rattle.std.proofs.lemmas.Bool.Decides.{nat_tests}
 use Rattle.flac_frame.specs.Audio.{samples_each}
-use Rattle.flac_native.specs.Given.{blocks_in}
 use Rattle.flac_native.proofs.Planned.{planned, fit}
 use Rattle.flac_ogg.proofs.SentOgg.{sends_items, stream_sent, alone_sent, middle_failed, written_failed, no_blocks, some_blocks}
 use Rattle.flac_ogg.proofs.sending.send_stream.Goals as goal
