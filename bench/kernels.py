@@ -15,6 +15,7 @@ import sys
 import tempfile
 
 import measure
+import predicting
 
 # the program itself, without the script that builds it
 PROGRAM = os.path.abspath(os.environ.get("FLAC") or os.path.join(os.path.dirname(measure.HERE), "crates", "flac", "out", "flac"))
@@ -94,12 +95,16 @@ def main():
     parser.add_argument("--runs", type=int, default=None)
     parser.add_argument("--functions", action="store_true", help="the functions too, each with the part that it counts to")
     parser.add_argument("--encoding", action="store_true", help="the table of encoding alone")
+    parser.add_argument("--predictors", action="store_true", help="the table of linear predictors alone")
     words = parser.parse_args()
-    subprocess.run([measure.PROGRAM, "--help"], stdout=subprocess.DEVNULL, check=True)
+    if not words.predictors:
+        subprocess.run([measure.PROGRAM, "--help"], stdout=subprocess.DEVNULL, check=True)
     os.makedirs(measure.FOLDER, exist_ok=True)
     seconds, runs = (20, words.runs or 3) if words.quick else (180, words.runs or 7)
     print(f"Nanoseconds a sample; {measure.machine()}; {seconds} seconds of audio a row, {runs} runs in turn, load {os.getloadavg()[0]:.1f}")
     with tempfile.TemporaryDirectory() as folder:
+        if words.predictors:
+            return predicting.table(folder, seconds, runs)
         if not words.encoding:
             decoding(seconds, runs, folder, words.functions)
         encoding(seconds, runs, folder, words.functions)

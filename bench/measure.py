@@ -1,9 +1,9 @@
 #!/usr/bin/env python3
 """Times the program beside other FLAC tools and prints tables in Markdown. `run` starts it.
 
-Every figure is the median of several runs; the programs that are compared run in turn, so that what else the machine does
-falls on all of them alike. Seconds are those of the processor (user and system), ratios are of these. Sizes and memory are
-exact. The audio is made by a fixed seed, ten seconds at a time.
+Every figure is the median of several runs, half as many with lists of linear predictors; the programs that are compared run
+in turn, so that what else the machine does falls on all of them alike. Seconds are those of the processor (user and system),
+ratios are of these. Sizes and memory are exact. The audio is made by a fixed seed, ten seconds at a time.
 """
 import argparse
 import collections
@@ -16,6 +16,7 @@ import statistics
 import subprocess
 import sys
 import tempfile
+import wave
 
 HERE = os.path.dirname(os.path.abspath(__file__))
 sys.path.insert(0, os.path.join(os.path.dirname(HERE), "conformance"))
@@ -31,6 +32,7 @@ NEWER_RATIO = ["x86-64-v3 : flac"] if NEWER else []
 FOLDER = os.environ.get("SOUNDS", "/tmp/flac-bench")
 RAW = ["--force-raw-format", "--endian=little", "--sign=signed"]
 LEAST = ["-l", "0", "-m", "-r", "8", "-e"]
+PREDICTORS = os.path.join(os.path.dirname(HERE), "predictors")
 LEVELS = {"0": ["-0"], "5": ["-5"], "8": ["-8"], "fixed": LEAST}
 
 # What is measured: the block size is the reference's own if it is None, and 4096 for fixed predictors alone.
@@ -201,6 +203,63 @@ def encoding(seconds, runs):
                 per_sample(found["program"], form, seconds), per_sample(found["flac"], form, seconds))
 
 
+def own_list(form, seconds):
+    """A list of 64 linear predictors that predictors/make makes of a sound, once. Its last line has the processor's seconds."""
+    raw = audio(form, seconds)
+    path, sound = raw.replace(".raw", ".own.txt"), raw.replace(".raw", ".wav")
+    if not os.path.exists(path):
+        with wave.open(sound, "wb") as file, open(raw, "rb") as samples:
+            file.setparams((form.channels, form.bits // 8, form.rate, 0, "NONE", ""))
+            file.writeframes(samples.read())
+        taken = once([os.path.join(PREDICTORS, "make"), path + ".part", sound])
+        with open(path + ".part", "a", encoding="ascii") as file:
+            file.write(f"# made in {taken:.0f} s\n")
+        os.rename(path + ".part", path)
+        os.remove(sound)
+    return path
+
+
+def lists_for(form, seconds, folder):
+    """The lists of linear predictors with which a sound is encoded: names, and words of the program."""
+    shipped, first = os.path.join(PREDICTORS, "music.txt"), os.path.join(folder, "first.txt")
+    with open(shipped, encoding="ascii") as file, open(first, "w", encoding="ascii") as out:
+        out.writelines([line for line in file if line.split("#")[0].strip()][:8])
+    own = own_list(form, seconds)
+    with open(own, encoding="ascii") as file:
+        made = file.readlines()[-1].strip("# \n")
+    yield "no list", []
+    for name, path in (("8 lines of music.txt", first), ("music.txt", shipped), (f"a list of its own, {made}", own)):
+        yield name, ["--predictors", path]
+
+
+def list_commands(form, seconds, folder):
+    """The reference at three levels, and the program with each list: for each name the command, and the file that it writes."""
+    raw, commands = audio(form, seconds), {}
+    for level in ("0", "5", "8"):
+        words = ["--no-padding", "--no-seektable", *level_words(form, level), *raw_words(form)]
+        commands[f"flac -{level}"] = [REFERENCE, "-s", "-f", *words, "-o", os.path.join(folder, level), raw], os.path.join(folder, level)
+    numbers = ["--rate", str(form.rate), "--channels", str(form.channels), "--bits", str(form.bits)]
+    for name, words in lists_for(form, seconds, folder):
+        for label, program in [("program", PROGRAM), *([("x86-64-v3", NEWER)] if NEWER else [])]:
+            out = os.path.join(folder, f"{label} {name}")
+            commands[f"{label}, {name}"] = [program, "encode", raw, out, *numbers, *words], out
+    return commands
+
+
+def with_lists(seconds, runs):
+    """Bytes and time of encoding with lists of linear predictors, beside the reference's levels 0, 5 and 8."""
+    for form in (*FORMS, OTHER_FORMS[1]):
+        head(f"encode, {form.label}", "s", "s : flac -5", "ns a sample", "bytes", "bytes : flac -0", "bytes : flac -5", "bytes : flac -8")
+        with tempfile.TemporaryDirectory() as folder:
+            commands = list_commands(form, seconds, folder)
+            found = medians({name: words for name, (words, _) in commands.items()}, runs)
+            sizes = {name: os.path.getsize(out) for name, (_, out) in commands.items() if not isinstance(found[name], str)}
+            for name, taken in found.items():
+                size = sizes.get(name)
+                shares = [f"{size / sizes[f'flac -{level}']:.4f}" if size else "" for level in ("0", "5", "8")]
+                row(name, shown(taken), ratio(taken, found["flac -5"]), per_sample(taken, form, seconds), size or "", *shares)
+
+
 def growth(base, folds, runs):
     """How time and memory grow with length, at 16 bits and 44.1 kHz."""
     head("length", "test s", "test KiB", "flac -t s", "flac -t KiB", "encode s", "encode KiB", "flac encode s", "flac encode KiB")
@@ -224,6 +283,7 @@ def main():
     parser = argparse.ArgumentParser(description=__doc__, formatter_class=argparse.RawDescriptionHelpFormatter)
     parser.add_argument("--quick", action="store_true", help="20 seconds of audio and 3 runs instead of 180 and 5")
     parser.add_argument("--runs", type=int, default=None)
+    parser.add_argument("--lists", action="store_true", help="the tables with lists of linear predictors alone")
     words = parser.parse_args()
     if not os.path.exists(PROGRAM):
         sys.exit(f"{PROGRAM} is not there: build it, or name the program by FLAC=")
@@ -231,10 +291,14 @@ def main():
     seconds, runs = (20, words.runs or 3) if words.quick else (180, words.runs or 5)
     version = subprocess.run([REFERENCE, "--version"], stdout=subprocess.PIPE, check=True).stdout.decode().strip()
     print(f"{datetime.date.today()}, {machine()}; {version}; {seconds} seconds of audio a row, medians of {runs} runs, load {os.getloadavg()[0]:.1f}")
+    if words.lists:
+        with_lists(seconds, max(1, runs // 2))
+        return 0
     decoding(FORMS, LEVELS, seconds, runs)
     decoding(OTHER_FORMS, ["5"], seconds, runs)
     containers(seconds, runs)
     encoding(seconds, runs)
+    with_lists(seconds, max(1, runs // 2))
     growth(2, (1, 10) if words.quick else (1, 10, 100), runs)
     return 0
 

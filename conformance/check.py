@@ -15,7 +15,9 @@ import differences
 import encoding
 import granules
 import lax
+import lax_encoding
 import mend
+import predicting
 import program
 import reference
 import vectors
@@ -82,6 +84,8 @@ def all_cases(made, quick, bench):
         yield "long packets in Ogg", name, call
     yield from damaged.cases(made, quick, bench)
     yield from lax.cases(made, quick, bench)
+    yield from lax_encoding.cases(made, quick, bench)
+    yield from predicting.cases(made, quick, bench)
 
 
 def outcome(case):
@@ -127,8 +131,8 @@ def main():
         with ThreadPoolExecutor(JOBS) as pool:
             outcomes = list(pool.map(outcome, cases))
     status = table(outcomes, words.strict)
-    if lax.without_lax():
-        print(lax.without_lax())
+    for line in filter(None, (lax.without_lax(), lax_encoding.without(), predicting.without())):
+        print(line)
         status = status or int(words.strict)
     print(f"{time.time() - began:.0f} seconds, {JOBS} at a time, program {program.PROGRAM}")
     return status

@@ -23,10 +23,15 @@ JOBS = int(os.environ.get("JOBS", os.cpu_count() or 1))
 ENCODE = ["--rate", "44100", "--channels", "2", "--bits", "16", "--block", "16"]
 NATIVE, OGG = streams.native().data, streams.ogg().data
 RAW = b"".join((n * 401 % 65536).to_bytes(2, "little") for n in range(2 * 41))
+LIST = b"# a straight line\n3 0 2 -1\n1 0 -1\n"
+"""A list of linear predictors."""
 READING = [("test", ["test", "IN"], NATIVE), ("test of Ogg", ["test", "IN"], OGG), ("list", ["list", "IN"], NATIVE)]
 WRITING = [("decode", ["decode", "IN", "OUT"], NATIVE), ("decode of Ogg", ["decode", "IN", "OUT"], OGG),
            ("retag", ["retag", "IN", "OUT", "A=b"], NATIVE), ("encode", ["encode", "IN", "OUT", *ENCODE], RAW),
            ("encode in Ogg", ["encode", "IN", "OUT", *ENCODE, "--ogg"], RAW)]
+OUTSIDE = ("encode outside the subset", ["encode", "IN", "OUT", *(word.replace("44100", "700001") for word in ENCODE), "--lax"], RAW)
+LISTED = ("encode with a list", ["encode", "IN", "OUT", *ENCODE, "--predictors", "LIST"], RAW)
+"""Jobs that a program may lack."""
 BEFORE = b"what is in OUT before\n" * 30
 NOBODY = 65534
 
@@ -48,6 +53,8 @@ class Place:
 
     def call(self, words, names, before=(), **more):
         """Status, standard output and standard error. `before` are words of a command that calls the program."""
+        if "LIST" in words and "LIST" not in names:
+            names = names | {"LIST": self.put("list", LIST)}
         more = {"stdin": subprocess.DEVNULL, "stdout": subprocess.PIPE, "stderr": subprocess.PIPE, "timeout": 60, "check": False} | more
         try:
             result = subprocess.run([*before, self.binary, *(names.get(word, word) for word in words)], **more)
@@ -261,6 +268,61 @@ def open_twice(place, words, source, how):
     expect(read(path), source)
 
 
+def list_cases():
+    """LIST is no file that can be read, or is one of the job's other files."""
+    words = LISTED[1]
+    if LISTED not in WRITING:
+        return
+
+    def refused(place, path, line, **more):
+        """Neither IN nor OUT is touched."""
+        names = {"IN": place.put("in", RAW), "OUT": place.put("out", BEFORE), "LIST": path(place)}
+        place.refused(words, names, f"{names['LIST']}: {line}", **more)
+        expect((read(names["IN"]), read(names["OUT"]), os.path.exists(place.path("out.part"))), (RAW, BEFORE, False))
+
+    rows = [("a folder", lambda p: p.folder, "cannot be read"), ("not to be read", lambda p: "/proc/self/mem", "cannot be read"),
+            ("without an end", lambda p: "/dev/zero", "cannot be read"), ("not there", lambda p: p.path("absent"), "cannot be opened"),
+            ("an empty word", lambda p: "", "cannot be opened"), ("below a file", lambda p: p.put("a", b"") + "/b", "cannot be opened"),
+            ("of a wrong line", lambda p: p.put("list", LIST + b"x"), "line 4: 53 PredictorLine")]
+    for name, path, line in rows:
+        yield f"encode: LIST is {name}", lambda p, a=path, t=line: refused(p, a, t)
+    yield "encode: LIST without rights", lambda p: refused(p, no_rights, "cannot be opened", **other_user())
+    yield "encode: LIST is an empty device", lambda p: listed(p, words, "/dev/null", b"")
+    yield "encode: LIST is a pipe", lambda p: listed(p, words, "/dev/stdin", LIST)
+    for how in ("path", "link", "stdin", "stdout"):
+        yield f"encode: OUT is LIST, by {how}", lambda p, h=how: out_is_list(p, words, h)
+
+
+def no_rights(place):
+    path = place.put("list", LIST)
+    os.chmod(path, 0)
+    return path
+
+
+def listed(place, words, path, text):
+    """A list that comes from a device is as one in a file."""
+    names, due = {"IN": place.put("in", RAW), "OUT": place.path("out")}, place.path("due")
+    expect(place.call(words, names | {"LIST": path}, stdin=None, input=text), (0, b"", ""))
+    expect(place.call(words, names | {"OUT": due, "LIST": place.put("list", text)}), (0, b"", ""))
+    expect(read(names["OUT"]), read(due))
+
+
+def out_is_list(place, words, how):
+    """Refused, and LIST keeps its bytes."""
+    path = place.put("list", LIST)
+    names = {"IN": place.put("in", RAW), "LIST": path, "OUT": path}
+    number = os.open(path, os.O_RDWR)
+    try:
+        if how == "link":
+            os.symlink(path, place.path("link"))
+            names["OUT"] = place.path("link")
+        names |= {"stdin": {"LIST": "/dev/stdin"}, "stdout": {"OUT": "/dev/stdout"}}.get(how, {})
+        place.refused(words, names, f"{names['OUT']}: cannot be created", **({how: number} if how in ("stdin", "stdout") else {}))
+    finally:
+        os.close(number)
+    expect((read(path), read(names["IN"])), (LIST, RAW))
+
+
 def print_cases():
     """Standard output and standard error take nothing."""
     def full(words, source, line, place):
@@ -341,10 +403,12 @@ def main():
     parser.add_argument("--quick", action="store_true", help="the same: it takes seconds")
     parser.add_argument("--only", default="", help="only the cases whose name has this text")
     words, began = parser.parse_args(), time.time()
+    WRITING.extend([OUTSIDE] * program.encodes("--lax") + [LISTED] * program.encodes("--predictors", os.devnull))
     with tempfile.TemporaryDirectory() as folder, ThreadPoolExecutor(JOBS) as pool:
         os.chmod(folder, 0o755)
         binary = shutil.copy(program.BINARY, os.path.join(folder, "flac"))
-        every = [case for group in (input_cases, output_cases, kept_cases, print_cases, memory_cases) for case in group() if words.only in case[0]]
+        groups = (input_cases, output_cases, kept_cases, list_cases, print_cases, memory_cases)
+        every = [case for group in groups for case in group() if words.only in case[0]]
         found = list(pool.map(lambda case: outcome(case, folder, binary), every))
     for _, line in found:
         print(line, end="\n" if line else "")

@@ -6,7 +6,9 @@ import model
 import program
 import reference
 import vectors
+from model import SUBSET
 from program import NotYet, Wrong, expect, read
+from reading import decode_case
 
 LEAST = ["-l", "0", "-b", "4096", "-m", "-r", "8", "-e"]
 """The reference's settings for fixed predictors: its frames are in the family of which the program writes the least."""
@@ -28,31 +30,62 @@ def encode(sound, raw, bench, *more, suffix=".flac"):
     return out
 
 
-def given_back(path, raw, sound):
+def given_back(path, raw, sound, profile=SUBSET):
     """The reference's test passes and both give back the samples."""
     if not reference.accepts(path):
         raise Wrong("the reference's test of what 'encode' wrote fails")
     if sound.length and reference.decoded(path, sound.bits) != read(raw):
         raise Wrong("the reference decodes other samples than those encoded")
     places = reference.frame_places(path)
-    expect(program.answer(path), f"frames {len(places)} samples {sound.length}")
+    expect(program.answer(path, profile), f"frames {len(places)} samples {sound.length}")
     return places
+
+
+def frames_of(path):
+    """The bytes of each frame of a good stream. In a native one the reference finds where they begin."""
+    data = read(path)
+    if data[:1] == b"O":
+        return [packet for packet in packets(data) if packet[:1] == b"\xff"]
+    starts = [offset for offset, _, _ in reference.frame_places(path)]
+    return [data[a:b] for a, b in zip(starts, [*starts[1:], len(data)])]
+
+
+def packets(data):
+    """The packets of a good Ogg stream, by the lacing values of its pages (RFC 3533, section 6)."""
+    at, begun = 0, b""
+    while at < len(data):
+        lacing = data[at + 27:at + 27 + data[at + 26]]
+        at += 27 + len(lacing)
+        for value in lacing:
+            begun, at = begun + data[at:at + value], at + value
+            if value < 255:
+                yield begun
+                begun = b""
+
+
+def decoded_by_both(path, raw, sound, bench, profile):
+    """The program and the reference decode a file to the samples."""
+    if sound.length:
+        decode_case(corpus.Entry("", path, raw, *sound[2:]), bench, profile)
 
 
 def plain_case(sound, raw, bench, block):
     path = encode(sound, raw, bench, "--block", str(block))
     places = given_back(path, raw, sound)
     expect(len(places), -(-sound.length // block))
-    sizes = [b - a for (a, _, _), (b, _, _) in zip(places, places[1:])]
-    sizes += [os.path.getsize(path) - places[-1][0]] if places else []
-    reader = model.Metadata(read(path))
+    is_stated(path, sound, block)
+    os.remove(path)
+
+
+def is_stated(path, sound, block):
+    """STREAMINFO of a native file has its fields, and one comment block follows it."""
+    sizes, reader = [len(frame) for frame in frames_of(path)], model.Metadata(read(path))
     info = dict(reader.blocks[0][2])
     told = [info[name] for name in ("least_block", "greatest_block", "least_frame", "greatest_frame", "rate", "channels", "depth", "total")]
     expect(told, [block, block, min(sizes, default=0), max(sizes, default=0), sound.rate, sound.channels, sound.bits, sound.length])
     if not any(info["digest"]):
         raise Wrong("no digest is stated")
     expect([(kind, fields[0], fields[1]) for _, kind, _, fields in [(0, *b) for b in reader.blocks[1:]]], [(4, b"flac profile 1", [])])
-    os.remove(path)
 
 
 def ogg_case(sound, raw, bench):

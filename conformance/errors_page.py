@@ -54,10 +54,10 @@ def numbered():
 
 
 def own():
-    """What the program adds: texts `NUMBER NAME` in its sources."""
+    """What the program adds: texts `NUMBER NAME` in its sources, also after a place."""
     found = []
     for path in sorted((CRATES / "flac_cli" / "src").glob("*.rt")):
-        found += re.findall(r'"(\d+) (\w+)"', source(path.relative_to(CRATES)))
+        found += re.findall(r'"(?:[^"]*: )?(\d+) (\w+)(?:\\n)?"', source(path.relative_to(CRATES)))
     if not found:
         raise SystemExit("errors_page: flac_cli has no number of its own")
     return [(int(number), name) for number, name in found]

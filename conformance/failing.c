@@ -8,7 +8,7 @@
    FAILING_REPORT a file that gets a line of counts when `main` begins, when the call fails, when the input is read from the
                   place FAILING_CUT on, and at exit
 
-   The program has one input, and writes nothing to standard error in a run without failures. */
+   The program has one input, or a list before it, and writes nothing to standard error in a run without failures. */
 #define _GNU_SOURCE
 #include <dlfcn.h>
 #include <errno.h>

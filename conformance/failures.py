@@ -24,14 +24,16 @@ HERE = os.path.dirname(os.path.abspath(__file__))
 JOBS = int(os.environ.get("JOBS", os.cpu_count() or 1))
 BEFORE = b"what is in OUT before\n" * 30
 ERRNO = {"EIO": 5, "EINTR": 4}
+LIST = b"# a straight line\n3 0 2 -1\n1 0 -1\n"
+"""A list of linear predictors."""
 ENCODE = ["encode", "IN", "OUT", "--rate", "44100", "--channels", "2", "--bits", "16", "--block", "16"]
 
 
 class Job:
-    """Words of the program, with IN and OUT for its files, and the bytes of IN."""
+    """Words of the program, with IN, OUT and LIST for its files, and the bytes of IN and of LIST, if there is one."""
 
-    def __init__(self, name, words, layout=None, source=b""):
-        self.name, self.words, self.layout = name, words, layout
+    def __init__(self, name, words, layout=None, source=b"", listed=None):
+        self.name, self.words, self.layout, self.listed = name, words, layout, listed
         self.source = layout.data if layout else source
         self.kind, self.writes = words[0], "OUT" in words
         reader = model.reader_of(self.source) if layout else None
@@ -56,8 +58,9 @@ class Job:
 class Ran:
     """What comes of a run: status, standard output and error, OUT, the file beside it if there is one, and the lines of `failing.c` by their first word."""
 
-    def __init__(self, result, path, source, out):
+    def __init__(self, result, path, files):
         self.status, self.printed, self.error = result.returncode, result.stdout, result.stderr
+        self.files, source, out = files, files["IN"], files["OUT"]
         self.source, self.out, self.file, self.input = source, out, read(out), read(source)
         self.part = read(out + ".part") if os.path.exists(out + ".part") else None
         self.at = {}
@@ -80,7 +83,8 @@ class Runner:
         else:
             with open(out, "wb") as file:
                 file.write(BEFORE)
-        words = [{"IN": source, "OUT": out}.get(word, word) for word in job.words]
+        files = {"IN": source, "OUT": out} | ({} if job.listed is None else {"LIST": self.bench.put(job.listed, ".txt")})
+        words = [files.get(word, word) for word in job.words]
         variables = {f"FAILING_{name.upper()}": str(value) for name, value in failing.items()}
         try:
             result = subprocess.run([program.BINARY, *words], stdin=subprocess.DEVNULL, capture_output=True, timeout=60, check=False,
@@ -89,9 +93,9 @@ class Runner:
             raise Wrong("took over 60 seconds") from None
         if result.returncode not in (0, 1, 2):
             raise Wrong(f"status {result.returncode}: {result.stderr[-200:]!r}")
-        ran = Ran(result, report, source, out)
-        expect(ran.input, job.source)
-        for path in (source, out, *([out + ".part"] if ran.part is not None else [])):
+        ran = Ran(result, report, files)
+        expect((ran.input, "LIST" in files and read(files["LIST"])), (job.source, "LIST" in files and job.listed))
+        for path in (*files.values(), *([out + ".part"] if ran.part is not None else [])):
             os.remove(path)
         return ran
 
@@ -107,14 +111,30 @@ def jobs():
     for name, source in zip(("", ", long"), raw):
         yield Job(f"encode{name}", [*ENCODE, "--seek-every", "20", "TITLE=y"], source=source)
         yield Job(f"encode in Ogg{name}", [*ENCODE, "--ogg", "--serial", "7", "TITLE=y"], source=source)
+    if program.encodes("--lax"):
+        words = ["700001" if word == "44100" else word for word in ENCODE]
+        yield Job("encode outside the subset", [*words, "--lax", "TITLE=y"], source=raw[0])
+    if program.encodes("--predictors", os.devnull):
+        yield Job("encode with a list", [*ENCODE, "--predictors", "LIST", "TITLE=y"], source=raw[0], listed=LIST)
     yield Job("help", ["--help"])
     yield Job("help of encode", ["encode", "--help"])
+
+
+def listed_line(job, call, at):
+    """What is due if LIST, which is opened after IN and before OUT, is not opened or read. Otherwise None."""
+    if job.listed is None or at["open"] != 2 or call not in ("open", "read"):
+        return None
+    return f"flac: LIST: cannot be {'opened' if call == 'open' else 'read'}"
 
 
 def opened_line(job, call, at):
     """What is due if IN or OUT is not opened, or an empty line if the failure does no harm. None in the midst of a job."""
     if at["open"] == 0:
         return "flac: command: 2 Memory"
+    if listed_line(job, call, at):
+        return listed_line(job, call, at)
+    if job.listed is not None and at["open"] > 1:
+        at = at | {"open": at["open"] - 1}
     if call == "open":
         return "flac: OUT: cannot be created" if at["open"] > 1 else "flac: IN: cannot be opened"
     # the paths are compared before OUT is opened; the file beside it gets its permissions if there are any
@@ -163,7 +183,9 @@ def files_are_right(job, ran, due, line):
 
 
 def names_of(line, ran):
-    return line.replace("flac: IN:", f"flac: {ran.source}:").replace("flac: OUT:", f"flac: {ran.out}:")
+    for name, path in ran.files.items():
+        line = line.replace(f"flac: {name}:", f"flac: {path}:")
+    return line
 
 
 def same_as(due, ran):
@@ -182,6 +204,10 @@ def failure_case(job, due, runner, call, number, how, **more):
         expect((ran.status, ran.error), (1, b"" if "on" in more else b"flac: command: 39 Write\n"))
         return expect(ran.printed, due.printed[:ran.at["exit"]["written"]])
     line = line_of(job, call, ran.at["fails"])
+    if call == "memory" and job.listed is not None and ran.at["fails"]["open"] in (1, 2):
+        return list_memory_case(job, ran, due)
+    if how == "EINTR" and line.startswith("flac: LIST:") and ran.status == 0:
+        return same_as(due, ran)
     if not line and call == "memory" and "on" in more:
         line = later_line(ran)
     # the standard library reserves room for the words ahead, and does without it
@@ -190,6 +216,17 @@ def failure_case(job, due, runner, call, number, how, **more):
     silent = call == "write" and "on" in more
     expect((ran.status, ran.error.decode()), (1, "" if silent else names_of(line, ran) + "\n"))
     return files_are_right(job, ran, due, line)
+
+
+def list_memory_case(job, ran, due):
+    """Memory is refused while LIST is opened and read, or paths are compared: no harm, or OUT is not begun."""
+    if ran.status == 0:
+        return same_as(due, ran)
+    texts = ("LIST: cannot be opened", "LIST: cannot be read", "OUT: cannot be created", "command: 2 Memory", "IN: 2 Memory")
+    lines = [names_of(f"flac: {text}\n", ran) for text in texts]
+    if ran.status != 1 or ran.error.decode() not in lines:
+        raise Wrong(f"status {ran.status}, {ran.error!r}")
+    return expect((ran.printed, ran.file, ran.part), (b"", BEFORE, None))
 
 
 def later_line(ran):
@@ -205,7 +242,9 @@ def later_line(ran):
 def linked_case(job, runner, call, number):
     """OUT is IN by another name: whatever fails, IN keeps its bytes, which `run` compares. The only write is the line of the fault."""
     ran = runner.run(job, same=True, call=call, number=number, how=12 if call == "memory" else 5)
-    lines = [names_of(f"flac: {text}\n", ran) for text in ("OUT: cannot be created", "command: 2 Memory", "IN: cannot be opened")]
+    texts = ["OUT: cannot be created", "command: 2 Memory", "IN: cannot be opened"]
+    texts += [] if job.listed is None else ["LIST: cannot be opened", "LIST: cannot be read"]
+    lines = [names_of(f"flac: {text}\n", ran) for text in texts]
     if ran.status != 1 or ran.error.decode() not in (lines if call != "write" or number > 1 else [""]):
         raise Wrong(f"status {ran.status}, {ran.error!r}")
 

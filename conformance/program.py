@@ -39,6 +39,13 @@ def takes(profile):
     return not profile.words or call("test", *profile.words, os.devnull)[0] != 2
 
 
+@functools.cache
+def encodes(*words):
+    """Whether `encode` has these words: a word that it does not know is refused with status 2. Nothing is written."""
+    form = ["--rate", "44100", "--channels", "1", "--bits", "16"]
+    return call("encode", os.devnull, "/nonexistent/a.flac", *form, *words)[0] != 2
+
+
 def succeeds(*words, limit=120):
     """Standard output of a call that has to succeed."""
     status, out, err = call(*words, limit=limit)

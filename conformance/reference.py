@@ -32,6 +32,12 @@ def frame_places(path):
     return [tuple(map(int, line)) for line in lines]
 
 
+def partition_orders(path):
+    """For each frame the greatest partition order of its subframes, 0 if none has partitions."""
+    frames = re.split(r"^frame=", analysis(path), flags=re.M)[1:]
+    return [max(map(int, re.findall(r"partition_order=(\d+)", text)), default=0) for text in frames]
+
+
 def limits(path):
     """Which block sizes, orders of linear predictors and partition orders occur in a file: pairs of name and value."""
     text = analysis(path)

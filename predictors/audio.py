@@ -8,7 +8,7 @@ from lists import Refused
 
 Sound = namedtuple("Sound", "rate depth samples")
 """`samples` is an array of int32: a row for each channel."""
-DEPTHS = (8, 12, 16, 20, 24, 32)
+DEPTHS = range(4, 33)
 
 
 def chunks(data):

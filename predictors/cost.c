@@ -1,16 +1,15 @@
 /* Counts how many bits a block of samples takes in the forms of the encoder's family. family.py builds and calls it.
 
    A cost is that of a whole subframe: header, wasted bits and body (RFC 9639, section 9.2). The family is that of
-   docs/definitions.md: constant, verbatim and fixed predictors, every partition order up to 8 that the block allows,
-   both residual methods, every Rice parameter and escape, as many wasted bits as all samples lack. A linear predictor
+   docs/definitions.md: constant, verbatim and fixed predictors, every partition order up to a greatest that the block
+   allows (8 in the streamable subset, 15 outside), both residual methods, every Rice parameter and escape, as many wasted bits as all samples lack. A linear predictor
    adds its own form. */
 #include <stddef.h>
 #include <stdint.h>
 
 #define NONE ((uint64_t)1 << 62) /* what a form costs that cannot be used */
 #define MOST_SAMPLES 65535
-#define MOST_HALVINGS 8
-#define MOST_PARTITIONS (1 << MOST_HALVINGS)
+#define MOST_PARTITIONS (1 << 15)
 #define PARAMETERS 31 /* Rice parameters of the second method: 0 to 30 */
 #define FIRST_METHOD 15 /* and of the first: 0 to 14 */
 #define LAG 32 /* the most coefficients */
@@ -128,11 +127,11 @@ static void add_best(const struct partition *part, unsigned top, uint64_t *first
     *second += 5 + best;
 }
 
-/* What the residual of an order costs in its cheapest coding. */
-static uint64_t residual_cost(size_t n, size_t order) {
+/* What the residual of an order costs in its cheapest coding, with partition orders up to `most`. */
+static uint64_t residual_cost(size_t n, size_t order, unsigned most) {
     unsigned halvings = 0;
     uint64_t best = NONE;
-    while (halvings < MOST_HALVINGS && (n >> halvings) % 2 == 0 && order < n >> (halvings + 1)) halvings++;
+    while (halvings < most && (n >> halvings) % 2 == 0 && order < n >> (halvings + 1)) halvings++;
     unsigned top = count_parts(n, order, halvings);
     for (;; halvings--) {
         uint64_t first = 6, second = 6;
@@ -144,25 +143,26 @@ static uint64_t residual_cost(size_t n, size_t order) {
 }
 
 /* What a predictor's form costs without the header: warm-up samples of `depth` bits, its own fields, and the residual. */
-static uint64_t predicted_cost(const struct predictor *p, size_t n, unsigned depth) {
+static uint64_t predicted_cost(const struct predictor *p, size_t n, unsigned depth, unsigned most) {
     if ((size_t)p->order >= n || !leave(p, n)) return NONE;
     uint64_t fields = p->precision == 0 ? 0 : 9 + (uint64_t)p->precision * p->order;
-    return least(NONE, (uint64_t)depth * p->order + fields + residual_cost(n, p->order));
+    return least(NONE, (uint64_t)depth * p->order + fields + residual_cost(n, p->order, most));
 }
 
 /* What the cheapest form without a linear predictor costs, without the header. */
-static uint64_t plain_cost(size_t n, unsigned depth) {
+static uint64_t plain_cost(size_t n, unsigned depth, unsigned most) {
     size_t equal = 1;
     while (equal < n && shortened[equal] == shortened[0]) equal++;
     uint64_t best = equal == n ? depth : (uint64_t)depth * n;
-    for (int order = 0; order < 5; order++) best = least(best, predicted_cost(FIXED + order, n, depth));
+    for (int order = 0; order < 5; order++) best = least(best, predicted_cost(FIXED + order, n, depth, most));
     return best;
 }
 
 /* The cost of the cheapest subframe without a linear predictor, and then that of each predictor's form, or NONE. There
-   are 1 to 65535 samples of a depth of 1 to 33 bits. */
-void subframe_costs(const int64_t *samples, size_t n, unsigned depth, const struct predictor *list, size_t count, uint64_t *costs) {
+   are 1 to 65535 samples of a depth of 1 to 33 bits, and partition orders of up to `most`, at most 15. */
+void subframe_costs(const int64_t *samples, size_t n, unsigned depth, const struct predictor *list, size_t count, unsigned most,
+                    uint64_t *costs) {
     unsigned wasted = drop_wasted(samples, n);
-    costs[0] = 8 + wasted + plain_cost(n, depth - wasted);
-    for (size_t i = 0; i < count; i++) costs[i + 1] = least(NONE, 8 + wasted + predicted_cost(list + i, n, depth - wasted));
+    costs[0] = 8 + wasted + plain_cost(n, depth - wasted, most);
+    for (size_t i = 0; i < count; i++) costs[i + 1] = least(NONE, 8 + wasted + predicted_cost(list + i, n, depth - wasted, most));
 }

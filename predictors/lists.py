@@ -1,5 +1,6 @@
 """Lists of linear predictors, and their text: a predictor a line, `PRECISION SHIFT C1 C2 ..`, the coefficient for the nearest
 sample first. `#` starts a comment. README.md has the rules."""
+import re
 from collections import namedtuple
 
 Predictor = namedtuple("Predictor", "precision shift coefficients")
@@ -11,9 +12,9 @@ class Refused(Exception):
     """A text is no list of predictors, or a file no sound that can be read; the text says why."""
 
 
-def greatest_order(rate):
-    """The greatest order that the streamable subset allows at a sample rate in Hz (RFC 9639, section 7)."""
-    return 12 if rate <= 48000 else 32
+def greatest_order(rate, lax=False):
+    """The greatest order at a sample rate in Hz, in the streamable subset (RFC 9639, section 7) or with `--lax`."""
+    return 12 if rate <= 48000 and not lax else 32
 
 
 def checked(predictor):
@@ -34,21 +35,21 @@ def checked(predictor):
 def number(word):
     """A whole number: digits, and a sign before them if it is negative."""
     digits = word.removeprefix("-")
-    if not (digits.isascii() and digits.isdigit() and len(digits) <= 5):
+    if not (digits.isascii() and digits.isdigit() and len(digits.lstrip("0")) <= 5):
         raise Refused(f"no number: {word}")
     return int(word)
 
 
 def of_line(line):
     """The predictor of a line, or None if it has none."""
-    numbers = [number(word) for word in line.split("#")[0].split()]
+    numbers = [number(word) for word in re.split("[ \t\r]", line.split("#")[0]) if word]
     return checked(Predictor(numbers[0], numbers[1] if numbers[1:] else -1, tuple(numbers[2:]))) if numbers else None
 
 
 def parsed(text):
     """The predictors of a text, in its order."""
     result = []
-    for place, line in enumerate(text.splitlines(), 1):
+    for place, line in enumerate(text.split("\n"), 1):
         try:
             result.extend(one for one in [of_line(line)] if one)
         except Refused as reason:
@@ -63,10 +64,8 @@ def read(path):
     if path == "-":
         return []
     try:
-        with open(path, encoding="utf-8") as file:
-            return parsed(file.read())
-    except UnicodeDecodeError:
-        raise Refused(f"{path}: no text") from None
+        with open(path, "rb") as file:
+            return parsed(file.read().decode("latin-1"))
     except Refused as reason:
         raise Refused(f"{path}: {reason}") from None
 

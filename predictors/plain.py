@@ -35,71 +35,78 @@ def residual(values, order, parameter_bits, halvings):
     return number(2, parameter_bits - 4) + number(4, halvings) + "".join(partition(part, parameter_bits) for part in parts)
 
 
-def residuals(values, order):
-    """A residual by each method and each partition order that the block allows."""
+def residuals(values, order, most):
+    """A residual by each method and each partition order, up to the greatest, that the block allows."""
     length = len(values) + order
-    for halvings in range(9):
+    for halvings in range(most + 1):
         if length % (1 << halvings) == 0 and order < length >> halvings:
             for parameter_bits in (4, 5):
                 yield residual(values, order, parameter_bits, halvings)
 
 
-def predicted(samples, depth, coefficients, shift, fields):
+def predicted(samples, depth, coefficients, shift, fields, most):
     """The shortest body by a predictor, or None if it cannot be used."""
     order = len(coefficients)
     guesses = [sum(c * samples[at - 1 - j] for j, c in enumerate(coefficients)) >> shift for at in range(order, len(samples))]
     values = [one - guess for one, guess in zip(samples[order:], guesses)]
     if order >= len(samples) or any(abs(one) >= 1 << 31 for one in values):
         return None
-    return "".join(number(depth, one) for one in samples[:order]) + fields + min(residuals(values, order), key=len)
+    return "".join(number(depth, one) for one in samples[:order]) + fields + min(residuals(values, order, most), key=len)
 
 
-def bodies(samples, depth, predictors):
+def bodies(samples, depth, predictors, most):
     """The type and the body of each form, None if it cannot be used: constant, verbatim, five fixed ones, and those of a list."""
     yield 0, number(depth, samples[0]) if len(set(samples)) == 1 else None
     yield 1, "".join(number(depth, one) for one in samples)
     for order, coefficients in enumerate(FIXED):
-        yield 8 + order, predicted(samples, depth, coefficients, 0, "")
+        yield 8 + order, predicted(samples, depth, coefficients, 0, "", most)
     for precision, shift, coefficients in predictors:
         fields = number(4, precision - 1) + number(5, shift) + "".join(number(precision, one) for one in coefficients)
-        yield 31 + len(coefficients), predicted(samples, depth, coefficients, shift, fields)
+        yield 31 + len(coefficients), predicted(samples, depth, coefficients, shift, fields, most)
 
 
-def forms(samples, depth, predictors):
-    """The subframe of each form, or None."""
+def forms(samples, depth, predictors, most=8):
+    """The subframe of each form, with partition orders up to `most`, or None."""
     wasted = 0
     while any(samples) and not any(one >> wasted & 1 for one in samples):
         wasted += 1
     head = "1" + "0" * (wasted - 1) + "1" if wasted else "0"
-    found = bodies([one >> wasted for one in samples], depth - wasted, predictors)
+    found = bodies([one >> wasted for one in samples], depth - wasted, predictors, most)
     return [None if body is None else f"0{kind:06b}{head}{body}" for kind, body in found]
 
 
-def subframe(samples, depth, predictors):
+def subframe(samples, depth, predictors, most):
     """The shortest subframe."""
-    return min(filter(None, forms(samples, depth, predictors)), key=len)
+    return min(filter(None, forms(samples, depth, predictors, most)), key=len)
 
 
-def subframes(block, depth, predictors):
+def subframes(block, depth, predictors, most):
     """The channel code and the subframes of a frame, of lists of samples."""
     if len(block) != 2:
-        return len(block) - 1, "".join(subframe(row, depth, predictors) for row in block)
+        return len(block) - 1, "".join(subframe(row, depth, predictors, most) for row in block)
     left, right = block
     side, middle = [a - b for a, b in zip(left, right)], [a + b >> 1 for a, b in zip(left, right)]
-    made = [subframe(row, depth + (row is side), predictors) for row in (left, right, side, middle)]
+    made = [subframe(row, depth + (row is side), predictors, most) for row in (left, right, side, middle)]
     pairs = zip((1, 8, 9, 10), family.PAIRS)
     return min(((code, made[one] + made[other]) for code, (one, other) in pairs), key=lambda it: len(it[1]))
 
 
-def frame(vectors, sound, block, place, predictors):
+def rate_field(rate):
+    """The code of a rate, and the bytes in which the header states it (RFC 9639, section 9.1.2)."""
+    width = family.rate_bytes(rate)
+    if width == 0 or width is None:
+        return RATE_CODES.get(rate, 0), b""
+    if width == 1:
+        return 12, bytes([rate // 1000])
+    return (13, rate.to_bytes(2, "big")) if rate <= 65535 else (14, (rate // 10).to_bytes(2, "big"))
+
+
+def frame(vectors, sound, block, place, predictors, lax=False):
     """A frame, by the writer of vectors.py."""
-    code, body = subframes(block, sound.depth, predictors)
-    size, rate = len(block[0]), sound.rate
+    code, body = subframes(block, sound.depth, predictors, family.greatest_partition_order(lax))
+    size = len(block[0])
     size_code = SIZE_CODES.get(size, 6 if size <= 256 else 7)
     field = b"" if size in SIZE_CODES else (size - 1).to_bytes(size_code - 5, "big")
-    rate_code, rated = RATE_CODES.get(rate), b""
-    if rate_code is None:
-        thousands = rate % 1000 == 0 and rate <= 255000
-        rate_code, rated = (12, bytes([rate // 1000])) if thousands else (13, rate.to_bytes(2, "big"))
-    return vectors.frame(body, number=place, rate_code=rate_code, channel_code=code, depth_code=DEPTH_CODES[sound.depth],
+    rate_code, rated = rate_field(sound.rate)
+    return vectors.frame(body, number=place, rate_code=rate_code, channel_code=code, depth_code=DEPTH_CODES.get(sound.depth, 0),
                          size_code=size_code, size_field=field, rate=rated)

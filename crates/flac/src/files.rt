@@ -76,32 +76,63 @@ impl Replacement {
     }
 }
 
+/// A file that the job reads, which it must not write.
+#[derive(Drop)]
+pub(crate) struct Known<'a> {
+    path: &'a str,
+    found: Metadata,
+}
+
+impl<'a> Known<'a> {
+    /// The opened file of this path.
+    ///
+    /// # Errors
+    /// That of the system.
+    pub(crate) fn of(path: &'a str, file: &File) -> io::Result<Known<'a>> {
+        Ok(Known {
+            path,
+            found: file.metadata()?,
+        })
+    }
+
+    /// Refuses a path that leads to this file.
+    ///
+    /// # Errors
+    /// `AlreadyExists` if it does.
+    fn refuse_path(&self, rt: &HostRuntime, path: &str) -> io::Result<()> {
+        if is_one_path(rt, path, self.path) {
+            return Err(io::Error::from(ErrorKind::AlreadyExists));
+        }
+        Ok(())
+    }
+}
+
 /// Opens what a job writes to. A file that has bytes is not touched: a new one is opened beside it.
 ///
-/// The job's input is refused. First the two paths are compared, with `.`, `..` and symbolic links resolved. Then the
-/// file is opened, and its device and inode are compared with those of the input, so that a hard link is seen too.
+/// The files that the job reads are refused. First the paths are compared, with `.`, `..` and symbolic links resolved.
+/// Then the file is opened, and its device and inode are compared with those of each, so that a hard link is seen too.
 /// `/dev/stdout` is standard output itself and not its file opened anew, so that bytes are added to a file that the
 /// caller appends to.
 ///
 /// # Errors
-/// The file cannot be created, or it is the input.
+/// The file cannot be created, or it is one that the job reads.
 pub(crate) fn create(
     rt: &HostRuntime,
     path: &str,
-    input: &File,
-    input_path: &str,
+    input: &Known<'_>,
+    list: Option<&Known<'_>>,
 ) -> io::Result<(Output, Option<Replacement>)> {
-    if is_one_path(rt, path, input_path) {
-        return Err(io::Error::from(ErrorKind::AlreadyExists));
+    input.refuse_path(rt, path)?;
+    if let Some(list) = list {
+        list.refuse_path(rt, path)?;
     }
-    let read = input.metadata()?;
     if path == "/dev/stdout" {
-        differ(&std::fs::metadata(rt, path)?, &read)?;
+        differ_from_all(&std::fs::metadata(rt, path)?, input, list)?;
         return Ok((Output::Standard(rt.stdout()), None));
     }
     let file = OpenOptions::new().write(true).create(true).open(rt, path)?;
     let found = file.metadata()?;
-    differ(&found, &read)?;
+    differ_from_all(&found, input, list)?;
     if !found.is_file() || found.len() == 0 {
         return Ok((Output::File(file), None));
     }
@@ -144,6 +175,21 @@ fn part_name(rt: &HostRuntime, path: &str, n: u32) -> io::Result<String> {
         return Ok(format!(in rt.alloc(); "{path}.part")?);
     }
     Ok(format!(in rt.alloc(); "{path}.part{n}")?)
+}
+
+/// Refuses a file that the job reads.
+///
+/// # Errors
+/// `AlreadyExists` if it is one.
+fn differ_from_all(
+    found: &Metadata,
+    input: &Known<'_>,
+    list: Option<&Known<'_>>,
+) -> io::Result<()> {
+    if let Some(list) = list {
+        differ(found, &list.found)?;
+    }
+    differ(found, &input.found)
 }
 
 /// Refuses two files that are the same.

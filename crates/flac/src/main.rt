@@ -2,13 +2,16 @@
 #![tactic(auto)]
 
 mod files;
+mod list;
 
-use crate::files::{Output, create};
+use crate::files::{Known, Output, Replacement, create};
+use crate::list::List;
 use flac_bits::Counted;
-use flac_cli::run;
+use flac_cli::{Task, run};
 use flac_jobs::{Job, LineFault};
 use flac_words::job;
 use std::fs::File;
+use std::io;
 use std::process::ExitCode;
 
 /// Reads the command line, does the job, and ends with its status.
@@ -59,13 +62,17 @@ fn perform(rt: &HostRuntime, job: &Job<'_>) -> u8 {
     let Ok(input) = File::open(rt, job.input()) else {
         return refuse(rt, job.input(), "opened");
     };
-    let Some(path) = job.output() else {
-        return do_over(rt, job, input, Output::None).0;
+    let list = match List::of(rt, job) {
+        Ok(list) => list,
+        Err(refused) => return refuse(rt, refused.path, refused.what),
     };
-    let Ok((output, replacement)) = create(rt, path, &input, job.input()) else {
+    let Some(path) = job.output() else {
+        return do_over(rt, job, &list, input, Output::None).0;
+    };
+    let Ok((output, replacement)) = create_for(rt, job, path, &input, &list) else {
         return refuse(rt, path, "created");
     };
-    let (status, output) = do_over(rt, job, input, output);
+    let (status, output) = do_over(rt, job, &list, input, output);
     let Some(replacement) = replacement else {
         return status;
     };
@@ -81,15 +88,40 @@ fn refuse(rt: &HostRuntime, path: &str, what: &str) -> u8 {
     1
 }
 
+/// Opens what the job writes to.
+///
+/// # Errors
+/// The file cannot be created, or it is one that the job reads.
+fn create_for(
+    rt: &HostRuntime,
+    job: &Job<'_>,
+    path: &str,
+    input: &File,
+    list: &List<'_>,
+) -> io::Result<(Output, Option<Replacement>)> {
+    let input = Known::of(job.input(), input)?;
+    create(rt, path, &input, list.file.as_ref())
+}
+
 /// Does the job over its files. Returns the status, and the output.
-fn do_over(rt: &HostRuntime, job: &Job<'_>, input: File, output: Output) -> (u8, Output) {
+fn do_over(
+    rt: &HostRuntime,
+    job: &Job<'_>,
+    list: &List<'_>,
+    input: File,
+    output: Output,
+) -> (u8, Output) {
     let mut source = Counted::new(input);
     let mut target = Counted::new(output);
     let mut out = Counted::new(rt.stdout());
     let mut err = Counted::new(rt.stderr());
+    let task = Task {
+        job,
+        list: list.text.as_slice(),
+    };
     let status = run(
         rt.alloc(),
-        job,
+        &task,
         &mut source,
         &mut target,
         &mut out,

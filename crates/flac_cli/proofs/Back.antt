@@ -7,7 +7,7 @@ use Rattle.flac_frame.specs.Audio.{Sound, samples_each}
 use Rattle.flac_frame.specs.Encoding.{block_of}
 use Rattle.flac_native.specs.Message.{sample_width, sample_bytes, row_bytes, rows_bytes}
 use Rattle.flac_native.specs.Stream.{Piece, framed}
-use Rattle.flac_native.specs.Given.{cut_of, plan_fault, sound_message, size_of, frames_from, blocks_in, given}
+use Rattle.flac_native.specs.Given.{Cut, plan_fault, sound_message, size_of, frames_from, blocks_in, given}
 use Rattle.flac_native.specs.Seeking.{points_of, table_of}
 use Rattle.flac_native.proofs.Messages.{rows_split}
 use Rattle.flac_native.proofs.Planned.{planned}
@@ -73,28 +73,29 @@ all_held block total some =
     omega (arith, parts, small)
 
 -- all of them are the samples of the plan
-pub given_back : (block every : ℕ) (a : Sound) (words : List (List ℕ)) (points : List SeekPoint) (least greatest : ℕ) → plan_fault (cut_of block a every) ≡ None
-    → all_samples 0 (given (cut_of block a every) (comment_list words ++ table_of points) a least greatest) ≡ sound_message a
+pub given_back : (p : Cut) (a : Sound) (words : List (List ℕ)) (points : List SeekPoint) (least greatest : ℕ) → plan_fault p ≡ None
+    → all_samples 0 (given p (comment_list words ++ table_of points) a least greatest) ≡ sound_message a
 unfolding sound_message
-given_back block every a words points least greatest good =
-    let p = planned (cut_of block a every) good in
+given_back p a words points least greatest good =
+    let block = p.block_size in
+    let held_by = planned p good in
     let total = samples_each a.channels in
     let n = blocks_in block total in
-    let held = all_held block total (omega (arith, p.least)) in
+    let held = all_held block total (omega (arith, held_by.least)) in
     let all : min (block * n) (total - block * 0) ≡ total = omega (arith, held) in
     let none : block * 0 ≡ 0 = omega arith in
     go points (frames_back block a n 0 ∙ (ap (λ k. rows_bytes (sample_width a.bits) a.channels k (block * 0)) all ∙ ap (λ j. rows_bytes (sample_width a.bits) a.channels total j) none))
   where
     frames : List Piece
-    frames = map framed (frames_from block a (blocks_in block (samples_each a.channels)) 0)
+    frames = map framed (frames_from p.block_size a (blocks_in p.block_size (samples_each a.channels)) 0)
 
     go : (points : List SeekPoint) → all_samples a.bits frames ≡ rows_bytes (sample_width a.bits) a.channels (samples_each a.channels) 0
-        → all_samples 0 (given (cut_of block a every) (comment_list words ++ table_of points) a least greatest) ≡ rows_bytes (sample_width a.bits) a.channels (samples_each a.channels) 0
+        → all_samples 0 (given p (comment_list words ++ table_of points) a least greatest) ≡ rows_bytes (sample_width a.bits) a.channels (samples_each a.channels) 0
     go [] e = e
     go (x ∷ xs) e = e
 
 -- they are, native or in Ogg, where no seek table stands
-pub parts_back : (c : Container) (block every : ℕ) (a : Sound) (words : List (List ℕ)) (before after : List Bool) (e : EncodesIn c (cut_of block a every) (comment_list words) a before after)
-    → plan_fault (cut_of block a every) ≡ None → all_samples 0 (parts_in c (cut_of block a every) (comment_list words) a before after e) ≡ sound_message a
-parts_back container.Native block every a words before after e good = given_back block every a words (points_of (cut_of block a every) e.frames) e.least e.greatest good
-parts_back (container.Ogg serial) block every a words before after e good = given_back block every a words [] e.are.least e.are.greatest good
+pub parts_back : (c : Container) (p : Cut) (a : Sound) (words : List (List ℕ)) (before after : List Bool) (e : EncodesIn c p (comment_list words) a before after)
+    → plan_fault p ≡ None → all_samples 0 (parts_in c p (comment_list words) a before after e) ≡ sound_message a
+parts_back container.Native p a words before after e good = given_back p a words (points_of p e.frames) e.least e.greatest good
+parts_back (container.Ogg serial) p a words before after e good = given_back p a words [] e.are.least e.are.greatest good

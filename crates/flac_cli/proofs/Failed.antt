@@ -2,11 +2,19 @@
 use Rattle.std.proofs.Common.{◌≡◌}
 use Rattle.flac_frame.specs.declared.setup.SetupFault.{SetupFault}
 use Rattle.flac_native.specs.declared.encode_fault.EncodeFault.{EncodeFault}
+use Rattle.flac_cli.specs.Refusals.{refusal_of}
+use Rattle.flac_cli.specs.declared.predictors.ListFault.{ListFault}
+use Rattle.flac_cli.specs.declared.predictors.ListFault.TheVariants as faults
 use Rattle.flac_cli.specs.declared.encoding.Refusal.TheVariants.{Setup, Output}
 
 -- A fault of the samples is none.
 pub not_setup : {X : Type 0} (f : SetupFault) (e : EncodeFault) → Setup f ≡ Output e → X
 not_setup f e h = absurd cc
+
+-- A fault of the list is none.
+pub not_list : {X : Type 0} (f : ListFault) (e : EncodeFault) → refusal_of f ≡ Output e → X
+not_list faults.Memory e h = absurd cc
+not_list (faults.Line number) e h = absurd cc
 
 -- A fault of the call that writes a stream is one where that call's is.
 pub same_output : (e f : EncodeFault) → Output e ≡ Output f → e ≡ f

@@ -2,7 +2,9 @@ pub mod Back
 pub mod Counting
 pub mod Failed
 pub mod Lined
+pub mod Listed
 pub mod Outcomes
+pub mod Planning
 pub mod Refused
 pub mod Reported
 pub mod Rows

@@ -12,16 +12,17 @@ use Rattle.flac_meta.specs.declared.block.Block.{Block}
 use Rattle.flac_header.specs.declared.subset.Profile.{Profile}
 use Rattle.flac_frame.specs.Audio.{Sound}
 use Rattle.flac_frame.specs.declared.setup.SetupFault.{SetupFault}
-use Rattle.flac_native.specs.Given.{Cut, cut_of}
+use Rattle.flac_subframe.specs.declared.linear.LinearPredictor.{LinearPredictor}
+use Rattle.flac_native.specs.Given.{Cut}
 use Rattle.flac_bits.specs.State.{Behind, short_of}
 use Rattle.flac_native.specs.Stream.{Piece}
 use Rattle.flac_native.specs.Decoding.{beginning}
 use Rattle.flac_ogg.specs.Either.{read_either}
-use Rattle.flac_cli.specs.Encoded.{comment_list, BeginsIn, BeginsRaw}
+use Rattle.flac_cli.specs.Asked.{Asked}
+use Rattle.flac_cli.specs.Encoded.{comment_list, cut_as, BeginsIn, BeginsRaw}
+use Rattle.flac_cli.specs.Predictors.{AreListed}
 use Rattle.flac_cli.specs.Raw.{IsRaw}
 use Rattle.flac_cli.specs.Streams.{IsStream}
-use Rattle.flac_jobs.specs.declared.formats.Container.{Container}
-use Rattle.flac_jobs.specs.declared.formats.Format.{Format}
 
 -- What holds where nothing was refused holds at Ok.
 pub at_ok : {A X : Type 0} (r : Result A Fault) → (outcome_of told r ≡ None → X) → OnOk r X
@@ -63,14 +64,16 @@ same_or_begun X known (Err Spent) old new begun same = λ k. inl (same (λ e. le
 same_or_begun X known (Err (Setup f)) old new begun same = λ k. inl (same (λ e. absurd (no_write f e)))
 
 -- What a call that writes a stream has begun, it has begun of the samples that these bytes are.
-pub begun_raw : {X : Type 0} (format : Format) (c : Container) (words : List (List ℕ)) (bytes : List ℕ) (p : Cut) (l : List Block) (a : Sound) (before after : List Bool)
-    → IsRaw format bytes a → p ≡ cut_of format.block a format.seek_every → l ≡ comment_list words → (X → after ≡ before)
-    → X ⊎ BeginsIn c p l a before after → (after ≡ before) ⊎ BeginsRaw format c words bytes before after
-begun_raw format c words bytes p l a before after raw plan list same (inl x) = inl (same x)
-begun_raw format c words bytes p l a before after raw plan list same (inr b) = inr (record {
+pub begun_raw : {X : Type 0} (asked : Asked) (ps : List LinearPredictor) (bytes : List ℕ) (p : Cut) (l : List Block) (a : Sound) (before after : List Bool)
+    → IsRaw asked.profile asked.format bytes a → AreListed asked.list ps → p ≡ cut_as asked a ps → l ≡ comment_list asked.words → (X → after ≡ before)
+    → X ⊎ BeginsIn asked.container p l a before after → (after ≡ before) ⊎ BeginsRaw asked bytes before after
+begun_raw asked ps bytes p l a before after raw listed plan list same (inl x) = inl (same x)
+begun_raw asked ps bytes p l a before after raw listed plan list same (inr b) = inr (record {
   audio = a;
+  predictors = ps;
   raw = raw;
-  begins = subst (λ k. BeginsIn c k (comment_list words) a before after) plan (subst (λ k. BeginsIn c p k a before after) list b);
+  listed = listed;
+  begins = subst (λ k. BeginsIn asked.container k (comment_list asked.words) a before after) plan (subst (λ k. BeginsIn asked.container p k a before after) list b);
 })
 
 -- What is read in either container is a stream.

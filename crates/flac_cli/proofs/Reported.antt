@@ -18,7 +18,9 @@ use Rattle.flac_native.specs.declared.fault.Fault.{Fault}
 use Rattle.flac_native.specs.declared.fault.Place.{Place}
 use Rattle.flac_native.specs.declared.retag_fault.RetagFault.{RetagFault}
 use Rattle.flac_cli.specs.Encoded.{comments_of}
-use Rattle.flac_cli.specs.Outcomes.{Outcome, at_place, at_some_place, placed, reason_text, input_reading, Reads, IsRetagged, IsOutOfMemory, IsRetagOutOfMemory, IsUnlisted, Fits}
+use Rattle.flac_cli.specs.Lined.{text_at, at_place}
+use Rattle.flac_cli.specs.Outcomes as outcomes
+use Rattle.flac_cli.specs.Outcomes.{Outcome, at_some_place, reason_text, input_reading, Reads, IsRetagged, IsOutOfMemory, IsRetagOutOfMemory, IsUnlisted, Fits}
 
 -- ---- reasons
 
@@ -30,8 +32,8 @@ pub memory_or_not : (w : Why) → (w ≡ why.Memory) ⊎ (w ≢ why.Memory)
 memory_or_not why.Memory = inl refl
 memory_or_not w = inr (other_number w (λ e. absurd (omega (arith, e))))
 
--- the text of a reason behind that of its place
-pub reason_placed : (at : Option Place) (w : Why) → placed at (reasons.text_of w) ≡ reason_text at w
+-- the text of a reason after that of its place
+pub reason_placed : (at : Option Place) (w : Why) → text_at (at_place at) (reasons.text_of w) ≡ reason_text at w
 reason_placed None w = refl
 reason_placed (Some at) w = refl
 
@@ -44,7 +46,7 @@ as_outcome (Some p) = Some (Some p.0, p.1)
 module _ (profile : Profile) (bytes : List ℕ) (behind : Behind) {K : Type 0} (takes : K → Piece → K → Type 0) (errors : K → ℕ) (calm : Type 0) (old new : K) where
   -- What a call that decodes answers is what the input is, if neither the source nor the sink failed.
   pub decoded_fits : (r : Result (Unit {0}) Fault) → Hands (input_reading profile bytes behind) takes errors calm old new (outcome_of told r) → Decides (input_reading profile bytes behind) (outcome_of told r)
-      → calm → errors new ≡ errors old → Fits IsOutOfMemory (Reads profile bytes behind) (outcome_of at_place r)
+      → calm → errors new ≡ errors old → Fits IsOutOfMemory (Reads profile bytes behind) (outcome_of outcomes.at_place r)
   decoded_fits (Ok x) h d quiet same =
       let whole = h.done quiet refl in
       record {
@@ -79,10 +81,10 @@ module _ (profile : Profile) (bytes : List ℕ) (behind : Behind) {K : Type 0} (
 
   -- If the sink failed, that is what it answers.
   pub sink_failed : (r : Result (Unit {0}) Fault) → Hands (input_reading profile bytes behind) takes errors calm old new (outcome_of told r) → errors old < errors new
-      → (at : Place) × (outcome_of at_place r ≡ Some (Some at, why.Sink))
+      → (at : Place) × (outcome_of outcomes.at_place r ≡ Some (Some at, why.Sink))
   sink_failed r h rose = let f = h.failed rose in (f.0, as_placed r f.0 why.Sink f.1)
     where
-      as_placed : (r : Result (Unit {0}) Fault) (at : Place) (w : Why) → outcome_of told r ≡ Some (at, w) → outcome_of at_place r ≡ Some (Some at, w)
+      as_placed : (r : Result (Unit {0}) Fault) (at : Place) (w : Why) → outcome_of told r ≡ Some (at, w) → outcome_of outcomes.at_place r ≡ Some (Some at, w)
       as_placed (Ok x) at w e = ap as_outcome e
       as_placed (Err f) at w e = ap as_outcome e
 

@@ -12,7 +12,9 @@ use Rattle.flac_native.specs.Message.{sample_bytes, sample_width, row_bytes, row
 use Rattle.flac_native.specs.Given.{sound_message}
 use Rattle.std.proofs.lemmas.Bool.{cases_lt}
 use Rattle.std.proofs.lemmas.Bool.Decides.{nat_tests}
-use Rattle.flac_header.specs.Choice.{depth_choice}
+use Rattle.flac_header.specs.Choice.{depth_choice, depth_choice_in}
+use Rattle.flac_header.specs.declared.subset.Profile.{Profile}
+use Rattle.flac_header.specs.declared.subset.Profile.TheVariants.{Subset, Lax}
 use Rattle.flac_frame.specs.Audio.{Sound, IsSound, samples_each}
 use Rattle.flac_jobs.specs.declared.formats.Format.{Format}
 use Rattle.flac_cli.specs.Raw.{number_of, samples_at, channels_at, IsChannel, IsPart, AreParts, IsMore, AreChannels, IsRaw}
@@ -302,14 +304,15 @@ whole_back n new old same is =
 
 -- ---- samples of a format
 
--- the channels of these bytes, under the format's rate and bits
-pub raw_is : (format : Format) (raw bytes : List ℕ) (a : Sound) (channels : List (List ℤ)) → a ≡ record { rate = format.rate; bits = format.bits; channels = channels }
-    → IsSound a → AreChannels bytes format.channels (sample_width format.bits) channels → bytes ≡ raw → IsRaw format raw a
+-- the channels of these bytes, under the profile and the format's rate and bits
+pub raw_is : (profile : Profile) (format : Format) (raw bytes : List ℕ) (a : Sound) (channels : List (List ℤ)) → a ≡ record { profile = profile; rate = format.rate; bits = format.bits; channels = channels }
+    → IsSound a → AreChannels bytes format.channels (sample_width format.bits) channels → bytes ≡ raw → IsRaw profile format raw a
 unfolding sound_message
-raw_is format raw bytes a channels is sound are same =
+raw_is profile format raw bytes a channels is sound are same =
     let listed : a.channels ≡ channels = ap (λ (s : Sound). s.channels) is in
     let depth : a.bits ≡ format.bits = ap (λ (s : Sound). s.bits) is in
     record {
+      profiled = ap (λ (s : Sound). s.profile) is;
       rate = ap (λ (s : Sound). s.rate) is;
       bits = depth;
       channels = ap length listed ∙ are.many;
@@ -319,6 +322,7 @@ raw_is format raw bytes a channels is sound are same =
     }
 
 -- a depth that has a code is a number of 1 to 32 bits
-pub depth_range : (depth : ℕ) → is_none (depth_choice depth) ≡ false → (1 ≤ depth) × (depth ≤ 32)
-unfolding depth_choice
-depth_range depth e = grind (arith, nat_tests)
+pub depth_range : (profile : Profile) (depth : ℕ) → is_none (depth_choice_in profile depth) ≡ false → (1 ≤ depth) × (depth ≤ 32)
+unfolding depth_choice_in depth_choice
+depth_range Subset depth e = grind (arith, nat_tests)
+depth_range Lax depth e = grind (arith, nat_tests)

@@ -1,17 +1,21 @@
 -- What an encoding of raw samples has written.
-use Rattle.std.specs.Prelude.{◌≡◌, ℕ, Bool, List, [], ◌∷◌, ◌++◌, ◌⊎◌, map, codes}
+use Rattle.std.specs.Prelude.{◌≡◌, ℕ, Bool, List, [], ◌∷◌, ◌++◌, ◌⊎◌, map, codes, Option, Some, None}
 use Rattle.flac_meta.specs.declared.comments.Comments.{Comments}
 use Rattle.flac_meta.specs.declared.block.Block.{Block}
 use Rattle.flac_meta.specs.declared.block.Block.TheVariants.{StreamInfo, VorbisComment}
 use Rattle.flac_frame.specs.Audio.{Sound}
-use Rattle.flac_native.specs.Given.{Cut, cut_of, info_of, frames_of, closing, given}
+use Rattle.flac_subframe.specs.declared.linear.LinearPredictor.{LinearPredictor}
+use Rattle.flac_native.specs.Given.{Cut, cut_of, with_predictors, info_of, frames_of, closing, given}
 use Rattle.flac_native.specs.Stream.{Piece, framed}
 use Rattle.flac_native.specs.Seeking.{points_of, table_of}
 use Rattle.flac_native.specs.Writing.{Encodes, BeginsEncoding}
 use Rattle.flac_ogg.specs.Writing.{EncodesOgg, BeginsOgg}
+use Rattle.flac_cli.specs.Asked.{Asked}
+use Rattle.flac_cli.specs.Predictors.{AreListed}
 use Rattle.flac_cli.specs.Raw.{IsRaw}
 use Rattle.flac_cli.specs.Samples.{all_samples}
-use Rattle.flac_jobs.specs.declared.formats.Format.{Format}
+use Rattle.flac_cli.specs.Streams.{profile_of}
+use Rattle.flac_cli.specs.declared.runs.Task.{Task}
 use Rattle.flac_jobs.specs.declared.formats.Container.{Container}
 use Rattle.flac_jobs.specs.declared.formats.Container.TheVariants as container
 use Rattle.flac_jobs.specs.declared.jobs.Job.{Job}
@@ -35,32 +39,49 @@ abbrev pub parts_in : (c : Container) (p : Cut) (list : List Block) (a : Sound) 
 parts_in container.Native p list a before after e = given p (list ++ table_of (points_of p e.frames)) a e.least e.greatest
 parts_in (container.Ogg serial) p list a before after e = closing (StreamInfo (info_of p a e.are.least e.are.greatest) ∷ list) ++ map framed (frames_of p.block_size a)
 
--- Behind the bits that were there, a stream was written, native or Ogg: of the samples that these bytes are, in blocks of the format's size,
--- with these words as comments, and in a native one behind them the seek table that the format asks for. The samples of its frames are these bytes again, so decoding it
--- gives them back.
-pub record EncodesRaw (format : Format) (c : Container) (words : List (List ℕ)) (bytes : List ℕ) (before after : List Bool) : Type 0 where
+-- the samples are cut as the format asks, and these predictors are tried
+abbrev pub cut_as : Asked → Sound → List LinearPredictor → Cut
+cut_as asked a ps = with_predictors (cut_of asked.format.block a asked.format.seek_every) ps
+
+-- After the bits that were there, a stream was written as it is asked for, native or Ogg: of the samples that these bytes are, each frame a shortest one over the fixed
+-- predictors and those of the list too, with the words as comments, and in a native one after them the seek table. The samples of its frames are these bytes again, so
+-- decoding it gives them back.
+pub record EncodesRaw (asked : Asked) (bytes : List ℕ) (before after : List Bool) : Type 0 where
   pub audio : Sound
-  pub raw : IsRaw format bytes audio
-  pub encodes : EncodesIn c (cut_of format.block audio format.seek_every) (comment_list words) audio before after
-  pub back : all_samples 0 (parts_in c (cut_of format.block audio format.seek_every) (comment_list words) audio before after encodes) ≡ bytes
+  pub predictors : List LinearPredictor
+  pub raw : IsRaw asked.profile asked.format bytes audio
+  pub listed : AreListed asked.list predictors
+  pub encodes : EncodesIn asked.container (cut_as asked audio predictors) (comment_list asked.words) audio before after
+  pub back : all_samples 0 (parts_in asked.container (cut_as asked audio predictors) (comment_list asked.words) audio before after encodes) ≡ bytes
+
+-- what a job asks for whose list has this text, if it is an encoding
+abbrev pub asked_for : Job → (list : List ℕ) → Option Asked
+asked_for (job.Encode input output format c comments lax predictors) list =
+    Some (record { profile = profile_of lax; format = format; container = c; words = map (λ w. w.now) comments.items; list = list })
+asked_for other list = None
+
+abbrev pub asked_by : Task → Option Asked
+asked_by task = asked_for task.job.now task.list.now
 
 -- so it is where the job is an encoding
-abbrev pub HasEncoded : Job → (bytes : List ℕ) → (before after : List Bool) → Type 0
-HasEncoded (job.Encode input output format c comments) bytes before after = EncodesRaw format c (map (λ w. w.now) comments.items) bytes before after
-HasEncoded other bytes before after = Unit {0}
+abbrev pub HasEncoded : Option Asked → (bytes : List ℕ) → (before after : List Bool) → Type 0
+HasEncoded (Some asked) bytes before after = EncodesRaw asked bytes before after
+HasEncoded None bytes before after = Unit {0}
 
 -- what was written is a beginning of such a stream
 abbrev pub BeginsIn : Container → Cut → List Block → Sound → (before after : List Bool) → Type 0
 BeginsIn container.Native p list a before after = BeginsEncoding p list a before after
 BeginsIn (container.Ogg serial) p list a before after = BeginsOgg serial p list a before after
 
--- Behind the bits that were there, a beginning of a stream of the samples that these bytes are was written.
-pub record BeginsRaw (format : Format) (c : Container) (words : List (List ℕ)) (bytes : List ℕ) (before after : List Bool) : Type 0 where
+-- After the bits that were there, a prefix of such a stream was written.
+pub record BeginsRaw (asked : Asked) (bytes : List ℕ) (before after : List Bool) : Type 0 where
   pub audio : Sound
-  pub raw : IsRaw format bytes audio
-  pub begins : BeginsIn c (cut_of format.block audio format.seek_every) (comment_list words) audio before after
+  pub predictors : List LinearPredictor
+  pub raw : IsRaw asked.profile asked.format bytes audio
+  pub listed : AreListed asked.list predictors
+  pub begins : BeginsIn asked.container (cut_as asked audio predictors) (comment_list asked.words) audio before after
 
 -- nothing was written, or so much, where the job is an encoding
-abbrev pub HasBegun : Job → (bytes : List ℕ) → (before after : List Bool) → Type 0
-HasBegun (job.Encode input output format c comments) bytes before after = (after ≡ before) ⊎ BeginsRaw format c (map (λ w. w.now) comments.items) bytes before after
-HasBegun other bytes before after = Unit {0}
+abbrev pub HasBegun : Option Asked → (bytes : List ℕ) → (before after : List Bool) → Type 0
+HasBegun (Some asked) bytes before after = (after ≡ before) ⊎ BeginsRaw asked bytes before after
+HasBegun None bytes before after = Unit {0}

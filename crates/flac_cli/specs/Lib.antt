@@ -1,7 +1,9 @@
+pub mod Asked
 pub mod Counted
 pub mod Encoded
 pub mod Lined
 pub mod Outcomes
+pub mod Predictors
 pub mod Raw
 pub mod Refusals
 pub mod Reports

@@ -102,6 +102,6 @@ abbrev pub ReportsInput : Job → (bytes : List ℕ) → Behind → (served prin
 ReportsInput (job.Test input lax) bytes behind served printed status before after = printed → Reports IsOutOfMemory (Reads (profile_of lax) bytes behind) input.now status before after
 ReportsInput (job.Decode input output lax) bytes behind served printed status before after = served → Reports IsOutOfMemory (Reads (profile_of lax) bytes behind) input.now status before after
 ReportsInput (job.List input lax) bytes behind served printed status before after = Reports IsUnlisted (Reads (profile_of lax) bytes behind) input.now status before after
-ReportsInput (job.Encode input output format c comments) bytes behind served printed status before after = Unit {0}
+ReportsInput (job.Encode input output format c comments lax predictors) bytes behind served printed status before after = Unit {0}
 ReportsInput (job.Retag input output comments) bytes behind served printed status before after =
     served → Reports IsRetagOutOfMemory (IsRetagged (map (λ c. c.now) comments.items) bytes behind) input.now status before after

@@ -3,6 +3,7 @@
 use Rattle.std.specs.Prelude.{◌≡◌, ◌<◌, ◌+◌, ◌*◌, ◌/◌, ℕ, zero, suc, ℤ, pos, List, [], ◌∷◌, ◌++◌, length, take, drop, All, slice_index_or}
 use Rattle.byteorder.specs.Endian.{twos_complement, little_number}
 use Rattle.flac_bits.specs.Signed.{FitsBits}
+use Rattle.flac_header.specs.declared.subset.Profile.{Profile}
 use Rattle.flac_frame.specs.Audio.{Sound, IsSound, samples_each}
 use Rattle.flac_native.specs.Given.{sound_message}
 use Rattle.flac_native.specs.Message.{sample_width, sample_bytes, rows_bytes}
@@ -28,9 +29,9 @@ channels_at bytes rows row width (suc n) = channels_at bytes rows row width n ++
 abbrev pub raw_channels : (count width : ℕ) → List ℕ → List (List ℤ)
 raw_channels count width bytes = channels_at bytes (length bytes / (count * width)) (count * width) width count
 
--- the samples of this format that these bytes are
-abbrev pub raw_sound : Format → List ℕ → Sound
-raw_sound format bytes = record { rate = format.rate; bits = format.bits; channels = raw_channels format.channels (sample_width format.bits) bytes }
+-- the samples of this format that these bytes are, for a stream of this profile
+abbrev pub raw_sound : Profile → Format → List ℕ → Sound
+raw_sound profile format bytes = record { profile = profile; rate = format.rate; bits = format.bits; channels = raw_channels format.channels (sample_width format.bits) bytes }
 
 -- ---- what holds of them
 
@@ -63,8 +64,9 @@ pub record AreChannels (bytes : List ℕ) (count width : ℕ) (channels : List (
   pub fits : All (λ c. All (FitsBits (8 * width)) c) channels
   pub numbers : channels ≡ raw_channels count width bytes
 
--- these bytes are just these samples, which have this format and fit its bits
-pub record IsRaw (format : Format) (bytes : List ℕ) (a : Sound) : Type 0 where
+-- these bytes are just these samples, which have this profile and format and fit its bits
+pub record IsRaw (profile : Profile) (format : Format) (bytes : List ℕ) (a : Sound) : Type 0 where
+  pub profiled : a.profile ≡ profile
   pub rate : a.rate ≡ format.rate
   pub bits : a.bits ≡ format.bits
   pub channels : length a.channels ≡ format.channels

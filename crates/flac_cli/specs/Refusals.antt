@@ -1,46 +1,50 @@
 -- Which raw samples cannot be encoded as asked for, and for which first reason.
-use Rattle.std.specs.Prelude.{◌≡◌, ◌⊎◌, ◌*◌, ◌%◌, ◌||◌, ℕ, nat_eq, nat_lt, cond, List, length, map, codes, Option, Some, None, is_none, option_map}
+use Rattle.std.specs.Prelude.{◌≡◌, ◌⊎◌, ◌*◌, ◌%◌, ◌||◌, ℕ, nat_eq, nat_lt, cond, List, length, codes, Err, Option, Some, None, is_none, option_map}
 use Rattle.std.specs.Option.{option_or}
 use Rattle.flac_bits.specs.Reasons as reasons
 use Rattle.flac_bits.specs.declared.why.Why.TheVariants as why
-use Rattle.flac_header.specs.Choice.{rate_choice, depth_choice}
+use Rattle.flac_header.specs.Choice.{rate_choice_in, depth_choice_in}
+use Rattle.flac_header.specs.declared.subset.Profile.{Profile}
 use Rattle.flac_meta.specs.Listed.{list_fault, info_seen}
 use Rattle.flac_meta.specs.declared.block.Block.{Block}
+use Rattle.flac_subframe.specs.declared.linear.LinearPredictor.{LinearPredictor}
 use Rattle.flac_frame.specs.Audio.{audio_fault}
 use Rattle.flac_frame.specs.Setup as setup
 use Rattle.flac_frame.specs.declared.setup.SetupFault.{SetupFault}
 use Rattle.flac_frame.specs.declared.setup.SetupFault.TheVariants.{BadRate, BadDepth, BadChannels}
-use Rattle.flac_native.specs.Given.{Cut, cut_of, plan_fault}
+use Rattle.flac_native.specs.Given.{Cut, plan_fault}
 use Rattle.flac_native.specs.Message.{sample_width}
 use Rattle.flac_native.specs.Numbers as numbers
 use Rattle.flac_native.specs.Seeking.{repeats_table}
 use Rattle.flac_native.specs.declared.encode_fault.EncodeFault.{EncodeFault}
 use Rattle.flac_native.specs.declared.encode_fault.EncodeFault.TheVariants as encode
 use Rattle.flac_ogg.specs.Writing.{may_be_ogg}
-use Rattle.flac_cli.specs.Encoded.{comment_list}
+use Rattle.flac_cli.specs.Asked.{Asked}
+use Rattle.flac_cli.specs.Encoded.{comment_list, cut_as}
+use Rattle.flac_cli.specs.Predictors.{predictors_in, AreListed}
 use Rattle.flac_cli.specs.Raw.{raw_channels, raw_sound}
 use Rattle.flac_cli.specs.declared.encoding.Refusal.{Refusal}
-use Rattle.flac_cli.specs.declared.encoding.Refusal.TheVariants.{Input, Setup, RawLength, Output}
+use Rattle.flac_cli.specs.declared.predictors.ListFault.{ListFault}
+use Rattle.flac_cli.specs.declared.predictors.ListFault.TheVariants as faults
+use Rattle.flac_cli.specs.declared.encoding.Refusal.TheVariants.{Input, Setup, RawLength, Line, Output}
 use Rattle.flac_jobs.specs.declared.formats.Format.{Format}
 use Rattle.flac_jobs.specs.declared.formats.Container.{Container}
 use Rattle.flac_jobs.specs.declared.formats.Container.TheVariants as container
-use Rattle.flac_jobs.specs.declared.jobs.Job.{Job}
-use Rattle.flac_jobs.specs.declared.jobs.Job.TheVariants as job
 
--- Why samples of this format cannot be encoded, whatever they are: no frame header of the streamable subset has a code for the rate or for the
--- depth, or there are not 1 to 8 channels (RFC 9639, sections 7 and 9.1.2 to 9.1.4).
-unfoldable pub format_fault : Format → Option SetupFault
-format_fault format =
-    cond (is_none (rate_choice format.rate)) (Some BadRate)
-    (cond (is_none (depth_choice format.bits)) (Some BadDepth)
+-- Why samples of this format cannot be encoded, whatever they are: no frame header of the profile has a code for the rate or for the depth, or there are
+-- not 1 to 8 channels (RFC 9639, sections 7 and 9.1.2 to 9.1.4).
+unfoldable pub format_fault : Profile → Format → Option SetupFault
+format_fault profile format =
+    cond (is_none (rate_choice_in profile format.rate)) (Some BadRate)
+    (cond (is_none (depth_choice_in profile format.bits)) (Some BadDepth)
     (cond (nat_eq format.channels 0 || nat_lt 8 format.channels) (Some BadChannels) None))
 
 -- Why these bytes are no samples of this format: the format, then their number, then the samples.
-unfoldable pub raw_fault : Format → (bytes : List ℕ) → Option Refusal
-raw_fault format bytes =
-    option_or (option_map Setup (format_fault format))
+unfoldable pub raw_fault : Profile → Format → (bytes : List ℕ) → Option Refusal
+raw_fault profile format bytes =
+    option_or (option_map Setup (format_fault profile format))
     (cond (nat_eq (length bytes % (format.channels * sample_width format.bits)) 0)
-    (option_map Setup (audio_fault format.rate format.bits (raw_channels format.channels (sample_width format.bits) bytes)))
+    (option_map Setup (audio_fault profile format.rate format.bits (raw_channels format.channels (sample_width format.bits) bytes)))
     (Some RawLength))
 
 -- Why the calls that write a stream refuse these blocks: a native one has one seek table at most (section 8), and one in Ogg none.
@@ -48,27 +52,39 @@ abbrev pub stream_fault : Container → Cut → List Block → Option EncodeFaul
 stream_fault container.Native p list = cond (repeats_table p list) (Some encode.RepeatedBlock) None
 stream_fault (container.Ogg serial) p list = cond (may_be_ogg p list) None (Some encode.BadMapping)
 
--- The first reason for which these bytes cannot be encoded as asked for, if there is one: the samples; how they are cut into blocks; the words as
--- comments; the container.
-unfoldable pub refusal : Format → Container → (words : List (List ℕ)) → (bytes : List ℕ) → Option Refusal
-refusal format c words bytes =
-    option_or (raw_fault format bytes)
-    (option_or (option_map Setup (plan_fault (cut_of format.block (raw_sound format bytes) format.seek_every)))
-    (option_or (option_map Input (list_fault info_seen (comment_list words)))
-    (option_map Output (stream_fault c (cut_of format.block (raw_sound format bytes) format.seek_every) (comment_list words)))))
+-- The first reason for which these bytes cannot be encoded as asked for with these predictors, if there is one: the samples; how they are cut into blocks; the
+-- predictors; the words as comments; the container.
+unfoldable pub refusal : Asked → List LinearPredictor → (bytes : List ℕ) → Option Refusal
+refusal asked ps bytes =
+    option_or (raw_fault asked.profile asked.format bytes)
+    (option_or (option_map Setup (plan_fault (cut_as asked (raw_sound asked.profile asked.format bytes) ps)))
+    (option_or (option_map Input (list_fault info_seen (comment_list asked.words)))
+    (option_map Output (stream_fault asked.container (cut_as asked (raw_sound asked.profile asked.format bytes) ps) (comment_list asked.words)))))
+
+-- This is the first reason, if there is one: the first line of the list that is no predictor; else what holds of the list's predictors.
+abbrev pub IsReason : Asked → (bytes : List ℕ) → Option Refusal → Type 0
+IsReason asked bytes reason =
+    ((number : ℕ) × (predictors_in asked.list ≡ Err number) × (reason ≡ Some (Line number)))
+    ⊎ ((ps : List LinearPredictor) × AreListed asked.list ps × (reason ≡ refusal asked ps bytes))
 
 -- the number and the name of a reason
 abbrev pub text_of : Refusal → List ℕ
 text_of (Input why) = reasons.text_of why
 text_of (Setup fault) = setup.text_of fault
 text_of RawLength = codes "48 RawLength"
+text_of (Line number) = codes "53 PredictorLine"
 text_of (Output fault) = numbers.text_of fault
+
+-- why an encoding is refused whose list is
+abbrev pub refusal_of : ListFault → Refusal
+refusal_of faults.Memory = Input why.Memory
+refusal_of (faults.Line number) = Line number
 
 -- no fault of what was asked for: out of memory, or the target failed
 abbrev pub IsOutside : Refusal → Type 0
 IsOutside r = (r ≡ Input why.Memory) ⊎ ((r ≡ Output encode.Memory) ⊎ (r ≡ Output encode.Write))
 
 -- there is no such reason where the job is an encoding
-abbrev pub CanBeEncoded : Job → (bytes : List ℕ) → Type 0
-CanBeEncoded (job.Encode input output format c comments) bytes = refusal format c (map (λ w. w.now) comments.items) bytes ≡ None
-CanBeEncoded other bytes = Unit {0}
+abbrev pub CanBeEncoded : Option Asked → (bytes : List ℕ) → Type 0
+CanBeEncoded (Some asked) bytes = IsReason asked bytes None
+CanBeEncoded None bytes = Unit {0}

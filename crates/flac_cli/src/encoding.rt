@@ -1,26 +1,47 @@
 //! Encoding of raw samples.
 
-ghost use Rattle.std.specs.Prelude.{◌≡◌, ◌≢◌, ◌≤◌, ◌<◌, ◌⊎◌, true, map, IfOk, IfErr, OnOk, OnErr, Some, None};
+ghost use Rattle.std.specs.Prelude.{◌≡◌, ◌≢◌, ◌≤◌, ◌<◌, ◌⊎◌, true, map, MatchResult, IfOk, IfErr, OnOk, OnErr, Some, None};
 ghost use Rattle.flac_bits.specs.Bits.{bits_of};
 ghost use Rattle.flac_meta.specs.Listed.{list_fault, info_seen};
-ghost use Rattle.flac_native.specs.Given.{fits_plan};
+ghost use Rattle.flac_native.specs.Given.{cut_of, with_predictors, fits_plan, plan_fault};
+ghost use Rattle.flac_cli.specs.Asked.{asked_of};
 ghost use Rattle.flac_cli.specs.Encoded.{comments_of, comment_list, EncodesIn, EncodesRaw, BeginsIn, BeginsRaw};
+ghost use Rattle.flac_cli.specs.Lined.{text_at};
 ghost use Rattle.flac_cli.specs.Raw.{IsRaw, raw_sound};
-ghost use Rattle.flac_cli.specs.Refusals.{format_fault, raw_fault, stream_fault, refusal, text_of, IsOutside};
+ghost use Rattle.flac_cli.specs.Refusals.{format_fault, raw_fault, stream_fault, refusal_of, text_of, IsReason, IsOutside};
+ghost use Rattle.flac_cli.specs.Reports.{line_text};
 ghost use Rattle.flac_cli.specs.declared.encoding.Refusal.TheVariants.{Input, Setup, Output};
 
+use crate::lines::At;
+use crate::predictors::{ListFault, predictors_in};
 use crate::raw::read_channels;
 use flac_bits::{Source, Target, Why};
 use flac_frame::{Audio, SetupFault};
-use flac_header::{depth_code, rate_code};
+use flac_header::{depth_code_in, rate_code_in};
 use flac_jobs::{Container, Format};
 use flac_meta::{Block, BlockList, Bytes, Comments, Texts};
-use flac_native::{EncodeFault, Plan, encode};
+use flac_native::{EncodeFault, Plan, Profile, encode};
 use flac_ogg::encode_ogg;
+use flac_subframe::LinearPredictor;
 use std::alloc::Global;
 
 /// The vendor in the comments of the streams that are written.
 const VENDOR: &[u8] = b"flac profile 1";
+
+/// What an encoding is asked for.
+#[derive(Clone, Copy)]
+pub(crate) struct Encoding<'a> {
+    /// The profile of the stream.
+    pub(crate) profile: Profile,
+    /// The format of the raw samples, and how they are divided into blocks.
+    pub(crate) format: Format,
+    /// The container of the stream.
+    pub(crate) container: Container,
+    /// Its comments, each `NAME=VALUE`.
+    pub(crate) comments: &'a [&'a str],
+    /// The text of a list of predictors that the encoder tries too, empty if there is none.
+    pub(crate) list: &'a [u8],
+}
 
 /// Why raw samples are not encoded.
 #[derive(Clone, Copy, Debug, PartialEq, Eq)]
@@ -31,6 +52,8 @@ pub(crate) enum Refusal {
     Setup(SetupFault),
     /// The input is not a whole number of samples of every channel.
     RawLength,
+    /// The line of the list of this number, counted from 1, is no predictor.
+    Line(u64),
     /// The stream cannot be written.
     Output(EncodeFault),
 }
@@ -40,6 +63,17 @@ impl From<Why> for Refusal {
 
     fn from(why: Why) -> Refusal {
         Refusal::Input(why)
+    }
+}
+
+impl From<ListFault> for Refusal {
+    ghost from_gives = { λ fault e. e ≡ refusal_of fault };
+
+    fn from(fault: ListFault) -> Refusal {
+        match fault {
+            ListFault::Memory => Refusal::Input(Why::Memory),
+            ListFault::Line(number) => Refusal::Line(number),
+        }
     }
 }
 
@@ -68,22 +102,33 @@ impl Refusal {
             Refusal::Input(why) => why.as_str(),
             Refusal::Setup(fault) => fault.as_str(),
             Refusal::RawLength => "48 RawLength",
+            Refusal::Line(_) => "53 PredictorLine",
             Refusal::Output(fault) => fault.as_str(),
+        }
+    }
+
+    /// Where in the file at fault the reason applies.
+    pub(crate) fn at(self) -> At
+        ensures { text_at result (text_of self) ≡ line_text self }
+    {
+        match self {
+            Refusal::Line(number) => At::Line(number),
+            _ => At::Whole,
         }
     }
 }
 
 /// The first reason, if there is one, for which no samples of this format can be encoded: rate, depth, channels.
 #[tactic(auto, unfolding(crate::specs::Refusals::format_fault), using(crate::proofs::Rows::depth_range))]
-fn format_fault(format: Format) -> Option<SetupFault>
-    ensures value { result ≡ format_fault format }
+fn format_fault(profile: Profile, format: Format) -> Option<SetupFault>
+    ensures value { result ≡ format_fault profile format }
     ensures bits { result ≡ None → (1 ≤ format.bits) × (format.bits ≤ 32) }
     ensures channels { result ≡ None → (1 ≤ format.channels) × (format.channels ≤ 8) }
 {
-    if rate_code(format.rate).is_none() {
+    if rate_code_in(profile, format.rate).is_none() {
         return Some(SetupFault::BadRate);
     }
-    if depth_code(format.bits).is_none() {
+    if depth_code_in(profile, format.bits).is_none() {
         return Some(SetupFault::BadDepth);
     }
     if format.channels < 1 || format.channels > 8 {
@@ -97,14 +142,19 @@ fn format_fault(format: Format) -> Option<SetupFault>
 /// # Errors
 /// The first reason for which they are no samples of the format: rate, depth, channels, the number of bytes, a sample
 /// that does not fit the depth, too many samples. An error of the source, or out of memory.
-fn audio_of<R: Source>(alloc: Global, source: &mut R, format: Format) -> Result<Audio, Refusal>
-    ensures raw { IfOk result (λ a. R.known source.old ≡ true → IsRaw format (R.coming source.old) a) }
-    ensures sound { IfOk result (λ a. R.known source.old ≡ true → a ≡ raw_sound format (R.coming source.old)) }
-    ensures accepted { OnOk result (R.known source.old ≡ true → raw_fault format (R.coming source.old) ≡ None) }
-    ensures refused { IfErr result (λ e. R.known source.old ≡ true → R.raised source.new ≡ R.raised source.old → IsOutside e ⊎ (raw_fault format (R.coming source.old) ≡ Some e)) }
+fn audio_of<R: Source>(
+    alloc: Global,
+    source: &mut R,
+    profile: Profile,
+    format: Format,
+) -> Result<Audio, Refusal>
+    ensures raw { IfOk result (λ a. R.known source.old ≡ true → IsRaw profile format (R.coming source.old) a) }
+    ensures sound { IfOk result (λ a. R.known source.old ≡ true → a ≡ raw_sound profile format (R.coming source.old)) }
+    ensures accepted { OnOk result (R.known source.old ≡ true → raw_fault profile format (R.coming source.old) ≡ None) }
+    ensures refused { IfErr result (λ e. R.known source.old ≡ true → R.raised source.new ≡ R.raised source.old → IsOutside e ⊎ (raw_fault profile format (R.coming source.old) ≡ Some e)) }
     ensures unwritten { IfErr result (λ e. e ≢ Output EncodeFault.Write) }
 {
-    if let Some(fault) = format_fault(format) {
+    if let Some(fault) = format_fault(profile, format) {
         return Err(Refusal::Setup(fault));
     }
     let channels = format.channels as usize;
@@ -112,9 +162,29 @@ fn audio_of<R: Source>(alloc: Global, source: &mut R, format: Format) -> Result<
     let Some(lists) = read_channels(alloc, source, channels, width)? else {
         return Err(Refusal::RawLength);
     };
-    let audio = Audio::new(format.rate, format.bits, lists)?;
+    let audio = Audio::new_in(profile, format.rate, format.bits, lists)?;
     let _channels = audio.channels();
     Ok(audio)
+}
+
+/// How the samples are divided into frames, for which these predictors are tried.
+///
+/// # Errors
+/// The first reason for which they cannot be: the block size, the seek points, the predictors.
+fn plan_of(
+    format: Format,
+    audio: &Audio,
+    predictors: Vec<LinearPredictor>,
+) -> Result<Plan, SetupFault>
+    ensures made { MatchResult result (λ p. p ≡ with_predictors (cut_of format.block audio.now format.seek_every) predictors.items) (λ e. plan_fault (with_predictors (cut_of format.block audio.now format.seek_every) predictors.items) ≡ Some e) }
+    ensures fits { IfOk result (λ p. fits_plan p audio.now ≡ true) }
+    ensures good { IfOk result (λ p. plan_fault p ≡ None) }
+{
+    let plan = Plan::new(format.block, audio, format.seek_every)?;
+    let _size = plan.block_size();
+    let tried = plan.with_predictors(predictors)?;
+    let _size = tried.block_size();
+    Ok(tried)
 }
 
 /// The comments that these words are, with the program's vendor.
@@ -172,28 +242,27 @@ fn write_stream<W: Target>(
 /// sent.
 ///
 /// # Errors
-/// The first reason for which the samples cannot be encoded as asked for: the samples, the block size and the seek
-/// points, the comments, the container. An error of the source or of the target, or out of memory.
+/// The first reason for which the samples cannot be encoded as asked for: a line of the list, for which the source is not
+/// read; the samples, the block size and the seek points, the predictors, the comments, the container. An error of the
+/// source or of the target, or out of memory.
 pub(crate) fn encode_raw<R: Source, W: Target>(
     alloc: Global,
+    encoding: &Encoding<'_>,
     source: &mut R,
-    format: Format,
-    container: Container,
-    comments: &[&str],
     target: &mut W,
 ) -> Result<(), Refusal>
     ensures written { OnOk result (R.known source.old ≡ true → W.known target.old ≡ true →
-        EncodesRaw format container (map (λ word. word.now) comments.now) (R.coming source.old) (bits_of (W.sent target.old)) (bits_of (W.sent target.new))) }
+        EncodesRaw (asked_of encoding.now) (R.coming source.old) (bits_of (W.sent target.old)) (bits_of (W.sent target.new))) }
     ensures begun { OnErr result (R.known source.old ≡ true → W.known target.old ≡ true → (bits_of (W.sent target.new) ≡ bits_of (W.sent target.old))
-        ⊎ BeginsRaw format container (map (λ word. word.now) comments.now) (R.coming source.old) (bits_of (W.sent target.old)) (bits_of (W.sent target.new))) }
-    ensures accepted { OnOk result (R.known source.old ≡ true → refusal format container (map (λ word. word.now) comments.now) (R.coming source.old) ≡ None) }
-    ensures refused { IfErr result (λ e. R.known source.old ≡ true → R.raised source.new ≡ R.raised source.old → IsOutside e ⊎ (refusal format container (map (λ word. word.now) comments.now) (R.coming source.old) ≡ Some e)) }
+        ⊎ BeginsRaw (asked_of encoding.now) (R.coming source.old) (bits_of (W.sent target.old)) (bits_of (W.sent target.new))) }
+    ensures accepted { OnOk result (R.known source.old ≡ true → IsReason (asked_of encoding.now) (R.coming source.old) None) }
+    ensures refused { IfErr result (λ e. R.known source.old ≡ true → R.raised source.new ≡ R.raised source.old → IsOutside e ⊎ IsReason (asked_of encoding.now) (R.coming source.old) (Some e)) }
     ensures failed { IfErr result (λ e. e ≡ Output EncodeFault.Write → W.known target.old ≡ true → W.errors target.old < W.errors target.new) }
 {
-    let audio = audio_of(alloc, source, format)?;
-    let plan = Plan::new(format.block, &audio, format.seek_every)?;
-    let _size = plan.block_size();
-    let list = comment_list(alloc, comments)?;
-    write_stream(alloc, container, &plan, &list, &audio, target)?;
+    let predictors = predictors_in(alloc, encoding.list)?;
+    let audio = audio_of(alloc, source, encoding.profile, encoding.format)?;
+    let plan = plan_of(encoding.format, &audio, predictors)?;
+    let list = comment_list(alloc, encoding.comments)?;
+    write_stream(alloc, encoding.container, &plan, &list, &audio, target)?;
     Ok(())
 }

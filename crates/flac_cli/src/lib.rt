@@ -9,6 +9,7 @@ mod frames;
 mod lines;
 mod list;
 mod listing;
+mod predictors;
 mod raw;
 mod retagging;
 mod runs;
@@ -16,4 +17,4 @@ mod samples;
 mod texts;
 
 pub use flac_jobs::{Container, Format, Job, LineFault};
-pub use runs::run;
+pub use runs::{Task, run};

@@ -2,7 +2,7 @@
 
 ghost use Rattle.std.specs.Prelude.{◌≡◌, ◌≤◌, ◌<◌, ◌+◌, ◌%◌, ◌++◌, true, [], length, take, decimal, Some, OnOk, OnErr};
 ghost use Rattle.flac_native.specs.Places.{place_text};
-ghost use Rattle.flac_cli.specs.Lined.{Adds};
+ghost use Rattle.flac_cli.specs.Lined.{Adds, at_place, text_at};
 ghost use Rattle.flac_cli.specs.Outcomes.{placed};
 ghost use Rattle.flac_cli.specs.Reports.{fault_line};
 
@@ -18,6 +18,29 @@ fn last_digit(number: u64) -> u8
     ensures { result ≡ 48 + number % 10 }
 {
     b'0' + (number % 10) as u8
+}
+
+/// Where in a file a reason applies.
+#[derive(Clone, Copy, Debug, PartialEq, Eq)]
+pub(crate) enum At {
+    /// To the whole file.
+    Whole,
+    /// At a place of a stream.
+    Place(Place),
+    /// In the line of this number, counted from 1.
+    Line(u64),
+}
+
+impl At {
+    /// At a place, if there is one; else the whole file.
+    pub(crate) fn place(at: Option<Place>) -> At
+        ensures { result ≡ at_place at }
+    {
+        match at {
+            Some(place) => At::Place(place),
+            None => At::Whole,
+        }
+    }
 }
 
 /// A buffer of text for a target. It allocates no memory, and sends what it holds when it is full.
@@ -154,16 +177,29 @@ impl<W: Target> Lines<W> {
         self.put(text)
     }
 
-    /// Adds the text of a reason, after that of its place, if it has one.
+    /// Adds a text after that of its line: `line 3: TEXT`.
     ///
     /// # Errors
     /// [`Why::Write`] if the target fails.
-    fn put_reason(&mut self, at: Option<Place>, text: &str) -> Result<(), Why>
-        ensures { Adds W.Target (placed at text.now) self.old.target self.new.target (take self.old.held self.old.bytes) (take self.new.held self.new.bytes) result }
+    fn put_numbered(&mut self, number: u64, text: &str) -> Result<(), Why>
+        ensures { Adds W.Target (text_at (At.Line number) text.now) self.old.target self.new.target (take self.old.held self.old.bytes) (take self.new.held self.new.bytes) result }
+    {
+        self.put_counted("line ", number)?;
+        self.put(": ")?;
+        self.put(text)
+    }
+
+    /// Adds the text of a reason, after that of its place or line, if it has one.
+    ///
+    /// # Errors
+    /// [`Why::Write`] if the target fails.
+    fn put_reason(&mut self, at: At, text: &str) -> Result<(), Why>
+        ensures { Adds W.Target (text_at at text.now) self.old.target self.new.target (take self.old.held self.old.bytes) (take self.new.held self.new.bytes) result }
     {
         match at {
-            Some(place) => self.put_placed(place, text),
-            None => self.put(text),
+            At::Whole => self.put(text),
+            At::Place(place) => self.put_placed(place, text),
+            At::Line(number) => self.put_numbered(number, text),
         }
     }
 }
@@ -184,14 +220,9 @@ impl<W: Target> fmt::Write for Lines<W> {
 }
 
 /// Sends the line of an error through a buffer.
-fn put_line<W: Target>(
-    lines: &mut Lines<W>,
-    path: &str,
-    at: Option<Place>,
-    text: &str,
-) -> Result<(), Why>
+fn put_line<W: Target>(lines: &mut Lines<W>, path: &str, at: At, text: &str) -> Result<(), Why>
     requires { lines.old.held ≡ 0 }
-    ensures { Adds W.Target (fault_line path.now (placed at text.now)) lines.old.target lines.new.target [] [] result }
+    ensures { Adds W.Target (fault_line path.now (text_at at text.now)) lines.old.target lines.new.target [] [] result }
 {
     lines.put("flac: ")?;
     lines.put(path)?;
@@ -201,17 +232,12 @@ fn put_line<W: Target>(
     lines.send()
 }
 
-/// Sends the line of an error: `flac: PATH: TEXT`, or `flac: PATH: PLACE: TEXT` if it has a place.
+/// Sends the line of an error: `flac: PATH: TEXT`, or `flac: PATH: PLACE: TEXT` if it has a place or a line.
 ///
 /// # Errors
 /// [`Why::Write`] if the target fails.
-pub(crate) fn write_line<E: Target>(
-    err: &mut E,
-    path: &str,
-    at: Option<Place>,
-    text: &str,
-) -> Result<(), Why>
-    ensures sent { OnOk result (E.known err.old ≡ true → E.sent err.new ≡ E.sent err.old ++ fault_line path.now (placed at text.now)) }
+pub(crate) fn write_line<E: Target>(err: &mut E, path: &str, at: At, text: &str) -> Result<(), Why>
+    ensures sent { OnOk result (E.known err.old ≡ true → E.sent err.new ≡ E.sent err.old ++ fault_line path.now (text_at at text.now)) }
     ensures failed { OnErr result (E.known err.old ≡ true → E.errors err.old < E.errors err.new) }
 {
     let mut lines = Lines::new(err);

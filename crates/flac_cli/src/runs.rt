@@ -8,22 +8,23 @@ ghost use Rattle.flac_cli.specs.Streams.{IsStream, Tells, profile_of};
 ghost use Rattle.flac_jobs.specs.Asks.{AsksDecode, AsksStream, asks_lax};
 ghost use Rattle.flac_cli.specs.Samples.{all_samples};
 ghost use Rattle.flac_cli.specs.Counted.{AsksTest, line_of, counts_line, frames_in, samples_in_all, printed};
-ghost use Rattle.flac_cli.specs.Encoded.{HasEncoded, HasBegun};
+ghost use Rattle.flac_cli.specs.Encoded.{asked_by, HasEncoded, HasBegun};
 ghost use Rattle.flac_cli.specs.Lined.{Adds};
 ghost use Rattle.flac_cli.specs.Outcomes.{at_place, Fits, Reads, IsRetagged, IsOutOfMemory, IsRetagOutOfMemory, IsUnlisted, IsAnswer, Reports as ReportsOf, ReportsInput};
-ghost use Rattle.flac_cli.specs.Refusals.{CanBeEncoded, text_of};
-ghost use Rattle.flac_cli.specs.Reports.{fault_line, path_of, Serves, Reports};
+ghost use Rattle.flac_cli.specs.Refusals.{CanBeEncoded};
+ghost use Rattle.flac_cli.specs.Reports.{fault_line, path_of, line_text, files_of, Serves, Reports};
 ghost use Rattle.flac_cli.specs.Retagged.{HasRetagged, RetagsWith};
 ghost use Rattle.flac_bits.specs.Bits.{bits_of};
 
 use crate::counts::Counts;
 use crate::decoding::decode_stream;
-use crate::encoding::{Refusal, encode_raw};
-use crate::lines::{Lines, write_line};
+use crate::encoding::{Encoding, Refusal, encode_raw};
+use crate::lines::{At, Lines, write_line};
 use crate::listing::Listing;
 use crate::retagging::retag_with;
 use crate::samples::SampleWriter;
 use flac_bits::{Source, Target, Why};
+use flac_frame::SetupFault;
 use flac_jobs::Job;
 use flac_native::{EncodeFault, Fault, Place, Profile, RetagFault};
 use std::alloc::Global;
@@ -125,21 +126,32 @@ fn refuse<E: Target>(err: &mut E, path: &str, at: Option<Place>, why: Why) -> u8
     ensures line { E.known err.old ≡ true → E.errors err.new ≡ E.errors err.old → IsAnswer (Some (at, why)) path.now result (E.sent err.old) (E.sent err.new) }
 {
     // If it cannot be written, there is no one left to report it to.
-    let _ = write_line(err, path, at, why.as_str());
+    let _ = write_line(err, path, At::place(at), why.as_str());
     1
 }
 
-/// Writes the line of an encoding that failed, and returns the status 1.
-fn refuse_encoding<E: Target>(err: &mut E, input: &str, output: &str, refusal: Refusal) -> u8
-    ensures status { result ≡ 1 }
-    ensures line { E.known err.old ≡ true → E.errors err.new ≡ E.errors err.old → E.sent err.new ≡ E.sent err.old ++ fault_line (path_of input.now output.now refusal) (text_of refusal) }
+/// The path of the file at fault if an encoding fails.
+fn path_at_fault<'a>(job: &Job<'a>, refusal: Refusal) -> &'a str
+    ensures { result.now ≡ path_of (files_of job.now) refusal }
 {
-    let path = match refusal {
-        Refusal::Output(EncodeFault::Write) => output,
-        _ => input,
+    let of_file = match refusal {
+        Refusal::Line(_) => job.predictors(),
+        Refusal::Setup(SetupFault::PredictorOrder) => job.predictors(),
+        Refusal::Setup(SetupFault::TooManyPredictors) => job.predictors(),
+        Refusal::Output(EncodeFault::Write) => job.output(),
+        _ => None,
     };
+    of_file.unwrap_or(job.input())
+}
+
+/// Writes the line of an encoding that failed, and returns the status 1.
+fn refuse_encoding<E: Target>(err: &mut E, job: &Job<'_>, refusal: Refusal) -> u8
+    ensures status { result ≡ 1 }
+    ensures line { E.known err.old ≡ true → E.errors err.new ≡ E.errors err.old → E.sent err.new ≡ E.sent err.old ++ fault_line (path_of (files_of job.now) refusal) (line_text refusal) }
+{
+    let path = path_at_fault(job, refusal);
     // If it cannot be written, there is no one left to report it to.
-    let _ = write_line(err, path, None, refusal.as_str());
+    let _ = write_line(err, path, refusal.at(), refusal.as_str());
     1
 }
 
@@ -274,6 +286,15 @@ fn run_retag<R: Source, W: Target, E: Target>(
     }
 }
 
+/// A job, and what is read for it before it is done.
+#[derive(Clone, Copy)]
+pub struct Task<'a> {
+    /// The job.
+    pub job: &'a Job<'a>,
+    /// The text of its list of predictors, empty if there is none.
+    pub list: &'a [u8],
+}
+
 /// Does a job, and returns the exit status: 0 if it is done, 1 if it failed.
 ///
 /// `source` is the file that the job reads, `target` the one that it writes, if it writes one; `out` and `err` are
@@ -281,34 +302,34 @@ fn run_retag<R: Source, W: Target, E: Target>(
 /// written.
 pub fn run<R: Source, W: Target, O: Target, E: Target>(
     alloc: Global,
-    job: &Job<'_>,
+    task: &Task<'_>,
     source: &mut R,
     target: &mut W,
     out: &mut O,
     err: &mut E,
 ) -> u8
     // Test, decode and list are done only if the input is a stream.
-    ensures stream { AsksStream job.now → result ≡ 0 → Tells R.Source source.old source.new → (parts : List Piece) × IsStream (profile_of (asks_lax job.now)) parts (R.coming source.old) (R.behind source.old) }
+    ensures stream { AsksStream task.now.job.now → result ≡ 0 → Tells R.Source source.old source.new → (parts : List Piece) × IsStream (profile_of (asks_lax task.now.job.now)) parts (R.coming source.old) (R.behind source.old) }
     // After status 0, a test has added to standard output exactly the line of the stream's counts.
-    ensures tested { AsksTest job.now → result ≡ 0 → Tells R.Source source.old source.new → O.known out.old ≡ true →
-        (parts : List Piece) × IsStream (profile_of (asks_lax job.now)) parts (R.coming source.old) (R.behind source.old) × (O.sent out.new ≡ O.sent out.old ++ counts_line parts) }
+    ensures tested { AsksTest task.now.job.now → result ≡ 0 → Tells R.Source source.old source.new → O.known out.old ≡ true →
+        (parts : List Piece) × IsStream (profile_of (asks_lax task.now.job.now)) parts (R.coming source.old) (R.behind source.old) × (O.sent out.new ≡ O.sent out.old ++ counts_line parts) }
     // After status 0, a decoding has added to the file exactly the samples of the stream's frames.
-    ensures decoded { AsksDecode job.now → result ≡ 0 → Tells R.Source source.old source.new → W.known target.old ≡ true →
-        (parts : List Piece) × IsStream (profile_of (asks_lax job.now)) parts (R.coming source.old) (R.behind source.old) × (W.sent target.new ≡ W.sent target.old ++ all_samples 0 parts) }
+    ensures decoded { AsksDecode task.now.job.now → result ≡ 0 → Tells R.Source source.old source.new → W.known target.old ≡ true →
+        (parts : List Piece) × IsStream (profile_of (asks_lax task.now.job.now)) parts (R.coming source.old) (R.behind source.old) × (W.sent target.new ≡ W.sent target.old ++ all_samples 0 parts) }
     // After status 0, an encoding has added to the file a stream of exactly the samples that the input is.
-    ensures encoded { result ≡ 0 → R.known source.old ≡ true → W.known target.old ≡ true → HasEncoded job.now (R.coming source.old) (bits_of (W.sent target.old)) (bits_of (W.sent target.new)) }
+    ensures encoded { result ≡ 0 → R.known source.old ≡ true → W.known target.old ≡ true → HasEncoded (asked_by task.now) (R.coming source.old) (bits_of (W.sent target.old)) (bits_of (W.sent target.new)) }
     // After status 0 there was no reason to refuse the encoding.
-    ensures accepted { result ≡ 0 → R.known source.old ≡ true → CanBeEncoded job.now (R.coming source.old) }
+    ensures accepted { result ≡ 0 → R.known source.old ≡ true → CanBeEncoded (asked_by task.now) (R.coming source.old) }
     // After status 1, an encoding has added nothing, or a prefix of such a stream.
-    ensures begun { result ≡ 1 → R.known source.old ≡ true → W.known target.old ≡ true → HasBegun job.now (R.coming source.old) (bits_of (W.sent target.old)) (bits_of (W.sent target.new)) }
+    ensures begun { result ≡ 1 → R.known source.old ≡ true → W.known target.old ≡ true → HasBegun (asked_by task.now) (R.coming source.old) (bits_of (W.sent target.old)) (bits_of (W.sent target.new)) }
     // If no device fails: if there is a reason to refuse the encoding, the status is 1, and the line of the first one
     // was added to standard error; if there is none, the status is 0, and nothing was added. Or memory ran out: then
     // the status is 1, and the line says that.
     ensures refused { Tells R.Source source.old source.new → Serves W.Target target.old target.new → Serves E.Target err.old err.new →
-        Reports job.now (R.coming source.old) result (E.sent err.old) (E.sent err.new) }
+        Reports (asked_by task.now) (R.coming source.old) (files_of task.now.job.now) result (E.sent err.old) (E.sent err.new) }
     // After status 0, a retagging has added to the file the same STREAMINFO, the comments, the other blocks and the
     // rest of the input.
-    ensures retagged { result ≡ 0 → R.known source.old ≡ true → W.known target.old ≡ true → HasRetagged job.now (R.coming source.old) (R.behind source.old) (bits_of (W.sent target.old)) (bits_of (W.sent target.new)) }
+    ensures retagged { result ≡ 0 → R.known source.old ≡ true → W.known target.old ≡ true → HasRetagged task.now.job.now (R.coming source.old) (R.behind source.old) (bits_of (W.sent target.old)) (bits_of (W.sent target.new)) }
     // The status is 0 or 1.
     ensures status { result ≤ 1 }
     // If no device that the job uses fails: if the input is a stream, test, decode and list return 0 and add nothing to
@@ -316,9 +337,9 @@ pub fn run<R: Source, W: Target, O: Target, E: Target>(
     // for the marker, the blocks and comments that are too long. Or memory ran out, or a block could not be listed:
     // then the line says that.
     ensures reported { Tells R.Source source.old source.new → Serves E.Target err.old err.new →
-        ReportsInput job.now (R.coming source.old) (R.behind source.old) (Serves W.Target target.old target.new) (Serves O.Target out.old out.new) result (E.sent err.old) (E.sent err.new) }
+        ReportsInput task.now.job.now (R.coming source.old) (R.behind source.old) (Serves W.Target target.old target.new) (Serves O.Target out.old out.new) result (E.sent err.old) (E.sent err.new) }
 {
-    match job {
+    match task.job {
         Job::Test { input, lax } => run_test(alloc, input, source, profile_of(*lax), out, err),
         Job::Decode { input, output, lax } => {
             let paths = Paths { input, output };
@@ -326,22 +347,24 @@ pub fn run<R: Source, W: Target, O: Target, E: Target>(
         }
         Job::List { input, lax } => run_list(alloc, input, source, profile_of(*lax), out, err),
         Job::Encode {
-            input,
-            output,
             format,
             container,
             comments,
-        } => match encode_raw(
-            alloc,
-            source,
-            *format,
-            *container,
-            comments.as_slice(),
-            target,
-        ) {
-            Ok(()) => 0,
-            Err(refusal) => refuse_encoding(err, input, output, refusal),
-        },
+            lax,
+            ..
+        } => {
+            let encoding = Encoding {
+                profile: profile_of(*lax),
+                format: *format,
+                container: *container,
+                comments: comments.as_slice(),
+                list: task.list,
+            };
+            match encode_raw(alloc, &encoding, source, target) {
+                Ok(()) => 0,
+                Err(refusal) => refuse_encoding(err, task.job, refusal),
+            }
+        }
         Job::Retag {
             input,
             output,

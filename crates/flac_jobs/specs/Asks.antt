@@ -1,5 +1,5 @@
 -- What a job asks for.
-use Rattle.std.specs.Prelude.{ℕ, Bool, false, List, Option, Some, None}
+use Rattle.std.specs.Prelude.{ℕ, Bool, false, List, Option, Some, None, option_map}
 use Rattle.flac_jobs.specs.declared.jobs.Job.{Job}
 use Rattle.flac_jobs.specs.declared.jobs.Job.TheVariants as job
 
@@ -10,15 +10,16 @@ AsksDecode other = ⊥
 
 -- the job reads a whole stream
 abbrev pub AsksStream : Job → Type 0
-AsksStream (job.Encode input output format container comments) = ⊥
+AsksStream (job.Encode input output format container comments lax predictors) = ⊥
 AsksStream (job.Retag input output comments) = ⊥
 AsksStream other = Unit {0}
 
--- the job accepts streams outside the streamable subset too
+-- the job accepts, or writes, streams outside the streamable subset too
 abbrev pub asks_lax : Job → Bool
 asks_lax (job.Test input lax) = lax
 asks_lax (job.Decode input output lax) = lax
 asks_lax (job.List input lax) = lax
+asks_lax (job.Encode input output format container comments lax predictors) = lax
 asks_lax other = false
 
 -- the path of the file that is read
@@ -26,12 +27,17 @@ abbrev pub input_of : Job → List ℕ
 input_of (job.Test input lax) = input.now
 input_of (job.Decode input output lax) = input.now
 input_of (job.List input lax) = input.now
-input_of (job.Encode input output format container comments) = input.now
+input_of (job.Encode input output format container comments lax predictors) = input.now
 input_of (job.Retag input output comments) = input.now
 
 -- the path of the file that is written, if there is one
 abbrev pub output_of : Job → Option (List ℕ)
 output_of (job.Decode input output lax) = Some output.now
-output_of (job.Encode input output format container comments) = Some output.now
+output_of (job.Encode input output format container comments lax predictors) = Some output.now
 output_of (job.Retag input output comments) = Some output.now
 output_of other = None
+
+-- the path of the list of predictors, if there is one
+abbrev pub list_of : Job → Option (List ℕ)
+list_of (job.Encode input output format container comments lax predictors) = option_map (λ path. path.now) predictors
+list_of other = None

@@ -1,14 +1,14 @@
 //! Jobs: what the program is asked for.
 
 ghost use Rattle.std.specs.Prelude.{◌≡◌, option_map};
-ghost use Rattle.flac_jobs.specs.Asks.{input_of, output_of};
+ghost use Rattle.flac_jobs.specs.Asks.{input_of, list_of, output_of};
 
 use crate::formats::{Container, Format};
 
 /// What the program is asked for: one variant for each command, with what was given on the command line.
 ///
 /// `input` is the path of the file that is read, `output` that of the file that is written. A comment is a text
-/// `NAME=VALUE`. With `lax` streams outside the streamable subset (RFC 9639, section 7) are accepted too.
+/// `NAME=VALUE`. With `lax` streams outside the streamable subset (RFC 9639, section 7) are accepted too, and written.
 #[derive(Debug, Drop, PartialEq, Eq)]
 pub enum Job<'a> {
     /// Decodes a stream, and prints how many frames and samples it has.
@@ -28,12 +28,16 @@ pub enum Job<'a> {
         lax: bool,
     },
     /// Encodes raw samples of this format to a native or an Ogg stream with these comments.
+    ///
+    /// `predictors` is the path of a list of linear predictors, which the encoder tries too; `None` if there is none.
     Encode {
         input: &'a str,
         output: &'a str,
         format: Format,
         container: Container,
         comments: Vec<&'a str>,
+        lax: bool,
+        predictors: Option<&'a str>,
     },
     /// Writes a stream with these comments in place of its own.
     Retag {
@@ -63,6 +67,16 @@ impl<'a> Job<'a> {
             Job::Test { .. } | Job::List { .. } => None,
             Job::Decode { output, .. } | Job::Encode { output, .. } => Some(output),
             Job::Retag { output, .. } => Some(output),
+        }
+    }
+
+    /// The path of the list of predictors; `None` if the job reads none.
+    pub fn predictors(&self) -> Option<&'a str>
+        ensures { option_map (λ path. path.now) result ≡ list_of self.now }
+    {
+        match self {
+            Job::Encode { predictors, .. } => *predictors,
+            _ => None,
         }
     }
 }

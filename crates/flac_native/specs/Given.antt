@@ -35,9 +35,9 @@ pub record Cut : Type 0 where
   pub seek_every : ℕ
   pub predictors : List LinearPredictor
 
-abbrev pub cut_of : (block_size : ℕ) → Sound → (seek_every : ℕ) → Cut
-cut_of block_size a seek_every = record {
-  profile = a.profile;
+abbrev pub cut_in : Profile → (block_size : ℕ) → Sound → (seek_every : ℕ) → Cut
+cut_in profile block_size a seek_every = record {
+  profile = profile;
   block_size = block_size;
   rate = a.rate;
   bits = a.bits;
@@ -46,6 +46,10 @@ cut_of block_size a seek_every = record {
   seek_every = seek_every;
   predictors = [];
 }
+
+-- the same in the profile of the samples
+abbrev pub cut_of : (block_size : ℕ) → Sound → (seek_every : ℕ) → Cut
+cut_of block_size a seek_every = cut_in a.profile block_size a seek_every
 
 -- the predictors of a list that may be left out
 abbrev pub listed : Option (Vec LinearPredictor Global) → List LinearPredictor

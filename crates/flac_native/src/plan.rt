@@ -1,7 +1,7 @@
 //! How samples are divided into frames.
 
 ghost use Rattle.std.specs.Prelude.{◌≡◌, ◌<◌, ◌≤◌, ◌*◌, ◌^◌, ◌++◌, [], MatchResult, IfOk, OnOk, IfErr, true, Some, None};
-ghost use Rattle.flac_native.specs.Given.{same_profile, blocks_in, has_point, points_before, cut_of, with_predictors, fits_plan, predictors_fault, plan_fault};
+ghost use Rattle.flac_native.specs.Given.{same_profile, blocks_in, has_point, points_before, cut_in, cut_of, with_predictors, fits_plan, predictors_fault, plan_fault};
 ghost use Rattle.flac_native.specs.Seeking.{point_at};
 
 use crate::subset::greatest_in;
@@ -161,8 +161,25 @@ impl Plan {
         ensures made { MatchResult result (λ p. p ≡ cut_of block_size audio.now seek_every) (λ e. plan_fault (cut_of block_size audio.now seek_every) ≡ Some e) }
         ensures fits { IfOk result (λ p. fits_plan p audio.now ≡ true) }
     {
+        Plan::new_in(audio.profile(), block_size, audio, seek_every)
+    }
+
+    /// Makes a plan as [`Plan::new`] does, in a profile that is named. It fits the samples if they have the same one.
+    ///
+    /// # Errors
+    /// The first of these that applies: [`SetupFault::BadRate`] or [`SetupFault::BadDepth`] if the profile does not
+    /// allow the rate or the bits of the samples, and then those of [`Plan::new`].
+    pub fn new_in(
+        profile: Profile,
+        block_size: u32,
+        audio: &Audio,
+        seek_every: u32,
+    ) -> Result<Plan, SetupFault>
+        ensures made { MatchResult result (λ p. p ≡ cut_in profile block_size audio.now seek_every) (λ e. plan_fault (cut_in profile block_size audio.now seek_every) ≡ Some e) }
+        ensures fits { IfOk result (λ p. audio.now.profile ≡ profile → fits_plan p audio.now ≡ true) }
+    {
         let asked = Asked {
-            profile: audio.profile(),
+            profile,
             block_size,
             rate: audio.rate(),
             bits: audio.bits(),

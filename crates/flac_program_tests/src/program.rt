@@ -1,11 +1,11 @@
 //! The program over memory, by tables of text.
 
 use crate::tables::{
-    CHANGES, COME_BACK, ENCODINGS, JOBS, LAST_BYTE, LISTS, NATIVE, OGG, PIECES, PREFIXES,
-    RETAGGINGS, SWEPT,
+    CHANGES, COME_BACK, ENCODINGS, JOBS, LAST_BYTE, LAX, LISTS, NATIVE, OGG, PIECES, PREDICTED,
+    PREFIXES, RETAGGINGS, SWEPT,
 };
 use flac_bits::{Collected, Counted, Memory, Pieces, Source, Target};
-use flac_cli::{Container, Format, Job, run};
+use flac_cli::{Container, Format, Job, Task, run};
 use flac_words::job;
 use std::alloc::Global;
 use std::io;
@@ -168,27 +168,37 @@ fn words_of(alloc: Global, line: &str) -> Result<Vec<String>, Fail> {
 /// Does a job over devices, with the fault's line in memory.
 fn run_on<R: Source, W: Target, O: Target>(
     alloc: Global,
-    job: &Job<'_>,
+    task: &Task<'_>,
     source: &mut R,
     file: &mut W,
     out: &mut O,
     err: &mut Collected,
 ) -> u8 {
-    run(alloc, job, source, file, out, err)
+    run(alloc, task, source, file, out, err)
 }
 
-/// Does a job over memory, which gives at most `most` bytes at once.
+/// Does a job without a list over memory, which gives at most `most` bytes at once.
 pub(crate) fn perform(alloc: Global, job: &Job<'_>, input: &[u8], most: usize) -> Outcome {
+    perform_with(alloc, job, &[], input, most)
+}
+
+/// Does a job whose list has this text over memory, which gives at most `most` bytes at once.
+fn perform_with(alloc: Global, job: &Job<'_>, list: &[u8], input: &[u8], most: usize) -> Outcome {
     let mut source = Pieces::new(Memory::new(input), most.max(1));
-    perform_on(alloc, job, &mut source)
+    perform_task(alloc, &Task { job, list }, &mut source)
+}
+
+/// Does a job without a list on a source, and keeps in memory all that it writes.
+pub(crate) fn perform_on<R: Source>(alloc: Global, job: &Job<'_>, source: &mut R) -> Outcome {
+    perform_task(alloc, &Task { job, list: &[] }, source)
 }
 
 /// Does a job on a source, and keeps in memory all that it writes.
-pub(crate) fn perform_on<R: Source>(alloc: Global, job: &Job<'_>, source: &mut R) -> Outcome {
+fn perform_task<R: Source>(alloc: Global, task: &Task<'_>, source: &mut R) -> Outcome {
     let mut file = Collected::new(alloc);
     let mut out = Collected::new(alloc);
     let mut err = Collected::new(alloc);
-    let status = run_on(alloc, job, source, &mut file, &mut out, &mut err);
+    let status = run_on(alloc, task, source, &mut file, &mut out, &mut err);
     Outcome {
         status,
         file: file.into_bytes(),
@@ -197,11 +207,17 @@ pub(crate) fn perform_on<R: Source>(alloc: Global, job: &Job<'_>, source: &mut R
     }
 }
 
-/// Does the job of a command line over memory; the status is 2 where its words are refused.
-fn commanded(alloc: Global, line: &str, input: &[u8], most: usize) -> Result<Outcome, Fail> {
+/// Does the job of a command line, whose list has this text, over memory; the status is 2 if its words are refused.
+fn commanded(
+    alloc: Global,
+    line: &str,
+    list: &[u8],
+    input: &[u8],
+    most: usize,
+) -> Result<Outcome, Fail> {
     let words = words_of(alloc, line)?;
     match job(alloc, words.as_slice()) {
-        Ok(job) => Ok(perform(alloc, &job, input, most)),
+        Ok(job) => Ok(perform_with(alloc, &job, list, input, most)),
         Err(_) => Ok(Outcome {
             status: 2,
             file: Vec::new(alloc),
@@ -227,11 +243,17 @@ fn wanted_of(alloc: Global, answer: &str) -> Result<Outcome, Fail> {
 }
 
 /// Whether a command comes to what is wanted, on an input that comes in pieces of 1, 2, 3 and 4096 bytes.
-fn comes_to(alloc: Global, command: &str, input: &[u8], wanted: &Outcome) -> Result<bool, Fail> {
+fn comes_to(
+    alloc: Global,
+    command: &str,
+    list: &[u8],
+    input: &[u8],
+    wanted: &Outcome,
+) -> Result<bool, Fail> {
     let line = format!(in alloc; "flac {command}")?;
     let mut same = true;
     for most in [1, 2, 3, 4096] {
-        let found = commanded(alloc, &line, input, most)?;
+        let found = commanded(alloc, &line, list, input, most)?;
         same = same && found.equals(wanted);
     }
     Ok(same)
@@ -248,7 +270,19 @@ fn row_holds(alloc: Global, row: &str) -> Result<bool, Fail> {
     let (words, answer) = split_row(rest);
     let input = bytes_of(alloc, words)?;
     let wanted = wanted_of(alloc, answer)?;
-    comes_to(alloc, command, &input, &wanted)
+    comes_to(alloc, command, &[], &input, &wanted)
+}
+
+/// Whether an encoding with the options and the list of a row comes to what the row wants.
+fn predicted_holds(alloc: Global, input: &[u8], row: &str) -> Result<bool, Fail> {
+    let (options, rest) = split_row(row);
+    let (list, answer) = split_row(rest);
+    let command = format!(in alloc;
+        "encode a.raw a.flac --rate 44100 --channels 1 --bits 16 {options}"
+    )?;
+    let list = lines_of(alloc, list)?;
+    let wanted = wanted_of(alloc, answer)?;
+    comes_to(alloc, &command, list.as_bytes(), input, &wanted)
 }
 
 /// Checks each row of a table but those that begin with `#`.
@@ -274,6 +308,48 @@ fn lists(rt: HostRuntime) -> Result<(), Fail> {
 #[test]
 fn encodings(rt: HostRuntime) -> Result<(), Fail> {
     check_table(&rt, rt.alloc(), ENCODINGS)
+}
+
+#[test]
+fn outside_the_subset(rt: HostRuntime) -> Result<(), Fail> {
+    check_table(&rt, rt.alloc(), LAX)
+}
+
+#[test]
+fn with_lists(rt: HostRuntime) -> Result<(), Fail> {
+    let input = bytes_of(rt.alloc(), "e90317fc*8")?;
+    for row in PREDICTED.lines() {
+        if !row.starts_with('#') {
+            assert!(rt; predicted_holds(rt.alloc(), &input, row)?, "{row}");
+        }
+    }
+    Ok(())
+}
+
+/// What comes of an encoding with a list of as many equal lines, and one more.
+fn many_lines(alloc: Global, count: usize, last: &str) -> Result<Outcome, Fail> {
+    let mut list = String::new(alloc);
+    for _ in 0..count {
+        list.push_str("1 0 -1\n")?;
+    }
+    list.push_str(last)?;
+    let input = bytes_of(alloc, "e90317fc*8")?;
+    let line =
+        "flac encode a.raw a.flac --rate 44100 --channels 1 --bits 16 --block 16 --predictors a.txt";
+    commanded(alloc, line, list.as_bytes(), &input, 4096)
+}
+
+/// 64 predictors are taken. One more is refused, also if its order is too large, and after the samples.
+#[test]
+fn too_many_predictors(rt: HostRuntime) -> Result<(), Fail> {
+    let alloc = rt.alloc();
+    let wanted = bytes_of(alloc, "PREDICTED COMMENTS ALTERNATING")?;
+    let line = "flac: a.txt: 52 TooManyPredictors\n";
+    assert!(rt; many_lines(alloc, 63, "1 0 -1")?.is(0, &wanted, "", ""));
+    assert!(rt; many_lines(alloc, 64, "# none")?.is(0, &wanted, "", ""));
+    assert!(rt; many_lines(alloc, 64, "1 0 -1")?.is(1, &[], "", line));
+    assert!(rt; many_lines(alloc, 64, "1 0 0 0 0 0 0 0 0 0 0 0 0 0 0")?.is(1, &[], "", line));
+    Ok(())
 }
 
 #[test]
@@ -474,7 +550,7 @@ fn rising(alloc: Global, len: usize) -> Result<Vec<u8>, Fail> {
 /// Whether these samples are encoded with these options, and decoded to what was put in.
 fn is_given_back(alloc: Global, options: &str, raw: &[u8]) -> Result<bool, Fail> {
     let line = format!(in alloc; "flac encode a.raw a.flac --rate 44100 --block 16 {options}")?;
-    let encoded = commanded(alloc, &line, raw, 4096)?;
+    let encoded = commanded(alloc, &line, &[], raw, 4096)?;
     let decoded = perform(alloc, &DECODE, &encoded.file, 4096);
     Ok(encoded.is(0, &encoded.file, "", "") && decoded.is(0, raw, "", ""))
 }
@@ -510,7 +586,8 @@ fn fails(alloc: Global, job: &Job<'_>, stream: &[u8], wanted: &str) -> bool {
     let mut file = Counted::new(Full);
     let mut out = Counted::new(Full);
     let mut err = Collected::new(alloc);
-    let status = run_on(alloc, job, &mut source, &mut file, &mut out, &mut err);
+    let task = Task { job, list: &[] };
+    let status = run_on(alloc, &task, &mut source, &mut file, &mut out, &mut err);
     status == 1 && err.bytes() == wanted.as_bytes()
 }
 
@@ -542,6 +619,8 @@ fn no_table_in_ogg(rt: HostRuntime) {
         format,
         container: Container::Ogg { serial: 1 },
         comments: Vec::new(alloc),
+        lax: false,
+        predictors: None,
     };
     let found = perform(alloc, &job, &[0xF4, 0x63, 0xB0, 0x28], 4096);
     assert!(rt; found.is(1, &[], "", "flac: a.raw: 37 BadMapping\n"));

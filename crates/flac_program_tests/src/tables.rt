@@ -63,7 +63,18 @@ ZEROS_2 4f67675300003000000000000000010000000300000080e9f487010cfff86908020f1a00
 ZEROS_3 4f676753000440000000000000000100000004000000f9b2852e010cfff86908030f0f000000c28a
 ZEROS_TOGETHER 4f676753000440000000000000000100000001000000fab58f43040c0c0c0cfff86908000f300000004680fff86908010f25000000ba85fff86908020f1a0000003e8ffff86908030f0f000000c28a
 # The program's comment block on page 1.
-VENDOR 4f67675300000000000000000000010000000100000050e32f54011a840000160e000000666c61632070726f66696c65203100000000";
+VENDOR 4f67675300000000000000000000010000000100000050e32f54011a840000160e000000666c61632070726f66696c65203100000000
+# Sixteen zeros at 65537 Hz, of 5 bits: STREAMINFO and the frame; in Ogg the mapping packet and the frame's page.
+LAX 664c6143000000220010001000000b00000b10001040000000104ae71336e44bf9bf79d2752e234818a5
+LAX_FRAME fff86000000fc700000572
+LAX_MAPPING 4f67675300020000000000000000010000000000000029c2183b01337f464c414301000001664c6143000000220010001000000b00000b10001040000000104ae71336e44bf9bf79d2752e234818a5
+LAX_PAGE 4f676753000410000000000000000100000002000000aa3cdb8e010bfff86000000fc700000572
+# 1001 and -1001 in turn: STREAMINFO where the frame is ALTERNATING, and in Ogg; STREAMINFO and the frame by a fixed predictor of order 0, with residuals of 11 bits.
+PREDICTED 664c614300000022001000100000100000100ac440f000000010d1f223132b5d8ea4d06feffa79868854
+PREDICTED_MAPPING 4f67675300020000000000000000010000000000000029bebf0b01337f464c414301000001664c614300000022001000100000100000100ac440f000000010d1f223132b5d8ea4d06feffa79868854
+PREDICTED_PAGE 4f6767530004100000000000000001000000020000000ecc45b30110fff86908000f304003e90040f000b5aa
+PLAIN 664c614300000022001000100000220000220ac440f000000010d1f223132b5d8ea4d06feffa79868854
+PLAIN_FRAME fff86908000f301003d6fa60bbe982efa60bbe982efa60bbe982efa60bbe982eb03d";
 
 /// Native streams: a command, its input, its status, and what it writes to its file, to standard output and to standard error. The frames were made bit
 /// by bit; the answers are those of RFC 9639 and of its streamable subset.
@@ -296,6 +307,69 @@ list a.flac | 664c6143000000221000100000000b00000d0ac440f000002710b2fe457348de24
 encode a.raw a.oga --rate 44100 --channels 2 --bits 16 --ogg --serial 1 | f463b028 | 0 | MAPPING VENDOR FRAME
 decode a.flac a.raw | MAPPING VENDOR FRAME | 0 | f463b028";
 
+/// Raw samples that are encoded outside the streamable subset, in rows as those of [`ENCODINGS`].
+pub(crate) const LAX: &str = "# Sixteen zeros at 65537 Hz, of 5 bits: a byte for each sample.
+encode a.raw a.flac --rate 65537 --channels 1 --bits 5 --block 16 --lax | 00*16 | 0 | LAX COMMENTS LAX_FRAME
+encode a.raw a.flac --rate 65537 --channels 1 --bits 5 --block 16 | 00*16 | 1 |  |  | flac: a.raw: 40 BadRate;
+decode --lax a.flac a.raw | LAX COMMENTS LAX_FRAME | 0 | 00*16
+test --lax a.flac | LAX COMMENTS LAX_FRAME | 0 |  | frames 1 samples 16;
+test a.flac | LAX COMMENTS LAX_FRAME | 1 |  |  | flac: a.flac: frame 0: 14 NotSubset;
+# The same in Ogg.
+encode a.raw a.oga --rate 65537 --channels 1 --bits 5 --block 16 --lax --ogg | 00*16 | 0 | LAX_MAPPING VENDOR LAX_PAGE
+decode --lax a.flac a.raw | LAX_MAPPING VENDOR LAX_PAGE | 0 | 00*16
+test a.flac | LAX_MAPPING VENDOR LAX_PAGE | 1 |  |  | flac: a.flac: frame 0: 14 NotSubset;
+# The greatest rate, the smallest depth, and the greatest block.
+encode a.raw a.flac --rate 1048575 --channels 1 --bits 8 --block 16 --lax | 00*16 | 0 | 664c6143000000220010001000000b00000bfffff070000000104ae71336e44bf9bf79d2752e234818a5 COMMENTS fff86002000f110000fb4a
+encode a.raw a.flac --rate 44100 --channels 1 --bits 4 --block 16 --lax | ff*16 | 0 | 664c6143000000220010001000000b00000b0ac44030000000108d79cbc9a4ecdde112fc91ba625b13c2 COMMENTS fff86900000f6100f0063a
+encode a.raw a.flac --rate 44100 --channels 1 --bits 8 --block 65535 --lax | 00*65535 | 0 | 664c614300000022ffffffff00000c00000c0ac440700000ffffc9ed338456e973b2c5440047aa2ead0b COMMENTS fff8790200fffede0000b07c
+encode a.raw a.flac --rate 44100 --channels 1 --bits 8 --block 65535 | 00*65535 | 1 |  |  | flac: a.raw: 46 BadBlockSize;
+# What is refused in both profiles, of three samples of 16 bits or six of 8; a number of 4 bits is below 8.
+encode a.raw a.flac --rate 1048576 --channels 1 --bits 16 --lax | 000000080000 | 1 |  |  | flac: a.raw: 40 BadRate;
+encode a.raw a.flac --rate 0 --channels 1 --bits 16 --lax | 000000080000 | 1 |  |  | flac: a.raw: 40 BadRate;
+encode a.raw a.flac --rate 44100 --channels 1 --bits 33 --lax | 000000080000 | 1 |  |  | flac: a.raw: 41 BadDepth;
+encode a.raw a.flac --rate 44100 --channels 1 --bits 3 --lax | 000000080000 | 1 |  |  | flac: a.raw: 41 BadDepth;
+encode a.raw a.flac --rate 44100 --channels 9 --bits 16 --lax | 000000080000 | 1 |  |  | flac: a.raw: 42 BadChannels;
+encode a.raw a.flac --rate 44100 --channels 1 --bits 4 --lax | 000000080000 | 1 |  |  | flac: a.raw: 44 SampleTooLarge;
+encode a.raw a.flac --rate 44100 --channels 1 --bits 16 --block 15 --lax | 000000080000 | 1 |  |  | flac: a.raw: 46 BadBlockSize;
+encode a.raw a.flac --rate 44100 --channels 1 --bits 16 --block 65536 --lax | 000000080000 | 1 |  |  | flac: a.raw: 46 BadBlockSize;";
+
+/// Samples that are encoded with a list of predictors: the options, the text of the list, in which `;` ends a line, and
+/// the rest as in [`ENCODINGS`]. The input is 1001 and -1001 in turn, at 44100 Hz in one channel of 16 bits.
+pub(crate) const PREDICTED: &str =
+    "# Without a list, and with one of no predictors: by a fixed predictor of order 0, each sample in 11 bits.
+--block 16 |  | 0 | PLAIN COMMENTS PLAIN_FRAME
+--block 16 --predictors a.txt |  | 0 | PLAIN COMMENTS PLAIN_FRAME
+--block 16 --predictors a.txt | # no predictor;;\t \r; | 0 | PLAIN COMMENTS PLAIN_FRAME
+# The predictor that the samples follow: its residual is zeros.
+--block 16 --predictors a.txt | 1 0 -1 | 0 | PREDICTED COMMENTS ALTERNATING
+--block 16 --predictors a.txt | 1 0 -1; | 0 | PREDICTED COMMENTS ALTERNATING
+--block 16 --predictors a.txt | # the last one;3 0 2 -1;\t01  0\t-1 # right\r;15 15 -16384 16383 | 0 | PREDICTED COMMENTS ALTERNATING
+--block 16 --predictors a.txt --lax | 1 0 -1 | 0 | PREDICTED COMMENTS ALTERNATING
+--block 16 --predictors a.txt --ogg | 1 0 -1 | 0 | PREDICTED_MAPPING VENDOR PREDICTED_PAGE
+# An order of 16, which a block of 16 samples does not use: above 12 in the subset at this rate.
+--block 16 --predictors a.txt | 2 0 1 0 0 0 0 0 0 0 0 0 0 0 0 0 0 1 | 1 |  |  | flac: a.txt: 51 PredictorOrder;
+--block 16 --predictors a.txt | 2 0 1 0 0 0 0 0 0 0 0 0 0 0 1 | 1 |  |  | flac: a.txt: 51 PredictorOrder;
+--block 16 --predictors a.txt | 2 0 1 0 0 0 0 0 0 0 0 0 0 1 | 0 | PLAIN COMMENTS PLAIN_FRAME
+--block 16 --predictors a.txt --lax | 2 0 1 0 0 0 0 0 0 0 0 0 0 0 0 0 0 1 | 0 | PLAIN COMMENTS PLAIN_FRAME
+# Lines that are no predictor, of which the first is named.
+--block 16 --predictors a.txt | 1 0 -1;;1 0 1;1 0 | 1 |  |  | flac: a.txt: line 3: 53 PredictorLine;
+--block 16 --predictors a.txt | 1 | 1 |  |  | flac: a.txt: line 1: 53 PredictorLine;
+--block 16 --predictors a.txt | 1 0 | 1 |  |  | flac: a.txt: line 1: 53 PredictorLine;
+--block 16 --predictors a.txt | ;0 0 0 | 1 |  |  | flac: a.txt: line 2: 53 PredictorLine;
+--block 16 --predictors a.txt | 16 0 1 | 1 |  |  | flac: a.txt: line 1: 53 PredictorLine;
+--block 16 --predictors a.txt | 3 16 1 | 1 |  |  | flac: a.txt: line 1: 53 PredictorLine;
+--block 16 --predictors a.txt | 3 -1 1 | 1 |  |  | flac: a.txt: line 1: 53 PredictorLine;
+--block 16 --predictors a.txt | 3 0 4 | 1 |  |  | flac: a.txt: line 1: 53 PredictorLine;
+--block 16 --predictors a.txt | 3 0 -5 | 1 |  |  | flac: a.txt: line 1: 53 PredictorLine;
+--block 16 --predictors a.txt | 3 0 1.0 | 1 |  |  | flac: a.txt: line 1: 53 PredictorLine;
+--block 16 --predictors a.txt | 3 0 - | 1 |  |  | flac: a.txt: line 1: 53 PredictorLine;
+--block 16 --predictors a.txt | 3 0 4294967297 | 1 |  |  | flac: a.txt: line 1: 53 PredictorLine;
+--block 16 --predictors a.txt | 2 0 0 0 0 0 0 0 0 0 0 0 0 0 0 0 0 0 0 0 0 0 0 0 0 0 0 0 0 0 0 0 0 0 0 | 1 |  |  | flac: a.txt: line 1: 53 PredictorLine;
+# A wrong line goes before all other reasons, and a wrong order goes after those of the samples and the block size.
+--block 15 --predictors a.txt | 3 | 1 |  |  | flac: a.txt: line 1: 53 PredictorLine;
+--block 15 --predictors a.txt | 2 0 1 0 0 0 0 0 0 0 0 0 0 0 1 | 1 |  |  | flac: a.raw: 46 BadBlockSize;
+--block 16 --seek-every 1 --predictors a.txt | 2 0 1 0 0 0 0 0 0 0 0 0 0 0 1 | 1 |  |  | flac: a.txt: 51 PredictorOrder;";
+
 /// Formats of raw samples, and the number of bytes of seventeen samples of each channel.
 pub(crate) const COME_BACK: &str = "--bits 8 --channels 1 | 17
 --bits 8 --channels 2 | 34
@@ -362,10 +436,12 @@ flac decode a.flac a.raw --lax | Decode { input: "a.flac", output: "a.raw", lax:
 flac list a.flac | List { input: "a.flac", lax: false }
 flac list a.flac --lax | List { input: "a.flac", lax: true }
 flac retag a.flac b.flac A=b | Retag { input: "a.flac", output: "b.flac", comments: ["A=b"] }
-flac encode a.raw a.flac --rate 44100 --channels 2 --bits 16 --seek-every 5 A=b | Encode { input: "a.raw", output: "a.flac", format: Format { rate: 44100, channels: 2, bits: 16, block: 4096, seek_every: 5 }, container: Native, comments: ["A=b"] }
-flac encode a.raw a.oga --rate 44100 --channels 2 --bits 16 --ogg --serial 7 | Encode { input: "a.raw", output: "a.oga", format: Format { rate: 44100, channels: 2, bits: 16, block: 4096, seek_every: 0 }, container: Ogg { serial: 7 }, comments: [] }
-flac encode a.raw a.oga --rate 44100 --channels 2 --bits 16 --ogg --block 4096 | Encode { input: "a.raw", output: "a.oga", format: Format { rate: 44100, channels: 2, bits: 16, block: 4096, seek_every: 0 }, container: Ogg { serial: 1 }, comments: [] }
-flac encode a.raw a.oga --rate 44100 --channels 2 --bits 16 --seek-every=0 --serial 7 | Encode { input: "a.raw", output: "a.oga", format: Format { rate: 44100, channels: 2, bits: 16, block: 4096, seek_every: 0 }, container: Native, comments: [] }
+flac encode a.raw a.flac --rate 44100 --channels 2 --bits 16 --seek-every 5 A=b | Encode { input: "a.raw", output: "a.flac", format: Format { rate: 44100, channels: 2, bits: 16, block: 4096, seek_every: 5 }, container: Native, comments: ["A=b"], lax: false, predictors: None }
+flac encode a.raw a.oga --rate 44100 --channels 2 --bits 16 --ogg --serial 7 | Encode { input: "a.raw", output: "a.oga", format: Format { rate: 44100, channels: 2, bits: 16, block: 4096, seek_every: 0 }, container: Ogg { serial: 7 }, comments: [], lax: false, predictors: None }
+flac encode a.raw a.oga --rate 44100 --channels 2 --bits 16 --ogg --block 4096 | Encode { input: "a.raw", output: "a.oga", format: Format { rate: 44100, channels: 2, bits: 16, block: 4096, seek_every: 0 }, container: Ogg { serial: 1 }, comments: [], lax: false, predictors: None }
+flac encode a.raw a.oga --rate 44100 --channels 2 --bits 16 --seek-every=0 --serial 7 | Encode { input: "a.raw", output: "a.oga", format: Format { rate: 44100, channels: 2, bits: 16, block: 4096, seek_every: 0 }, container: Native, comments: [], lax: false, predictors: None }
+flac encode a.raw a.flac --rate 44100 --channels 2 --bits 5 --lax | Encode { input: "a.raw", output: "a.flac", format: Format { rate: 44100, channels: 2, bits: 5, block: 4096, seek_every: 0 }, container: Native, comments: [], lax: true, predictors: None }
+flac encode a.raw a.flac --rate 44100 --channels 2 --bits 16 --predictors a.txt | Encode { input: "a.raw", output: "a.flac", format: Format { rate: 44100, channels: 2, bits: 16, block: 4096, seek_every: 0 }, container: Native, comments: [], lax: false, predictors: Some("a.txt") }
 flac encode a.raw a.flac --rate 44100 --channels 2 --bits 16 none | 2 flac: command: comment without =;
 flac encode a.raw a.flac --rate 44100 --channels 2 --bits 16 --ogg --seek-every 5 | 2 flac: command: --ogg with --seek-every;
 flac encode a.raw a.flac --rate 44100 --channels 2 --bits 16 --ogg --seek-every 5 none | 2 flac: command: comment without =;
@@ -374,4 +450,5 @@ flac test | 2 error: the following required arguments were not provided:;  <IN>;
 flac decode a.flac | 2 error: the following required arguments were not provided:;  <OUT>;;Usage: flac decode <IN> <OUT>;;For more information, try '--help'.;
 flac play a.flac | 2 error: unrecognized subcommand 'play';;Usage: flac <COMMAND>;;For more information, try '--help'.;
 flac --help | 0 Tests*
-flac test --help | 0 *"#;
+flac test --help | 0 *
+flac encode --help | 0 *"#;

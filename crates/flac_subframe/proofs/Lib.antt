@@ -36,6 +36,7 @@ pub mod Lengths
 pub mod Differences
 pub mod Moved
 pub mod Narrow
+pub mod Lanes
 pub mod Bodies
 pub mod Best
 pub mod Powers

@@ -14,3 +14,4 @@ pub mod Chosen
 pub mod Wasted
 pub mod Family
 pub mod Room
+pub mod Products

@@ -18,10 +18,12 @@ use crate::halving::{Found, ResidualChoice, gathered};
 use crate::held::{Held, HeldKind};
 use crate::leaving::{take_differences, take_weighed};
 use crate::linear::LinearPredictor;
-use crate::narrowed::{narrow, take_narrow};
+use crate::narrowed::{narrow, peak, take_narrow};
+use crate::products::take_products;
 use crate::survey::{greatest_halvings, least_residual};
 use crate::tables::Tables;
 use crate::view::{ResidualView, SampleView, Scope};
+use crate::wide_products::take_wide_products;
 
 /// How the samples of a subframe are written. A linear predictor is named by its place in the list that was handed in.
 #[derive(Drop, Clone, Debug, PartialEq, Eq)]
@@ -188,26 +190,46 @@ fn better_fixed(
     }
 }
 
+/// What a linear predictor leaves of the samples, worked out in 64 bits, and whether a residual may have it all.
+fn take_wide(subject: &SampleView<'_>, predictor: &LinearPredictor, wide: &mut [i64]) -> bool
+    requires places { length wide.old + length predictor.now.coefficients.items ≡ length subject.now.samples.now }
+    ensures all { wide.new ≡ differences predictor.now.coefficients.items predictor.now.shift subject.now.samples.now }
+    ensures range { IsTrue result ↔ All IsResidual (differences predictor.now.coefficients.items predictor.now.shift subject.now.samples.now) }
+{
+    let coefficients = predictor.coefficients();
+    let shift = predictor.shift();
+    if subject.narrow {
+        let narrowed = subject.narrowed;
+        return take_wide_products(coefficients, shift, narrowed, wide);
+    }
+    take_weighed(coefficients, shift, subject.samples, wide)
+}
+
 /// What a linear predictor leaves of the samples, and the same as unsigned numbers, if a residual may have it all.
 fn take_handed(
-    samples: &[i64],
+    subject: &SampleView<'_>,
     predictor: &LinearPredictor,
     wide: &mut [i64],
     values: &mut [i32],
     folds: &mut [u32],
 ) -> bool
-    requires fits { All (FitsBits 33) samples.now }
-    requires places { length values.old + length predictor.now.coefficients.items ≡ length samples.now }
-    requires wide { length samples.now ≤ length wide.old }
+    requires places { length values.old + length predictor.now.coefficients.items ≡ length subject.now.samples.now }
+    requires wide { length subject.now.samples.now ≤ length wide.old }
     requires folds { length folds.old ≡ length values.old }
-    ensures values { IsTrue result → values.new ≡ differences predictor.now.coefficients.items predictor.now.shift samples.now }
+    ensures values { IsTrue result → values.new ≡ differences predictor.now.coefficients.items predictor.now.shift subject.now.samples.now }
     ensures range { IsTrue result → All IsResidual values.new }
     ensures unsigned { IsTrue result → folds.new ≡ map folded values.new }
     ensures small { IsTrue result → All (λ n. n < 2 ^ 32) folds.new }
-    ensures all { All IsResidual (differences predictor.now.coefficients.items predictor.now.shift samples.now) → IsTrue result }
+    ensures all { All IsResidual (differences predictor.now.coefficients.items predictor.now.shift subject.now.samples.now) → IsTrue result }
 {
+    let coefficients = predictor.coefficients();
+    let shift = predictor.shift();
+    let narrowed = subject.narrowed;
+    if subject.narrow && take_products(coefficients, shift, narrowed, subject.peak, values, folds) {
+        return true;
+    }
     let wide = &mut wide[..values.len()];
-    if !take_weighed(predictor.coefficients(), predictor.shift(), samples, wide) {
+    if !take_wide(subject, predictor, wide) {
         return false;
     }
     fold_each(wide, values, folds);
@@ -249,7 +271,7 @@ fn better_linear(
     }
     let places = &mut values[..samples.len() - order];
     let folds = &mut folds[..places.len()];
-    if !take_handed(samples, predictor, wide, places, folds) {
+    if !take_handed(subject, predictor, wide, places, folds) {
         return;
     }
     let halvings = greatest_halvings(places, order, subject.most);
@@ -411,6 +433,7 @@ fn choose_among(
     };
     let narrowed = &mut narrowed[..samples.len()];
     let narrow = narrow(samples, narrowed);
+    let peak = peak(narrowed, narrow, !scope.predictors.is_empty());
     let subject = SampleView {
         samples,
         narrowed,
@@ -418,6 +441,7 @@ fn choose_among(
         most: scope.most,
         predictors: scope.predictors,
         narrow,
+        peak,
     };
     let best = search(&subject, wide, values, folds, &mut tables);
     release(best, tables.codings)

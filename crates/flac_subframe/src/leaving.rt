@@ -50,7 +50,7 @@ fn is_residual(value: i64) -> bool
 }
 
 /// Whether each value is one that a residual may have.
-fn are_residual(values: &[i64]) -> bool
+pub(crate) fn are_residual(values: &[i64]) -> bool
     ensures { IsTrue result ↔ All IsResidual values.now }
 {
     let mut all = true;

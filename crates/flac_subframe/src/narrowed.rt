@@ -1,6 +1,6 @@
 //! Samples of few bits in 32 bits each, and what the fixed predictors leave of them.
 
-ghost use Rattle.std.specs.Prelude.{◌∷◌, [], ◌≡◌, ◌<◌, ◌≤◌, ◌^◌, ◌-◌, ◌+◌, length, map, All, IsTrue, ◌↔◌};
+ghost use Rattle.std.specs.Prelude.{◌∷◌, [], ◌≡◌, ◌<◌, ◌≤◌, ◌^◌, ◌-◌, ◌+◌, ℕ, length, map, All, IsTrue, ◌↔◌};
 ghost use Rattle.std.specs.Int.RustNames.{unsigned_abs};
 ghost use Rattle.flac_bits.specs.Signed.{FitsBits};
 ghost use Rattle.flac_subframe.specs.Numbers.{sample_at};
@@ -51,6 +51,21 @@ pub(crate) fn narrow(samples: &[i64], narrowed: &mut [i32]) -> bool
     }
     narrow_each(samples, narrowed);
     true
+}
+
+/// How far from 0 narrow samples are at most, or, if that is not asked, how far they can be.
+pub(crate) fn peak(samples: &[i32], narrow: bool, asked: bool) -> u32
+    requires fits { IsTrue narrow → All (FitsBits 27) samples.now }
+    ensures { IsTrue narrow → (i : ℕ) → unsigned_abs (sample_at samples.now i) ≤ result }
+{
+    if !narrow || !asked {
+        return 0x400_0000;
+    }
+    let mut most: u32 = 0;
+    for sample in samples {
+        most = most.max(sample.unsigned_abs());
+    }
+    most
 }
 
 /// The sample `back` places before an index, 0 where a predictor of the order does not read it.

@@ -114,8 +114,14 @@ fn bound_values(values: &[i32], folds: &[u32], bits: u64, width: u8, closely: bo
     }
 }
 
-/// The sum of the lower bounds of the finest partitions.
-fn bound_parts(residual: &ResidualView<'_>, sums: &[u64], widths: &[u8], closely: bool) -> u64
+/// The sum of the lower bounds of the finest partitions, or of the first of them once they reach `below`.
+fn bound_parts(
+    residual: &ResidualView<'_>,
+    sums: &[u64],
+    widths: &[u8],
+    closely: bool,
+    below: u64,
+) -> u64
     requires places { 2 ^ residual.now.halvings ≤ length sums.now }
     requires costs { (j : ℕ) → j < 2 ^ residual.now.halvings → slice_index sums.now j ≡ sum_by (value_cost 0) (part residual.now.order residual.now.values.now residual.now.halvings j) }
     requires widths { HasWidths residual.now.order residual.now.values.now 0 residual.now.halvings widths.now }
@@ -129,6 +135,9 @@ fn bound_parts(residual: &ResidualView<'_>, sums: &[u64], widths: &[u8], closely
     let mut left = residual.folds;
     let mut long = size - residual.order;
     for j in 0..count {
+        if bits >= below {
+            return bits;
+        }
         let (front, after) = rest.split_at(long);
         let (first, others) = left.split_at(long);
         bits += bound_values(front, first, sums[j], widths[count + j], closely);
@@ -151,7 +160,7 @@ fn reaches(residual: &ResidualView<'_>, sums: &[u64], widths: &[u8], bound: u64,
     if bound < below / 2 {
         return false;
     }
-    bound_parts(residual, sums, widths, true) >= below
+    bound_parts(residual, sums, widths, true, below) >= below
 }
 
 /// Whether lower bounds show that the residual takes `below` bits or more in any form. `sums` has what the finest
@@ -168,7 +177,7 @@ pub(crate) fn is_too_dear(
     requires places { 2 * 2 ^ residual.now.halvings ≤ length widths.now }
     ensures { IsTrue result → (f : Codings) → MayWrite residual.now.halvings residual.now.order residual.now.values.now f → below ≤ residual_cost residual.now.order residual.now.values.now f }
 {
-    let bound = bound_parts(residual, sums, widths, false);
+    let bound = bound_parts(residual, sums, widths, false, below);
     if bound >= below {
         return true;
     }

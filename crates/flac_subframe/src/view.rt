@@ -1,8 +1,10 @@
 //! What the search reads: the samples of a subframe, and the residual of one predictor. And what is written: a choice.
 
-ghost use Rattle.std.specs.Prelude.{◌≡◌, ◌<◌, ◌≤◌, ◌^◌, ◌+◌, length, map, All, IsTrue};
+ghost use Rattle.std.specs.Prelude.{◌≡◌, ◌<◌, ◌≤◌, ◌^◌, ◌+◌, ℕ, length, map, All, IsTrue};
+ghost use Rattle.std.specs.Int.RustNames.{unsigned_abs};
 ghost use Rattle.flac_bits.specs.Signed.{FitsBits};
 ghost use Rattle.flac_bits.specs.Rice.{IsResidual};
+ghost use Rattle.flac_subframe.specs.Numbers.{sample_at};
 ghost use Rattle.flac_subframe.specs.Spelling.{folded};
 ghost use Rattle.flac_subframe.specs.Halves.{Halves};
 
@@ -36,7 +38,7 @@ pub(crate) struct ResidualView<'a> {
 
 /// The samples of a subframe without its wasted bits: how many bits each has, the greatest partition order and the linear predictors
 /// that are tried, and whether each sample has so few bits that what a fixed predictor leaves is in the range of a residual; if so, also
-/// the samples in 32 bits each.
+/// the samples in 32 bits each, and how far from 0 they are at most.
 #[derive(Drop)]
 pub(crate) struct SampleView<'a> {
     pub(crate) samples: &'a [i64],
@@ -45,12 +47,14 @@ pub(crate) struct SampleView<'a> {
     pub(crate) most: u8,
     pub(crate) predictors: &'a [LinearPredictor],
     pub(crate) narrow: bool,
+    pub(crate) peak: u32,
     ghost few: { length samples.now ≤ 65535 },
     ghost depth: { bits ≤ 33 },
     ghost halved: { most ≤ 15 },
     ghost fits: { All (FitsBits 33) samples.now },
     ghost leaves: { IsTrue narrow → All (FitsBits 27) samples.now },
     ghost same: { IsTrue narrow → narrowed.now ≡ samples.now },
+    ghost peaked: { IsTrue narrow → (i : ℕ) → unsigned_abs (sample_at narrowed.now i) ≤ peak },
 }
 
 /// The form of a residual as it is written: the bits of a Rice parameter, the partition order, and the coding of each partition as a

@@ -20,7 +20,7 @@ use crate::halving::{Found, power};
 use crate::held::{Held, HeldKind};
 use crate::limits::Limits;
 use crate::linear::LinearPredictor;
-use crate::narrowed::narrow;
+use crate::narrowed::{narrow, peak};
 use crate::tables::Tables;
 use crate::view::{ChosenView, CodedView, SampleView, Scope};
 use crate::wasted::drop_wasted;
@@ -203,6 +203,7 @@ fn choose_in_places(
     let wasted = drop_wasted(samples, depth, shortened);
     let (narrowed, values) = shorts.split_at_mut(samples.len());
     let narrow = narrow(shortened, narrowed);
+    let peak = peak(narrowed, narrow, !scope.predictors.is_empty());
     let subject = SampleView {
         samples: shortened,
         narrowed,
@@ -210,6 +211,7 @@ fn choose_in_places(
         most: scope.most,
         predictors: scope.predictors,
         narrow,
+        peak,
     };
     let held = search_within(&subject, wide, values, folds, tables, widths, codings);
     Sought { wasted, held }

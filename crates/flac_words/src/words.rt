@@ -46,6 +46,16 @@ A sample takes whole bytes: two for 12 bits, three for 20 bits. With --seek-ever
 the stream has a seek table with a point every ten seconds. With --ogg it is an Ogg
 stream.
 
+The encoder tries constant, verbatim and fixed predictors, and those of the list that
+--predictors names. A line of the list is one linear predictor: PRECISION SHIFT C1 C2 ..,
+C1 for the nearest sample, # before a comment. Of equally short forms the first is
+written. A list has at most 64 predictors; at rates up to 48000 Hz their orders are at
+most 12, with --lax at most 32.
+
+With --lax streams outside the streamable subset are written: rates up to 1048575 Hz, 4
+to 32 bits, blocks of up to 65535 samples, partition orders up to 15. Other players may
+refuse them.
+
 OUT has to be another file than IN: else it cannot be created, and IN stays as it is. If
 encoding fails, what was written before stays in OUT. But if OUT was a file with bytes,
 it stays as it was, and what was written is in OUT.part beside it.";
@@ -176,12 +186,16 @@ fn job_of<'a>(
     let (Some(format), Some(container)) = (format_of(given), container_of(given)) else {
         return Ok(None);
     };
+    let lax = given.get_flag("lax");
+    let predictors = given.get_str("predictors");
     Ok(Some(Job::Encode {
         input,
         output,
         format,
         container,
         comments,
+        lax,
+        predictors,
     }))
 }
 
@@ -276,12 +290,16 @@ fn words_of_encode<'a>(alloc: Global) -> Result<Vec<Arg<'a>>, AllocError> {
         comments(alloc),
         needed(alloc, "rate", "Samples a second"),
         needed(alloc, "channels", "Channels, 1 to 8"),
-        needed(alloc, "bits", "Bits of a sample: 8, 12, 16, 20, 24 or 32"),
+        needed(
+            alloc,
+            "bits",
+            "Bits of a sample: 8, 12, 16, 20, 24 or 32; with --lax 4 to 32"
+        ),
         number(
             alloc,
             "block",
             "4096",
-            "Samples of a block, 16 to 16384; to 4608 at rates up to 48000"
+            "Samples of a block, 16 to 16384; to 4608 at rates up to 48000; with --lax to 65535"
         ),
         number(
             alloc,
@@ -291,6 +309,8 @@ fn words_of_encode<'a>(alloc: Global) -> Result<Vec<Arg<'a>>, AllocError> {
         ),
         ogg(alloc),
         number(alloc, "serial", "1", "The number of the Ogg stream"),
+        predictors(alloc),
+        lax_encode(alloc),
     ]?)
 }
 
@@ -321,6 +341,23 @@ fn lax<'a>(alloc: Global) -> Arg<'a> {
         .long("lax")
         .action(ArgAction::SetTrue)
         .help("Accepts streams outside the streamable subset too, which are else refused with 14")
+}
+
+/// The option `--lax` of `encode`.
+fn lax_encode<'a>(alloc: Global) -> Arg<'a> {
+    Arg::new(alloc, "lax")
+        .long("lax")
+        .action(ArgAction::SetTrue)
+        .help("Writes streams outside the streamable subset too, which other players may refuse")
+}
+
+/// The option `--predictors`, whose value is a path.
+fn predictors<'a>(alloc: Global) -> Arg<'a> {
+    Arg::new(alloc, "predictors")
+        .long("predictors")
+        .value_name("LIST")
+        .action(ArgAction::Set)
+        .help("The file of linear predictors that the encoder tries too")
 }
 
 /// A required argument: the path of a file.

@@ -1,7 +1,6 @@
 use Rattle.std.proofs.Common.{◌≡◌, ap, ◌∙◌, take, [], subst}
 use Rattle.std.proofs.lemmas.Result.{err_from_is_err_and}
-use Rattle.flac_cli.specs.Lined.{Adds}
-use Rattle.flac_cli.specs.Outcomes.{placed}
+use Rattle.flac_cli.specs.Lined.{Adds, text_at}
 use Rattle.flac_cli.specs.Reports.{fault_line}
 use Rattle.flac_cli.proofs.Lined.{none_taken, adds_then, lost, lost_then, adds_lost, sent_adds}
 use Rattle.flac_cli.proofs.lines.put_line.Goals as goal
@@ -39,4 +38,4 @@ returns g c =
     let b = adds_then g.W.Target _ c.in_ok-put-3.ensures d in
     let a = adds_then g.W.Target _ c.in_ok-put-2.ensures b in
     let none : take c.args.lines.now.held c.args.lines.now.bytes ≡ [] = ap (λ n. take n c.args.lines.now.bytes) c.requires ∙ none_taken c.args.lines.now.bytes in
-    subst (λ held. Adds g.W.Target (fault_line c.args.path.now (placed c.args.at c.args.text.now)) c.args.lines.now.target c.send.new.self.target held [] c.send.result) none (adds_then g.W.Target _ c.in_ok-put.ensures a)
+    subst (λ held. Adds g.W.Target (fault_line c.args.path.now (text_at c.args.at c.args.text.now)) c.args.lines.now.target c.send.new.self.target held [] c.send.result) none (adds_then g.W.Target _ c.in_ok-put.ensures a)

@@ -1,3 +1,7 @@
+use Rattle.std.proofs.Common.{None, refl, inl, arith}
+use Rattle.flac_cli.specs.Asked.{asked_of}
+use Rattle.flac_cli.specs.Reports.{files_of}
+use Rattle.flac_cli.proofs.Refused.{reported}
 use Rattle.flac_cli.proofs.runs.run.Goals as goal
 
 pub returns-in-Retag-clause-reported : goal.returns-in-Retag-clause-reported
@@ -11,3 +15,13 @@ returns-in-Decode-clause-reported g c = λ tells told. rw (c.in-Decode.is, ← c
 
 pub returns-in-List-clause-reported : goal.returns-in-List-clause-reported
 returns-in-List-clause-reported g c = λ tells told. rw (c.in-List.is, ← c.profile_of-in-List.ensures) (c.run_list.ensures.reported tells told)
+
+pub returns-in-Ok-clause-refused : goal.returns-in-Ok-clause-refused
+returns-in-Ok-clause-refused g c = λ tells served told.
+    rw (c.in-Encode.is, ← c.profile_of-in-Encode.ensures, ← c.as_slice.ensures.value) (inl (None, c.in-Ok.ensures.accepted tells.0, (refl, refl)))
+
+pub returns-in-Err-clause-refused : goal.returns-in-Err-clause-refused
+returns-in-Err-clause-refused g c = λ tells served told.
+    rw (c.in-Encode.is, ← c.profile_of-in-Encode.ensures, ← c.as_slice.ensures.value)
+    (reported _ (g.R.Source.coming c.args.source.now) _ c.in-Err.refusal _ _ _ c.refuse_encoding.ensures.status (rw c.in-Encode.is at (c.refuse_encoding.ensures.line told.0 told.1))
+    (λ is. absurd (omega (arith, c.in-Err.ensures.failed is served.0, served.1))) (c.in-Err.ensures.refused tells.0 tells.2))

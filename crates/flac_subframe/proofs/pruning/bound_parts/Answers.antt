@@ -60,3 +60,9 @@ returns c =
     let so = c.loop-j.invariant in
     bound_of_all c.args.residual.now.order c.args.residual.now.halvings c.args.residual.now.values.now c.loop-j.bits c.args.residual.now.halves
     (λ w cs long may. bound_end w _ _ _ c.args.residual.now.values.now c.loop-j.bits _ _ _ (so.bound w) cs (omega (arith, long, c.power-count.ensures)) may)
+
+pub returns-then-bits-below : goal.returns-then-bits-below
+returns-then-bits-below c =
+    let so = c.loop-j.invariant in
+    bound_of_all c.args.residual.now.order c.args.residual.now.halvings c.args.residual.now.values.now c.loop-j.bits c.args.residual.now.halves
+    (λ w cs long may. bound_end w _ _ _ c.args.residual.now.values.now c.loop-j.bits _ _ _ (so.bound w) cs (omega (arith, long, c.power-count.ensures)) may)

@@ -1,0 +1,62 @@
+//! The list of predictors of a job.
+
+use crate::files::Known;
+use flac_jobs::Job;
+use std::fs::File;
+use std::io;
+use std::io::{ErrorKind, Read};
+
+/// The most bytes of a list: 1 MiB.
+const MOST: u64 = 1 << 20;
+
+/// The text of a job's list of predictors, and its file.
+#[derive(Drop)]
+pub(crate) struct List<'a> {
+    /// Empty if the job has no list.
+    pub(crate) text: Vec<u8>,
+    pub(crate) file: Option<Known<'a>>,
+}
+
+/// Why the list of a job cannot be used: its path, and what cannot be done with it.
+#[derive(Clone, Copy)]
+pub(crate) struct ListRefused<'a> {
+    pub(crate) path: &'a str,
+    pub(crate) what: &'static str,
+}
+
+impl<'a> List<'a> {
+    /// Reads the list of a job, if it has one.
+    ///
+    /// # Errors
+    /// The file cannot be opened, or it cannot be read: the system returns an error, it has more than 1 MiB, or memory
+    /// ran out.
+    pub(crate) fn of(rt: &HostRuntime, job: &Job<'a>) -> Result<List<'a>, ListRefused<'a>> {
+        let Some(path) = job.predictors() else {
+            return Ok(List {
+                text: Vec::new(rt.alloc()),
+                file: None,
+            });
+        };
+        let Ok(file) = File::open(rt, path) else {
+            return Err(ListRefused {
+                path,
+                what: "opened",
+            });
+        };
+        List::read(rt, path, file).map_err(|_| ListRefused { path, what: "read" })
+    }
+
+    /// Reads a list.
+    fn read(rt: &HostRuntime, path: &'a str, file: File) -> io::Result<List<'a>> {
+        let known = Known::of(path, &file)?;
+        let mut text = Vec::new(rt.alloc());
+        file.take(MOST + 1).read_to_end(&mut text)?;
+        if text.len() as u64 > MOST {
+            return Err(io::Error::from(ErrorKind::FileTooLarge));
+        }
+        Ok(List {
+            text,
+            file: Some(known),
+        })
+    }
+}
