@@ -40,8 +40,8 @@ frames_to block_size total (suc n) = frames_to block_size total n ++ kind_of.Fra
 abbrev pub kinds_of : Cut → List Block → Sound → List PacketKind
 kinds_of p list a = replicate (length list + 1) kind_of.Header ++ frames_to p.block_size (samples_each a.channels) (blocks_in p.block_size (samples_each a.channels))
 
--- The packets are those of what was given: the mapping with STREAMINFO, a block each, and a frame each: all frames of the samples, each the least of its
--- block, whose least and greatest sizes STREAMINFO tells.
+-- The packets are those of what was given: the mapping with STREAMINFO, a block each, and a frame each: all frames of the samples,
+-- each the least of its block with the plan's predictors, whose least and greatest sizes STREAMINFO tells.
 pub record ArePackets (p : Cut) (list : List Block) (a : Sound) (packets : List Placed) : Type 0 where
   pub least : ℕ
   pub greatest : ℕ
@@ -52,7 +52,8 @@ pub record ArePackets (p : Cut) (list : List Block) (a : Sound) (packets : List 
   pub texts : texts_of packets ≡ packet_spellings (header_count (length list)) (info_of p a least greatest) list frames
   pub kinds : kinds_in packets ≡ kinds_of p list a
 
--- Pages from the one of a number on were sent, or else a beginning of them: all frames of the samples, each the least of its block, in a packet each.
+-- Pages from the one of a number on were sent, or else a beginning of them: all frames of the samples, each the least of its block
+-- with the plan's predictors, in a packet each.
 pub record SendsPackets {S X E : Type 0} (g : target.Ghosts S) (serial from : ℕ) (p : Cut) (a : Sound) (old new : S) (result : Result X E) : Type 0 where
   pub frames : List (List Bool)
   pub are : AreFrames p a frames

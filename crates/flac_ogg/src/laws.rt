@@ -22,13 +22,13 @@ pub fn same_items()
 {}
 
 /// The packets that are encoded (the mapping with STREAMINFO, one for each block, one for each frame) are the items of
-/// an Ogg stream of what was given (RFC 9639, section 10.1).
+/// an Ogg stream of what was given, in the plan's profile (RFC 9639, section 10.1).
 pub fn encoded_items()
     ensures { EncodedAreOggItems }
 {}
 
-/// What is encoded as an Ogg stream is an Ogg stream of exactly what was given: its items are STREAMINFO, the blocks
-/// and the frames, and no others (RFC 9639, section 10.1).
+/// What is encoded as an Ogg stream is an Ogg stream of exactly what was given, in the plan's profile: its items are
+/// STREAMINFO, the blocks and the frames, and no others (RFC 9639, section 10.1).
 pub fn encoded_are_read()
     ensures { EncodedOggIsRead }
 {}

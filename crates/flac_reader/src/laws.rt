@@ -20,10 +20,11 @@ pub fn encoded_are_cut()
     ensures points { PointsAreCut }
 {}
 
-/// A reader that opened such a stream in the profile of the plan seeks a sample from a cut on, that of the last point at or before the sample, or of the first frame; and
-/// [`crate::Reader::seek_in`] over the bytes of the stream, with the same profile, gives just the frame that holds the sample, all frames behind it and the end, or nothing but the end if
-/// the stream does not have so many samples, unless memory runs out (RFC 9639, sections 8.5 and 9.1.5). No seek table was among the given blocks; the reader may keep
-/// any.
+/// A reader that opened such a stream in the plan's profile seeks a sample from a cut on: that of the last point at or
+/// before the sample, or of the first frame. [`crate::Reader::seek_in`] over the bytes of the stream, with the same
+/// profile, gives just the frame that holds the sample, all later frames and the end, or nothing but the end if the
+/// stream has fewer samples, unless memory runs out (RFC 9639, sections 8.5 and 9.1.5). No seek table was among the given
+/// blocks; the reader may keep any.
 pub fn encoded_are_sought<C: Container, D: Container>()
     ensures cut { SearchesAreCut C.Container }
     ensures found { SamplesAreFound C.Container D.Container }
