@@ -3,7 +3,7 @@
 ghost use Rattle.std.specs.Prelude.{◌≡◌, true};
 ghost use Rattle.flac_native.specs.Given.{fits_plan};
 
-use crate::rows::channels_of;
+use crate::rows::{channels_of, pair_of};
 use flac_bits::Collected;
 use flac_frame::Audio;
 use flac_meta::BlockList;
@@ -131,5 +131,29 @@ fn blocks_of_plans(rt: HostRuntime) -> Result<(), Fail> {
     assert!(rt; block_refused(rt.alloc(), lax, 44100, 8192)? == 0);
     assert!(rt; block_refused(rt.alloc(), lax, 44100, 65535)? == 0);
     assert!(rt; block_refused(rt.alloc(), lax, 44100, 65536)? == 46);
+    Ok(())
+}
+
+/// What comes of a plan in a profile for one sample of another, of a rate and a depth: the number of the fault, and whether
+/// the plan fits the sample.
+fn named(alloc: Global, profile: Profile, own: Profile, format: &str) -> Result<(u8, bool), Fail> {
+    let (rate, bits) = pair_of(format)?;
+    let audio = Audio::new_in(own, rate, bits, channels_of(alloc, ";0")?)?;
+    match Plan::new_in(profile, 16, &audio, 0) {
+        Ok(plan) => Ok((0, plan.profile() == profile && plan.fits(&audio))),
+        Err(fault) => Ok((fault.number(), false)),
+    }
+}
+
+/// A plan in a profile that is named fits samples of that profile only. Samples that the profile does not allow have none.
+#[test]
+fn plans_in_profiles(rt: HostRuntime) -> Result<(), Fail> {
+    let (subset, lax) = (Profile::Subset, Profile::Lax);
+    assert!(rt; named(rt.alloc(), subset, subset, "44100 16")? == (0, true));
+    assert!(rt; named(rt.alloc(), lax, lax, "65537 5")? == (0, true));
+    assert!(rt; named(rt.alloc(), lax, subset, "44100 16")? == (0, false));
+    assert!(rt; named(rt.alloc(), subset, lax, "44100 16")? == (0, false));
+    assert!(rt; named(rt.alloc(), subset, lax, "65537 5")? == (40, false));
+    assert!(rt; named(rt.alloc(), subset, lax, "44100 5")? == (41, false));
     Ok(())
 }
