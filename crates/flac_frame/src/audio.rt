@@ -10,8 +10,8 @@ use crate::setup::SetupFault;
 use flac_header::{Profile, depth_code_in, rate_code_in};
 use std::marker::Model;
 
-/// Samples to be encoded: the profile of the streams that they may be in, their rate in Hz, the bits per sample, and the
-/// samples of 1 to 8 channels of one length. They are always such as can be encoded.
+/// Samples to be encoded: the profile of the streams that they may be in, their rate in Hz, the bits per sample, and
+/// the samples of 1 to 8 channels of one length. They are always such as can be encoded.
 ///
 /// ```
 /// let audio = Audio::new(44100, 16, channels)?;
@@ -132,10 +132,9 @@ impl Audio {
     /// # Errors
     /// The first of these that applies:
     ///
-    /// - [`SetupFault::BadRate`] if the profile is [`Profile::Subset`] and the rate is neither 1 to 65535 nor a multiple of
-    ///   10 up to 655350; or the profile is [`Profile::Lax`] and the rate is not 1 to 1048575;
-    /// - [`SetupFault::BadDepth`] if the profile is [`Profile::Subset`] and `bits` is not 8, 12, 16, 20, 24 or 32; or the
-    ///   profile is [`Profile::Lax`] and `bits` is not 4 to 32;
+    /// - [`SetupFault::BadRate`] if the rate is neither 1 to 65535 nor a multiple of 10 up to 655350; in
+    ///   [`Profile::Lax`] if it is not 1 to 1048575;
+    /// - [`SetupFault::BadDepth`] if `bits` is not 8, 12, 16, 20, 24 or 32; in [`Profile::Lax`] if it is not 4 to 32;
     /// - [`SetupFault::BadChannels`] if there is no channel, or there are more than 8;
     /// - [`SetupFault::LengthsDiffer`] if the channels differ in length;
     /// - [`SetupFault::SampleTooLarge`] if a sample is below -2^(bits - 1), or is 2^(bits - 1) or more;

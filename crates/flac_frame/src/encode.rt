@@ -253,13 +253,14 @@ fn write_first<W: Target>(
 /// Each subframe is a shortest one over constant, verbatim, the fixed predictors and the linear ones that are passed. A
 /// linear predictor is used only if its order is below the number of samples and each residual value is above -2^31 and
 /// below 2^31. Among equals the fixed ones come first, then the linear ones in the order of the list. Two channels are
-/// written as left and right, left and side, side and right, or mid and side (section 9.1.3), whichever takes the fewest
-/// bits; among equals the first.
+/// written as left and right, left and side, side and right, or mid and side (section 9.1.3), whichever takes the
+/// fewest bits; among equals the first.
 ///
 /// The range is within the samples, not empty, and no longer than the buffers' blocks; the number is below 2^31. The
-/// order of each predictor is at most [`crate::greatest_order`]: [`LinearPredictor::are_within`] tests it. The buffers
-/// are made for the profile of the samples or for [`flac_header::Profile::Lax`], and the choice for that of the buffers. The
-/// choice has a place for each channel.
+/// order of each predictor is at most [`crate::greatest_order`]: [`LinearPredictor::are_within`] tests it.
+///
+/// The buffers are made for the profile of the samples, or for [`flac_header::Profile::Lax`]; the choice is made for the
+/// profile of the buffers, and has a place for each channel. Nothing is allocated.
 pub fn choose_frame(
     audio: &Audio,
     range: Range<usize>,

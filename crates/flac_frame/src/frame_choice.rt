@@ -18,7 +18,7 @@ use flac_subframe::WideChoice;
 use std::alloc::Global;
 
 /// How a block of samples is written as a frame, as [`crate::choose_frame`] chooses it: the channel code, and the
-/// subframe of each channel (RFC 9639, section 9). It has no samples. For each channel it takes some 320 bytes in
+/// subframe of each channel (RFC 9639, section 9). It has no samples. For each channel it takes some 340 bytes in
 /// [`Profile::Subset`], and some 33 kB in [`Profile::Lax`]; a copy that [`FrameChoice::kept`] makes takes one byte for
 /// each partition of its residuals.
 #[derive(Drop)]
@@ -122,8 +122,8 @@ impl FrameChoice {
         })
     }
 
-    /// The same choice in as little memory as it needs: one byte for each partition of its residuals. It can be written,
-    /// and is no place for another choice.
+    /// Copies the choice into as little memory as it needs: one byte for each partition of its residuals. The copy can be
+    /// written, and is no place for another choice.
     ///
     /// # Errors
     /// [`Why::Memory`] if an allocation fails.

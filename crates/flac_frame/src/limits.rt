@@ -23,8 +23,8 @@ pub(crate) fn limits_at(profile: Profile, rate: u32) -> Limits
     }
 }
 
-/// The greatest order of a linear predictor that a profile allows at a sample rate in Hz: in [`Profile::Subset`] 12 up to
-/// 48000 Hz and 32 above, in [`Profile::Lax`] 32 (RFC 9639, sections 7 and 9.2.6).
+/// The greatest order of a linear predictor that a profile allows at a sample rate in Hz: in [`Profile::Subset`] 12 up
+/// to 48000 Hz and 32 above, in [`Profile::Lax`] 32 (RFC 9639, sections 7 and 9.2.6).
 pub fn greatest_order(profile: Profile, rate: u32) -> u32
     ensures { result ≡ (limits_at profile rate).linear }
 {

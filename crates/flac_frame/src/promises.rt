@@ -33,7 +33,8 @@ pub fn forms_stand_for_samples()
     ensures { FormsStand }
 {}
 
-/// What is encoded of a block of samples is a frame of that block, in a stream of the samples' format.
+/// What is encoded of a block of samples is a frame of that block, in a stream of the samples' format and profile: a
+/// rate or a depth that its header leaves out is that of STREAMINFO (RFC 9639, sections 9.1.2 and 9.1.4).
 pub fn encodings_are_frames()
     ensures { EncodingsAreFrames }
 {}

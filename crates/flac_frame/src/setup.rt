@@ -12,8 +12,8 @@ use thiserror::Error;
 /// It prints as its number and its name: `44 SampleTooLarge`. Sections are those of RFC 9639.
 #[derive(Clone, Copy, Debug, PartialEq, Eq, Error)]
 pub enum SetupFault {
-    /// The sample rate is 0, or no frame header of the streamable subset can state it (section 9.1.2). In `Profile::Lax`
-    /// it is 0 or above 1048575 (section 8.2).
+    /// The sample rate is 0, or no frame header of the streamable subset can state it (section 9.1.2). In
+    /// `Profile::Lax` it is 0 or above 1048575 (section 8.2).
     BadRate,
     /// The bits per sample are not 8, 12, 16, 20, 24 or 32 (section 9.1.4). In `Profile::Lax` they are not 4 to 32
     /// (section 8.2).
