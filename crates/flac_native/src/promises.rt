@@ -5,15 +5,15 @@ ghost use Rattle.flac_native.specs.ReadBack.{EncodedAreReadBack};
 ghost use Rattle.flac_native.specs.Resuming.{FramesAreResumed, EncodedAreResumed};
 ghost use Rattle.flac_native.specs.Writing.{EncodedAreStreams};
 
-/// What encoding writes is a stream: the marker, the spellings of STREAMINFO and of the blocks, and a frame for each
-/// block of the samples.
+/// What encoding writes is a stream of the plan's profile: the marker, the spellings of STREAMINFO and of the blocks,
+/// and a frame for each block of the samples.
 pub fn encoded_are_streams()
     ensures { EncodedAreStreams }
 {}
 
-/// What [`crate::encode`] writes has one reading, whatever was written before it: the marker, STREAMINFO, the given
-/// blocks, the seek table if there is one, and the frames. It has no other part, nothing in it is refused, and the
-/// samples of the frames, one frame after another, are exactly the given ones (RFC 9639, section 6).
+/// What [`crate::encode`] writes has one reading in the plan's profile, whatever was written before it: the marker,
+/// STREAMINFO, the given blocks, the seek table if there is one, and the frames. It has no other part, nothing in it is
+/// refused, and the samples of the frames, one frame after another, are exactly the given ones (RFC 9639, section 6).
 pub fn encoded_are_read_back()
     ensures { EncodedAreReadBack }
 {}
@@ -25,8 +25,8 @@ pub fn points_name_frames()
     ensures { PointsNameFrames }
 {}
 
-/// An encoded stream from one of its frames on, as a decoder that is resumed there reads it, is exactly the frames from
-/// there on.
+/// An encoded stream from one of its frames on, as a decoder that is resumed there in the plan's profile reads it, is
+/// exactly the frames from there on.
 pub fn encoded_are_resumed()
     ensures { EncodedAreResumed }
 {}
