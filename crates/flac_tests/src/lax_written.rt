@@ -143,7 +143,7 @@ lax | 65024 127 | 81910 664c614380000022fe00fe00013fcc013fcc0ac441700000fe006b6d
 fn bursts_of(alloc: Global, profile: Profile, len: u32, run: u32) -> Result<Vec<u8>, Fail> {
     let mut channel = Vec::new(alloc);
     for sample in bursts(alloc, len as usize, run as usize)? {
-        channel.push(sample as i32)?;
+        channel.push(sample.clamp(-0x80_0000, 0x7F_FFFF) as i32)?;
     }
     let audio = Audio::new_in(profile, 44100, 24, vec![in alloc; channel]?)?;
     encoded(alloc, &audio, len, 0)
