@@ -56,23 +56,27 @@ fn stand_in(rt: &HostRuntime) -> Option<File> {
     File::open(rt, "/dev/null").ok()
 }
 
-/// Opens the job's files, and does the job. Returns the status.
+/// Opens the files that the job reads, and does the job. Returns the status.
 fn perform(rt: &HostRuntime, job: &Job<'_>) -> u8 {
     let _standard = (stand_in(rt), stand_in(rt), stand_in(rt));
     let Ok(input) = File::open(rt, job.input()) else {
         return refuse(rt, job.input(), "opened");
     };
-    let list = match List::of(rt, job) {
-        Ok(list) => list,
-        Err(refused) => return refuse(rt, refused.path, refused.what),
-    };
+    match List::of(rt, job) {
+        Ok(list) => do_with(rt, job, &list, input),
+        Err(refused) => refuse(rt, refused.path, refused.what),
+    }
+}
+
+/// Opens the file that the job writes, and does the job. Returns the status.
+fn do_with(rt: &HostRuntime, job: &Job<'_>, list: &List<'_>, input: File) -> u8 {
     let Some(path) = job.output() else {
-        return do_over(rt, job, &list, input, Output::None).0;
+        return do_over(rt, job, list, input, Output::None).0;
     };
-    let Ok((output, replacement)) = create_for(rt, job, path, &input, &list) else {
+    let Ok((output, replacement)) = create_for(rt, job, path, &input, list) else {
         return refuse(rt, path, "created");
     };
-    let (status, output) = do_over(rt, job, &list, input, output);
+    let (status, output) = do_over(rt, job, list, input, output);
     let Some(replacement) = replacement else {
         return status;
     };

@@ -1,9 +1,8 @@
 -- No stream is longer than the bound.
-use Rattle.std.proofs.Common.{◌≡◌, ◌∙◌, refl, sym, ap, subst, ℕ, ◌+◌, ◌*◌, ◌/◌, ◌^◌, ◌≤◌, ◌<◌, min, max, arith, div-le_self, mul-le-mul_right, ℤ, Bool, true, false, cond, nat_eq, nat_le, List, [], length, Option, Some, None}
+use Rattle.std.proofs.Common.{◌≡◌, ◌∙◌, refl, sym, ap, subst, ℕ, ◌+◌, ◌*◌, ◌/◌, ◌^◌, ◌≤◌, ◌<◌, min, max, arith, div-le_self, ℤ, Bool, true, false, cond, nat_eq, nat_le, List, length, Option, Some, None}
 use Rattle.std.specs.Prelude.{option_map}
 use Rattle.std.specs.Option.{option_or}
 use Rattle.std.proofs.lemmas.Nat.{mul-le}
-use Rattle.flac_bits.specs.Bits.{bits_of}
 use Rattle.flac_bits.specs.Reasons as reasons
 use Rattle.flac_bits.proofs.Holding.{length-bits_of}
 use Rattle.flac_meta.specs.Listed.{list_fault, info_seen}
@@ -13,7 +12,7 @@ use Rattle.flac_native.specs.Given.{plan_fault}
 use Rattle.flac_native.proofs.Planned.{planned}
 use Rattle.flac_ogg.specs.RoundTrip.{EncodedBytes}
 use Rattle.flac_c.specs.Bound.{text_bytes, texts_bytes, raw_bytes, parts_of, table_bytes, native_bytes, bytes_among, bound_of, IsEnough}
-use Rattle.flac_c.specs.Encoded.{sound_of, plan_of, blocks_of, stream_fault, CanBeEncoded, IsEncoded}
+use Rattle.flac_c.specs.Encoded.{sound_of, plan_of, blocks_of, stream_fault, IsEncoded}
 use Rattle.flac_c.specs.declared.tags.FlacProvedTags.{FlacProvedTags}
 use Rattle.flac_c.specs.declared.encoding.FlacProvedSettings.{FlacProvedSettings}
 use Rattle.flac_c.proofs.LongestHeads.{comments_counted}

@@ -1,19 +1,19 @@
 -- A frame that is read from bytes in memory.
-use Rattle.std.proofs.Common.{◌≡◌, ℕ, ◌+◌, ◌-◌, ◌*◌, ◌/◌, ◌%◌, ◌^◌, ◌<◌, ◌≤◌, min, Bool, true, List, [], ◌∷◌, ◌++◌, length, drop, Option, Some, None, Result, Ok, Err, IfOk, IfErr, IsOkAnd, refl, sym, ap, subst, ◌∙◌, append-nil, length-append, arith}
+use Rattle.std.proofs.Common.{◌≡◌, ℕ, ◌+◌, ◌-◌, ◌*◌, ◌/◌, ◌%◌, ◌^◌, ◌<◌, min, Bool, true, List, [], ◌∷◌, ◌++◌, length, drop, Option, Some, None, Result, Ok, Err, IfOk, IfErr, IsOkAnd, refl, sym, ap, subst, ◌∙◌, append-nil, length-append, arith}
 use Rattle.std.specs.Bool.{⊤}
 use Rattle.std.proofs.Math.Seq.{drop-append_seam}
 use Rattle.std.proofs.lemmas.List.{length-drop}
 use Rattle.flac_bits.specs.Bits.{bits_of}
 use Rattle.flac_bits.specs.State.{State, Mark, Cursor, past, the_end, started}
-use Rattle.flac_bits.specs.Layout.{Layout, because}
+use Rattle.flac_bits.specs.Layout.{because}
 use Rattle.flac_bits.specs.Meaning.{Spells}
-use Rattle.flac_bits.specs.Fence.{InRoom, StopsIn, read_in}
+use Rattle.flac_bits.specs.Fence.{read_in}
 use Rattle.flac_bits.specs.Fencing.{lifted, fence_at}
 use Rattle.flac_bits.specs.Reading.{Reads, Counts, Answers}
 use Rattle.flac_bits.specs.declared.why.Why.{Why}
 use Rattle.flac_bits.specs.declared.why.Why.TheVariants.{Truncated}
 use Rattle.flac_bits.proofs.Laws.{at_}
-use Rattle.flac_bits.proofs.Marks.{past-bytes, past-unread}
+use Rattle.flac_bits.proofs.Marks.{past-bytes}
 use Rattle.flac_bits.proofs.Meaning.{differ, one_way}
 use Rattle.flac_bits.proofs.Fences.{again_in, takes_in, refuses_in}
 use Rattle.flac_bits.proofs.Fencing.{drop_bits}

@@ -4,7 +4,6 @@ use Rattle.std.proofs.Math.Nat.{le-div_iff_mul-le, mul_comm}
 use Rattle.std.proofs.lemmas.Nat.{mul-le}
 use Rattle.std.proofs.lemmas.List.{take-append-drop}
 use Rattle.flac_frame.specs.Frame.{Frame}
-use Rattle.flac_frame.specs.Lent.{frame_of}
 use Rattle.flac_frame.specs.Interleaved.{row, rows, interleaved}
 use Rattle.flac_frame.specs.View.{chunks}
 use Rattle.flac_frame.proofs.Interleaved.{length-row}

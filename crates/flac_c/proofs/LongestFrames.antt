@@ -1,5 +1,5 @@
 -- How long the least frame of a block is at most: that of the channels each by itself and verbatim is no shorter (RFC 9639, sections 9.1.3, 9.2.1 and 9.2.4).
-use Rattle.std.proofs.Common.{◌≡◌, ◌∙◌, refl, sym, ap, subst, ℕ, suc, ◌+◌, ◌-◌, ◌*◌, ◌/◌, ◌%◌, ◌^◌, ◌≤◌, ◌<◌, min, arith, mul-add, mul_assoc, mul-le-mul_left, mul-suc, map-id, ℤ, Bool, true, false, cond, ◌||◌, nat_lt, nat_le, List, [], ◌∷◌, ◌++◌, length, length-append, get_or, map, flat_map, take, drop, Option, Some, None, All}
+use Rattle.std.proofs.Common.{◌≡◌, ◌∙◌, refl, sym, ap, subst, ℕ, suc, ◌+◌, ◌-◌, ◌*◌, ◌^◌, ◌≤◌, ◌<◌, arith, mul-add, mul_assoc, mul-le-mul_left, mul-suc, map-id, ℤ, Bool, true, false, cond, ◌||◌, nat_lt, nat_le, List, [], ◌∷◌, ◌++◌, length, length-append, get_or, map, take, drop, Option, Some, None, All}
 use Rattle.std.proofs.lemmas.Bool.Decides.{nat_tests}
 use Rattle.std.proofs.lemmas.List.{length-map}
 use Rattle.flac_bits.specs.Forms.{joined}
@@ -11,12 +11,10 @@ use Rattle.flac_header.specs.declared.subset.Profile.{Profile}
 use Rattle.flac_header.specs.declared.subset.Profile.TheVariants.{Subset, Lax}
 use Rattle.flac_subframe.specs.declared.limits.Limits.{Limits}
 use Rattle.flac_subframe.specs.declared.linear.LinearPredictor.{LinearPredictor}
-use Rattle.flac_subframe.specs.Spelling.{subframe_spelling}
 use Rattle.flac_subframe.proofs.Family.{none_within}
 use Rattle.flac_frame.specs.Audio.{Sound, IsSound, samples_each}
 use Rattle.flac_frame.specs.Encoding.{block_of, EachStands, IsEncoding, IsOfWidened, IsLeastWith, partition_limit, subframes_cost}
-use Rattle.flac_frame.specs.Frame.{limits_at, Frame}
-use Rattle.flac_frame.specs.Stereo.{kept_as}
+use Rattle.flac_frame.specs.Frame.{limits_at}
 use Rattle.flac_frame.specs.Spelling.{FrameForm, frame_spelling, subframes_spelling, HaveSamples}
 use Rattle.flac_frame.proofs.Encoded.{is_block}
 use Rattle.flac_frame.proofs.Family.{coded_as, kept_same}

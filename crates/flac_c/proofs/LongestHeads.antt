@@ -1,14 +1,12 @@
 -- How long the comments and the seek table of a stream are (RFC 9639, sections 8.5 and 8.6).
-use Rattle.std.proofs.Common.{◌≡◌, ◌∙◌, refl, sym, ap, subst, ℕ, zero, suc, ◌+◌, ◌-◌, ◌*◌, ◌/◌, ◌%◌, ◌≤◌, ◌<◌, ◌^◌, min, max, inl, inr, arith, mul-suc, mul_comm, div-add-mod', div-mul-le_self, Bool, true, false, cond, ◌&&◌, nat_eq, nat_lt, List, [], ◌∷◌, ◌++◌, length, length-append, map, fold, Option, Some, None}
+use Rattle.std.proofs.Common.{◌≡◌, ◌∙◌, refl, sym, ap, subst, ℕ, zero, suc, ◌+◌, ◌-◌, ◌*◌, ◌/◌, ◌%◌, ◌≤◌, ◌<◌, ◌^◌, min, max, inl, inr, arith, mul-suc, mul_comm, div-add-mod', div-mul-le_self, Bool, true, false, nat_eq, nat_lt, List, [], ◌∷◌, length, length-append, fold, Option, Some, None}
 use Rattle.std.proofs.lemmas.Bool.{cases_lt}
 use Rattle.std.proofs.lemmas.Bool.Decides.{nat_tests}
 use Rattle.std.proofs.lemmas.Nat.{le-div, div_below}
-use Rattle.flac_bits.specs.Bits.{unsigned, bits_of, bit_value}
-use Rattle.flac_bits.specs.Forms.{joined}
+use Rattle.flac_bits.specs.Bits.{bits_of, bit_value}
 use Rattle.flac_bits.specs.LittleEndian.{little_bits}
 use Rattle.flac_bits.specs.declared.why.Why.{Why}
 use Rattle.flac_bits.proofs.Holding.{length-bits_of}
-use Rattle.flac_bits.proofs.Words.{length-unsigned}
 use Rattle.flac_meta.specs.Listed.{block_fault, or_else, list_fault, info_seen}
 use Rattle.flac_meta.specs.Spelling as s
 use Rattle.flac_meta.specs.declared.comments.Comments.{Comments}

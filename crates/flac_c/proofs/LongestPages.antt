@@ -1,18 +1,17 @@
 -- How long an Ogg stream is at most (RFC 3533, section 6; RFC 9639, section 10.1).
-use Rattle.std.proofs.Common.{◌≡◌, ◌∙◌, refl, sym, ap, subst, ℕ, ℤ, zero, suc, ◌+◌, ◌-◌, ◌*◌, ◌/◌, ◌%◌, ◌≤◌, ◌<◌, min, arith, Bool, true, false, List, [], ◌∷◌, ◌++◌, length, length-append, length-take, length-drop, map, take, drop, flat_map, replicate, None}
+use Rattle.std.proofs.Common.{◌≡◌, ◌∙◌, refl, sym, ap, ℕ, ℤ, zero, suc, ◌+◌, ◌-◌, ◌*◌, ◌/◌, ◌%◌, ◌≤◌, min, arith, Bool, true, false, List, [], ◌∷◌, ◌++◌, length, length-append, length-take, length-drop, map, drop, flat_map, replicate, None}
 use Rattle.std.specs.Int.{to_le_bytes, w32, w64}
 use Rattle.std.specs.List.{range_with_len}
 use Rattle.std.proofs.lemmas.List.{length-map, length-replicate}
 use Rattle.std.proofs.lemmas.List.Concat.{flat_map-cons, flat_map-append}
-use Rattle.flac_bits.specs.Bits.{unsigned, bits_of, is_nil}
+use Rattle.flac_bits.specs.Bits.{bits_of, is_nil}
 use Rattle.flac_bits.specs.Forms.{joined}
 use Rattle.flac_bits.proofs.Holding.{length-bits_of}
 use Rattle.flac_meta.specs.Listed.{list_fault, info_seen}
 use Rattle.flac_meta.specs.Spelling.{block_spelling, comments_length}
 use Rattle.flac_meta.specs.declared.block.Block.TheVariants.{StreamInfo, VorbisComment}
 use Rattle.flac_frame.specs.Audio.{Sound, samples_each}
-use Rattle.flac_native.specs.Given.{Cut, blocks_in, info_of, sound_message}
-use Rattle.flac_native.specs.Writing.{AreFrames, AreLeastFrames}
+use Rattle.flac_native.specs.Given.{Cut, info_of, sound_message}
 use Rattle.flac_native.proofs.Digests.{digest_is_bytes}
 use Rattle.flac_native.proofs.WholeBytes.{length-joined}
 use Rattle.flac_pages.specs.declared.writing.PacketMarks.{PacketMarks}
@@ -21,11 +20,11 @@ use Rattle.flac_pages.specs.Packets.{lacing_of}
 use Rattle.flac_pages.specs.Placed.{Placed, marks_of, sequence_behind, pages_from, stream_spelling}
 use Rattle.flac_pages.specs.Written.{page_at, pages_of_packet}
 use Rattle.flac_ogg.specs.Listed.{texts_of}
-use Rattle.flac_ogg.specs.Native.{mapping_spelling, packet_spellings}
+use Rattle.flac_ogg.specs.Native.{mapping_spelling}
 use Rattle.flac_ogg.specs.Writing.{ArePackets, header_count}
 use Rattle.flac_ogg.proofs.Packing.{mapping_long}
 use Rattle.flac_ogg.proofs.Whole.{block_long}
-use Rattle.flac_c.specs.Bound.{text_bytes, texts_bytes, raw_bytes, parts_of, native_bytes}
+use Rattle.flac_c.specs.Bound.{parts_of, native_bytes}
 use Rattle.flac_c.specs.Encoded.{sound_of, plan_of, comments_of, blocks_of, CanBeEncoded}
 use Rattle.flac_c.specs.declared.tags.FlacProvedTags.{FlacProvedTags}
 use Rattle.flac_c.specs.declared.encoding.FlacProvedSettings.{FlacProvedSettings}

@@ -1,12 +1,11 @@
 -- How long a native stream is at most (RFC 9639, sections 6 to 9).
-use Rattle.std.proofs.Common.{◌≡◌, ◌∙◌, refl, sym, ap, subst, ℕ, zero, suc, ◌+◌, ◌-◌, ◌*◌, ◌/◌, ◌%◌, ◌≤◌, ◌<◌, arith, mul_comm, mul_assoc, mul-le-mul_right, div-add-mod', ℤ, pos, Bool, true, false, cond, nat_le, inl, inr, List, [], ◌∷◌, ◌++◌, length, length-append, get_or, None}
+use Rattle.std.proofs.Common.{◌≡◌, ◌∙◌, refl, ap, subst, ℕ, zero, suc, ◌+◌, ◌*◌, ◌/◌, ◌≤◌, ◌<◌, arith, mul_comm, mul_assoc, mul-le-mul_right, div-add-mod', ℤ, pos, Bool, true, false, nat_le, inl, inr, List, [], ◌∷◌, ◌++◌, length, length-append, get_or, None}
 use Rattle.std.proofs.Math.ListN.{get_or-append}
 use Rattle.std.proofs.lemmas.Bool.{cases_lt}
 use Rattle.std.proofs.lemmas.Bool.Decides.{nat_tests}
 use Rattle.std.proofs.lemmas.Nat.{mul-le}
 use Rattle.flac_bits.specs.Bits.{unsigned, is_nil}
 use Rattle.flac_bits.specs.Forms.{IsBytes, joined}
-use Rattle.flac_bits.proofs.Words.{length-unsigned}
 use Rattle.flac_meta.specs.Info.{Info}
 use Rattle.flac_meta.specs.Listed.{list_fault, info_seen}
 use Rattle.flac_meta.specs.Spelling.{block_spelling, comments_length}
@@ -21,7 +20,7 @@ use Rattle.flac_native.specs.Seeking.{points_of, table_of}
 use Rattle.flac_native.specs.Writing.{AreFrames, AreLeastFrames, blocks_spelling, stream_spelling}
 use Rattle.flac_native.proofs.Digests.{digest_is_bytes}
 use Rattle.flac_ogg.proofs.Whole.{block_long}
-use Rattle.flac_c.specs.Bound.{text_bytes, texts_bytes, raw_bytes, parts_of, table_bytes, native_bytes}
+use Rattle.flac_c.specs.Bound.{raw_bytes, parts_of, table_bytes, native_bytes}
 use Rattle.flac_c.specs.Encoded.{sound_of, plan_of, comments_of, blocks_of, CanBeEncoded}
 use Rattle.flac_c.specs.Interleaved.{channel_at, channels_at}
 use Rattle.flac_c.specs.declared.tags.FlacProvedTags.{FlacProvedTags}

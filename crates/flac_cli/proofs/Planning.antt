@@ -1,5 +1,5 @@
 -- Why samples cannot be divided into frames with linear predictors.
-use Rattle.std.proofs.Common.{◌≡◌, Bool, true, false, cond, ◌||◌, nat_eq, nat_lt, nat_le, ◌^◌, Option, Some, None, is_none, List, [], refl}
+use Rattle.std.proofs.Common.{◌≡◌, Bool, true, false, cond, ◌||◌, nat_eq, nat_lt, nat_le, ◌^◌, Option, Some, None, is_none, List, []}
 use Rattle.flac_header.specs.Choice.{rate_choice_in, depth_choice_in}
 use Rattle.flac_header.specs.Header.{greatest_in}
 use Rattle.flac_subframe.specs.declared.linear.LinearPredictor.{LinearPredictor}

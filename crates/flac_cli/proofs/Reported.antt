@@ -1,5 +1,5 @@
 -- What an outcome says of the input that it is reported of.
-use Rattle.std.proofs.Common.{◌≡◌, ◌≢◌, ◌≤◌, ◌<◌, ◌⊎◌, ◌-◌, ◌^◌, ℕ, Bool, true, false, cond, List, [], codes, Option, Some, None, Result, Ok, Err, OnOk, OnErr, IfErr, IfSome, IsErrAnd, refl, ap, sym, ◌∙◌, subst, append_assoc, arith, inl, inr}
+use Rattle.std.proofs.Common.{◌≡◌, ◌≢◌, ◌≤◌, ◌<◌, ◌⊎◌, ◌-◌, ◌^◌, ℕ, Bool, true, false, cond, List, Option, Some, None, Result, Ok, Err, OnOk, OnErr, IfErr, IfSome, IsErrAnd, refl, ap, sym, ◌∙◌, subst, arith, inl, inr}
 use Rattle.std.proofs.lemmas.Bool.{cases_lt}
 use Rattle.flac_bits.specs.Bits.{bits_of, bit_value}
 use Rattle.flac_bits.specs.Handing.{Hands, Decides, outcome_of}

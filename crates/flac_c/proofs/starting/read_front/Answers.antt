@@ -1,6 +1,5 @@
 use Rattle.std.proofs.Common.{ℕ, List, ap, subst, sym, ◌∙◌, arith}
 use Rattle.flac_bits.specs.State.{State}
-use Rattle.flac_c.specs.Blocks.{IsFound}
 use Rattle.flac_c.specs.Starts.{IsHead}
 use Rattle.flac_c.proofs.FramesRead.{at_bytes}
 use Rattle.flac_c.proofs.HeadBytes.{head_is, refused_is}

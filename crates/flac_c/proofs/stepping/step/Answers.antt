@@ -1,6 +1,5 @@
 use Rattle.std.proofs.Common.{ℕ, ◌+◌, List, sym, subst, ◌∙◌}
 use Rattle.flac_frame.specs.Frame.{Frame}
-use Rattle.flac_frame.specs.Lent.{frame_of}
 use Rattle.flac_c.specs.Cursors.{IsFrameAt, HandsOver}
 use Rattle.flac_c.proofs.stepping.step.Goals as goal
 

@@ -1,4 +1,4 @@
-use Rattle.std.proofs.Common.{rules, ◌≡◌, ◌∙◌, None, subst, ap, map, inr}
+use Rattle.std.proofs.Common.{◌≡◌, ◌∙◌, None, subst, ap, inr}
 use Rattle.flac_bits.specs.Bits.{bits_of}
 use Rattle.flac_native.specs.Given.{plan_fault}
 use Rattle.flac_cli.specs.Asked.{asked_of}

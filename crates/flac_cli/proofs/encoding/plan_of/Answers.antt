@@ -1,6 +1,6 @@
-use Rattle.std.proofs.Common.{◌≡◌, ◌∙◌, Some, None, refl, subst, ap, sym}
+use Rattle.std.proofs.Common.{◌≡◌, Some, None, refl, subst}
 use Rattle.std.proofs.lemmas.Result.{err_from_is_err_and}
-use Rattle.flac_native.specs.Given.{cut_of, with_predictors, predictors_fault, plan_fault}
+use Rattle.flac_native.specs.Given.{cut_of, predictors_fault, plan_fault}
 use Rattle.flac_cli.proofs.Planning.{with_none, with_some}
 use Rattle.flac_cli.proofs.encoding.plan_of.Goals as goal
 

@@ -1,6 +1,4 @@
 use Rattle.std.proofs.Common.{None, refl, inl, arith}
-use Rattle.flac_cli.specs.Asked.{asked_of}
-use Rattle.flac_cli.specs.Reports.{files_of}
 use Rattle.flac_cli.proofs.Refused.{reported}
 use Rattle.flac_cli.proofs.runs.run.Goals as goal
 
