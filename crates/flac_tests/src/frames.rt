@@ -117,8 +117,8 @@ fn out_of_range(rt: HostRuntime) -> Result<(), Fail> {
     Ok(())
 }
 
-/// Sample rate and bit depth, after `lax ` if they are not of the streamable subset; the channels, each after a `;`; and
-/// why they are refused.
+/// Sample rate and bit depth, after `lax ` if they are not of the streamable subset; the channels, each after a `;`;
+/// and why they are refused.
 const REFUSED: &str = "65537 10 | ;1; | 40 BadRate
 44100 10 | ;1; | 41 BadDepth
 44100 16 | ;32768; | 43 LengthsDiffer
@@ -134,8 +134,8 @@ lax 65537 5 | ;16; | 43 LengthsDiffer
 lax 65537 5 | ;16 | 44 SampleTooLarge
 lax 1048575 4 | ;7;-9 | 44 SampleTooLarge";
 
-/// Samples by their rate and bit depth, after `lax ` if they are not of the streamable subset, and by their channels, each
-/// after a `;`.
+/// Samples by their rate and bit depth, after `lax ` if they are not of the streamable subset, and by their channels,
+/// each after a `;`.
 fn audio_of(alloc: Global, format: &str, words: &str) -> Result<Result<Audio, SetupFault>, Fail> {
     let (profile, format) = profile_of(format);
     let (rate, bits) = pair_of(format)?;
@@ -243,8 +243,8 @@ fn write_chosen<W: Target>(
     Ok(bytes)
 }
 
-/// Sample rate and bit depth, after `lax ` if they are not of the streamable subset; the channels, each after a `;`; and
-/// the frame that is written of them.
+/// Sample rate and bit depth, after `lax ` if they are not of the streamable subset; the channels, each after a `;`;
+/// and the frame that is written of them.
 const WRITTEN: &str =
     "# Independent channels, the only one, left and side, side and right, middle and side.
 44100 16 | ;25588;10416 | fff869180000bf0158fd01128b5ab2
