@@ -216,7 +216,8 @@ fn write_all<W: Target>(alloc: Global, audio: &Audio, writer: &mut BitWriter<W>)
     Ok(bytes)
 }
 
-/// The same in two steps: chooses the frame, keeps that choice, counts its bytes, and then writes it.
+/// The same in two steps, with buffers that are made for frames of either profile: chooses the frame, keeps that choice,
+/// counts its bytes, and then writes it.
 fn write_chosen<W: Target>(
     alloc: Global,
     audio: &Audio,
@@ -228,9 +229,8 @@ fn write_chosen<W: Target>(
     if len == 0 || len > 16 {
         return Err(Why::BlockSize);
     }
-    let profile = audio.profile();
-    let mut buffers = EncodeBuffers::new_in(alloc, profile, 16)?;
-    let mut choice = FrameChoice::new(alloc, profile, audio.channels().len())?;
+    let mut buffers = EncodeBuffers::new_in(alloc, Profile::Lax, 16)?;
+    let mut choice = FrameChoice::new(alloc, Profile::Lax, audio.channels().len())?;
     choose_frame(audio, 0..len, 0, &[], &mut buffers, &mut choice);
     let kept = choice.kept(alloc)?;
     let bytes = kept.frame_bytes(audio, len, 0);
