@@ -1,5 +1,5 @@
-//! Encoding while an allocation fails: a call that returns `Memory` has sent nothing, and does its work when it is called
-//! again. So each test here passes whichever one of its allocations fails: `rt try --test --fail-alloc N`.
+//! Encoding while an allocation fails: a call that returns `Memory` has sent nothing, and does its work when it is
+//! called again. So each test here passes whichever one of its allocations fails: `rt try --test --fail-alloc N`.
 
 use crate::predicted::{Encoder, made, outside, predictors, wave};
 use crate::writes::{Written, write};
@@ -187,8 +187,8 @@ fn push_waves<E: Encoder>(encoder: &mut E, alloc: Global, one: Vec<LinearPredict
     first | second | encoder.set(Vec::new(alloc)) | send_again(encoder)
 }
 
-/// Makes an encoder of a container, pushes, and ends. Returns the number of the fault for which something is refused, 0 if
-/// nothing is, and 2 only if the making is.
+/// Makes an encoder of a container, pushes, and ends. Returns the number of the fault for which something is refused, 0
+/// if nothing is, and 2 only if the making is.
 fn pushed<W: Target + Drop>(
     alloc: Global,
     ogg: bool,

@@ -154,8 +154,8 @@ impl<W: Target + Drop> Encoder for OggEncoder<W> {
     }
 }
 
-/// What is returned by the making of an encoder, by each of five pushes, and by its end; 0 is no fault, and 255 that it was
-/// not asked.
+/// What is returned by the making of an encoder, by each of five pushes, and by its end; 0 is no fault, and 255 that it
+/// was not asked.
 type Answers = [u8; 7];
 
 /// The predictor, and none.
@@ -230,7 +230,7 @@ impl Pushing<'_> {
     }
 }
 
-/// Pushes to a target that takes a byte at a time, of which the byte of this number is not written, if there are as many.
+/// Pushes to a target that takes a byte at a time. The byte of this number is not written, if there are as many.
 fn push_fails(rt: &impl Abort, alloc: Global, pushing: &Pushing<'_>, n: usize) -> Result<(), Fail> {
     let lists = [made(predictors(alloc))?, Vec::new(alloc)];
     let mut target = FailAt::new(Counted::new(Trickle::new(alloc)), n as u64);

@@ -46,7 +46,7 @@ fn chosen(
     })
 }
 
-/// Whether samples by a plan, which are one frame, have this digest and this frame, of so many bytes: those of a stream.
+/// Whether samples by a plan, which are one frame, have the digest and the frame of a stream, of `len` bytes.
 fn comes_of(alloc: Global, plan: &Plan, audio: &Audio, stream: &str, len: u32) -> Result<bool, Fail>
     requires { fits_plan plan.now audio.now ≡ true }
 {

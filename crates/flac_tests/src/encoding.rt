@@ -134,8 +134,8 @@ fn blocks_of_plans(rt: HostRuntime) -> Result<(), Fail> {
     Ok(())
 }
 
-/// What comes of a plan in a profile for one sample of another, of a rate and a depth: the number of the fault, and whether
-/// the plan fits the sample.
+/// What comes of a plan in a profile for one sample of another, of a rate and a depth: the number of the fault, and
+/// whether the plan fits the sample.
 fn named(alloc: Global, profile: Profile, own: Profile, format: &str) -> Result<(u8, bool), Fail> {
     let (rate, bits) = pair_of(format)?;
     let audio = Audio::new_in(own, rate, bits, channels_of(alloc, ";0")?)?;
@@ -145,7 +145,7 @@ fn named(alloc: Global, profile: Profile, own: Profile, format: &str) -> Result<
     }
 }
 
-/// A plan in a profile that is named fits samples of that profile only. Samples that the profile does not allow have none.
+/// A plan in a profile that is named fits samples of that profile only. Samples that it does not allow have none.
 #[test]
 fn plans_in_profiles(rt: HostRuntime) -> Result<(), Fail> {
     let (subset, lax) = (Profile::Subset, Profile::Lax);

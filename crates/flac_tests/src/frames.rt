@@ -117,8 +117,8 @@ fn out_of_range(rt: HostRuntime) -> Result<(), Fail> {
     Ok(())
 }
 
-/// Sample rate and bit depth, after `lax ` if they are not of the streamable subset; the channels, each after a `;`; and
-/// why they are refused.
+/// Sample rate and bit depth, after `lax ` if they are not of the streamable subset; the channels, each after a `;`;
+/// and why they are refused.
 const REFUSED: &str = "65537 10 | ;1; | 40 BadRate
 44100 10 | ;1; | 41 BadDepth
 44100 16 | ;32768; | 43 LengthsDiffer
@@ -134,8 +134,8 @@ lax 65537 5 | ;16; | 43 LengthsDiffer
 lax 65537 5 | ;16 | 44 SampleTooLarge
 lax 1048575 4 | ;7;-9 | 44 SampleTooLarge";
 
-/// Samples by their rate and bit depth, after `lax ` if they are not of the streamable subset, and by their channels, each
-/// after a `;`.
+/// Samples by their rate and bit depth, after `lax ` if they are not of the streamable subset, and by their channels,
+/// each after a `;`.
 fn audio_of(alloc: Global, format: &str, words: &str) -> Result<Result<Audio, SetupFault>, Fail> {
     let (profile, format) = profile_of(format);
     let (rate, bits) = pair_of(format)?;
@@ -216,7 +216,8 @@ fn write_all<W: Target>(alloc: Global, audio: &Audio, writer: &mut BitWriter<W>)
     Ok(bytes)
 }
 
-/// The same in two steps: chooses the frame, keeps that choice, counts its bytes, and then writes it.
+/// The same in two steps, with buffers that are made for frames of either profile: chooses the frame, keeps that choice,
+/// counts its bytes, and then writes it.
 fn write_chosen<W: Target>(
     alloc: Global,
     audio: &Audio,
@@ -228,9 +229,8 @@ fn write_chosen<W: Target>(
     if len == 0 || len > 16 {
         return Err(Why::BlockSize);
     }
-    let profile = audio.profile();
-    let mut buffers = EncodeBuffers::new_in(alloc, profile, 16)?;
-    let mut choice = FrameChoice::new(alloc, profile, audio.channels().len())?;
+    let mut buffers = EncodeBuffers::new_in(alloc, Profile::Lax, 16)?;
+    let mut choice = FrameChoice::new(alloc, Profile::Lax, audio.channels().len())?;
     choose_frame(audio, 0..len, 0, &[], &mut buffers, &mut choice);
     let kept = choice.kept(alloc)?;
     let bytes = kept.frame_bytes(audio, len, 0);
@@ -243,8 +243,8 @@ fn write_chosen<W: Target>(
     Ok(bytes)
 }
 
-/// Sample rate and bit depth, after `lax ` if they are not of the streamable subset; the channels, each after a `;`; and
-/// the frame that is written of them.
+/// Sample rate and bit depth, after `lax ` if they are not of the streamable subset; the channels, each after a `;`;
+/// and the frame that is written of them.
 const WRITTEN: &str =
     "# Independent channels, the only one, left and side, side and right, middle and side.
 44100 16 | ;25588;10416 | fff869180000bf0158fd01128b5ab2

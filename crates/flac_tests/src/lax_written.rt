@@ -1,5 +1,5 @@
-//! Streams outside the streamable subset (RFC 9639, section 7) that are written: rates and depths without a code, long blocks,
-//! and partition orders above 8. Their bytes were put together apart from this project, and the reference decodes them.
+//! Streams outside the streamable subset (RFC 9639, section 7) that are written: rates and depths without a code, long
+//! blocks, partition orders above 8. Their bytes were put together apart from this project; the reference decodes them.
 
 ghost use Rattle.std.specs.Prelude.{◌≡◌, true};
 ghost use Rattle.flac_native.specs.Given.{fits_plan};
@@ -80,7 +80,7 @@ fn pages(alloc: Global, plan: &Plan, audio: &Audio) -> Result<Vec<u8>, Fail>
     Ok(target.into_bytes())
 }
 
-/// Samples by a plan, encoded and decoded again in one call: in pages with that block, or as a native stream without blocks.
+/// Samples by a plan, encoded and decoded again in one call: in pages with that block, or natively without blocks.
 fn both_ways(
     alloc: Global,
     serial: Option<u32>,
@@ -131,9 +131,9 @@ fn in_both_containers(rt: HostRuntime) -> Result<(), Fail> {
 
 // ---- partition orders above 8
 
-/// The profile's name; the number of samples of one channel, which is also the block size, and how many of them are loud
-/// and quiet by turns; and the stream: how many bytes it has, its marker and STREAMINFO, and the sum of its only frame. All
-/// forms of the subframe were tried apart from this project. Without the limits the partitions are of 9 and of 127 samples.
+/// The profile's name; the number of samples of one channel, which is also the block size, and how many of them are
+/// loud and quiet by turns; and the stream: its bytes counted, its marker and STREAMINFO, and the CRC-16 of its frame.
+/// All forms of the subframe were tried apart from this project. Without the limits partitions have 9 and 127 samples.
 const BURSTS: &str =
     "lax | 4608 9 | 6332 664c614380000022120012000018920018920ac44170000012009d0ec67f81a9a71d90aad480d037b581 0bf2
 subset | 4608 9 | 10278 664c614380000022120012000027fc0027fc0ac44170000012009d0ec67f81a9a71d90aad480d037b581 0bb4
@@ -143,7 +143,7 @@ lax | 65024 127 | 81910 664c614380000022fe00fe00013fcc013fcc0ac441700000fe006b6d
 fn bursts_of(alloc: Global, profile: Profile, len: u32, run: u32) -> Result<Vec<u8>, Fail> {
     let mut channel = Vec::new(alloc);
     for sample in bursts(alloc, len as usize, run as usize)? {
-        channel.push(sample as i32)?;
+        channel.push(sample.clamp(-0x80_0000, 0x7F_FFFF) as i32)?;
     }
     let audio = Audio::new_in(profile, 44100, 24, vec![in alloc; channel]?)?;
     encoded(alloc, &audio, len, 0)
@@ -184,8 +184,8 @@ fn partition_orders(rt: HostRuntime) -> Result<(), Fail> {
 
 // ---- block by block
 
-/// Profile, rate, depth, channels and block size; and the number of the fault for which nothing of that format is encoded,
-/// 0 if it is.
+/// Profile, rate, depth, channels and block size; and the number of the fault for which nothing of that format is
+/// encoded, 0 if it is.
 const FORMATS: &str = "lax 0 3 0 15 | 40
 lax 1048576 3 0 15 | 40
 lax 1048575 3 0 15 | 41

@@ -1,5 +1,5 @@
-//! Streams whose frames are written by linear predictors that are handed in (RFC 9639, section 9.2.6). Their bytes were put
-//! together apart from this project, and the reference decodes them.
+//! Streams whose frames are written by linear predictors that are handed in (RFC 9639, section 9.2.6). Their bytes were
+//! put together apart from this project, and the reference decodes them.
 
 use crate::decoding::peaks_to_end;
 use crate::lax_written::{come_out, no_comments};
@@ -31,7 +31,7 @@ fn predictor_of(order: usize) -> Option<LinearPredictor> {
     LinearPredictor::new(1, 0, coefficients.get(..order).unwrap_or(&[]))
 }
 
-/// As many predictors of order 1, and behind them one of another order, if this is not 0.
+/// As many predictors of order 1, and after them one of another order, if this is not 0.
 pub(crate) fn list_of(
     alloc: Global,
     count: usize,
@@ -71,9 +71,9 @@ fn is_written(
     Ok(plan.predictors().len() == len && come_out(alloc, &plan, &audio, stream, paged)?)
 }
 
-/// 8 bits of a header, 16 of a warm-up sample, 10 of the predictor and 15 of a residual of zeros; without a predictor 8 bits,
-/// 6 of a residual without partitions, 9 of an escape and 16 numbers of 11 bits. A predictor of as many coefficients as the
-/// block has samples is not tried.
+/// 8 bits of a header, 16 of a warm-up sample, 10 of the predictor and 15 of a residual of zeros; without a predictor 8
+/// bits, 6 of a residual without partitions, 9 of an escape and 16 numbers of 11 bits. A predictor of as many
+/// coefficients as the block has samples is not tried.
 #[test]
 fn whole_streams(rt: HostRuntime) -> Result<(), Fail> {
     let alloc = rt.alloc();
@@ -102,8 +102,8 @@ fn refused(
     }
 }
 
-/// Orders up to 12 in the streamable subset at 48000 Hz and less, else up to 32; and at most 64 predictors, which is judged
-/// first.
+/// Orders up to 12 in the streamable subset at 48000 Hz and less, else up to 32; and at most 64 predictors, which is
+/// judged first.
 #[test]
 fn lists_of_plans(rt: HostRuntime) -> Result<(), Fail> {
     let alloc = rt.alloc();

@@ -121,12 +121,12 @@ pub const OUTSIDE_PAGES: &str =
     10001040000000104ae71336e44bf9bf79d2752e234818a54f67675300000000000000000000010000000100000060d1f601010c840000\
     0800000000000000004f676753000410000000000000000100000002000000aa3cdb8e010bfff86000000fc700000572";
 
-/// The same and a short block of 1, 2 and 3 as verbatim samples, the total and the digest unknown.
+/// The same and a short block of 1, 2 and 3 as verbatim samples; total and digest unknown.
 pub const OUTSIDE_PUSHED: &str =
     "664c61438000002200100010000000000000100010400000000000000000000000000000000000000000fff86000000fc700000572fff8\
     60000102f10208860373";
 
-/// 1001 and -1001 in turn, sixteen samples of 16 bits at 44100 Hz: a fixed predictor of order 0 and an escape of 11 bits.
+/// 1001 and -1001 in turn, sixteen samples of 16 bits at 44100 Hz: a fixed predictor of order 0, an escape of 11 bits.
 pub const WAVE: &str =
     "664c614380000022001000100000220000220ac440f000000010d1f223132b5d8ea4d06feffa79868854fff86908000f301003d6fa60bb\
     e982efa60bbe982efa60bbe982efa60bbe982eb03d";
@@ -149,7 +149,7 @@ pub const WAVE_PREDICTED_PAGES: &str =
     0ac440f000000010d1f223132b5d8ea4d06feffa798688544f67675300000000000000000000010000000100000060d1f601010c840000\
     0800000000000000004f6767530004100000000000000001000000020000000ecc45b30110fff86908000f304003e90040f000b5aa";
 
-/// Five such blocks, the first and the last as in `WAVE`, the others by the predictor, the total and the digest unknown.
+/// Five such blocks, the first and the last as in `WAVE`, the others by the predictor; total and digest unknown.
 pub const WAVES_PUSHED: &str =
     "664c614380000022001000100000000000000ac440f00000000000000000000000000000000000000000fff86908000f301003d6fa60bb\
     e982efa60bbe982efa60bbe982efa60bbe982eb03dfff86908010f254003e90040f00085c6fff86908020f1a4003e90040f000d572fff8\
