@@ -298,9 +298,8 @@ pub struct Task<'a> {
 /// Does a job, and returns the exit status: 0 if it is done, 1 if it failed.
 ///
 /// `task` has the job and the text of its list. `source` is the file that the job reads, `target` the one that it
-/// writes, if it writes one; `out` and `err` are
-/// standard output and standard error. After status 1 the line of the error was written to `err`, if that could be
-/// written.
+/// writes, if it writes one; `out` and `err` are standard output and standard error. After status 1 the line of the
+/// error was written to `err`, if that could be written.
 pub fn run<R: Source, W: Target, O: Target, E: Target>(
     alloc: Global,
     task: &Task<'_>,
