@@ -1,4 +1,4 @@
-//! The program `flac` as a library: [`run`] does a job over a source and targets.
+//! The program `flac` as a library: [`run`] does a [`Task`] over a source and targets.
 #![tactic(auto)]
 
 mod counts;
