@@ -25,3 +25,18 @@ def script():
         if not hasattr(module, name):
             setattr(module, name, value)
     return module
+
+
+def bodies(file, room):
+    """The wrong bodies of a file, each as an edit of its own in this folder: what stands behind a line '# NAME' is NAME.edit. A file without such
+    lines is one edit, and stays where it is."""
+    with open(file, encoding="utf-8") as it:
+        parts = re.split(r"^# (\w+)$\n", it.read(), flags=re.MULTILINE)[1:]
+    if not parts:
+        return [file]
+    made = []
+    for name, text in zip(parts[::2], parts[1::2]):
+        made.append(f"{room}/{name}.edit")
+        with open(made[-1], "x", encoding="utf-8") as it:
+            it.write(text)
+    return made

@@ -153,11 +153,11 @@ def all_understood(rt, crate, files):
     return sources, [it for it in found if it]
 
 
-def batched(edits):
+def batched(edits, most=MOST):
     """Puts edits together that do not disturb each other, in as few batches as can be, about as many into each."""
-    made = [[] for _ in range(0, len(edits), MOST)]
+    made = [[] for _ in range(0, len(edits), most)]
     for edit in edits:
-        fits = [it for it in made if len(it) < MOST and not any(edit.disturbs(other) for other in it)]
+        fits = [it for it in made if len(it) < most and not any(edit.disturbs(other) for other in it)]
         if not fits:
             made.append([])
         min(fits or made[-1:], key=len).append(edit)
@@ -254,11 +254,11 @@ def refused(rt, crate, sources, edits, flags, kept):
     return told
 
 
-def tried(rt, crate, files, flags, kept):
-    """Tries those of these edits together that can be, as they stand now. Returns what is to be said of each that is refused, by its
-    file: every other is to be tried alone."""
+def tried(rt, crate, files, flags, kept, most=MOST):
+    """Tries those of these edits together that can be, as they stand now, at most so many in one check. Returns what is to be said of each
+    that is refused, by its file: every other is to be tried alone."""
     sources, edits = all_understood(rt, crate, files)
     told = {}
-    for batch in batched(edits):
+    for batch in batched(edits, most):
         told.update(refused(rt, crate, sources, batch, flags, kept))
     return told
