@@ -90,7 +90,8 @@ class Sources:
             return parts == [name, *function.module, function.name]
         # (a trait's impl goes by both names)
         own, of = (self.made.named(it)[0] for it in (function.block.ty, function.block.trait or ["Self"]))
-        return bool(own and of) and parts[-2] == own + of * function.in_trait
+        # (an impl for some of the type's arguments alone adds these, as Decoder+BitReader+R)
+        return bool(own and of) and (parts[-2] == own + of * function.in_trait or parts[-2].startswith(f"{own}+") and not function.in_trait)
 
     def changed(self, path, text):
         """The functions whose bodies this text of the file changes, or None if it changes more than bodies, or a body that has items of
