@@ -48,7 +48,7 @@ both a b p q = rw (p, q) refl
 
 module _ (most order : ℕ) (rs : List ℤ) (f : Codings) (may : MayWrite most order rs f) where
   -- the partitions make the residual up
-  cuts : length rs + (length rs + order) / 2 ^ f.halvings ≡ ((length rs + order) / 2 ^ f.halvings - order) + length f.codings * ((length rs + order) / 2 ^ f.halvings)
+  pub cuts : length rs + (length rs + order) / 2 ^ f.halvings ≡ ((length rs + order) / 2 ^ f.halvings - order) + length f.codings * ((length rs + order) / 2 ^ f.halvings)
   cuts =
       let size : ℕ = (length rs + order) / 2 ^ f.halvings in
       let some = pow_pos f.halvings in

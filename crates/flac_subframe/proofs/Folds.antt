@@ -26,7 +26,7 @@ fold_next f ns j n lt is so =
 pub same_more : (rs out : List ℤ) (i : ℕ) (v : ℤ) → i < length rs → length out ≡ length rs → v ≡ get_or rs i (pos 0) → take i out ≡ take i rs → take (i + 1) (set out i v) ≡ take (i + 1) rs
 same_more rs out i v lt long is same = take_more_set out i v (omega (arith, long, lt)) ∙ rw (same, is) (sym (take_more rs i (pos 0) lt))
 
-fold_small : (z : ℤ) → IsResidual z → folded z < 2 ^ 32
+pub fold_small : (z : ℤ) → IsResidual z → folded z < 2 ^ 32
 fold_small (pos a) r = omega (arith, ints, r.high)
 fold_small (negsuc a) r = omega (arith, ints, r.low)
 

@@ -31,6 +31,8 @@ pub mod Convex
 pub mod Walks
 pub mod LowerBounds
 pub mod Close
+pub mod DigitBounds
+pub mod Finer
 pub mod Searching
 pub mod Lengths
 pub mod Differences

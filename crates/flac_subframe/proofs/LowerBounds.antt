@@ -1,5 +1,5 @@
 -- What a residual costs at least in whatever partitions: what the finest partitions do, each by itself.
-use Rattle.std.proofs.Common.{◌≡◌, ◌∙◌, inl, inr, refl, sym, ap, ℕ, zero, suc, ◌+◌, ◌-◌, ◌*◌, ◌/◌, ◌^◌, ◌≤◌, ◌<◌, arith, ℤ, List, [], ◌∷◌, ◌++◌, length, take, drop, All, length-append}
+use Rattle.std.proofs.Common.{◌≡◌, ◌∙◌, ◌⊎◌, inl, inr, refl, sym, ap, ℕ, zero, suc, ◌+◌, ◌-◌, ◌*◌, ◌/◌, ◌^◌, ◌≤◌, ◌<◌, arith, ℤ, List, [], ◌∷◌, ◌++◌, length, take, drop, All, length-append}
 use Rattle.std.specs.List.{sum_by}
 use Rattle.std.proofs.lemmas.List.Sums.{sum_by-cons, sum_by-append}
 use Rattle.std.proofs.lemmas.List.Elements.{All-take, All-drop}
@@ -34,7 +34,7 @@ ones : (k : ℕ) (rs : List ℤ) → length rs ≤ sum_by (quotient_cost k) rs
 ones k [] = omega arith
 ones k (r ∷ rs) = omega (arith, sum_by-cons (quotient_cost k) r rs, ones k rs)
 
-grows : (m : ℕ) → m + 1 ≤ 2 ^ m
+pub grows : (m : ℕ) → m + 1 ≤ 2 ^ m
 grows zero = omega arith
 grows (suc m) = omega (arith, grows m)
 
@@ -76,6 +76,12 @@ each_within : (w first size : ℕ) (rs : List ℤ) (cs : List Coding) → each_c
 unfolding partitions_cost
 each_within w first size rs [] = omega arith
 each_within w first size rs (c ∷ cs) = omega (arith, one_within c (take first rs), each_within w size size (drop first rs) cs)
+
+-- each partition has a parameter of four bits or more
+fields_within : (w first size : ℕ) (rs : List ℤ) (cs : List Coding) → 4 ≤ w → each_cost first size rs cs + 4 * length cs ≤ partitions_cost w first size rs cs
+unfolding partitions_cost
+fields_within w first size rs [] four = omega arith
+fields_within w first size rs (c ∷ cs) four = omega (arith, one_within c (take first rs), fields_within w size size (drop first rs) cs four)
 
 -- ---- a coding for a partition does for both of its halves
 
@@ -157,6 +163,19 @@ bound_of_all order h rs b half so f m =
     let e : h - p + p ≡ h = omega (arith, m.few) in
     let here : Bounds w order rs b p = bound_down w order rs b (h - p) p (rw e half) (rw e (so w)) in
     omega (arith, here f.codings m.each m.codings, each_within w ((length rs + order) / 2 ^ p - order) ((length rs + order) / 2 ^ p) rs f.codings)
+
+pub four_bits : (w : ℕ) → (w ≡ 4) ⊎ (w ≡ 5) → 4 ≤ w
+four_bits w (inl e) = omega (arith, e)
+four_bits w (inr e) = omega (arith, e)
+
+-- at the finest partition order itself the parameters come on top of it
+pub bound_of_last : (order h : ℕ) (rs : List ℤ) (b : ℕ) → ((w : ℕ) → Bounds w order rs b h) → (f : Codings) → MayWrite h order rs f → f.halvings ≡ h → b + (6 + 4 * 2 ^ h) ≤ residual_cost order rs f
+bound_of_last order h rs b so f m e =
+    let w : ℕ = f.parameter_bits in
+    let p : ℕ = f.halvings in
+    let here : Bounds w order rs b p = rw e (so w) in
+    let many : length f.codings ≡ 2 ^ h = rw e at m.each in
+    omega (arith, many, here f.codings m.each m.codings, fields_within w ((length rs + order) / 2 ^ p - order) ((length rs + order) / 2 ^ p) rs f.codings (four_bits w m.method))
 
 -- ---- one partition after another
 

@@ -13,17 +13,19 @@ pub struct Priced {
     pub bits: u64,
 }
 
-/// The sum of what is above the lowest bits of sixteen numbers of few bits: in 32 bits, and by a loop of fixed length.
+/// The sum of what is above the lowest bits of `count` numbers of few bits: in 32 bits, and by a loop of fixed length, since
+/// each call has a constant count.
 #[inline(always)]
-fn sixteen_quotients(folds: &[u32], parameter: u8, width: u8) -> u32
-    requires long { length folds.now ≡ 16 }
+fn quotients_of_few(folds: &[u32], count: usize, parameter: u8, width: u8) -> u32
+    requires long { length folds.now ≡ count }
+    requires few_numbers { count ≤ 16 }
     requires bounded { All (λ n. n < 2 ^ width) folds.now }
     requires few { width ≤ 28 + parameter }
     requires parameter { parameter < 31 }
     ensures { result ≡ sum_by (λ n. n / 2 ^ parameter) folds.now }
 {
     let mut sum: u32 = 0;
-    for i in 0..16 {
+    for i in 0..count {
         sum += folds[i] >> parameter;
     }
     sum
@@ -40,7 +42,10 @@ pub(crate) fn quotients(folds: &[u32], parameter: u8, width: u8) -> u64
     ensures small { result ≤ 2 ^ 32 * length folds.now }
 {
     if folds.len() == 16 && width <= 28 + parameter {
-        return u64::from(sixteen_quotients(folds, parameter, width));
+        return u64::from(quotients_of_few(folds, 16, parameter, width));
+    }
+    if folds.len() == 8 && width <= 28 + parameter {
+        return u64::from(quotients_of_few(folds, 8, parameter, width));
     }
     let mut sum = 0;
     for number in folds {
@@ -62,14 +67,14 @@ pub(crate) fn rice_bits(folds: &[u32], parameter: u8, width: u8) -> u64
     quotients(folds, parameter, width) + folds.len() as u64 * (1 + u64::from(parameter))
 }
 
-/// A number that has each bit that one of sixteen numbers has, by a loop of fixed length.
+/// A number that has each bit that one of `count` numbers has, by a loop of fixed length.
 #[inline(always)]
-fn bits_of_sixteen(folds: &[u32]) -> u32
-    requires long { length folds.now ≡ 16 }
+fn bits_of_few(folds: &[u32], count: usize) -> u32
+    requires long { length folds.now ≡ count }
     ensures { (n : ℕ) → All (λ k. k < 2 ^ n) folds.now ↔ (result < 2 ^ n) }
 {
     let mut bits: u32 = 0;
-    for i in 0..16 {
+    for i in 0..count {
         bits |= folds[i];
     }
     bits
@@ -82,7 +87,10 @@ fn bits_of(folds: &[u32]) -> u32
     ensures { (n : ℕ) → All (λ k. k < 2 ^ n) folds.now ↔ (result < 2 ^ n) }
 {
     if folds.len() == 16 {
-        return bits_of_sixteen(folds);
+        return bits_of_few(folds, 16);
+    }
+    if folds.len() == 8 {
+        return bits_of_few(folds, 8);
     }
     let mut bits: u32 = 0;
     for number in folds {

@@ -1,6 +1,7 @@
 //! Lower bounds on the bits of a residual, known before its parameters are tried.
 
-ghost use Rattle.std.specs.Prelude.{◌≡◌, ◌<◌, ◌≤◌, ◌^◌, ◌+◌, ◌*◌, ℕ, length, map, All, IsTrue, slice_index};
+ghost use Rattle.std.specs.Prelude.{◌≡◌, ◌<◌, ◌≤◌, ◌^◌, ◌+◌, ◌-◌, ◌*◌, ℕ, length, map, All, IsTrue, slice_index};
+ghost use Rattle.std.specs.Int.Count.{count_leading_zeros};
 ghost use Rattle.std.specs.List.{sum_by};
 ghost use Rattle.flac_subframe.specs.Cost.{value_cost, MayWrite, Codings, residual_cost};
 ghost use Rattle.flac_subframe.specs.Spelling.{folded, FitsWidth};
@@ -9,6 +10,11 @@ ghost use Rattle.flac_subframe.specs.Halves.{part, IsWidth, HasWidths};
 use crate::cost::quotients;
 use crate::halving::power;
 use crate::view::ResidualView;
+use crate::widths::measure;
+
+/// The greatest partition order whose tables are made at once. Above it a partition is often so short that its parameter
+/// takes more than it saves, so finer partitions are tried only if no bound rules them out.
+pub(crate) const COARSE: u8 = 8;
 
 /// A shift that brings the number of bits near the number of values.
 fn shift_to(count: u64, bits: u64) -> u32
@@ -126,7 +132,8 @@ fn bound_parts(
     requires costs { (j : ℕ) → j < 2 ^ residual.now.halvings → slice_index sums.now j ≡ sum_by (value_cost 0) (part residual.now.order residual.now.values.now residual.now.halvings j) }
     requires widths { HasWidths residual.now.order residual.now.values.now 0 residual.now.halvings widths.now }
     requires widths_long { 2 * 2 ^ residual.now.halvings ≤ length widths.now }
-    ensures { (f : Codings) → MayWrite residual.now.halvings residual.now.order residual.now.values.now f → result ≤ residual_cost residual.now.order residual.now.values.now f }
+    ensures all { (f : Codings) → MayWrite residual.now.halvings residual.now.order residual.now.values.now f → result ≤ residual_cost residual.now.order residual.now.values.now f }
+    ensures last { (f : Codings) → MayWrite residual.now.halvings residual.now.order residual.now.values.now f → f.halvings ≡ residual.now.halvings → result + (6 + 4 * 2 ^ residual.now.halvings) ≤ residual_cost residual.now.order residual.now.values.now f }
 {
     let size = (residual.values.len() + residual.order) >> residual.halvings;
     let count = power(residual.halvings);
@@ -182,4 +189,91 @@ pub(crate) fn is_too_dear(
         return true;
     }
     reaches(residual, sums, widths, bound, below)
+}
+
+/// The sum of how many digits numbers have.
+fn digits(folds: &[u32]) -> u64
+    requires few { length folds.now ≤ 65535 }
+    requires small { All (λ n. n < 2 ^ 32) folds.now }
+    ensures sum { result ≡ sum_by (λ n. 63 - count_leading_zeros 64 (2 * n + 1)) folds.now }
+    ensures small { result ≤ 64 * length folds.now }
+{
+    let mut sum = 0;
+    for number in folds {
+        let odd = 2 * u64::from(*number) + 1;
+        sum += u64::from(63 - odd.leading_zeros());
+    }
+    sum
+}
+
+/// A lower bound on the bits of the residual at one partition order, from the digits of its values: each partition has a
+/// parameter of four bits, and then one bit more for each value, or five for an escape.
+fn bound_by_digits(residual: &ResidualView<'_>, halvings: u8, digits: u64) -> u64
+    requires within { halvings ≤ residual.now.halvings }
+    requires sum { digits ≡ sum_by (λ n. 63 - count_leading_zeros 64 (2 * n + 1)) residual.now.folds.now }
+    requires small { digits ≤ 64 * length residual.now.folds.now }
+    ensures { (f : Codings) → MayWrite residual.now.halvings residual.now.order residual.now.values.now f → f.halvings ≡ halvings → result ≤ residual_cost residual.now.order residual.now.values.now f }
+{
+    let size = (residual.values.len() + residual.order) >> halvings;
+    let fields = power(halvings) * (4 + size.min(5));
+    (digits + 6 + fields as u64).saturating_sub(residual.order as u64)
+}
+
+/// Whether lower bounds show that the residual takes `below` bits or more at one partition order: by the digits of its
+/// values, or else by the bits of each partition. The arrays are then those of that partition order.
+fn is_order_too_dear(
+    residual: &ResidualView<'_>,
+    halvings: u8,
+    digits: u64,
+    sums: &mut [u64],
+    widths: &mut [u8],
+    below: u64,
+) -> bool
+    requires within { halvings ≤ residual.now.halvings }
+    requires sum { digits ≡ sum_by (λ n. 63 - count_leading_zeros 64 (2 * n + 1)) residual.now.folds.now }
+    requires small { digits ≤ 64 * length residual.now.folds.now }
+    requires sums { 2 ^ residual.now.halvings ≤ length sums.old }
+    requires widths { 2 * 2 ^ residual.now.halvings ≤ length widths.old }
+    ensures { IsTrue result → (f : Codings) → MayWrite residual.now.halvings residual.now.order residual.now.values.now f → f.halvings ≡ halvings → below ≤ residual_cost residual.now.order residual.now.values.now f }
+{
+    let bound = bound_by_digits(residual, halvings, digits);
+    if bound >= below {
+        return true;
+    }
+    let coarser = ResidualView {
+        values: residual.values,
+        folds: residual.folds,
+        order: residual.order,
+        halvings,
+    };
+    measure(&coarser, widths, sums);
+    let fields = 6 + 4 * power(halvings) as u64;
+    let rest = below.saturating_sub(fields);
+    let bound = bound_parts(&coarser, sums, widths, true, rest);
+    bound >= rest
+}
+
+/// The greatest partition order at which no lower bound shows that the residual takes `below` bits or more, or the one
+/// whose tables are made at once.
+pub(crate) fn finest_in_doubt(
+    residual: &ResidualView<'_>,
+    sums: &mut [u64],
+    widths: &mut [u8],
+    below: u64,
+) -> u8
+    requires fine { 8 ≤ residual.now.halvings }
+    requires sums { 2 ^ residual.now.halvings ≤ length sums.old }
+    requires widths { 2 * 2 ^ residual.now.halvings ≤ length widths.old }
+    ensures within { (8 ≤ result) × (result ≤ residual.now.halvings) }
+    ensures dear { (f : Codings) → MayWrite residual.now.halvings residual.now.order residual.now.values.now f → result < f.halvings → below ≤ residual_cost residual.now.order residual.now.values.now f }
+{
+    let digits = digits(residual.folds);
+    let mut halvings = residual.halvings;
+    while halvings > COARSE {
+        if !is_order_too_dear(residual, halvings, digits, sums, widths, below) {
+            return halvings;
+        }
+        halvings -= 1;
+    }
+    halvings
 }

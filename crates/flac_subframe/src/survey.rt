@@ -11,7 +11,7 @@ use crate::coding::Coding;
 use crate::cost::Priced;
 use crate::halves::{clear, compare, compare_down, copy};
 use crate::halving::{Found, power};
-use crate::pruning::is_too_dear;
+use crate::pruning::{COARSE, finest_in_doubt, is_too_dear};
 use crate::tables::Tables;
 use crate::view::ResidualView;
 use crate::widths::measure;
@@ -299,11 +299,7 @@ fn take_found(
 
 /// The residual form of the fewest bits, if it takes fewer bits than `below`, with its codings in their array. Cheap lower bounds come
 /// first, so that most predictors are refused before their parameters are tried.
-pub(crate) fn least_residual(
-    residual: &ResidualView<'_>,
-    tables: &mut Tables<'_>,
-    below: u64,
-) -> Option<Found>
+fn least_at_once(residual: &ResidualView<'_>, tables: &mut Tables<'_>, below: u64) -> Option<Found>
     requires places { HasPlaces residual.now.halvings tables.old }
     ensures least { IfSome result (λ f. IsLeast (MayWrite residual.now.halvings residual.now.order residual.now.values.now) (residual_cost residual.now.order residual.now.values.now) (codings_in f tables.new.codings.now)) }
     ensures bits { IfSome result (λ f. f.bits ≡ residual_cost residual.now.order residual.now.values.now (codings_in f tables.new.codings.now)) }
@@ -330,4 +326,100 @@ pub(crate) fn least_residual(
     }
     let bits = take_found(residual, found, four, five, widths, codings);
     Some(Found { bits, ..found })
+}
+
+/// The same with partition orders up to `halvings` alone.
+fn least_up_to(
+    residual: &ResidualView<'_>,
+    halvings: u8,
+    tables: &mut Tables<'_>,
+    below: u64,
+) -> Option<Found>
+    requires within { halvings ≤ residual.now.halvings }
+    requires places { HasPlaces residual.now.halvings tables.old }
+    ensures least { IfSome result (λ f. IsLeast (MayWrite halvings residual.now.order residual.now.values.now) (residual_cost residual.now.order residual.now.values.now) (codings_in f tables.new.codings.now)) }
+    ensures bits { IfSome result (λ f. f.bits ≡ residual_cost residual.now.order residual.now.values.now (codings_in f tables.new.codings.now)) }
+    ensures within { IfSome result (λ f. f.halvings ≤ halvings) }
+    ensures less { IfSome result (λ f. f.bits < below) }
+    ensures small { IfSome result (λ f. f.bits ≤ 2 ^ 49) }
+    ensures kept { IfNone result (tables.new.codings.now ≡ tables.old.codings.now) }
+    ensures none { IfNone result ((f : Codings) → MayWrite halvings residual.now.order residual.now.values.now f → below ≤ residual_cost residual.now.order residual.now.values.now f) }
+    ensures places { (most : ℕ) → HasPlaces most tables.old → HasPlaces most tables.new }
+    ensures same { tables.new.codings.ghost_name ≡ tables.old.codings.ghost_name }
+{
+    let coarser = ResidualView {
+        values: residual.values,
+        folds: residual.folds,
+        order: residual.order,
+        halvings,
+    };
+    least_at_once(&coarser, tables, below)
+}
+
+/// The same for the finer partition orders: none if each form of these takes `below` bits or more, which bounds mostly show before
+/// their tables are made.
+fn least_of_finer(residual: &ResidualView<'_>, tables: &mut Tables<'_>, below: u64) -> Option<Found>
+    requires fine { 8 ≤ residual.now.halvings }
+    requires places { HasPlaces residual.now.halvings tables.old }
+    ensures least { IfSome result (λ f. IsLeast (MayWrite residual.now.halvings residual.now.order residual.now.values.now) (residual_cost residual.now.order residual.now.values.now) (codings_in f tables.new.codings.now)) }
+    ensures bits { IfSome result (λ f. f.bits ≡ residual_cost residual.now.order residual.now.values.now (codings_in f tables.new.codings.now)) }
+    ensures within { IfSome result (λ f. f.halvings ≤ residual.now.halvings) }
+    ensures less { IfSome result (λ f. f.bits < below) }
+    ensures small { IfSome result (λ f. f.bits ≤ 2 ^ 49) }
+    ensures kept { IfNone result (tables.new.codings.now ≡ tables.old.codings.now) }
+    ensures none { IfNone result ((f : Codings) → MayWrite residual.now.halvings residual.now.order residual.now.values.now f → 8 < f.halvings → below ≤ residual_cost residual.now.order residual.now.values.now f) }
+    ensures places { (most : ℕ) → HasPlaces most tables.old → HasPlaces most tables.new }
+    ensures same { tables.new.codings.ghost_name ≡ tables.old.codings.ghost_name }
+{
+    let sums = &mut *tables.sums;
+    let widths = &mut *tables.widths;
+    let finest = finest_in_doubt(residual, sums, widths, below);
+    if finest <= COARSE {
+        return None;
+    }
+    least_up_to(residual, finest, tables, below)
+}
+
+/// The number of bits that a finer form must stay below. Of two forms that take as many, that of the first method comes first, and
+/// then that of the lower partition order.
+fn bits_to_beat(found: Option<Found>, below: u64) -> u64
+    requires less { IfSome found (λ f. f.bits < below) }
+    ensures none { IfNone found (result ≡ below) }
+    ensures some { IfSome found (λ f. f.bits ≤ result) }
+    ensures within { result ≤ below }
+{
+    match found {
+        Some(first) if first.parameter_bits == 4 => first.bits,
+        Some(first) => first.bits + 1,
+        None => below,
+    }
+}
+
+/// The residual form of the fewest bits, if it takes fewer bits than `below`, with its codings in their array. The finer partition
+/// orders come after the others, whose best form is a bound for them.
+pub(crate) fn least_residual(
+    residual: &ResidualView<'_>,
+    tables: &mut Tables<'_>,
+    below: u64,
+) -> Option<Found>
+    requires places { HasPlaces residual.now.halvings tables.old }
+    ensures least { IfSome result (λ f. IsLeast (MayWrite residual.now.halvings residual.now.order residual.now.values.now) (residual_cost residual.now.order residual.now.values.now) (codings_in f tables.new.codings.now)) }
+    ensures bits { IfSome result (λ f. f.bits ≡ residual_cost residual.now.order residual.now.values.now (codings_in f tables.new.codings.now)) }
+    ensures within { IfSome result (λ f. f.halvings ≤ residual.now.halvings) }
+    ensures less { IfSome result (λ f. f.bits < below) }
+    ensures small { IfSome result (λ f. f.bits ≤ 2 ^ 49) }
+    ensures kept { IfNone result (tables.new.codings.now ≡ tables.old.codings.now) }
+    ensures none { IfNone result ((f : Codings) → MayWrite residual.now.halvings residual.now.order residual.now.values.now f → below ≤ residual_cost residual.now.order residual.now.values.now f) }
+    ensures places { (most : ℕ) → HasPlaces most tables.old → HasPlaces most tables.new }
+    ensures same { tables.new.codings.ghost_name ≡ tables.old.codings.ghost_name }
+{
+    if residual.halvings <= COARSE {
+        return least_at_once(residual, tables, below);
+    }
+    let first = least_up_to(residual, COARSE, tables, below);
+    let limit = bits_to_beat(first, below);
+    match least_of_finer(residual, tables, limit) {
+        Some(found) => Some(found),
+        None => first,
+    }
 }

@@ -4,7 +4,7 @@ use Rattle.std.proofs.lemmas.List.Elements.{All-take, All-drop}
 use Rattle.flac_bits.specs.Rice.{IsResidual}
 use Rattle.flac_subframe.specs.Spelling.{folded}
 use Rattle.flac_subframe.proofs.Folds.{folds_small}
-use Rattle.flac_subframe.proofs.LowerBounds.{bound_more, bound_end, bound_of_all}
+use Rattle.flac_subframe.proofs.LowerBounds.{bound_more, bound_end, bound_of_all, bound_of_last}
 use Rattle.flac_subframe.specs.Halves.{part, start}
 use Rattle.flac_subframe.proofs.Splits.{start_next, start_rises}
 use Rattle.flac_subframe.proofs.pruning.bound_parts.Goals as goal
@@ -54,15 +54,28 @@ loop-j-preserved c =
       small = omega (arith, so.small, c.bound_values-bits.ensures.small);
     }
 
-pub returns : goal.returns
-returns c =
+pub returns-clause-all : goal.returns-clause-all
+returns-clause-all c =
     let none : c.power-count.result - c.loop-j.j ≡ 0 = omega arith in
     let so = c.loop-j.invariant in
     bound_of_all c.args.residual.now.order c.args.residual.now.halvings c.args.residual.now.values.now c.loop-j.bits c.args.residual.now.halves
     (λ w cs long may. bound_end w _ _ _ c.args.residual.now.values.now c.loop-j.bits _ _ _ (so.bound w) cs (omega (arith, long, c.power-count.ensures)) may)
 
-pub returns-then-bits-below : goal.returns-then-bits-below
-returns-then-bits-below c =
+pub returns-clause-last : goal.returns-clause-last
+returns-clause-last c =
+    let none : c.power-count.result - c.loop-j.j ≡ 0 = omega arith in
+    let so = c.loop-j.invariant in
+    bound_of_last c.args.residual.now.order c.args.residual.now.halvings c.args.residual.now.values.now c.loop-j.bits
+    (λ w cs long may. bound_end w _ _ _ c.args.residual.now.values.now c.loop-j.bits _ _ _ (so.bound w) cs (omega (arith, long, c.power-count.ensures)) may)
+
+pub returns-then-bits-below-clause-all : goal.returns-then-bits-below-clause-all
+returns-then-bits-below-clause-all c =
     let so = c.loop-j.invariant in
     bound_of_all c.args.residual.now.order c.args.residual.now.halvings c.args.residual.now.values.now c.loop-j.bits c.args.residual.now.halves
+    (λ w cs long may. bound_end w _ _ _ c.args.residual.now.values.now c.loop-j.bits _ _ _ (so.bound w) cs (omega (arith, long, c.power-count.ensures)) may)
+
+pub returns-then-bits-below-clause-last : goal.returns-then-bits-below-clause-last
+returns-then-bits-below-clause-last c =
+    let so = c.loop-j.invariant in
+    bound_of_last c.args.residual.now.order c.args.residual.now.halvings c.args.residual.now.values.now c.loop-j.bits
     (λ w cs long may. bound_end w _ _ _ c.args.residual.now.values.now c.loop-j.bits _ _ _ (so.bound w) cs (omega (arith, long, c.power-count.ensures)) may)

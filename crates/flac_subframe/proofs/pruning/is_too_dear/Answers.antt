@@ -2,7 +2,7 @@ use Rattle.std.proofs.Common.{arith}
 use Rattle.flac_subframe.proofs.pruning.is_too_dear.Goals as goal
 
 pub returns-then-bound-below : goal.returns-then-bound-below
-returns-then-bound-below c = λ yes f m. omega (arith, c.bound_parts-bound.ensures f m, c.if-bound-below.true)
+returns-then-bound-below c = λ yes f m. omega (arith, c.bound_parts-bound.ensures.all f m, c.if-bound-below.true)
 
 pub returns : goal.returns
 returns c = c.reaches.ensures

@@ -2,7 +2,7 @@ use Rattle.std.proofs.Common.{arith, ◌<◌, ◌≤◌, ◌^◌, length, get_or
 use Rattle.std.proofs.lemmas.List.{take_all}
 use Rattle.std.proofs.lemmas.Nat.{or_lt, le_or_l, le_or_r}
 use Rattle.flac_subframe.proofs.Digits.{All_step}
-use Rattle.flac_subframe.proofs.cost.bits_of_sixteen.Goals as goal
+use Rattle.flac_subframe.proofs.cost.bits_of_few.Goals as goal
 
 pub loop-i-preserved : goal.loop-i-preserved
 loop-i-preserved c = λ n.

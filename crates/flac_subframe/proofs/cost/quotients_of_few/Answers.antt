@@ -1,7 +1,7 @@
 use Rattle.std.proofs.Common.{arith, ◌/◌, ◌^◌, ◌<◌, ℕ, length, get_or}
 use Rattle.std.proofs.lemmas.List.Sums.{sum_by_more}
 use Rattle.flac_subframe.proofs.Bounded.{quotient_small}
-use Rattle.flac_subframe.proofs.cost.sixteen_quotients.Goals as goal
+use Rattle.flac_subframe.proofs.cost.quotients_of_few.Goals as goal
 
 pub overflow_add-sum : goal.overflow_add-sum
 overflow_add-sum c =
