@@ -8,7 +8,7 @@ use Rattle.flac_bits.specs.Lists.{list_of}
 use Rattle.flac_bits.specs.Meaning.{Spells, Shows, IsCut}
 use Rattle.flac_bits.specs.Fence.{InRoom, LeavesRoom, FillsRoom, read_in}
 use Rattle.flac_bits.specs.declared.why.Why.{Why}
-use Rattle.flac_bits.specs.declared.why.Why.TheVariants.{Read, Sink, Truncated, FrameTooLong, PacketLength}
+use Rattle.flac_bits.specs.declared.why.Why.TheVariants.{Read, Memory, Sink, Truncated, FrameTooLong, PacketLength}
 use Rattle.flac_pages.specs.Packets.{Place, Met, ahead, rest_of, behind_of}
 
 -- How a packet ends behind the bytes that good pages give of it (RFC 3533, section 6).
@@ -115,6 +115,10 @@ why_in fault Truncated = (None, PacketLength)
 why_in None Read = (None, Read)
 why_in (Some f) Read = (Some f.0, f.1)
 why_in fault why = (None, why)
+
+-- Of which page it is told that a call was broken off, once `count` pages were read: an error of the device is told of the page after them, and of no page that memory ran out.
+abbrev pub IsToldOf : ℕ → Option ℕ × Why → Type 0
+IsToldOf count told = (told.1 ≡ Read → told.0 ≡ Some count) × (told.1 ≡ Memory → told.0 ≡ None)
 
 -- ---- what the calls do that judge a packet's end
 
