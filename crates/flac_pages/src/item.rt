@@ -124,6 +124,7 @@ pub fn read_packet<R: Source>(
     // Read is reported only if the device returned an error in the call.
     ensures meets { Meets pages.old.raised pages.new.raised result }
     ensures memory { IfErr result (λ e. e.1 ≢ Why.Memory) }
+    ensures page { IfErr result (λ e. IsToldOf pages.new.count e) }
     ensures tells { pages.old.known ≡ true → pages.new.errors ≡ pages.old.errors → TellsItem (λ _. out.new) None (list_of (length out.old) (number 8)) (packet_mark pages.old) (packet_of pages.old) result }
     ensures stands { OnOk result ((pages.new.rest ≡ 0) × (pages.new.more ≡ false)) }
     ensures ahead { OnOk result (pages.old.known ≡ true → HasBehind pages.old pages.new) }

@@ -61,9 +61,8 @@ returns-clause-meets g c =
 
 pub returns-clause-page : goal.returns-clause-page
 returns-clause-page g c =
-    let p = c.args.pages.now in
-    let mid = c.read_part-read.new.bits in
+    let bits = c.packet_bits-bits.result in
     let item = c.end_item-told.result in
-    let at = at_there c.over.result.pages.now p c.packet_bits-bits.result c.over.ensures.pages (c.packet_bits-bits.ensures.at c.over.ensures.unread.0 c.over.ensures.unread.1) in
-    subst (λ (q : Place). IfErr item.0 (λ e. IsToldOf q.count e)) {x = item.1.now} {y = c.pages-1.given.0} (search rules)
-    (c.end_item-told.ensures.page (counts_so (lifted c.packet_bits-bits.result) mid c.read_part-read.result at.raised c.read_part-read.ensures.counts))
+    let at = at_there c.over.result.pages.now c.args.pages.now bits c.over.ensures.pages (c.packet_bits-bits.ensures.at c.over.ensures.unread.0 c.over.ensures.unread.1) in
+    let told : IfErr item.0 (λ e. IsToldOf item.1.now.count e) = c.end_item-told.ensures.page (counts_so (lifted bits) c.read_part-read.new.bits c.read_part-read.result at.raised c.read_part-read.ensures.counts) in
+    search (rules, told)
