@@ -9,7 +9,7 @@ use Rattle.flac_native.specs.declared.fault.Fault.{Fault}
 use Rattle.flac_native.specs.declared.fault.Place.TheVariants as place
 use Rattle.flac_native.specs.declared.phase.Phase.TheVariants.{Frames}
 use Rattle.flac_pages.specs.Packets.{Met}
-use Rattle.flac_pages.specs.Items.{IsToldOf}
+use Rattle.flac_pages.specs.Items.{HasItsPage}
 use Rattle.flac_ogg.specs.Mapping.{page_place, item_place, packet_place}
 use Rattle.flac_ogg.specs.Decoding.{IsBrokenAt, IsPageOrBlock}
 
@@ -18,7 +18,7 @@ in_page n why (inl e) = ap (page_place n) e
 in_page n why (inr e) = ap (page_place n) e
 
 -- in a packet
-pub in_packet : (n : ℕ) (p : Progress) (told : Option ℕ × Why) (f : Fault) → f.at ≡ packet_place p.stand told → f.why ≡ told.1 → IsToldOf n told → IsBrokenAt n p f
+pub in_packet : (n : ℕ) (p : Progress) (told : Option ℕ × Why) (f : Fault) → f.at ≡ packet_place p.stand told → f.why ≡ told.1 → HasItsPage n told → IsBrokenAt n p f
 in_packet n p (page, why) f at is of = (
   λ e. at ∙ ap (λ (o : Option ℕ). packet_place p.stand (o, why)) (of.0 (sym is ∙ e)) ∙ ap (λ (w : Why). page_place n w) (sym is ∙ e),
   λ e. at ∙ ap (λ (o : Option ℕ). packet_place p.stand (o, why)) (of.1 (sym is ∙ e)) ∙ ap (λ (w : Why). item_place p.stand w) (sym is ∙ e),

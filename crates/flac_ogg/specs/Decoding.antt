@@ -20,11 +20,11 @@ pub record BeginsWith (profile : Profile) (mark : Mark) (items : List Piece) (te
   pub split : contents.packets ≡ taken ++ left
   pub spelled : AreItems (start profile) taken items
 
--- Where a call is broken off that reads the next item, once n pages were read: an error of the device is reported at the page after them, and at the item that memory ran out.
+-- The place of an error that breaks off the reading of the next item, once n pages were read: one of the device is reported at the page after them, one of memory at the item.
 abbrev pub IsBrokenAt : ℕ → Progress → Fault → Type 0
 IsBrokenAt n p f = (f.why ≡ Read → f.at ≡ place.Page n) × (f.why ≡ Memory → f.at ≡ grammar.place p)
 
--- That is the page after them, or the block that comes next: no memory is allocated for a frame.
+-- So it is the page after them, or the metadata block that comes next: no memory is allocated for a frame.
 abbrev pub IsPageOrBlock : ℕ → Progress → Place → Type 0
 IsPageOrBlock n p at = (at ≡ place.Page n) ⊎ ((p.stand.phase ≢ Frames) × (at ≡ grammar.place p))
 

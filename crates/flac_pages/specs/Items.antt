@@ -116,9 +116,9 @@ why_in None Read = (None, Read)
 why_in (Some f) Read = (Some f.0, f.1)
 why_in fault why = (None, why)
 
--- Of which page it is told that a call was broken off, once `count` pages were read: an error of the device is told of the page after them, and of no page that memory ran out.
-abbrev pub IsToldOf : ℕ → Option ℕ × Why → Type 0
-IsToldOf count told = (told.1 ≡ Read → told.0 ≡ Some count) × (told.1 ≡ Memory → told.0 ≡ None)
+-- The page of an error, once `count` pages were read: one of the device has the page after them, and one of memory has none.
+abbrev pub HasItsPage : ℕ → Option ℕ × Why → Type 0
+HasItsPage count told = (told.1 ≡ Read → told.0 ≡ Some count) × (told.1 ≡ Memory → told.0 ≡ None)
 
 -- ---- what the calls do that judge a packet's end
 

@@ -5,7 +5,7 @@ ghost use Rattle.flac_bits.specs.State.{short_of};
 ghost use Rattle.flac_bits.specs.Bits.{bits_of};
 ghost use Rattle.flac_pages.specs.Pages.{unless_over, end_fault};
 ghost use Rattle.flac_pages.specs.Page.{went_on, goes_on_behind};
-ghost use Rattle.flac_pages.specs.Items.{EndsPacket, IsToldOf};
+ghost use Rattle.flac_pages.specs.Items.{EndsPacket, HasItsPage};
 ghost use Rattle.flac_pages.specs.Packets.{next_segment, at_front, Met, Turns, Steps, Finds, Copies, Begins, ended};
 
 use crate::page::Before;
@@ -299,7 +299,7 @@ impl<R: Source> Pages<R> {
     #[tactic(auto, using(crate::proofs::PacketEnds::passed_more, crate::proofs::PacketEnds::ends_between, crate::proofs::PacketEnds::ends_inside, crate::proofs::PacketEnds::ends_broken, crate::proofs::PacketEnds::length_of_none, crate::proofs::PacketEnds::told_of_next))]
     pub(crate) fn end_packet(&mut self) -> Result<(), (Option<u64>, Why)>
         ensures memory { IfErr result (λ e. e.1 ≢ Why.Memory) }
-        ensures page { IfErr result (λ e. IsToldOf self.new.count e) }
+        ensures page { IfErr result (λ e. HasItsPage self.new.count e) }
         ensures ends { EndsPacket self.old self.new result }
     {
         loop {
