@@ -20,9 +20,9 @@ use Rattle.flac_pages.specs.Page.{Page, page, page_behind, head_behind, end_rule
 use Rattle.flac_pages.specs.Pages.{Stop, closed, broken, between, unless_over, end_fault}
 use Rattle.flac_pages.specs.Packets.{page_index, at_page, fault_of, stop_of}
 use Rattle.flac_pages.specs.Runs.{left_by, IsNoPage, EndsSo}
-use Rattle.flac_pages.specs.Items.{PacketEnd, whole, unended, cut_at, Packet, cut_off, in_packet, IsNoItem}
+use Rattle.flac_pages.specs.Items.{PacketEnd, whole, unended, cut_at, Packet, cut_off, in_packet, IsNoItem, breaks_rule, bits_missing, too_many_bytes, bits_left, not_ended}
 use Rattle.flac_ogg.specs.Coming.{TellsRead}
-use Rattle.flac_ogg.specs.Stream.{closed_packet, open_packet, StopsAtPacket, OggRefused, fault_in, stop_in}
+use Rattle.flac_ogg.specs.Stream.{closed_packet, open_packet, StopsAtPacket, packet_refused, part_refused, pages_refused, block_missing, end_refused, OggRefused, fault_in, stop_in}
 
 -- ---- reasons that are not `Read`
 
@@ -166,11 +166,11 @@ own_read e Read is = cut_read e is
 own_read e own is = absurd (not_read own refl (sym is))
 
 no_item_read : {A : Type 0} (room : Option ℕ) (l : Layout A) (m : Mark) (p : Packet) (n : Option ℕ) → IsNoItem room l m p (n, Read) → (k : ℕ) × (p.ends ≡ cut_at k Read)
-no_item_read room l m p n (inl (own, front, rest, split, shows, fits, is)) = own_read p.ends own (ap (λ (t : Option ℕ × Why). t.1) is)
-no_item_read room l m p n (inr (inl (cut, leaves, is))) = cut_read p.ends (ap (λ (t : Option ℕ × Why). t.1) is)
-no_item_read room l m p n (inr (inr (inl (fills, is)))) = absurd (not_read FrameTooLong refl (ap (λ (t : Option ℕ × Why). t.1) (sym is)))
-no_item_read room l m p n (inr (inr (inr (inl (x, text, rest, split, more, spelled, fits, is))))) = absurd (not_read PacketLength refl (ap (λ (t : Option ℕ × Why). t.1) (sym is)))
-no_item_read room l m p n (inr (inr (inr (inr (x, spelled, fits, ends, is))))) = cut_read p.ends (ap (λ (t : Option ℕ × Why). t.1) is)
+no_item_read room l m p n (breaks_rule own front rest split shows fits is) = own_read p.ends own (ap (λ (t : Option ℕ × Why). t.1) is)
+no_item_read room l m p n (bits_missing cut leaves is) = cut_read p.ends (ap (λ (t : Option ℕ × Why). t.1) is)
+no_item_read room l m p n (too_many_bytes fills is) = absurd (not_read FrameTooLong refl (ap (λ (t : Option ℕ × Why). t.1) (sym is)))
+no_item_read room l m p n (bits_left x text rest split more spelled fits is) = absurd (not_read PacketLength refl (ap (λ (t : Option ℕ × Why). t.1) (sym is)))
+no_item_read room l m p n (not_ended x spelled fits ends is) = cut_read p.ends (ap (λ (t : Option ℕ × Why). t.1) is)
 
 closed_read : (bytes : List ℕ) → (k : ℕ) × ((closed_packet bytes).ends ≡ cut_at k Read) → ⊥
 closed_read bytes (k, e) = absurd cc
@@ -195,11 +195,11 @@ either_read true fault stop tells = inr tells
 either_read false fault stop tells = inl tells
 
 pub stops_read : (p : Progress) (left : List (List ℕ)) (begun : List ℕ) (fault stop : Option (ℕ × Why)) (at : Place) → StopsAtPacket p left begun fault stop at Read → TellsRead fault ⊎ TellsRead stop
-stops_read p (packet ∷ left) begun fault stop at (own, none, is) = absurd (closed_read packet (no_item_read _ _ _ (closed_packet packet) own none))
-stops_read p [] begun fault stop at (inl (some, (own, none, is))) = inl (open_read begun fault (no_item_read _ _ _ (open_packet begun fault) own none))
-stops_read p [] begun fault stop at (inr (inl (nothing, (n, stops, is)))) = either_read (grammar.may_end p) fault stop (n, stops)
-stops_read p [] begun fault stop at (inr (inr (inl (nothing, none, due, is, why)))) = absurd (not_read PacketLength refl (sym why))
-stops_read p [] begun fault stop at (inr (inr (inr (nothing, none, may, is, first)))) = absurd (end_read p.stand.info p.samples p.message first)
+stops_read p left begun fault stop at (packet_refused packet others own next none is) = absurd (closed_read packet (no_item_read _ _ _ (closed_packet packet) own none))
+stops_read p left begun fault stop at (part_refused own next some none is) = inl (open_read begun fault (no_item_read _ _ _ (open_packet begun fault) own none))
+stops_read p left begun fault stop at (pages_refused n next nothing stops is) = either_read (grammar.may_end p) fault stop (n, stops)
+stops_read p left begun fault stop at (block_missing next nothing none due is why) = absurd (not_read PacketLength refl (sym why))
+stops_read p left begun fault stop at (end_refused next nothing none may is first) = absurd (end_read p.stand.info p.samples p.message first)
 
 -- ---- and so the input
 

@@ -17,7 +17,7 @@ use Rattle.flac_pages.specs.Given.{PacketsAhead}
 use Rattle.flac_pages.proofs.PacketMeaning.{packet_closes, given_rest}
 use Rattle.flac_pages.proofs.ItemMeaning.{item_means, item_again, refused_again}
 use Rattle.flac_ogg.specs.Mapping.{packet_layout, packet_place, page_place}
-use Rattle.flac_ogg.specs.Stream.{packet_start, closed_packet, open_packet, last_fault, StopsAtPacket}
+use Rattle.flac_ogg.specs.Stream.{packet_start, closed_packet, open_packet, last_fault, StopsAtPacket, packet_refused, part_refused, pages_refused, block_missing, end_refused}
 use Rattle.flac_ogg.specs.Steps.{PacketStep, item, over, refused, ahead_behind, next_packet, told, judged, without_packet, step_in, packet_step}
 use Rattle.flac_ogg.proofs.MeaningPackets.{bytes_of}
 
@@ -232,13 +232,13 @@ unfolding some_fault
 without_refused p fault stop at why e = by (last_fault p fault stop) refl e
   where
     go : (b : Bool) → grammar.may_end p ≡ b → last_fault p fault stop ≡ None → cond b (judged (grammar.at_end p)) (refused (grammar.place p) PacketLength) ≡ refused at why → StopsAtPacket p [] [] fault stop at why
-    go true is none e = let r = judged_refused (grammar.at_end p) at why e in inr (inr (inr (refl, sym (may_stop p fault stop is) ∙ none, is, r.0, r.1)))
-    go false is none e = let same = same_refusal (grammar.place p) at PacketLength why e in inr (inr (inl (refl, sym (due_fault p fault stop is) ∙ none, is, sym same.0, sym same.1)))
+    go true is none e = let r = judged_refused (grammar.at_end p) at why e in end_refused refl refl (sym (may_stop p fault stop is) ∙ none) is r.0 r.1
+    go false is none e = let same = same_refusal (grammar.place p) at PacketLength why e in block_missing refl refl (sym (due_fault p fault stop is) ∙ none) is (sym same.0) (sym same.1)
 
     by : (o : Option (ℕ × Why)) → last_fault p fault stop ≡ o → without_packet p o ≡ refused at why → StopsAtPacket p [] [] fault stop at why
     by (Some f) is e =
         let same = same_refusal (page_place f.0 f.1) at f.1 why e in
-        inr (inl (refl, (f.0, is ∙ ap (λ w. some_fault f.0 w) same.1, sym same.0 ∙ ap (λ w. page_place f.0 w) same.1)))
+        pages_refused f.0 refl refl (is ∙ ap (λ w. some_fault f.0 w) same.1) (sym same.0 ∙ ap (λ w. page_place f.0 w) same.1)
     by None is e = go (grammar.may_end p) refl is e
 
 -- ---- what a step says of the packets
@@ -308,10 +308,10 @@ step_refused p a [] [] at why h e = without_refused p a.fault a.stop at why (sym
 step_refused p a [] (v ∷ vs) at why h e =
     let some : (v ∷ vs) ≢ [] = λ none. absurd cc in
     let w = told_refused p.stand (behind_in 0 true a) (read_of p a.fault (open_packet (v ∷ vs) a.fault)) at why (sym (last_step p a (v ∷ vs) h some) ∙ e) in
-    inl (some, (w.0, open_means p (v ∷ vs) a.fault (Err (w.0, why)) w.1, w.2))
+    part_refused w.0 refl some (open_means p (v ∷ vs) a.fault (Err (w.0, why)) w.1) w.2
 step_refused p a (y ∷ ys) begun at why h e =
     let w = told_refused p.stand (behind_in 0 true a) (read_of p None (closed_packet y)) at why (sym (first_step p a y ys begun h) ∙ e) in
-    (w.0, closed_means p y (Err (w.0, why)) w.1, w.2)
+    packet_refused y ys w.0 refl (closed_means p y (Err (w.0, why)) w.1) w.2
 
 -- ---- and what the packets say of a step
 
@@ -325,20 +325,25 @@ over_step p a h stop ends kept =
 abbrev refusal : Place → Why → PacketStep
 refusal at why = refused at why
 
+-- no packet is ahead, nor the beginning of one
+none_ahead : (a : Ahead) (left : List (List ℕ)) (begun : List ℕ) → left ≡ [] → begun ≡ [] → PacketsAhead a left begun → PacketsAhead a [] []
+none_ahead a left begun no_packet no_part h = subst (λ (k : List ℕ). PacketsAhead a [] k) no_part (subst (λ (k : List (List ℕ)). PacketsAhead a k begun) no_packet h)
+
 pub refused_step : (p : Progress) (a : Ahead) (packets : List (List ℕ)) (begun : List ℕ) (fault stop : Option (ℕ × Why)) (at : Place) (why : Why) → PacketsAhead a packets begun → a.fault ≡ fault → a.stop ≡ stop
     → StopsAtPacket p packets begun fault stop at why → packet_step p a ≡ refused at why
-refused_step p a (y ∷ ys) begun fault stop at why h f s (own, none, is) =
-    first_step p a y ys begun h ∙ ap (λ r. told p.stand (behind_in 0 true a) r) (refused_again (room_in p.stand.phase) (packet_layout p.stand) (packet_start None) (closed_packet y) (own, why) refl none)
+refused_step p a left begun fault stop at why h f s (packet_refused y ys own next none is) =
+    first_step p a y ys begun (subst (λ (k : List (List ℕ)). PacketsAhead a k begun) next h)
+    ∙ ap (λ r. told p.stand (behind_in 0 true a) r) (refused_again (room_in p.stand.phase) (packet_layout p.stand) (packet_start None) (closed_packet y) (own, why) refl none)
     ∙ ap (λ k. refusal k why) (sym is)
-refused_step p a [] begun fault stop at why h f s (inl (some, (own, none, is))) =
-    last_step p a begun h some ∙ ap (λ o. told p.stand (behind_in 0 true a) (read_of p o (open_packet begun o))) f
+refused_step p a left begun fault stop at why h f s (part_refused own next some none is) =
+    last_step p a begun (subst (λ (k : List (List ℕ)). PacketsAhead a k begun) next h) some ∙ ap (λ o. told p.stand (behind_in 0 true a) (read_of p o (open_packet begun o))) f
     ∙ ap (λ r. told p.stand (behind_in 0 true a) r) (refused_again (room_in p.stand.phase) (packet_layout p.stand) (packet_start fault) (open_packet begun fault) (own, why) (open_short fault) none)
     ∙ ap (λ k. refusal k why) (sym is)
-refused_step p a [] begun fault stop at why h f s (inr (inl (nothing, (n, stops, is)))) =
-    none_step p a (subst (λ (k : List ℕ). PacketsAhead a [] k) nothing h) ∙ ap (λ o. without_packet p o) (ap (λ o. last_fault p o a.stop) f ∙ ap (λ o. last_fault p fault o) s ∙ stops) ∙ ap (λ k. refusal k why) (sym is)
-refused_step p a [] begun fault stop at why h f s (inr (inr (inl (nothing, none, due, is, reason)))) =
-    none_step p a (subst (λ (k : List ℕ). PacketsAhead a [] k) nothing h) ∙ ap (λ o. without_packet p o) (due_fault p a.fault a.stop due ∙ f ∙ none)
+refused_step p a left begun fault stop at why h f s (pages_refused n next nothing stops is) =
+    none_step p a (none_ahead a left begun next nothing h) ∙ ap (λ o. without_packet p o) (ap (λ o. last_fault p o a.stop) f ∙ ap (λ o. last_fault p fault o) s ∙ stops) ∙ ap (λ k. refusal k why) (sym is)
+refused_step p a left begun fault stop at why h f s (block_missing next nothing none due is reason) =
+    none_step p a (none_ahead a left begun next nothing h) ∙ ap (λ o. without_packet p o) (due_fault p a.fault a.stop due ∙ f ∙ none)
     ∙ ap (λ b. cond b (judged (grammar.at_end p)) (refused (grammar.place p) PacketLength)) due ∙ ap (λ k. refusal k PacketLength) (sym is) ∙ ap (λ w. refusal at w) (sym reason)
-refused_step p a [] begun fault stop at why h f s (inr (inr (inr (nothing, none, may, is, first)))) =
-    none_step p a (subst (λ (k : List ℕ). PacketsAhead a [] k) nothing h) ∙ ap (λ o. without_packet p o) (may_stop p a.fault a.stop may ∙ s ∙ none)
+refused_step p a left begun fault stop at why h f s (end_refused next nothing none may is first) =
+    none_step p a (none_ahead a left begun next nothing h) ∙ ap (λ o. without_packet p o) (may_stop p a.fault a.stop may ∙ s ∙ none)
     ∙ ap (λ b. cond b (judged (grammar.at_end p)) (refused (grammar.place p) PacketLength)) may ∙ first_judged (grammar.at_end p) why first ∙ ap (λ k. refusal k why) (sym is)

@@ -1,11 +1,14 @@
 -- How an input is read as an Ogg stream.
-use Rattle.std.specs.Prelude.{◌≡◌, ◌⊎◌, ℕ, Bool, List, [], ◌++◌}
+use Rattle.std.specs.Prelude.{◌≡◌, ◌≢◌, ◌⊎◌, ℕ, Bool, List, [], ◌++◌}
 use Rattle.flac_bits.specs.State.{Mark}
 use Rattle.flac_bits.specs.Items.{after}
 use Rattle.flac_bits.specs.Handing.{Reading}
+use Rattle.flac_bits.specs.declared.why.Why.TheVariants.{Read, Memory}
 use Rattle.flac_native.specs.Stream.{Piece, Progress, grammar}
+use Rattle.flac_native.specs.declared.fault.Fault.{Fault}
 use Rattle.flac_native.specs.declared.fault.Place.{Place}
 use Rattle.flac_native.specs.declared.fault.Place.TheVariants as place
+use Rattle.flac_native.specs.declared.phase.Phase.TheVariants.{Frames}
 use Rattle.flac_ogg.specs.Stream.{start, Contents, AreItems, OggStream, OggRefused}
 use Rattle.flac_header.specs.declared.subset.Profile.{Profile}
 
@@ -17,9 +20,13 @@ pub record BeginsWith (profile : Profile) (mark : Mark) (items : List Piece) (te
   pub split : contents.packets ≡ taken ++ left
   pub spelled : AreItems (start profile) taken items
 
--- the place of the item that comes next, or that of a page
-abbrev pub IsItemOrPage : Progress → Place → Type 0
-IsItemOrPage p at = (at ≡ grammar.place p) ⊎ ((n : ℕ) × (at ≡ place.Page n))
+-- The place of an error that breaks off the reading of the next item, once n pages were read: one of the device is reported at the page after them, one of memory at the item.
+abbrev pub IsBrokenAt : ℕ → Progress → Fault → Type 0
+IsBrokenAt n p f = (f.why ≡ Read → f.at ≡ place.Page n) × (f.why ≡ Memory → f.at ≡ grammar.place p)
+
+-- So it is the page after them, or the metadata block that comes next: no memory is allocated for a frame.
+abbrev pub IsPageOrBlock : ℕ → Progress → Place → Type 0
+IsPageOrBlock n p at = (at ≡ place.Page n) ⊎ ((p.stand.phase ≢ Frames) × (at ≡ grammar.place p))
 
 -- it is an Ogg stream of these items, or is refused behind them, or its first packets are these items; the next one stands where it would in a native stream.
 -- Before the first item a call is broken off at the marker too
@@ -29,5 +36,5 @@ ogg_reading profile mark text = record {
   refused = λ items at why. OggRefused profile mark items text at why;
   begins = λ items. BeginsWith profile mark items text;
   place = λ items. grammar.place (after grammar (start profile) items);
-  breaks = λ items at. IsItemOrPage (after grammar (start profile) items) at ⊎ ((items ≡ []) × (at ≡ place.Marker));
+  breaks = λ items at. ((n : ℕ) × IsPageOrBlock n (after grammar (start profile) items) at) ⊎ ((items ≡ []) × (at ≡ place.Marker));
 }

@@ -1,5 +1,5 @@
 -- An Ogg stream of FLAC: good pages, whose packets are the mapping with STREAMINFO, one block each, and one frame each (RFC 9639, section 10.1).
-use Rattle.std.specs.Prelude.{◌≡◌, ◌≢◌, ℕ, length, Bool, true, false, cond, List, [], ◌∷◌, ◌++◌, Option, Some, None, ⊤, ◌⊎◌}
+use Rattle.std.specs.Prelude.{◌≡◌, ◌≢◌, ℕ, length, Bool, true, false, cond, List, [], ◌∷◌, ◌++◌, Option, Some, None, ⊤}
 use Rattle.flac_bits.specs.Bits.{bits_of}
 use Rattle.flac_bits.specs.State.{Mark, short_of}
 use Rattle.flac_bits.specs.Meaning.{AllKept, BreaksFirst}
@@ -68,17 +68,23 @@ pub record OggStream (profile : Profile) (mark : Mark) (items : List Piece) (tex
 abbrev pub last_fault : Progress → (fault stop : Option (ℕ × Why)) → Option (ℕ × Why)
 last_fault p fault stop = cond (grammar.may_end p) stop fault
 
--- Why there is no further item behind these packets and in this state.
-abbrev pub StopsAtPacket : Progress → (left : List (List ℕ)) → (begun : List ℕ) → (fault stop : Option (ℕ × Why)) → Place → Why → Type 0
--- the next packet is no item
-StopsAtPacket p (packet ∷ left) begun fault stop at why =
-    (own : Option ℕ) × IsNoItem (room_in p.stand.phase) (packet_layout p.stand) (packet_start None) (closed_packet packet) (own, why) × (at ≡ packet_place p.stand (own, why))
--- no packet is left that ends, but one that goes on; or none at all, which is the fault of a page, or a block is due, or a rule of the end is broken
-StopsAtPacket p [] begun fault stop at why =
-    ((begun ≢ []) × ((own : Option ℕ) × IsNoItem (room_in p.stand.phase) (packet_layout p.stand) (packet_start fault) (open_packet begun fault) (own, why) × (at ≡ packet_place p.stand (own, why))))
-    ⊎ (((begun ≡ []) × ((n : ℕ) × (last_fault p fault stop ≡ Some (n, why)) × (at ≡ page_place n why)))
-    ⊎ (((begun ≡ []) × (fault ≡ None) × (grammar.may_end p ≡ false) × (at ≡ grammar.place p) × (why ≡ PacketLength))
-    ⊎ ((begun ≡ []) × (stop ≡ None) × (grammar.may_end p ≡ true) × (at ≡ place.End) × BreaksFirst (grammar.at_end p) why)))
+-- Why there is no further item in this state, and at which place that is reported. `left` are the packets that are left and end; `begun` are the bytes of one that goes on
+-- after all good pages; `fault` is the fault that breaks that one off, and `stop` the fault if no packet is left.
+pub data StopsAtPacket (p : Progress) (left : List (List ℕ)) (begun : List ℕ) (fault stop : Option (ℕ × Why)) (at : Place) (why : Why) : Type 0 where
+  -- The next packet ends, and is no item (RFC 9639, section 10.1: each packet is one block or one frame).
+  packet_refused : (packet : List ℕ) (others : List (List ℕ)) (page : Option ℕ) → left ≡ packet ∷ others
+      → IsNoItem (room_in p.stand.phase) (packet_layout p.stand) (packet_start None) (closed_packet packet) (page, why) → at ≡ packet_place p.stand (page, why)
+      → StopsAtPacket p left begun fault stop at why
+  -- No packet is left but the one that goes on, and this is no item (RFC 3533, section 6: only a lacing value below 255 ends a packet).
+  part_refused : (page : Option ℕ) → left ≡ [] → begun ≢ []
+      → IsNoItem (room_in p.stand.phase) (packet_layout p.stand) (packet_start fault) (open_packet begun fault) (page, why) → at ≡ packet_place p.stand (page, why)
+      → StopsAtPacket p left begun fault stop at why
+  -- No packet is left: the next page is refused, or the stream may end and a byte follows the page marked last (RFC 3533, section 6).
+  pages_refused : (n : ℕ) → left ≡ [] → begun ≡ [] → last_fault p fault stop ≡ Some (n, why) → at ≡ page_place n why → StopsAtPacket p left begun fault stop at why
+  -- No packet is left, the page marked last was read, and a metadata block is missing (RFC 9639, section 10.1: all blocks come before the frames, the last one marked).
+  block_missing : left ≡ [] → begun ≡ [] → fault ≡ None → grammar.may_end p ≡ false → at ≡ grammar.place p → why ≡ PacketLength → StopsAtPacket p left begun fault stop at why
+  -- The stream ends, and its samples have not the number or the MD5 digest that STREAMINFO states (RFC 9639, section 8.2).
+  end_refused : left ≡ [] → begun ≡ [] → stop ≡ None → grammar.may_end p ≡ true → at ≡ place.End → BreaksFirst (grammar.at_end p) why → StopsAtPacket p left begun fault stop at why
 
 -- behind these good items the input is refused, at this place and for this reason
 pub record OggRefused (profile : Profile) (mark : Mark) (items : List Piece) (text : List Bool) (at : Place) (why : Why) : Type 0 where

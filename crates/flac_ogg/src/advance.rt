@@ -9,7 +9,7 @@ ghost use Rattle.flac_pages.specs.Packets.{Met, ahead};
 ghost use Rattle.flac_ogg.specs.Steps.{packet_step, without_packet, refused};
 ghost use Rattle.flac_ogg.specs.Stream.{last_fault};
 ghost use Rattle.flac_ogg.specs.Telling.{IsUnderWay, MeetsIn, StepIs, EndIs};
-ghost use Rattle.flac_ogg.specs.Decoding.{IsItemOrPage};
+ghost use Rattle.flac_ogg.specs.Decoding.{IsBrokenAt};
 
 use crate::items::read_packet;
 use crate::places::{is_behind_blocks, packet_fault, page_place};
@@ -99,7 +99,7 @@ pub(crate) fn advance<R: Source>(
     ensures meets { MeetsIn pages.old.raised pages.new.raised result }
     ensures steps { (p : Progress) → IsAt track.old p → IsUnderWay p.stand → pages.old.known ≡ true → pages.new.errors ≡ pages.old.errors →
         StepIs (λ part. piece_of track.new part) (packet_step p (ahead pages.old)) (ahead pages.new) result }
-    ensures broken { (p : Progress) → IsAt track.old p → IfErr result (λ f. IsOutside f.why → IsItemOrPage p f.at) }
+    ensures broken { (p : Progress) → IsAt track.old p → IfErr result (λ f. IsBrokenAt pages.new.count p f) }
     ensures stands { IfOk result (λ o. IfSome o (λ _. (pages.new.rest ≡ 0) × (pages.new.more ≡ false))) }
     ensures spends { IfOk result (λ o. IfSome o (λ _. pages.new.most + length pages.new.body < pages.old.most + length pages.old.body)) }
     ensures goes { IfOk result (λ _. (pages.old.known ≡ true → pages.new.known ≡ true) × (pages.new.errors ≡ pages.old.errors)) }

@@ -24,8 +24,8 @@ use std::alloc::Global;
 /// # Errors
 /// The place and the reason. The sink took all items before, and no others.
 ///
-/// - [`Why::Read`] and [`Why::Memory`]: the source returned an error, or an allocation failed. The place is a page, the
-///   next block or frame, or before the first item the marker.
+/// - [`Why::Read`]: the source returned an error. The place is the page that was being read.
+/// - [`Why::Memory`]: an allocation failed. The place is the next block, or before the first item the marker.
 /// - [`Why::Sink`]: the sink did not take the block or frame at this place.
 /// - [`Why::BadMapping`] at the marker; [`Why::NoEndPage`], [`Why::TotalMismatch`] and [`Why::Md5Mismatch`] at the end.
 /// - Any other reason: the stream is refused at this page, block or frame. Each is counted from 0.

@@ -4,7 +4,7 @@ ghost use Rattle.std.specs.Prelude.{◌≡◌, ◌≢◌, ◌≤◌, ◌<◌, �
 ghost use Rattle.flac_native.specs.Stream.{Progress, next, room_in};
 ghost use Rattle.flac_native.specs.Track.{IsAt, IsMadeAs, piece_of, stand_of};
 ghost use Rattle.flac_native.specs.declared.phase.Phase.TheVariants.{Opening, Frames};
-ghost use Rattle.flac_pages.specs.Items.{packet_of, packet_mark, TellsItem, Meets, HasBehind};
+ghost use Rattle.flac_pages.specs.Items.{packet_of, packet_mark, TellsItem, Meets, HasBehind, HasItsPage};
 ghost use Rattle.flac_ogg.specs.Mapping.{packet_layout};
 
 use crate::parts::read_part;
@@ -29,6 +29,7 @@ pub(crate) fn read_packet<R: Source>(
         TellsItem (λ part. piece_of track.new part) (room_in (stand_of track.old).phase) (packet_layout (stand_of track.old)) (packet_mark pages.old) (packet_of pages.old) result }
     // Read is returned only if the device returned an error in the call.
     ensures meets { Meets pages.old.raised pages.new.raised result }
+    ensures page { IfErr result (λ e. HasItsPage pages.new.count e) }
     ensures stands { OnOk result ((pages.new.rest ≡ 0) × (pages.new.more ≡ false)) }
     ensures goes { OnOk result ((pages.old.known ≡ true → pages.new.known ≡ true) × (pages.new.errors ≡ pages.old.errors)) }
     ensures ahead { OnOk result ((stand_of track.old).phase ≢ Opening → pages.old.known ≡ true → HasBehind pages.old pages.new) }

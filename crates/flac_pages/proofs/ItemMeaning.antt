@@ -10,7 +10,7 @@ use Rattle.flac_bits.specs.declared.why.Why.{Why}
 use Rattle.flac_bits.specs.declared.why.Why.TheVariants.{FrameTooLong}
 use Rattle.flac_bits.proofs.Laws.{at_}
 use Rattle.flac_bits.proofs.Fences.{again_in, stops_in, takes_in, refuses_in}
-use Rattle.flac_pages.specs.Items.{PacketEnd, whole, unended, cut_at, Packet, short_at, cut_off, in_packet, IsItem, IsNoItem, TellsItem, at_last_bit, behind_item, judged, item_in}
+use Rattle.flac_pages.specs.Items.{PacketEnd, whole, unended, cut_at, Packet, short_at, cut_off, in_packet, IsItem, IsNoItem, breaks_rule, bits_missing, too_many_bytes, bits_left, not_ended, TellsItem, at_last_bit, behind_item, judged, item_in}
 
 abbrev refusal : (A : Type 0) → Option ℕ × Why → Result A (Option ℕ × Why)
 refusal A why = Err why
@@ -43,11 +43,11 @@ short_told (cut_at n why) = refl
 
 closed : {A : Type 0} (room : Option ℕ) (l : Layout A) (m : Mark) (p : Packet) (x : A) → Spells l m p.bits x → InRoom room m p.bits → (e : PacketEnd) → p.ends ≡ e → TellsItem (λ x. x) room l m p (at_last_bit e x)
 closed room l m p x spelled fits whole is = record { spelled = spelled; fits = fits; ended = is }
-closed room l m p x spelled fits unended is = inr (inr (inr (inr (x, spelled, fits, λ same. differ (sym is ∙ same), ap cut_off (sym is)))))
+closed room l m p x spelled fits unended is = not_ended x spelled fits (λ same. differ (sym is ∙ same)) (ap cut_off (sym is))
   where
     differ : unended ≡ whole → ⊥
     differ e = absurd cc
-closed room l m p x spelled fits (cut_at n why) is = inr (inr (inr (inr (x, spelled, fits, λ same. differ (sym is ∙ same), ap cut_off (sym is)))))
+closed room l m p x spelled fits (cut_at n why) is = not_ended x spelled fits (λ same. differ (sym is ∙ same)) (ap cut_off (sym is))
   where
     differ : cut_at n why ≡ whole → ⊥
     differ e = absurd cc
@@ -58,12 +58,12 @@ pub told_behind : {A : Type 0} (room : Option ℕ) (l : Layout A) (m : Mark) (p 
 told_behind room l m p x text rest split spelled fits true e =
     let all : text ≡ p.bits = sym (split ∙ ap (λ r. text ++ r) (is_nil_is rest e) ∙ append-nil text) in
     closed room l m p x (subst (λ t. Spells l m t x) all spelled) (subst (λ t. InRoom room m t) all fits) p.ends refl
-told_behind room l m p x text rest split spelled fits false e = inr (inr (inr (inl (x, text, rest, split, some_is rest e, spelled, fits, refl))))
+told_behind room l m p x text rest split spelled fits false e = bits_left x text rest split (some_is rest e) spelled fits refl
 
 pub stopped : {A : Type 0} (room : Option ℕ) (l : Layout A) (m : Mark) (p : Packet) (why : Why) → m.short ≡ short_at p.ends → StopsIn room l m p.bits why → IsNoItem room l m p (in_packet p.ends why)
-stopped room l m p why short (inl (front, rest, split, shows, fits)) = inl (why, front, rest, split, shows, fits, refl)
-stopped room l m p why short (inr (inl (is, cut, leaves))) = inr (inl (cut, leaves, ap (in_packet p.ends) (is ∙ short) ∙ short_told p.ends))
-stopped room l m p why short (inr (inr (is, fills))) = inr (inr (inl (fills, ap (in_packet p.ends) is)))
+stopped room l m p why short (inl (front, rest, split, shows, fits)) = breaks_rule why front rest split shows fits refl
+stopped room l m p why short (inr (inl (is, cut, leaves))) = bits_missing cut leaves (ap (in_packet p.ends) (is ∙ short) ∙ short_told p.ends)
+stopped room l m p why short (inr (inr (is, fills))) = too_many_bytes fills (ap (in_packet p.ends) is)
 
 -- each packet is an item or is none, and this is which
 pub item_means : {A : Type 0} (room : Option ℕ) (l : Layout A) (m : Mark) (p : Packet) → m.short ≡ short_at p.ends → TellsItem (λ x. x) room l m p (item_in room l m p)
@@ -92,14 +92,14 @@ item_again room l m p x is = spelled_whole room l m p x is.spelled is.fits ∙ a
 -- and so is the reason where it is none
 pub refused_again : {A : Type 0} (room : Option ℕ) (l : Layout A) (m : Mark) (p : Packet) (why : Option ℕ × Why) → m.short ≡ short_at p.ends → IsNoItem room l m p why → item_in room l m p ≡ Err why
 unfolding item_in
-refused_again {A = A} room l m p why short (inl (own, front, rest, split, shows, fits, is)) =
+refused_again {A = A} room l m p why short (breaks_rule own front rest split shows fits is) =
     ap (judged p.ends) (stops_in room l m p.bits own (inl (front, rest, split, shows, fits))) ∙ ap (refusal A) (sym is)
-refused_again {A = A} room l m p why short (inr (inl (cut, leaves, is))) =
+refused_again {A = A} room l m p why short (bits_missing cut leaves is) =
     ap (judged p.ends) (stops_in room l m p.bits m.short (inr (inl (refl, cut, leaves)))) ∙ ap (refusal A) (ap (in_packet p.ends) short ∙ short_told p.ends ∙ sym is)
-refused_again {A = A} room l m p why short (inr (inr (inl (fills, is)))) = ap (judged p.ends) (stops_in room l m p.bits FrameTooLong (inr (inr (refl, fills)))) ∙ ap (refusal A) (sym is)
-refused_again {A = A} room l m p why short (inr (inr (inr (inl (x, text, rest, split, some, spelled, fits, is))))) =
+refused_again {A = A} room l m p why short (too_many_bytes fills is) = ap (judged p.ends) (stops_in room l m p.bits FrameTooLong (inr (inr (refl, fills)))) ∙ ap (refusal A) (sym is)
+refused_again {A = A} room l m p why short (bits_left x text rest split some spelled fits is) =
     ap (judged p.ends) (ap (λ t. read_in room l (at_ t m)) split ∙ again_in room l m text rest x spelled fits) ∙ ap (λ b. behind_item p.ends b x) (not_nil rest some) ∙ ap (refusal A) (sym is)
-refused_again {A = A} room l m p why short (inr (inr (inr (inr (x, spelled, fits, other, is))))) = spelled_whole room l m p x spelled fits ∙ ends_otherwise x p.ends other ∙ ap (refusal A) (sym is)
+refused_again {A = A} room l m p why short (not_ended x spelled fits other is) = spelled_whole room l m p x spelled fits ∙ ends_otherwise x p.ends other ∙ ap (refusal A) (sym is)
 
 -- so no packet is two items, nor an item and none, nor refused for two reasons
 pub tells_one : {A : Type 0} (room : Option ℕ) (l : Layout A) (m : Mark) (p : Packet) (result : Result A (Option ℕ × Why)) → m.short ≡ short_at p.ends → TellsItem (λ x. x) room l m p result → item_in room l m p ≡ result

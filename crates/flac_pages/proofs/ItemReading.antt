@@ -53,7 +53,7 @@ item_told {X = X} view room l c old mid new (Err why) result raised short counts
     refusal why = Err why
 
 -- what is met over a packet's bits
-counts_so : {X : Type 0} (s mid : State) (read : Result X Why) → s.raised ≡ 0 → Counts s mid read → CountsSo read mid.raised
+pub counts_so : {X : Type 0} (s mid : State) (read : Result X Why) → s.raised ≡ 0 → Counts s mid read → CountsSo read mid.raised
 counts_so s mid (Ok x) none counts = counts.2 ∙ none
 counts_so s mid (Err why) none counts = (λ e. let rose : s.raised < 2 ^ 64 - 1 → s.raised < mid.raised = counts.4 e in omega (arith, none, rose (omega (arith, none))), counts.5)
 

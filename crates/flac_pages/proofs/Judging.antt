@@ -1,14 +1,14 @@
 -- What a judged packet is, by what stands behind its bits.
-use Rattle.std.proofs.Common.{◌≡◌, ℕ, ◌<◌, Bool, true, false, ◌∷◌, Option, Some, None, Result, Ok, Err, OnOk, refl, sym, ap, subst, ◌∙◌, arith}
+use Rattle.std.proofs.Common.{◌≡◌, ◌≢◌, ℕ, ◌<◌, ◌-◌, ◌^◌, Bool, true, false, ◌∷◌, Option, Some, None, Result, Ok, Err, OnOk, refl, sym, ap, subst, ◌∙◌, arith}
 use Rattle.std.specs.Prelude.{⊤, ◌&&◌}
 use Rattle.std.specs.Borrow.{GName}
 use Rattle.std.specs.Option.{ForSome}
 use Rattle.flac_bits.specs.Bits.{is_nil}
-use Rattle.flac_bits.specs.State.{State, Behind, short_of, without_fence}
+use Rattle.flac_bits.specs.State.{State, Behind, Rises, short_of, without_fence}
 use Rattle.flac_bits.specs.declared.why.Why.{Why}
-use Rattle.flac_bits.specs.declared.why.Why.TheVariants.{Read, Sink, Truncated}
+use Rattle.flac_bits.specs.declared.why.Why.TheVariants.{Read, Memory, Sink, Truncated}
 use Rattle.flac_pages.specs.Packets.{Place, Met, ahead, behind_of, behind_in, behind_left}
-use Rattle.flac_pages.specs.Items.{PacketEnd, whole, unended, cut_at, end_of, in_packet, behind_item, why_in, EndsPacket, CountsSo, GivesBack, JudgesPacket, GoesBehind}
+use Rattle.flac_pages.specs.Items.{PacketEnd, whole, unended, cut_at, end_of, in_packet, behind_item, why_in, HasItsPage, EndsPacket, CountsSo, GivesBack, JudgesPacket, GoesBehind}
 use Rattle.flac_pages.proofs.Stepping.{met_then}
 
 -- ---- behind a packet that is one item
@@ -130,6 +130,33 @@ why_back {X = X} s name lent fault seen errors pages new read why told is tells 
       let found : Met (why_in fault why).1 lent pages.raised = met_why fault errors lent pages.raised why quiet met (λ e. subst (λ n. 0 < n) (sym raised) (so.0 e), so.1) in
       subst (λ (p : Place). Met told.1 lent p.raised) (sym at) (subst (λ (w : Option ℕ × Why). Met w.1 lent pages.raised) (ap (λ o. why_in o why) (sym same) ∙ sym tells) found);
 }
+
+-- ---- the page of an error of the device
+
+same_page : (k n : ℕ) → k ≡ n → Some k ≡ Some n
+same_page k n e = ap (λ (i : ℕ). Some i) e
+
+told_in : (fault : Option (ℕ × Why)) (errors count : ℕ) (why : Why) → (fault ≡ None → errors ≡ 0) → ForSome fault (λ f. f.0 ≡ count) → ForSome fault (λ f. f.1 ≢ Memory) → (why ≡ Read → 0 < errors) → HasItsPage count (why_in fault why)
+told_in fault errors count Truncated quiet page memory some = (λ e. absurd cc, λ e. absurd cc)
+told_in None errors count Read quiet page memory some = absurd (omega (arith, quiet refl, some refl))
+told_in (Some f) errors count Read quiet page memory some = (λ e. same_page f.0 count (page f refl), λ e. absurd (memory f refl e))
+told_in fault errors count why quiet page memory some = (λ e. absurd cc, λ e. refl)
+
+-- where a packet's reader refused
+pub told_of : (fault seen : Option (ℕ × Why)) (errors : ℕ) (pages new : Place) (why : Why) (told : Option ℕ × Why) → told ≡ why_in seen why → seen ≡ fault → new ≡ pages → (fault ≡ None → errors ≡ 0) → ForSome fault (λ f. f.0 ≡ pages.count)
+    → ForSome fault (λ f. f.1 ≢ Memory) → (why ≡ Read → 0 < errors) → HasItsPage new.count told
+told_of fault seen errors pages new why told is same at quiet page memory some =
+    subst (λ (p : Place). HasItsPage p.count told) (sym at) (subst (λ (w : Option ℕ × Why). HasItsPage pages.count w) (ap (λ o. why_in o why) (sym same) ∙ sym is) (told_in fault errors pages.count why quiet page memory some))
+
+-- a reader that met no error before and answers Read met one
+pub rose_read : (old new errors : ℕ) (why : Why) → old ≡ 0 → (why ≡ Read → Rises old new) → errors ≡ new → why ≡ Read → 0 < errors
+rose_read old new errors why none rises is e = let rose : old < 2 ^ 64 - 1 → old < new = rises e in omega (arith, none, rose (omega (arith, none)), is)
+
+-- so it is of any answer that counts so
+pub counted_read : {X : Type 0} (read : Result X Why) (raised errors : ℕ) (why : Why) → read ≡ Err why → CountsSo read raised → errors ≡ raised → why ≡ Read → 0 < errors
+counted_read {X} read raised errors why refused counts is e =
+    let so : CountsSo {X = X} (Err why) raised = subst (λ (r : Result X Why). CountsSo r raised) refused counts in
+    subst (λ n. 0 < n) (sym is) (so.0 e)
 
 -- ---- facts of the calls
 

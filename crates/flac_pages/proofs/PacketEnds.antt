@@ -1,11 +1,11 @@
 -- How a packet ends, told by where a reader of packets stands behind its last byte.
-use Rattle.std.proofs.Common.{◌≡◌, ◌≤◌, ◌+◌, ℕ, length, Bool, true, false, List, [], Option, Some, None, Result, Ok, Err, refl, sym, ap, ◌∙◌, arith}
+use Rattle.std.proofs.Common.{◌≡◌, ◌≢◌, ◌≤◌, ◌+◌, ℕ, length, Bool, true, false, List, [], Option, Some, None, Result, Ok, Err, refl, sym, ap, ◌∙◌, arith}
 use Rattle.std.specs.Prelude.{⊤}
 use Rattle.flac_bits.specs.State.{Behind}
 use Rattle.flac_bits.specs.declared.why.Why.{Why}
-use Rattle.flac_bits.specs.declared.why.Why.TheVariants.{PacketLength, Read, Sink}
+use Rattle.flac_bits.specs.declared.why.Why.TheVariants.{PacketLength, Read, Memory, Sink}
 use Rattle.flac_pages.specs.Packets.{Place, ahead, behind_of, behind_in, broken_off, Finds, Copies}
-use Rattle.flac_pages.specs.Items.{whole, unended, cut_at, end_in, end_of, cut_off, EndsPacket}
+use Rattle.flac_pages.specs.Items.{whole, unended, cut_at, end_in, end_of, cut_off, EndsPacket, HasItsPage}
 use Rattle.flac_pages.proofs.Stepping.{met_then}
 
 -- what a way to the packet's end keeps
@@ -97,3 +97,13 @@ ends_broken old now new why p f = record {
   where
     differ : cut_at new.count why ≡ whole → ⊥
     differ e = absurd cc
+
+-- ---- the page of an error of the device
+
+-- a packet of another length is no fault of a page
+pub length_of_none : (count : ℕ) → HasItsPage count (None, PacketLength)
+length_of_none count = (λ e. absurd cc, λ e. absurd cc)
+
+-- the next page's fault has its number
+pub told_of_next : (count : ℕ) (why : Why) → why ≢ Memory → HasItsPage count (Some count, why)
+told_of_next count why room = (λ e. refl, λ e. absurd (room e))

@@ -1,5 +1,5 @@
 -- One item in one packet: the bytes of a packet are one item, a metadata block or a frame, and nothing else (RFC 9639, section 10.1).
-use Rattle.std.specs.Prelude.{◌≡◌, ◌≢◌, ◌↔◌, ◌<◌, ◌≤◌, ◌+◌, ◌*◌, ℕ, length, Bool, true, false, List, [], ◌∷◌, ◌++◌, Option, Some, None, Result, Ok, Err, ◌⊎◌}
+use Rattle.std.specs.Prelude.{◌≡◌, ◌≢◌, ◌↔◌, ◌<◌, ◌≤◌, ◌+◌, ◌*◌, ℕ, length, Bool, true, false, List, [], ◌∷◌, ◌++◌, Option, Some, None, Result, Ok, Err}
 use Rattle.std.specs.Borrow.{GName}
 use Rattle.flac_bits.specs.Bits.{bits_of, is_nil}
 use Rattle.flac_bits.specs.State.{Mark, Cursor, State, Behind, short_of, without_fence}
@@ -8,7 +8,7 @@ use Rattle.flac_bits.specs.Lists.{list_of}
 use Rattle.flac_bits.specs.Meaning.{Spells, Shows, IsCut}
 use Rattle.flac_bits.specs.Fence.{InRoom, LeavesRoom, FillsRoom, read_in}
 use Rattle.flac_bits.specs.declared.why.Why.{Why}
-use Rattle.flac_bits.specs.declared.why.Why.TheVariants.{Read, Sink, Truncated, FrameTooLong, PacketLength}
+use Rattle.flac_bits.specs.declared.why.Why.TheVariants.{Read, Memory, Sink, Truncated, FrameTooLong, PacketLength}
 use Rattle.flac_pages.specs.Packets.{Place, Met, ahead, rest_of, behind_of}
 
 -- How a packet ends behind the bytes that good pages give of it (RFC 3533, section 6).
@@ -65,19 +65,19 @@ pub record IsItem {A : Type 0} (room : Option ℕ) (l : Layout A) (m : Mark) (p 
   pub fits : InRoom room m p.bits
   pub ended : p.ends ≡ whole
 
--- the packet is not one item, for this reason
-abbrev pub IsNoItem : {A : Type 0} → Option ℕ → Layout A → Mark → Packet → Option ℕ × Why → Type 0
-IsNoItem {A = A} room l m p why =
-    -- a front shows the item's own reason
-    ((own : Why) × (front : List Bool) × (rest : List Bool) × (p.bits ≡ front ++ rest) × Shows l m front own × InRoom room m front × (why ≡ in_packet p.ends own))
-    -- the packet's bits end inside the item
-    ⊎ ((IsCut l m p.bits × LeavesRoom room m p.bits × (why ≡ cut_off p.ends))
-    -- the item has more bytes than it may have
-    ⊎ ((FillsRoom room l m p.bits × (why ≡ (None, FrameTooLong)))
-    -- the packet goes on behind the item
-    ⊎ (((x : A) × (text : List Bool) × (rest : List Bool) × (p.bits ≡ text ++ rest) × (rest ≢ []) × Spells l m text x × InRoom room m text × (why ≡ (None, PacketLength)))
-    -- the item is whole, and the packet does not end there
-    ⊎ ((x : A) × Spells l m p.bits x × InRoom room m p.bits × (p.ends ≢ whole) × (why ≡ cut_off p.ends)))))
+-- The packet is not one item. `told` is why: the number of pages before the page that is at fault, if one is, and the reason.
+pub data IsNoItem {A : Type 0} (room : Option ℕ) (l : Layout A) (m : Mark) (p : Packet) (told : Option ℕ × Why) : Type 0 where
+  -- The item breaks a rule: the packet begins with good fields, and at their end the first broken rule has this reason (RFC 9639, section 8 for a block,
+  -- section 9 for a frame, section 10.1 for the mapping).
+  breaks_rule : (own : Why) (front rest : List Bool) → p.bits ≡ front ++ rest → Shows l m front own → InRoom room m front → told ≡ in_packet p.ends own → IsNoItem room l m p told
+  -- The packet's bits end inside the item: the packet is too short (RFC 9639, section 10.1), or good pages do not give all of it (RFC 3533, section 6).
+  bits_missing : IsCut l m p.bits → LeavesRoom room m p.bits → told ≡ cut_off p.ends → IsNoItem room l m p told
+  -- The packet has as many bytes as the item may have, and the item does not end in them (RFC 9639, section 8.2: STREAMINFO has 24 bits for the size of a frame).
+  too_many_bytes : FillsRoom room l m p.bits → told ≡ (None, FrameTooLong) → IsNoItem room l m p told
+  -- The packet begins with the item, and has more bits after it (RFC 9639, section 10.1: a packet has one item).
+  bits_left : (x : A) (text rest : List Bool) → p.bits ≡ text ++ rest → rest ≢ [] → Spells l m text x → InRoom room m text → told ≡ (None, PacketLength) → IsNoItem room l m p told
+  -- The packet's bits are the item, but the packet does not end with them: no lacing value below 255 ends it (RFC 3533, section 6).
+  not_ended : (x : A) → Spells l m p.bits x → InRoom room m p.bits → p.ends ≢ whole → told ≡ cut_off p.ends → IsNoItem room l m p told
 
 -- what a call answers is the packet's item, seen by view, or why it is none
 abbrev pub TellsItem : {X A : Type 0} → (X → A) → Option ℕ → Layout A → Mark → Packet → Result X (Option ℕ × Why) → Type 0
@@ -115,6 +115,10 @@ why_in fault Truncated = (None, PacketLength)
 why_in None Read = (None, Read)
 why_in (Some f) Read = (Some f.0, f.1)
 why_in fault why = (None, why)
+
+-- The page of an error, once `count` pages were read: one of the device has the page after them, and one of memory has none.
+abbrev pub HasItsPage : ℕ → Option ℕ × Why → Type 0
+HasItsPage count told = (told.1 ≡ Read → told.0 ≡ Some count) × (told.1 ≡ Memory → told.0 ≡ None)
 
 -- ---- what the calls do that judge a packet's end
 

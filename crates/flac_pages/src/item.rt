@@ -6,7 +6,7 @@ ghost use Rattle.flac_bits.specs.Layout.{bits as number};
 ghost use Rattle.flac_bits.specs.Lists.{list_of};
 ghost use Rattle.flac_bits.specs.Reading.{Counts, Reads};
 ghost use Rattle.flac_bits.specs.State.{short_of};
-ghost use Rattle.flac_pages.specs.Items.{end_of, behind_item, why_in, packet_of, packet_mark, TellsItem, Meets, GivesBack, IsAtPacket, JudgesPacket, GoesBehind, HasBehind};
+ghost use Rattle.flac_pages.specs.Items.{end_of, behind_item, why_in, packet_of, packet_mark, TellsItem, Meets, GivesBack, IsAtPacket, JudgesPacket, GoesBehind, HasBehind, CountsSo, HasItsPage};
 
 use crate::packet_bytes::PacketBytes;
 use crate::pages::Pages;
@@ -44,6 +44,7 @@ fn end_behind<'a, R: Source>(
     ensures back { GivesBack bits.entry result.1.ghost_name result.1.now (Ok tt) result.0 }
     ensures spends { OnOk result.0 (8 * (result.1.now.most + length result.1.now.body) ≤ bits.entry.most) }
     ensures memory { IfErr result.0 (λ e. e.1 ≢ Why.Memory) }
+    ensures page { bits.entry.raised ≡ 0 → IfErr result.0 (λ e. HasItsPage result.1.now.count e) }
     ensures judges { bits.entry.known ≡ true → result.1.now.errors ≡ bits.entry.errors → bits.entry.cursor.mark.short ≡ short_of bits.entry.behind.fails → result.0 ≡ behind_item (end_of bits.entry.behind) (is_nil bits.entry.cursor.left) tt }
     ensures behind { OnOk result.0 (GoesBehind bits.entry result.1.now) }
 {
@@ -79,6 +80,8 @@ pub fn end_item<'a, R: Source, X: Drop>(
     // The bits that were read are spent.
     ensures spends { OnOk result.0 (8 * (result.1.now.most + length result.1.now.body) ≤ bits.entry.most) }
     ensures memory { IfErr result.0 (λ e. e.1 ≡ Why.Memory → read ≡ Err Why.Memory) }
+    // Read has the page that was being read.
+    ensures page { CountsSo read bits.entry.raised → IfErr result.0 (λ e. HasItsPage result.1.now.count e) }
     ensures same { IfOk result.0 (λ item. read ≡ Ok item) }
     ensures judges { JudgesPacket bits.entry result.1.now read result.0 }
     ensures behind { OnOk result.0 (GoesBehind bits.entry result.1.now) }
@@ -121,6 +124,7 @@ pub fn read_packet<R: Source>(
     // Read is reported only if the device returned an error in the call.
     ensures meets { Meets pages.old.raised pages.new.raised result }
     ensures memory { IfErr result (λ e. e.1 ≢ Why.Memory) }
+    ensures page { IfErr result (λ e. HasItsPage pages.new.count e) }
     ensures tells { pages.old.known ≡ true → pages.new.errors ≡ pages.old.errors → TellsItem (λ _. out.new) None (list_of (length out.old) (number 8)) (packet_mark pages.old) (packet_of pages.old) result }
     ensures stands { OnOk result ((pages.new.rest ≡ 0) × (pages.new.more ≡ false)) }
     ensures ahead { OnOk result (pages.old.known ≡ true → HasBehind pages.old pages.new) }

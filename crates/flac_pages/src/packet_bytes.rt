@@ -24,6 +24,7 @@ pub struct PacketBytes<'a, R: Source> {
     ghost calm: { fault ≡ None → pages.now.raised ≡ lent.value.raised },
     ghost met: { ForSome fault (λ f. Met f.1 lent.value.raised pages.now.raised) },
     ghost memory: { ForSome fault (λ f. f.1 ≢ Memory) },
+    ghost page: { ForSome fault (λ f. f.0 ≡ pages.now.count) },
 }
 
 impl<'a, R: Source> PacketBytes<'a, R> {

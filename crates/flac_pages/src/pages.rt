@@ -5,7 +5,7 @@ ghost use Rattle.flac_bits.specs.State.{short_of};
 ghost use Rattle.flac_bits.specs.Bits.{bits_of};
 ghost use Rattle.flac_pages.specs.Pages.{unless_over, end_fault};
 ghost use Rattle.flac_pages.specs.Page.{went_on, goes_on_behind};
-ghost use Rattle.flac_pages.specs.Items.{EndsPacket};
+ghost use Rattle.flac_pages.specs.Items.{EndsPacket, HasItsPage};
 ghost use Rattle.flac_pages.specs.Packets.{next_segment, at_front, Met, Turns, Steps, Finds, Copies, Begins, ended};
 
 use crate::page::Before;
@@ -296,9 +296,10 @@ impl<R: Source> Pages<R> {
     /// # Errors
     /// If a refused page breaks the packet off, the number of pages before that page, and its error.
     /// [`Why::PacketLength`] if the packet is still open at the end of the last page.
-    #[tactic(auto, using(crate::proofs::PacketEnds::passed_more, crate::proofs::PacketEnds::ends_between, crate::proofs::PacketEnds::ends_inside, crate::proofs::PacketEnds::ends_broken))]
+    #[tactic(auto, using(crate::proofs::PacketEnds::passed_more, crate::proofs::PacketEnds::ends_between, crate::proofs::PacketEnds::ends_inside, crate::proofs::PacketEnds::ends_broken, crate::proofs::PacketEnds::length_of_none, crate::proofs::PacketEnds::told_of_next))]
     pub(crate) fn end_packet(&mut self) -> Result<(), (Option<u64>, Why)>
         ensures memory { IfErr result (λ e. e.1 ≢ Why.Memory) }
+        ensures page { IfErr result (λ e. HasItsPage self.new.count e) }
         ensures ends { EndsPacket self.old self.new result }
     {
         loop {
@@ -325,6 +326,7 @@ impl<R: Source> Pages<R> {
         requires read { self.now.lacing ≡ [] }
         requires last { self.now.last ≡ true }
         ensures memory { IfErr result (λ e. e.1 ≢ Why.Memory) }
+        ensures page { IfErr result (λ e. e.0 ≡ self.new.count) }
         ensures begins { Begins self.old self.new result }
     {
         let fault = end_fault(&mut self.reader);
@@ -342,6 +344,7 @@ impl<R: Source> Pages<R> {
     pub fn next_packet(&mut self) -> Result<bool, (u64, Why)>
         requires { (self.now.rest ≡ 0) × (self.now.more ≡ false) }
         ensures memory { IfErr result (λ e. e.1 ≢ Why.Memory) }
+        ensures page { IfErr result (λ e. e.0 ≡ self.new.count) }
         ensures begins { Begins self.old self.new result }
     {
         while self.is_read() {
@@ -389,6 +392,7 @@ fn end_fault<R: Source>(reader: &mut BitReader<R>) -> Option<Why>
 fn ended(count: u64, fault: Option<Why>) -> Result<bool, (u64, Why)>
     ensures value { result ≡ ended count fault }
     ensures memory { IfSome fault (λ e. e ≢ Why.Memory) → IfErr result (λ e. e.1 ≢ Why.Memory) }
+    ensures page { IfErr result (λ e. e.0 ≡ count) }
 {
     match fault {
         None => Ok(false),

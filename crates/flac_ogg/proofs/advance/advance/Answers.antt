@@ -1,4 +1,4 @@
-use Rattle.std.proofs.Common.{ℕ, true, false, cond, None, Some, inl, inr, sym, ap, ◌∙◌}
+use Rattle.std.proofs.Common.{ℕ, true, false, cond, None, Some, sym, ap, ◌∙◌}
 use Rattle.flac_bits.specs.declared.why.Why.{Why}
 use Rattle.flac_native.specs.Stream.{Stand, place_in}
 use Rattle.flac_native.specs.Track.{stand_of, piece_of}
@@ -6,7 +6,7 @@ use Rattle.flac_ogg.specs.Steps.{without_packet}
 use Rattle.flac_ogg.specs.Stream.{last_fault}
 use Rattle.flac_ogg.proofs.Arriving.{begun_there, on_ok_at}
 use Rattle.flac_ogg.proofs.Stepped.{begins_so, ok_step, err_step, end_step, fault_step}
-use Rattle.flac_ogg.proofs.Breaking.{in_packet}
+use Rattle.flac_ogg.proofs.Breaking.{in_packet, in_next}
 use Rattle.flac_ogg.proofs.advance.advance.Goals as goal
 
 pub returns-in-Ok-clause-steps : goal.returns-in-Ok-clause-steps
@@ -39,13 +39,13 @@ returns-in-Err-clause-steps g c = λ p at way known same room.
 
 pub returns-in-Err-read_packet-clause-broken : goal.returns-in-Err-read_packet-clause-broken
 returns-in-Err-read_packet-clause-broken g c = λ p at.
-    in_packet p c.in-Err-read_packet.told c.packet_fault.result (c.packet_fault.ensures.place p.stand (c.place-at.ensures ∙ ap (λ (s : Stand). place_in s.phase s.index) at.stand)) c.packet_fault.ensures.why
+    in_packet c.read_packet.new.pages.count p c.in-Err-read_packet.told c.packet_fault.result (c.packet_fault.ensures.place p.stand (c.place-at.ensures ∙ ap (λ (s : Stand). place_in s.phase s.index) at.stand)) c.packet_fault.ensures.why c.in-Err-read_packet.ensures.page
 
 pub returns-in-Err-end_here-clause-broken : goal.returns-in-Err-end_here-clause-broken
-returns-in-Err-end_here-clause-broken g c = λ p at out. elim out [ inl e ↦ absurd (c.in-Err-end_here.ensures.quiet e) | inr e ↦ absurd (c.in-Err-end_here.ensures.memory e) ]
+returns-in-Err-end_here-clause-broken g c = λ p at. (λ e. absurd (c.in-Err-end_here.ensures.quiet e), λ e. absurd (c.in-Err-end_here.ensures.memory e))
 
 pub returns-in-Err-clause-broken : goal.returns-in-Err-clause-broken
-returns-in-Err-clause-broken g c = λ p at out. inr (c.in-Err.page, c.page_fault.ensures.page out)
+returns-in-Err-clause-broken g c = λ p at. in_next c.next_packet.new.self.count c.in-Err.page p c.page_fault.result c.page_fault.ensures.page c.in-Err.ensures.page (c.page_fault.ensures.memory c.in-Err.ensures.memory)
 
 pub returns-in-Ok-clause-meets : goal.returns-in-Ok-clause-meets
 returns-in-Ok-clause-meets g c =

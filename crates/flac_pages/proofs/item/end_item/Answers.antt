@@ -1,6 +1,6 @@
 use Rattle.std.proofs.Common.{◌∷◌, ap, sym, ◌∙◌}
 use Rattle.std.specs.Borrow.{GName}
-use Rattle.flac_pages.proofs.Judging.{judged_end, judged_why, why_back}
+use Rattle.flac_pages.proofs.Judging.{judged_end, judged_why, why_back, told_of, counted_read}
 use Rattle.flac_pages.proofs.item.end_item.Goals as goal
 
 pub returns-in-Err-default-clause-judges : goal.returns-in-Err-default-clause-judges
@@ -18,3 +18,9 @@ returns-in-Err-clause-back g c =
     let tells = c.into_source-packet.ensures in
     why_back c.args.bits _ packet.lent.value.raised packet.fault c.why.result packet.errors packet.pages.now c.into_pages.result.now c.args.read c.in-Err.why c.why_in-why.result c.in-Err.is c.why_in-why.ensures.value c.why.ensures.fault
     (sym tells.names ∙ ap (λ (k : GName). k ∷ packet.lent.value.raised ∷ packet.pages.now.names) (sym c.into_pages.ensures.same)) c.into_pages.ensures.pages tells.raised packet.quiet packet.met
+
+pub returns-in-Err-clause-page : goal.returns-in-Err-clause-page
+returns-in-Err-clause-page g c = λ counts.
+    let packet = c.into_source-packet.result in
+    told_of packet.fault c.why.result packet.errors packet.pages.now c.into_pages.result.now c.in-Err.why c.why_in-why.result c.why_in-why.ensures.value c.why.ensures.fault c.into_pages.ensures.pages packet.quiet packet.page packet.memory
+    (counted_read c.args.read c.args.bits.raised packet.errors c.in-Err.why c.in-Err.is counts c.into_source-packet.ensures.raised)

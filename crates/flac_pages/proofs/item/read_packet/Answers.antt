@@ -1,10 +1,10 @@
 use Rattle.std.proofs.Common.{◌≡◌, rules, true, None, length, subst, OnOk}
-use Rattle.std.specs.Prelude.{⊤}
+use Rattle.std.specs.Prelude.{⊤, IfErr}
 use Rattle.flac_bits.specs.Layout.{bits as number}
 use Rattle.flac_bits.specs.Lists.{list_of}
 use Rattle.flac_pages.specs.Packets.{Place}
-use Rattle.flac_pages.specs.Items.{HasBehind}
-use Rattle.flac_pages.proofs.ItemReading.{at_there, packet_told, behind_told}
+use Rattle.flac_pages.specs.Items.{HasBehind, HasItsPage}
+use Rattle.flac_pages.proofs.ItemReading.{at_there, counts_so, packet_told, behind_told}
 use Rattle.flac_pages.proofs.item.read_packet.Goals as goal
 
 pub returns-clause-tells : goal.returns-clause-tells
@@ -23,3 +23,10 @@ returns-clause-ahead g c =
     subst (λ (q : Place). OnOk c.end_item-told.result.0 (p.known ≡ true → HasBehind p q)) (search rules)
     (behind_told view None layout p c.packet_bits-bits.result c.fill-read.new.bits c.end_item-told.result.1.now c.fill-read.result c.end_item-told.result.0
     (at_there c.over.result.pages.now p c.packet_bits-bits.result c.over.ensures.pages (c.packet_bits-bits.ensures.at c.over.ensures.unread.0 c.over.ensures.unread.1)) c.fill-read.ensures.counts (λ _. c.fill-read.ensures.reads) c.end_item-told.ensures.judges c.end_item-told.ensures.behind)
+
+pub returns-clause-page : goal.returns-clause-page
+returns-clause-page g c =
+    let at = at_there c.over.result.pages.now c.args.pages.now c.packet_bits-bits.result c.over.ensures.pages (c.packet_bits-bits.ensures.at c.over.ensures.unread.0 c.over.ensures.unread.1) in
+    let told : IfErr c.end_item-told.result.0 (λ e. HasItsPage c.end_item-told.result.1.now.count e) =
+    c.end_item-told.ensures.page (counts_so c.packet_bits-bits.result c.fill-read.new.bits c.fill-read.result at.raised c.fill-read.ensures.counts) in
+    search (rules, told)

@@ -1,5 +1,8 @@
+use Rattle.std.proofs.Common.{ap, ◌∙◌}
+use Rattle.flac_native.specs.Stream.{Stand}
 use Rattle.flac_native.specs.Track.{piece_of}
 use Rattle.flac_ogg.proofs.Arriving.{counts_both, read_risen, none_of_sink, clear_behind, read_rises, gives_there}
+use Rattle.flac_ogg.proofs.Breaking.{page_or_block}
 use Rattle.flac_ogg.proofs.packets.OggPacketsContainer.next.Goals as goal
 
 pub returns-clause-counts : goal.returns-clause-counts
@@ -22,3 +25,7 @@ returns-clause-risen g c = read_risen c.args.self.now.pages.raised c.advance.new
 
 pub returns-clause-sinkless : goal.returns-clause-sinkless
 returns-clause-sinkless g c = none_of_sink c.args.self.now.pages.raised c.advance.new.pages.raised c.advance.result c.advance.ensures.meets
+
+pub returns-clause-broken : goal.returns-clause-broken
+returns-clause-broken g c = λ p at.
+    page_or_block c.advance.new.pages.count p c.advance.result (c.advance.ensures.broken p at) (λ frames. c.advance.ensures.memory (ap (λ (s : Stand). s.phase) at.stand ∙ frames))
