@@ -10,7 +10,7 @@ ghost use Rattle.flac_subframe.specs.Halves.{part, IsWidth, HasWidths};
 use crate::cost::quotients;
 use crate::halving::power;
 use crate::view::ResidualView;
-use crate::widths::measure;
+use crate::widths::lowest;
 
 /// The greatest partition order whose tables are made at once. Above it a partition is often so short that its parameter
 /// takes more than it saves, so finer partitions are tried only if no bound rules them out.
@@ -130,7 +130,7 @@ fn bound_parts(
 ) -> u64
     requires places { 2 ^ residual.now.halvings ≤ length sums.now }
     requires costs { (j : ℕ) → j < 2 ^ residual.now.halvings → slice_index sums.now j ≡ sum_by (value_cost 0) (part residual.now.order residual.now.values.now residual.now.halvings j) }
-    requires widths { HasWidths residual.now.order residual.now.values.now 0 residual.now.halvings widths.now }
+    requires widths { HasWidths residual.now.order residual.now.values.now residual.now.halvings residual.now.halvings widths.now }
     requires widths_long { 2 * 2 ^ residual.now.halvings ≤ length widths.now }
     ensures all { (f : Codings) → MayWrite residual.now.halvings residual.now.order residual.now.values.now f → result ≤ residual_cost residual.now.order residual.now.values.now f }
     ensures last { (f : Codings) → MayWrite residual.now.halvings residual.now.order residual.now.values.now f → f.halvings ≡ residual.now.halvings → result + (6 + 4 * 2 ^ residual.now.halvings) ≤ residual_cost residual.now.order residual.now.values.now f }
@@ -191,33 +191,32 @@ pub(crate) fn is_too_dear(
     reaches(residual, sums, widths, bound, below)
 }
 
-/// The sum of the digits that numbers have, each with one more: as many bits as they take at least under a parameter.
+/// The sum of how many digits numbers have.
 fn digits(folds: &[u32]) -> u64
     requires few { length folds.now ≤ 65535 }
     requires small { All (λ n. n < 2 ^ 32) folds.now }
-    ensures sum { result ≡ sum_by (λ n. 64 - count_leading_zeros 64 (2 * n + 1)) folds.now }
+    ensures sum { result ≡ sum_by (λ n. 63 - count_leading_zeros 64 (2 * n + 1)) folds.now }
     ensures small { result ≤ 64 * length folds.now }
 {
     let mut sum = 0;
     for number in folds {
         let odd = 2 * u64::from(*number) + 1;
-        sum += u64::from(64 - odd.leading_zeros());
+        sum += u64::from(63 - odd.leading_zeros());
     }
     sum
 }
 
 /// A lower bound on the bits of the residual at one partition order, from the digits of its values: each partition has a
-/// parameter of four bits, and then a bit more for each value, or five for an escape.
+/// parameter of four bits, and then one bit more for each value, or five for an escape.
 fn bound_by_digits(residual: &ResidualView<'_>, halvings: u8, digits: u64) -> u64
     requires within { halvings ≤ residual.now.halvings }
-    requires sum { digits ≡ sum_by (λ n. 64 - count_leading_zeros 64 (2 * n + 1)) residual.now.folds.now }
+    requires sum { digits ≡ sum_by (λ n. 63 - count_leading_zeros 64 (2 * n + 1)) residual.now.folds.now }
     requires small { digits ≤ 64 * length residual.now.folds.now }
     ensures { (f : Codings) → MayWrite residual.now.halvings residual.now.order residual.now.values.now f → f.halvings ≡ halvings → result ≤ residual_cost residual.now.order residual.now.values.now f }
 {
-    let block = residual.values.len() + residual.order;
-    let size = block >> halvings;
+    let size = (residual.values.len() + residual.order) >> halvings;
     let fields = power(halvings) * (4 + size.min(5));
-    (digits + 6 + fields as u64).saturating_sub(block as u64)
+    (digits + 6 + fields as u64).saturating_sub(residual.order as u64)
 }
 
 /// Whether lower bounds show that the residual takes `below` bits or more at one partition order: by the digits of its
@@ -231,7 +230,7 @@ fn is_order_too_dear(
     below: u64,
 ) -> bool
     requires within { halvings ≤ residual.now.halvings }
-    requires sum { digits ≡ sum_by (λ n. 64 - count_leading_zeros 64 (2 * n + 1)) residual.now.folds.now }
+    requires sum { digits ≡ sum_by (λ n. 63 - count_leading_zeros 64 (2 * n + 1)) residual.now.folds.now }
     requires small { digits ≤ 64 * length residual.now.folds.now }
     requires sums { 2 ^ residual.now.halvings ≤ length sums.old }
     requires widths { 2 * 2 ^ residual.now.halvings ≤ length widths.old }
@@ -247,7 +246,7 @@ fn is_order_too_dear(
         order: residual.order,
         halvings,
     };
-    measure(&coarser, widths, sums);
+    lowest(&coarser, widths, sums);
     let fields = 6 + 4 * power(halvings) as u64;
     let rest = below.saturating_sub(fields);
     let bound = bound_parts(&coarser, sums, widths, true, rest);
