@@ -10,7 +10,7 @@ ghost use Rattle.flac_subframe.specs.Halves.{part, IsWidth, HasWidths};
 use crate::cost::quotients;
 use crate::halving::power;
 use crate::view::ResidualView;
-use crate::widths::measure;
+use crate::widths::lowest;
 
 /// The greatest partition order whose tables are made at once. Above it a partition is often so short that its parameter
 /// takes more than it saves, so finer partitions are tried only if no bound rules them out.
@@ -130,7 +130,7 @@ fn bound_parts(
 ) -> u64
     requires places { 2 ^ residual.now.halvings ≤ length sums.now }
     requires costs { (j : ℕ) → j < 2 ^ residual.now.halvings → slice_index sums.now j ≡ sum_by (value_cost 0) (part residual.now.order residual.now.values.now residual.now.halvings j) }
-    requires widths { HasWidths residual.now.order residual.now.values.now 0 residual.now.halvings widths.now }
+    requires widths { HasWidths residual.now.order residual.now.values.now residual.now.halvings residual.now.halvings widths.now }
     requires widths_long { 2 * 2 ^ residual.now.halvings ≤ length widths.now }
     ensures all { (f : Codings) → MayWrite residual.now.halvings residual.now.order residual.now.values.now f → result ≤ residual_cost residual.now.order residual.now.values.now f }
     ensures last { (f : Codings) → MayWrite residual.now.halvings residual.now.order residual.now.values.now f → f.halvings ≡ residual.now.halvings → result + (6 + 4 * 2 ^ residual.now.halvings) ≤ residual_cost residual.now.order residual.now.values.now f }
@@ -246,7 +246,7 @@ fn is_order_too_dear(
         order: residual.order,
         halvings,
     };
-    measure(&coarser, widths, sums);
+    lowest(&coarser, widths, sums);
     let fields = 6 + 4 * power(halvings) as u64;
     let rest = below.saturating_sub(fields);
     let bound = bound_parts(&coarser, sums, widths, true, rest);

@@ -31,7 +31,7 @@ fn leaves(residual: &ResidualView<'_>, widths: &mut [u8], sums: &mut [u64])
 }
 
 /// The same, with each width at its place after those of the coarser partitions.
-fn lowest(residual: &ResidualView<'_>, widths: &mut [u8], sums: &mut [u64])
+pub(crate) fn lowest(residual: &ResidualView<'_>, widths: &mut [u8], sums: &mut [u64])
     requires places { 2 * 2 ^ residual.now.halvings ≤ length widths.old }
     requires sums { 2 ^ residual.now.halvings ≤ length sums.old }
     ensures widths { HasWidths residual.now.order residual.now.values.now residual.now.halvings residual.now.halvings widths.new }

@@ -13,17 +13,17 @@ invariant_of-coarser c =
     let r = c.args.residual.now in
     record { few = r.few; range = r.range; unsigned = r.unsigned; small = r.small; long = r.long; most = omega (arith, r.most, c.requires.within); halves = halves_at r.order r.values.now r.halvings c.args.halvings c.requires.within r.halves }
 
-pub measure-requires-clause-places : goal.measure-requires-clause-places
-measure-requires-clause-places c = omega (arith, power_le c.args.halvings c.args.residual.now.halvings c.requires.within, c.requires.widths)
+pub lowest-requires-clause-places : goal.lowest-requires-clause-places
+lowest-requires-clause-places c = omega (arith, power_le c.args.halvings c.args.residual.now.halvings c.requires.within, c.requires.widths)
 
-pub measure-requires-clause-sums : goal.measure-requires-clause-sums
-measure-requires-clause-sums c = omega (arith, power_le c.args.halvings c.args.residual.now.halvings c.requires.within, c.requires.sums)
+pub lowest-requires-clause-sums : goal.lowest-requires-clause-sums
+lowest-requires-clause-sums c = omega (arith, power_le c.args.halvings c.args.residual.now.halvings c.requires.within, c.requires.sums)
 
 pub bound_parts-bound-requires-clause-places : goal.bound_parts-bound-requires-clause-places
-bound_parts-bound-requires-clause-places c = omega (arith, power_le c.args.halvings c.args.residual.now.halvings c.requires.within, c.requires.sums, c.measure.auto.sums)
+bound_parts-bound-requires-clause-places c = omega (arith, power_le c.args.halvings c.args.residual.now.halvings c.requires.within, c.requires.sums, c.lowest.auto.sums)
 
 pub bound_parts-bound-requires-clause-widths_long : goal.bound_parts-bound-requires-clause-widths_long
-bound_parts-bound-requires-clause-widths_long c = omega (arith, power_le c.args.halvings c.args.residual.now.halvings c.requires.within, c.requires.widths, c.measure.ensures.long)
+bound_parts-bound-requires-clause-widths_long c = omega (arith, power_le c.args.halvings c.args.residual.now.halvings c.requires.within, c.requires.widths, c.lowest.ensures.long)
 
 pub returns : goal.returns
 returns c = λ yes f m e.

@@ -6,3 +6,6 @@ returns-then-bound-below c = λ yes f m. omega (arith, c.bound_parts-bound.ensur
 
 pub returns : goal.returns
 returns c = c.reaches.ensures
+
+pub bound_parts-bound-requires-clause-widths : goal.bound_parts-bound-requires-clause-widths
+bound_parts-bound-requires-clause-widths c = λ p j low high b. c.requires.widths p j (omega arith) high b
