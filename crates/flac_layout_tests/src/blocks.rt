@@ -1,11 +1,11 @@
 //! Blocks from outside, worked by hand from RFC 9639, section 8.
 
-use crate::rows::bytes_of;
 use flac_bits::{BitReader, BitWriter, Collected, Memory, Why};
 use flac_meta::{
     Block, BlockList, Bytes, Comments, CueIndices, CueTrack, CueTracks, SeekPoint, SeekTable, Seen,
     StreamInfo, Texts, blocks_are_spelled, read_block, write_block, write_comments,
 };
+use flac_vectors::bytes_of;
 use std::alloc::Global;
 use std::process::Abort;
 use std::test::Fail;

@@ -1,11 +1,11 @@
 //! Headers from outside, worked by hand from RFC 9639, section 9.1.
 
-use crate::rows::bytes_of;
 use flac_bits::{BitReader, BitWriter, Collected, Memory, Why};
 use flac_header::{
     FrameHeader, Profile, depth_code_in, headers_are_spelled, rate_code_in, read_header,
     subset_allows, write_header,
 };
+use flac_vectors::bytes_of;
 use std::alloc::Global;
 use std::test::Fail;
 

@@ -1,8 +1,8 @@
 //! Programs over a reader, as a user writes them: the tags and the peak of a stream, and a copy of one. The stream is the example of RFC 9639, appendix D.1, its
 //! digest unknown, with the comment TITLE=x.
 
-use crate::encoding::encoded;
 use flac_frame::{Audio, FrameView};
+use flac_helpers::encoded;
 use flac_native::Decoder;
 use flac_reader::{
     Block, Comments, Container, Fault, Keep, Memory, Opened, Place, Profile, Reader, Why, open,
@@ -190,13 +190,18 @@ fn gather_all<C: Container>(
     Ok(())
 }
 
+/// The same for a stream in memory.
+fn gather_of(alloc: Global, stream: &[u8], channels: &mut Vec<Vec<i32>>) -> Result<(), Fail> {
+    let mut reader = open_native(alloc, Memory::new(stream), Profile::Subset, Keep::Tags)?;
+    let outcome = gather_all(&mut reader, channels);
+    drop(reader);
+    outcome
+}
+
 /// A copy of a stream of two channels, through decoder and encoder.
 fn copied(alloc: Global, stream: &[u8]) -> Result<Vec<u8>, Fail> {
-    let mut reader = open_native(alloc, Memory::new(stream), Profile::Subset, Keep::Tags)?;
     let mut channels = vec![in alloc; Vec::new(alloc), Vec::new(alloc)]?;
-    let outcome = gather_all(&mut reader, &mut channels);
-    drop(reader);
-    outcome?;
+    gather_of(alloc, stream, &mut channels)?;
     encoded(alloc, &Audio::new(44100, 16, channels)?, 4096, 0)
 }
 

@@ -1,9 +1,9 @@
 //! Samples one by one, frames that are sought, and times. The streams are the example of RFC 9639, appendix D.1, with the comment TITLE=x, and the samples 0, 1, ..,
 //! 9999 in three frames of 4096, 4096 and 1808 samples with seek points, of which the first frame begins at byte 100.
 
-use crate::encoding::encoded;
 use flac_bits::BitReader;
 use flac_frame::Audio;
+use flac_helpers::encoded;
 use flac_reader::{
     Container, Fault, Keep, Memory, Opened, Place, Profile, Reader, Samples, Why, open,
     open_native, stereo_samples,

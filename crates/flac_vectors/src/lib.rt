@@ -1,5 +1,11 @@
-//! Streams in hex that the tests of several crates read or write.
+//! What the tests of several crates read: streams in hex, rows of tables, and noise.
 #![tactic(auto)]
+
+mod noise;
+mod rows;
+
+pub use noise::bursts;
+pub use rows::{bytes_of, channels_of, fields_of, pair_of, samples_of};
 
 /// The example of RFC 9639, appendix D.1, its digest unknown: one frame of one sample of two channels.
 pub const EXAMPLE: &str =
@@ -126,7 +132,13 @@ pub const OUTSIDE_PUSHED: &str =
     "664c61438000002200100010000000000000100010400000000000000000000000000000000000000000fff86000000fc700000572fff8\
     60000102f10208860373";
 
-/// 1001 and -1001 in turn, sixteen samples of 16 bits at 44100 Hz: a fixed predictor of order 0, an escape of 11 bits.
+/// 1001 and -1001 in turn.
+pub const WAVE_SAMPLES: [i32; 16] = [
+    1001, -1001, 1001, -1001, 1001, -1001, 1001, -1001, 1001, -1001, 1001, -1001, 1001, -1001,
+    1001, -1001,
+];
+
+/// These samples of 16 bits at 44100 Hz: a fixed predictor of order 0, an escape of 11 bits.
 pub const WAVE: &str =
     "664c614380000022001000100000220000220ac440f000000010d1f223132b5d8ea4d06feffa79868854fff86908000f301003d6fa60bb\
     e982efa60bbe982efa60bbe982efa60bbe982eb03d";

@@ -1,0 +1,14 @@
+//! Tests of subframes and frames, through the public calls of the libraries and by vectors from outside. They need no crate above frames, so that they are proved
+//! beside the libraries of streams.
+#![tactic(auto)]
+
+#[cfg(test)]
+mod equals;
+#[cfg(test)]
+mod frames;
+#[cfg(test)]
+mod predictors;
+#[cfg(test)]
+mod subframes;
+#[cfg(test)]
+mod wide;

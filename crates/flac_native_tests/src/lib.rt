@@ -1,0 +1,18 @@
+//! Tests of native streams, through the public calls of the libraries and by vectors from outside. They stand apart, so that a library is proved once and not again
+//! with its tests. What fails, or comes in pieces, is tested in `flac_failure_tests`.
+#![tactic(auto)]
+
+#[cfg(test)]
+mod chosen;
+#[cfg(test)]
+mod decoding;
+#[cfg(test)]
+mod encoding;
+#[cfg(test)]
+mod parts;
+#[cfg(test)]
+mod pushing;
+#[cfg(test)]
+mod retagging;
+#[cfg(test)]
+mod seeking;

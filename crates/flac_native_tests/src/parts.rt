@@ -1,0 +1,207 @@
+//! Calls beside whole streams: a stream read part by part, what is given back, numbers and texts of faults.
+
+use flac_helpers::sample;
+use flac_native::{
+    BitReader, Block, Decoder, EncodeFault, Fault, FrameView, Item, Memory, Place, Plan, Profile,
+    RetagFault, SetupFault, StreamInfo, Track, Why, info_of, put_rows,
+};
+use std::alloc::Global;
+use std::fmt::Display;
+use std::mem::drop;
+use std::process::Abort;
+use std::test::Fail;
+
+/// The example of RFC 9639, appendix D.1, behind its marker, its digest unknown: one frame of one sample of two channels.
+const PARTS: &str = "800000221000100000000f00000f0ac442f00000000100000000000000000000000000000000\
+    fff869180000bf0358fd03128baa9a";
+
+/// The digest that the example states.
+const DIGEST: [u8; 16] = [
+    0x3E, 0x84, 0xB4, 0x18, 0x07, 0xDC, 0x69, 0x03, 0x07, 0x58, 0x6A, 0x3D, 0xAD, 0x1A, 0x2E, 0x0F,
+];
+
+/// Writes the samples of a frame of at most 2 as the digest's bytes of 16 bits, and returns how many these are.
+fn rows(frame: &FrameView<'_>, out: &mut [u8; 64]) -> usize {
+    if frame.len() > 2 {
+        return 0;
+    }
+    put_rows(frame, 2, 0, frame.len(), out)
+}
+
+/// Whether a STREAMINFO block comes next, and is the last.
+fn is_last_info(bits: &mut BitReader<Memory<'_>>, track: &mut Track) -> bool {
+    let read = track.block(bits);
+    let found = matches!(read, Ok((true, Block::StreamInfo(_))));
+    drop(read);
+    found
+}
+
+/// Checks where a track is, and what its end would return there.
+fn is_at(rt: &impl Abort, track: &mut Track, place: Place, end: Result<(), Why>) {
+    assert!(rt; track.place() == place);
+    assert!(rt; track.end() == end);
+}
+
+/// The channels, the length and the number of the next frame; its samples as how many bytes, and the first five of them.
+type Told = ((usize, usize, u64), (usize, [u8; 5]));
+
+/// The next frame.
+fn next_frame(bits: &mut BitReader<Memory<'_>>, track: &mut Track) -> Result<Told, Why> {
+    let frame = track.frame(bits)?;
+    let mut out = [0; 64];
+    let count = rows(&frame, &mut out);
+    let shape = (frame.channels(), frame.len(), frame.number());
+    Ok((shape, (count, [out[0], out[1], out[2], out[3], out[4]])))
+}
+
+/// Reads the example: a block, behind which a sample is missing at the end, a frame, and the end.
+fn reads_all(rt: &impl Abort, bits: &mut BitReader<Memory<'_>>, track: &mut Track) {
+    assert!(rt; track.place() == Place::Block(0));
+    assert!(rt; is_last_info(bits, track));
+    is_at(rt, track, Place::Frame(0), Err(Why::TotalMismatch));
+    let frame = next_frame(bits, track);
+    assert!(rt; frame == Ok(((2, 1, 0), (4, [0xF4, 0x63, 0xB0, 0x28, 0]))));
+    is_at(rt, track, Place::Frame(1), Ok(()));
+    assert!(rt; bits.at_end() == Ok(true));
+}
+
+/// A stream read part by part: a block, a frame, and what STREAMINFO states of all samples.
+#[test]
+fn reads_parts(rt: HostRuntime) -> Result<(), Fail> {
+    let stream = hex::decode(rt.alloc(), PARTS)?;
+    let mut bits = BitReader::new(Memory::new(&stream));
+    let mut track = Track::new(rt.alloc(), Profile::Subset);
+    reads_all(&rt, &mut bits, &mut track);
+    drop(track);
+    Ok(())
+}
+
+/// STREAMINFO of the example, for frames of at most 15 bytes.
+fn info(alloc: Global, least: u32) -> Result<StreamInfo, Fail> {
+    let audio = sample(alloc)?;
+    let plan = Plan::new(4096, &audio, 0)?;
+    Ok(info_of(&plan, &audio, least.min(15), 15))
+}
+
+#[test]
+fn states_the_digest(rt: HostRuntime) -> Result<(), Fail> {
+    let info = info(rt.alloc(), 14)?;
+    assert!(rt; (info.least_block(), info.greatest_block()) == (4096, 4096));
+    assert!(rt; (info.least_frame(), info.greatest_frame()) == (14, 15));
+    assert!(rt; (info.rate(), info.channels(), info.depth()) == (44100, 2, 16));
+    assert!(rt; info.total() == 1);
+    assert!(rt; info.digest() == DIGEST);
+    Ok(())
+}
+
+/// Whether a frame comes next, and the source, which is given back, is at its end then.
+fn is_last_frame(decoder: Decoder<BitReader<Memory<'_>>>) -> bool {
+    let mut decoder = decoder;
+    let read = matches!(decoder.next(), Ok(Item::Frame(_)));
+    let mut bits = BitReader::new(decoder.into_source());
+    read && bits.at_end() == Ok(true)
+}
+
+/// A decoder gives its source back, here one that was read to its end.
+#[test]
+fn gives_its_source_back(rt: HostRuntime) -> Result<(), Fail> {
+    let info = info(rt.alloc(), 15)?;
+    let stream = hex::decode(rt.alloc(), PARTS)?;
+    let source = Memory::new(stream.get(38..).unwrap_or(&[]));
+    let decoder = Decoder::resume(rt.alloc(), source, &info, Profile::Subset)?;
+    assert!(rt; is_last_frame(decoder));
+    Ok(())
+}
+
+#[test]
+fn gives_its_channels_back(rt: HostRuntime) -> Result<(), Fail> {
+    let channels = sample(rt.alloc())?.into_channels();
+    assert!(rt; channels.len() == 2);
+    assert!(rt; channels[0].as_slice() == [25588].as_slice());
+    assert!(rt; channels[1].as_slice() == [10416].as_slice());
+    Ok(())
+}
+
+#[test]
+fn numbers_of_faults(rt: HostRuntime) {
+    let encoding = [
+        EncodeFault::Memory.number(),
+        EncodeFault::RepeatedBlock.number(),
+        EncodeFault::BadMapping.number(),
+        EncodeFault::Write.number(),
+    ];
+    assert!(rt; encoding == [2, 9, 37, 39]);
+    let setup = [
+        SetupFault::BadRate.number(),
+        SetupFault::BadDepth.number(),
+        SetupFault::BadChannels.number(),
+        SetupFault::LengthsDiffer.number(),
+        SetupFault::SampleTooLarge.number(),
+        SetupFault::TooLong.number(),
+        SetupFault::BadBlockSize.number(),
+        SetupFault::TooManyPoints.number(),
+        SetupFault::PredictorOrder.number(),
+        SetupFault::TooManyPredictors.number(),
+    ];
+    assert!(rt; setup == [40, 41, 42, 43, 44, 45, 46, 47, 51, 52]);
+    assert!(rt; EncodeFault::Memory.as_str() == "2 Memory");
+    assert!(rt; SetupFault::BadRate.as_str() == "40 BadRate");
+    assert!(rt; SetupFault::PredictorOrder.as_str() == "51 PredictorOrder");
+    assert!(rt; SetupFault::TooManyPredictors.as_str() == "52 TooManyPredictors");
+}
+
+/// Checks how something prints.
+fn prints<D: Display>(rt: &impl Abort, alloc: Global, shown: &D, text: &str) -> Result<(), Fail> {
+    let found = format!(in alloc; "{shown}")?;
+    assert!(rt; found.as_str() == text);
+    Ok(())
+}
+
+/// Checks how a fault at a place prints.
+fn prints_at(rt: &impl Abort, alloc: Global, at: Place, why: Why, text: &str) -> Result<(), Fail> {
+    prints(rt, alloc, &Fault { at, why }, text)?;
+    prints(rt, alloc, &RetagFault { at: Some(at), why }, text)
+}
+
+#[test]
+fn prints_faults(rt: HostRuntime) -> Result<(), Fail> {
+    let alloc = rt.alloc();
+    prints_at(
+        &rt,
+        alloc,
+        Place::Marker,
+        Why::BadMarker,
+        "marker: 4 BadMarker",
+    )?;
+    prints_at(
+        &rt,
+        alloc,
+        Place::Block(0),
+        Why::BadStreamInfo,
+        "block 0: 8 BadStreamInfo",
+    )?;
+    prints_at(
+        &rt,
+        alloc,
+        Place::Frame(3),
+        Why::FrameCheck,
+        "frame 3: 26 FrameCheck",
+    )?;
+    prints_at(
+        &rt,
+        alloc,
+        Place::Page(7),
+        Why::PageCheck,
+        "page 7: 32 PageCheck",
+    )?;
+    prints_at(
+        &rt,
+        alloc,
+        Place::End,
+        Why::Md5Mismatch,
+        "end: 29 Md5Mismatch",
+    )?;
+    let (at, why) = (None, Why::BlockLength);
+    prints(&rt, alloc, &RetagFault { at, why }, "7 BlockLength")?;
+    prints(&rt, alloc, &SetupFault::SampleTooLarge, "44 SampleTooLarge")
+}

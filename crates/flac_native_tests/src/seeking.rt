@@ -1,0 +1,106 @@
+//! Seek tables that are written, and a stream that is read from a point on.
+
+use flac_bits::{Collected, Memory};
+use flac_frame::{Audio, FrameView};
+use flac_helpers::{encoded, ends};
+use flac_meta::{Block, BlockList, SeekPoint, SeekTable, StreamInfo};
+use flac_native::{Container, Decoder, EncodeFault, Item, Plan, Profile, encode};
+use flac_vectors::TEN_THOUSAND;
+use std::alloc::Global;
+use std::mem::drop;
+use std::process::Abort;
+use std::test::Fail;
+
+/// The samples 0, 1, .., 16 of one channel of 16 bits.
+fn seventeen(alloc: Global) -> Result<Audio, Fail> {
+    Ok(Audio::new(44100, 16, vec![in alloc; (0..17).collect(alloc)?]?)?)
+}
+
+/// A table of these points, and nothing else.
+fn table(alloc: Global, points: Vec<SeekPoint>) -> Result<BlockList, Fail> {
+    let mut blocks = Vec::new(alloc);
+    blocks.push(Block::SeekTable(SeekTable::from_vec(points)))?;
+    Ok(BlockList::new(blocks)?)
+}
+
+/// Encodes those samples with a seek table in the list, and a seek point each so many samples: the outcome, and how many bytes are written.
+fn encoded_with_table(alloc: Global, every: u32) -> Result<(Result<(), EncodeFault>, usize), Fail> {
+    let audio = seventeen(alloc)?;
+    let list = table(alloc, Vec::new(alloc))?;
+    let plan = Plan::new(16, &audio, every)?;
+    let mut target = Collected::new(alloc);
+    let outcome = encode(alloc, &plan, &list, &audio, &mut target);
+    drop(list);
+    Ok((outcome, target.bytes().len()))
+}
+
+/// A list that has a seek table is refused where the plan asks for one, and else written.
+#[test]
+fn repeated_table(rt: HostRuntime) -> Result<(), Fail> {
+    let refused = encoded_with_table(rt.alloc(), 16)?;
+    assert!(rt; refused == (Err(EncodeFault::RepeatedBlock), 0));
+    let (outcome, count) = encoded_with_table(rt.alloc(), 0)?;
+    assert!(rt; outcome == Ok(()));
+    assert!(rt; count > 46);
+    Ok(())
+}
+
+/// The MD5 of those samples.
+const DIGEST: [u8; 16] = [
+    0xFB, 0xAF, 0x22, 0xF9, 0x1D, 0x9B, 0xC5, 0x3A, 0x48, 0xE9, 0xBC, 0xD8, 0x8D, 0x4A, 0x22, 0xFF,
+];
+
+/// Those samples, encoded.
+fn ten_thousand(alloc: Global) -> Result<Vec<u8>, Fail> {
+    let audio = Audio::new(44100, 16, vec![in alloc; (0..10000).collect(alloc)?]?)?;
+    encoded(alloc, &audio, 4096, 1000)
+}
+
+/// The next frame, if one comes next.
+fn next_frame<C: Container>(decoder: &mut Decoder<C>) -> Option<Told> {
+    match decoder.next() {
+        Ok(Item::Frame(frame)) => Some(told(&frame)),
+        _ => None,
+    }
+}
+
+/// A frame's number, its channels, how many samples a channel has, and the first and the last sample of the first channel.
+type Told = (u64, usize, usize, Option<i32>, Option<i32>);
+
+fn told(frame: &FrameView<'_>) -> Told {
+    let (mut first, mut last) = (None, None);
+    if frame.channels() > 0 {
+        first = frame.channel(0).first().copied();
+        last = frame.channel(0).last().copied();
+    }
+    (frame.number(), frame.channels(), frame.len(), first, last)
+}
+
+#[test]
+fn written_with_points(rt: HostRuntime) -> Result<(), Fail> {
+    let stream = ten_thousand(rt.alloc())?;
+    let wanted = hex::decode(rt.alloc(), TEN_THOUSAND)?;
+    assert!(rt; stream.as_slice() == wanted.as_slice());
+    Ok(())
+}
+
+/// Reads the second and the third frame, and the end.
+fn two_and_end<C: Container>(rt: &impl Abort, decoder: &mut Decoder<C>) {
+    let second = Some((1, 1, 4096, Some(4096), Some(8191)));
+    assert!(rt; next_frame(decoder) == second);
+    let third = Some((2, 1, 1808, Some(8192), Some(9999)));
+    assert!(rt; next_frame(decoder) == third);
+    assert!(rt; ends(decoder));
+}
+
+/// The stream is read from its second point on: two frames, and the end.
+#[test]
+fn resumed_at_a_point(rt: HostRuntime) -> Result<(), Fail> {
+    let stream = ten_thousand(rt.alloc())?;
+    let info = StreamInfo::new(4096, 4096, 15, 17, 44100, 1, 16, 10000, DIGEST)?;
+    let source = Memory::new(stream.get(100 + 15..).unwrap_or(&[]));
+    let mut decoder = Decoder::resume(rt.alloc(), source, &info, Profile::Subset)?;
+    two_and_end(&rt, &mut decoder);
+    drop(decoder);
+    Ok(())
+}
