@@ -1,24 +1,20 @@
 //! Writes that fail in turn, of streams by linear predictors and outside the streamable subset.
 
-use crate::writes::{Trickle, Written, each_write_fails, is_front, no_comments, number_of};
+use crate::writes::{Trickle, Written, each_write_fails, is_front};
 use flac_bits::{Counted, FailAt, Target};
 use flac_frame::Audio;
 use flac_meta::BlockList;
-use flac_native::{LinearPredictor, Plan, Profile, SetupFault, StreamEncoder};
+use flac_native::{LinearPredictor, Plan, Profile, StreamEncoder};
 use flac_ogg::OggEncoder;
+use flac_testing::{no_comments, number_of, setup_number};
 use flac_vectors::{
-    OUTSIDE, OUTSIDE_PAGES, WAVE_PREDICTED, WAVE_PREDICTED_PAGES, WAVES_PUSHED, WAVES_PUSHED_PAGES,
+    OUTSIDE, OUTSIDE_PAGES, WAVE_PREDICTED, WAVE_PREDICTED_PAGES, WAVE_SAMPLES, WAVES_PUSHED,
+    WAVES_PUSHED_PAGES,
 };
 use std::alloc::Global;
 use std::mem::drop;
 use std::process::Abort;
 use std::test::Fail;
-
-/// 1001 and -1001 in turn.
-pub(crate) const WAVE: [i32; 16] = [
-    1001, -1001, 1001, -1001, 1001, -1001, 1001, -1001, 1001, -1001, 1001, -1001, 1001, -1001,
-    1001, -1001,
-];
 
 /// What was made, or the failure of the test if an allocation failed.
 pub(crate) fn made<T>(found: Option<T>) -> Result<T, Fail> {
@@ -36,7 +32,7 @@ pub(crate) fn predictors(alloc: Global) -> Option<Vec<LinearPredictor>> {
 
 /// These samples of one channel, of 16 bits at 44100 Hz.
 pub(crate) fn wave(alloc: Global) -> Option<Audio> {
-    let samples = WAVE.to_vec(alloc).ok()?;
+    let samples = WAVE_SAMPLES.to_vec(alloc).ok()?;
     let channels = vec![in alloc; samples].ok()?;
     Audio::new(44100, 16, channels).ok()
 }
@@ -94,14 +90,6 @@ fn writes_outside_the_subset_fail(rt: HostRuntime) -> Result<(), Fail> {
 
 // ---- block by block
 
-/// The number of a fault, 0 if there is none.
-fn setup_number(outcome: Result<(), SetupFault>) -> u8 {
-    match outcome {
-        Ok(()) => 0,
-        Err(fault) => fault.number(),
-    }
-}
-
 /// An encoder of either container.
 pub(crate) trait Encoder {
     /// Sets predictors, and returns the number of the fault for which they are refused, 0 if they are not.
@@ -120,7 +108,7 @@ impl<W: Target + Drop> Encoder for StreamEncoder<W> {
     }
 
     fn send(&mut self) -> u8 {
-        number_of(self.push(&[WAVE.as_slice()]))
+        number_of(self.push(&[WAVE_SAMPLES.as_slice()]))
     }
 
     fn end(self) -> u8 {
@@ -140,7 +128,7 @@ impl<W: Target + Drop> Encoder for OggEncoder<W> {
     }
 
     fn send(&mut self) -> u8 {
-        number_of(self.push(&[WAVE.as_slice()]))
+        number_of(self.push(&[WAVE_SAMPLES.as_slice()]))
     }
 
     fn end(self) -> u8 {

@@ -6,6 +6,7 @@ use flac_frame::Audio;
 use flac_meta::{Block, BlockList, Comments};
 use flac_native::{EncodeFault, Place, Plan, RetagFault, StreamEncoder, Why, encode, retag};
 use flac_ogg::{OggEncoder, encode_ogg};
+use flac_testing::{no_comments, number_of, sample};
 use flac_vectors::{EXAMPLE, EXAMPLE_TAGGED, ONE_SAMPLE, PAGES, PAGES_OF_PUSHES, TEN_THOUSAND};
 use std::alloc::Global;
 use std::io;
@@ -42,18 +43,6 @@ impl Write for Trickle {
     fn flush(&mut self) -> io::Result<()> {
         Ok(())
     }
-}
-
-/// One sample of two channels.
-fn one_sample(alloc: Global) -> Result<Audio, Fail> {
-    let channels = vec![in alloc; vec![in alloc; 25588]?, vec![in alloc; 10416]?]?;
-    Ok(Audio::new(44100, 16, channels)?)
-}
-
-/// A block of no vendor and no comments.
-pub(crate) fn no_comments(alloc: Global) -> Result<BlockList, Fail> {
-    let block = Block::VorbisComment(Comments::new(alloc, b"")?);
-    Ok(BlockList::new(vec![in alloc; block]?)?)
 }
 
 /// What is written: samples by a plan, with further blocks, as a native stream or in pages.
@@ -173,7 +162,7 @@ fn each_page_write_fails(
 /// One sample of two channels: as a native stream, and in pages.
 #[test]
 fn writes_fail(rt: HostRuntime) -> Result<(), Fail> {
-    let audio = one_sample(rt.alloc())?;
+    let audio = sample(rt.alloc())?;
     each_native_write_fails(&rt, rt.alloc(), &audio, 0, ONE_SAMPLE)?;
     each_page_write_fails(&rt, rt.alloc(), &audio, PAGES)
 }
@@ -183,14 +172,6 @@ fn writes_of_three_frames_fail(rt: HostRuntime) -> Result<(), Fail> {
     let samples = vec![in rt.alloc(); (0..10000).collect(rt.alloc())?]?;
     let audio = Audio::new(44100, 16, samples)?;
     each_native_write_fails(&rt, rt.alloc(), &audio, 1000, TEN_THOUSAND)
-}
-
-/// The number of a fault, 0 where there is none.
-pub(crate) fn number_of(outcome: Result<(), EncodeFault>) -> u8 {
-    match outcome {
-        Ok(()) => 0,
-        Err(fault) => fault.number(),
-    }
 }
 
 /// What is answered by the making of an encoder, by each of three pushes, and by its end; 0 is no fault, and 255 that it was not asked.
@@ -278,16 +259,27 @@ fn push_fails(
     assert!(rt; is_front(&bytes, wanted, n.min(89)), "byte {n}");
 }
 
+/// Each byte that is written of these samples fails in turn.
+fn each_push_fails(
+    rt: &impl Abort,
+    alloc: Global,
+    list: &BlockList,
+    samples: &[i32],
+    wanted: &[u8],
+) {
+    assert!(rt; wanted.len() == 89);
+    for n in 0..90 {
+        push_fails(rt, alloc, list, samples, wanted, n);
+    }
+}
+
 /// Each byte that an encoder writes of what is pushed fails in turn. Then it is spent.
 #[test]
 fn pushes_fail(rt: HostRuntime) -> Result<(), Fail> {
     let samples: Vec<i32> = (0..10000).collect(rt.alloc())?;
     let wanted = ten_thousand_pushed(rt.alloc())?;
     let list = BlockList::new(Vec::new(rt.alloc()))?;
-    assert!(rt; wanted.len() == 89);
-    for n in 0..90 {
-        push_fails(&rt, rt.alloc(), &list, &samples, &wanted, n);
-    }
+    each_push_fails(&rt, rt.alloc(), &list, &samples, &wanted);
     Ok(())
 }
 
@@ -339,7 +331,7 @@ fn each_call_of_pushing_fails(rt: &impl Abort, alloc: Global, list: &BlockList) 
 /// A block that is longer than what is held before it is sent: each call of the target fails in turn.
 #[test]
 fn writes_of_a_long_block_fail(rt: HostRuntime) -> Result<(), Fail> {
-    let audio = one_sample(rt.alloc())?;
+    let audio = sample(rt.alloc())?;
     let plan = Plan::new(4096, &audio, 0)?;
     let list = BlockList::new(vec![in rt.alloc(); Block::Padding(9000)]?)?;
     let written = Written {
@@ -512,6 +504,14 @@ fn each_copied_write_fails(rt: &impl Abort, alloc: Global, tagging: &Tagging<'_>
     }
 }
 
+/// Each call of the source fails in turn, in pieces of several sizes, and each byte that is written.
+fn each_call_of_copying_fails(rt: &impl Abort, alloc: Global, tagging: &Tagging<'_>) {
+    for most in [1, 2, 3, 4096] {
+        each_copied_read_fails(rt, alloc, tagging, most);
+    }
+    each_copied_write_fails(rt, alloc, tagging);
+}
+
 #[test]
 fn retagging_fails(rt: HostRuntime) -> Result<(), Fail> {
     let stream = hex::decode(rt.alloc(), EXAMPLE)?;
@@ -522,9 +522,6 @@ fn retagging_fails(rt: HostRuntime) -> Result<(), Fail> {
         comments: &comments,
         wanted: &wanted,
     };
-    for most in [1, 2, 3, 4096] {
-        each_copied_read_fails(&rt, rt.alloc(), &tagging, most);
-    }
-    each_copied_write_fails(&rt, rt.alloc(), &tagging);
+    each_call_of_copying_fails(&rt, rt.alloc(), &tagging);
     Ok(())
 }

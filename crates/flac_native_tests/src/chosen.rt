@@ -5,8 +5,8 @@ ghost use Rattle.flac_native.specs.Given.{fits_plan, room_of};
 
 use flac_bits::{Target, send_all};
 use flac_frame::{Audio, EncodeBuffers};
-use flac_helpers::{list_of, sample, wave};
 use flac_native::{ChosenFrames, Plan, Profile, Room, Why};
+use flac_testing::{list_of, sample, wave};
 use flac_vectors::{ONE_SAMPLE, WAVE, WAVE_PREDICTED};
 use std::alloc::Global;
 use std::mem::drop;

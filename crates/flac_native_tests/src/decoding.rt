@@ -1,8 +1,8 @@
 //! A stream item by item: the example of RFC 9639, appendix D.1, its digest unknown.
 
 use flac_bits::{Counted, Memory, Pieces, Source};
-use flac_helpers::{PEAKS, are_of_a_cut, next_type, peaks_to_end, two_faults};
 use flac_native::{Decoder, Place, Profile};
+use flac_testing::{PEAKS, are_of_a_cut, next_type, peaks_to_end, two_faults};
 use flac_vectors::EXAMPLE;
 use std::alloc::Global;
 use std::fs;

@@ -1,8 +1,8 @@
 //! Streams that are written: samples of RFC 9639, appendix D.1, no samples, and blocks of 16 samples whose least subframe is known.
 
 use flac_frame::Audio;
-use flac_helpers::encoded;
 use flac_native::{Plan, Profile};
+use flac_testing::encoded;
 use flac_vectors::{
     EQUAL_8, EQUAL_24, EQUAL_32, NO_SAMPLES, ONE_SAMPLE, RISING, SILENT, channels_of, pair_of,
 };

@@ -1,10 +1,10 @@
 //! Calls beside whole streams: a stream read part by part, what is given back, numbers and texts of faults.
 
-use flac_helpers::sample;
 use flac_native::{
     BitReader, Block, Decoder, EncodeFault, Fault, FrameView, Item, Memory, Place, Plan, Profile,
     RetagFault, SetupFault, StreamInfo, Track, Why, info_of, put_rows,
 };
+use flac_testing::sample;
 use std::alloc::Global;
 use std::fmt::Display;
 use std::mem::drop;

@@ -1,9 +1,9 @@
 //! Streams that are encoded a block at a time, as the samples come.
 
 use flac_bits::{Collected, Counted, Memory, Target};
-use flac_helpers::{Narrow, Recorder, count_rising, number_of};
 use flac_meta::BlockList;
 use flac_native::{Decoder, EncodeFault, Profile, SetupFault, StreamEncoder};
+use flac_testing::{Narrow, Recorder, count_rising, number_of};
 use std::alloc::Global;
 use std::mem::drop;
 use std::test::Fail;

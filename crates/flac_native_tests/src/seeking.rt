@@ -2,9 +2,9 @@
 
 use flac_bits::{Collected, Memory};
 use flac_frame::{Audio, FrameView};
-use flac_helpers::{encoded, ends};
 use flac_meta::{Block, BlockList, SeekPoint, SeekTable, StreamInfo};
 use flac_native::{Container, Decoder, EncodeFault, Item, Plan, Profile, encode};
+use flac_testing::{encoded, ends};
 use flac_vectors::TEN_THOUSAND;
 use std::alloc::Global;
 use std::mem::drop;

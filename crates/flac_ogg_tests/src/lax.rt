@@ -1,8 +1,8 @@
 //! Streams outside the streamable subset (RFC 9639, section 7), put together by hand: all samples are zeros.
 
-use flac_helpers::peaks_to_end;
 use flac_native::{nothing_is_outside_lax, subset_is_lax};
 use flac_ogg::{Decoder, Memory, Profile, verify};
+use flac_testing::peaks_to_end;
 use flac_vectors::fields_of;
 use std::alloc::Global;
 use std::mem::drop;

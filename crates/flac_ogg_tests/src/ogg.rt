@@ -2,10 +2,10 @@
 
 use flac_bits::Collected;
 use flac_frame::Audio;
-use flac_helpers::sample;
 use flac_meta::{Block, BlockList, Bytes, Comments, Texts};
 use flac_native::{EncodeFault, Plan};
 use flac_ogg::{encode_and_decode, encode_ogg};
+use flac_testing::sample;
 use flac_vectors::{ONE_SAMPLE_COMMENTED, PAGES, PAGES_OF_NO_SAMPLES, channels_of};
 use std::alloc::Global;
 use std::mem::drop;

@@ -3,11 +3,11 @@
 
 ghost use Rattle.std.specs.Prelude.{⊤, [], true};
 
-use flac_helpers::{PEAKS, are_of_a_cut, next_type, peaks_to_end, two_faults};
 use flac_ogg::{
     Block, Fault, FrameView, Memory, Place, Profile, Sink, SinkFault, Why, decode_any, ogg_decoder,
     verify,
 };
+use flac_testing::{PEAKS, are_of_a_cut, next_type, peaks_to_end, two_faults};
 use flac_vectors::{EXAMPLE, PAGES};
 use std::alloc::Global;
 use std::mem::drop;

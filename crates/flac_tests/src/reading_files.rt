@@ -2,12 +2,12 @@
 //! digest unknown, with the comment TITLE=x.
 
 use flac_frame::{Audio, FrameView};
-use flac_helpers::encoded;
 use flac_native::Decoder;
 use flac_reader::{
     Block, Comments, Container, Fault, Keep, Memory, Opened, Place, Profile, Reader, Why, open,
     open_native, open_ogg, read_blocks,
 };
+use flac_testing::encoded;
 use flac_vectors::{EXAMPLE_TAGGED, PAGES};
 use std::alloc::{AllocError, Global};
 use std::mem::drop;

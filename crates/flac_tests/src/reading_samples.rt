@@ -3,11 +3,11 @@
 
 use flac_bits::BitReader;
 use flac_frame::Audio;
-use flac_helpers::encoded;
 use flac_reader::{
     Container, Fault, Keep, Memory, Opened, Place, Profile, Reader, Samples, Why, open,
     open_native, stereo_samples,
 };
+use flac_testing::encoded;
 use flac_vectors::{EXAMPLE_TAGGED, PAGES, TEN_THOUSAND};
 use std::alloc::Global;
 use std::mem::drop;
