@@ -28,10 +28,15 @@ def script():
 
 
 def bodies(file, room):
-    """The wrong bodies of a file, each as an edit of its own in this folder: what stands behind a line '# NAME' is NAME.edit. A file without such
-    lines is one edit, and stays where it is."""
+    """The wrong bodies of a file, each as an edit of its own in this folder: what follows a line '# NAME' is NAME.edit. A file without such
+    lines is one edit, and is not copied."""
     with open(file, encoding="utf-8") as it:
-        parts = re.split(r"^# (\w+)$\n", it.read(), flags=re.MULTILINE)[1:]
+        first, *parts = re.split(r"^# (\w+)$\n", it.read(), flags=re.MULTILINE)
+    if parts and re.search(r"^(file|old|new):", first, flags=re.MULTILINE):
+        raise ValueError(f"{file}: a body has no name")
+    # (two bodies under one name would count as one, for which one refusal is enough)
+    if parts and any(re.search(r"^#", it, flags=re.MULTILINE) for it in [first, *parts[1::2]]):
+        raise ValueError(f"{file}: a line with # is not '# NAME'")
     if not parts:
         return [file]
     made = []
