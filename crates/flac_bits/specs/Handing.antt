@@ -43,13 +43,13 @@ abbrev pub IsOutside : Why → Type 0
 IsOutside why = (why ≡ Read) ⊎ (why ≡ Memory)
 
 -- How an input is read: which lists are all its items, behind which items it is refused, where and why, with which items it begins, where the item
--- behind these stands, and at which places it is told that a call was broken off there.
+-- behind these stands, and at which places it is told that a call was broken off there for this reason.
 pub record Reading (I P : Type 0) : Type 1 where
   pub whole : List I → Type 0
   pub refused : List I → P → Why → Type 0
   pub begins : List I → Type 0
   pub place : List I → P
-  pub breaks : List I → P → Type 0
+  pub breaks : List I → P → Why → Type 0
 
 -- by a grammar, from this state on
 abbrev pub by_grammar : {S I P : Type 0} → Grammar S I P → S → Mark → List Bool → Reading I P
@@ -58,7 +58,7 @@ by_grammar g s mark text = record {
   refused = λ items at why. Refused g s mark items text at why;
   begins = λ items. (front : List Bool) × (left : List Bool) × (text ≡ front ++ left) × Joined g s mark items front;
   place = λ items. g.place (after g s items);
-  breaks = λ items at. at ≡ g.place (after g s items);
+  breaks = λ items at why. at ≡ g.place (after g s items);
 }
 
 -- what was answered, and what the receiver took; errors counts those that it answered, and calm says that the source answered none
@@ -69,8 +69,8 @@ pub record Hands {I P K : Type 0} (r : Reading I P) (takes : K → I → K → T
   pub refused : calm → (at : P) (why : Why) → outcome ≡ Some (at, why) → why ≢ Memory → errors new ≡ errors old → (items : List I) × r.refused items at why × TakesAll takes old items new
   -- whatever ended it: the receiver took items that are spelled whole, one after another, from the start, and where it did not fail it stands behind them
   pub begun : (items : List I) × (mid : K) × r.begins items × TakesAll takes old items mid × (errors new ≡ errors old → mid ≡ new)
-  -- where the source failed or memory ran out, that is told at a place of the item behind just those that the receiver took
-  pub broken : (at : P) (why : Why) → outcome ≡ Some (at, why) → IsOutside why → (items : List I) × r.begins items × r.breaks items at × TakesAll takes old items new
+  -- where the source failed or memory ran out, that is told at its place of the item behind just those that the receiver took
+  pub broken : (at : P) (why : Why) → outcome ≡ Some (at, why) → IsOutside why → (items : List I) × r.begins items × r.breaks items at why × TakesAll takes old items new
   -- where the receiver failed, that is told at the place of the item that it did not take, and it had taken just the items before
   pub failed : errors old < errors new → (at : P) × (outcome ≡ Some (at, Sink)) × ((items : List I) × (mid : K) × r.begins items × (at ≡ r.place items) × TakesAll takes old items mid)
 

@@ -81,7 +81,7 @@ one_more {X = X} gives given takes errors p parts end t u old now new view x far
         }
 
 -- the stream is over
-pub all_done : {K X : Type 0} (gives given : Coming) (takes : K → Piece → K → Type 0) (errors : K → ℕ) (p : Progress) (parts : List Piece) (end : Option (Place × Why)) (t : Track) (old now : K) (view : X → Piece) (calm : Type 0) (breaks : Progress → Place → Type 0)
+pub all_done : {K X : Type 0} (gives given : Coming) (takes : K → Piece → K → Type 0) (errors : K → ℕ) (p : Progress) (parts : List Piece) (end : Option (Place × Why)) (t : Track) (old now : K) (view : X → Piece) (calm : Type 0) (breaks : Progress → Place → Why → Type 0)
     → (far : Far gives takes errors p parts end t old now) → (calm → IsNext given far.q view (Ok None) far.left end) → HandsFirst takes errors p parts end calm breaks old now None
 all_done {X = X} gives given takes errors p parts end t old now view calm breaks far first = record {
   taken = far.taken;
@@ -102,8 +102,8 @@ all_done {X = X} gives given takes errors p parts end t old now view calm breaks
     go (z ∷ zs) stop (y, is, seen, rest) = absurd (none_some y is)
 
 -- or the call refused
-pub next_refused : {K X : Type 0} (gives given : Coming) (takes : K → Piece → K → Type 0) (errors : K → ℕ) (p : Progress) (parts : List Piece) (end : Option (Place × Why)) (t : Track) (old now : K) (view : X → Piece) (calm : Type 0) (breaks : Progress → Place → Type 0) (fault : Fault)
-    → (far : Far gives takes errors p parts end t old now) → (calm → fault.why ≢ Memory → IsNext given far.q view (Err fault) far.left end) → (IsOutside fault.why → breaks far.q fault.at)
+pub next_refused : {K X : Type 0} (gives given : Coming) (takes : K → Piece → K → Type 0) (errors : K → ℕ) (p : Progress) (parts : List Piece) (end : Option (Place × Why)) (t : Track) (old now : K) (view : X → Piece) (calm : Type 0) (breaks : Progress → Place → Why → Type 0) (fault : Fault)
+    → (far : Far gives takes errors p parts end t old now) → (calm → fault.why ≢ Memory → IsNext given far.q view (Err fault) far.left end) → (IsOutside fault.why → breaks far.q fault.at fault.why)
     → HandsFirst takes errors p parts end calm breaks old now (Some (fault.at, fault.why))
 next_refused {X = X} gives given takes errors p parts end t old now view calm breaks fault far first broke = record {
   taken = far.taken;
@@ -119,7 +119,7 @@ next_refused {X = X} gives given takes errors p parts end t old now view calm br
   broken = λ to w is out.
       let pair = some_is (fault.at, fault.why) (to, w) is in
       let told = broke (subst IsOutside (sym (ap (λ (r : Place × Why). r.1) pair)) out) in
-      (refl, subst (λ k. breaks (after grammar p far.taken) k) (ap (λ (r : Place × Why). r.0) pair) (subst (λ q. breaks q fault.at) far.state told));
+      (refl, subst (λ (r : Place × Why). breaks (after grammar p far.taken) r.0 r.1) pair (subst (λ q. breaks q fault.at fault.why) far.state told));
   failed = λ rose. absurd (omega (arith, rose, far.received));
 }
   where
@@ -133,7 +133,7 @@ sink_inside (inl e) = absurd cc
 sink_inside (inr e) = absurd cc
 
 -- the receiver did not take the part that was read
-pub sink_failed : {K : Type 0} (gives : Coming) (takes : K → Piece → K → Type 0) (errors : K → ℕ) (p : Progress) (parts : List Piece) (end : Option (Place × Why)) (t : Track) (old now new : K) (calm : Type 0) (breaks : Progress → Place → Type 0) (at : Place) (why : Why)
+pub sink_failed : {K : Type 0} (gives : Coming) (takes : K → Piece → K → Type 0) (errors : K → ℕ) (p : Progress) (parts : List Piece) (end : Option (Place × Why)) (t : Track) (old now new : K) (calm : Type 0) (breaks : Progress → Place → Why → Type 0) (at : Place) (why : Why)
     → (far : Far gives takes errors p parts end t old now) → errors now < errors new → why ≡ Sink → ((q : Progress) → IsAt t q → at ≡ grammar.place q) → HandsFirst takes errors p parts end calm breaks old new (Some (at, why))
 sink_failed gives takes errors p parts end t old now new calm breaks at why far rose is place = record {
   taken = far.taken;

@@ -75,10 +75,10 @@ pub record CountsIn {C X : Type 0} (g : container.Ghosts C) (track : Track) (old
   pub behind : g.known old ≡ true → g.errors new ≡ g.errors old → g.behind new ≡ without_fence (g.behind old)
   pub names : g.names new ≡ g.names old
 
--- A call that gives the item behind this progress reports an error of the device, and that memory ran out, at these places: those of the next part, and
--- where that is the marker, those of the first block too.
-abbrev pub BreaksAt : (Progress → Place → Type 0) → Progress → Place → Type 0
-BreaksAt breaks p at = breaks p at ⊎ ((p.stand.phase ≡ Opening) × breaks (next p marked) at)
+-- A call that gives the item behind this progress reports an error of the device, and that memory ran out, where a call does that reads the next part, and
+-- where that is the marker, where one does that reads the first block too.
+abbrev pub BreaksAt : (Progress → Place → Why → Type 0) → Progress → Fault → Type 0
+BreaksAt breaks p f = breaks p f.at f.why ⊎ ((p.stand.phase ≡ Opening) × breaks (next p marked) f.at f.why)
 
 -- the item that stands in a track behind a call that read this part
 abbrev pub found : Track → Option Part → Option Item
@@ -111,7 +111,7 @@ held (course.Spent at) t = None
 pub record Goes {C X : Type 0} (g : container.Ghosts C) (old new : Stage C) (view : X → Option Item) (result : Result X Fault) : Type 0 where
   pub gives : (p : Progress) → IsAt old.track p → GivesFirst g p old.container new.container new.track view result
   pub counts : CountsIn g old.track old.container new.container result
-  pub broken : (p : Progress) → IsAt old.track p → IfErr result (λ f. IsOutside f.why → BreaksAt (g.breaks new.container) p f.at)
+  pub broken : (p : Progress) → IsAt old.track p → IfErr result (λ f. IsOutside f.why → BreaksAt (g.breaks new.container) p f)
   -- no growth is refused behind the last block
   pub memory : old.track.phase ≡ Frames → IfErr result (λ f. f.why ≢ Memory)
   pub going : IfOk result (λ x. IfSome (view x) (λ _. (part : Part) × (new.course ≡ course.Read part)))

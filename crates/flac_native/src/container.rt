@@ -21,6 +21,7 @@ use flac_bits::Why;
 /// A [`flac_bits::BitReader`] is the container of a native stream: its bits from `fLaC` on (RFC 9639, section 6).
 /// `OggPackets` of `flac_ogg` is that of an Ogg stream: its packets (section 10.1).
 pub trait Container {
+    ghost use Rattle.flac_bits.specs.declared.why.Why.{Why};
     ghost use Rattle.flac_native.specs.declared.fault.Place.{Place};
     ghost use Rattle.flac_native.specs.declared.track.Track.{Track};
 
@@ -55,8 +56,8 @@ pub trait Container {
     /// Which parts are still to come after this progress, and whether the end or a refusal comes after them.
     ghost gives: { Self → Coming };
 
-    /// At which places a call that reads the part after this progress reports `Read` and `Memory`.
-    ghost breaks: { Self → Progress → Place → Type 0 };
+    /// At which place a call that reads the part after this progress reports `Read`, and at which `Memory`.
+    ghost breaks: { Self → Progress → Place → Why → Type 0 };
 
     /// Reads the next part and keeps it in the track, or returns `None` at the end of the stream.
     ///
@@ -83,7 +84,7 @@ pub trait Container {
         ensures memory { (stand_of track.old).phase ≡ Frames → IfErr result (λ f. f.why ≢ Why.Memory) }
         ensures gives { (p : Progress) → IsAt track.old p → known self.old ≡ true → errors self.new ≡ errors self.old → raised self.new ≡ raised self.old → (reason_of told result ≡ Err Memory → ⊥) →
             (parts : List Piece) (end : Option (Place × Why)) → gives self.old p parts end → IsNext (gives self.new) p (piece_of track.new) result parts end }
-        ensures broken { (p : Progress) → IsAt track.old p → IfErr result (λ f. IsOutside f.why → breaks self.new p f.at) }
+        ensures broken { (p : Progress) → IsAt track.old p → IfErr result (λ f. IsOutside f.why → breaks self.new p f.at f.why) }
         ensures made { IfOk result (λ o. IfSome o (λ part. IsMadeAs part track.old track.new)) }
         ensures next { IfOk result (λ o. IfSome o (λ part. (p : Progress) → IsAt track.old p → IsAt track.new (next p (piece_of track.new part)))) };
 }

@@ -33,7 +33,7 @@ impl<R: Source> Container for BitReader<R> {
 
     ghost gives = { λ r p parts end. PartsCome p (lifted r).cursor parts end };
 
-    ghost breaks = { λ _ p at. at ≡ grammar.place p };
+    ghost breaks = { λ _ p at _. at ≡ grammar.place p };
 
     fn next(&mut self, track: &mut Track) -> Result<Option<Part>, Fault> {
         advance(self, track)

@@ -43,7 +43,7 @@ fn next_item<C: Container>(container: &mut C, track: &mut Track) -> Result<Optio
     ensures memory { track.old.phase ≡ Phase.Frames → IfErr result (λ f. f.why ≢ Why.Memory) }
     ensures made { IfOk result (λ o. IfSome o (λ part. is_made (Course.Read part) track.new ≡ true)) }
     ensures gives { (p : Progress) → IsAt track.old p → GivesFirst C.Container p container.old container.new track.new (λ o. found track.new o) result }
-    ensures broken { (p : Progress) → IsAt track.old p → IfErr result (λ f. IsOutside f.why → BreaksAt (C.breaks container.new) p f.at) }
+    ensures broken { (p : Progress) → IsAt track.old p → IfErr result (λ f. IsOutside f.why → BreaksAt (C.breaks container.new) p f) }
 {
     let outcome = container.next(track);
     if is_marker(&outcome) {

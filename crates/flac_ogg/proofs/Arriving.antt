@@ -22,7 +22,7 @@ use Rattle.flac_pages.specs.Packets.{Place as Stands, Ahead, ahead, at_front}
 use Rattle.flac_pages.specs.Items.{IsAtPacket, GoesBehind}
 use Rattle.flac_ogg.specs.Stream.{start, packet_start, closed_packet, OggStream, OggRefused}
 use Rattle.flac_ogg.specs.Steps.{PacketStep, item, over, refused, packet_step, Goes}
-use Rattle.flac_ogg.specs.Decoding.{IsPageOrBlock, ogg_reading}
+use Rattle.flac_ogg.specs.Decoding.{IsBrokenAt, ogg_reading}
 use Rattle.flac_ogg.specs.Telling.{IsUnderWay, MeetsIn, StepIs}
 use Rattle.flac_ogg.specs.Coming.{final, ItemsCome, Foretells, IsClear}
 use Rattle.flac_ogg.proofs.MeaningContents.{ahead_of, begins_ahead, some_contents, contents_ahead, contents_fault, contents_stop}
@@ -272,14 +272,14 @@ fronts profile mark text items end come = record {
 }
 
 pub hands_ogg : {K : Type 0} (profile : Profile) (n : ℕ) (takes : K → Piece → K → Type 0) (errors : K → ℕ) (mark : Mark) (text : List Bool) (items : List Piece) (end : Option (Place × Why)) (calm : Type 0) (old new : K) (outcome : Option (Place × Why))
-    → ItemsCome (start profile) (ahead_of mark text) items end → HandsFirst takes errors (start profile) items end calm (IsPageOrBlock n) old new outcome → Hands (ogg_reading profile mark text) takes errors calm old new outcome
+    → ItemsCome (start profile) (ahead_of mark text) items end → HandsFirst takes errors (start profile) items end calm (IsBrokenAt n) old new outcome → Hands (ogg_reading profile mark text) takes errors calm old new outcome
 hands_ogg profile n takes errors mark text items end calm old new outcome come h =
-    hands_of (ogg_reading profile mark text) takes errors (start profile) items end calm (IsPageOrBlock n) old new outcome (read_as profile mark text items end come) (fronts profile mark text items end come) (λ xs at b. inl (n, b)) h
+    hands_of (ogg_reading profile mark text) takes errors (start profile) items end calm (IsBrokenAt n) old new outcome (read_as profile mark text items end come) (fronts profile mark text items end come) (λ xs at why b. inl (n, b)) h
 
 pub decides_ogg : {K : Type 0} (profile : Profile) (n : ℕ) (takes : K → Piece → K → Type 0) (errors : K → ℕ) (mark : Mark) (text : List Bool) (calm : Type 0) (old new : K) (outcome : Option (Place × Why))
-    → ((items : List Piece) (end : Option (Place × Why)) → ItemsCome (start profile) (ahead_of mark text) items end → HandsFirst takes errors (start profile) items end calm (IsPageOrBlock n) old new outcome) → calm → errors new ≡ errors old → Decides (ogg_reading profile mark text) outcome
+    → ((items : List Piece) (end : Option (Place × Why)) → ItemsCome (start profile) (ahead_of mark text) items end → HandsFirst takes errors (start profile) items end calm (IsBrokenAt n) old new outcome) → calm → errors new ≡ errors old → Decides (ogg_reading profile mark text) outcome
 decides_ogg profile n takes errors mark text calm old new outcome hands quiet same =
-    decides_of (ogg_reading profile mark text) takes errors (start profile) calm (IsPageOrBlock n) old new outcome (λ items end has. hands items end (comes profile mark text items end has)) quiet same
+    decides_of (ogg_reading profile mark text) takes errors (start profile) calm (IsBrokenAt n) old new outcome (λ items end has. hands items end (comes profile mark text items end has)) quiet same
 
 -- an error that is foretold stands behind the input
 pub foretold_short : (mark : Mark) (text : List Bool) → Foretells (ahead_of mark text) → mark.short ≡ Read

@@ -1,6 +1,5 @@
 -- Where it is told that a call was broken off: by the device, or where memory is wanting.
-use Rattle.std.proofs.Common.{◌≡◌, ◌≢◌, ℕ, Option, Result, Ok, Err, sym, ap, ◌∙◌, inl, inr}
-use Rattle.std.specs.Prelude.{IfErr}
+use Rattle.std.proofs.Common.{◌≡◌, ◌≢◌, ℕ, Option, sym, ap, ◌∙◌, inl, inr}
 use Rattle.flac_bits.specs.Handing.{IsOutside}
 use Rattle.flac_bits.specs.declared.why.Why.{Why}
 use Rattle.flac_bits.specs.declared.why.Why.TheVariants.{PacketLength, Read, Memory, Sink}
@@ -11,30 +10,22 @@ use Rattle.flac_native.specs.declared.phase.Phase.TheVariants.{Frames}
 use Rattle.flac_pages.specs.Packets.{Met}
 use Rattle.flac_pages.specs.Items.{HasItsPage}
 use Rattle.flac_ogg.specs.Mapping.{page_place, item_place, packet_place}
-use Rattle.flac_ogg.specs.Decoding.{IsBrokenAt, IsPageOrBlock}
+use Rattle.flac_ogg.specs.Decoding.{IsBrokenAt}
 
 pub in_page : (n : ℕ) (why : Why) → IsOutside why → page_place n why ≡ place.Page n
 in_page n why (inl e) = ap (page_place n) e
 in_page n why (inr e) = ap (page_place n) e
 
 -- in a packet
-pub in_packet : (n : ℕ) (p : Progress) (told : Option ℕ × Why) (f : Fault) → f.at ≡ packet_place p.stand told → f.why ≡ told.1 → HasItsPage n told → IsBrokenAt n p f
-in_packet n p (page, why) f at is of = (
+pub in_packet : (n : ℕ) (p : Progress) (told : Option ℕ × Why) (f : Fault) → f.at ≡ packet_place p.stand told → f.why ≡ told.1 → HasItsPage n told → (p.stand.phase ≡ Frames → told.1 ≢ Memory) → IsBrokenAt n p f.at f.why
+in_packet n p (page, why) f at is of room = (
   λ e. at ∙ ap (λ (o : Option ℕ). packet_place p.stand (o, why)) (of.0 (sym is ∙ e)) ∙ ap (λ (w : Why). page_place n w) (sym is ∙ e),
-  λ e. at ∙ ap (λ (o : Option ℕ). packet_place p.stand (o, why)) (of.1 (sym is ∙ e)) ∙ ap (λ (w : Why). item_place p.stand w) (sym is ∙ e),
+  λ e. (λ frames. room frames (sym is ∙ e), at ∙ ap (λ (o : Option ℕ). packet_place p.stand (o, why)) (of.1 (sym is ∙ e)) ∙ ap (λ (w : Why). item_place p.stand w) (sym is ∙ e)),
 )
 
 -- between packets
-pub in_next : (n page : ℕ) (p : Progress) (f : Fault) → (IsOutside f.why → f.at ≡ place.Page page) → page ≡ n → f.why ≢ Memory → IsBrokenAt n p f
+pub in_next : (n page : ℕ) (p : Progress) (f : Fault) → (IsOutside f.why → f.at ≡ place.Page page) → page ≡ n → f.why ≢ Memory → IsBrokenAt n p f.at f.why
 in_next n page p f at is room = (λ e. at (inl e) ∙ ap (λ (k : ℕ). place.Page k) is, λ e. absurd (room e))
-
--- no memory is allocated for a frame
-pub page_or_block : {X : Type 0} (n : ℕ) (p : Progress) (result : Result X Fault) → IfErr result (λ f. IsBrokenAt n p f) → (p.stand.phase ≡ Frames → IfErr result (λ f. f.why ≢ Memory)) → IfErr result (λ f. IsOutside f.why → IsPageOrBlock n p f.at)
-page_or_block n p (Ok x) broken memory = tt
-page_or_block n p (Err f) broken memory = λ out. elim out [
-  | inl e ↦ inl (broken.0 e)
-  | inr e ↦ inr (λ frames. memory frames e, broken.1 e)
-]
 
 -- a block that is due is no such reason
 pub none_due : (why : Why) → why ≡ PacketLength → IsOutside why → ⊥

@@ -99,7 +99,7 @@ pub(crate) fn advance<R: Source>(
     ensures meets { MeetsIn pages.old.raised pages.new.raised result }
     ensures steps { (p : Progress) → IsAt track.old p → IsUnderWay p.stand → pages.old.known ≡ true → pages.new.errors ≡ pages.old.errors →
         StepIs (λ part. piece_of track.new part) (packet_step p (ahead pages.old)) (ahead pages.new) result }
-    ensures broken { (p : Progress) → IsAt track.old p → IfErr result (λ f. IsBrokenAt pages.new.count p f) }
+    ensures broken { (p : Progress) → IsAt track.old p → IfErr result (λ f. IsBrokenAt pages.new.count p f.at f.why) }
     ensures stands { IfOk result (λ o. IfSome o (λ _. (pages.new.rest ≡ 0) × (pages.new.more ≡ false))) }
     ensures spends { IfOk result (λ o. IfSome o (λ _. pages.new.most + length pages.new.body < pages.old.most + length pages.old.body)) }
     ensures goes { IfOk result (λ _. (pages.old.known ≡ true → pages.new.known ≡ true) × (pages.new.errors ≡ pages.old.errors)) }

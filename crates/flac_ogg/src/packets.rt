@@ -4,7 +4,7 @@ ghost use Rattle.std.specs.Prelude.{◌≡◌, ◌+◌, ◌&&◌, not, nat_eq, l
 ghost use Rattle.flac_bits.specs.State.{the_end};
 ghost use Rattle.flac_pages.specs.Packets.{ahead};
 ghost use Rattle.flac_ogg.specs.Coming.{ItemsCome, IsClear};
-ghost use Rattle.flac_ogg.specs.Decoding.{IsPageOrBlock};
+ghost use Rattle.flac_ogg.specs.Decoding.{IsBrokenAt};
 
 use crate::advance::advance;
 use flac_bits::Source;
@@ -70,7 +70,7 @@ impl<R: Source> Container for OggPackets<R> {
 
     ghost gives = { λ c p items end. ItemsCome p (ahead c.pages) items end };
 
-    ghost breaks = { λ c p at. IsPageOrBlock c.pages.count p at };
+    ghost breaks = { λ c p at why. IsBrokenAt c.pages.count p at why };
 
     fn next(&mut self, track: &mut Track) -> Result<Option<Part>, Fault> {
         advance(&mut self.pages, track)

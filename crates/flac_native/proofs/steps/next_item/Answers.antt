@@ -39,11 +39,11 @@ returns-then-is_marker-clause-gives g c = λ p at known same quiet room items en
 pub returns-clause-broken : goal.returns-clause-broken
 returns-clause-broken g c = λ p at.
     let breaks = g.C.Container.breaks c.next-outcome.new.self in
-    IfErr-weaker c.next-outcome.result (λ f. IsOutside f.why → breaks p f.at) (λ f. IsOutside f.why → BreaksAt breaks p f.at) (λ f told out. inl (told out)) (c.next-outcome.ensures.broken p at)
+    IfErr-weaker c.next-outcome.result (λ f. IsOutside f.why → breaks p f.at f.why) (λ f. IsOutside f.why → BreaksAt breaks p f) (λ f told out. inl (told out)) (c.next-outcome.ensures.broken p at)
 
 pub returns-then-is_marker-clause-broken : goal.returns-then-is_marker-clause-broken
 returns-then-is_marker-clause-broken g c = λ p at.
     let first = rw (c.is_marker.ensures.is c.if-is_marker.true) at c.next-outcome.ensures in
     let opens : p.stand.phase ≡ Opening = ap (λ (s : Stand). s.phase) (sym at.stand) ∙ first.made.0 in
     let breaks = g.C.Container.breaks c.next.new.self in
-    IfErr-weaker c.next.result (λ f. IsOutside f.why → breaks (next p marked) f.at) (λ f. IsOutside f.why → BreaksAt breaks p f.at) (λ f told out. inr (opens, told out)) (c.next.ensures.broken (next p marked) (first.next p at))
+    IfErr-weaker c.next.result (λ f. IsOutside f.why → breaks (next p marked) f.at f.why) (λ f. IsOutside f.why → BreaksAt breaks p f) (λ f told out. inr (opens, told out)) (c.next.ensures.broken (next p marked) (first.next p at))

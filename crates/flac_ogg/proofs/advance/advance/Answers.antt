@@ -39,7 +39,7 @@ returns-in-Err-clause-steps g c = λ p at way known same room.
 
 pub returns-in-Err-read_packet-clause-broken : goal.returns-in-Err-read_packet-clause-broken
 returns-in-Err-read_packet-clause-broken g c = λ p at.
-    in_packet c.read_packet.new.pages.count p c.in-Err-read_packet.told c.packet_fault.result (c.packet_fault.ensures.place p.stand (c.place-at.ensures ∙ ap (λ (s : Stand). place_in s.phase s.index) at.stand)) c.packet_fault.ensures.why c.in-Err-read_packet.ensures.page
+    in_packet c.read_packet.new.pages.count p c.in-Err-read_packet.told c.packet_fault.result (c.packet_fault.ensures.place p.stand (c.place-at.ensures ∙ ap (λ (s : Stand). place_in s.phase s.index) at.stand)) c.packet_fault.ensures.why c.in-Err-read_packet.ensures.page (λ frames. c.in-Err-read_packet.ensures.memory (ap (λ (s : Stand). s.phase) at.stand ∙ frames))
 
 pub returns-in-Err-end_here-clause-broken : goal.returns-in-Err-end_here-clause-broken
 returns-in-Err-end_here-clause-broken g c = λ p at. (λ e. absurd (c.in-Err-end_here.ensures.quiet e), λ e. absurd (c.in-Err-end_here.ensures.memory e))

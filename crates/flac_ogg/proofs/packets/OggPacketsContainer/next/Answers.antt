@@ -1,8 +1,8 @@
-use Rattle.std.proofs.Common.{ap, ◌∙◌}
-use Rattle.flac_native.specs.Stream.{Stand}
+use Rattle.std.proofs.lemmas.Result.{IfErr-weaker}
+use Rattle.flac_bits.specs.Handing.{IsOutside}
 use Rattle.flac_native.specs.Track.{piece_of}
+use Rattle.flac_ogg.specs.Decoding.{IsBrokenAt}
 use Rattle.flac_ogg.proofs.Arriving.{counts_both, read_risen, none_of_sink, clear_behind, read_rises, gives_there}
-use Rattle.flac_ogg.proofs.Breaking.{page_or_block}
 use Rattle.flac_ogg.proofs.packets.OggPacketsContainer.next.Goals as goal
 
 pub returns-clause-counts : goal.returns-clause-counts
@@ -28,4 +28,4 @@ returns-clause-sinkless g c = none_of_sink c.args.self.now.pages.raised c.advanc
 
 pub returns-clause-broken : goal.returns-clause-broken
 returns-clause-broken g c = λ p at.
-    page_or_block c.advance.new.pages.count p c.advance.result (c.advance.ensures.broken p at) (λ frames. c.advance.ensures.memory (ap (λ (s : Stand). s.phase) at.stand ∙ frames))
+    IfErr-weaker c.advance.result (λ f. IsBrokenAt c.advance.new.pages.count p f.at f.why) (λ f. IsOutside f.why → IsBrokenAt c.advance.new.pages.count p f.at f.why) (λ f told out. told) (c.advance.ensures.broken p at)
