@@ -239,3 +239,10 @@ fn a_target_that_fails_once(rt: HostRuntime) {
     assert!(rt; target.calls() == 3);
     assert!(rt; target.into_inner().bytes() == b"abef".as_slice());
 }
+
+/// Only an error of writing is one of memory.
+#[test]
+fn errors_in_memory(rt: HostRuntime) {
+    assert!(rt; Why::Write.in_memory() == Why::Memory);
+    assert!(rt; Why::Spent.in_memory() == Why::Spent);
+}

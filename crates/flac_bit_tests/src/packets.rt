@@ -157,8 +157,7 @@ fn reads_packets(rt: HostRuntime) -> Result<(), Fail> {
 fn written(alloc: Global, marks: PacketMarks, packet: &[u8]) -> Result<(u32, Vec<u8>), Why> {
     let mut writer = BitWriter::new(Collected::new(alloc));
     let next = write_packet(marks, packet, &mut writer)?;
-    writer.finish()?;
-    Ok((next, writer.into_target().into_bytes()))
+    Ok((next, writer.into_bytes()?))
 }
 
 /// Appends the pages of a packet, and returns the number of the page after them.

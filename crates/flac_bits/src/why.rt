@@ -1,7 +1,7 @@
 //! The reason of an error.
 
-ghost use Rattle.std.specs.Prelude.{◌≡◌, Some};
-ghost use Rattle.flac_bits.specs.declared.why.Why.TheVariants.{Memory};
+ghost use Rattle.std.specs.Prelude.{◌≡◌, ◌≢◌, Some};
+ghost use Rattle.flac_bits.specs.declared.why.Why.TheVariants.{Memory, Read, Write};
 ghost use Rattle.flac_bits.specs.Reasons.{number_of, text_of};
 
 use std::alloc::{AllocError, AllocFailed};
@@ -103,6 +103,19 @@ impl Why {
         ensures { result ≡ number_of self }
     {
         self as u8 + 1
+    }
+
+    /// The same reason for a target in memory, such as [`crate::Collected`]: its only error is a failed allocation, so
+    /// `Write` becomes `Memory`.
+    pub fn in_memory(self) -> Why
+        ensures target { self ≡ Write → result ≡ Memory }
+        ensures others { self ≢ Write → result ≡ self }
+        ensures unread { self ≢ Read → result ≢ Read }
+    {
+        match self {
+            Why::Write => Why::Memory,
+            other => other,
+        }
     }
 
     /// The number and the name of the reason, as `26 FrameCheck`.

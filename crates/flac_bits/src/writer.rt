@@ -8,7 +8,7 @@ ghost use Rattle.flac_bits.specs.Standing.{standing};
 ghost use Rattle.flac_bits.specs.Written.{Written, Writes, Starts};
 ghost use Rattle.flac_bits.specs.declared.why.Why.TheVariants.{Truncated};
 
-use crate::target::Target;
+use crate::target::{Collected, Target};
 use crate::unsent::Unsent;
 use crate::why::Why;
 use std::marker::Model;
@@ -96,8 +96,7 @@ impl<W: Target> BitWriter<W> {
     /// let mut writer = BitWriter::new(Collected::new(rt.alloc()));
     /// writer.put(4, 10)?;
     /// writer.put_signed(4, -3)?;
-    /// writer.finish()?;
-    /// let bytes = writer.into_target().into_bytes(); // [0xAD]
+    /// let bytes = writer.into_bytes()?; // [0xAD]
     /// ```
     pub fn new(target: W) -> BitWriter<W>
         ensures { result ≡ record {
@@ -264,5 +263,31 @@ impl<W: Target> BitWriter<W> {
     {
         let BitWriter { target, held: _ } = self;
         target
+    }
+}
+
+impl BitWriter<Collected> {
+    /// Ends the writing into memory, and returns the bytes that were written. The bits must be a whole number of bytes.
+    ///
+    /// ```
+    /// let mut writer = BitWriter::new(Collected::new(rt.alloc()));
+    /// writer.put(32, 0x664C6143)?;
+    /// let bytes = writer.into_bytes()?; // b"fLaC"
+    /// ```
+    ///
+    /// # Errors
+    /// [`Why::Memory`] if an allocation failed.
+    pub fn into_bytes(self) -> Result<Vec<u8>, Why>
+        ensures bytes { IfOk result (λ bytes. self.known ≡ true → self.mark.unread ≡ 0 → bits_of bytes.items ≡ self.bits) }
+        ensures memory { IfErr result (λ e. e ≡ Why.Memory) }
+    {
+        let mut writer = self;
+        match writer.finish() {
+            Ok(()) => {
+                let target = writer.into_target();
+                Ok(target.into_bytes())
+            }
+            Err(why) => Err(why.in_memory()),
+        }
     }
 }

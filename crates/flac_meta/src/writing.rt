@@ -76,8 +76,7 @@ fn put_comments_block<W: Target>(
 /// ```
 /// let mut writer = BitWriter::new(Collected::new(rt.alloc()));
 /// write_block(&Block::Padding(2), true, &mut writer)?;
-/// writer.finish()?;
-/// let bytes = writer.into_target().into_bytes(); // 81 00 00 02 00 00
+/// let bytes = writer.into_bytes()?; // 81 00 00 02 00 00
 /// ```
 ///
 /// # Errors

@@ -12,7 +12,6 @@ ghost use Rattle.flac_native.specs.Given.{predictors_fault};
 ghost use Rattle.flac_native.specs.Pushing.{block_fault, frame_with, shape_of, sound_of};
 ghost use Rattle.flac_native.specs.Writing.{SpellsFrame, SpellsLeast};
 
-use crate::memory::{collect, in_memory};
 use crate::stream_format::StreamFormat;
 use flac_bits::{BitWriter, Collected, Why};
 use flac_frame::{Audio, EncodeBuffers, SetupFault, encode_frame_with};
@@ -120,8 +119,8 @@ fn frame_bytes(
     let end = audio.len();
     let mut writer = BitWriter::new(Collected::new(alloc));
     match encode_frame_with(audio, 0..end, number, predictors, buffers, &mut writer) {
-        Ok(_) => collect(writer),
-        Err(why) => Err(in_memory(why)),
+        Ok(_) => writer.into_bytes(),
+        Err(why) => Err(why.in_memory()),
     }
 }
 

@@ -37,7 +37,6 @@ mod item;
 mod kept;
 mod laws;
 mod lent;
-mod memory;
 mod message;
 mod native;
 mod part;

@@ -6,7 +6,6 @@ ghost use Rattle.flac_bits.specs.Written.{Adds, Fails};
 ghost use Rattle.flac_native.specs.Retag.{MayBeHead, new_head};
 
 use crate::in_order::write_each;
-use crate::memory::{collect, in_memory};
 use flac_bits::{BitWriter, Collected, Target, Why};
 use flac_meta::{Block, Comments, write_block, write_comments};
 use std::alloc::Global;
@@ -39,7 +38,7 @@ pub(crate) fn renewed(alloc: Global, kept: &[Block], comments: &Comments) -> Res
 {
     let mut writer = BitWriter::new(Collected::new(alloc));
     match write_renewed(kept, comments, &mut writer) {
-        Ok(()) => collect(writer),
-        Err(why) => Err(in_memory(why)),
+        Ok(()) => writer.into_bytes(),
+        Err(why) => Err(why.in_memory()),
     }
 }

@@ -15,7 +15,6 @@ ghost use Rattle.flac_ogg.specs.Native.{mapping_spelling, packet_spellings};
 ghost use Rattle.flac_ogg.specs.Writing.{begins_with_comment, may_be_ogg, header_count, EncodesOgg, BeginsOgg};
 
 use crate::headers::Headers;
-use crate::memory::{collect, in_memory};
 use crate::sending::{page_room, send_stream};
 use flac_bits::{BitWriter, Collected, Target, Why};
 use flac_frame::{Audio, EncodeBuffers};
@@ -79,8 +78,8 @@ fn first_packet(alloc: Global, info: StreamInfo, blocks: usize) -> Result<Vec<u8
 {
     let mut writer = BitWriter::new(Collected::new(alloc));
     match write_first(info, blocks, &mut writer) {
-        Ok(()) => collect(writer),
-        Err(why) => Err(in_memory(why)),
+        Ok(()) => writer.into_bytes(),
+        Err(why) => Err(why.in_memory()),
     }
 }
 
@@ -92,8 +91,8 @@ pub(crate) fn block_packet(alloc: Global, block: &Block, last: bool) -> Result<V
 {
     let mut writer = BitWriter::new(Collected::new(alloc));
     match write_block(block, last, &mut writer) {
-        Ok(()) => collect(writer),
-        Err(why) => Err(in_memory(why)),
+        Ok(()) => writer.into_bytes(),
+        Err(why) => Err(why.in_memory()),
     }
 }
 

@@ -12,7 +12,6 @@ ghost use Rattle.flac_ogg.specs.Writing.{header_count};
 
 use crate::encoding::{block_packet, header_count};
 use crate::held_packet::HeldPacket;
-use crate::memory::{collect, in_memory};
 use crate::packet_bytes::bytes_fit;
 use flac_bits::{BitWriter, Collected, Target, Why};
 use flac_meta::BlockList;
@@ -104,8 +103,8 @@ fn mapped(alloc: Global, blocks: usize, head: &[u8]) -> Result<Vec<u8>, Why>
 {
     let mut writer = BitWriter::new(Collected::new(alloc));
     match write_mapped(header_count(blocks), head, &mut writer) {
-        Ok(()) => collect(writer),
-        Err(why) => Err(in_memory(why)),
+        Ok(()) => writer.into_bytes(),
+        Err(why) => Err(why.in_memory()),
     }
 }
 

@@ -5,7 +5,6 @@ ghost use Rattle.flac_bits.specs.Bits.{bits_of};
 ghost use Rattle.flac_pages.specs.Placed.{sequence_behind};
 ghost use Rattle.flac_pages.specs.Written.{packet_spelling};
 
-use crate::memory::{collect, in_memory};
 use flac_bits::{BitWriter, Collected, Why};
 use flac_pages::{PacketMarks, write_packet};
 use std::alloc::Global;
@@ -26,10 +25,10 @@ fn packet_pages(alloc: Global, marks: PacketMarks, packet: &[u8]) -> Result<Pack
     let mut writer = BitWriter::new(Collected::new(alloc));
     match write_packet(marks, packet, &mut writer) {
         Ok(next) => {
-            let bytes = collect(writer)?;
+            let bytes = writer.into_bytes()?;
             Ok(PacketPages { bytes, next })
         }
-        Err(why) => Err(in_memory(why)),
+        Err(why) => Err(why.in_memory()),
     }
 }
 

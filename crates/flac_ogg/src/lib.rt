@@ -28,7 +28,6 @@ mod items;
 mod judge;
 mod laws;
 mod mapping;
-mod memory;
 mod ogg_encoder;
 mod packet_bytes;
 mod packets;

@@ -10,7 +10,6 @@ ghost use Rattle.flac_native.specs.Given.{predictors_fault};
 ghost use Rattle.flac_native.specs.Pushing.{frame_with, shape_of, sound_of};
 ghost use Rattle.flac_native.specs.Writing.{SpellsFrame, SpellsLeast};
 
-use crate::memory::{collect, in_memory};
 use flac_bits::{BitWriter, Collected, Why};
 use flac_frame::{Audio, EncodeBuffers, encode_frame_with};
 use flac_native::{LinearPredictor, StreamFormat};
@@ -61,8 +60,8 @@ fn whole_packet(
     let end = audio.len();
     let mut writer = BitWriter::new(Collected::new(alloc));
     match encode_frame_with(audio, 0..end, number, predictors, buffers, &mut writer) {
-        Ok(_) => collect(writer),
-        Err(why) => Err(in_memory(why)),
+        Ok(_) => writer.into_bytes(),
+        Err(why) => Err(why.in_memory()),
     }
 }
 

@@ -15,7 +15,7 @@ returns-in-Ok-clause-head c =
       bits = ap (λ (v : Written). v.bits) c.new-writer.ensures ∙ ap bits_of c.new.ensures.sent;
       unread = ap (λ (v : Written). v.mark.unread) c.new-writer.ensures;
     } in
-    head_collected c.new-writer.result _ (new_head comments kept) c.collect.result blank (new_head_whole comments kept).bytes c.in-Ok.ensures.added c.collect.ensures.bytes
+    head_collected c.new-writer.result _ (new_head comments kept) c.into_bytes.result blank (new_head_whole comments kept).bytes c.in-Ok.ensures.added c.into_bytes.ensures.bytes
 
 pub returns-in-Err-clause-memory : goal.returns-in-Err-clause-memory
 returns-in-Err-clause-memory c = λ may. c.in_memory.ensures.target (c.in-Err.ensures.failed may).reason

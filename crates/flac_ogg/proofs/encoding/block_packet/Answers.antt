@@ -15,7 +15,7 @@ returns-in-Ok-clause-packet c =
       bits = ap (λ (v : Written). v.bits) c.new-writer.ensures ∙ ap bits_of c.new.ensures.sent;
       unread = ap (λ (v : Written). v.mark.unread) c.new-writer.ensures;
     } in
-    head_collected writer _ text c.collect.result blank (block_whole c.args.last c.args.block.now).bytes (c.in-Ok.ensures.writes c.requires) c.collect.ensures.bytes
+    head_collected writer _ text c.into_bytes.result blank (block_whole c.args.last c.args.block.now).bytes (c.in-Ok.ensures.writes c.requires) c.into_bytes.ensures.bytes
 
 pub returns-in-Err-clause-memory : goal.returns-in-Err-clause-memory
 returns-in-Err-clause-memory c = let fails = c.in-Err.ensures.writes c.requires in c.in_memory.ensures.target fails.reason

@@ -21,7 +21,7 @@ returns-in-Ok-clause-packet c =
       unread = ap (λ (v : Written). v.mark.unread) c.new-writer.ensures;
     } in
     let whole = whole_append mapping block (mapping_whole (header_count c.args.blocks)) (block_whole (nat_eq c.args.blocks 0) (block_of.StreamInfo c.args.info)) in
-    head_collected writer _ (mapping ++ block) c.collect.result blank whole.bytes c.in-Ok.ensures c.collect.ensures.bytes
+    head_collected writer _ (mapping ++ block) c.into_bytes.result blank whole.bytes c.in-Ok.ensures c.into_bytes.ensures.bytes
 
 pub returns-in-Err-clause-memory : goal.returns-in-Err-clause-memory
 returns-in-Err-clause-memory c = c.in_memory.ensures.target c.in-Err.ensures.reason

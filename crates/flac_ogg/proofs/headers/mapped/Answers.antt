@@ -16,7 +16,7 @@ returns-in-Ok-clause-packet c =
       bits = ap (λ (v : Written). v.bits) c.new-writer.ensures ∙ ap bits_of c.new.ensures.sent;
       unread = ap (λ (v : Written). v.mark.unread) c.new-writer.ensures;
     } in
-    rw (← c.header_count.ensures.value) (head_collected writer _ (joined (unsigned 40 0x7F464C4143 ∷ unsigned 16 0x0100 ∷ unsigned 16 c.header_count.result ∷ bits_of c.args.head.now ∷ [])) c.collect.result blank (mapped_whole c.header_count.result c.args.head.now) c.in-Ok.ensures c.collect.ensures.bytes)
+    rw (← c.header_count.ensures.value) (head_collected writer _ (joined (unsigned 40 0x7F464C4143 ∷ unsigned 16 0x0100 ∷ unsigned 16 c.header_count.result ∷ bits_of c.args.head.now ∷ [])) c.into_bytes.result blank (mapped_whole c.header_count.result c.args.head.now) c.in-Ok.ensures c.into_bytes.ensures.bytes)
 
 pub returns-in-Err-clause-memory : goal.returns-in-Err-clause-memory
 returns-in-Err-clause-memory c = c.in_memory.ensures.target c.in-Err.ensures.reason

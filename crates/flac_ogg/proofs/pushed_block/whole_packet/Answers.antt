@@ -20,8 +20,8 @@ returns-in-Ok-clause-frame c =
       unread = ap (λ (v : Written). v.mark.unread) c.new-writer.ensures;
     } in
     let begun : Blank (restarted writer) = record { known = blank.known; bits = blank.bits; unread = fresh_unread writer.mark blank.unread } in
-    let is = head_collected (restarted writer) _ text c.collect.result begun (frames_bytes c.args.audio.now.bits wrote.0) wrote.3 c.collect.ensures.bytes in
-    frame_made c.args.predictors.now c.args.audio.now (c.len-end.result - 0) c.args.number wrote.0 c.channels-channels.ensures.sound (omega (arith, c.len-end.ensures)) c.collect.result wrote.1 wrote.2.1 is
+    let is = head_collected (restarted writer) _ text c.into_bytes.result begun (frames_bytes c.args.audio.now.bits wrote.0) wrote.3 c.into_bytes.ensures.bytes in
+    frame_made c.args.predictors.now c.args.audio.now (c.len-end.result - 0) c.args.number wrote.0 c.channels-channels.ensures.sound (omega (arith, c.len-end.ensures)) c.into_bytes.result wrote.1 wrote.2.1 is
 
 pub returns-in-Ok-clause-least : goal.returns-in-Ok-clause-least
 returns-in-Ok-clause-least c =
@@ -34,8 +34,8 @@ returns-in-Ok-clause-least c =
       unread = ap (λ (v : Written). v.mark.unread) c.new-writer.ensures;
     } in
     let begun : Blank (restarted writer) = record { known = blank.known; bits = blank.bits; unread = fresh_unread writer.mark blank.unread } in
-    let is = head_collected (restarted writer) _ text c.collect.result begun (frames_bytes c.args.audio.now.bits wrote.0) wrote.3 c.collect.ensures.bytes in
-    least_made c.args.predictors.now c.args.audio.now (c.len-end.result - 0) c.args.number wrote.0 c.channels-channels.ensures.sound (omega (arith, c.len-end.ensures)) c.collect.result wrote.2.0 is
+    let is = head_collected (restarted writer) _ text c.into_bytes.result begun (frames_bytes c.args.audio.now.bits wrote.0) wrote.3 c.into_bytes.ensures.bytes in
+    least_made c.args.predictors.now c.args.audio.now (c.len-end.result - 0) c.args.number wrote.0 c.channels-channels.ensures.sound (omega (arith, c.len-end.ensures)) c.into_bytes.result wrote.2.0 is
 
 pub returns-in-Err-clause-memory : goal.returns-in-Err-clause-memory
 returns-in-Err-clause-memory c = let wrote = c.in-Err.ensures.wrote in c.in_memory.ensures.target wrote.3.reason
