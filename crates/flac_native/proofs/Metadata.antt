@@ -10,7 +10,8 @@ use Rattle.flac_meta.specs.Info.{Info}
 use Rattle.flac_meta.specs.declared.block.Block.{Block}
 use Rattle.flac_frame.specs.Frame.{Frame}
 use Rattle.flac_native.specs.Stream.{framed, Progress, Stand, grammar, layout, layout_in, may_end_in, place_in}
-use Rattle.flac_native.specs.Retag.{is_behind_blocks, is_before_frames}
+use Rattle.flac_native.specs.Track.{is_behind_blocks}
+use Rattle.flac_native.specs.Retag.{is_before_frames}
 use Rattle.flac_native.specs.declared.fault.Place.{Place}
 use Rattle.flac_native.specs.declared.phase.Phase.{Phase}
 use Rattle.flac_native.specs.declared.phase.Phase.TheVariants.{Opening, Blocks, Frames}

@@ -20,8 +20,6 @@ use Rattle.flac_native.specs.InOrder.{MayBeWritten}
 use Rattle.flac_native.specs.Writing.{blocks_spelling, head_spelling}
 use Rattle.flac_native.specs.declared.fault.Place.{Place}
 use Rattle.flac_native.specs.declared.fault.Place.TheVariants as place
-use Rattle.flac_native.specs.declared.phase.Phase.{Phase}
-use Rattle.flac_native.specs.declared.phase.Phase.TheVariants.{Opening, Blocks, Frames}
 use Rattle.flac_native.specs.declared.retag_fault.RetagFault.{RetagFault}
 
 -- ---- blocks
@@ -106,12 +104,6 @@ pub record BeginsRetagging (m : Mark) (text : List Bool) (comments : Comments) (
   pub retags : Retags m text comments before (before ++ (front ++ left))
 
 -- ---- what is kept of the input
-
--- no further block comes
-abbrev pub is_behind_blocks : Phase → Bool
-is_behind_blocks Opening = false
-is_behind_blocks Blocks = false
-is_behind_blocks Frames = true
 
 -- the blocks that are kept, with those of one more part, which is no frame
 abbrev pub keeps : List Block → Piece → List Block → Type 0

@@ -12,6 +12,7 @@ use Rattle.flac_native.specs.declared.course.Course.{Course}
 use Rattle.flac_native.specs.declared.course.Course.TheVariants as course
 use Rattle.flac_native.specs.declared.part.Part.{Part}
 use Rattle.flac_native.specs.declared.part.Part.TheVariants as part
+use Rattle.flac_native.specs.declared.phase.Phase.{Phase}
 use Rattle.flac_native.specs.declared.phase.Phase.TheVariants as phase
 use Rattle.md5.specs.Md5.{Holds}
 
@@ -31,6 +32,12 @@ profile_in profile (Some f) = f.profile
 -- which part comes next
 abbrev pub stand_of : Track → Stand
 stand_of t = record { profile = profile_in t.profile t.format; phase = t.phase; index = t.index; seen = t.seen; info = info_in t.format; before = before_in t.format }
+
+-- the last metadata block was read, so that only frames are still to come
+abbrev pub is_behind_blocks : Phase → Bool
+is_behind_blocks phase.Opening = false
+is_behind_blocks phase.Blocks = false
+is_behind_blocks phase.Frames = true
 
 abbrev pub no_frame : Frame
 no_frame = record { number = 0; variable = false; size = 0; channels = [] }

@@ -6,14 +6,13 @@ ghost use Rattle.flac_bits.specs.Reading.{Counts};
 ghost use Rattle.flac_bits.specs.Items.{step_at, item, refused};
 ghost use Rattle.flac_bits.specs.Handing.{IsCalm, reason_of};
 ghost use Rattle.flac_native.specs.Stream.{Piece, Progress, grammar, opening, next, block as block_piece};
-ghost use Rattle.flac_native.specs.Track.{IsAt, block_in};
+ghost use Rattle.flac_native.specs.Track.{IsAt, block_in, is_behind_blocks};
 ghost use Rattle.flac_native.specs.Item.{told};
-ghost use Rattle.flac_native.specs.Retag.{keeps, is_behind_blocks, is_before_frames, AreKept, IsRefused};
+ghost use Rattle.flac_native.specs.Retag.{keeps, is_before_frames, AreKept, IsRefused};
 
 use crate::advance::advance;
 use crate::fault::Fault;
 use crate::part::Part;
-use crate::phase::Phase;
 use crate::track::Track;
 use flac_bits::{BitReader, Source, Why};
 use flac_header::Profile;
@@ -69,17 +68,6 @@ fn keep_next<R: Source>(
     }
 }
 
-/// Whether the last block was read.
-fn is_behind(track: &Track) -> bool
-    ensures { result ≡ is_behind_blocks track.now.phase }
-{
-    match track.phase {
-        Phase::Opening => false,
-        Phase::Blocks => false,
-        Phase::Frames => true,
-    }
-}
-
 /// Reads the marker and all blocks, and keeps those that are no comment blocks, in their order.
 fn keep_all<R: Source>(
     reader: &mut BitReader<R>,
@@ -96,7 +84,7 @@ fn keep_all<R: Source>(
         → IsRefused (lifted reader.old).cursor.mark (lifted reader.old).cursor.left f.at f.why) }
     ensures at { IfErr result (λ f. reader.old.known ≡ true → is_before_frames f.at ≡ true) }
 {
-    while !is_behind(track) {
+    while !track.is_past_metadata() {
         keep_next(reader, track, kept)?;
     }
     reader.lift();

@@ -9,9 +9,8 @@ ghost use Rattle.flac_bits.specs.Fencing.{lifted};
 ghost use Rattle.flac_bits.specs.Handing.{IsOutside};
 ghost use Rattle.flac_native.specs.contracts.decoder.Decoder.{the_row};
 ghost use Rattle.flac_native.specs.Stream.{Progress, opening};
-ghost use Rattle.flac_native.specs.Track.{IsAt, is_made, is_going, stand_of};
+ghost use Rattle.flac_native.specs.Track.{IsAt, is_made, is_going, stand_of, is_behind_blocks};
 ghost use Rattle.flac_native.specs.Decoding.{beginning};
-ghost use Rattle.flac_native.specs.Retag.{is_behind_blocks};
 ghost use Rattle.flac_native.specs.Giving.{GivesFirst, BreaksAt, CountsIn, found, held, shown_of, Goes, Moves, stage_of};
 
 use crate::container::Container;
@@ -181,11 +180,7 @@ impl<C: Container> Decoder<C> {
     pub fn is_past_metadata(&self) -> bool
         ensures { result ≡ is_behind_blocks (stand_of (stage_of self.now).track).phase }
     {
-        match self.track.phase {
-            Phase::Opening => false,
-            Phase::Blocks => false,
-            Phase::Frames => true,
-        }
+        self.track.is_past_metadata()
     }
 
     /// Returns the container, which goes on after the item that was read last. After an error it must not be read

@@ -10,7 +10,7 @@ ghost use Rattle.flac_meta.specs.Block.{block as block_layout};
 ghost use Rattle.flac_native.specs.Resuming.{at_frames};
 ghost use Rattle.flac_frame.specs.Lent.{frame_of};
 ghost use Rattle.flac_native.specs.Stream.{Progress, marked, block as block_piece, framed, phase_behind, raised, info_after, before_behind, frame_behind, place_in, next, opening, layout_in};
-ghost use Rattle.flac_native.specs.Track.{IsAt, stand_of, profile_in, info_in, before_in, shown, kept};
+ghost use Rattle.flac_native.specs.Track.{IsAt, stand_of, is_behind_blocks, profile_in, info_in, before_in, shown, kept};
 ghost use Rattle.flac_native.specs.declared.phase.Phase.TheVariants.{Blocks};
 ghost use Rattle.flac_native.specs.contracts.track.Track.{the_row};
 
@@ -228,6 +228,18 @@ impl Track {
     {
         self.next_frame(bits)?;
         Ok(self.view())
+    }
+
+    /// Whether the last metadata block was read, so that only frames and the end are still to come (RFC 9639, section
+    /// 8.1).
+    pub fn is_past_metadata(&self) -> bool
+        ensures { result ≡ is_behind_blocks (stand_of self.now).phase }
+    {
+        match self.phase {
+            Phase::Opening => false,
+            Phase::Blocks => false,
+            Phase::Frames => true,
+        }
     }
 
     /// The place of the next part: the marker, a block or a frame. Blocks and frames are counted from 0, up to 2^64 -

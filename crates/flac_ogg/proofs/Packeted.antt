@@ -10,7 +10,8 @@ use Rattle.flac_native.specs.Within.{ReadsWithin, ReadsWithinInRoom}
 use Rattle.flac_native.specs.declared.phase.Phase.{Phase}
 use Rattle.flac_native.specs.declared.phase.Phase.TheVariants.{Opening, Blocks, Frames}
 use Rattle.flac_ogg.specs.Mapping.{mapping, is_first_block, packet_layout}
-use Rattle.flac_ogg.specs.Telling.{is_behind_blocks, block_packet, first_packet}
+use Rattle.flac_native.specs.Track.{is_behind_blocks}
+use Rattle.flac_ogg.specs.Telling.{block_packet, first_packet}
 
 -- the layout, by what comes next
 abbrev layout_by : Bool → Phase → Stand → Layout Piece

@@ -10,7 +10,7 @@ use Rattle.flac_bits.specs.declared.why.Why.{Why}
 use Rattle.flac_bits.specs.declared.why.Why.TheVariants.{PacketLength, Memory}
 use Rattle.flac_meta.specs.Info.{Info}
 use Rattle.flac_native.specs.Stream.{Piece, Stand, Progress, grammar, room_in, place_in, end_rules, may_end_in}
-use Rattle.flac_native.specs.Track.{IsAt, stand_of}
+use Rattle.flac_native.specs.Track.{IsAt, stand_of, is_behind_blocks}
 use Rattle.flac_native.specs.declared.fault.Fault.{Fault}
 use Rattle.flac_native.specs.declared.fault.Place.{Place}
 use Rattle.flac_native.specs.declared.fault.Place.TheVariants as place
@@ -26,7 +26,7 @@ use Rattle.flac_pages.proofs.ItemMeaning.{item_again, refused_again}
 use Rattle.flac_ogg.specs.Mapping.{packet_layout, packet_place, page_place}
 use Rattle.flac_ogg.specs.Stream.{packet_start, last_fault}
 use Rattle.flac_ogg.specs.Steps.{PacketStep, item, over, refused, ahead_behind, told, judged, without_packet, step_in, packet_step}
-use Rattle.flac_ogg.specs.Telling.{is_behind_blocks, IsUnderWay}
+use Rattle.flac_ogg.specs.Telling.{IsUnderWay}
 
 -- ---- a call's answer and what it was made of
 

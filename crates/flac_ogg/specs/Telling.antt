@@ -5,19 +5,12 @@ use Rattle.flac_bits.specs.Layout.{Layout, ◌>>=◌}
 use Rattle.flac_bits.specs.declared.why.Why.TheVariants.{Memory}
 use Rattle.flac_native.specs.Stream.{Piece, Stand, layout_in}
 use Rattle.flac_native.specs.declared.fault.Fault.{Fault}
-use Rattle.flac_native.specs.declared.phase.Phase.{Phase}
-use Rattle.flac_native.specs.declared.phase.Phase.TheVariants.{Opening, Blocks, Frames}
+use Rattle.flac_native.specs.declared.phase.Phase.TheVariants.{Opening, Blocks}
 use Rattle.flac_pages.specs.Packets.{Ahead, Met, Place as Stands}
 use Rattle.flac_ogg.specs.Mapping.{mapping}
 use Rattle.flac_ogg.specs.Steps.{PacketStep, item, over, refused}
 
 -- ---- what comes next
-
--- the last block was read
-abbrev pub is_behind_blocks : Phase → Bool
-is_behind_blocks Opening = false
-is_behind_blocks Blocks = false
-is_behind_blocks Frames = true
 
 -- The marker stands in the mapping, and the first block is STREAMINFO.
 pub record IsUnderWay (s : Stand) : Type 0 where

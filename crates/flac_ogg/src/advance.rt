@@ -12,7 +12,7 @@ ghost use Rattle.flac_ogg.specs.Telling.{IsUnderWay, MeetsIn, StepIs, EndIs};
 ghost use Rattle.flac_ogg.specs.Decoding.{IsBrokenAt};
 
 use crate::items::read_packet;
-use crate::places::{is_behind_blocks, packet_fault, page_place};
+use crate::places::{packet_fault, page_place};
 use flac_bits::{Source, Why};
 use flac_native::{Fault, Part, Place, Track};
 use flac_pages::Pages;
@@ -38,7 +38,7 @@ fn end_here(track: &mut Track) -> Result<(), Fault>
     ensures sink { IfErr result (λ f. f.why ≢ Why.Sink) }
     ensures ends { (p : Progress) → IsAt track.old p → IsUnderWay p.stand → EndIs (without_packet p None) result }
 {
-    if !is_behind_blocks(track) {
+    if !track.is_past_metadata() {
         return Err(block_due(track));
     }
     match track.end() {
@@ -57,7 +57,7 @@ fn behind_last(track: &Track, page: u64, why: Why) -> Fault
     ensures page { IsOutside result.why → result.at ≡ Place.Page page }
     ensures fault { (p : Progress) → IsAt track.now p → IsUnderWay p.stand → without_packet p (last_fault p None (Some (page, why))) ≡ refused result.at result.why }
 {
-    if !is_behind_blocks(track) {
+    if !track.is_past_metadata() {
         return block_due(track);
     }
     Fault {

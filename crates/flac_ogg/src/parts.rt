@@ -11,7 +11,7 @@ ghost use Rattle.flac_ogg.specs.Mapping.{packet_layout};
 ghost use Rattle.flac_ogg.specs.Telling.{block_packet, first_packet};
 
 use crate::mapping::read_mapping;
-use crate::places::{is_behind_blocks, is_first_block};
+use crate::places::is_first_block;
 use flac_bits::{BitReader, Source, Why};
 use flac_native::{Part, Track};
 
@@ -62,7 +62,7 @@ pub(crate) fn read_part<R: Source>(bits: &mut BitReader<R>, track: &mut Track) -
     ensures made { IfOk result (λ part. IsMadeAs part track.old track.new) }
     ensures next { IfOk result (λ part. (p : Progress) → IsAt track.old p → IsAt track.new (next p (piece_of track.new part))) }
 {
-    if is_behind_blocks(track) {
+    if track.is_past_metadata() {
         return read_frame(bits, track);
     }
     bits.lift();

@@ -4,7 +4,6 @@ ghost use Rattle.std.specs.Prelude.{◌≡◌};
 ghost use Rattle.flac_native.specs.Stream.{Stand, place_in};
 ghost use Rattle.flac_native.specs.Track.{stand_of};
 ghost use Rattle.flac_ogg.specs.Mapping.{is_first_block, page_place, item_place, packet_place};
-ghost use Rattle.flac_ogg.specs.Telling.{is_behind_blocks};
 
 use flac_native::{Fault, Place, Track, Why};
 
@@ -13,13 +12,6 @@ pub(crate) fn is_first_block(track: &Track) -> bool
     ensures { result ≡ is_first_block (stand_of track.now).phase (stand_of track.now).index }
 {
     matches!(track.place(), Place::Block(0))
-}
-
-/// Whether the last block was read.
-pub(crate) fn is_behind_blocks(track: &Track) -> bool
-    ensures { result ≡ is_behind_blocks (stand_of track.now).phase }
-{
-    matches!(track.place(), Place::Frame(_))
 }
 
 /// The place of a page's error.

@@ -4,8 +4,8 @@ use Rattle.flac_bits.specs.State.{State, without_fence}
 use Rattle.flac_bits.specs.Fencing.{lifted}
 use Rattle.flac_bits.proofs.Handing.{starts, one_more, step_refused}
 use Rattle.flac_native.specs.Stream.{Progress, Stand, grammar, next, opening}
-use Rattle.flac_native.specs.Track.{IsAt}
-use Rattle.flac_native.specs.Retag.{keeps, is_behind_blocks}
+use Rattle.flac_native.specs.Track.{IsAt, is_behind_blocks}
+use Rattle.flac_native.specs.Retag.{keeps}
 use Rattle.flac_native.specs.declared.track.Track.{Track}
 use Rattle.flac_native.proofs.Bounds.{so_far_lifted, open_on, lifted_open, step_short}
 use Rattle.flac_native.proofs.Metadata.{no_errors}
@@ -46,7 +46,7 @@ over t p at e = ap (λ (s : Stand). is_behind_blocks s.phase) (sym at.stand) ∙
 pub returns-clause-kept : goal.returns-clause-kept
 returns-clause-kept g c = λ known.
     let far = c.loop-reader.invariant.far (opening Subset) c.requires.first in
-    let end = over c.loop-reader.track far.0 far.1 (sym c.is_behind.ensures ∙ c.loop-reader-test.false) in
+    let end = over c.loop-reader.track far.0 far.1 (sym c.is_past_metadata.ensures ∙ c.loop-reader-test.false) in
     rw c.lift.ensures (kept_are (lifted c.args.reader.now).cursor (lifted c.loop-reader.reader).cursor far.0 c.args.kept.now.items c.loop-reader.kept.items c.requires.none (far.2.far known) end)
 
 pub returns-then-unread-ne0-clause-refused : goal.returns-then-unread-ne0-clause-refused

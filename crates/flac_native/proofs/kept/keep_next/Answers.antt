@@ -2,8 +2,8 @@ use Rattle.std.proofs.Common.{sym, ap, subst, ◌∙◌, ◌≡◌, true, false}
 use Rattle.flac_bits.specs.Fencing.{lifted}
 use Rattle.flac_bits.specs.Items.{step_at, refused}
 use Rattle.flac_native.specs.Stream.{Progress, Stand, grammar, place_in}
-use Rattle.flac_native.specs.Track.{IsAt, shown}
-use Rattle.flac_native.specs.Retag.{is_behind_blocks, is_before_frames}
+use Rattle.flac_native.specs.Track.{IsAt, shown, is_behind_blocks}
+use Rattle.flac_native.specs.Retag.{is_before_frames}
 use Rattle.flac_native.specs.declared.track.Track.{Track}
 use Rattle.flac_native.proofs.Metadata.{not_over, no_frame, refused_there, before_frames}
 use Rattle.flac_native.proofs.kept.keep_next.Goals as goal
