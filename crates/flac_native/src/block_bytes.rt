@@ -57,31 +57,14 @@ fn are_long(block: &[&[i32]], len: usize) -> bool
     block.iter().all(|c| c.len() == len)
 }
 
-/// How many samples the first channel has; 0 if there is none.
-pub(crate) fn block_len(block: &[&[i32]]) -> usize
+/// How many samples each channel of a block has, by its first channel; 0 if there is none.
+pub fn block_len(block: &[&[i32]]) -> usize
     ensures { result ≡ samples_each (map (λ c. c.now) block.now) }
 {
     if block.is_empty() {
         return 0;
     }
     block[0].len()
-}
-
-/// Why a block does not fit the format, or `None` if it does.
-pub(crate) fn block_fault(channels: u32, bits: u32, block: &[&[i32]]) -> Option<SetupFault>
-    requires { (1 ≤ bits) × (bits ≤ 32) }
-    ensures { result ≡ block_fault channels bits (map (λ c. c.now) block.now) }
-{
-    if block.len() as u64 != channels as u64 {
-        return Some(SetupFault::BadChannels);
-    }
-    if !are_long(block, block_len(block)) {
-        return Some(SetupFault::LengthsDiffer);
-    }
-    if !each_small(block, bits) {
-        return Some(SetupFault::SampleTooLarge);
-    }
-    None
 }
 
 /// The samples of each channel, copied. Its only error is `Memory`: an allocation failed.
@@ -124,31 +107,65 @@ fn frame_bytes(
     }
 }
 
-/// A block of the format as frame `number`, in memory: a shortest frame, also over these linear predictors. Its only
-/// error is `Memory`: an allocation failed.
-pub(crate) fn block_bytes(
-    alloc: Global,
-    format: &StreamFormat,
-    predictors: &[LinearPredictor],
-    block: &[&[i32]],
-    number: u64,
-    buffers: &mut EncodeBuffers,
-) -> Result<Vec<u8>, Why>
-    requires good { audio_fault format.now.profile format.now.rate format.now.bits (map (λ c. c.now) block.now) ≡ None }
-    requires predictors { predictors_fault format.now.profile format.now.rate predictors.now ≡ None }
-    requires some { 0 < samples_each (map (λ c. c.now) block.now) }
-    requires room { samples_each (map (λ c. c.now) block.now) ≤ buffers.old.block }
-    requires most { most_in format.now.profile ≤ buffers.old.most }
-    requires number { number < 2 ^ 31 }
-    ensures kept { buffers.new ≡ buffers.old }
-    ensures frame { IfOk result (λ bytes. SpellsFrame (sound_of (shape_of format.now) (map (λ c. c.now) block.now)) (frame_with number (map (λ c. c.now) block.now)) (bits_of bytes.items)) }
-    ensures least { IfOk result (λ bytes. SpellsLeast predictors.now (sound_of (shape_of format.now) (map (λ c. c.now) block.now)) (frame_with number (map (λ c. c.now) block.now)) (bits_of bytes.items)) }
-    ensures memory { IfErr result (λ e. e ≡ Why.Memory) }
-{
-    let channels = copied(alloc, block)?;
-    let audio = match Audio::new_in(format.profile, format.rate, format.bits, channels) {
-        Ok(audio) => audio,
-        Err(_) => unreachable!(),
-    };
-    frame_bytes(alloc, &audio, predictors, number, buffers)
+impl StreamFormat {
+    /// Why a block of samples does not fit the format, or `None` if it does: `BadChannels` if there is not one slice for
+    /// each channel, `LengthsDiffer` if they differ in length, or `SampleTooLarge` if a sample does not fit its bits, the
+    /// first that applies. How many samples it has is not judged here.
+    ///
+    /// The format has 1 to 32 bits per sample, as each has that [`StreamFormat::fault`] does not refuse.
+    ///
+    /// ```
+    /// let fault = format.block_fault(&[left.as_slice(), right.as_slice()]);
+    /// ```
+    pub fn block_fault(&self, block: &[&[i32]]) -> Option<SetupFault>
+        requires { (1 ≤ self.now.bits) × (self.now.bits ≤ 32) }
+        ensures { result ≡ block_fault self.now.channels self.now.bits (map (λ c. c.now) block.now) }
+    {
+        if block.len() as u64 != self.channels as u64 {
+            return Some(SetupFault::BadChannels);
+        }
+        if !are_long(block, block_len(block)) {
+            return Some(SetupFault::LengthsDiffer);
+        }
+        if !each_small(block, self.bits) {
+            return Some(SetupFault::SampleTooLarge);
+        }
+        None
+    }
+
+    /// Encodes a block of the format as the frame of this number, in memory (RFC 9639, section 9): a shortest frame, also
+    /// over these linear predictors. The frame has `number` in its header, counted from 0.
+    ///
+    /// The caller sees to it that nothing is refused: the format and the block have no fault
+    /// ([`StreamFormat::fault`], [`StreamFormat::block_fault`]), nor have the predictors ([`crate::predictors_fault`]); the block
+    /// has at least one sample, and at most as many as the buffers were made for, in the format's profile.
+    ///
+    /// # Errors
+    /// [`Why::Memory`] if an allocation fails.
+    pub fn encode_block(
+        &self,
+        alloc: Global,
+        predictors: &[LinearPredictor],
+        block: &[&[i32]],
+        number: u64,
+        buffers: &mut EncodeBuffers,
+    ) -> Result<Vec<u8>, Why>
+        requires good { audio_fault self.now.profile self.now.rate self.now.bits (map (λ c. c.now) block.now) ≡ None }
+        requires predictors { predictors_fault self.now.profile self.now.rate predictors.now ≡ None }
+        requires some { 0 < samples_each (map (λ c. c.now) block.now) }
+        requires room { samples_each (map (λ c. c.now) block.now) ≤ buffers.old.block }
+        requires most { most_in self.now.profile ≤ buffers.old.most }
+        requires number { number < 2 ^ 31 }
+        ensures kept { buffers.new ≡ buffers.old }
+        ensures frame { IfOk result (λ bytes. SpellsFrame (sound_of (shape_of self.now) (map (λ c. c.now) block.now)) (frame_with number (map (λ c. c.now) block.now)) (bits_of bytes.items)) }
+        ensures least { IfOk result (λ bytes. SpellsLeast predictors.now (sound_of (shape_of self.now) (map (λ c. c.now) block.now)) (frame_with number (map (λ c. c.now) block.now)) (bits_of bytes.items)) }
+        ensures memory { IfErr result (λ e. e ≡ Why.Memory) }
+    {
+        let channels = copied(alloc, block)?;
+        let audio = match Audio::new_in(self.profile, self.rate, self.bits, channels) {
+            Ok(audio) => audio,
+            Err(_) => unreachable!(),
+        };
+        frame_bytes(alloc, &audio, predictors, number, buffers)
+    }
 }

@@ -56,6 +56,7 @@ mod stream_format;
 mod subset;
 mod track;
 
+pub use block_bytes::block_len;
 pub use chosen_frames::ChosenFrames;
 pub use container::Container;
 pub use decoder::Decoder;
@@ -82,7 +83,7 @@ pub use laws::{
 };
 pub use message::put_rows;
 pub use part::Part;
-pub use plan::Plan;
+pub use plan::{Plan, predictors_fault};
 pub use promises::{
     encoded_are_read_back, encoded_are_resumed, encoded_are_streams, frames_are_resumed,
     points_name_frames,

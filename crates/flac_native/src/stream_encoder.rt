@@ -12,7 +12,7 @@ ghost use Rattle.flac_native.specs.declared.encode_fault.EncodeFault.TheVariants
 ghost use Rattle.flac_native.specs.Whole.{head_parts};
 ghost use Rattle.flac_native.specs.Writing.{head_spelling};
 
-use crate::block_bytes::{block_bytes, block_fault, block_len};
+use crate::block_bytes::block_len;
 use crate::encode_fault::EncodeFault;
 use crate::encoding::send_head;
 use crate::plan::predictors_fault;
@@ -213,7 +213,7 @@ impl<W: Target + Drop> StreamEncoder<W> {
         if self.spent {
             return Some(EncodeFault::Spent);
         }
-        if let Some(fault) = block_fault(self.format.channels, self.format.bits, block) {
+        if let Some(fault) = self.format.block_fault(block) {
             return Some(EncodeFault::Setup(fault));
         }
         self.size_fault(block_len(block) as u64)
@@ -257,9 +257,8 @@ impl<W: Target + Drop> StreamEncoder<W> {
         }
         let len = block_len(block) as u64;
         let predictors = self.predictors.as_slice();
-        let Ok(frame) = block_bytes(
+        let Ok(frame) = self.format.encode_block(
             self.alloc,
-            &self.format,
             predictors,
             block,
             self.number,

@@ -2,7 +2,10 @@
 
 use flac_bits::{Collected, Counted, Memory, Target};
 use flac_meta::BlockList;
-use flac_native::{Decoder, EncodeFault, Profile, SetupFault, StreamEncoder};
+use flac_native::{
+    Decoder, EncodeFault, LinearPredictor, Profile, SetupFault, StreamEncoder, StreamFormat, block_len,
+    predictors_fault,
+};
 use flac_testing::{Narrow, Recorder, count_rising, number_of};
 use std::alloc::Global;
 use std::mem::drop;
@@ -76,6 +79,42 @@ fn refused_blocks(rt: HostRuntime) -> Result<(), Fail> {
     assert!(rt; answers == [43, 44, 46]);
     assert!(rt; target.bytes().len() == 42);
     Ok(())
+}
+
+/// Why a block does not fit two channels of 16 bits, and how many samples it has.
+#[test]
+fn faults_of_blocks(rt: HostRuntime) {
+    let format = StreamFormat {
+        profile: Profile::Subset,
+        rate: 44100,
+        bits: 16,
+        channels: 2,
+        block_size: 16,
+    };
+    let (short, long, large) = ([1; 16], [1; 17], [32768; 16]);
+    let one = [short.as_slice()];
+    let two = [short.as_slice(), long.as_slice()];
+    let wide = [short.as_slice(), large.as_slice()];
+    let good = [long.as_slice(), long.as_slice()];
+    assert!(rt; format.block_fault(&one) == Some(SetupFault::BadChannels));
+    assert!(rt; format.block_fault(&two) == Some(SetupFault::LengthsDiffer));
+    assert!(rt; format.block_fault(&wide) == Some(SetupFault::SampleTooLarge));
+    assert!(rt; format.block_fault(&good).is_none());
+    assert!(rt; block_len(&good) == 17 && block_len(&[]) == 0);
+}
+
+/// A predictor of order 13 is outside the subset at 48000 Hz, and within it above.
+#[test]
+fn faults_of_predictors(rt: HostRuntime) {
+    let Some(predictor) = LinearPredictor::new(2, 0, &[1; 13]) else {
+        assert!(rt; false);
+        return;
+    };
+    let list = [predictor];
+    let order = predictors_fault(Profile::Subset, 48000, &list);
+    assert!(rt; order == Some(SetupFault::PredictorOrder));
+    assert!(rt; predictors_fault(Profile::Subset, 48001, &list).is_none());
+    assert!(rt; predictors_fault(Profile::Lax, 48000, &list).is_none());
 }
 
 /// The number of the fault for which a format is refused, 0 where it is not.

@@ -31,7 +31,8 @@ use Rattle.flac_native.specs.Stream.{Piece, marked, framed, Progress, grammar, n
 use Rattle.flac_native.specs.declared.phase.Phase.{Phase}
 use Rattle.flac_native.specs.declared.phase.Phase.TheVariants.{Opening, Blocks, Frames}
 use Rattle.flac_native.specs.Given.{closing}
-use Rattle.flac_native.specs.Pushing.{Shape, shape_fault, open_info, Pushed, unpushed, behind_block, due, StandsFor, sound_of, frame_with}
+use Rattle.flac_native.specs.Pushing.{Shape, shape_fault, open_info, Pushed, unpushed, behind_block, push_fault, due, StandsFor, sound_of, frame_with}
+use Rattle.flac_native.specs.declared.encode_fault.EncodeFault.{EncodeFault}
 use Rattle.flac_native.specs.Writing.{blocks_spelling, head_spelling, SpellsFrame, SpellsLeast}
 use Rattle.flac_native.proofs.EachFrame.{same_three, follows_on, sized, full_before}
 use Rattle.flac_native.proofs.Onwards.{as_part, after_profile}
@@ -164,6 +165,10 @@ opened_ogg g s list old h e subset shape good fits small serial are pushed seque
         }
 
 -- ---- one more frame
+
+-- the first fault of a block, of the encoder as its fields are and as its calls see it
+pub fault_here : {S : Type 0} (view now : PushedOgg S) (block : List (List ℤ)) (o : Option EncodeFault) → view ≡ now → o ≡ push_fault now.pushed block → (o ≡ push_fault view.pushed block) × (o ≡ push_fault now.pushed block)
+fault_here view now block o same is = (is ∙ ap (λ (v : PushedOgg _). push_fault v.pushed block) (sym same), is)
 
 items_more : (p : Progress) (packets : List (List ℕ)) (items : List Piece) (packet : List ℕ) (x : Piece) → AreItems p packets items
     → IsItem (room_in (after grammar p items).stand.phase) (packet_layout (after grammar p items).stand) (packet_start None) (closed_packet packet) x → AreItems p (packets ++ packet ∷ []) (items ++ x ∷ [])

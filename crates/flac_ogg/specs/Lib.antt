@@ -14,5 +14,4 @@ pub mod Writing
 pub mod RoundTrip
 pub mod Pushing
 pub mod Headers
-pub mod Judging
 pub mod Wider

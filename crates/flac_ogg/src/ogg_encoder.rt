@@ -1,34 +1,31 @@
 //! Encodes an Ogg stream a block at a time.
 
-ghost use Rattle.std.specs.Prelude.{◌≡◌, ◌≢◌, List, Bool, ◌⊎◌, ◌++◌, ◌≤◌, ◌<◌, ◌+◌, ◌^◌, ◌↔◌, map, cond, option_map, true, false, IfOk, OnOk, IfErr, None, Some, Err};
-ghost use Rattle.std.specs.Option.{option_or};
+ghost use Rattle.std.specs.Prelude.{◌≡◌, ◌≢◌, List, Bool, ◌⊎◌, ◌≤◌, ◌<◌, ◌+◌, ◌^◌, ◌↔◌, map, option_map, true, false, IfOk, OnOk, IfErr, None, Some, Err};
 ghost use Rattle.flac_bits.specs.Bits.{bits_of};
 ghost use Rattle.flac_bits.specs.Forms.{AreBytes};
 ghost use Rattle.flac_bits.specs.State.{Rises};
 ghost use Rattle.flac_frame.specs.Audio.{samples_each};
 ghost use Rattle.flac_native.specs.Given.{predictors_fault};
 ghost use Rattle.flac_native.specs.Stream.{Piece};
-ghost use Rattle.flac_native.specs.Pushing.{shape_of, shape_fault, open_info, unpushed, behind_block, spent_with, block_fault, size_fault, push_fault, IsFirst};
+ghost use Rattle.flac_native.specs.Pushing.{shape_of, shape_fault, open_info, unpushed, behind_block, spent_with, size_fault, push_fault, IsFirst};
 ghost use Rattle.flac_native.specs.Writing.{head_spelling};
 ghost use Rattle.flac_native.specs.declared.encode_fault.EncodeFault.TheVariants.{Spent, Setup};
 ghost use Rattle.flac_pages.specs.Placed.{Placed, sequence_behind};
 ghost use Rattle.flac_pages.specs.Written.{packet_spelling};
 ghost use Rattle.flac_pages.specs.declared.writing.PacketKind.TheVariants.{Frame};
-ghost use Rattle.flac_ogg.specs.Judging.{Judges};
 ghost use Rattle.flac_ogg.specs.Pushing.{open_fault, listed_fault, trying_ogg, StandsForOgg, Opens, PushesOgg, BeginsPushOgg, EndsOgg};
 
 use crate::encoding::begins_with_comment;
 use crate::headers::headers_of;
 use crate::held_packet::HeldPacket;
-use crate::judge::{block_fault, judge_of};
 use crate::packet_bytes::bytes_fit;
-use crate::predictors::predictors_fault;
-use crate::pushed_block::{block_len, pushed_packet};
 use crate::round_trip::in_memory;
 use flac_bits::{Collected, Target, Why, send_all};
 use flac_frame::{EncodeBuffers, SetupFault};
 use flac_meta::BlockList;
-use flac_native::{EncodeFault, LinearPredictor, Profile, StreamEncoder, StreamFormat};
+use flac_native::{
+    EncodeFault, LinearPredictor, Profile, StreamEncoder, StreamFormat, block_len, predictors_fault,
+};
 use flac_pages::{PacketKind, PacketMarks};
 use std::alloc::Global;
 use std::marker::Model;
@@ -56,7 +53,6 @@ pub struct OggEncoder<W: Target> {
     samples: u64,
     ended: bool,
     spent: bool,
-    judge: StreamEncoder<Collected>,
     buffers: EncodeBuffers,
     held: HeldPacket,
     target: W,
@@ -67,7 +63,6 @@ impl<W: Target> Model for OggEncoder<W> {
     ghost use Rattle.flac_frame.specs.Encoding.{most_in};
     ghost use Rattle.flac_native.specs.Given.{predictors_fault};
     ghost use Rattle.flac_native.specs.Pushing.{shape_of, shape_fault};
-    ghost use Rattle.flac_ogg.specs.Judging.{Judges};
     ghost use Rattle.flac_ogg.specs.Pushing.{PushedOgg};
 
     ghost Value = { PushedOgg W };
@@ -91,7 +86,6 @@ impl<W: Target> Model for OggEncoder<W> {
     ghost invariant = { λ e. record {
       shape : shape_fault (shape_of e.format) ≡ None;
       predictors : predictors_fault e.format.profile e.format.rate e.predictors.items ≡ None;
-      judge : Judges e.format.channels e.format.bits e.judge;
       buffers : e.buffers ≡ record { block = e.format.block_size; most = most_in e.format.profile };
       number : e.number ≤ 2 ^ 31;
       samples : e.samples < 2 ^ 36;
@@ -152,26 +146,6 @@ fn open_head(alloc: Global, format: &StreamFormat, list: &BlockList) -> Result<V
             }
         }
         Err(fault) => Err(listed_fault(fault, listed)),
-    }
-}
-
-/// The first reason for which a block is refused, or `None`. `size` is the reason that its number of samples gives.
-fn push_fault(
-    judge: &mut StreamEncoder<Collected>,
-    spent: bool,
-    size: Option<EncodeFault>,
-    block: &[&[i32]],
-) -> Option<EncodeFault>
-    requires { Judges judge.old.shape.channels judge.old.shape.bits judge.old }
-    ensures fault { result ≡ cond spent (Some Spent) (option_or (option_map Setup (block_fault judge.old.shape.channels judge.old.shape.bits (map (λ c. c.now) block.now))) size) }
-    ensures kept { judge.new ≡ judge.old }
-{
-    if spent {
-        return Some(EncodeFault::Spent);
-    }
-    match block_fault(judge, block) {
-        Some(fault) => Some(EncodeFault::Setup(fault)),
-        None => size,
     }
 }
 
@@ -243,9 +217,6 @@ impl<W: Target + Drop> OggEncoder<W> {
         };
         let head = open_head(alloc, &format, list)?;
         let _blocks = list.blocks();
-        let Ok(judge) = judge_of(alloc, rate, bits, channels) else {
-            return Err(EncodeFault::Memory);
-        };
         let Ok(buffers) = EncodeBuffers::new(alloc, block_size) else {
             return Err(EncodeFault::Memory);
         };
@@ -263,7 +234,6 @@ impl<W: Target + Drop> OggEncoder<W> {
                 samples: 0,
                 ended: false,
                 spent: false,
-                judge,
                 buffers,
                 held: headers.held,
                 target,
@@ -319,6 +289,20 @@ impl<W: Target + Drop> OggEncoder<W> {
         None
     }
 
+    /// The first reason for which a block is refused, or `None`.
+    #[tactic(auto, unfolding(flac_native::specs::Pushing::push_fault))]
+    fn push_fault(&self, block: &[&[i32]]) -> Option<EncodeFault>
+        ensures { result ≡ push_fault self.now.pushed (map (λ c. c.now) block.now) }
+    {
+        if self.spent {
+            return Some(EncodeFault::Spent);
+        }
+        if let Some(fault) = self.format.block_fault(block) {
+            return Some(EncodeFault::Setup(fault));
+        }
+        self.size_fault(block_len(block) as u64)
+    }
+
     /// Makes a block the next frame and holds its packet back, and writes the packet that was held. `block` has one
     /// slice for each channel, of 1 to as many samples as the block size. Only the last block may be shorter than the
     /// block size (RFC 9639, section 9.1). The frame is as short as one of [`crate::encode_ogg`] with the same predictors.
@@ -356,14 +340,12 @@ impl<W: Target + Drop> OggEncoder<W> {
         ensures risen { IfErr result (λ e. e ≡ EncodeFault.Write → Rises (W.errors self.old.pushed.target) (W.errors self.new.pushed.target)) }
         ensures names { W.names self.new.pushed.target ≡ W.names self.old.pushed.target }
     {
-        let len = block_len(block) as u64;
-        let size = self.size_fault(len);
-        if let Some(fault) = push_fault(&mut self.judge, self.spent, size, block) {
+        if let Some(fault) = self.push_fault(block) {
             return Err(fault);
         }
-        let Ok(packet) = pushed_packet(
+        let len = block_len(block) as u64;
+        let Ok(packet) = self.format.encode_block(
             self.alloc,
-            &self.format,
             self.predictors.as_slice(),
             block,
             self.number,

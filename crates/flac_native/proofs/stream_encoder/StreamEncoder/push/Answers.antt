@@ -19,19 +19,19 @@ returns-in-Some-clause-failed g c = λ w known. never_write _ _ _ _ c.push_fault
 pub returns-in-Some-clause-risen : goal.returns-in-Some-clause-risen
 returns-in-Some-clause-risen g c = λ w few. never_write _ _ _ _ c.push_fault.ensures c.in-Some.is w
 
-pub block_bytes-requires-clause-good : goal.block_bytes-requires-clause-good
-block_bytes-requires-clause-good g c = let a = not_refused _ _ _ _ c.self.view_is c.self.invariant.shape c.push_fault.ensures c.in_default.is in a.good
+pub encode_block-requires-clause-good : goal.encode_block-requires-clause-good
+encode_block-requires-clause-good g c = let a = not_refused _ _ _ _ c.self.view_is c.self.invariant.shape c.push_fault.ensures c.in_default.is in a.good
 
-pub block_bytes-requires-clause-some : goal.block_bytes-requires-clause-some
-block_bytes-requires-clause-some g c = let a = not_refused _ _ _ _ c.self.view_is c.self.invariant.shape c.push_fault.ensures c.in_default.is in a.some
+pub encode_block-requires-clause-some : goal.encode_block-requires-clause-some
+encode_block-requires-clause-some g c = let a = not_refused _ _ _ _ c.self.view_is c.self.invariant.shape c.push_fault.ensures c.in_default.is in a.some
 
-pub block_bytes-requires-clause-room : goal.block_bytes-requires-clause-room
-block_bytes-requires-clause-room g c =
+pub encode_block-requires-clause-room : goal.encode_block-requires-clause-room
+encode_block-requires-clause-room g c =
     let a = not_refused _ _ _ _ c.self.view_is c.self.invariant.shape c.push_fault.ensures c.in_default.is in
     subst (λ (r : Room). samples_each (map (λ b. b.now) c.args.block.now) ≤ r.block) (sym c.self.invariant.buffers) a.most
 
-pub block_bytes-requires-clause-number : goal.block_bytes-requires-clause-number
-block_bytes-requires-clause-number g c = let a = not_refused _ _ _ _ c.self.view_is c.self.invariant.shape c.push_fault.ensures c.in_default.is in a.number
+pub encode_block-requires-clause-number : goal.encode_block-requires-clause-number
+encode_block-requires-clause-number g c = let a = not_refused _ _ _ _ c.self.view_is c.self.invariant.shape c.push_fault.ensures c.in_default.is in a.number
 
 pub overflow_add-self-in-Ok-send_all : goal.overflow_add-self-in-Ok-send_all
 overflow_add-self-in-Ok-send_all g c =
@@ -44,7 +44,7 @@ invariant_of-self-in-Ok-send_all g c =
     record {
       shape = c.self.invariant.shape;
       predictors = c.self.invariant.predictors;
-      buffers = c.block_bytes.ensures.kept ∙ c.self.invariant.buffers;
+      buffers = c.encode_block.ensures.kept ∙ c.self.invariant.buffers;
       number = omega (arith, a.number);
       samples = omega (arith, a.samples, c.block_len-len.ensures);
     }

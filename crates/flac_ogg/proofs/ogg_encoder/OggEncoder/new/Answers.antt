@@ -9,9 +9,6 @@ use Rattle.flac_ogg.proofs.Headed.{head_cut}
 use Rattle.flac_ogg.proofs.PushedOgg.{zero_bytes, opened_ogg}
 use Rattle.flac_ogg.proofs.ogg_encoder.OggEncoder.new.Goals as goal
 
-pub judge_of-requires : goal.judge_of-requires
-judge_of-requires g c = let q = shaped _ c.in_ok-head.ensures.accepted in (q.some, q.few)
-
 pub new-requires : goal.new-requires
 new-requires g c = let q = shaped _ c.in_ok-head.ensures.accepted in omega (arith, q.small)
 
@@ -33,7 +30,6 @@ pub invariant_of-result : goal.invariant_of-result
 invariant_of-result g c = record {
   shape = c.in_ok-head.ensures.accepted;
   predictors = none_tried Subset c.args.rate c.new-in-Ok-send_all.result.items c.new-in-Ok-send_all.ensures.items;
-  judge = c.in-Ok.ensures;
   buffers = c.in-Ok-new.ensures.ok;
   number = omega arith;
   samples = omega arith;

@@ -11,98 +11,96 @@ use Rattle.flac_native.proofs.Pushing.{never_write, not_refused}
 use Rattle.flac_pages.specs.Written.{packet_spelling}
 use Rattle.flac_pages.specs.declared.writing.PacketKind.TheVariants.{Frame}
 use Rattle.flac_ogg.specs.Pushing.{PushedOgg}
-use Rattle.flac_ogg.proofs.Judged.{fault_at, same_judge}
-use Rattle.flac_ogg.proofs.PushedOgg.{pushes_ogg, begins_ogg}
+use Rattle.flac_ogg.proofs.PushedOgg.{fault_here, pushes_ogg, begins_ogg}
 use Rattle.flac_ogg.proofs.ogg_encoder.OggEncoder.push.Goals as goal
 
 pub returns-in-Some-clause-refused : goal.returns-in-Some-clause-refused
 returns-in-Some-clause-refused g c =
-    let at = fault_at _ _ c.self.inside.judge (map (λ b. b.now) c.args.block.now) _ _ _ c.self.view_is c.self.invariant.judge c.block_len-len.ensures c.size_fault-size.ensures c.push_fault.ensures.fault in
+    let at = fault_here _ _ (map (λ b. b.now) c.args.block.now) _ c.self.view_is c.push_fault.ensures in
     inl (sym at.1 ∙ c.in-Some.is)
 
 pub returns-in-Some-clause-begun : goal.returns-in-Some-clause-begun
 returns-in-Some-clause-begun g c =
-    let at = fault_at _ _ c.self.inside.judge (map (λ b. b.now) c.args.block.now) _ _ _ c.self.view_is c.self.invariant.judge c.block_len-len.ensures c.size_fault-size.ensures c.push_fault.ensures.fault in
+    let at = fault_here _ _ (map (λ b. b.now) c.args.block.now) _ c.self.view_is c.push_fault.ensures in
     λ w known. never_write _ _ _ _ at.1 c.in-Some.is w
 
 pub returns-in-Some-clause-spent : goal.returns-in-Some-clause-spent
 returns-in-Some-clause-spent g c =
-    let at = fault_at _ _ c.self.inside.judge (map (λ b. b.now) c.args.block.now) _ _ _ c.self.view_is c.self.invariant.judge c.block_len-len.ensures c.size_fault-size.ensures c.push_fault.ensures.fault in
+    let at = fault_here _ _ (map (λ b. b.now) c.args.block.now) _ c.self.view_is c.push_fault.ensures in
     λ w. never_write _ _ _ _ at.1 c.in-Some.is w
 
 pub returns-in-Some-clause-failed : goal.returns-in-Some-clause-failed
 returns-in-Some-clause-failed g c =
-    let at = fault_at _ _ c.self.inside.judge (map (λ b. b.now) c.args.block.now) _ _ _ c.self.view_is c.self.invariant.judge c.block_len-len.ensures c.size_fault-size.ensures c.push_fault.ensures.fault in
+    let at = fault_here _ _ (map (λ b. b.now) c.args.block.now) _ c.self.view_is c.push_fault.ensures in
     λ w known. never_write _ _ _ _ at.1 c.in-Some.is w
 
 pub returns-in-Some-clause-risen : goal.returns-in-Some-clause-risen
 returns-in-Some-clause-risen g c =
-    let at = fault_at _ _ c.self.inside.judge (map (λ b. b.now) c.args.block.now) _ _ _ c.self.view_is c.self.invariant.judge c.block_len-len.ensures c.size_fault-size.ensures c.push_fault.ensures.fault in
+    let at = fault_here _ _ (map (λ b. b.now) c.args.block.now) _ c.self.view_is c.push_fault.ensures in
     λ w few. never_write _ _ _ _ at.1 c.in-Some.is w
 
-pub pushed_packet-requires-clause-good : goal.pushed_packet-requires-clause-good
-pushed_packet-requires-clause-good g c =
-    let at = fault_at _ _ c.self.inside.judge (map (λ b. b.now) c.args.block.now) _ _ _ c.self.view_is c.self.invariant.judge c.block_len-len.ensures c.size_fault-size.ensures c.push_fault.ensures.fault in
+pub encode_block-requires-clause-good : goal.encode_block-requires-clause-good
+encode_block-requires-clause-good g c =
+    let at = fault_here _ _ (map (λ b. b.now) c.args.block.now) _ c.self.view_is c.push_fault.ensures in
     let a = not_refused _ _ _ _ refl c.self.invariant.shape at.0 c.in_default.is in
     a.good
 
-pub pushed_packet-requires-clause-some : goal.pushed_packet-requires-clause-some
-pushed_packet-requires-clause-some g c =
-    let at = fault_at _ _ c.self.inside.judge (map (λ b. b.now) c.args.block.now) _ _ _ c.self.view_is c.self.invariant.judge c.block_len-len.ensures c.size_fault-size.ensures c.push_fault.ensures.fault in
+pub encode_block-requires-clause-some : goal.encode_block-requires-clause-some
+encode_block-requires-clause-some g c =
+    let at = fault_here _ _ (map (λ b. b.now) c.args.block.now) _ c.self.view_is c.push_fault.ensures in
     let a = not_refused _ _ _ _ refl c.self.invariant.shape at.0 c.in_default.is in
     a.some
 
-pub pushed_packet-requires-clause-room : goal.pushed_packet-requires-clause-room
-pushed_packet-requires-clause-room g c =
-    let at = fault_at _ _ c.self.inside.judge (map (λ b. b.now) c.args.block.now) _ _ _ c.self.view_is c.self.invariant.judge c.block_len-len.ensures c.size_fault-size.ensures c.push_fault.ensures.fault in
+pub encode_block-requires-clause-room : goal.encode_block-requires-clause-room
+encode_block-requires-clause-room g c =
+    let at = fault_here _ _ (map (λ b. b.now) c.args.block.now) _ c.self.view_is c.push_fault.ensures in
     let a = not_refused _ _ _ _ refl c.self.invariant.shape at.0 c.in_default.is in
     subst (λ (r : Room). samples_each (map (λ b. b.now) c.args.block.now) ≤ r.block) (sym c.self.invariant.buffers) a.most
 
-pub pushed_packet-requires-clause-most : goal.pushed_packet-requires-clause-most
-pushed_packet-requires-clause-most g c = subst (λ (r : Room). most_in c.self.inside.format.profile ≤ r.most) (sym c.self.invariant.buffers) (omega arith)
+pub encode_block-requires-clause-most : goal.encode_block-requires-clause-most
+encode_block-requires-clause-most g c = subst (λ (r : Room). most_in c.self.inside.format.profile ≤ r.most) (sym c.self.invariant.buffers) (omega arith)
 
-pub pushed_packet-requires-clause-predictors : goal.pushed_packet-requires-clause-predictors
-pushed_packet-requires-clause-predictors g c =
+pub encode_block-requires-clause-predictors : goal.encode_block-requires-clause-predictors
+encode_block-requires-clause-predictors g c =
     subst (λ (l : List LinearPredictor). predictors_fault c.self.inside.format.profile c.self.inside.format.rate l ≡ None) (sym c.as_slice.ensures.value) c.self.invariant.predictors
 
-pub pushed_packet-requires-clause-number : goal.pushed_packet-requires-clause-number
-pushed_packet-requires-clause-number g c =
-    let at = fault_at _ _ c.self.inside.judge (map (λ b. b.now) c.args.block.now) _ _ _ c.self.view_is c.self.invariant.judge c.block_len-len.ensures c.size_fault-size.ensures c.push_fault.ensures.fault in
+pub encode_block-requires-clause-number : goal.encode_block-requires-clause-number
+encode_block-requires-clause-number g c =
+    let at = fault_here _ _ (map (λ b. b.now) c.args.block.now) _ c.self.view_is c.push_fault.ensures in
     let a = not_refused _ _ _ _ refl c.self.invariant.shape at.0 c.in_default.is in
     a.number
 
-pub returns-in_default-pushed_packet-clause-refused : goal.returns-in_default-pushed_packet-clause-refused
-returns-in_default-pushed_packet-clause-refused g c =
-    let at = fault_at _ _ c.self.inside.judge (map (λ b. b.now) c.args.block.now) _ _ _ c.self.view_is c.self.invariant.judge c.block_len-len.ensures c.size_fault-size.ensures c.push_fault.ensures.fault in
+pub returns-in_default-encode_block-clause-refused : goal.returns-in_default-encode_block-clause-refused
+returns-in_default-encode_block-clause-refused g c =
+    let at = fault_here _ _ (map (λ b. b.now) c.args.block.now) _ c.self.view_is c.push_fault.ensures in
     inr (sym at.1 ∙ c.in_default.is, inl refl)
 
 pub returns-in_default-hold_frame-clause-refused : goal.returns-in_default-hold_frame-clause-refused
 returns-in_default-hold_frame-clause-refused g c =
-    let at = fault_at _ _ c.self.inside.judge (map (λ b. b.now) c.args.block.now) _ _ _ c.self.view_is c.self.invariant.judge c.block_len-len.ensures c.size_fault-size.ensures c.push_fault.ensures.fault in
+    let at = fault_here _ _ (map (λ b. b.now) c.args.block.now) _ c.self.view_is c.push_fault.ensures in
     inr (sym at.1 ∙ c.in_default.is, inl refl)
 
 pub overflow_add-end : goal.overflow_add-end
 overflow_add-end g c =
-    let at = fault_at _ _ c.self.inside.judge (map (λ b. b.now) c.args.block.now) _ _ _ c.self.view_is c.self.invariant.judge c.block_len-len.ensures c.size_fault-size.ensures c.push_fault.ensures.fault in
+    let at = fault_here _ _ (map (λ b. b.now) c.args.block.now) _ c.self.view_is c.push_fault.ensures in
     let a = not_refused _ _ _ _ refl c.self.invariant.shape at.0 c.in_default.is in
     omega (arith, a.samples, c.block_len-len.ensures)
 
 pub invariant_of-self-in-Ok-send_all : goal.invariant_of-self-in-Ok-send_all
 invariant_of-self-in-Ok-send_all g c =
-    let at = fault_at _ _ c.self.inside.judge (map (λ b. b.now) c.args.block.now) _ _ _ c.self.view_is c.self.invariant.judge c.block_len-len.ensures c.size_fault-size.ensures c.push_fault.ensures.fault in
+    let at = fault_here _ _ (map (λ b. b.now) c.args.block.now) _ c.self.view_is c.push_fault.ensures in
     let a = not_refused _ _ _ _ refl c.self.invariant.shape at.0 c.in_default.is in
     record {
       shape = c.self.invariant.shape;
       predictors = c.self.invariant.predictors;
-      judge = same_judge _ _ _ _ c.push_fault.ensures.kept c.self.invariant.judge;
-      buffers = c.pushed_packet.ensures.kept ∙ c.self.invariant.buffers;
+      buffers = c.encode_block.ensures.kept ∙ c.self.invariant.buffers;
       number = omega (arith, a.number);
       samples = omega (arith, a.samples, c.block_len-len.ensures);
     }
 
 pub returns-in-Ok-send_all-clause-written : goal.returns-in-Ok-send_all-clause-written
 returns-in-Ok-send_all-clause-written g c =
-    let at = fault_at _ _ c.self.inside.judge (map (λ b. b.now) c.args.block.now) _ _ _ c.self.view_is c.self.invariant.judge c.block_len-len.ensures c.size_fault-size.ensures c.push_fault.ensures.fault in
+    let at = fault_here _ _ (map (λ b. b.now) c.args.block.now) _ c.self.view_is c.push_fault.ensures in
     let a = not_refused _ _ _ _ refl c.self.invariant.shape at.0 c.in_default.is in
     let old : PushedOgg g.row.W.Denot = record {
       pushed = record {
@@ -136,17 +134,17 @@ returns-in-Ok-send_all-clause-written g c =
 
 pub returns-in-Ok-send_all-clause-accepted : goal.returns-in-Ok-send_all-clause-accepted
 returns-in-Ok-send_all-clause-accepted g c =
-    let at = fault_at _ _ c.self.inside.judge (map (λ b. b.now) c.args.block.now) _ _ _ c.self.view_is c.self.invariant.judge c.block_len-len.ensures c.size_fault-size.ensures c.push_fault.ensures.fault in
+    let at = fault_here _ _ (map (λ b. b.now) c.args.block.now) _ c.self.view_is c.push_fault.ensures in
     sym at.1 ∙ c.in_default.is
 
 pub returns-clause-refused : goal.returns-clause-refused
 returns-clause-refused g c =
-    let at = fault_at _ _ c.self.inside.judge (map (λ b. b.now) c.args.block.now) _ _ _ c.self.view_is c.self.invariant.judge c.block_len-len.ensures c.size_fault-size.ensures c.push_fault.ensures.fault in
+    let at = fault_here _ _ (map (λ b. b.now) c.args.block.now) _ c.self.view_is c.push_fault.ensures in
     inr (sym at.1 ∙ c.in_default.is, inr refl)
 
 pub returns-clause-begun : goal.returns-clause-begun
 returns-clause-begun g c =
-    let at = fault_at _ _ c.self.inside.judge (map (λ b. b.now) c.args.block.now) _ _ _ c.self.view_is c.self.invariant.judge c.block_len-len.ensures c.size_fault-size.ensures c.push_fault.ensures.fault in
+    let at = fault_here _ _ (map (λ b. b.now) c.args.block.now) _ c.self.view_is c.push_fault.ensures in
     let a = not_refused _ _ _ _ refl c.self.invariant.shape at.0 c.in_default.is in
     let old : PushedOgg g.row.W.Denot = record {
       pushed = record {
