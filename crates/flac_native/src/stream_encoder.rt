@@ -263,7 +263,8 @@ impl<W: Target + Drop> StreamEncoder<W> {
             block,
             self.number,
             &mut self.buffers,
-        ) else {
+        )
+        else {
             return Err(EncodeFault::Memory);
         };
         match send_all(&mut self.target, frame.as_slice()) {

@@ -3,8 +3,8 @@
 use flac_bits::{Collected, Counted, Memory, Target};
 use flac_meta::BlockList;
 use flac_native::{
-    Decoder, EncodeFault, LinearPredictor, Profile, SetupFault, StreamEncoder, StreamFormat, block_len,
-    predictors_fault,
+    Decoder, EncodeFault, LinearPredictor, Profile, SetupFault, StreamEncoder, StreamFormat,
+    block_len, predictors_fault,
 };
 use flac_testing::{Narrow, Recorder, count_rising, number_of};
 use std::alloc::Global;

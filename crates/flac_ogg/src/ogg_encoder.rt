@@ -350,7 +350,8 @@ impl<W: Target + Drop> OggEncoder<W> {
             block,
             self.number,
             &mut self.buffers,
-        ) else {
+        )
+        else {
             return Err(EncodeFault::Memory);
         };
         let end = self.samples + len;

@@ -1,12 +1,12 @@
 //! Verifies a stream in memory.
 
-ghost use Rattle.std.specs.Prelude.{⊤, [], true};
+ghost use Rattle.std.specs.Prelude.{◌≢◌, ⊤, [], true, IfErr};
 ghost use Rattle.flac_bits.specs.Handing.{outcome_of};
 ghost use Rattle.flac_native.specs.Item.{told};
 ghost use Rattle.flac_ogg.specs.Verifying.{Verifies};
 
 use crate::either::decode_any;
-use flac_bits::Memory;
+use flac_bits::{Memory, Why};
 use flac_frame::FrameView;
 use flac_meta::Block;
 use flac_native::{Fault, Profile, Sink, SinkFault};
@@ -44,9 +44,12 @@ impl Sink for Anything {
 ///
 /// # Errors
 /// The place and the reason for which the stream is refused: those of [`crate::decode_ogg`] or of [`crate::decode`]. Or
-/// [`Why::Memory`](crate::Why::Memory) if an allocation fails; no device is read.
+/// [`Why::Memory`] if an allocation fails; no device is read.
 pub fn verify(alloc: Global, bytes: &[u8], profile: Profile) -> Result<(), Fault>
-    ensures { Verifies profile bytes.now (outcome_of told result) }
+    ensures verifies { Verifies profile bytes.now (outcome_of told result) }
+    // No device is read, so none fails.
+    ensures read { IfErr result (λ f. f.why ≢ Why.Read) }
+    ensures sink { IfErr result (λ f. f.why ≢ Why.Sink) }
 {
     let mut source = Memory::new(bytes);
     let mut sink = Anything;

@@ -3,4 +3,4 @@ use Rattle.flac_native.specs.Item.{told}
 use Rattle.flac_c.proofs.verifying.flac_proved_verify.Goals as goal
 
 pub returns-clause-verified : goal.returns-clause-verified
-returns-clause-verified c = (outcome_of told c.verify.result, c.verify.ensures, c.in_c.ensures.value)
+returns-clause-verified c = (outcome_of told c.verify.result, c.verify.ensures.verifies, c.in_c.ensures.value)
