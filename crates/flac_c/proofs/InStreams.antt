@@ -26,7 +26,7 @@ use Rattle.flac_native.specs.declared.phase.Phase.{Phase}
 use Rattle.flac_native.specs.declared.phase.Phase.TheVariants.{Opening, Blocks, Frames}
 use Rattle.flac_native.proofs.Blocks.{block_there, marker_there}
 use Rattle.flac_native.proofs.OneHead.{heads}
-use Rattle.flac_native.proofs.Onwards.{Told, nothing_told, step_of, frame_there, same_info, after_profile}
+use Rattle.flac_native.proofs.Onwards.{Told, nothing_told, step_of, frame_there, same_info, untold_rules, after_profile}
 use Rattle.flac_c.specs.Cursors.{info_of, passed, IsFrameAt, HandsOver, StandsIn, GoesOn}
 use Rattle.flac_c.specs.declared.cursor.FlacProvedCursor.{FlacProvedCursor}
 use Rattle.flac_c.proofs.FramesRead.{frame_whole, left_behind}
@@ -41,22 +41,6 @@ at_most false greatest least first size before e = grind (arith, nat_tests)
 first_kept : (i : Info) (before : Option Before) (g : FrameForm) → AllKept (header_rules Subset i before g.header) → AllKept (header_rules Subset (untold i) None g.header)
 first_kept i None g k = k
 first_kept i (Some b) g k = (k.0, (k.1.0, (refl, (at_most g.header.variable i.greatest_block i.least_block b.first_size g.header.size b.size k.1.1.1.0, tt))))
-
-untold_rules : (i : Info) → KeepsRules i → KeepsRules (untold i)
-untold_rules i r = record {
-  least_block = r.least_block;
-  blocks = r.blocks;
-  greatest_block = r.greatest_block;
-  least_frame = r.least_frame;
-  greatest_frame = r.greatest_frame;
-  least_rate = r.least_rate;
-  rate = r.rate;
-  least_channels = r.least_channels;
-  channels = r.channels;
-  least_depth = r.least_depth;
-  depth = r.depth;
-  total = omega arith;
-}
 
 frame_alone : (i : Info) (before : Option Before) (m : Mark) (text : List Bool) (f : Frame) → KeepsRules i → m.unread ≡ 0 → Spells (frame Subset i before) (fresh m) text f → Spells (frame Subset (untold i) None) (beginning Truncated) text f
 frame_alone i before m text f rules u h =

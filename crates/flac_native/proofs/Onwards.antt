@@ -87,7 +87,7 @@ left_alike profile i (Some new) (Some old) h a k = record { variable = refl; num
 
 -- ---- a frame
 
-untold_rules : (i : Info) → KeepsRules i → KeepsRules (untold i)
+pub untold_rules : (i : Info) → KeepsRules i → KeepsRules (untold i)
 untold_rules i r = record {
   least_block = r.least_block;
   blocks = r.blocks;

@@ -9,7 +9,7 @@ use Rattle.flac_bits.specs.Items.{Joined, Stream, after}
 use Rattle.flac_bits.specs.declared.why.Why.TheVariants.{Truncated}
 use Rattle.flac_bits.proofs.ItemSpellings.{fresh_unread, behind_whole}
 use Rattle.flac_meta.specs.Header.{nothing_seen}
-use Rattle.flac_meta.specs.Info.{Info, KeepsRules}
+use Rattle.flac_meta.specs.Info.{Info}
 use Rattle.flac_meta.specs.declared.seen.Seen.{Seen}
 use Rattle.flac_frame.specs.Audio.{Sound, samples_each}
 use Rattle.flac_frame.specs.Frame.{left_by}
@@ -27,6 +27,7 @@ use Rattle.flac_native.proofs.Planned.{Planned, Fit, planned, fit, keeps_rules}
 use Rattle.flac_native.proofs.EachFrame.{Suits, Left, left_on, frame_here, at_frame, as_piece}
 use Rattle.flac_native.proofs.Encoded.{least_part}
 use Rattle.flac_native.proofs.Streams.{least_small}
+use Rattle.flac_native.proofs.Onwards.{untold_rules}
 
 -- among the frames of this STREAMINFO
 pub record Among (i : Info) (s : Progress) : Type 0 where
@@ -63,22 +64,6 @@ may_end i s e = rw (e.phase, e.info) refl
 ends_well : (i : Info) (s : Progress) → Among (untold i) s → AllKept (end_rules s.stand.info s.samples s.message)
 unfolding end_rules
 ends_well i s e = rw e.info (refl, (refl, tt))
-
-untold_rules : (i : Info) → KeepsRules i → KeepsRules (untold i)
-untold_rules i k = record {
-  least_block = k.least_block;
-  blocks = k.blocks;
-  greatest_block = k.greatest_block;
-  least_frame = k.least_frame;
-  greatest_frame = k.greatest_frame;
-  least_rate = k.least_rate;
-  rate = k.rate;
-  least_channels = k.least_channels;
-  channels = k.channels;
-  least_depth = k.least_depth;
-  depth = k.depth;
-  total = omega arith;
-}
 
 pub encoded_are_resumed : EncodedAreResumed
 encoded_are_resumed p a least greatest frames number planned_is fits f s few =

@@ -80,6 +80,26 @@ info_whole i = record {
       );
 }
 
+pub info_long : (i : Info) → length i.digest ≡ 16 → length (s.info_spelling i) ≡ 272
+unfolding s.info_spelling
+info_long i digest =
+    omega (
+      arith,
+      length-joined (
+          unsigned 16 i.least_block ∷ unsigned 16 i.greatest_block ∷ unsigned 24 i.least_frame ∷ unsigned 24 i.greatest_frame ∷
+          unsigned 20 i.rate ∷ unsigned 3 (i.channels - 1) ∷ unsigned 5 (i.depth - 1) ∷ unsigned 36 i.total ∷ bits_of i.digest ∷ []),
+      length-unsigned 16 i.least_block,
+      length-unsigned 16 i.greatest_block,
+      length-unsigned 24 i.least_frame,
+      length-unsigned 24 i.greatest_frame,
+      length-unsigned 20 i.rate,
+      length-unsigned 3 (i.channels - 1),
+      length-unsigned 5 (i.depth - 1),
+      length-unsigned 36 i.total,
+      length-bits_of i.digest,
+      digest,
+    )
+
 point_whole : (p : SeekPoint) → Whole (s.point_spelling p)
 unfolding s.point_spelling
 point_whole p = record { bytes = omega (arith, length-joined (unsigned 64 p.sample ∷ unsigned 64 p.offset ∷ unsigned 16 p.length ∷ []), length-unsigned 64 p.sample, length-unsigned 64 p.offset, length-unsigned 16 p.length) }

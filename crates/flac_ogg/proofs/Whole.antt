@@ -2,12 +2,11 @@
 use Rattle.std.proofs.Common.{◌≡◌, ℕ, ◌^◌, ◌<◌, Bool, true, List, [], ◌∷◌, ◌++◌, length, length-append, append-nil, map, get_or, ◌-◌, nat_eq, None, refl, sym, ap, subst, ◌∙◌, arith}
 use Rattle.std.specs.List.{All}
 use Rattle.std.proofs.lemmas.Bool.Decides.{nat_tests}
-use Rattle.flac_bits.specs.Bits.{unsigned, bits_of, is_nil}
+use Rattle.flac_bits.specs.Bits.{bits_of, is_nil}
 use Rattle.flac_bits.specs.State.{Mark, past}
 use Rattle.flac_bits.specs.Forms.{IsBytes}
 use Rattle.flac_bits.specs.declared.why.Why.TheVariants.{Truncated}
 use Rattle.flac_bits.proofs.Meaning.{past-short}
-use Rattle.flac_bits.proofs.Words.{length-unsigned}
 use Rattle.flac_bits.proofs.Holding.{length-bits_of}
 use Rattle.flac_meta.specs.Info.{Info}
 use Rattle.flac_meta.specs.Listed.{list_fault, info_seen}
@@ -22,7 +21,7 @@ use Rattle.flac_native.specs.Stream.{Piece}
 use Rattle.flac_native.specs.Given.{Cut, fits_plan, plan_fault, info_of, sound_message}
 use Rattle.flac_native.proofs.BlocksWritten.{nil_is}
 use Rattle.flac_native.proofs.Digests.{digest_is_bytes}
-use Rattle.flac_native.proofs.WholeBytes.{length-joined, header_long}
+use Rattle.flac_native.proofs.WholeBytes.{length-joined, header_long, info_long}
 use Rattle.flac_pages.specs.Pages.{closed, end_fault, unless_over}
 use Rattle.flac_pages.specs.Packets.{at_page}
 use Rattle.flac_pages.specs.Placed.{Placed, IsPlaced, stream_pages, stream_spelling}
@@ -35,29 +34,9 @@ use Rattle.flac_ogg.proofs.Packing.{mapping_long}
 
 -- ---- the first packet has 51 bytes
 
-info_long : (i : Info) → IsBytes 16 i.digest → length (s.info_spelling i) ≡ 272
-unfolding s.info_spelling
-info_long i is =
-    omega (
-      arith,
-      length-joined (
-          unsigned 16 i.least_block ∷ unsigned 16 i.greatest_block ∷ unsigned 24 i.least_frame ∷ unsigned 24 i.greatest_frame ∷
-          unsigned 20 i.rate ∷ unsigned 3 (i.channels - 1) ∷ unsigned 5 (i.depth - 1) ∷ unsigned 36 i.total ∷ bits_of i.digest ∷ []),
-      length-unsigned 16 i.least_block,
-      length-unsigned 16 i.greatest_block,
-      length-unsigned 24 i.least_frame,
-      length-unsigned 24 i.greatest_frame,
-      length-unsigned 20 i.rate,
-      length-unsigned 3 (i.channels - 1),
-      length-unsigned 5 (i.depth - 1),
-      length-unsigned 36 i.total,
-      length-bits_of i.digest,
-      is.many,
-    )
-
 pub block_long : (last : Bool) (i : Info) → IsBytes 16 i.digest → length (s.block_spelling last (block_of.StreamInfo i)) ≡ 304
 unfolding s.block_spelling s.content_spelling
-block_long last i is = omega (arith, length-joined (s.header_spelling last 0 (s.length_of (block_of.StreamInfo i)) ∷ s.info_spelling i ∷ []), header_long last 0 (s.length_of (block_of.StreamInfo i)), info_long i is)
+block_long last i is = omega (arith, length-joined (s.header_spelling last 0 (s.length_of (block_of.StreamInfo i)) ∷ s.info_spelling i ∷ []), header_long last 0 (s.length_of (block_of.StreamInfo i)), info_long i is.many)
 
 first_size : (count : ℕ) (last : Bool) (p : Cut) (a : Sound) (least greatest : ℕ) (packet : List ℕ) → bits_of packet ≡ mapping_spelling count ++ s.block_spelling last (block_of.StreamInfo (info_of p a least greatest)) → length packet ≡ 51
 first_size count last p a least greatest packet is =

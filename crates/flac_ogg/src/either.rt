@@ -1,54 +1,18 @@
 //! Decodes a stream in either container.
 
-ghost use Rattle.std.specs.Prelude.{◌≡◌, ◌<◌, ◌≤◌, ◌++◌, ◌⊎◌, true, [], OnOk, IfOk, IfErr, None, Ok};
+ghost use Rattle.std.specs.Prelude.{◌≡◌, ◌<◌, ◌≤◌, ◌⊎◌, true, IfErr, None, Ok};
 ghost use Rattle.flac_bits.specs.Bits.{bits_of};
 ghost use Rattle.flac_bits.specs.State.{Rises, short_of};
 ghost use Rattle.flac_bits.specs.Handing.{Hands, Decides, outcome_of};
 ghost use Rattle.flac_native.specs.Item.{told};
 ghost use Rattle.flac_native.specs.Decoding.{taken, beginning};
-ghost use Rattle.flac_ogg.specs.Fronts.{front_bytes};
 ghost use Rattle.flac_ogg.specs.Either.{begins_page, read_either};
 
 use crate::decoding::decode_ogg;
-use crate::fronted::Fronted;
+use crate::fronted::{Fronted, is_page, pull_front};
 use flac_bits::{Source, Why};
-use flac_native::{Fault, Place, Profile, Sink, decode};
+use flac_native::{Fault, Profile, Sink, decode};
 use std::alloc::Global;
-
-/// Whether this is the first byte of a page (RFC 3533, section 6).
-fn is_page(front: Option<u8>) -> bool
-    ensures { result ≡ begins_page (front_bytes front) }
-{
-    match front {
-        Some(byte) => byte == 0x4F,
-        None => false,
-    }
-}
-
-/// Pulls the first byte, if there is one.
-fn pull_front<R: Source>(source: &mut R) -> Result<Option<u8>, Fault>
-    ensures known { OnOk result (R.known source.old ≡ true → R.known source.new ≡ true) }
-    ensures bytes { IfOk result (λ front. R.known source.old ≡ true → R.coming source.old ≡ front_bytes front ++ R.coming source.new) }
-    ensures end { result ≡ Ok None → R.known source.old ≡ true → R.coming source.old ≡ [] }
-    ensures counted { OnOk result ((R.errors source.new ≡ R.errors source.old) × (R.raised source.new ≡ R.raised source.old)) }
-    ensures kept { R.errors source.old ≤ R.errors source.new }
-    ensures behind { R.known source.old ≡ true → R.errors source.new ≡ R.errors source.old → R.behind source.new ≡ R.behind source.old }
-    ensures place { IfErr result (λ f. f.at ≡ Place.Marker) }
-    ensures why { IfErr result (λ f. f.why ≡ Why.Read) }
-    ensures rises { IfErr result (λ f. R.known source.old ≡ true → R.raised source.old < R.raised source.new) }
-    ensures risen { IfErr result (λ f. Rises (R.raised source.old) (R.raised source.new)) }
-    ensures names { R.names source.new ≡ R.names source.old }
-{
-    let mut first = [0];
-    match source.pull(&mut first) {
-        Ok(0) => Ok(None),
-        Ok(_) => Ok(Some(first[0])),
-        Err(_) => Err(Fault {
-            at: Place::Marker,
-            why: Why::Read,
-        }),
-    }
-}
 
 /// Decodes an Ogg stream or a native one.
 fn decode_as<R: Source, S: Sink>(

@@ -51,6 +51,7 @@ pub use flac_native::{
     decode,
 };
 pub use flac_pages::{PacketBytes, Pages};
+pub use fronted::{Fronted, is_page, pull_front};
 pub use laws::{
     encoded_are_read, encoded_items, only_one_way, same_items, some_way, subset_is_lax,
 };

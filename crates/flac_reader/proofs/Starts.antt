@@ -32,7 +32,7 @@ use Rattle.flac_native.specs.Giving.{items_of}
 use Rattle.flac_native.specs.Stream.{marked, framed, grammar, opening, next}
 use Rattle.flac_native.specs.Whole.{head_parts}
 use Rattle.flac_native.specs.BlockOrder.{MarkedBlock, AreSpelled, without_marks, IsValid}
-use Rattle.flac_native.proofs.WholeBytes.{length-joined, header_long}
+use Rattle.flac_native.proofs.WholeBytes.{length-joined, header_long, info_long}
 use Rattle.flac_native.proofs.Blocks.{marker_there}
 use Rattle.flac_native.proofs.OneHead.{closing_ends}
 use Rattle.flac_native.proofs.NewHead.{valid_after}
@@ -74,26 +74,6 @@ sized_long text = omega (arith, length-joined (unsigned 32 (length text) ∷ bit
 zeros_long : (n : ℕ) → length (s.zero_bits n) ≡ n
 unfolding s.zero_bits
 zeros_long n = length-replicate n false
-
-info_long : (i : Info) → length i.digest ≡ 16 → length (s.info_spelling i) ≡ 8 * 34
-unfolding s.info_spelling
-info_long i digest =
-    omega (
-      arith,
-      length-joined (
-          unsigned 16 i.least_block ∷ unsigned 16 i.greatest_block ∷ unsigned 24 i.least_frame ∷ unsigned 24 i.greatest_frame ∷
-          unsigned 20 i.rate ∷ unsigned 3 (i.channels - 1) ∷ unsigned 5 (i.depth - 1) ∷ unsigned 36 i.total ∷ bits_of i.digest ∷ []),
-      length-unsigned 16 i.least_block,
-      length-unsigned 16 i.greatest_block,
-      length-unsigned 24 i.least_frame,
-      length-unsigned 24 i.greatest_frame,
-      length-unsigned 20 i.rate,
-      length-unsigned 3 (i.channels - 1),
-      length-unsigned 5 (i.depth - 1),
-      length-unsigned 36 i.total,
-      length-bits_of i.digest,
-      digest,
-    )
 
 point_long : (p : SeekPoint) → length (s.point_spelling p) ≡ 144
 unfolding s.point_spelling

@@ -1,21 +1,20 @@
 //! Opens streams in either container.
 
-ghost use Rattle.std.specs.Prelude.{◌≡◌, ◌≢◌, ◌<◌, ◌≤◌, ◌++◌, true, false, [], OnOk, OnErr, IfOk, IfErr, None, Ok};
+ghost use Rattle.std.specs.Prelude.{◌≡◌, ◌≢◌, ◌++◌, true, IfOk, IfErr, Ok};
 ghost use Rattle.flac_bits.specs.Bits.{bits_of};
-ghost use Rattle.flac_bits.specs.State.{Rises, short_of};
+ghost use Rattle.flac_bits.specs.State.{short_of};
 ghost use Rattle.flac_native.specs.Decoding.{beginning};
 ghost use Rattle.flac_ogg.specs.Fronts.{front_bytes};
 ghost use Rattle.flac_ogg.specs.Either.{begins_page, read_either};
 ghost use Rattle.flac_reader.specs.Either.{OpensEither};
 ghost use Rattle.flac_reader.specs.Refusing.{RefusesInput};
 
-use crate::fronted::Fronted;
 use crate::keep::Keep;
 use crate::opening::{open_native, open_ogg};
 use crate::reader::Reader;
 use flac_bits::BitReader;
-use flac_native::{Fault, Place, Profile, Source, Why};
-use flac_ogg::OggPackets;
+use flac_native::{Fault, Profile, Source, Why};
+use flac_ogg::{Fronted, OggPackets, is_page, pull_front};
 use std::alloc::Global;
 
 /// A reader of a native stream or of an Ogg stream: what [`open`] returns.
@@ -25,39 +24,6 @@ pub enum Opened<N, O> {
     Native(N),
     /// Of an Ogg stream (RFC 9639, section 10.1).
     Ogg(O),
-}
-
-/// Whether this is the first byte of a page (RFC 3533, section 6).
-fn is_page(front: Option<u8>) -> bool
-    ensures { result ≡ begins_page (front_bytes front) }
-{
-    match front {
-        Some(byte) => byte == 0x4F,
-        None => false,
-    }
-}
-
-/// Pulls the first byte, if there is one.
-fn pull_front<R: Source>(source: &mut R) -> Result<Option<u8>, Fault>
-    ensures known { OnOk result (R.known source.old ≡ true → R.known source.new ≡ true) }
-    ensures bytes { IfOk result (λ front. R.known source.old ≡ true → R.coming source.old ≡ front_bytes front ++ R.coming source.new) }
-    ensures end { result ≡ Ok None → R.known source.old ≡ true → R.coming source.old ≡ [] }
-    ensures counted { OnOk result ((R.errors source.new ≡ R.errors source.old) × (R.raised source.new ≡ R.raised source.old)) }
-    ensures behind { R.known source.old ≡ true → R.errors source.new ≡ R.errors source.old → R.behind source.new ≡ R.behind source.old }
-    ensures why { IfErr result (λ f. f.why ≡ Why.Read) }
-    ensures risen { IfErr result (λ f. Rises (R.raised source.old) (R.raised source.new)) }
-    ensures kept { R.errors source.old ≤ R.errors source.new }
-    ensures rises { OnErr result (R.known source.old ≡ true → R.raised source.old < R.raised source.new) }
-{
-    let mut first = [0];
-    match source.pull(&mut first) {
-        Ok(0) => Ok(None),
-        Ok(_) => Ok(Some(first[0])),
-        Err(_) => Err(Fault {
-            at: Place::Marker,
-            why: Why::Read,
-        }),
-    }
 }
 
 /// Opens a stream in the container that its first byte names.

@@ -13,7 +13,6 @@
 #![tactic(auto)]
 
 mod either;
-mod fronted;
 mod head;
 mod keep;
 mod laws;
@@ -31,7 +30,7 @@ pub use flac_native::{
     Block, Comments, Container, Counted, Decoder, Fault, FrameView, Memory, Place, Profile, Source,
     StreamInfo, Why,
 };
-pub use fronted::Fronted;
+pub use flac_ogg::Fronted;
 pub use head::read_blocks;
 pub use keep::Keep;
 pub use laws::{encoded_are_cut, encoded_are_sought, streams_are_cut};

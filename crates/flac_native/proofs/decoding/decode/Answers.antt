@@ -19,7 +19,7 @@ returns-clause-hands g c = λ known receives.
     let there = some_come (opening c.args.profile) (beginning (short_of ((R.behind source).fails))) (bits_of (R.coming source)) in
     calmer _ _ (λ q. (search (rules, q.0), search (rules, q.1)))
     (hands_of (by_grammar grammar (opening c.args.profile) (beginning (short_of ((R.behind source).fails))) (bits_of (R.coming source))) (taken g.S.Sink.takes) g.S.Sink.errors (opening c.args.profile) there.parts there.end _ (λ q at _. at ≡ grammar.place q) c.args.sink.now c.hand_out-outcome.new.sink (outcome_of told c.hand_out-outcome.result)
-    there.come (fronts (opening c.args.profile) (beginning (short_of ((R.behind source).fails))) (bits_of (R.coming source)) there.parts there.end there.come) (λ xs at e. e) (whole known receives there.parts there.end there.come))
+    there.come (fronts (opening c.args.profile) (beginning (short_of ((R.behind source).fails))) (bits_of (R.coming source)) there.parts there.end there.come) (λ xs at why e. e) (whole known receives there.parts there.end there.come))
 
 pub returns-clause-decides : goal.returns-clause-decides
 returns-clause-decides g c = λ known receives errors raised same.
