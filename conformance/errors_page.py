@@ -49,7 +49,7 @@ def printed(path, name):
 
 def numbered():
     """`EncodeFault::number`: the arms of its `match`."""
-    text = source("flac_native/src/encode_fault.rt")
+    text = source("flac_native/src/fault.rt")
     return [(int(number), name) for name, number in re.findall(r"EncodeFault::(\w+) => (\d+)", text)]
 
 
@@ -66,7 +66,7 @@ def own():
 def due():
     """The name of each number in the sources. A number that occurs in several has one name."""
     names = {}
-    encode = printed("flac_native/src/encode_fault.rt", "EncodeFault")
+    encode = printed("flac_native/src/fault.rt", "EncodeFault")
     if encode != numbered():
         raise SystemExit("errors_page: EncodeFault::number and its text differ")
     reasons = printed("flac_bits/src/why.rt", "Why")

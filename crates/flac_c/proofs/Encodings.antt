@@ -15,8 +15,8 @@ use Rattle.flac_frame.specs.declared.setup.SetupFault.{SetupFault}
 use Rattle.flac_frame.specs.declared.setup.SetupFault.TheVariants.{BadRate, BadDepth, BadChannels, LengthsDiffer, SampleTooLarge, TooLong, BadBlockSize, TooManyPoints, PredictorOrder, TooManyPredictors}
 use Rattle.flac_native.specs.Given.{Cut, plan_fault}
 use Rattle.flac_native.specs.Numbers.{fault_number, is_of_whole}
-use Rattle.flac_native.specs.declared.encode_fault.EncodeFault.{EncodeFault}
-use Rattle.flac_native.specs.declared.encode_fault.EncodeFault.TheVariants.{Memory, RepeatedBlock, BlockSize, BadMapping, Spent, Write, Setup}
+use Rattle.flac_native.specs.declared.fault.EncodeFault.{EncodeFault}
+use Rattle.flac_native.specs.declared.fault.EncodeFault.TheVariants.{Memory, RepeatedBlock, BlockSize, BadMapping, Spent, Write, Setup}
 use Rattle.flac_ogg.specs.RoundTrip.{is_no_ogg, is_repeated}
 use Rattle.flac_c.specs.Encoded.{sound_of, plan_of, blocks_of, serial_of, samples_fault, stream_fault}
 use Rattle.flac_c.specs.declared.tags.FlacProvedTags.{FlacProvedTags}

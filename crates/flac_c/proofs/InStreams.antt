@@ -22,8 +22,8 @@ use Rattle.flac_frame.proofs.FrameTie.{frames_spelled}
 use Rattle.flac_native.specs.Decoding.{beginning}
 use Rattle.flac_native.specs.Resuming.{untold}
 use Rattle.flac_native.specs.Stream.{Piece, framed, Stand, Progress, grammar, opening, next, layout, room_in}
-use Rattle.flac_native.specs.declared.phase.Phase.{Phase}
-use Rattle.flac_native.specs.declared.phase.Phase.TheVariants.{Opening, Blocks, Frames}
+use Rattle.flac_native.specs.declared.track.Phase.{Phase}
+use Rattle.flac_native.specs.declared.track.Phase.TheVariants.{Opening, Blocks, Frames}
 use Rattle.flac_native.proofs.Blocks.{block_there, marker_there}
 use Rattle.flac_native.proofs.OneHead.{heads}
 use Rattle.flac_native.proofs.Onwards.{Told, nothing_told, step_of, frame_there, same_info, untold_rules, after_profile}

@@ -14,8 +14,8 @@ use Rattle.flac_native.specs.Item.{told}
 use Rattle.flac_native.specs.Stream.{Piece, marked, block, framed, Progress, grammar, opening, next, may_end_in}
 use Rattle.flac_native.specs.declared.fault.Place.{Place}
 use Rattle.flac_native.specs.declared.fault.Fault.{Fault}
-use Rattle.flac_native.specs.declared.phase.Phase.{Phase}
-use Rattle.flac_native.specs.declared.phase.Phase.TheVariants.{Frames}
+use Rattle.flac_native.specs.declared.track.Phase.{Phase}
+use Rattle.flac_native.specs.declared.track.Phase.TheVariants.{Frames}
 use Rattle.flac_native.proofs.Deciding.{one_answer, has_bits}
 use Rattle.flac_native.proofs.OneHead.{heads}
 use Rattle.flac_native.proofs.Onwards.{frame_there}

@@ -4,13 +4,13 @@ use Rattle.flac_bits.specs.State.{State, past, fresh}
 use Rattle.flac_bits.specs.Meaning.{Spells}
 use Rattle.flac_bits.specs.Items.{Joined, Refused, after, mark_behind}
 use Rattle.flac_meta.specs.Block.{block as block_layout, seen_after}
-use Rattle.flac_meta.specs.declared.seen.Seen.{Seen}
+use Rattle.flac_meta.specs.declared.block.Seen.{Seen}
 use Rattle.flac_meta.specs.declared.block.Block.{Block}
 use Rattle.flac_meta.specs.declared.comments.Comments.{Comments}
 use Rattle.flac_header.specs.declared.subset.Profile.TheVariants.{Subset}
 use Rattle.flac_native.specs.Stream.{Piece, grammar, opening, info_after}
 use Rattle.flac_native.specs.declared.fault.Fault.{Fault}
-use Rattle.flac_native.specs.declared.phase.Phase.TheVariants.{Blocks, Frames}
+use Rattle.flac_native.specs.declared.track.Phase.TheVariants.{Blocks, Frames}
 use Rattle.flac_c.specs.Heads.{comments_from, comments_after, count_of}
 use Rattle.flac_c.specs.Starts.{are_metadata, point_after, point_from}
 use Rattle.flac_c.specs.declared.metadata.Metadata.{Metadata}

@@ -1,7 +1,7 @@
 -- Which refusals are failed writes.
 use Rattle.std.proofs.Common.{◌≡◌}
 use Rattle.flac_frame.specs.declared.setup.SetupFault.{SetupFault}
-use Rattle.flac_native.specs.declared.encode_fault.EncodeFault.{EncodeFault}
+use Rattle.flac_native.specs.declared.fault.EncodeFault.{EncodeFault}
 use Rattle.flac_cli.specs.Refusals.{refusal_of}
 use Rattle.flac_cli.specs.declared.predictors.ListFault.{ListFault}
 use Rattle.flac_cli.specs.declared.predictors.ListFault.TheVariants as faults

@@ -4,8 +4,8 @@ use Rattle.std.specs.Result.{is_err}
 use Rattle.flac_native.specs.Item.{told}
 use Rattle.flac_native.specs.declared.fault.Fault.{Fault}
 use Rattle.flac_native.specs.Numbers.{fault_number}
-use Rattle.flac_native.specs.declared.encode_fault.EncodeFault.{EncodeFault}
-use Rattle.flac_native.specs.declared.encode_fault.EncodeFault.TheVariants.{Memory, RepeatedBlock, BlockSize, BadMapping, Spent, Write, Setup}
+use Rattle.flac_native.specs.declared.fault.EncodeFault.{EncodeFault}
+use Rattle.flac_native.specs.declared.fault.EncodeFault.TheVariants.{Memory, RepeatedBlock, BlockSize, BadMapping, Spent, Write, Setup}
 use Rattle.flac_bits.specs.Handing.{outcome_of}
 use Rattle.flac_bits.specs.Bits.{bits_of, bit_value}
 use Rattle.flac_meta.specs.declared.block.Block.{Block}

@@ -16,7 +16,7 @@ use Rattle.flac_native.specs.Retag.{HasHead, IsRefused, too_long, not_written}
 use Rattle.flac_native.specs.Stream.{Piece}
 use Rattle.flac_native.specs.declared.fault.Fault.{Fault}
 use Rattle.flac_native.specs.declared.fault.Place.{Place}
-use Rattle.flac_native.specs.declared.retag_fault.RetagFault.{RetagFault}
+use Rattle.flac_native.specs.declared.retagging.RetagFault.{RetagFault}
 use Rattle.flac_cli.specs.Encoded.{comments_of}
 use Rattle.flac_cli.specs.Lined.{text_at, at_place}
 use Rattle.flac_cli.specs.Outcomes as outcomes

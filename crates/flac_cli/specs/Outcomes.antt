@@ -14,7 +14,7 @@ use Rattle.flac_native.specs.Retag.{HasHead, IsRefused}
 use Rattle.flac_native.specs.Stream.{Piece}
 use Rattle.flac_native.specs.declared.fault.Fault.{Fault}
 use Rattle.flac_native.specs.declared.fault.Place.{Place}
-use Rattle.flac_native.specs.declared.retag_fault.RetagFault.{RetagFault}
+use Rattle.flac_native.specs.declared.retagging.RetagFault.{RetagFault}
 use Rattle.flac_ogg.specs.Either.{begins_page, read_either}
 use Rattle.flac_cli.specs.Encoded.{comments_of}
 use Rattle.flac_cli.specs.Reports.{fault_line}

@@ -16,8 +16,8 @@ use Rattle.flac_native.specs.Given.{Cut, plan_fault}
 use Rattle.flac_native.specs.Message.{sample_width}
 use Rattle.flac_native.specs.Numbers as numbers
 use Rattle.flac_native.specs.Seeking.{repeats_table}
-use Rattle.flac_native.specs.declared.encode_fault.EncodeFault.{EncodeFault}
-use Rattle.flac_native.specs.declared.encode_fault.EncodeFault.TheVariants as encode
+use Rattle.flac_native.specs.declared.fault.EncodeFault.{EncodeFault}
+use Rattle.flac_native.specs.declared.fault.EncodeFault.TheVariants as encode
 use Rattle.flac_ogg.specs.Writing.{may_be_ogg}
 use Rattle.flac_cli.specs.Asked.{Asked}
 use Rattle.flac_cli.specs.Encoded.{comment_list, cut_as}

@@ -2,7 +2,7 @@
 use Rattle.std.specs.Prelude.{◌≡◌, ◌⊎◌, ℕ, true, List, ◌++◌, codes, Option, Some, None, unwrap_or}
 use Rattle.flac_bits.specs.declared.target.Target as target
 use Rattle.flac_frame.specs.declared.setup.SetupFault.TheVariants as setup
-use Rattle.flac_native.specs.declared.encode_fault.EncodeFault.TheVariants as encode
+use Rattle.flac_native.specs.declared.fault.EncodeFault.TheVariants as encode
 use Rattle.flac_cli.specs.Asked.{Asked}
 use Rattle.flac_cli.specs.Lined.{text_at}
 use Rattle.flac_cli.specs.declared.lines.At.TheVariants as at

@@ -24,8 +24,8 @@ use Rattle.flac_meta.specs.Block.{padding, application, other, content, block}
 use Rattle.flac_meta.specs.Spelling as s
 use Rattle.flac_meta.specs.Listed.{first_broken, is_forbidden, is_out_of_order, has_bad_sheet, block_fault, came}
 use Rattle.flac_meta.specs.Valid.{FitsFields, IsBlock, ContentSpelled, BlockSpelled, BlocksAreSpelled, BlocksAreReadAgain}
-use Rattle.flac_meta.specs.declared.header.BlockHeader.{BlockHeader}
-use Rattle.flac_meta.specs.declared.seen.Seen.{Seen}
+use Rattle.flac_meta.specs.declared.block.BlockHeader.{BlockHeader}
+use Rattle.flac_meta.specs.declared.block.Seen.{Seen}
 use Rattle.flac_meta.specs.declared.block.Block.{Block}
 use Rattle.flac_meta.specs.declared.block.Block.TheVariants as block_of
 use Rattle.flac_meta.proofs.Steps.{zeros_are}

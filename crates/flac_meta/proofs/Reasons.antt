@@ -11,7 +11,7 @@ use Rattle.flac_bits.proofs.Meaning.{takes, refuses, past-short}
 use Rattle.flac_meta.specs.Info.{info_sizes, info_format, stream_info}
 use Rattle.flac_meta.specs.Header.{block_header}
 use Rattle.flac_meta.specs.Padding.{skipped}
-use Rattle.flac_meta.specs.declared.seen.Seen.{Seen}
+use Rattle.flac_meta.specs.declared.block.Seen.{Seen}
 
 abbrev NoneGives : Why → List Rule → Type 0
 NoneGives w [] = ⊤

@@ -9,7 +9,7 @@ use Rattle.flac_bits.specs.declared.why.Why.{Why}
 use Rattle.flac_bits.proofs.Writing.{Towards, towards_last}
 use Rattle.flac_meta.specs.Spelling.{each_spelled, zero_bits}
 use Rattle.flac_meta.specs.Fielded.{field_spelling, fields_spelling}
-use Rattle.flac_meta.specs.declared.fielded.Field.{Field}
+use Rattle.flac_meta.specs.declared.fields.Field.{Field}
 
 -- one more item
 pub each_step : {A : Type 0} (spelling : A → List Bool) (xs : List A) (i : ℕ) (x : A) → i < length xs → x ≡ get_or xs i x

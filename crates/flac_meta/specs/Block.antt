@@ -12,8 +12,8 @@ use Rattle.flac_meta.specs.CueSheet.{cue_sheet}
 use Rattle.flac_meta.specs.Picture.{picture}
 use Rattle.flac_bits.specs.declared.why.Why.{Why}
 use Rattle.flac_bits.specs.declared.why.Why.TheVariants.{Memory}
-use Rattle.flac_meta.specs.declared.header.BlockHeader.{BlockHeader}
-use Rattle.flac_meta.specs.declared.seen.Seen.{Seen}
+use Rattle.flac_meta.specs.declared.block.BlockHeader.{BlockHeader}
+use Rattle.flac_meta.specs.declared.block.Seen.{Seen}
 use Rattle.flac_meta.specs.declared.block.Block.{Block}
 use Rattle.flac_meta.specs.declared.block.Block.TheVariants as block_of
 

@@ -2,7 +2,7 @@
 use Rattle.std.specs.Prelude.{Bool, List}
 use Rattle.flac_bits.specs.Bits.{unsigned}
 use Rattle.flac_meta.specs.Spelling.{each_spelled}
-use Rattle.flac_meta.specs.declared.fielded.Field.{Field}
+use Rattle.flac_meta.specs.declared.fields.Field.{Field}
 
 abbrev pub field_spelling : Field → List Bool
 field_spelling field = unsigned field.bits field.value

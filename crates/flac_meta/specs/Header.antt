@@ -2,8 +2,8 @@
 use Rattle.std.specs.Prelude.{ℕ, ◌%◌, Bool, false, not, ◌&&◌, ◌||◌, [], ◌∷◌, nat_eq, nat_lt}
 use Rattle.flac_bits.specs.Layout.{Layout, done, judge, ◌>>=◌, bits}
 use Rattle.flac_bits.specs.declared.why.Why.TheVariants.{NotStreamInfoFirst, ForbiddenType, RepeatedBlock, BlockLength}
-use Rattle.flac_meta.specs.declared.seen.Seen.{Seen}
-use Rattle.flac_meta.specs.declared.header.BlockHeader.{BlockHeader}
+use Rattle.flac_meta.specs.declared.block.Seen.{Seen}
+use Rattle.flac_meta.specs.declared.block.BlockHeader.{BlockHeader}
 
 -- no block came
 abbrev pub nothing_seen : Seen

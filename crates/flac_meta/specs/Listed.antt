@@ -6,7 +6,7 @@ use Rattle.flac_bits.specs.declared.why.Why.TheVariants as why
 use Rattle.flac_meta.specs.SeekTable.{in_order}
 use Rattle.flac_meta.specs.Spelling.{length_of}
 use Rattle.flac_meta.specs.Block.{seen_after}
-use Rattle.flac_meta.specs.declared.seen.Seen.{Seen}
+use Rattle.flac_meta.specs.declared.block.Seen.{Seen}
 use Rattle.flac_meta.specs.declared.cue_sheet.CueTrack.{CueTrack}
 use Rattle.flac_meta.specs.declared.cue_sheet.CueSheet.{CueSheet}
 use Rattle.flac_meta.specs.declared.block.Block.{Block}

@@ -9,7 +9,7 @@ use Rattle.flac_meta.specs.Info.{Info, KeepsRules}
 use Rattle.flac_meta.specs.Block.{block}
 use Rattle.flac_meta.specs.Spelling.{content_spelling, header_spelling, block_spelling, kind_of, length_of}
 use Rattle.flac_meta.specs.Listed.{came, block_fault}
-use Rattle.flac_meta.specs.declared.seen.Seen.{Seen}
+use Rattle.flac_meta.specs.declared.block.Seen.{Seen}
 use Rattle.flac_meta.specs.declared.seek_table.SeekPoint.{SeekPoint}
 use Rattle.flac_meta.specs.declared.comments.Comments.{Comments}
 use Rattle.flac_meta.specs.declared.cue_sheet.CueIndex.{CueIndex}

@@ -1,11 +1,29 @@
-//! Metadata blocks.
+//! Metadata blocks: what they are, which can be written, and how they are read and written (RFC 9639, section 8).
 
-use crate::comments::Comments;
-use crate::cue_sheet::CueSheet;
+ghost use Rattle.std.specs.Prelude.{◌≡◌, None, false, min, length, OnOk, IfOk, ◌+◌, ◌<◌, ◌≤◌, ◌^◌, OnErr, true, Ok, Err, Some, IfSome, ◌∷◌, []};
+ghost use Rattle.flac_meta.specs.Spelling.{kind_of, length_of, header_spelling, content_spelling, block_spelling, comments_length};
+ghost use Rattle.flac_meta.specs.Listed.{is_forbidden, block_fault, has_bad_sheet};
+ghost use Rattle.flac_meta.specs.Header.{nothing_seen, block_header};
+ghost use Rattle.flac_meta.specs.Block.{seen_after, application, content, block, MemoryAsked};
+ghost use Rattle.flac_bits.specs.Reading.{Counts, Reads, ReadsInRoom, Means};
+ghost use Rattle.flac_bits.specs.State.{Cursor};
+ghost use Rattle.flac_bits.specs.Layout.{run};
+ghost use Rattle.flac_meta.specs.declared.block.BlockHeader.{BlockHeader};
+ghost use Rattle.flac_bits.specs.Written.{Writes};
+ghost use Rattle.flac_bits.specs.Bits.{bits_of};
+ghost use Rattle.flac_bits.specs.Forms.{joined};
+ghost use Rattle.flac_meta.specs.declared.block.Block.TheVariants as block_of;
+
+use crate::comments::{Comments, put_comments, read_comments};
+use crate::cue_sheet::{CueSheet, is_bad, put_sheet, read_cue_sheet, tracks_behind};
+use crate::fields::{Field, TOO_LONG, capped, flag, read_exact, read_raw, skip_bytes};
 use crate::lists::Bytes;
-use crate::picture::Picture;
-use crate::seek_table::SeekTable;
-use crate::stream_info::StreamInfo;
+use crate::picture::{Picture, put_picture, read_picture};
+use crate::put::{put_fields, put_zeros};
+use crate::seek_table::{SeekTable, are_in_order, put_points, read_seek_table};
+use crate::stream_info::{StreamInfo, put_info, read_stream_info};
+use flac_bits::{BitReader, BitWriter, Source, Target, Why};
+use std::alloc::Global;
 
 /// A metadata block (RFC 9639, section 8.1). Sections are those of RFC 9639.
 #[derive(Clone, Debug, PartialEq, Eq, Drop)]
@@ -26,4 +44,406 @@ pub enum Block {
     Picture(Picture),
     /// Types 7 to 126: reserved. The content is kept as it is.
     Other { kind: u8, bytes: Bytes },
+}
+
+/// Whether a block keeps raw bytes under a type that is not reserved: outside 7 to 126.
+fn is_of_forbidden_kind(block: &Block) -> bool
+    ensures { result ≡ is_forbidden block.now }
+{
+    match block {
+        Block::Other { kind, bytes: _ } => *kind < 7 || *kind > 126,
+        _ => false,
+    }
+}
+
+/// Why a block cannot be written, or `None` if it can.
+pub(crate) fn fault_of(block: &Block) -> Option<Why>
+    ensures { result ≡ block_fault block.now }
+{
+    if is_of_forbidden_kind(block) {
+        return Some(Why::ForbiddenType);
+    }
+    if block.length() > 16777215 {
+        return Some(Why::BlockLength);
+    }
+    match block {
+        Block::SeekTable(table) => {
+            if are_in_order(table.points()) {
+                None
+            } else {
+                Some(Why::SeekOrder)
+            }
+        }
+        Block::CueSheet(sheet) => is_bad(sheet).then_some(Why::CueSheet),
+        _ => None,
+    }
+}
+
+impl Block {
+    /// The type of the block, as its header states it (RFC 9639, section 8.1).
+    pub fn kind(&self) -> u8
+        ensures { result ≡ kind_of self.now }
+    {
+        match self {
+            Block::StreamInfo(_) => 0,
+            Block::Padding(_) => 1,
+            Block::Application { id: _, bytes: _ } => 2,
+            Block::SeekTable(_) => 3,
+            Block::VorbisComment(_) => 4,
+            Block::CueSheet(_) => 5,
+            Block::Picture(_) => 6,
+            Block::Other { kind, bytes: _ } => *kind,
+        }
+    }
+
+    /// The length of the content in bytes, without the block's header; or 16777216 if it is above 16777215, the most
+    /// that a block can have.
+    pub fn length(&self) -> u64
+        ensures { result ≡ min (length_of self.now) 16777216 }
+    {
+        match self {
+            Block::StreamInfo(_) => 34,
+            Block::Padding(size) => (*size as u64).min(TOO_LONG),
+            Block::Application { id: _, bytes } => capped(4, bytes.len()),
+            Block::SeekTable(table) => {
+                let count = table.points().len();
+                capped(0, if count >= 16777216 { count } else { 18 * count })
+            }
+            Block::VorbisComment(comments) => comments.length(),
+            Block::CueSheet(sheet) => tracks_behind(396, sheet.tracks.as_slice()),
+            Block::Picture(picture) => {
+                let media = capped(32, picture.media.len());
+                let text = capped(media, picture.text.len());
+                capped(text, picture.bytes.len())
+            }
+            Block::Other { kind: _, bytes } => capped(0, bytes.len()),
+        }
+    }
+}
+
+/// Which kinds of blocks were read already; what may come next depends on it (RFC 9639, section 8.1).
+#[derive(Clone, Copy, Debug, PartialEq, Eq)]
+pub struct Seen {
+    pub(crate) stream_info: bool,
+    pub(crate) seek_table: bool,
+    pub(crate) comments: bool,
+}
+
+impl Seen {
+    /// Begins with no block read: the next one must be STREAMINFO.
+    pub fn new() -> Seen
+        ensures { result ≡ nothing_seen }
+    {
+        Seen {
+            stream_info: false,
+            seek_table: false,
+            comments: false,
+        }
+    }
+
+    /// Notes that this block was read.
+    pub(crate) fn note(&mut self, block: &Block)
+        ensures { self.new ≡ seen_after self.old block.now }
+    {
+        match block {
+            Block::StreamInfo(_) => self.stream_info = true,
+            Block::SeekTable(_) => self.seek_table = true,
+            Block::VorbisComment(_) => self.comments = true,
+            _ => {}
+        }
+    }
+}
+
+/// The header of a block: whether it is the last one, its type, and the length of its content in bytes (RFC 9639,
+/// section 8.1).
+#[derive(Clone, Copy)]
+pub struct BlockHeader {
+    pub last: bool,
+    pub kind: u8,
+    pub length: u32,
+}
+
+/// Reads the header of the next block, and checks type and length as far as they alone decide.
+#[tactic(auto, unfolding(crate::specs::Header::block_header))]
+pub(crate) fn read_block_header<R: Source>(
+    bits: &mut BitReader<R>,
+    seen: &Seen,
+) -> Result<BlockHeader, Why>
+    ensures small { IfOk result (λ h. h.length < 2 ^ 24) }
+    ensures id { IfOk result (λ h. h.kind ≡ 2 → 4 ≤ h.length) }
+    ensures spends { OnOk result (bits.new.most + 32 ≤ bits.old.most) }
+    ensures counts { Counts bits.old bits.new result }
+    ensures reads { Reads (λ h. h) (block_header seen.now) bits.old bits.new result }
+{
+    let last = bits.take(1)? == 1;
+    let kind = bits.take(7)? as u8;
+    let length = bits.take(24)? as u32;
+    if !seen.stream_info && kind != 0 {
+        return Err(Why::NotStreamInfoFirst);
+    }
+    if kind == 127 {
+        return Err(Why::ForbiddenType);
+    }
+    let repeated = match kind {
+        0 => seen.stream_info,
+        3 => seen.seek_table,
+        4 => seen.comments,
+        _ => false,
+    };
+    if repeated {
+        return Err(Why::RepeatedBlock);
+    }
+    let wrong_length = match kind {
+        0 => length != 34,
+        2 => length < 4,
+        3 => length % 18 != 0,
+        _ => false,
+    };
+    if wrong_length {
+        return Err(Why::BlockLength);
+    }
+    Ok(BlockHeader { last, kind, length })
+}
+
+/// Reads the content of an application block of `length` bytes (RFC 9639, section 8.4).
+#[tactic(auto, unfolding(crate::specs::Block::application))]
+fn read_application<R: Source>(
+    alloc: Global,
+    bits: &mut BitReader<R>,
+    length: u32,
+) -> Result<Block, Why>
+    requires { 4 ≤ length }
+    ensures spends { OnOk result (bits.new.most ≤ bits.old.most) }
+    ensures counts { Counts bits.old bits.new result }
+    ensures reads { ReadsInRoom (λ b. b) (application length) bits.old bits.new result }
+{
+    let mut id = [0u8; 4];
+    read_exact(bits, &mut id)?;
+    let bytes = read_raw(alloc, bits, length - 4)?;
+    Ok(Block::Application { id, bytes })
+}
+
+/// Reads the content of a block of this type and of `length` bytes.
+#[tactic(auto, unfolding(crate::specs::Block::content, crate::specs::Block::padding, crate::specs::Block::other))]
+fn read_content<R: Source>(
+    alloc: Global,
+    bits: &mut BitReader<R>,
+    kind: u8,
+    length: u32,
+) -> Result<Block, Why>
+    requires small { length < 2 ^ 24 }
+    requires id { kind ≡ 2 → 4 ≤ length }
+    ensures spends { OnOk result (bits.new.most ≤ bits.old.most) }
+    ensures counts { Counts bits.old bits.new result }
+    ensures reads { ReadsInRoom (λ b. b) (content kind length) bits.old bits.new result }
+    ensures spare { result ≡ Err Why.Memory → bits.old.known ≡ true → bits.new.errors ≡ bits.old.errors → (bits.old.cursor.mark.short ≡ Why.Memory → ⊥) → 1 < kind }
+{
+    match kind {
+        0 => Ok(Block::StreamInfo(read_stream_info(bits)?)),
+        1 => {
+            skip_bytes(bits, length)?;
+            Ok(Block::Padding(length))
+        }
+        2 => read_application(alloc, bits, length),
+        3 => Ok(Block::SeekTable(read_seek_table(alloc, bits, length / 18)?)),
+        4 => Ok(Block::VorbisComment(read_comments(alloc, bits, length)?)),
+        5 => Ok(Block::CueSheet(read_cue_sheet(alloc, bits, length)?)),
+        6 => Ok(Block::Picture(read_picture(alloc, bits, length)?)),
+        _ => {
+            let bytes = read_raw(alloc, bits, length)?;
+            Ok(Block::Other { kind, bytes })
+        }
+    }
+}
+
+/// What [`read_block`] does, but for the note in `seen`.
+#[tactic(auto, unfolding(crate::specs::Block::block))]
+fn next_block<R: Source>(
+    alloc: Global,
+    bits: &mut BitReader<R>,
+    seen: &Seen,
+) -> Result<(bool, Block), Why>
+    ensures spends { OnOk result (bits.new.most + 32 ≤ bits.old.most) }
+    ensures counts { Counts bits.old bits.new result }
+    ensures reads { ReadsInRoom (λ x. x) (block seen.now) bits.old bits.new result }
+    ensures spare { MemoryAsked seen.now bits.old bits.new result }
+{
+    let header = read_block_header(bits, seen)?;
+    let body = read_content(alloc, bits, header.kind, header.length)?;
+    Ok((header.last, body))
+}
+
+/// Reads the next metadata block, and returns whether it is marked last, and the block (RFC 9639, section 8). `seen`
+/// has the kinds of blocks that were read before; the new one is noted there.
+///
+/// ```
+/// let mut bits = BitReader::new(source); // after `fLaC`
+/// let mut seen = Seen::new();
+/// let (last, info) = read_block(rt.alloc(), &mut bits, &mut seen)?; // STREAMINFO
+/// ```
+///
+/// # Errors
+/// `seen` is then as before.
+///
+/// - [`Why::NotStreamInfoFirst`] if the first block is not STREAMINFO.
+/// - [`Why::ForbiddenType`] if the type is 127.
+/// - [`Why::RepeatedBlock`] if it is a second STREAMINFO, seek table or Vorbis comment.
+/// - [`Why::BlockLength`] if the length does not fit the type or the fields of the content.
+/// - [`Why::BadStreamInfo`], [`Why::SeekOrder`] or [`Why::CueSheet`] if the content breaks the rules of its fields.
+/// - [`Why::Memory`] if an allocation fails; not for STREAMINFO and padding, which need none.
+/// - Those of [`BitReader`].
+pub fn read_block<R: Source>(
+    alloc: Global,
+    bits: &mut BitReader<R>,
+    seen: &mut Seen,
+) -> Result<(bool, Block), Why>
+    ensures spends { OnOk result (bits.new.most + 32 ≤ bits.old.most) }
+    ensures counts { Counts bits.old bits.new result }
+    ensures reads { ReadsInRoom (λ x. x) (block seen.old) bits.old bits.new result }
+    ensures means { (result ≡ Err Why.Memory → ⊥) → Means (λ x. x) (block seen.old) bits.old bits.new result }
+    ensures spare { MemoryAsked seen.old bits.old bits.new result }
+    ensures seen { IfOk result (λ x. seen.new ≡ seen_after seen.old x.1) }
+    ensures unseen { OnErr result (seen.new ≡ seen.old) }
+{
+    let outcome = next_block(alloc, bits, seen);
+    if let Ok((_last, block)) = &outcome {
+        seen.note(block);
+    }
+    outcome
+}
+
+/// Writes the header of a block (RFC 9639, section 8.1).
+pub(crate) fn put_header<W: Target>(
+    writer: &mut BitWriter<W>,
+    last: bool,
+    kind: u8,
+    size: u32,
+) -> Result<(), Why>
+    requires kind { kind < 128 }
+    requires size { size < 2 ^ 24 }
+    ensures { Writes (header_spelling last kind size) writer.old writer.new result }
+{
+    let mark = flag(last);
+    put_fields(
+        writer,
+        &[
+            Field {
+                bits: 1,
+                value: mark,
+            },
+            Field {
+                bits: 7,
+                value: kind as u64,
+            },
+            Field {
+                bits: 24,
+                value: size as u64,
+            },
+        ],
+    )
+}
+
+/// Writes the content of an application block (RFC 9639, section 8.4).
+fn put_application<W: Target>(writer: &mut BitWriter<W>, id: &[u8], bytes: &[u8]) -> Result<(), Why>
+    ensures { Writes (joined (bits_of id.now ∷ bits_of bytes.now ∷ [])) writer.old writer.new result }
+{
+    writer.put_bytes(id)?;
+    writer.put_bytes(bytes)?;
+    Ok(())
+}
+
+/// Writes the content of a block.
+#[tactic(auto, unfolding(crate::specs::Spelling::content_spelling))]
+fn put_content<W: Target>(writer: &mut BitWriter<W>, block: &Block) -> Result<(), Why>
+    requires small { length_of block.now < 2 ^ 24 }
+    requires sheet { has_bad_sheet block.now ≡ false }
+    ensures { Writes (content_spelling block.now) writer.old writer.new result }
+{
+    match block {
+        Block::StreamInfo(info) => put_info(writer, info),
+        Block::Padding(size) => put_zeros(writer, 8 * *size),
+        Block::Application { id, bytes } => put_application(writer, id, bytes.as_slice()),
+        Block::SeekTable(table) => put_points(writer, table.points()),
+        Block::VorbisComment(comments) => put_comments(writer, comments),
+        Block::CueSheet(sheet) => put_sheet(writer, sheet),
+        Block::Picture(picture) => put_picture(writer, picture),
+        Block::Other { kind: _, bytes } => writer.put_bytes(bytes.as_slice()),
+    }
+}
+
+/// Writes a block that can be written.
+fn put_block<W: Target>(writer: &mut BitWriter<W>, block: &Block, last: bool) -> Result<(), Why>
+    requires { block_fault block.now ≡ None }
+    ensures { Writes (block_spelling last block.now) writer.old writer.new result }
+{
+    let kind = block.kind();
+    let size = block.length();
+    put_header(writer, last, kind, size as u32)?;
+    put_content(writer, block)?;
+    Ok(())
+}
+
+/// Writes the block of these comments, which are not too long.
+fn put_comments_block<W: Target>(
+    writer: &mut BitWriter<W>,
+    comments: &Comments,
+    last: bool,
+) -> Result<(), Why>
+    requires { comments_length comments.now < 2 ^ 24 }
+    ensures { Writes (block_spelling last (block_of.VorbisComment comments.now)) writer.old writer.new result }
+{
+    let size = comments.length();
+    put_header(writer, last, 4, size as u32)?;
+    put_comments(writer, comments)?;
+    Ok(())
+}
+
+/// Writes a metadata block: its header, marked last if `last` is true, and its content (RFC 9639, section 8).
+///
+/// ```
+/// let mut writer = BitWriter::new(Collected::new(rt.alloc()));
+/// write_block(&Block::Padding(2), true, &mut writer)?;
+/// let bytes = writer.into_bytes()?; // 81 00 00 02 00 00
+/// ```
+///
+/// # Errors
+/// If the block cannot be written, nothing is written, and the error is the first of these that applies:
+///
+/// - [`Why::ForbiddenType`] if it is a [`Block::Other`] of a type outside 7 to 126;
+/// - [`Why::BlockLength`] if the content has more than 16777215 bytes;
+/// - [`Why::SeekOrder`] if the points of a seek table do not rise;
+/// - [`Why::CueSheet`] if a cue sheet has no track, more than 255 tracks, or a track of more than 255 index points.
+///
+/// Else [`Why::Write`] if the target fails.
+pub fn write_block<W: Target>(
+    block: &Block,
+    last: bool,
+    writer: &mut BitWriter<W>,
+) -> Result<(), Why>
+    ensures refused { IfSome (block_fault block.now) (λ why. (result ≡ Err why) × (writer.new ≡ writer.old)) }
+    ensures writes { block_fault block.now ≡ None → Writes (block_spelling last block.now) writer.old writer.new result }
+{
+    if let Some(why) = fault_of(block) {
+        return Err(why);
+    }
+    put_block(writer, block, last)
+}
+
+/// Writes the Vorbis comment block of these comments, as [`write_block`] does.
+///
+/// # Errors
+/// [`Why::BlockLength`] if the content has more than 16777215 bytes: then nothing is written. [`Why::Write`] if the
+/// target fails.
+pub fn write_comments<W: Target>(
+    comments: &Comments,
+    last: bool,
+    writer: &mut BitWriter<W>,
+) -> Result<(), Why>
+    ensures refused { IfSome (block_fault (block_of.VorbisComment comments.now)) (λ why. (result ≡ Err why) × (writer.new ≡ writer.old)) }
+    ensures writes { block_fault (block_of.VorbisComment comments.now) ≡ None → Writes (block_spelling last (block_of.VorbisComment comments.now)) writer.old writer.new result }
+{
+    if comments.length() > 16777215 {
+        return Err(Why::BlockLength);
+    }
+    put_comments_block(writer, comments, last)
 }

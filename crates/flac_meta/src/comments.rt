@@ -1,11 +1,18 @@
-//! Vorbis comments.
+//! Vorbis comments (RFC 9639, section 8.6).
 
-ghost use Rattle.std.specs.Prelude.{◌≡◌, ◌≢◌, ℕ, ◌<◌, ◌≤◌, ◌+◌, ◌++◌, [], ◌∷◌, length, take, drop, nat_eq, EachIndex, MatchOption, OnOk, OnErr, IfOk, slice_index, slice_index_or};
+ghost use Rattle.std.specs.Prelude.{◌≡◌, ◌≢◌, ℕ, ◌<◌, ◌≤◌, ◌+◌, ◌++◌, [], ◌∷◌, length, take, drop, nat_eq, EachIndex, MatchOption, OnOk, OnErr, IfOk, slice_index, slice_index_or, min, ◌^◌};
 ghost use Rattle.std.specs.Iterator.{YieldsFirstRef, item_count};
 ghost use Rattle.flac_meta.specs.Parts.{HasNoEquals, LacksParts, AreParts};
 ghost use Rattle.flac_meta.specs.Named.{value_under, values_of, IsFirstOf};
+ghost use Rattle.flac_meta.specs.Spelling.{texts_length, comments_length, each_spelled, little_sized, comments_spelling};
+ghost use Rattle.flac_bits.specs.Reading.{Counts, ReadsInRoom};
+ghost use Rattle.flac_meta.specs.Comments.{texts, comments};
+ghost use Rattle.flac_bits.specs.Written.{Writes};
 
+use crate::fields::{capped, read_sized_little, skip_bytes};
 use crate::lists::{Bytes, Texts};
+use crate::put::put_little_sized;
+use flac_bits::{BitReader, BitWriter, Source, Target, Why, put_little_32, read_little_32};
 use std::alloc::{AllocError, Global};
 
 /// A Vorbis comment block: the tags of a stream (RFC 9639, section 8.6).
@@ -197,4 +204,104 @@ impl Comments {
         let k = place_of_equals(text)?;
         Some((&text[..k], &text[k + 1..]))
     }
+
+    /// The length in bytes of the content of a Vorbis comment block with these comments, or 16777216 if it is above
+    /// 16777215, the most that a block can have.
+    pub fn length(&self) -> u64
+        ensures { result ≡ min (comments_length self.now) 16777216 }
+    {
+        texts_behind(capped(8, self.vendor.len()), self.list.as_slice())
+    }
+}
+
+/// The length of these texts, each with 4 bytes for its length, after `before` bytes.
+fn texts_behind(before: u64, texts: &[Bytes]) -> u64
+    requires { before ≤ 16777216 }
+    ensures { result ≡ min (before + texts_length texts.now) 16777216 }
+{
+    let mut total = before;
+    for text in texts {
+        total = capped(capped(total, 4), text.len());
+    }
+    total
+}
+
+/// Reads `count` texts, which are all of the `left` bytes that are left of the content.
+#[tactic(auto, using(crate::proofs::Turns::texts_more, crate::proofs::Turns::texts_end, crate::proofs::Turns::turn_start))]
+fn read_texts<R: Source>(
+    alloc: Global,
+    bits: &mut BitReader<R>,
+    count: u32,
+    left: u32,
+) -> Result<Texts, Why>
+    requires { left < 2 ^ 24 }
+    ensures spends { OnOk result (bits.new.most ≤ bits.old.most) }
+    ensures counts { Counts bits.old bits.new result }
+    ensures reads { ReadsInRoom (λ t. t) (texts count left) bits.old bits.new result }
+{
+    let mut list = Vec::new(alloc);
+    let mut left = left;
+    for i in 0..count {
+        let _i = i;
+        let text = read_sized_little(alloc, bits, left)?;
+        left -= 4 + text.len() as u32;
+        list.push(text)?;
+    }
+    if left != 0 {
+        return Err(Why::BlockLength);
+    }
+    Ok(Texts::from_vec(list))
+}
+
+/// Reads a Vorbis comment of `left` bytes (RFC 9639, section 8.6).
+#[tactic(auto, unfolding(crate::specs::Comments::comments))]
+pub(crate) fn read_comments<R: Source>(
+    alloc: Global,
+    bits: &mut BitReader<R>,
+    left: u32,
+) -> Result<Comments, Why>
+    requires { left < 2 ^ 24 }
+    ensures spends { OnOk result (bits.new.most ≤ bits.old.most) }
+    ensures counts { Counts bits.old bits.new result }
+    ensures reads { ReadsInRoom (λ c. c) (comments left) bits.old bits.new result }
+{
+    let vendor = read_sized_little(alloc, bits, left)?;
+    let rest = left - (4 + vendor.len() as u32);
+    if rest < 4 {
+        skip_bytes(bits, rest)?;
+        return Err(Why::BlockLength);
+    }
+    let count = read_little_32(bits)?;
+    if count > (rest - 4) / 4 {
+        return Err(Why::BlockLength);
+    }
+    let list = read_texts(alloc, bits, count, rest - 4)?;
+    Ok(Comments { vendor, list })
+}
+
+/// Writes texts, each after its length.
+fn put_texts<W: Target>(writer: &mut BitWriter<W>, texts: &[Bytes]) -> Result<(), Why>
+    requires { texts_length texts.now < 2 ^ 24 }
+    ensures { Writes (each_spelled little_sized texts.now) writer.old writer.new result }
+{
+    for text in texts {
+        put_little_sized(writer, text.as_slice())?;
+    }
+    Ok(())
+}
+
+/// Writes a Vorbis comment (RFC 9639, section 8.6).
+#[tactic(auto, using(crate::proofs::Lengths::texts_many))]
+pub(crate) fn put_comments<W: Target>(
+    writer: &mut BitWriter<W>,
+    comments: &Comments,
+) -> Result<(), Why>
+    requires { comments_length comments.now < 2 ^ 24 }
+    ensures { Writes (comments_spelling comments.now) writer.old writer.new result }
+{
+    let vendor = comments.vendor.as_slice();
+    let list = comments.list.as_slice();
+    put_little_sized(writer, vendor)?;
+    put_little_32(list.len() as u32, writer)?;
+    put_texts(writer, list)
 }

@@ -1,10 +1,21 @@
-//! Cue sheets.
+//! Cue sheets (RFC 9639, section 8.7).
 
-ghost use Rattle.std.specs.Prelude.{◌≡◌};
+ghost use Rattle.std.specs.Prelude.{◌≡◌, ◌+◌, ◌≤◌, min, false, OnOk, IfOk, ◌*◌, ◌<◌, ◌^◌, length, ◌∷◌, [], not};
 ghost use Rattle.std.specs.Cmp.{partial_equiv_from_equiv};
 ghost use Rattle.std.specs.Cmp.Lexicographic.{pointwise, lists_equiv};
+ghost use Rattle.flac_meta.specs.Spelling.{tracks_length, zero_bits, each_spelled, index_spelling, track_spelling, sheet_spelling};
+ghost use Rattle.flac_meta.specs.Listed.{overflows, is_bad_sheet};
+ghost use Rattle.flac_bits.specs.Lists.{list_of};
+ghost use Rattle.flac_bits.specs.Reading.{Counts, Reads, ReadsInRoom};
+ghost use Rattle.flac_meta.specs.CueSheet.{cue_count, cue_index, track_front, cue_track, cue_tracks, sheet_front, cue_sheet};
+ghost use Rattle.flac_bits.specs.Bits.{unsigned, bits_of, bit_value};
+ghost use Rattle.flac_bits.specs.Forms.{joined};
+ghost use Rattle.flac_bits.specs.Written.{Writes};
 
-use std::alloc::AllocError;
+use crate::fields::{Field, capped, flag, read_exact, read_zeros, too_short};
+use crate::put::{put_fields, put_zeros};
+use flac_bits::{BitReader, BitWriter, Source, Target, Why};
+use std::alloc::{AllocError, Global};
 use std::marker::Model;
 
 /// An index point of a track (RFC 9639, section 8.7.1.1).
@@ -178,4 +189,311 @@ pub struct CueSheet {
     pub cd: bool,
     /// The tracks, with the lead-out; 1 to 255 if it is to be written.
     pub tracks: CueTracks,
+}
+
+/// The length of these tracks, after `before` bytes.
+pub(crate) fn tracks_behind(before: u64, tracks: &[CueTrack]) -> u64
+    requires { before ≤ 16777216 }
+    ensures { result ≡ min (before + tracks_length tracks.now) 16777216 }
+{
+    let mut total = before;
+    for track in tracks {
+        total = capped(total, 36);
+        let count = track.indices.as_slice().len();
+        total = capped(total, if count >= 16777216 { count } else { 12 * count });
+    }
+    total
+}
+
+/// Whether a track has more index points than one byte can count.
+fn overflow(tracks: &[CueTrack]) -> bool
+    ensures { result ≡ overflows tracks.now }
+{
+    for track in tracks {
+        if track.indices.as_slice().len() > 255 {
+            return true;
+        }
+    }
+    false
+}
+
+/// Whether a cue sheet has no track, or more tracks or index points than one byte can count.
+pub(crate) fn is_bad(sheet: &CueSheet) -> bool
+    ensures { result ≡ is_bad_sheet sheet.now }
+{
+    let tracks = sheet.tracks.as_slice();
+    if tracks.len() == 0 || tracks.len() > 255 {
+        return true;
+    }
+    overflow(tracks)
+}
+
+/// Reads an index point of a track (RFC 9639, section 8.7.1.1).
+#[tactic(auto, unfolding(crate::specs::CueSheet::cue_index, crate::specs::Fields::reserved))]
+fn read_index<R: Source>(bits: &mut BitReader<R>) -> Result<CueIndex, Why>
+    ensures spends { OnOk result (bits.new.most ≤ bits.old.most) }
+    ensures counts { Counts bits.old bits.new result }
+    ensures reads { Reads (λ i. i) cue_index bits.old bits.new result }
+{
+    let offset = bits.take(64)?;
+    let number = bits.take(8)? as u8;
+    if !read_zeros(bits, 8 * 3)? {
+        return Err(Why::CueSheet);
+    }
+    Ok(CueIndex { offset, number })
+}
+
+/// Reads `count` index points.
+#[tactic(auto, using(flac_bits::proofs::Lists::list_more, flac_bits::proofs::Lists::list_end, flac_bits::proofs::Lists::list_start))]
+fn read_indices<R: Source>(
+    alloc: Global,
+    bits: &mut BitReader<R>,
+    count: u8,
+) -> Result<CueIndices, Why>
+    ensures count { IfOk result (λ t. length t ≡ count) }
+    ensures spends { OnOk result (bits.new.most ≤ bits.old.most) }
+    ensures counts { Counts bits.old bits.new result }
+    ensures reads { ReadsInRoom (λ t. t) (list_of count cue_index) bits.old bits.new result }
+{
+    let mut items = Vec::new(alloc);
+    for i in 0..count {
+        let _i = i;
+        let index = read_index(bits)?;
+        items.push(index)?;
+    }
+    Ok(CueIndices::from_vec(items))
+}
+
+/// Reads the fields of a track before its index points.
+#[tactic(auto, unfolding(crate::specs::CueSheet::track_front, crate::specs::Fields::reserved))]
+fn read_track_front<R: Source>(
+    bits: &mut BitReader<R>,
+) -> Result<(u64, u8, [u8; 12], bool, bool), Why>
+    ensures spends { OnOk result (bits.new.most ≤ bits.old.most) }
+    ensures counts { Counts bits.old bits.new result }
+    ensures reads { Reads (λ f. f) track_front bits.old bits.new result }
+{
+    let offset = bits.take(64)?;
+    let number = bits.take(8)? as u8;
+    let mut isrc = [0u8; 12];
+    read_exact(bits, &mut isrc)?;
+    let audio = bits.take(1)? == 0;
+    let pre_emphasis = bits.take(1)? == 1;
+    if !read_zeros(bits, 6 + 8 * 13)? {
+        return Err(Why::CueSheet);
+    }
+    Ok((offset, number, isrc, audio, pre_emphasis))
+}
+
+/// Reads a track, of a content of which `left` bytes are left (RFC 9639, section 8.7.1).
+#[tactic(auto, unfolding(crate::specs::CueSheet::cue_track))]
+fn read_track<R: Source>(alloc: Global, bits: &mut BitReader<R>, left: u32) -> Result<CueTrack, Why>
+    requires { left < 2 ^ 24 }
+    ensures fits { IfOk result (λ t. 36 + 12 * length t.indices ≤ left) }
+    ensures spends { OnOk result (bits.new.most ≤ bits.old.most) }
+    ensures counts { Counts bits.old bits.new result }
+    ensures reads { ReadsInRoom (λ t. t) (cue_track left) bits.old bits.new result }
+{
+    if left < 35 {
+        return Err(too_short(bits, left));
+    }
+    let (offset, number, isrc, audio, pre_emphasis) = read_track_front(bits)?;
+    let count = read_count(bits, left - 35)?;
+    if left - 36 < 12 * count as u32 {
+        return Err(Why::BlockLength);
+    }
+    let indices = read_indices(alloc, bits, count)?;
+    Ok(CueTrack {
+        offset,
+        number,
+        isrc,
+        audio,
+        pre_emphasis,
+        indices,
+    })
+}
+
+/// Reads the number of tracks or of index points, of a content of which `left` bytes are left.
+#[tactic(auto, unfolding(crate::specs::CueSheet::cue_count))]
+fn read_count<R: Source>(bits: &mut BitReader<R>, left: u32) -> Result<u8, Why>
+    requires { left < 2 ^ 24 }
+    ensures fits { OnOk result (1 ≤ left) }
+    ensures spends { OnOk result (bits.new.most ≤ bits.old.most) }
+    ensures counts { Counts bits.old bits.new result }
+    ensures reads { Reads (λ n. n) (cue_count left) bits.old bits.new result }
+{
+    if left < 1 {
+        return Err(too_short(bits, left));
+    }
+    Ok(bits.take(8)? as u8)
+}
+
+/// Reads `count` tracks, which are all of the `left` bytes that are left of the content.
+#[tactic(auto, using(crate::proofs::Turns::tracks_more, crate::proofs::Turns::tracks_end, crate::proofs::Turns::turn_start))]
+fn read_tracks<R: Source>(
+    alloc: Global,
+    bits: &mut BitReader<R>,
+    count: u8,
+    left: u32,
+) -> Result<CueTracks, Why>
+    requires { left < 2 ^ 24 }
+    ensures spends { OnOk result (bits.new.most ≤ bits.old.most) }
+    ensures counts { Counts bits.old bits.new result }
+    ensures reads { ReadsInRoom (λ t. t) (cue_tracks count left) bits.old bits.new result }
+{
+    let mut tracks = Vec::new(alloc);
+    let mut left = left;
+    for i in 0..count {
+        let _i = i;
+        let track = read_track(alloc, bits, left)?;
+        left -= 36 + 12 * track.indices.as_slice().len() as u32;
+        tracks.push(track)?;
+    }
+    if left != 0 {
+        return Err(Why::BlockLength);
+    }
+    Ok(CueTracks::from_vec(tracks))
+}
+
+/// Reads the fields of a cue sheet before its tracks.
+#[tactic(auto, unfolding(crate::specs::CueSheet::sheet_front, crate::specs::Fields::reserved))]
+fn read_sheet_front<R: Source>(bits: &mut BitReader<R>) -> Result<([u8; 128], u64, bool), Why>
+    ensures spends { OnOk result (bits.new.most ≤ bits.old.most) }
+    ensures counts { Counts bits.old bits.new result }
+    ensures reads { Reads (λ f. f) sheet_front bits.old bits.new result }
+{
+    let mut catalogue = [0u8; 128];
+    read_exact(bits, &mut catalogue)?;
+    let lead_in = bits.take(64)?;
+    let cd = bits.take(1)? == 1;
+    if !read_zeros(bits, 7 + 8 * 258)? {
+        return Err(Why::CueSheet);
+    }
+    Ok((catalogue, lead_in, cd))
+}
+
+/// Reads a cue sheet of `left` bytes (RFC 9639, section 8.7).
+#[tactic(auto, unfolding(crate::specs::CueSheet::cue_sheet))]
+pub(crate) fn read_cue_sheet<R: Source>(
+    alloc: Global,
+    bits: &mut BitReader<R>,
+    left: u32,
+) -> Result<CueSheet, Why>
+    requires { left < 2 ^ 24 }
+    ensures spends { OnOk result (bits.new.most ≤ bits.old.most) }
+    ensures counts { Counts bits.old bits.new result }
+    ensures reads { ReadsInRoom (λ s. s) (cue_sheet left) bits.old bits.new result }
+{
+    if left < 395 {
+        return Err(too_short(bits, left));
+    }
+    let (catalogue, lead_in, cd) = read_sheet_front(bits)?;
+    let count = read_count(bits, left - 395)?;
+    if count == 0 {
+        return Err(Why::CueSheet);
+    }
+    if left - 396 < 36 * count as u32 {
+        return Err(Why::BlockLength);
+    }
+    let tracks = read_tracks(alloc, bits, count, left - 396)?;
+    Ok(CueSheet {
+        catalogue,
+        lead_in,
+        cd,
+        tracks,
+    })
+}
+
+/// Writes an index point of a track (RFC 9639, section 8.7.1.1).
+fn put_index<W: Target>(writer: &mut BitWriter<W>, index: &CueIndex) -> Result<(), Why>
+    ensures { Writes (index_spelling index.now) writer.old writer.new result }
+{
+    writer.put(64, index.offset)?;
+    writer.put(8, index.number as u64)?;
+    put_zeros(writer, 8 * 3)
+}
+
+/// Writes the index points of a track.
+fn put_indices<W: Target>(writer: &mut BitWriter<W>, indices: &[CueIndex]) -> Result<(), Why>
+    ensures { Writes (each_spelled index_spelling indices.now) writer.old writer.new result }
+{
+    for index in indices {
+        put_index(writer, index)?;
+    }
+    Ok(())
+}
+
+/// Writes the offset, the number and the recording code of a track.
+fn put_track_front<W: Target>(writer: &mut BitWriter<W>, track: &CueTrack) -> Result<(), Why>
+    ensures { Writes (joined (unsigned 64 track.now.offset ∷ unsigned 8 track.now.number ∷ bits_of track.now.isrc ∷ [])) writer.old writer.new result }
+{
+    writer.put(64, track.offset)?;
+    writer.put(8, track.number as u64)?;
+    writer.put_bytes(&track.isrc)
+}
+
+/// Writes the flags of a track and the reserved bits after them.
+fn put_track_flags<W: Target>(writer: &mut BitWriter<W>, track: &CueTrack) -> Result<(), Why>
+    ensures { Writes (joined (unsigned 1 (bit_value (not track.now.audio)) ∷ unsigned 1 (bit_value track.now.pre_emphasis) ∷ zero_bits (6 + 8 * 13) ∷ [])) writer.old writer.new result }
+{
+    let data = flag(!track.audio);
+    let emphasis = flag(track.pre_emphasis);
+    put_fields(
+        writer,
+        &[
+            Field {
+                bits: 1,
+                value: data,
+            },
+            Field {
+                bits: 1,
+                value: emphasis,
+            },
+        ],
+    )?;
+    put_zeros(writer, 6 + 8 * 13)
+}
+
+/// Writes a track (RFC 9639, section 8.7.1).
+fn put_track<W: Target>(writer: &mut BitWriter<W>, track: &CueTrack) -> Result<(), Why>
+    requires { length track.now.indices ≤ 255 }
+    ensures { Writes (track_spelling track.now) writer.old writer.new result }
+{
+    let indices = track.indices.as_slice();
+    put_track_front(writer, track)?;
+    put_track_flags(writer, track)?;
+    writer.put(8, indices.len() as u64)?;
+    put_indices(writer, indices)
+}
+
+/// Writes the tracks of a cue sheet.
+fn put_tracks<W: Target>(writer: &mut BitWriter<W>, tracks: &[CueTrack]) -> Result<(), Why>
+    requires { overflows tracks.now ≡ false }
+    ensures { Writes (each_spelled track_spelling tracks.now) writer.old writer.new result }
+{
+    for track in tracks {
+        put_track(writer, track)?;
+    }
+    Ok(())
+}
+
+/// Writes the fields of a cue sheet before its tracks.
+fn put_sheet_front<W: Target>(writer: &mut BitWriter<W>, sheet: &CueSheet) -> Result<(), Why>
+    ensures { Writes (joined (bits_of sheet.now.catalogue ∷ unsigned 64 sheet.now.lead_in ∷ unsigned 1 (bit_value sheet.now.cd) ∷ zero_bits (7 + 8 * 258) ∷ [])) writer.old writer.new result }
+{
+    writer.put_bytes(&sheet.catalogue)?;
+    writer.put(64, sheet.lead_in)?;
+    writer.put(1, flag(sheet.cd))?;
+    put_zeros(writer, 7 + 8 * 258)
+}
+
+/// Writes a cue sheet (RFC 9639, section 8.7).
+pub(crate) fn put_sheet<W: Target>(writer: &mut BitWriter<W>, sheet: &CueSheet) -> Result<(), Why>
+    requires { is_bad_sheet sheet.now ≡ false }
+    ensures { Writes (sheet_spelling sheet.now) writer.old writer.new result }
+{
+    let tracks = sheet.tracks.as_slice();
+    put_sheet_front(writer, sheet)?;
+    writer.put(8, tracks.len() as u64)?;
+    put_tracks(writer, tracks)
 }

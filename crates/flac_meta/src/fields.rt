@@ -1,16 +1,76 @@
-//! Fields inside the content of a block.
+//! Fields inside the content of a block: how they are read, and what is to be written.
 
-ghost use Rattle.std.specs.Prelude.{◌≡◌, OnOk, IfOk, ◌+◌, ◌-◌, ◌*◌, ◌<◌, ◌≤◌, ◌^◌, length, true};
+ghost use Rattle.std.specs.Prelude.{◌≡◌, ◌<◌, ◌≤◌, ◌^◌, OnOk, ◌*◌, length, ⊤, Err, IfOk, ◌+◌, ◌-◌, true, min};
+ghost use Rattle.flac_bits.specs.Bits.{bit_value};
 ghost use Rattle.flac_bits.specs.Layout.{bits as number};
 ghost use Rattle.flac_bits.specs.Lists.{list_of};
-ghost use Rattle.flac_bits.specs.LittleEndian.{little_32};
 ghost use Rattle.flac_bits.specs.Reading.{Counts, Reads, ReadsInRoom};
-ghost use Rattle.flac_meta.specs.Fields.{sized, number_32, zeros};
+ghost use Rattle.flac_meta.specs.Fields.{ends_short, sized, number_32, zeros};
+ghost use Rattle.flac_meta.specs.Padding.{skipped};
+ghost use Rattle.flac_bits.specs.LittleEndian.{little_32};
 
-use crate::exact::too_short;
 use crate::lists::Bytes;
 use flac_bits::{BitReader, Source, Why, read_little_32};
 use std::alloc::Global;
+
+/// A number, and how many bits it takes, at most 64.
+#[derive(Clone, Copy)]
+pub struct Field {
+    pub bits: u32,
+    pub value: u64,
+    ghost few: { bits ≤ 64 },
+    ghost fits: { value < 2 ^ bits },
+}
+
+/// A flag as a number of one bit.
+pub(crate) fn flag(set: bool) -> u64
+    ensures value { result ≡ bit_value set }
+    ensures fits { result < 2 ^ 1 }
+{
+    if set { 1 } else { 0 }
+}
+
+/// Fills `out` with the next bytes.
+#[tactic(auto, using(flac_bits::proofs::Lists::list_more, flac_bits::proofs::Lists::list_end, flac_bits::proofs::Lists::list_start))]
+pub(crate) fn read_exact<R: Source>(bits: &mut BitReader<R>, out: &mut [u8]) -> Result<(), Why>
+    ensures spends { OnOk result (bits.new.most ≤ bits.old.most) }
+    ensures counts { Counts bits.old bits.new result }
+    ensures reads { Reads (λ _. out.new) (list_of (length out.old) (number 8)) bits.old bits.new result }
+{
+    for i in 0..out.len() {
+        out[i] = bits.take(8)? as u8;
+    }
+    Ok(())
+}
+
+/// Skips `length` bytes.
+#[tactic(auto, using(crate::proofs::Skips::skip_more, crate::proofs::Skips::skip_last))]
+pub(crate) fn skip_bytes<R: Source>(bits: &mut BitReader<R>, length: u32) -> Result<(), Why>
+    requires { length < 2 ^ 24 }
+    ensures spends { OnOk result (bits.new.most ≤ bits.old.most) }
+    ensures counts { Counts bits.old bits.new result }
+    ensures reads { Reads (λ _. tt) (skipped (8 * length)) bits.old bits.new result }
+{
+    for i in 0..length / 8 {
+        let _i = i;
+        let _word = bits.take(64)?;
+    }
+    let _rest = bits.take(8 * (length % 8))?;
+    Ok(())
+}
+
+/// Skips the last bytes of a content that has too few of them, and returns the error: [`Why::BlockLength`] if they can
+/// be read.
+pub(crate) fn too_short<R: Source>(bits: &mut BitReader<R>, left: u32) -> Why
+    requires { left < 2 ^ 24 }
+    ensures counts { Counts {X = ⊤} bits.old bits.new (Err result) }
+    ensures reads { Reads {X = ⊤} (λ u. u) (ends_short left) bits.old bits.new (Err result) }
+{
+    match skip_bytes(bits, left) {
+        Ok(()) => Why::BlockLength,
+        Err(why) => why,
+    }
+}
 
 /// Reads `size` bytes. Memory is allocated as they come, not by the number that the input states.
 #[tactic(auto, using(flac_bits::proofs::Lists::list_more, flac_bits::proofs::Lists::list_end, flac_bits::proofs::Lists::list_start))]
@@ -107,4 +167,18 @@ pub(crate) fn read_zeros<R: Source>(bits: &mut BitReader<R>, count: u32) -> Resu
         clear &= word == 0;
     }
     Ok(clear)
+}
+
+/// One more than the largest length of a content in bytes.
+pub(crate) const TOO_LONG: u64 = 16777216;
+
+/// The sum of two lengths, or 16777216 if it is larger.
+pub(crate) fn capped(a: u64, b: usize) -> u64
+    requires { a ≤ 16777216 }
+    ensures { result ≡ min (a + b) 16777216 }
+{
+    if b >= 16777216 {
+        return TOO_LONG;
+    }
+    (a + b as u64).min(TOO_LONG)
 }

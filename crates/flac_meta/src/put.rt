@@ -1,12 +1,11 @@
-//! Writing of the parts of blocks.
+//! Writes fields inside the content of a block.
 
-ghost use Rattle.std.specs.Prelude.{◌≡◌, ◌<◌, ◌≤◌, ◌^◌, ◌*◌, length};
+ghost use Rattle.std.specs.Prelude.{◌<◌, ◌^◌, length};
 ghost use Rattle.flac_bits.specs.Written.{Writes};
 ghost use Rattle.flac_meta.specs.Fielded.{fields_spelling};
-ghost use Rattle.flac_meta.specs.Spelling.{zero_bits, little_sized, sized_bits, header_spelling, info_spelling};
+ghost use Rattle.flac_meta.specs.Spelling.{zero_bits, little_sized, sized_bits};
 
-use crate::fielded::{Field, flag};
-use crate::stream_info::StreamInfo;
+use crate::fields::Field;
 use flac_bits::{BitWriter, Target, Why, put_little_32};
 
 /// Writes these fields, one after another.
@@ -31,51 +30,6 @@ pub(crate) fn put_zeros<W: Target>(writer: &mut BitWriter<W>, count: u32) -> Res
     Ok(())
 }
 
-/// Writes the content of STREAMINFO (RFC 9639, section 8.2).
-#[tactic(auto, unfolding(crate::specs::Spelling::info_spelling))]
-pub(crate) fn put_info<W: Target>(writer: &mut BitWriter<W>, info: &StreamInfo) -> Result<(), Why>
-    ensures { Writes (info_spelling info.now) writer.old writer.new result }
-{
-    put_fields(
-        writer,
-        &[
-            Field {
-                bits: 16,
-                value: info.least_block as u64,
-            },
-            Field {
-                bits: 16,
-                value: info.greatest_block as u64,
-            },
-            Field {
-                bits: 24,
-                value: info.least_frame as u64,
-            },
-            Field {
-                bits: 24,
-                value: info.greatest_frame as u64,
-            },
-            Field {
-                bits: 20,
-                value: info.rate as u64,
-            },
-            Field {
-                bits: 3,
-                value: (info.channels - 1) as u64,
-            },
-            Field {
-                bits: 5,
-                value: (info.depth - 1) as u64,
-            },
-            Field {
-                bits: 36,
-                value: info.total,
-            },
-        ],
-    )?;
-    writer.put_bytes(&info.digest)
-}
-
 /// Writes the number of bytes in 32 bits, lowest byte first, and the bytes.
 pub(crate) fn put_little_sized<W: Target>(
     writer: &mut BitWriter<W>,
@@ -95,35 +49,4 @@ pub(crate) fn put_sized<W: Target>(writer: &mut BitWriter<W>, bytes: &[u8]) -> R
 {
     writer.put(32, bytes.len() as u64)?;
     writer.put_bytes(bytes)
-}
-
-/// Writes the header of a block (RFC 9639, section 8.1).
-pub(crate) fn put_header<W: Target>(
-    writer: &mut BitWriter<W>,
-    last: bool,
-    kind: u8,
-    size: u32,
-) -> Result<(), Why>
-    requires kind { kind < 128 }
-    requires size { size < 2 ^ 24 }
-    ensures { Writes (header_spelling last kind size) writer.old writer.new result }
-{
-    let mark = flag(last);
-    put_fields(
-        writer,
-        &[
-            Field {
-                bits: 1,
-                value: mark,
-            },
-            Field {
-                bits: 7,
-                value: kind as u64,
-            },
-            Field {
-                bits: 24,
-                value: size as u64,
-            },
-        ],
-    )
 }

@@ -1,10 +1,15 @@
-//! Seek tables.
+//! Seek tables (RFC 9639, section 8.5).
 
-ghost use Rattle.std.specs.Prelude.{◌≡◌};
+ghost use Rattle.std.specs.Prelude.{◌≡◌, OnOk, ◌<◌, ◌≤◌, length, None, false};
 ghost use Rattle.std.specs.Cmp.{partial_equiv_from_equiv};
 ghost use Rattle.std.specs.Cmp.Lexicographic.{pointwise, lists_equiv};
+ghost use Rattle.flac_bits.specs.Reading.{Counts, Reads, ReadsInRoom};
+ghost use Rattle.flac_meta.specs.SeekTable.{follows, seek_point, seek_points, in_order};
+ghost use Rattle.flac_bits.specs.Written.{Writes};
+ghost use Rattle.flac_meta.specs.Spelling.{each_spelled, point_spelling};
 
-use std::alloc::AllocError;
+use flac_bits::{BitReader, BitWriter, Source, Target, Why};
+use std::alloc::{AllocError, Global};
 use std::marker::Model;
 
 /// A frame to which a player can jump (RFC 9639, section 8.5.1).
@@ -84,4 +89,93 @@ impl SeekTable {
     {
         self.points.as_slice()
     }
+}
+
+/// Whether a seek point of this sample number may come after one of the number `before`: if it is larger, or a
+/// placeholder.
+pub(crate) fn may_follow(before: Option<u64>, sample: u64) -> bool
+    ensures { result ≡ follows before sample }
+{
+    match before {
+        None => true,
+        Some(number) => number < sample || sample == u64::MAX,
+    }
+}
+
+/// Reads a seek point that comes after one of the sample number `before`.
+#[tactic(auto, unfolding(crate::specs::SeekTable::seek_point))]
+fn read_point<R: Source>(bits: &mut BitReader<R>, before: Option<u64>) -> Result<SeekPoint, Why>
+    ensures spends { OnOk result (bits.new.most ≤ bits.old.most) }
+    ensures counts { Counts bits.old bits.new result }
+    ensures reads { Reads (λ p. p) (seek_point before) bits.old bits.new result }
+{
+    let sample = bits.take(64)?;
+    let offset = bits.take(64)?;
+    let length = bits.take(16)? as u16;
+    if !may_follow(before, sample) {
+        return Err(Why::SeekOrder);
+    }
+    Ok(SeekPoint {
+        sample,
+        offset,
+        length,
+    })
+}
+
+/// Reads a seek table of `count` points.
+#[tactic(auto, using(crate::proofs::Turns::points_more, crate::proofs::Turns::points_end, crate::proofs::Turns::turn_start))]
+pub(crate) fn read_seek_table<R: Source>(
+    alloc: Global,
+    bits: &mut BitReader<R>,
+    count: u32,
+) -> Result<SeekTable, Why>
+    ensures spends { OnOk result (bits.new.most ≤ bits.old.most) }
+    ensures counts { Counts bits.old bits.new result }
+    ensures reads { ReadsInRoom (λ t. t) (seek_points count None) bits.old bits.new result }
+{
+    let mut points = Vec::new(alloc);
+    let mut before = None;
+    for i in 0..count {
+        let _i = i;
+        let point = read_point(bits, before)?;
+        before = Some(point.sample);
+        points.push(point)?;
+    }
+    Ok(SeekTable::from_vec(points))
+}
+
+/// Writes a seek point (RFC 9639, section 8.5.1).
+fn put_point<W: Target>(writer: &mut BitWriter<W>, point: &SeekPoint) -> Result<(), Why>
+    ensures { Writes (point_spelling point.now) writer.old writer.new result }
+{
+    writer.put(64, point.sample)?;
+    writer.put(64, point.offset)?;
+    writer.put(16, point.length as u64)
+}
+
+/// Writes seek points (RFC 9639, section 8.5).
+pub(crate) fn put_points<W: Target>(
+    writer: &mut BitWriter<W>,
+    points: &[SeekPoint],
+) -> Result<(), Why>
+    ensures { Writes (each_spelled point_spelling points.now) writer.old writer.new result }
+{
+    for point in points {
+        put_point(writer, point)?;
+    }
+    Ok(())
+}
+
+/// Whether the sample numbers of the points rise, with placeholders last.
+pub(crate) fn are_in_order(points: &[SeekPoint]) -> bool
+    ensures { result ≡ in_order None points.now }
+{
+    let mut before = None;
+    for point in points {
+        if !may_follow(before, point.sample) {
+            return false;
+        }
+        before = Some(point.sample);
+    }
+    true
 }

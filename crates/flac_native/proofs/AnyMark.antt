@@ -9,8 +9,8 @@ use Rattle.flac_meta.proofs.Blocks.{blocks_spelled}
 use Rattle.flac_header.specs.declared.subset.Profile.{Profile}
 use Rattle.flac_frame.proofs.FrameTie.{frames_spelled}
 use Rattle.flac_native.specs.Stream.{Piece, Stand, Progress, grammar, opening, next, layout, layout_in, marker, room_in}
-use Rattle.flac_native.specs.declared.phase.Phase.{Phase}
-use Rattle.flac_native.specs.declared.phase.Phase.TheVariants.{Opening, Blocks, Frames}
+use Rattle.flac_native.specs.declared.track.Phase.{Phase}
+use Rattle.flac_native.specs.declared.track.Phase.TheVariants.{Opening, Blocks, Frames}
 use Rattle.flac_native.proofs.Onwards.{Told, nothing_told, step_of, frame_there, as_part}
 
 -- ---- one part

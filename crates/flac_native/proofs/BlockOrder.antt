@@ -14,7 +14,7 @@ use Rattle.flac_meta.specs.Header.{nothing_seen}
 use Rattle.flac_meta.specs.Block.{seen_after}
 use Rattle.flac_meta.specs.Listed.{came, info_seen}
 use Rattle.flac_meta.specs.Valid.{IsBlock, BlockSpelled}
-use Rattle.flac_meta.specs.declared.seen.Seen.{Seen}
+use Rattle.flac_meta.specs.declared.block.Seen.{Seen}
 use Rattle.flac_meta.specs.declared.block.Block.{Block}
 use Rattle.flac_meta.specs.declared.block.Block.TheVariants as block_of
 use Rattle.flac_meta.proofs.Blocks.{blocks_spelled}
@@ -23,8 +23,8 @@ use Rattle.flac_native.specs.Stream.{Piece, marked, block, framed, Stand, Progre
 use Rattle.flac_native.specs.Given.{closing}
 use Rattle.flac_native.specs.Retag.{is_comment}
 use Rattle.flac_native.specs.BlockOrder.{is_stream_info, is_seek_table, IsValid, AreInOrder, MarkedBlock, LastIsMarked, without_marks, part_of, AreSpelled, AreRead, AreOrdered, HasBlocks, BlocksAreInOrder}
-use Rattle.flac_native.specs.declared.phase.Phase.{Phase}
-use Rattle.flac_native.specs.declared.phase.Phase.TheVariants.{Blocks, Frames}
+use Rattle.flac_native.specs.declared.track.Phase.{Phase}
+use Rattle.flac_native.specs.declared.track.Phase.TheVariants.{Blocks, Frames}
 use Rattle.flac_native.proofs.Blocks.{block_there, frame_at, first_is}
 use Rattle.flac_native.proofs.NewHead.{AllBlocks, valid_after}
 use Rattle.flac_native.proofs.Whole as whole

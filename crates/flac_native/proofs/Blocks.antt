@@ -12,7 +12,7 @@ use Rattle.flac_meta.specs.Info.{Info}
 use Rattle.flac_meta.specs.Listed.{block_fault}
 use Rattle.flac_meta.specs.Spelling as s
 use Rattle.flac_meta.specs.Valid.{IsBlock, ContentSpelled, BlockSpelled}
-use Rattle.flac_meta.specs.declared.seen.Seen.{Seen}
+use Rattle.flac_meta.specs.declared.block.Seen.{Seen}
 use Rattle.flac_meta.specs.declared.block.Block.{Block}
 use Rattle.flac_meta.specs.declared.block.Block.TheVariants as block_of
 use Rattle.flac_meta.proofs.Blocks.{blocks_spelled}
@@ -22,8 +22,8 @@ use Rattle.flac_native.specs.Stream.{Piece, marked, block, framed, Progress, Sta
 use Rattle.flac_native.specs.Given.{closing}
 use Rattle.flac_native.specs.Track.{is_behind_blocks}
 use Rattle.flac_native.specs.Retag.{AreKept, keeps, unless_comment, without_comments}
-use Rattle.flac_native.specs.declared.phase.Phase.{Phase}
-use Rattle.flac_native.specs.declared.phase.Phase.TheVariants.{Opening, Blocks, Frames}
+use Rattle.flac_native.specs.declared.track.Phase.{Phase}
+use Rattle.flac_native.specs.declared.track.Phase.TheVariants.{Opening, Blocks, Frames}
 use Rattle.flac_native.proofs.WholeBytes.{Whole, content_whole, header_long, length-joined}
 
 -- ---- one part

@@ -9,7 +9,7 @@ use Rattle.flac_meta.specs.declared.block.Block.{Block}
 use Rattle.flac_meta.specs.declared.comments.Comments.{Comments}
 use Rattle.flac_native.specs.Retag.{BeginsWith, HasHead, IsRefused, Retags, retagged, too_long, not_read, not_written}
 use Rattle.flac_native.specs.declared.fault.Place.{Place}
-use Rattle.flac_native.specs.declared.retag_fault.RetagFault.{RetagFault}
+use Rattle.flac_native.specs.declared.retagging.RetagFault.{RetagFault}
 use Rattle.flac_native.proofs.OneHead.{heads_are_one, one_head}
 
 -- what was written is the output for each way in which the input begins

@@ -11,8 +11,8 @@ use Rattle.flac_meta.specs.Info.{Info}
 use Rattle.flac_meta.specs.Header.{block_header}
 use Rattle.flac_meta.specs.Block.{block as block_layout}
 use Rattle.flac_native.specs.Stream.{grammar, marker, layout, layout_in, frame_behind, may_end_in}
-use Rattle.flac_native.specs.declared.phase.Phase.{Phase}
-use Rattle.flac_native.specs.declared.phase.Phase.TheVariants.{Opening, Blocks, Frames}
+use Rattle.flac_native.specs.declared.track.Phase.{Phase}
+use Rattle.flac_native.specs.declared.track.Phase.TheVariants.{Opening, Blocks, Frames}
 
 two : false ≡ true → ⊥
 two e = absurd cc

@@ -7,7 +7,7 @@ use Rattle.flac_bits.specs.State.{Mark, fresh}
 use Rattle.flac_bits.specs.Meaning.{Spells, AllKept}
 use Rattle.flac_bits.proofs.ItemSpellings.{fresh_unread, fresh_check8, fresh_check16}
 use Rattle.flac_meta.specs.Info.{Info, KeepsRules}
-use Rattle.flac_meta.specs.declared.seen.Seen.{Seen}
+use Rattle.flac_meta.specs.declared.block.Seen.{Seen}
 use Rattle.flac_header.specs.Header.{Header, channels_of, greatest_in}
 use Rattle.flac_frame.specs.Audio.{Sound, samples_each}
 use Rattle.flac_frame.specs.Frame.{Frame, frame, header_rules, rate_in, depth_in, left_by, breaks_sequence, breaks_size}
@@ -17,7 +17,7 @@ use Rattle.flac_frame.proofs.Encodings.{encodings_are_frames}
 use Rattle.flac_frame.proofs.FrameTie.{frames_spelled}
 use Rattle.flac_native.specs.Message.{sample_width}
 use Rattle.flac_native.specs.Stream.{framed, Progress, layout, frame_behind}
-use Rattle.flac_native.specs.declared.phase.Phase.TheVariants.{Frames}
+use Rattle.flac_native.specs.declared.track.Phase.TheVariants.{Frames}
 use Rattle.flac_native.specs.Given.{Cut, size_of, frame_of}
 use Rattle.flac_native.specs.Writing.{SpellsFrame}
 use Rattle.flac_native.proofs.Planned.{Planned, Fit}

@@ -10,7 +10,7 @@ use Rattle.flac_bits.specs.Fence.{InRoom}
 use Rattle.flac_bits.specs.Items.{Joined, after}
 use Rattle.flac_bits.proofs.ItemSpellings.{fresh_unread, behind_whole}
 use Rattle.flac_meta.specs.Info.{Info}
-use Rattle.flac_meta.specs.declared.seen.Seen.{Seen}
+use Rattle.flac_meta.specs.declared.block.Seen.{Seen}
 use Rattle.flac_frame.specs.Audio.{Sound, samples_each}
 use Rattle.flac_frame.specs.Frame.{left_by}
 use Rattle.flac_frame.specs.declared.before.Before.{Before}
@@ -18,7 +18,7 @@ use Rattle.flac_frame.specs.Encoding.{block_of}
 use Rattle.flac_frame.proofs.FrameTie.{frames_bytes}
 use Rattle.flac_native.specs.Message.{sample_width, sample_bytes, row_bytes, rows_bytes}
 use Rattle.flac_native.specs.Stream.{Piece, framed, Progress, grammar, layout, next, raised, room_in}
-use Rattle.flac_native.specs.declared.phase.Phase.TheVariants.{Frames}
+use Rattle.flac_native.specs.declared.track.Phase.TheVariants.{Frames}
 use Rattle.flac_native.specs.Given.{Cut, blocks_in, info_of, sound_message, size_of, frame_of, frames_from}
 use Rattle.flac_native.specs.Writing.{SpellsFrame}
 use Rattle.flac_native.proofs.Messages.{rows_split}

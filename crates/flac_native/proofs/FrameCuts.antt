@@ -16,8 +16,8 @@ use Rattle.flac_frame.specs.Audio.{Sound, samples_each}
 use Rattle.flac_frame.specs.declared.before.Before.{Before}
 use Rattle.flac_native.specs.Decoding.{beginning}
 use Rattle.flac_native.specs.Stream.{Piece, marked, framed, Progress, grammar, opening, next}
-use Rattle.flac_native.specs.declared.phase.Phase.{Phase}
-use Rattle.flac_native.specs.declared.phase.Phase.TheVariants.{Frames}
+use Rattle.flac_native.specs.declared.track.Phase.{Phase}
+use Rattle.flac_native.specs.declared.track.Phase.TheVariants.{Frames}
 use Rattle.flac_native.specs.Given.{Cut, fits_plan, blocks_in, plan_fault, info_of, frame_of, frames_from, frames_of, given}
 use Rattle.flac_native.specs.Whole.{head_parts}
 use Rattle.flac_native.specs.Writing.{SpellsFrame, AreFrames, AreSizes, blocks_spelling, head_spelling}

@@ -8,14 +8,14 @@ use Rattle.flac_native.specs.Item.{Item}
 use Rattle.flac_native.specs.Coming.{Coming, IsNext}
 use Rattle.flac_native.specs.Giving.{handed, before, items_of, IsFirst, seen_by, found, Stage, Goes, MovesFrom, Moves}
 use Rattle.flac_meta.specs.declared.block.Block.{Block}
-use Rattle.flac_native.specs.declared.phase.Phase.TheVariants as phase
+use Rattle.flac_native.specs.declared.track.Phase.TheVariants as phase
 use Rattle.flac_native.specs.declared.fault.Place.{Place}
 use Rattle.flac_native.specs.declared.fault.Fault.{Fault}
-use Rattle.flac_native.specs.declared.part.Part.{Part}
-use Rattle.flac_native.specs.declared.part.Part.TheVariants as part
+use Rattle.flac_native.specs.declared.container.Part.{Part}
+use Rattle.flac_native.specs.declared.container.Part.TheVariants as part
 use Rattle.flac_native.specs.declared.track.Track.{Track}
-use Rattle.flac_native.specs.declared.course.Course.{Course}
-use Rattle.flac_native.specs.declared.course.Course.TheVariants as course
+use Rattle.flac_native.specs.declared.decoder.Course.{Course}
+use Rattle.flac_native.specs.declared.decoder.Course.TheVariants as course
 use Rattle.flac_native.specs.declared.container.Container as container
 
 -- ---- what a call answers

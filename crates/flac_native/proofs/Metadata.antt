@@ -13,8 +13,8 @@ use Rattle.flac_native.specs.Stream.{framed, Progress, Stand, grammar, layout, l
 use Rattle.flac_native.specs.Track.{is_behind_blocks}
 use Rattle.flac_native.specs.Retag.{is_before_frames}
 use Rattle.flac_native.specs.declared.fault.Place.{Place}
-use Rattle.flac_native.specs.declared.phase.Phase.{Phase}
-use Rattle.flac_native.specs.declared.phase.Phase.TheVariants.{Opening, Blocks, Frames}
+use Rattle.flac_native.specs.declared.track.Phase.{Phase}
+use Rattle.flac_native.specs.declared.track.Phase.TheVariants.{Opening, Blocks, Frames}
 
 two : (b : Bool) → b ≡ true → b ≡ false → ⊥
 two true e f = absurd cc

@@ -12,7 +12,7 @@ use Rattle.flac_meta.specs.Block.{seen_after}
 use Rattle.flac_meta.specs.Listed.{came, block_fault, info_seen}
 use Rattle.flac_meta.specs.Spelling.{block_spelling, comments_length}
 use Rattle.flac_meta.specs.Valid.{IsBlock, IsComments}
-use Rattle.flac_meta.specs.declared.seen.Seen.{Seen}
+use Rattle.flac_meta.specs.declared.block.Seen.{Seen}
 use Rattle.flac_meta.specs.declared.block.Block.{Block}
 use Rattle.flac_meta.specs.declared.block.Block.TheVariants as block_of
 use Rattle.flac_meta.specs.declared.comments.Comments.{Comments}
@@ -22,8 +22,8 @@ use Rattle.flac_native.specs.Given.{closing}
 use Rattle.flac_native.specs.Stream.{marked, block, Progress, grammar, opening, next, room_in}
 use Rattle.flac_native.specs.Writing.{blocks_spelling, head_spelling}
 use Rattle.flac_native.specs.Retag.{is_comment, without_comments, AreKept, MayBeHead, RetaggedAreRead}
-use Rattle.flac_native.specs.declared.phase.Phase.{Phase}
-use Rattle.flac_native.specs.declared.phase.Phase.TheVariants.{Opening, Blocks, Frames}
+use Rattle.flac_native.specs.declared.track.Phase.{Phase}
+use Rattle.flac_native.specs.declared.track.Phase.TheVariants.{Opening, Blocks, Frames}
 use Rattle.flac_native.proofs.Blocks.{block_there}
 use Rattle.flac_native.proofs.Streams.{block_here, marker_here}
 use Rattle.flac_native.proofs.WholeBytes.{block_whole}

@@ -15,8 +15,8 @@ use Rattle.flac_native.specs.Stream.{Piece, marked, block, Progress, grammar, op
 use Rattle.flac_native.specs.Given.{closing}
 use Rattle.flac_native.specs.Retag.{BeginsWith, IsRefused, HeadsAreOne, is_before_frames}
 use Rattle.flac_native.specs.declared.fault.Place.{Place}
-use Rattle.flac_native.specs.declared.phase.Phase.{Phase}
-use Rattle.flac_native.specs.declared.phase.Phase.TheVariants.{Frames}
+use Rattle.flac_native.specs.declared.track.Phase.{Phase}
+use Rattle.flac_native.specs.declared.track.Phase.TheVariants.{Frames}
 use Rattle.flac_native.proofs.Blocks.{frame_at}
 use Rattle.flac_native.proofs.Deciding.{needs_bits, one_answer}
 

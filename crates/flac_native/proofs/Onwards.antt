@@ -19,8 +19,8 @@ use Rattle.flac_frame.specs.declared.before.Before.{Before}
 use Rattle.flac_frame.proofs.FrameTie.{frames_spelled, frames_bytes}
 use Rattle.flac_native.specs.Resuming.{untold, resumed, Resumes, FramesAreResumed}
 use Rattle.flac_native.specs.Stream.{Piece, marked, block, framed, Stand, Progress, grammar, opening, next, layout, layout_in, frame_behind, room_in, may_end_in, end_rules, info_after}
-use Rattle.flac_native.specs.declared.phase.Phase.{Phase}
-use Rattle.flac_native.specs.declared.phase.Phase.TheVariants.{Opening, Blocks, Frames}
+use Rattle.flac_native.specs.declared.track.Phase.{Phase}
+use Rattle.flac_native.specs.declared.track.Phase.TheVariants.{Opening, Blocks, Frames}
 use Rattle.flac_native.proofs.Blocks.{block_there, marker_there, block_long}
 use Rattle.flac_native.proofs.OneHead.{heads}
 

@@ -27,7 +27,7 @@ use Rattle.flac_native.specs.Retag.{Begins}
 use Rattle.flac_native.specs.Whole.{head_parts, IsWhole}
 use Rattle.flac_native.specs.BlockOrder.{MarkedBlock, LastIsMarked, without_marks, part_of, AreOrdered}
 use Rattle.flac_native.specs.Ordered.{IsOrdered, StreamsAreOrdered}
-use Rattle.flac_native.specs.declared.phase.Phase.TheVariants.{Opening, Frames}
+use Rattle.flac_native.specs.declared.track.Phase.TheVariants.{Opening, Frames}
 use Rattle.flac_native.proofs.BlockOrder.{closed, are_ordered, are_read}
 use Rattle.flac_native.proofs.NewHead.{valid_after}
 use Rattle.flac_native.proofs.OneHead.{closing_ends}

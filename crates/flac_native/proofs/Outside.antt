@@ -25,15 +25,15 @@ use Rattle.flac_meta.specs.Comments.{comments, texts}
 use Rattle.flac_meta.specs.CueSheet.{cue_index, cue_count, track_front, cue_track, cue_tracks, sheet_front, cue_sheet}
 use Rattle.flac_meta.specs.Picture.{sizes, picture_front, picture}
 use Rattle.flac_meta.specs.Block.{block as block_layout, content as block_content, padding, application, other as other_kind}
-use Rattle.flac_meta.specs.declared.seen.Seen.{Seen}
+use Rattle.flac_meta.specs.declared.block.Seen.{Seen}
 use Rattle.flac_subframe.specs.Residual.{residual, residual_header, partitions, partition, coded, escaped}
 use Rattle.flac_subframe.specs.Subframe.{Constant, Verbatim, Fixed, Linear, subframe_samples, subframe, header as subframe_header, content, constant, verbatim, fixed, linear, predictor, predictor_order, wasted_bits, one_more, linear_order}
 use Rattle.flac_frame.specs.Frame.{frame, stream_header, header_rules, frame_body, subframes, frame_end, limits_of, some_or, in_range}
 use Rattle.flac_frame.specs.declared.before.Before.{Before}
 use Rattle.flac_native.specs.Stream.{Piece, Stand, Progress, grammar, layout, layout_in, marker, frame_behind, end_rules}
 use Rattle.flac_native.specs.Wider.{NothingIsOutsideLax}
-use Rattle.flac_native.specs.declared.phase.Phase.{Phase}
-use Rattle.flac_native.specs.declared.phase.Phase.TheVariants.{Opening, Blocks, Frames}
+use Rattle.flac_native.specs.declared.track.Phase.{Phase}
+use Rattle.flac_native.specs.declared.track.Phase.TheVariants.{Opening, Blocks, Frames}
 use Rattle.flac_native.proofs.Onwards.{after_profile}
 
 -- ---- layouts

@@ -18,7 +18,7 @@ use Rattle.flac_bits.proofs.ItemSpellings.{fresh_unread, fresh_check8, fresh_che
 use Rattle.flac_meta.specs.Info.{Info, KeepsRules}
 use Rattle.flac_meta.specs.Listed.{list_fault, info_seen}
 use Rattle.flac_meta.specs.Valid.{AllAre, FitsFields, IsInfo}
-use Rattle.flac_meta.specs.declared.seen.Seen.{Seen}
+use Rattle.flac_meta.specs.declared.block.Seen.{Seen}
 use Rattle.flac_meta.specs.declared.block.Block.{Block}
 use Rattle.flac_meta.specs.declared.block.Block.TheVariants as block_of
 use Rattle.flac_header.specs.Choice.{rate_choice_in, depth_choice_in}
@@ -42,14 +42,14 @@ use Rattle.std.specs.List.{list_all}
 use Rattle.flac_native.specs.Decoding.{beginning}
 use Rattle.flac_native.specs.Stream.{Piece, marked, framed, Progress, opening, grammar, next, layout, room_in, may_end_in, end_rules}
 use Rattle.flac_native.specs.Stream as stream
-use Rattle.flac_native.specs.declared.phase.Phase.{Phase}
-use Rattle.flac_native.specs.declared.phase.Phase.TheVariants.{Opening, Blocks, Frames}
+use Rattle.flac_native.specs.declared.track.Phase.{Phase}
+use Rattle.flac_native.specs.declared.track.Phase.TheVariants.{Opening, Blocks, Frames}
 use Rattle.flac_native.specs.Given.{closing}
 use Rattle.flac_native.specs.Whole.{head_parts}
 use Rattle.flac_native.specs.Writing.{blocks_spelling, head_spelling, SpellsFrame, SpellsLeast}
 use Rattle.flac_native.specs.Pushing.{Shape, shape_fault, open_info, Pushed, unpushed, behind_block, frames_in, due, StandsFor, sound_of, frame_with, block_fault, size_fault, push_fault, IsNext, Pushes, BeginsPush}
-use Rattle.flac_native.specs.declared.encode_fault.EncodeFault.{EncodeFault}
-use Rattle.flac_native.specs.declared.encode_fault.EncodeFault.TheVariants.{BlockSize, Spent, Write, Setup}
+use Rattle.flac_native.specs.declared.fault.EncodeFault.{EncodeFault}
+use Rattle.flac_native.specs.declared.fault.EncodeFault.TheVariants.{BlockSize, Spent, Write, Setup}
 use Rattle.flac_native.proofs.EachFrame.{same_three, follows_on, sized, full_before}
 use Rattle.flac_native.proofs.Encoded.{Runs, one_more}
 use Rattle.flac_native.proofs.NewHead.{valid_after}

@@ -10,7 +10,7 @@ use Rattle.flac_bits.specs.declared.why.Why.TheVariants.{Truncated}
 use Rattle.flac_bits.proofs.ItemSpellings.{fresh_unread, behind_whole}
 use Rattle.flac_meta.specs.Header.{nothing_seen}
 use Rattle.flac_meta.specs.Info.{Info}
-use Rattle.flac_meta.specs.declared.seen.Seen.{Seen}
+use Rattle.flac_meta.specs.declared.block.Seen.{Seen}
 use Rattle.flac_frame.specs.Audio.{Sound, samples_each}
 use Rattle.flac_frame.specs.Frame.{left_by}
 use Rattle.flac_frame.specs.declared.before.Before.{Before}
@@ -19,7 +19,7 @@ use Rattle.flac_frame.proofs.FrameTie.{frames_bytes}
 use Rattle.flac_native.specs.Message.{sample_width, rows_bytes}
 use Rattle.flac_native.specs.Decoding.{beginning}
 use Rattle.flac_native.specs.Stream.{framed, Progress, grammar, raised, may_end_in, end_rules}
-use Rattle.flac_native.specs.declared.phase.Phase.TheVariants.{Frames}
+use Rattle.flac_native.specs.declared.track.Phase.TheVariants.{Frames}
 use Rattle.flac_native.specs.Given.{Cut, blocks_in, info_of, size_of, frame_of, frames_from}
 use Rattle.flac_native.specs.Writing.{SpellsFrame}
 use Rattle.flac_native.specs.Resuming.{untold, resumed, EncodedAreResumed}

@@ -4,7 +4,7 @@ use Rattle.std.specs.Prelude.{IfErr, IfSome}
 use Rattle.flac_bits.specs.declared.why.Why.{Why}
 use Rattle.flac_bits.specs.declared.why.Why.TheVariants as why
 use Rattle.flac_native.specs.declared.fault.Place.{Place}
-use Rattle.flac_native.specs.declared.retag_fault.RetagFault.{RetagFault}
+use Rattle.flac_native.specs.declared.retagging.RetagFault.{RetagFault}
 use Rattle.flac_bits.specs.Bits.{bits_of}
 use Rattle.flac_bits.specs.State.{Cursor}
 use Rattle.flac_bits.proofs.Holding.{bits_of-append}

@@ -19,7 +19,7 @@ use Rattle.flac_meta.specs.Block.{seen_after}
 use Rattle.flac_meta.specs.Listed.{came, block_fault, fault_behind, or_else, list_fault, info_seen}
 use Rattle.flac_meta.specs.Spelling.{content_spelling, block_spelling}
 use Rattle.flac_meta.specs.Valid.{AllAre, FitsFields, IsInfo, IsBlock, ContentSpelled, BlockSpelled}
-use Rattle.flac_meta.specs.declared.seen.Seen.{Seen}
+use Rattle.flac_meta.specs.declared.block.Seen.{Seen}
 use Rattle.flac_meta.specs.declared.block.Block.{Block}
 use Rattle.flac_meta.specs.declared.block.Block.TheVariants as blocks
 use Rattle.flac_meta.proofs.Blocks.{blocks_spelled}
@@ -30,8 +30,8 @@ use Rattle.flac_native.specs.Decoding.{beginning}
 use Rattle.flac_native.specs.Message.{rows_bytes, sample_width}
 use Rattle.flac_bits.specs.Items.{Stream}
 use Rattle.flac_native.specs.Stream.{Piece, marked, block, framed, Stand, Progress, grammar, opening, layout, layout_in, marker, next, raised, phase_behind, end_rules, is_unknown, may_end_in}
-use Rattle.flac_native.specs.declared.phase.Phase.{Phase}
-use Rattle.flac_native.specs.declared.phase.Phase.TheVariants.{Opening, Blocks, Frames}
+use Rattle.flac_native.specs.declared.track.Phase.{Phase}
+use Rattle.flac_native.specs.declared.track.Phase.TheVariants.{Opening, Blocks, Frames}
 use Rattle.md5.specs.Md5.{md5}
 use Rattle.flac_native.specs.Given.{Cut, info_of, sound_message, frame_of, frames_from, closing, given}
 use Rattle.flac_native.specs.Writing.{SpellsFrame, AreFrames, AreSizes, blocks_spelling, stream_spelling, EncodedAreStreams}

@@ -9,7 +9,7 @@ use Rattle.flac_meta.specs.SeekTable.{in_order, follows}
 use Rattle.flac_meta.specs.Block.{seen_after}
 use Rattle.flac_meta.specs.Listed.{block_fault, fault_behind, or_else, list_fault, info_seen}
 use Rattle.flac_meta.specs.Valid.{AllAre, FitsFields, IsPoint}
-use Rattle.flac_meta.specs.declared.seen.Seen.{Seen}
+use Rattle.flac_meta.specs.declared.block.Seen.{Seen}
 use Rattle.flac_meta.specs.declared.seek_table.SeekPoint.{SeekPoint}
 use Rattle.flac_meta.specs.declared.block.Block.{Block}
 use Rattle.flac_meta.specs.declared.block.Block.TheVariants as blocks

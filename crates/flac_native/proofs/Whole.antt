@@ -11,7 +11,7 @@ use Rattle.flac_meta.specs.Info.{Info}
 use Rattle.flac_meta.specs.Block.{seen_after}
 use Rattle.flac_meta.specs.Listed.{info_seen}
 use Rattle.flac_meta.specs.Valid.{IsBlock}
-use Rattle.flac_meta.specs.declared.seen.Seen.{Seen}
+use Rattle.flac_meta.specs.declared.block.Seen.{Seen}
 use Rattle.flac_meta.specs.declared.block.Block.{Block}
 use Rattle.flac_meta.specs.declared.block.Block.TheVariants as block_of
 use Rattle.flac_header.specs.declared.subset.Profile.{Profile}
@@ -24,8 +24,8 @@ use Rattle.flac_native.specs.Stream.{Piece, marked, block, framed, Progress, gra
 use Rattle.flac_native.specs.Given.{closing}
 use Rattle.flac_native.specs.Retag.{Begins}
 use Rattle.flac_native.specs.Whole.{head_parts, IsWhole, StreamsAreWhole}
-use Rattle.flac_native.specs.declared.phase.Phase.{Phase}
-use Rattle.flac_native.specs.declared.phase.Phase.TheVariants.{Opening, Blocks, Frames}
+use Rattle.flac_native.specs.declared.track.Phase.{Phase}
+use Rattle.flac_native.specs.declared.track.Phase.TheVariants.{Opening, Blocks, Frames}
 use Rattle.flac_native.proofs.Blocks.{block_there, marker_there, first_is}
 use Rattle.flac_native.proofs.NewHead.{AllBlocks, valid_after}
 use Rattle.flac_native.proofs.Onwards.{frame_there, as_part, same_info}

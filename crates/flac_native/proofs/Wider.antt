@@ -9,8 +9,8 @@ use Rattle.flac_frame.specs.Frame.{frame}
 use Rattle.flac_frame.proofs.Wider.{frame_wider}
 use Rattle.flac_native.specs.Stream.{Piece, marked, block, framed, Stand, Progress, grammar, opening, next, layout, layout_in}
 use Rattle.flac_native.specs.Wider.{SubsetIsLax}
-use Rattle.flac_native.specs.declared.phase.Phase.{Phase}
-use Rattle.flac_native.specs.declared.phase.Phase.TheVariants.{Opening, Blocks, Frames}
+use Rattle.flac_native.specs.declared.track.Phase.{Phase}
+use Rattle.flac_native.specs.declared.track.Phase.TheVariants.{Opening, Blocks, Frames}
 use Rattle.flac_native.proofs.Onwards.{Told, nothing_told, step_of, frame_there, as_part, next_profile}
 
 -- the same state, but for the profile

@@ -11,11 +11,11 @@ use Rattle.flac_native.specs.Item.{Item, metadata, frame, told}
 use Rattle.flac_native.specs.Coming.{Coming}
 use Rattle.flac_native.specs.declared.fault.Place.{Place}
 use Rattle.flac_native.specs.declared.fault.Fault.{Fault}
-use Rattle.flac_native.specs.declared.part.Part.{Part}
-use Rattle.flac_native.specs.declared.phase.Phase.TheVariants.{Opening, Frames}
+use Rattle.flac_native.specs.declared.container.Part.{Part}
+use Rattle.flac_native.specs.declared.track.Phase.TheVariants.{Opening, Frames}
 use Rattle.flac_native.specs.declared.track.Track.{Track}
-use Rattle.flac_native.specs.declared.course.Course.{Course}
-use Rattle.flac_native.specs.declared.course.Course.TheVariants as course
+use Rattle.flac_native.specs.declared.decoder.Course.{Course}
+use Rattle.flac_native.specs.declared.decoder.Course.TheVariants as course
 use Rattle.flac_native.specs.declared.container.Container as container
 use Rattle.flac_native.specs.declared.decoder.Decoder.{Decoder}
 use Rattle.flac_native.specs.declared.item.Item.{Item as Lent}

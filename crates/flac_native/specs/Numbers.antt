@@ -1,8 +1,8 @@
 -- The numbers by which faults of encoding are told, and the texts that are printed of them.
 use Rattle.std.specs.Prelude.{ℕ, Bool, true, false, List, codes}
 use Rattle.flac_frame.specs.Setup as setup
-use Rattle.flac_native.specs.declared.encode_fault.EncodeFault.{EncodeFault}
-use Rattle.flac_native.specs.declared.encode_fault.EncodeFault.TheVariants.{Memory, RepeatedBlock, BlockSize, BadMapping, Spent, Write, Setup}
+use Rattle.flac_native.specs.declared.fault.EncodeFault.{EncodeFault}
+use Rattle.flac_native.specs.declared.fault.EncodeFault.TheVariants.{Memory, RepeatedBlock, BlockSize, BadMapping, Spent, Write, Setup}
 
 abbrev pub fault_number : EncodeFault → ℕ
 fault_number Memory = 2

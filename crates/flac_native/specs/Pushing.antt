@@ -19,9 +19,9 @@ use Rattle.flac_native.specs.Decoding.{beginning}
 use Rattle.flac_native.specs.Stream.{Piece, framed, grammar, opening}
 use Rattle.flac_native.specs.Stream as stream
 use Rattle.flac_native.specs.Writing.{SpellsFrame, SpellsLeast}
-use Rattle.flac_native.specs.declared.encode_fault.EncodeFault.{EncodeFault}
-use Rattle.flac_native.specs.declared.stream_format.StreamFormat.{StreamFormat}
-use Rattle.flac_native.specs.declared.encode_fault.EncodeFault.TheVariants.{Memory, BlockSize, Spent, Write, Setup}
+use Rattle.flac_native.specs.declared.fault.EncodeFault.{EncodeFault}
+use Rattle.flac_native.specs.declared.stream_encoder.StreamFormat.{StreamFormat}
+use Rattle.flac_native.specs.declared.fault.EncodeFault.TheVariants.{Memory, BlockSize, Spent, Write, Setup}
 
 -- ---- the format
 

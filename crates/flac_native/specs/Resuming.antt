@@ -13,7 +13,7 @@ use Rattle.flac_native.specs.Decoding.{beginning}
 use Rattle.flac_native.specs.Stream.{Piece, framed, Progress, grammar, opening}
 use Rattle.flac_native.specs.Given.{Cut, fits_plan, plan_fault, info_of, frames_from}
 use Rattle.flac_native.specs.Writing.{AreFrames, AreSizes}
-use Rattle.flac_native.specs.declared.phase.Phase.TheVariants.{Frames}
+use Rattle.flac_native.specs.declared.track.Phase.TheVariants.{Frames}
 
 -- STREAMINFO that states neither the number of samples nor their digest, and else the same (RFC 9639, section 8.2)
 abbrev pub untold : Info → Info

@@ -20,7 +20,7 @@ use Rattle.flac_native.specs.InOrder.{MayBeWritten}
 use Rattle.flac_native.specs.Writing.{blocks_spelling, head_spelling}
 use Rattle.flac_native.specs.declared.fault.Place.{Place}
 use Rattle.flac_native.specs.declared.fault.Place.TheVariants as place
-use Rattle.flac_native.specs.declared.retag_fault.RetagFault.{RetagFault}
+use Rattle.flac_native.specs.declared.retagging.RetagFault.{RetagFault}
 
 -- ---- blocks
 

@@ -8,12 +8,12 @@ use Rattle.flac_frame.specs.declared.before.Before.{Before}
 use Rattle.flac_native.specs.Stream.{Piece, marked, block, framed, Stand, Progress}
 use Rattle.flac_native.specs.declared.format.Format.{Format}
 use Rattle.flac_native.specs.declared.track.Track.{Track}
-use Rattle.flac_native.specs.declared.course.Course.{Course}
-use Rattle.flac_native.specs.declared.course.Course.TheVariants as course
-use Rattle.flac_native.specs.declared.part.Part.{Part}
-use Rattle.flac_native.specs.declared.part.Part.TheVariants as part
-use Rattle.flac_native.specs.declared.phase.Phase.{Phase}
-use Rattle.flac_native.specs.declared.phase.Phase.TheVariants as phase
+use Rattle.flac_native.specs.declared.decoder.Course.{Course}
+use Rattle.flac_native.specs.declared.decoder.Course.TheVariants as course
+use Rattle.flac_native.specs.declared.container.Part.{Part}
+use Rattle.flac_native.specs.declared.container.Part.TheVariants as part
+use Rattle.flac_native.specs.declared.track.Phase.{Phase}
+use Rattle.flac_native.specs.declared.track.Phase.TheVariants as phase
 use Rattle.md5.specs.Md5.{Holds}
 
 abbrev pub info_in : Option Format → Option Info

@@ -1,24 +1,24 @@
-//! The frames of a stream, chosen before any of them is written.
+//! The frames of a stream: chosen before any of them is written, and then written one after another.
 
-ghost use Rattle.std.specs.Prelude.{◌≡◌, [], ◌∷◌, ◌++◌, ◌≤◌, ◌<◌, ◌^◌, length, min, max, cond, nat_eq, nat_lt, true, IfOk, IfErr, OnOk, None};
+ghost use Rattle.std.specs.Prelude.{◌≡◌, [], ◌∷◌, ◌++◌, ◌≤◌, ◌<◌, ◌^◌, length, min, max, cond, nat_eq, nat_lt, true, IfOk, IfErr, OnOk, None, ◌+◌, ◌-◌, ◌*◌};
 ghost use Rattle.flac_meta.specs.Listed.{block_fault};
-ghost use Rattle.flac_meta.specs.declared.block.Block.TheVariants as block_of;
+ghost use Rattle.flac_meta.specs.declared.block.Block.TheVariants as blocks;
 ghost use Rattle.flac_bits.specs.Bits.{bits_of};
 ghost use Rattle.flac_frame.specs.Audio.{samples_each};
 ghost use Rattle.flac_frame.specs.declared.frame_choice.FrameChoice.{FrameChoice};
-ghost use Rattle.flac_native.specs.Given.{fits_plan, blocks_in, info_of, room_of};
-ghost use Rattle.flac_native.specs.Writing.{AreCounted, AreChoices, HasRoom, IsDigest, IsKept, IsSpelled};
+ghost use Rattle.flac_native.specs.Given.{fits_plan, blocks_in, info_of, room_of, frame_of};
+ghost use Rattle.flac_native.specs.Writing.{AreCounted, AreChoices, HasRoom, IsDigest, IsKept, IsSpelled, HaveFrames, WritesNext, WritesFrames};
+ghost use Rattle.flac_frame.specs.Encoding.{block_of, WritesFrameWith};
 
-use crate::digest::feed_block;
-use crate::encoded_info::info_with;
-use crate::frames::spell_next;
+use crate::digest::{digest_of, feed_block};
 use crate::plan::Plan;
-use crate::room::Room;
-use flac_bits::Why;
-use flac_frame::{Audio, EncodeBuffers, FrameChoice, choose_frame};
+use crate::targets::Room;
+use flac_bits::{BitWriter, Target, Why};
+use flac_frame::{Audio, EncodeBuffers, FrameChoice, choose_frame, encode_frame_with, write_frame};
 use flac_meta::{SeekPoint, StreamInfo};
 use md5::{Digest, Md5};
 use std::alloc::Global;
+use std::ops::Range;
 
 /// One choice is kept for each 1000 samples of each channel: it takes some 100 bytes for each channel, and one for each
 /// partition of its residuals.
@@ -97,7 +97,7 @@ impl ChosenFrames {
         ensures kept { buffers.new ≡ buffers.old }
         ensures counted { IfOk result (λ f. AreCounted plan.now audio.now f.least f.greatest f.points.items) }
         ensures choices { IfOk result (λ f. AreChoices plan.now audio.now f.choices.items) }
-        ensures table { IfOk result (λ f. block_fault (block_of.SeekTable f.points.items) ≡ None) }
+        ensures table { IfOk result (λ f. block_fault (blocks.SeekTable f.points.items) ≡ None) }
         ensures sizes { IfOk result (λ f. (f.least ≤ f.greatest) × (f.greatest < 2 ^ 24)) }
         ensures digest { IfOk result (λ f. IsDigest audio.now f.digest) }
         ensures memory { IfErr result (λ e. e ≡ Why.Memory) }
@@ -200,4 +200,178 @@ impl ChosenFrames {
         let end = start + size.min(total - start);
         spell_next(plan, audio, start..end, number, choices, buffers, room)
     }
+}
+
+/// Writes frame `number` as it was chosen; if the choice was not kept, it is made again.
+fn write_chosen<W: Target>(
+    plan: &Plan,
+    audio: &Audio,
+    range: Range<usize>,
+    number: u64,
+    choices: &[FrameChoice],
+    buffers: &mut EncodeBuffers,
+    writer: &mut BitWriter<W>,
+) -> Result<(), Why>
+    requires fits { fits_plan plan.now audio.now ≡ true }
+    requires some { range.start < range.end }
+    requires within { range.end ≤ samples_each audio.now.channels }
+    requires start { range.start ≡ plan.now.block_size * number }
+    requires size { range.end - range.start ≡ (frame_of plan.now.block_size audio.now number).size }
+    requires buffers { buffers.old ≡ room_of plan.now }
+    requires number { number < 2 ^ 31 }
+    requires choices { AreChoices plan.now audio.now choices.now }
+    requires whole { writer.old.mark.unread ≡ 0 }
+    ensures kept { buffers.new ≡ buffers.old }
+    ensures wrote { WritesFrameWith plan.now.predictors audio.now (range.end - range.start) number (block_of range.start (range.end - range.start) audio.now.channels) writer.old writer.new result }
+{
+    let _size = plan.block_size();
+    let predictors = plan.predictors();
+    let at = number as usize;
+    if at < choices.len() {
+        let choice = &choices[at];
+        return write_frame(audio, range, number, choice, predictors, buffers, writer);
+    }
+    match encode_frame_with(audio, range, number, predictors, buffers, writer) {
+        Ok(_) => Ok(()),
+        Err(why) => Err(why),
+    }
+}
+
+/// Writes frame `number`, and sends what the writer holds.
+fn write_next<W: Target>(
+    plan: &Plan,
+    audio: &Audio,
+    range: Range<usize>,
+    number: u64,
+    choices: &[FrameChoice],
+    buffers: &mut EncodeBuffers,
+    writer: &mut BitWriter<W>,
+) -> Result<(), Why>
+    requires fits { fits_plan plan.now audio.now ≡ true }
+    requires some { range.start < range.end }
+    requires within { range.end ≤ samples_each audio.now.channels }
+    requires start { range.start ≡ plan.now.block_size * number }
+    requires size { range.end - range.start ≡ (frame_of plan.now.block_size audio.now number).size }
+    requires buffers { buffers.old ≡ room_of plan.now }
+    requires number { number < 2 ^ 31 }
+    requires choices { AreChoices plan.now audio.now choices.now }
+    requires whole { writer.old.mark.unread ≡ 0 }
+    ensures kept { buffers.new ≡ buffers.old }
+    ensures wrote { WritesNext plan.now audio.now number writer.old writer.new result }
+{
+    write_chosen(plan, audio, range, number, choices, buffers, writer)?;
+    writer.finish()
+}
+
+/// The bytes of frame `number`, in a place that has room for them.
+pub(crate) fn spell_next(
+    plan: &Plan,
+    audio: &Audio,
+    range: Range<usize>,
+    number: u64,
+    choices: &[FrameChoice],
+    buffers: &mut EncodeBuffers,
+    room: Room,
+) -> Room
+    requires fits { fits_plan plan.now audio.now ≡ true }
+    requires some { range.start < range.end }
+    requires within { range.end ≤ samples_each audio.now.channels }
+    requires start { range.start ≡ plan.now.block_size * number }
+    requires size { range.end - range.start ≡ (frame_of plan.now.block_size audio.now number).size }
+    requires buffers { buffers.old ≡ room_of plan.now }
+    requires number { number < 2 ^ 31 }
+    requires few { number < blocks_in plan.now.block_size (samples_each audio.now.channels) }
+    requires choices { AreChoices plan.now audio.now choices.now }
+    requires room { HasRoom plan.now audio.now room.places }
+    ensures kept { buffers.new ≡ buffers.old }
+    ensures places { result.places ≡ room.places }
+    ensures frame { IsSpelled plan.now audio.now number (bits_of result.bytes.items) }
+{
+    let mut writer = BitWriter::new(room.emptied());
+    let outcome = write_next(plan, audio, range, number, choices, buffers, &mut writer);
+    let room = writer.into_target();
+    match outcome {
+        Ok(()) => room,
+        Err(_) => unreachable!(),
+    }
+}
+
+/// Writes all frames, one after another, at a whole byte.
+pub(crate) fn write_frames<W: Target>(
+    plan: &Plan,
+    audio: &Audio,
+    choices: &[FrameChoice],
+    buffers: &mut EncodeBuffers,
+    writer: &mut BitWriter<W>,
+) -> Result<(), Why>
+    requires fits { fits_plan plan.now audio.now ≡ true }
+    requires frames { HaveFrames plan.now audio.now }
+    requires buffers { buffers.old ≡ room_of plan.now }
+    requires choices { AreChoices plan.now audio.now choices.now }
+    requires whole { writer.old.mark.unread ≡ 0 }
+    ensures { WritesFrames plan.now audio.now writer.old writer.new result }
+{
+    let size = plan.block_size() as usize;
+    let total = audio.len();
+    let mut number = 0;
+    let mut start = 0;
+    while start < total {
+        let end = start + size.min(total - start);
+        write_chosen(plan, audio, start..end, number, choices, buffers, writer)?;
+        number += 1;
+        start = end;
+    }
+    Ok(())
+}
+
+/// STREAMINFO of samples that a plan was made for, and that have this digest, where the least and the greatest frame have so many bytes, below 2^24; 0 where there is
+/// no frame.
+pub(crate) fn info_with(
+    plan: &Plan,
+    audio: &Audio,
+    least: u32,
+    greatest: u32,
+    digest: [u8; 16],
+) -> StreamInfo
+    requires fits { fits_plan plan.now audio.now ≡ true }
+    requires least { least ≤ greatest }
+    requires greatest { greatest < 2 ^ 24 }
+    requires digest { IsDigest audio.now digest }
+    ensures { result ≡ info_of plan.now audio.now least greatest }
+{
+    let size = plan.block_size() as u16;
+    let channels = audio.channels().len() as u8;
+    let bits = audio.bits() as u8;
+    let total = audio.len() as u64;
+    let info = StreamInfo::new(
+        size,
+        size,
+        least,
+        greatest,
+        audio.rate(),
+        channels,
+        bits,
+        total,
+        digest,
+    );
+    match info {
+        Ok(info) => info,
+        Err(_) => unreachable!(),
+    }
+}
+
+/// STREAMINFO of samples that a plan was made for: `least` and `greatest` are the sizes of the shortest and the longest
+/// frame in bytes, below 2^24, 0 if there is no frame (RFC 9639, section 8.2). It states the number of samples and
+/// their MD5 digest.
+///
+/// ```
+/// let info = info_of(&plan, &audio, 14, 15);
+/// ```
+pub fn info_of(plan: &Plan, audio: &Audio, least: u32, greatest: u32) -> StreamInfo
+    requires fits { fits_plan plan.now audio.now ≡ true }
+    requires least { least ≤ greatest }
+    requires greatest { greatest < 2 ^ 24 }
+    ensures { result ≡ info_of plan.now audio.now least greatest }
+{
+    info_with(plan, audio, least, greatest, digest_of(audio))
 }

@@ -9,12 +9,22 @@ ghost use Rattle.flac_native.specs.Stream.{Piece, Progress, Stand, next};
 ghost use Rattle.flac_native.specs.Track.{IsAt, IsMadeAs, piece_of, stand_of};
 ghost use Rattle.flac_native.specs.Item.{told};
 ghost use Rattle.flac_native.specs.Coming.{Coming, IsNext};
-ghost use Rattle.flac_native.specs.declared.phase.Phase.TheVariants.{Frames};
+ghost use Rattle.flac_native.specs.declared.track.Phase.TheVariants.{Frames};
 
 use crate::fault::{Fault, Place};
-use crate::part::Part;
 use crate::track::Track;
 use flac_bits::Why;
+
+/// A kind of part of a stream (RFC 9639, section 6). Sections are those of RFC 9639.
+#[derive(Clone, Copy, Debug, PartialEq, Eq)]
+pub enum Part {
+    /// The four bytes `fLaC`.
+    Marker,
+    /// A metadata block (section 8).
+    Block,
+    /// A frame (section 9).
+    Frame,
+}
 
 /// Gives the parts of a stream, one after another: what a [`crate::Decoder`] reads from.
 ///

@@ -1,14 +1,249 @@
-//! The MD5 digest of samples that are to be encoded (RFC 9639, section 8.2).
+//! Samples as bytes, and their MD5 digest (RFC 9639, section 8.2).
 
-ghost use Rattle.std.specs.Prelude.{◌≡◌, ◌≤◌, ◌<◌, ◌+◌, ◌∷◌, ◌++◌, List, ℕ, [], length, map, take, drop, pos, slice_index_or};
+ghost use Rattle.std.specs.Prelude.{◌≡◌, ◌≤◌, ◌<◌, ◌+◌, ◌*◌, ◌++◌, length, take, List, [], ℕ, ℤ, slice_index_or, pos, ◌∷◌, map, drop};
+ghost use Rattle.flac_native.specs.Message.{sample_bytes, row_bytes, rows_bytes, sample_width};
+ghost use Rattle.md5.specs.Md5.{Holds, md5};
+ghost use Rattle.flac_frame.specs.Lent.{frame_of};
 ghost use Rattle.flac_frame.specs.Audio.{samples_each};
 ghost use Rattle.flac_native.specs.Given.{sound_message};
-ghost use Rattle.flac_native.specs.Message.{sample_width, rows_bytes};
-ghost use Rattle.md5.specs.Md5.{Holds, md5};
 
-use crate::rows::{Channels, feed_rows};
-use flac_frame::Audio;
+use flac_frame::{Audio, FrameView};
 use md5::{Digest, Md5};
+
+/// The most bytes that are added to the digest at once.
+const CHUNK: usize = 4096;
+
+/// How many inter-channel samples fit into these bytes: each has at most 8 samples of 4 bytes. If all are there, they
+/// are whole blocks of the digest.
+const ROWS: usize = 128;
+
+/// The samples of several channels.
+pub(crate) trait Channels {
+    /// The samples of each channel.
+    ghost lists: { Self → List (List ℤ) };
+
+    /// How many samples each channel has at least.
+    ghost size: { Self → ℕ };
+
+    /// The sample of a channel at an index.
+    fn sample(&self, channel: usize, index: usize) -> i32
+        requires channel { channel < length (lists self.now) }
+        requires index { index < size self.now }
+        ensures { result ≡ slice_index_or (slice_index_or (lists self.now) channel []) index (pos 0) };
+}
+
+/// Writes all four bytes of a sample at a place, the lowest first. The caller counts the first `width` of them.
+#[inline(always)]
+fn put_whole(sample: i32, width: usize, out: &mut [u8], at: usize)
+    requires width { width ≤ 4 }
+    requires room { at + 4 ≤ length out.old }
+    ensures { take (at + width) out.new ≡ take at out.old ++ sample_bytes width sample }
+{
+    out[at..at + 4].copy_from_slice(&sample.to_le_bytes());
+}
+
+/// Writes the lowest `width` bytes of a sample at a place, the lowest first. If these are three, the fourth is written after them, and the next sample
+/// overwrites it: one word is stored faster than three bytes.
+#[inline(always)]
+fn put_sample(sample: i32, width: usize, out: &mut [u8], at: usize)
+    requires width { width ≤ 4 }
+    requires room { at + 4 ≤ length out.old }
+    ensures { take (at + width) out.new ≡ take at out.old ++ sample_bytes width sample }
+{
+    if width == 3 {
+        put_whole(sample, width, out, at);
+        return;
+    }
+    let bytes = sample.to_le_bytes();
+    for i in 0..width {
+        out[at + i] = bytes[i];
+    }
+}
+
+/// Writes the samples of all channels at one index after the first `at` bytes, each in `width` bytes, and returns where
+/// they end.
+#[inline(always)]
+#[tactic(auto, unfolding(crate::specs::Message::row_bytes), using(crate::proofs::Messages::row_more))]
+fn put_row<C: Channels>(
+    samples: &C,
+    channels: usize,
+    width: usize,
+    index: usize,
+    out: &mut [u8],
+    at: usize,
+) -> usize
+    requires channels { channels ≡ length (C.lists samples.now) }
+    requires few { channels ≤ 8 }
+    requires width { width ≤ 4 }
+    requires index { index < C.size samples.now }
+    requires room { at + 32 ≤ length out.old }
+    ensures bytes { take result out.new ≡ take at out.old ++ row_bytes width (C.lists samples.now) index }
+    ensures end { result ≤ at + 32 }
+{
+    let mut place = at;
+    for i in 0..channels {
+        put_sample(samples.sample(i, index), width, out, place);
+        place += width;
+    }
+    place
+}
+
+/// [`put_rows_in`] for a number of channels and a width that its callers fix. It is inlined, so that its loops have fixed lengths.
+#[inline(always)]
+#[tactic(auto, unfolding(crate::specs::Message::rows_bytes), using(crate::proofs::Messages::rows_more))]
+fn put_rows_of<C: Channels>(
+    samples: &C,
+    channels: usize,
+    width: usize,
+    start: usize,
+    count: usize,
+    out: &mut [u8],
+) -> usize
+    requires channels { channels ≡ length (C.lists samples.now) }
+    requires few { channels ≤ 8 }
+    requires width { width ≤ 4 }
+    requires rows { start + count ≤ C.size samples.now }
+    requires end { start + count ≤ usize.MAX }
+    requires room { 32 * count ≤ length out.old }
+    ensures bytes { take result out.new ≡ rows_bytes width (C.lists samples.now) count start }
+    ensures end { result ≤ 32 * count }
+{
+    let mut at = 0;
+    for i in 0..count {
+        at = put_row(samples, channels, width, start + i, out, at);
+    }
+    at
+}
+
+/// [`put_rows_in`] for a number of channels that its callers fix.
+#[inline(always)]
+fn put_channels<C: Channels>(
+    samples: &C,
+    channels: usize,
+    width: usize,
+    start: usize,
+    count: usize,
+    out: &mut [u8],
+) -> usize
+    requires channels { channels ≡ length (C.lists samples.now) }
+    requires few { channels ≤ 8 }
+    requires width { width ≤ 4 }
+    requires rows { start + count ≤ C.size samples.now }
+    requires end { start + count ≤ usize.MAX }
+    requires room { 32 * count ≤ length out.old }
+    ensures bytes { take result out.new ≡ rows_bytes width (C.lists samples.now) count start }
+    ensures end { result ≤ 32 * count }
+{
+    match width {
+        1 => put_rows_of(samples, channels, 1, start, count, out),
+        2 => put_rows_of(samples, channels, 2, start, count, out),
+        3 => put_rows_of(samples, channels, 3, start, count, out),
+        width => put_rows_of(samples, channels, width, start, count, out),
+    }
+}
+
+/// Writes the samples of all channels at `count` indices from `start` on, interleaved, each in its lowest `width` bytes, the
+/// lowest first, to the front of `out`, and returns how many bytes these are: at most 32 for each index. Bytes of `out` after them may change.
+#[inline(always)]
+pub(crate) fn put_rows_in<C: Channels>(
+    samples: &C,
+    channels: usize,
+    width: usize,
+    start: usize,
+    count: usize,
+    out: &mut [u8],
+) -> usize
+    requires channels { channels ≡ length (C.lists samples.now) }
+    requires few { channels ≤ 8 }
+    requires width { width ≤ 4 }
+    requires rows { start + count ≤ C.size samples.now }
+    requires end { start + count ≤ usize.MAX }
+    requires room { 32 * count ≤ length out.old }
+    ensures bytes { take result out.new ≡ rows_bytes width (C.lists samples.now) count start }
+    ensures end { result ≤ 32 * count }
+{
+    match channels {
+        1 => put_channels(samples, 1, width, start, count, out),
+        2 => put_channels(samples, 2, width, start, count, out),
+        channels => put_channels(samples, channels, width, start, count, out),
+    }
+}
+
+/// Adds `len` samples of each channel, from `start` on, to the input of a digest, interleaved, each in its lowest `width`
+/// bytes.
+#[inline(always)]
+#[tactic(auto, unfolding(crate::specs::Message::rows_bytes), using(crate::proofs::Messages::rows_split))]
+pub(crate) fn feed_rows<C: Channels>(
+    hasher: &mut Md5,
+    samples: &C,
+    channels: usize,
+    start: usize,
+    len: usize,
+    width: usize,
+)
+    requires channels { channels ≡ length (C.lists samples.now) }
+    requires few { channels ≤ 8 }
+    requires width { width ≤ 4 }
+    requires rows { start + len ≤ C.size samples.now }
+    requires end { start + len ≤ usize.MAX }
+    ensures { (m : List ℕ) → Holds hasher.old m → Holds hasher.new (m ++ rows_bytes width (C.lists samples.now) len start) }
+{
+    let mut chunk = [0u8; CHUNK];
+    let mut fed = 0;
+    while fed < len {
+        let count = (len - fed).min(ROWS);
+        let end = put_rows_in(samples, channels, width, start + fed, count, &mut chunk);
+        hasher.update(&chunk[..end]);
+        fed += count;
+    }
+}
+
+impl<'a> Channels for FrameView<'a> {
+    ghost lists = { λ v. (frame_of v).channels };
+
+    ghost size = { λ v. (frame_of v).size };
+
+    #[inline(always)]
+    fn sample(&self, channel: usize, index: usize) -> i32 {
+        self.channel(channel)[index]
+    }
+}
+
+/// Writes samples as bytes to the front of `out` and returns how many bytes they are: the samples of all channels at
+/// index `start`, then those at the next, for `count` indices (RFC 9639, section 8.2). Each sample is in its lowest
+/// `width` bytes, 0 to 4, the lowest first.
+///
+/// The frame has samples at all these indices, and `out` room for 32 bytes for each index. Bytes of `out` after the
+/// samples may change.
+///
+/// ```
+/// let end = put_rows(frame, 2, 0, frame.len(), out); // 16 bits per sample
+/// ```
+pub fn put_rows(
+    view: &FrameView<'_>,
+    width: usize,
+    start: usize,
+    count: usize,
+    out: &mut [u8],
+) -> usize
+    requires width { width ≤ 4 }
+    requires rows { start + count ≤ (frame_of view.now).size }
+    requires room { 32 * count ≤ length out.old }
+    ensures bytes { take result out.new ≡ rows_bytes width (frame_of view.now).channels count start }
+    ensures end { result ≤ 32 * count }
+{
+    let view = *view;
+    put_rows_in(&view, view.channels(), width, start, count, out)
+}
+
+/// Adds all samples of a frame to the input of a digest.
+pub(crate) fn feed(hasher: &mut Md5, view: &FrameView<'_>, width: usize)
+    requires { width ≤ 4 }
+    ensures { (m : List ℕ) → Holds hasher.old m → Holds hasher.new (m ++ rows_bytes width (frame_of view.now).channels (frame_of view.now).size 0) }
+{
+    let view = *view;
+    feed_rows(hasher, &view, view.channels(), 0, view.len(), width);
+}
 
 /// The sample at an index; 0 if there is none.
 #[inline(always)]

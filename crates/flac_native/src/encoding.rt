@@ -1,26 +1,43 @@
 //! Encodes samples as a native stream.
 
-ghost use Rattle.std.specs.Prelude.{◌≡◌, ◌≢◌, ◌∷◌, ◌++◌, ◌≤◌, ◌<◌, ◌^◌, ◌↔◌, length, true, IfErr, OnOk, None, Err};
+ghost use Rattle.std.specs.Prelude.{◌≡◌, ◌≢◌, ◌++◌, length, List, OnOk, IfErr, ◌∷◌, ◌≤◌, ◌<◌, ◌^◌, ◌↔◌, true, None, Err};
+ghost use Rattle.flac_bits.specs.Written.{Fails, Writes};
+ghost use Rattle.flac_meta.specs.declared.block.Block.{Block};
+ghost use Rattle.flac_native.specs.InOrder.{MayBeWritten, Advances};
+ghost use Rattle.flac_native.specs.Writing.{blocks_spelling, head_spelling, AreChoices, AreCounted, IsDigest, WritesAll, WritesStream, SendsBits, SendsStream, Encodes, BeginsEncoding};
 ghost use Rattle.flac_bits.specs.Bits.{bits_of};
 ghost use Rattle.flac_bits.specs.State.{Rises};
-ghost use Rattle.flac_bits.specs.Written.{Writes};
 ghost use Rattle.flac_meta.specs.Listed.{block_fault};
 ghost use Rattle.flac_meta.specs.declared.block.Block.TheVariants as block_of;
 ghost use Rattle.flac_native.specs.Given.{fits_plan, info_of, room_of};
 ghost use Rattle.flac_native.specs.Numbers.{is_of_whole};
 ghost use Rattle.flac_native.specs.Seeking.{table_of, is_table, has_table, repeats_table};
-ghost use Rattle.flac_native.specs.Writing.{blocks_spelling, head_spelling, AreChoices, AreCounted, IsDigest, WritesAll, WritesStream, SendsBits, SendsStream, Encodes, BeginsEncoding};
 
-use crate::chosen_frames::ChosenFrames;
-use crate::encode_fault::EncodeFault;
-use crate::frames::write_frames;
-use crate::in_order::write_each;
-use crate::lent::Lent;
+use crate::chosen_frames::{ChosenFrames, write_frames};
+use crate::fault::EncodeFault;
 use crate::plan::Plan;
+use crate::targets::Lent;
 use flac_bits::{BitWriter, Target, Why};
 use flac_frame::{Audio, EncodeBuffers};
 use flac_meta::{Block, BlockList, SeekPoint, SeekTable, StreamInfo, write_block};
 use std::alloc::Global;
+
+/// Writes blocks of which `count` come in all; the one of this number is marked last (RFC 9639, section 8.1). It fails
+/// at a block that cannot be written.
+pub(crate) fn write_each<W: Target>(
+    blocks: &[Block],
+    count: usize,
+    writer: &mut BitWriter<W>,
+) -> Result<(), Why>
+    ensures written { OnOk result ((more : List Block) → count ≡ length (blocks.now ++ more) → Advances (blocks_spelling more) (blocks_spelling (blocks.now ++ more)) writer.old writer.new) }
+    ensures unread { IfErr result (λ e. e ≢ Why.Read) }
+    ensures failed { IfErr result (λ e. (more : List Block) → count ≡ length (blocks.now ++ more) → MayBeWritten blocks.now → Fails (writer.old.bits ++ blocks_spelling (blocks.now ++ more)) writer.old writer.new e) }
+{
+    for i in 0..blocks.len() {
+        write_block(&blocks[i], i + 1 == count, writer)?;
+    }
+    Ok(())
+}
 
 /// Writes the seek table of these points as the last block, if there are points (RFC 9639, section 8.5).
 fn write_table<W: Target>(points: Vec<SeekPoint>, writer: &mut BitWriter<W>) -> Result<(), Why>

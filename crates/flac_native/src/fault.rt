@@ -1,10 +1,13 @@
-//! Where and why a stream is refused.
+//! Where and why a stream is refused, and why encoding failed.
 
-ghost use Rattle.std.specs.Prelude.{Some};
+ghost use Rattle.std.specs.Prelude.{Some, ◌≡◌};
 ghost use Rattle.flac_native.specs.Places.{place_text, fault_text};
+ghost use Rattle.flac_native.specs.Numbers.{fault_number, text_of};
 
 use flac_bits::Why;
+use flac_frame::SetupFault;
 use std::fmt;
+use thiserror::Error;
 
 /// Where a stream is refused. Blocks, frames and pages are counted from 0; an index above 2^64 - 1 is reported as 2^64
 /// - 1.
@@ -56,5 +59,68 @@ impl fmt::Display for Fault {
         let at = self.at;
         let why = self.why;
         write!(f, "{at}: {why}")
+    }
+}
+
+/// Why encoding failed. Each reason has a number, see [`EncodeFault::number`]. [`crate::encode`] and `encode_ogg` of
+/// `flac_ogg` return no other than `Memory`, `RepeatedBlock`, `BadMapping` and `Write`.
+///
+/// It prints as its number and its name: `39 Write`. Sections are those of RFC 9639.
+#[derive(Clone, Copy, Debug, PartialEq, Eq, Error)]
+pub enum EncodeFault {
+    /// Out of memory: an allocation failed in this call.
+    Memory,
+    /// The list of blocks has a seek table, and the plan asks for one (section 8.5).
+    RepeatedBlock,
+    /// A block was pushed after one that was shorter than the block size; only the last may be shorter (section 9.1).
+    BlockSize,
+    /// Not possible in an Ogg stream: the first block after STREAMINFO is no Vorbis comment, or a seek table is asked
+    /// for (section 10.1).
+    BadMapping,
+    /// The target returned an error in an earlier call, and nothing more is encoded.
+    Spent,
+    /// The target returned an error in this call.
+    Write,
+    /// The format or the samples cannot be encoded.
+    Setup(SetupFault),
+}
+
+impl EncodeFault {
+    /// The number of the reason: 2, 9, 19, 37, 38 or 39, or 40 to 47, 51 or 52 of [`SetupFault`].
+    pub fn number(self) -> u8
+        ensures { result ≡ fault_number self }
+    {
+        match self {
+            EncodeFault::Memory => 2,
+            EncodeFault::RepeatedBlock => 9,
+            EncodeFault::BlockSize => 19,
+            EncodeFault::BadMapping => 37,
+            EncodeFault::Spent => 38,
+            EncodeFault::Write => 39,
+            EncodeFault::Setup(fault) => fault.number(),
+        }
+    }
+
+    /// The number and the name of the reason: `39 Write`.
+    pub fn as_str(self) -> &'static str
+        ensures { result.now ≡ text_of self }
+    {
+        match self {
+            EncodeFault::Memory => "2 Memory",
+            EncodeFault::RepeatedBlock => "9 RepeatedBlock",
+            EncodeFault::BlockSize => "19 BlockSize",
+            EncodeFault::BadMapping => "37 BadMapping",
+            EncodeFault::Spent => "38 Spent",
+            EncodeFault::Write => "39 Write",
+            EncodeFault::Setup(fault) => fault.as_str(),
+        }
+    }
+}
+
+impl fmt::Display for EncodeFault {
+    ghost output = { λ fault. Some (text_of fault) };
+
+    fn fmt<W: fmt::Write>(&self, f: &mut fmt::Formatter<W>) -> fmt::Result {
+        f.write_str(self.as_str())
     }
 }

@@ -1,5 +1,16 @@
-//! The items that a decoder lends.
+//! The items that a decoder lends, and how the next one is read.
 
+ghost use Rattle.std.specs.Prelude.{◌≡◌, ◌≢◌, IfOk, IfErr, IfSome, true, false, Some, Ok};
+ghost use Rattle.flac_bits.specs.Handing.{IsOutside};
+ghost use Rattle.flac_native.specs.Stream.{Progress};
+ghost use Rattle.flac_native.specs.Track.{IsAt, is_made, stand_of};
+ghost use Rattle.flac_native.specs.Giving.{GivesFirst, BreaksAt, CountsIn, found};
+
+use crate::container::{Container, Part};
+use crate::decoder::Course;
+use crate::fault::Fault;
+use crate::track::{Phase, Track};
+use flac_bits::Why;
 use flac_frame::FrameView;
 use flac_meta::Block;
 
@@ -12,4 +23,32 @@ pub enum Item<'a> {
     Frame(FrameView<'a>),
     /// The end of the stream.
     End,
+}
+
+/// Whether the part that was read is the marker.
+fn is_marker(outcome: &Result<Option<Part>, Fault>) -> bool
+    ensures is { result ≡ true → outcome.now ≡ Ok (Some Part.Marker) }
+    ensures other { result ≡ false → outcome.now ≡ Ok (Some Part.Marker) → ⊥ }
+{
+    matches!(outcome, Ok(Some(Part::Marker)))
+}
+
+/// Reads the next block or frame; `None` at the end of the stream. The marker is read with the block after it.
+pub(crate) fn next_item<C: Container>(
+    container: &mut C,
+    track: &mut Track,
+) -> Result<Option<Part>, Fault>
+    requires { C.stands container.old (stand_of track.old) ≡ true }
+    ensures stands { IfOk result (λ o. IfSome o (λ _. C.stands container.new (stand_of track.new) ≡ true)) }
+    ensures counts { CountsIn C.Container track.old container.old container.new result }
+    ensures memory { track.old.phase ≡ Phase.Frames → IfErr result (λ f. f.why ≢ Why.Memory) }
+    ensures made { IfOk result (λ o. IfSome o (λ part. is_made (Course.Read part) track.new ≡ true)) }
+    ensures gives { (p : Progress) → IsAt track.old p → GivesFirst C.Container p container.old container.new track.new (λ o. found track.new o) result }
+    ensures broken { (p : Progress) → IsAt track.old p → IfErr result (λ f. IsOutside f.why → BreaksAt (C.breaks container.new) p f) }
+{
+    let outcome = container.next(track);
+    if is_marker(&outcome) {
+        return container.next(track);
+    }
+    outcome
 }

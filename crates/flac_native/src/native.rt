@@ -1,16 +1,115 @@
 //! A native stream as a container: the bits from the marker `fLaC` on (RFC 9639, section 6).
 
-ghost use Rattle.std.specs.Prelude.{◌≡◌, ⊤, true};
+ghost use Rattle.std.specs.Prelude.{◌≡◌, ◌≢◌, ◌≤◌, ◌+◌, ◌&&◌, true, OnOk, IfOk, IfErr, IfSome, MatchOption, ⊤};
+ghost use Rattle.flac_bits.specs.Bits.{is_nil};
 ghost use Rattle.flac_bits.specs.Fencing.{lifted};
-ghost use Rattle.flac_native.specs.Stream.{grammar};
+ghost use Rattle.flac_bits.specs.Reading.{Counts, Reads};
+ghost use Rattle.flac_bits.specs.Items.{step_at};
+ghost use Rattle.flac_bits.specs.Handing.{StepsTo, reason_of, IsOutside};
+ghost use Rattle.flac_native.specs.Stream.{marker, layout, room_in, Progress, grammar, may_end_in, next};
+ghost use Rattle.flac_native.specs.Within.{ReadsWithinInRoom};
+ghost use Rattle.flac_native.specs.Track.{IsAt, IsMadeAs, piece_of, stand_of, info_in};
+ghost use Rattle.flac_native.specs.Item.{told};
 ghost use Rattle.flac_native.specs.Coming.{PartsCome};
 
-use crate::advance::advance;
-use crate::container::Container;
-use crate::fault::Fault;
-use crate::part::Part;
-use crate::track::Track;
-use flac_bits::{BitReader, Source};
+use crate::container::{Container, Part};
+use crate::fault::{Fault, Place};
+use crate::track::{Phase, Track};
+use flac_bits::{BitReader, Source, Why};
+
+/// Reads the four bytes `fLaC`.
+#[tactic(auto, unfolding(crate::specs::Stream::marker))]
+fn read_marker<R: Source>(reader: &mut BitReader<R>) -> Result<(), Why>
+    ensures spends { OnOk result (reader.new.most + 32 ≤ reader.old.most) }
+    ensures counts { Counts reader.old reader.new result }
+    ensures reads { Reads (λ u. u) marker reader.old reader.new result }
+{
+    if reader.take(32)? != 0x664C6143 {
+        return Err(Why::BadMarker);
+    }
+    Ok(())
+}
+
+/// Reads the next part and keeps it in the track.
+#[tactic(auto, unfolding(crate::specs::Stream::layout))]
+fn read_part<R: Source>(reader: &mut BitReader<R>, track: &mut Track) -> Result<Part, Why>
+    ensures spends { OnOk result (reader.new.most + 32 ≤ reader.old.most) }
+    ensures counts { Counts (lifted reader.old) reader.new result }
+    ensures memory { track.old.phase ≡ Phase.Frames → IfErr result (λ e. e ≢ Why.Memory) }
+    ensures reads { ReadsWithinInRoom (room_in track.old.phase) (λ part. piece_of track.new part) (layout (stand_of track.old)) reader.old reader.new result }
+    ensures made { IfOk result (λ part. IsMadeAs part track.old track.new) }
+    ensures next { IfOk result (λ part. (p : Progress) → IsAt track.old p → IsAt track.new (next p (piece_of track.new part))) }
+{
+    match track.phase {
+        Phase::Opening => {
+            reader.lift();
+            reader.start_checks();
+            read_marker(reader)?;
+            track.phase = Phase::Blocks;
+            Ok(Part::Marker)
+        }
+        Phase::Blocks => {
+            reader.lift();
+            reader.start_checks();
+            track.next_block(reader)?;
+            Ok(Part::Block)
+        }
+        Phase::Frames => {
+            track.next_frame(reader)?;
+            Ok(Part::Frame)
+        }
+    }
+}
+
+/// Whether the stream ends here: all metadata blocks were read, and no bit is left.
+fn ends_here<R: Source>(reader: &mut BitReader<R>, track: &Track) -> Result<bool, Why>
+    ensures spends { OnOk result (reader.new.most ≤ reader.old.most) }
+    ensures counts { Counts reader.old reader.new result }
+    ensures over { IfOk result (λ over. reader.old.known ≡ true → (reader.new.cursor ≡ reader.old.cursor) × (over ≡ (may_end_in track.now.phase (info_in track.now.format) && is_nil reader.old.cursor.left))) }
+    ensures failed { IfErr result (λ e. e ≡ Why.Read) }
+{
+    match track.phase {
+        Phase::Frames => match &track.format {
+            Some(_) => reader.at_end(),
+            None => Ok(false),
+        },
+        Phase::Opening => Ok(false),
+        Phase::Blocks => Ok(false),
+    }
+}
+
+/// Reads the next part and keeps it in the track, or returns `None` at the end of the stream. After an error the track
+/// must not be used further.
+pub(crate) fn advance<R: Source>(
+    reader: &mut BitReader<R>,
+    track: &mut Track,
+) -> Result<Option<Part>, Fault>
+    ensures spends { IfOk result (λ o. MatchOption o (reader.new.most ≤ reader.old.most) (λ _. reader.new.most + 32 ≤ reader.old.most)) }
+    ensures counts { Counts (lifted reader.old) reader.new (reason_of told result) }
+    // After the last metadata block no allocation fails.
+    ensures memory { track.old.phase ≡ Phase.Frames → IfErr result (λ f. f.why ≢ Why.Memory) }
+    ensures broken { (p : Progress) → IsAt track.old p → IfErr result (λ f. IsOutside f.why → f.at ≡ grammar.place p) }
+    ensures steps { (p : Progress) → IsAt track.old p → StepsTo (λ part. piece_of track.new part) told (step_at grammar p (lifted reader.old).cursor) (lifted reader.old) reader.new result }
+    ensures made { IfOk result (λ o. IfSome o (λ part. IsMadeAs part track.old track.new)) }
+    ensures next { IfOk result (λ o. IfSome o (λ part. (p : Progress) → IsAt track.old p → IsAt track.new (next p (piece_of track.new part)))) }
+{
+    reader.lift();
+    let at = track.place();
+    match ends_here(reader, track) {
+        Ok(false) => match read_part(reader, track) {
+            Ok(part) => Ok(Some(part)),
+            Err(why) => Err(Fault { at, why }),
+        },
+        Ok(true) => match track.end() {
+            Ok(()) => Ok(None),
+            Err(why) => Err(Fault {
+                at: Place::End,
+                why,
+            }),
+        },
+        Err(why) => Err(Fault { at, why }),
+    }
+}
 
 impl<R: Source> Container for BitReader<R> {
     ghost known = { λ r. r.known };

@@ -4,7 +4,7 @@ ghost use Rattle.std.specs.Prelude.{◌≡◌, ◌<◌, ◌≤◌, ◌*◌, ◌^
 ghost use Rattle.flac_native.specs.Given.{same_profile, blocks_in, has_point, points_before, cut_in, cut_of, with_predictors, fits_plan, predictors_fault, plan_fault};
 ghost use Rattle.flac_native.specs.Seeking.{point_at};
 
-use crate::subset::greatest_in;
+use crate::format::greatest_in;
 use flac_bits::Why;
 use flac_frame::{Audio, SetupFault, greatest_order};
 use flac_header::{Profile, depth_code_in, rate_code_in};

@@ -1,26 +1,253 @@
 //! Replaces the comments of a stream.
 
-ghost use Rattle.std.specs.Prelude.{◌≡◌, ◌≢◌, ◌<◌, ◌≤◌, ◌++◌, ◌⊎◌, true, Bool, List, OnOk, IfErr, IfSome, IsErrAnd, Err, Some, None};
-ghost use Rattle.flac_bits.specs.Bits.{bits_of};
-ghost use Rattle.flac_bits.specs.State.{Rises, short_of};
+ghost use Rattle.std.specs.Prelude.{◌≡◌, ◌≢◌, ◌≤◌, ◌+◌, ◌++◌, [], true, false, OnOk, IfOk, IfErr, Some, None, ◌<◌, ◌⊎◌, Bool, List, OnErr, IfSome, IsErrAnd, Err};
 ghost use Rattle.flac_bits.specs.Fencing.{lifted};
-ghost use Rattle.flac_bits.specs.Handing.{IsCalm};
+ghost use Rattle.flac_bits.specs.Reading.{Counts};
+ghost use Rattle.flac_bits.specs.Items.{step_at, item, refused};
+ghost use Rattle.flac_bits.specs.Handing.{IsCalm, reason_of};
+ghost use Rattle.flac_native.specs.Stream.{Piece, Progress, grammar, opening, next, block as block_piece};
+ghost use Rattle.flac_native.specs.Track.{IsAt, block_in, is_behind_blocks};
+ghost use Rattle.flac_native.specs.Item.{told};
+ghost use Rattle.flac_native.specs.Retag.{keeps, is_before_frames, AreKept, IsRefused, MayBeHead, new_head, not_read, not_written, BeginsWith, HasHead, Retags, BeginsRetagging, retagged, too_long, no_memory};
+ghost use Rattle.flac_bits.specs.Bits.{bits_of};
+ghost use Rattle.flac_bits.specs.Written.{Adds, Fails};
+ghost use Rattle.flac_bits.specs.State.{Rises, short_of};
 ghost use Rattle.flac_meta.specs.Spelling.{comments_length};
 ghost use Rattle.flac_meta.specs.Info.{Info};
 ghost use Rattle.flac_meta.specs.declared.block.Block.{Block};
 ghost use Rattle.flac_bits.specs.declared.why.Why.{Why};
 ghost use Rattle.flac_native.specs.declared.fault.Place.{Place};
 ghost use Rattle.flac_native.specs.Decoding.{beginning};
-ghost use Rattle.flac_native.specs.Retag.{BeginsWith, HasHead, Retags, BeginsRetagging, IsRefused, is_before_frames, retagged, too_long, not_read, not_written, no_memory};
 
-use crate::copying::copy_rest;
-use crate::fault::Place;
-use crate::kept::read_kept;
-use crate::renewed::renewed;
-use crate::retag_fault::RetagFault;
-use flac_bits::{BitReader, Source, Target, Why, send_all};
-use flac_meta::Comments;
+use crate::container::Part;
+use crate::encoding::write_each;
+use crate::fault::{Fault, Place};
+use crate::native::advance;
+use crate::track::Track;
+use flac_bits::{BitReader, BitWriter, Collected, Source, Target, Why, send_all};
+use flac_header::Profile;
+use flac_meta::{Block, Comments, write_block, write_comments};
 use std::alloc::Global;
+use std::fmt;
+
+/// Why a stream was not retagged, and where, if there is a place.
+///
+/// It prints as its place, if it has one, and its reason: `block 0: 8 BadStreamInfo`, `7 BlockLength`.
+#[derive(Clone, Copy, Debug, PartialEq, Eq)]
+pub struct RetagFault {
+    /// Where the stream is refused, or where the source or an allocation failed. `None` if the comments are too long,
+    /// or if the target failed.
+    pub at: Option<Place>,
+    /// The reason.
+    pub why: Why,
+}
+
+impl fmt::Display for RetagFault {
+    fn fmt<W: fmt::Write>(&self, f: &mut fmt::Formatter<W>) -> fmt::Result {
+        let why = self.why;
+        match self.at {
+            Some(at) => write!(f, "{at}: {why}"),
+            None => write!(f, "{why}"),
+        }
+    }
+}
+
+/// Keeps a block that is no comment block. Its only error is `Memory`: an allocation failed.
+fn keep(kept: &mut Vec<Block>, last: bool, block: Option<Block>) -> Result<(), Why>
+    ensures keeps { OnOk result (keeps kept.old.items (block_in last block) kept.new.items) }
+    ensures memory { IfErr result (λ e. e ≡ Why.Memory) }
+{
+    match block {
+        None => Ok(()),
+        Some(Block::VorbisComment(_)) => Ok(()),
+        Some(block) => {
+            kept.push(block)?;
+            Ok(())
+        }
+    }
+}
+
+/// Reads the marker or the next block, and keeps a block that is no comment block.
+fn keep_next<R: Source>(
+    reader: &mut BitReader<R>,
+    track: &mut Track,
+    kept: &mut Vec<Block>,
+) -> Result<(), Fault>
+    requires { is_behind_blocks track.old.phase ≡ false }
+    ensures spends { OnOk result (reader.new.most + 32 ≤ reader.old.most) }
+    ensures counts { Counts (lifted reader.old) reader.new (reason_of told result) }
+    ensures keeps { OnOk result ((p : Progress) → IsAt track.old p → (x : Piece) × IsAt track.new (next p x) × keeps kept.old.items x kept.new.items
+        × (reader.old.known ≡ true → step_at grammar p (lifted reader.old).cursor ≡ item x reader.new.cursor)) }
+    ensures refused { IfErr result (λ f. (p : Progress) → IsAt track.old p → reader.old.known ≡ true → reader.new.errors ≡ reader.old.errors → reader.new.raised ≡ reader.old.raised → f.why ≢ Why.Memory
+        → step_at grammar p (lifted reader.old).cursor ≡ refused f.at f.why) }
+    ensures at { IfErr result (λ f. is_before_frames f.at ≡ true) }
+{
+    let at = track.place();
+    match advance(reader, track) {
+        Ok(Some(Part::Marker)) => Ok(()),
+        Ok(Some(Part::Block)) => match keep(kept, track.last, track.block.take()) {
+            Ok(()) => Ok(()),
+            Err(why) => Err(Fault { at, why }),
+        },
+        Ok(Some(Part::Frame)) => Err(Fault {
+            at,
+            why: Why::Truncated,
+        }),
+        Ok(None) => Err(Fault {
+            at,
+            why: Why::Truncated,
+        }),
+        Err(fault) => Err(Fault { at, why: fault.why }),
+    }
+}
+
+/// Reads the marker and all blocks, and keeps those that are no comment blocks, in their order.
+fn keep_all<R: Source>(
+    reader: &mut BitReader<R>,
+    track: &mut Track,
+    kept: &mut Vec<Block>,
+) -> Result<(), Fault>
+    requires whole { reader.old.cursor.mark.unread ≡ 0 }
+    requires first { IsAt track.old (opening Profile.Subset) }
+    requires none { kept.old.items ≡ [] }
+    ensures counts { Counts (lifted reader.old) reader.new (reason_of told result) }
+    ensures whole { OnOk result (reader.new.cursor.mark.unread ≡ 0) }
+    ensures kept { OnOk result (reader.old.known ≡ true → AreKept (lifted reader.old).cursor kept.new.items reader.new.cursor.left) }
+    ensures refused { IfErr result (λ f. reader.old.known ≡ true → IsCalm reader.old reader.new → f.why ≢ Why.Memory
+        → IsRefused (lifted reader.old).cursor.mark (lifted reader.old).cursor.left f.at f.why) }
+    ensures at { IfErr result (λ f. reader.old.known ≡ true → is_before_frames f.at ≡ true) }
+{
+    while !track.is_past_metadata() {
+        keep_next(reader, track, kept)?;
+    }
+    reader.lift();
+    if reader.unread() != 0 {
+        return Err(Fault {
+            at: track.place(),
+            why: Why::Truncated,
+        });
+    }
+    Ok(())
+}
+
+/// The same from the start of a stream.
+fn keep_from_start<R: Source>(
+    alloc: Global,
+    reader: &mut BitReader<R>,
+    kept: &mut Vec<Block>,
+) -> Result<(), Fault>
+    requires whole { reader.old.cursor.mark.unread ≡ 0 }
+    requires none { kept.old.items ≡ [] }
+    ensures counts { Counts (lifted reader.old) reader.new (reason_of told result) }
+    ensures whole { OnOk result (reader.new.cursor.mark.unread ≡ 0) }
+    ensures kept { OnOk result (reader.old.known ≡ true → AreKept (lifted reader.old).cursor kept.new.items reader.new.cursor.left) }
+    ensures refused { IfErr result (λ f. reader.old.known ≡ true → IsCalm reader.old reader.new → f.why ≢ Why.Memory
+        → IsRefused (lifted reader.old).cursor.mark (lifted reader.old).cursor.left f.at f.why) }
+    ensures at { IfErr result (λ f. reader.old.known ≡ true → is_before_frames f.at ≡ true) }
+{
+    let mut track = Track::opening(alloc, Profile::Subset);
+    keep_all(reader, &mut track, kept)
+}
+
+/// Reads the marker and all blocks, and keeps those that are no comment blocks, in their order. The reader is at a
+/// whole byte, and no fence is left after the blocks.
+pub(crate) fn read_kept<R: Source>(
+    alloc: Global,
+    reader: &mut BitReader<R>,
+) -> Result<Vec<Block>, Fault>
+    requires { reader.old.cursor.mark.unread ≡ 0 }
+    ensures counts { Counts (lifted reader.old) reader.new (reason_of told result) }
+    ensures whole { OnOk result (reader.new.cursor.mark.unread ≡ 0) }
+    ensures kept { IfOk result (λ kept. reader.old.known ≡ true → AreKept (lifted reader.old).cursor kept.items reader.new.cursor.left) }
+    ensures refused { IfErr result (λ f. reader.old.known ≡ true → IsCalm reader.old reader.new → f.why ≢ Why.Memory
+        → IsRefused (lifted reader.old).cursor.mark (lifted reader.old).cursor.left f.at f.why) }
+    ensures at { IfErr result (λ f. reader.old.known ≡ true → is_before_frames f.at ≡ true) }
+{
+    let mut kept = Vec::new(alloc);
+    match keep_from_start(alloc, reader, &mut kept) {
+        Ok(()) => Ok(kept),
+        Err(fault) => Err(fault),
+    }
+}
+
+/// Writes the marker fLaC, STREAMINFO, which is the first of these blocks, the comments, and the other blocks (RFC
+/// 9639, section 6). If all of them can be written, only the target can fail.
+fn write_renewed<W: Target>(
+    kept: &[Block],
+    comments: &Comments,
+    writer: &mut BitWriter<W>,
+) -> Result<(), Why>
+    ensures added { OnOk result (Adds (new_head comments.now kept.now) writer.old writer.new) }
+    ensures unread { IfErr result (λ e. e ≢ Why.Read) }
+    ensures failed { IfErr result (λ e. MayBeHead comments.now kept.now → Fails (writer.old.bits ++ new_head comments.now kept.now) writer.old writer.new e) }
+{
+    let Some((info, others)) = kept.split_first() else {
+        return Err(Why::NotStreamInfoFirst);
+    };
+    writer.put(32, 0x664C6143)?;
+    write_block(info, false, writer)?;
+    write_comments(comments, others.is_empty(), writer)?;
+    write_each(others, others.len(), writer)
+}
+
+/// The same bytes in memory. If all blocks can be written, the only error is `Memory`: an allocation failed.
+pub(crate) fn renewed(alloc: Global, kept: &[Block], comments: &Comments) -> Result<Vec<u8>, Why>
+    ensures head { IfOk result (λ head. bits_of head.items ≡ new_head comments.now kept.now) }
+    ensures unread { IfErr result (λ e. e ≢ Why.Read) }
+    ensures memory { IfErr result (λ e. MayBeHead comments.now kept.now → e ≡ Why.Memory) }
+{
+    let mut writer = BitWriter::new(Collected::new(alloc));
+    match write_renewed(kept, comments, &mut writer) {
+        Ok(()) => writer.into_bytes(),
+        Err(why) => Err(why.in_memory()),
+    }
+}
+
+/// The most bytes that are copied at once.
+const PIECE: usize = 4096;
+
+/// Sends the bytes that are still to come. After an error a prefix of them was sent.
+pub(crate) fn copy_rest<R: Source, W: Target>(
+    reader: &mut BitReader<R>,
+    target: &mut W,
+) -> Result<(), RetagFault>
+    requires { reader.old.cursor.mark.unread ≡ 0 }
+    ensures copied { OnOk result (reader.old.known ≡ true → W.known target.old ≡ true → bits_of (W.sent target.new) ≡ bits_of (W.sent target.old) ++ reader.old.cursor.left) }
+    ensures begun { OnErr result (reader.old.known ≡ true → W.known target.old ≡ true
+        → (front : List Bool) × (left : List Bool) × (bits_of (W.sent target.new) ≡ bits_of (W.sent target.old) ++ front) × (front ++ left ≡ reader.old.cursor.left)) }
+    ensures fault { IfErr result (λ f. (f ≡ not_read) ⊎ (f ≡ not_written)) }
+    ensures read { IfErr result (λ f. f.why ≡ Why.Read → reader.old.known ≡ true → reader.old.raised < reader.new.raised) }
+    ensures write { IfErr result (λ f. f.why ≡ Why.Write → W.known target.old ≡ true → W.errors target.old < W.errors target.new) }
+    ensures read_risen { IfErr result (λ f. f.why ≡ Why.Read → Rises reader.old.raised reader.new.raised) }
+    ensures write_risen { IfErr result (λ f. f.why ≡ Why.Write → Rises (W.errors target.old) (W.errors target.new)) }
+    ensures errors { (reader.old.errors ≤ reader.new.errors) × (W.errors target.old ≤ W.errors target.new) }
+    ensures names { (reader.new.names ≡ reader.old.names) × (W.names target.new ≡ W.names target.old) }
+{
+    let mut piece = [0u8; PIECE];
+    loop {
+        let count = match reader.take_bytes(&mut piece) {
+            Ok(count) => count,
+            Err(_) => {
+                return Err(RetagFault {
+                    at: Some(Place::Frame(0)),
+                    why: Why::Read,
+                });
+            }
+        };
+        match send_all(target, &piece[..count]) {
+            Ok(()) => {}
+            Err(_) => {
+                return Err(RetagFault {
+                    at: None,
+                    why: Why::Write,
+                });
+            }
+        }
+        if count < PIECE {
+            return Ok(());
+        }
+    }
+}
 
 /// Writes what is still to come with these comments, which are not too long.
 fn retag_from<R: Source, W: Target>(

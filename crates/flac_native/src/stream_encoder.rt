@@ -1,29 +1,246 @@
 //! Encodes a native stream a block at a time.
 
-ghost use Rattle.std.specs.Prelude.{◌≡◌, ◌≢◌, ◌++◌, ◌≤◌, ◌<◌, ◌+◌, ◌^◌, ◌↔◌, map, option_map, true, IfOk, OnOk, IfErr, None, Err};
+ghost use Rattle.std.specs.Prelude.{◌≡◌, None, ◌≤◌, ◌<◌, ◌^◌, map, length, nat_eq, IfOk, IfErr, Some, ◌≢◌, ◌++◌, ◌+◌, ◌↔◌, option_map, true, OnOk, Err, Bool, List, MatchResult};
+ghost use Rattle.flac_native.specs.Pushing.{shape_of, shape_fault, open_info, block_fault, frame_with, sound_of, unpushed, behind_block, spent_with, trying, size_fault, push_fault, IsFirst, StandsFor, Pushes, BeginsPush};
+ghost use Rattle.std.specs.List.{list_all};
 ghost use Rattle.flac_bits.specs.Bits.{bits_of};
-ghost use Rattle.flac_bits.specs.State.{Rises};
-ghost use Rattle.std.specs.Prelude.{Bool, List, MatchResult, Some};
-ghost use Rattle.flac_frame.specs.Audio.{samples_each};
+ghost use Rattle.flac_subframe.specs.Numbers.{fits};
+ghost use Rattle.flac_subframe.specs.Handed.{AreWithin};
+ghost use Rattle.flac_frame.specs.Audio.{samples_each, audio_fault};
+ghost use Rattle.flac_frame.specs.Encoding.{most_in};
+ghost use Rattle.flac_frame.specs.Frame.{limits_at};
 ghost use Rattle.flac_native.specs.Given.{predictors_fault};
+ghost use Rattle.flac_native.specs.Writing.{SpellsFrame, SpellsLeast, head_spelling};
+ghost use Rattle.flac_bits.specs.State.{Rises};
 ghost use Rattle.flac_native.specs.Stream.{Piece};
-ghost use Rattle.flac_native.specs.Pushing.{shape_of, shape_fault, open_info, unpushed, behind_block, spent_with, trying, size_fault, push_fault, IsFirst, StandsFor, Pushes, BeginsPush};
-ghost use Rattle.flac_native.specs.declared.encode_fault.EncodeFault.TheVariants.{Setup};
+ghost use Rattle.flac_native.specs.declared.fault.EncodeFault.TheVariants.{Setup};
 ghost use Rattle.flac_native.specs.Whole.{head_parts};
-ghost use Rattle.flac_native.specs.Writing.{head_spelling};
 
-use crate::block_bytes::block_len;
-use crate::encode_fault::EncodeFault;
 use crate::encoding::send_head;
+use crate::fault::EncodeFault;
+use crate::format::greatest_in;
 use crate::plan::predictors_fault;
-use crate::stream_format::StreamFormat;
-use flac_bits::{Target, send_all};
-use flac_frame::{EncodeBuffers, SetupFault};
-use flac_header::Profile;
-use flac_meta::BlockList;
+use flac_bits::{BitWriter, Collected, Target, Why, send_all};
+use flac_frame::{Audio, EncodeBuffers, SetupFault, encode_frame_with};
+use flac_header::{Profile, depth_code_in, rate_code_in};
+use flac_meta::{BlockList, StreamInfo};
 use flac_subframe::LinearPredictor;
 use std::alloc::Global;
 use std::marker::Model;
+
+/// The format of a stream that is encoded a block at a time (RFC 9639, sections 7, 8.2 and 9.1):
+///
+/// - the profile of the stream;
+/// - the sample rate in Hz: in [`Profile::Subset`] 1 to 65535, or a multiple of 10 up to 655350, in [`Profile::Lax`] 1
+///   to 1048575;
+/// - the bits per sample: in [`Profile::Subset`] 8, 12, 16, 20, 24 or 32, in [`Profile::Lax`] 4 to 32;
+/// - 1 to 8 channels;
+/// - the samples of each channel in a block: in [`Profile::Subset`] 16 to 16384, at most 4608 if the rate is at most
+///   48000 Hz, in [`Profile::Lax`] 16 to 65535.
+#[derive(Clone, Copy, Debug, PartialEq, Eq)]
+pub struct StreamFormat {
+    pub profile: Profile,
+    pub rate: u32,
+    pub bits: u32,
+    pub channels: u32,
+    pub block_size: u32,
+}
+
+impl StreamFormat {
+    /// Why nothing of the format can be encoded, or `None` if it can: `BadRate`, `BadDepth`, `BadChannels` or
+    /// `BadBlockSize`, the first that applies.
+    #[tactic(auto, unfolding(crate::specs::Pushing::shape_fault))]
+    pub fn fault(&self) -> Option<SetupFault>
+        ensures { result ≡ shape_fault (shape_of self.now) }
+    {
+        if rate_code_in(self.profile, self.rate).is_none() {
+            return Some(SetupFault::BadRate);
+        }
+        if depth_code_in(self.profile, self.bits).is_none() {
+            return Some(SetupFault::BadDepth);
+        }
+        if self.channels < 1 || self.channels > 8 {
+            return Some(SetupFault::BadChannels);
+        }
+        if self.block_size < 16 || self.block_size > greatest_in(self.profile, self.rate) {
+            return Some(SetupFault::BadBlockSize);
+        }
+        None
+    }
+
+    /// STREAMINFO of the format, in which everything that depends on the samples is unknown (RFC 9639, section 8.2).
+    pub(crate) fn open_info(&self) -> StreamInfo
+        requires { shape_fault (shape_of self.now) ≡ None }
+        ensures { result ≡ open_info (shape_of self.now) }
+    {
+        let size = self.block_size as u16;
+        let info = StreamInfo::new(
+            size,
+            size,
+            0,
+            0,
+            self.rate,
+            self.channels as u8,
+            self.bits as u8,
+            0,
+            [0; 16],
+        );
+        match info {
+            Ok(info) => info,
+            Err(_) => unreachable!(),
+        }
+    }
+
+    /// Why a block of samples does not fit the format, or `None` if it does: `BadChannels` if there is not one slice for
+    /// each channel, `LengthsDiffer` if they differ in length, or `SampleTooLarge` if a sample does not fit its bits, the
+    /// first that applies. How many samples it has is not judged here.
+    ///
+    /// The format has 1 to 32 bits per sample, as each has that [`StreamFormat::fault`] does not refuse.
+    ///
+    /// ```
+    /// let fault = format.block_fault(&[left.as_slice(), right.as_slice()]);
+    /// ```
+    pub fn block_fault(&self, block: &[&[i32]]) -> Option<SetupFault>
+        requires { (1 ≤ self.now.bits) × (self.now.bits ≤ 32) }
+        ensures { result ≡ block_fault self.now.channels self.now.bits (map (λ c. c.now) block.now) }
+    {
+        if block.len() as u64 != self.channels as u64 {
+            return Some(SetupFault::BadChannels);
+        }
+        if !are_long(block, block_len(block)) {
+            return Some(SetupFault::LengthsDiffer);
+        }
+        if !each_small(block, self.bits) {
+            return Some(SetupFault::SampleTooLarge);
+        }
+        None
+    }
+
+    /// Encodes a block of the format as the frame of this number, in memory (RFC 9639, section 9): a shortest frame, also
+    /// over these linear predictors. The frame has `number` in its header, counted from 0.
+    ///
+    /// The caller sees to it that nothing is refused: the format and the block have no fault
+    /// ([`StreamFormat::fault`], [`StreamFormat::block_fault`]), nor have the predictors ([`crate::predictors_fault`]); the block
+    /// has at least one sample, and at most as many as the buffers were made for, in the format's profile.
+    ///
+    /// # Errors
+    /// [`Why::Memory`] if an allocation fails.
+    pub fn encode_block(
+        &self,
+        alloc: Global,
+        predictors: &[LinearPredictor],
+        block: &[&[i32]],
+        number: u64,
+        buffers: &mut EncodeBuffers,
+    ) -> Result<Vec<u8>, Why>
+        requires good { audio_fault self.now.profile self.now.rate self.now.bits (map (λ c. c.now) block.now) ≡ None }
+        requires predictors { predictors_fault self.now.profile self.now.rate predictors.now ≡ None }
+        requires some { 0 < samples_each (map (λ c. c.now) block.now) }
+        requires room { samples_each (map (λ c. c.now) block.now) ≤ buffers.old.block }
+        requires most { most_in self.now.profile ≤ buffers.old.most }
+        requires number { number < 2 ^ 31 }
+        ensures kept { buffers.new ≡ buffers.old }
+        ensures frame { IfOk result (λ bytes. SpellsFrame (sound_of (shape_of self.now) (map (λ c. c.now) block.now)) (frame_with number (map (λ c. c.now) block.now)) (bits_of bytes.items)) }
+        ensures least { IfOk result (λ bytes. SpellsLeast predictors.now (sound_of (shape_of self.now) (map (λ c. c.now) block.now)) (frame_with number (map (λ c. c.now) block.now)) (bits_of bytes.items)) }
+        ensures memory { IfErr result (λ e. e ≡ Why.Memory) }
+    {
+        let channels = copied(alloc, block)?;
+        let audio = match Audio::new_in(self.profile, self.rate, self.bits, channels) {
+            Ok(audio) => audio,
+            Err(_) => unreachable!(),
+        };
+        frame_bytes(alloc, &audio, predictors, number, buffers)
+    }
+}
+
+/// Whether a sample fits into `bits` bits.
+fn fits(sample: i32, bits: u32) -> bool
+    requires { (1 ≤ bits) × (bits ≤ 32) }
+    ensures { result ≡ fits bits sample }
+{
+    let sample = sample as i64;
+    let limit = 1i64 << (bits - 1);
+    if sample < -limit {
+        return false;
+    }
+    if sample >= limit {
+        return false;
+    }
+    true
+}
+
+/// Whether each sample fits into `bits` bits.
+fn small(samples: &[i32], bits: u32) -> bool
+    requires { (1 ≤ bits) × (bits ≤ 32) }
+    ensures { result ≡ list_all (fits bits) samples.now }
+{
+    samples.iter().all(|s| fits(*s, bits))
+}
+
+/// Whether each sample of each channel fits into `bits` bits.
+fn each_small(block: &[&[i32]], bits: u32) -> bool
+    requires { (1 ≤ bits) × (bits ≤ 32) }
+    ensures { result ≡ list_all (λ c. list_all (fits bits) c.now) block.now }
+{
+    block.iter().all(|c| small(c, bits))
+}
+
+/// Whether each channel has `len` samples.
+fn are_long(block: &[&[i32]], len: usize) -> bool
+    ensures { result ≡ list_all (λ c. nat_eq (length c.now) len) block.now }
+{
+    block.iter().all(|c| c.len() == len)
+}
+
+/// How many samples each channel of a block has, by its first channel; 0 if there is none.
+pub fn block_len(block: &[&[i32]]) -> usize
+    ensures { result ≡ samples_each (map (λ c. c.now) block.now) }
+{
+    if block.is_empty() {
+        return 0;
+    }
+    block[0].len()
+}
+
+/// The samples of each channel, copied. Its only error is `Memory`: an allocation failed.
+fn copied(alloc: Global, block: &[&[i32]]) -> Result<Vec<Vec<i32>>, Why>
+    ensures items { IfOk result (λ channels. map (λ c. c.items) channels.items ≡ map (λ c. c.now) block.now) }
+    ensures memory { IfErr result (λ e. e ≡ Why.Memory) }
+{
+    let mut channels = Vec::with_capacity(alloc, block.len())?;
+    for channel in block {
+        let samples = Vec::from_slice(alloc, channel)?;
+        channels.push(samples)?;
+    }
+    Ok(channels)
+}
+
+/// All samples as frame `number`, in memory. Its only error is `Memory`: an allocation failed.
+fn frame_bytes(
+    alloc: Global,
+    audio: &Audio,
+    predictors: &[LinearPredictor],
+    number: u64,
+    buffers: &mut EncodeBuffers,
+) -> Result<Vec<u8>, Why>
+    requires some { 0 < samples_each audio.now.channels }
+    requires room { samples_each audio.now.channels ≤ buffers.old.block }
+    requires most { most_in audio.now.profile ≤ buffers.old.most }
+    requires orders { AreWithin (limits_at audio.now.profile audio.now.rate).linear predictors.now }
+    requires number { number < 2 ^ 31 }
+    ensures kept { buffers.new ≡ buffers.old }
+    ensures frame { IfOk result (λ bytes. SpellsFrame audio.now (frame_with number audio.now.channels) (bits_of bytes.items)) }
+    ensures least { IfOk result (λ bytes. SpellsLeast predictors.now audio.now (frame_with number audio.now.channels) (bits_of bytes.items)) }
+    ensures memory { IfErr result (λ e. e ≡ Why.Memory) }
+{
+    let _channels = audio.channels();
+    let end = audio.len();
+    let mut writer = BitWriter::new(Collected::new(alloc));
+    match encode_frame_with(audio, 0..end, number, predictors, buffers, &mut writer) {
+        Ok(_) => writer.into_bytes(),
+        Err(why) => Err(why.in_memory()),
+    }
+}
 
 /// Encodes a native stream a block at a time, as a recorder does whose samples are not all there yet (RFC 9639, section
 /// 6). [`StreamEncoder::new`] writes the marker, STREAMINFO and the metadata blocks, each [`StreamEncoder::push`] one

@@ -1,6 +1,6 @@
-//! The state of a stream between its parts.
+//! The state of a stream between its parts, and what is compared at its end.
 
-ghost use Rattle.std.specs.Prelude.{◌≡◌, ◌≢◌, ◌≤◌, ◌+◌, cond, OnOk, IfOk, IfErr, Err, Some, is_some, true, ⊤};
+ghost use Rattle.std.specs.Prelude.{◌≡◌, ◌≢◌, ◌≤◌, ◌+◌, cond, OnOk, IfOk, IfErr, Err, Some, is_some, true, ⊤, ℕ, List, [], min, false};
 ghost use Rattle.std.specs.Borrow.{sem, follows_so};
 ghost use mathlib.Core.Option.{none};
 ghost use Rattle.flac_bits.specs.Reading.{Counts, ReadsInRoom, Means};
@@ -9,21 +9,35 @@ ghost use Rattle.flac_native.specs.Within.{ReadsWithin, MeansWithin};
 ghost use Rattle.flac_meta.specs.Block.{block as block_layout};
 ghost use Rattle.flac_native.specs.Resuming.{at_frames};
 ghost use Rattle.flac_frame.specs.Lent.{frame_of};
-ghost use Rattle.flac_native.specs.Stream.{Progress, marked, block as block_piece, framed, phase_behind, raised, info_after, before_behind, frame_behind, place_in, next, opening, layout_in};
+ghost use Rattle.flac_native.specs.Stream.{Progress, marked, block as block_piece, framed, phase_behind, raised, info_after, before_behind, frame_behind, place_in, next, opening, layout_in, is_unknown, end_rules};
 ghost use Rattle.flac_native.specs.Track.{IsAt, stand_of, is_behind_blocks, profile_in, info_in, before_in, shown, kept};
-ghost use Rattle.flac_native.specs.declared.phase.Phase.TheVariants.{Blocks};
+ghost use Rattle.flac_native.specs.declared.track.Phase.TheVariants.{Blocks};
 ghost use Rattle.flac_native.specs.contracts.track.Track.{the_row};
+ghost use Rattle.std.specs.Str.{bytes_eq};
+ghost use Rattle.flac_native.specs.Ends.{EndsBy};
+ghost use Rattle.md5.specs.Md5.{Holds};
 
+use crate::digest::feed;
 use crate::fault::Place;
 use crate::format::Format;
-use crate::message::feed;
-use crate::phase::Phase;
 use flac_bits::{BitReader, Source, Why};
 use flac_frame::FrameView;
 use flac_header::Profile;
 use flac_meta::{Block, Seen, StreamInfo, read_block};
 use md5::{Digest, Md5};
 use std::alloc::Global;
+use std::mem;
+
+/// Which kind of part of a stream comes next.
+#[derive(Clone, Copy, Debug, PartialEq, Eq)]
+pub(crate) enum Phase {
+    /// The marker.
+    Opening,
+    /// A metadata block.
+    Blocks,
+    /// A frame, or the end.
+    Frames,
+}
 
 /// The state of a stream between two of its parts, by which they are read one by one (RFC 9639, section 6): a metadata
 /// block by [`Track::block`]; after the last block a frame by [`Track::frame`] or [`Track::next_frame`]; and at the end
@@ -253,4 +267,60 @@ impl Track {
             Phase::Frames => Place::Frame(self.index),
         }
     }
+
+    /// Compares the number of samples and the MD5 digest of all frames with what STREAMINFO states, if it was read and
+    /// states them (RFC 9639, section 8.2). It is called once, after the last frame: the digest begins anew.
+    ///
+    /// # Errors
+    /// [`Why::TotalMismatch`] if the number of samples differs, else [`Why::Md5Mismatch`] if the digest does.
+    #[tactic(auto, unfolding(crate::specs::Stream::end_rules))]
+    pub fn end(&mut self) -> Result<(), Why>
+        ensures judged { (p : Progress) → IsAt self.old p → EndsBy (end_rules p.stand.info p.samples p.message) result }
+        ensures quiet { IfErr result (λ e. e ≢ Why.Read) }
+        ensures memory { IfErr result (λ e. e ≢ Why.Memory) }
+        ensures sinkless { IfErr result (λ e. e ≢ Why.Sink) }
+        // Nothing else changes.
+        ensures stays { self.new ≡ record self.old { hasher = self.new.hasher } }
+        ensures anew { is_some self.old.format ≡ true → Holds self.new.hasher [] }
+        ensures unasked { is_some self.old.format ≡ false → self.new.hasher ≡ self.old.hasher }
+    {
+        let Some(format) = &self.format else {
+            return Ok(());
+        };
+        let hasher = mem::replace(&mut self.hasher, Md5::new());
+        judge(&format.info, self.samples, hasher)
+    }
+}
+
+/// Whether a digest of STREAMINFO is unknown: all its bytes are 0.
+fn is_unknown(digest: &[u8]) -> bool
+    ensures { result ≡ is_unknown digest.now }
+{
+    digest.iter().all(|byte| *byte == 0)
+}
+
+/// Whether two digests are equal.
+fn same_bytes(one: &[u8], other: &[u8]) -> bool
+    ensures { result ≡ bytes_eq one.now other.now }
+{
+    one == other
+}
+
+/// Compares the number of samples and the digest with what STREAMINFO states.
+#[tactic(auto, unfolding(crate::specs::Stream::end_rules))]
+fn judge(info: &StreamInfo, samples: u64, hasher: Md5) -> Result<(), Why>
+    ensures judged { (count : ℕ) (message : List ℕ) → samples ≡ min count 18446744073709551615 → Holds hasher message → EndsBy (end_rules (Some info.now) count message) result }
+    ensures quiet { IfErr result (λ e. e ≢ Why.Read) }
+    ensures memory { IfErr result (λ e. e ≢ Why.Memory) }
+    ensures sinkless { IfErr result (λ e. e ≢ Why.Sink) }
+{
+    if info.total() != 0 && info.total() != samples {
+        return Err(Why::TotalMismatch);
+    }
+    let stated = info.digest();
+    let digest = hasher.finalize();
+    if !is_unknown(&stated) && !same_bytes(&stated, &digest) {
+        return Err(Why::Md5Mismatch);
+    }
+    Ok(())
 }

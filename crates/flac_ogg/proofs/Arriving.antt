@@ -16,7 +16,7 @@ use Rattle.flac_native.specs.Coming.{ReadAs, IsNext, HandsFirst}
 use Rattle.flac_native.specs.declared.fault.Place.{Place}
 use Rattle.flac_native.specs.declared.fault.Place.TheVariants as place
 use Rattle.flac_native.specs.declared.fault.Fault.{Fault}
-use Rattle.flac_native.specs.declared.phase.Phase.TheVariants.{Opening}
+use Rattle.flac_native.specs.declared.track.Phase.TheVariants.{Opening}
 use Rattle.flac_native.specs.declared.track.Track.{Track}
 use Rattle.flac_pages.specs.Packets.{Place as Stands, Ahead, ahead, at_front}
 use Rattle.flac_pages.specs.Items.{IsAtPacket, GoesBehind}

@@ -6,7 +6,7 @@ use Rattle.flac_bits.specs.declared.why.Why.TheVariants.{PacketLength, Read, Mem
 use Rattle.flac_native.specs.Stream.{Progress}
 use Rattle.flac_native.specs.declared.fault.Fault.{Fault}
 use Rattle.flac_native.specs.declared.fault.Place.TheVariants as place
-use Rattle.flac_native.specs.declared.phase.Phase.TheVariants.{Frames}
+use Rattle.flac_native.specs.declared.track.Phase.TheVariants.{Frames}
 use Rattle.flac_pages.specs.Packets.{Met}
 use Rattle.flac_pages.specs.Items.{HasItsPage}
 use Rattle.flac_ogg.specs.Mapping.{page_place, item_place, packet_place}

@@ -12,13 +12,13 @@ use Rattle.flac_meta.specs.Block.{seen_after}
 use Rattle.flac_meta.specs.Listed.{came, block_fault, fault_behind, or_else, list_fault, info_seen}
 use Rattle.flac_meta.specs.Spelling.{block_spelling}
 use Rattle.flac_meta.specs.Valid.{AllAre, FitsFields, IsInfo, IsBlock}
-use Rattle.flac_meta.specs.declared.seen.Seen.{Seen}
+use Rattle.flac_meta.specs.declared.block.Seen.{Seen}
 use Rattle.flac_meta.specs.declared.block.Block.{Block}
 use Rattle.flac_meta.specs.declared.block.Block.TheVariants as blocks
 use Rattle.flac_header.specs.declared.subset.Profile.{Profile}
 use Rattle.flac_native.specs.Stream.{Piece, block, Progress, layout, next, raised, phase_behind, room_in}
 use Rattle.flac_native.specs.Given.{closing}
-use Rattle.flac_native.specs.declared.phase.Phase.TheVariants.{Blocks}
+use Rattle.flac_native.specs.declared.track.Phase.TheVariants.{Blocks}
 use Rattle.flac_native.proofs.Streams.{block_here}
 use Rattle.flac_pages.specs.Items.{whole, IsItem}
 use Rattle.flac_ogg.specs.Mapping.{mapping, is_first_block, packet_layout}

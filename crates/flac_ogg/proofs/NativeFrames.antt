@@ -12,7 +12,7 @@ use Rattle.flac_bits.specs.declared.why.Why.TheVariants.{Truncated}
 use Rattle.flac_bits.proofs.ItemSpellings.{behind_whole}
 use Rattle.flac_meta.specs.Info.{Info, KeepsRules}
 use Rattle.flac_meta.specs.Valid.{IsInfo}
-use Rattle.flac_meta.specs.declared.seen.Seen.{Seen}
+use Rattle.flac_meta.specs.declared.block.Seen.{Seen}
 use Rattle.flac_header.specs.Header.{Header, channels_of, greatest_in}
 use Rattle.flac_meta.specs.declared.block.Block.TheVariants as blocks
 use Rattle.flac_frame.specs.Audio.{Sound, samples_each}
@@ -23,8 +23,8 @@ use Rattle.flac_frame.proofs.FrameTie.{frames_spelled, frames_bytes}
 use Rattle.flac_native.specs.Decoding.{beginning}
 use Rattle.flac_native.specs.Message.{rows_bytes, sample_width}
 use Rattle.flac_native.specs.Stream.{framed, Stand, Progress, grammar, layout, layout_in, frame_behind, next, room_in}
-use Rattle.flac_native.specs.declared.phase.Phase.{Phase}
-use Rattle.flac_native.specs.declared.phase.Phase.TheVariants.{Frames}
+use Rattle.flac_native.specs.declared.track.Phase.{Phase}
+use Rattle.flac_native.specs.declared.track.Phase.TheVariants.{Frames}
 use Rattle.flac_native.specs.Given.{Cut, info_of, sound_message, size_of, frame_of, frames_from, frames_of, closing}
 use Rattle.flac_native.specs.Writing.{SpellsFrame, AreFrames, AreSizes}
 use Rattle.flac_native.proofs.Digests.{digest_is_bytes}

@@ -14,8 +14,8 @@ use Rattle.flac_native.specs.Track.{IsAt, stand_of, is_behind_blocks}
 use Rattle.flac_native.specs.declared.fault.Fault.{Fault}
 use Rattle.flac_native.specs.declared.fault.Place.{Place}
 use Rattle.flac_native.specs.declared.fault.Place.TheVariants as place
-use Rattle.flac_native.specs.declared.phase.Phase.{Phase}
-use Rattle.flac_native.specs.declared.phase.Phase.TheVariants.{Opening, Blocks, Frames}
+use Rattle.flac_native.specs.declared.track.Phase.{Phase}
+use Rattle.flac_native.specs.declared.track.Phase.TheVariants.{Opening, Blocks, Frames}
 use Rattle.flac_native.specs.declared.track.Track.{Track}
 use Rattle.flac_pages.specs.Packets.{Place as Stands, Ahead, ahead, rest_of, behind_of, rest_in, behind_in, to_come, page_index, fault_of, stop_of, Begins}
 use Rattle.flac_pages.specs.Pages.{Stop, closed, broken}

@@ -11,7 +11,7 @@ use Rattle.flac_meta.specs.declared.block.Block.{Block}
 use Rattle.flac_meta.specs.declared.block.Block.TheVariants as block_of
 use Rattle.flac_header.specs.declared.subset.Profile.{Profile}
 use Rattle.flac_native.specs.Stream.{Piece, marked, block, framed, Stand, Progress, layout, next, phase_behind, info_after}
-use Rattle.flac_native.specs.declared.phase.Phase.TheVariants.{Opening, Blocks}
+use Rattle.flac_native.specs.declared.track.Phase.TheVariants.{Opening, Blocks}
 use Rattle.flac_native.proofs.Blocks.{block_there}
 use Rattle.flac_ogg.specs.Mapping.{mapping, is_first_block, packet_layout}
 use Rattle.flac_ogg.specs.Stream.{start}

@@ -8,7 +8,7 @@ use Rattle.flac_bits.specs.declared.why.Why.TheVariants.{Read, Memory}
 use Rattle.flac_native.specs.Stream.{Piece, Progress, grammar}
 use Rattle.flac_native.specs.declared.fault.Place.{Place}
 use Rattle.flac_native.specs.declared.fault.Place.TheVariants as place
-use Rattle.flac_native.specs.declared.phase.Phase.TheVariants.{Frames}
+use Rattle.flac_native.specs.declared.track.Phase.TheVariants.{Frames}
 use Rattle.flac_ogg.specs.Stream.{start, Contents, AreItems, OggStream, OggRefused}
 use Rattle.flac_header.specs.declared.subset.Profile.{Profile}
 

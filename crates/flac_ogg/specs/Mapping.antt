@@ -6,8 +6,8 @@ use Rattle.flac_bits.specs.declared.why.Why.TheVariants.{BadMapping, NoEndPage}
 use Rattle.flac_native.specs.Stream.{Piece, Stand, layout as part_layout, place_in}
 use Rattle.flac_native.specs.declared.fault.Place.{Place}
 use Rattle.flac_native.specs.declared.fault.Place.TheVariants as place
-use Rattle.flac_native.specs.declared.phase.Phase.{Phase}
-use Rattle.flac_native.specs.declared.phase.Phase.TheVariants.{Opening, Blocks, Frames}
+use Rattle.flac_native.specs.declared.track.Phase.{Phase}
+use Rattle.flac_native.specs.declared.track.Phase.TheVariants.{Opening, Blocks, Frames}
 
 -- In the first packet, before STREAMINFO: the byte 7F and FLAC, version 1.0, how many header packets follow, which is not looked at, and the marker fLaC.
 -- All but the count are judged together.

@@ -15,8 +15,8 @@ use Rattle.flac_native.specs.Stream.{Piece, marked, framed}
 use Rattle.flac_native.specs.Given.{closing}
 use Rattle.flac_native.specs.Pushing.{Shape, shape_fault, open_info, Pushed, trying, StandsFor, sound_of, frame_with}
 use Rattle.flac_native.specs.Writing.{SpellsFrame, SpellsLeast}
-use Rattle.flac_native.specs.declared.encode_fault.EncodeFault.{EncodeFault}
-use Rattle.flac_native.specs.declared.encode_fault.EncodeFault.TheVariants.{BadMapping, Setup}
+use Rattle.flac_native.specs.declared.fault.EncodeFault.{EncodeFault}
+use Rattle.flac_native.specs.declared.fault.EncodeFault.TheVariants.{BadMapping, Setup}
 use Rattle.flac_pages.specs.declared.writing.PacketKind.TheVariants as kind_of
 use Rattle.flac_pages.specs.Placed.{Placed, IsPlaced, marks_of, sequence_behind, stream_spelling}
 use Rattle.flac_pages.specs.Written.{packet_spelling}

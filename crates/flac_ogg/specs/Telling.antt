@@ -5,7 +5,7 @@ use Rattle.flac_bits.specs.Layout.{Layout, ◌>>=◌}
 use Rattle.flac_bits.specs.declared.why.Why.TheVariants.{Memory}
 use Rattle.flac_native.specs.Stream.{Piece, Stand, layout_in}
 use Rattle.flac_native.specs.declared.fault.Fault.{Fault}
-use Rattle.flac_native.specs.declared.phase.Phase.TheVariants.{Opening, Blocks}
+use Rattle.flac_native.specs.declared.track.Phase.TheVariants.{Opening, Blocks}
 use Rattle.flac_pages.specs.Packets.{Ahead, Met, Place as Stands}
 use Rattle.flac_ogg.specs.Mapping.{mapping}
 use Rattle.flac_ogg.specs.Steps.{PacketStep, item, over, refused}

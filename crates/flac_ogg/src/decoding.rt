@@ -1,17 +1,69 @@
-//! Decodes an Ogg stream into a sink.
+//! Decodes a stream in either container.
 
-ghost use Rattle.std.specs.Prelude.{◌≡◌, ◌<◌, ◌≤◌, true, IfErr, None};
+ghost use Rattle.std.specs.Prelude.{◌≡◌, true, List, IfOk, IfErr, None, Some, ◌<◌, ◌≤◌, ◌+◌, ◌++◌, [], OnOk, Ok, ◌⊎◌};
 ghost use Rattle.flac_bits.specs.Bits.{bits_of};
-ghost use Rattle.flac_bits.specs.State.{Rises, short_of};
+ghost use Rattle.flac_bits.specs.State.{short_of, Rises};
+ghost use Rattle.flac_native.specs.Stream.{Piece};
+ghost use Rattle.flac_native.specs.Track.{IsAt};
+ghost use Rattle.flac_native.specs.Decoding.{beginning, taken};
+ghost use Rattle.flac_native.specs.Giving.{stage_of};
+ghost use Rattle.flac_native.specs.declared.decoder.Course.TheVariants.{Begun};
+ghost use Rattle.flac_native.specs.declared.fault.Place.{Place as Where};
+ghost use Rattle.flac_bits.specs.declared.why.Why.{Why as Reason};
+ghost use Rattle.flac_ogg.specs.Stream.{start, OggStream, OggRefused};
+ghost use Rattle.flac_pages.specs.Packets.{ahead};
+ghost use Rattle.flac_ogg.specs.Coming.{ItemsCome, IsClear};
 ghost use Rattle.flac_bits.specs.Handing.{Hands, Decides, outcome_of};
 ghost use Rattle.flac_native.specs.Item.{told};
-ghost use Rattle.flac_native.specs.Decoding.{taken, beginning};
 ghost use Rattle.flac_ogg.specs.Decoding.{ogg_reading};
+ghost use Rattle.flac_ogg.specs.Fronts.{front_bytes, front_count};
+ghost use Rattle.flac_ogg.specs.Either.{begins_page, read_either};
 
 use crate::packets::OggPackets;
-use flac_native::{Fault, Place, Profile, Sink, Source, Track, Why, hand_out};
+use flac_bits::{Source, Why};
+use flac_native::{Decoder, Fault, Place, Profile, Sink, Track, decode, hand_out};
 use flac_pages::{PageRoom, Pages};
 use std::alloc::Global;
+use std::io;
+
+/// Makes a decoder of an Ogg stream, whose first page begins at the source's next byte (RFC 9639, section 10.1). It has
+/// the calls of [`Decoder`], and lends a block or a frame once its packet has ended.
+///
+/// It allocates 65025 bytes for a page here. When it reads metadata, it allocates for each block, and at STREAMINFO for
+/// one frame.
+///
+/// ```
+/// let mut decoder = ogg_decoder(rt.alloc(), Memory::new(&stream), Profile::Subset)?;
+/// let found = peaks(&mut decoder)?; // see `Decoder`
+/// ```
+///
+/// # Errors
+/// [`Why::Memory`] if the allocation for a page fails.
+pub fn ogg_decoder<R: Source + Drop>(
+    alloc: Global,
+    source: R,
+    profile: Profile,
+) -> Result<Decoder<OggPackets<R>>, Fault>
+    ensures track { IfOk result (λ d. IsAt (stage_of d).track (start profile)) }
+    ensures course { IfOk result (λ d. (stage_of d).course ≡ Begun) }
+    ensures known { IfOk result (λ d. (stage_of d).container.pages.known ≡ R.known source) }
+    ensures errors { IfOk result (λ d. (stage_of d).container.pages.errors ≡ R.errors source) }
+    ensures met { IfOk result (λ d. (stage_of d).container.pages.raised ≡ R.raised source) }
+    // What is still to come is what the input is.
+    ensures stream { IfOk result (λ d. (items : List Piece) → OggStream profile (beginning (short_of ((R.behind source).fails))) items (bits_of (R.coming source)) → ItemsCome (start profile) (ahead (stage_of d).container.pages) items None) }
+    ensures refused { IfOk result (λ d. (items : List Piece) (at : Where) (why : Reason) → OggRefused profile (beginning (short_of ((R.behind source).fails))) items (bits_of (R.coming source)) at why → ItemsCome (start profile) (ahead (stage_of d).container.pages) items (Some (at, why))) }
+    // Read is returned only if the source returns an error in the call, unless one is announced.
+    ensures clear { IfOk result (λ d. (R.behind source).fails ≡ None → IsClear (stage_of d).container.pages (stage_of d).track) }
+    ensures memory { IfErr result (λ f. f.why ≡ Why.Memory) }
+{
+    match Pages::new(alloc, source) {
+        Ok(pages) => Ok(Decoder::over(OggPackets::over(pages), Track::new(alloc, profile))),
+        Err(why) => Err(Fault {
+            at: Place::Marker,
+            why,
+        }),
+    }
+}
 
 /// Decodes an Ogg stream: passes its metadata blocks and frames to the sink, each once its packet has ended (RFC 9639,
 /// section 10.1). It returns `Ok` only if all bytes of the source are one stream, and the sink took all its items. It
@@ -65,5 +117,158 @@ pub fn decode_ogg<R: Source, S: Sink>(
     let outcome = hand_out(&mut packets, &mut track, sink);
     let pages = packets.into_pages();
     let _source = pages.into_source();
+    outcome
+}
+
+/// A source whose first byte was pulled already ([`pull_front`]), and comes again.
+#[derive(Drop)]
+pub struct Fronted<S: Source> {
+    /// The byte that was pulled, if there was one.
+    pub front: Option<u8>,
+    /// What comes after it.
+    pub source: S,
+}
+
+impl<S: Source> Fronted<S> {
+    /// The source, without a byte in front of it.
+    pub(crate) fn into_source(self) -> S
+        ensures { result ≡ self.source }
+    {
+        let Fronted { front: _, source } = self;
+        source
+    }
+}
+
+impl<S: Source> Source for Fronted<S> {
+    ghost known = { λ s. S.known s.source };
+
+    ghost coming = { λ s. front_bytes s.front ++ S.coming s.source };
+
+    ghost behind = { λ s. S.behind s.source };
+
+    ghost errors = { λ s. S.errors s.source };
+
+    ghost raised = { λ s. S.raised s.source };
+
+    ghost most = { λ s. front_count s.front + S.most s.source };
+
+    ghost names = { λ s. S.names s.source };
+
+    fn pull(&mut self, buf: &mut [u8]) -> io::Result<usize> {
+        let Some(byte) = self.front else {
+            return self.source.pull(buf);
+        };
+        if buf.is_empty() {
+            return Ok(0);
+        }
+        buf[0] = byte;
+        self.front = None;
+        Ok(1)
+    }
+}
+
+/// Whether this is the first byte of a page, so that an Ogg stream begins with it (RFC 3533, section 6).
+pub fn is_page(front: Option<u8>) -> bool
+    ensures { result ≡ begins_page (front_bytes front) }
+{
+    match front {
+        Some(byte) => byte == 0x4F,
+        None => false,
+    }
+}
+
+/// Pulls the first byte of a source, if there is one: `None` at its end.
+///
+/// # Errors
+/// [`Why::Read`] at the marker if the source returns an error.
+pub fn pull_front<R: Source>(source: &mut R) -> Result<Option<u8>, Fault>
+    ensures known { OnOk result (R.known source.old ≡ true → R.known source.new ≡ true) }
+    ensures bytes { IfOk result (λ front. R.known source.old ≡ true → R.coming source.old ≡ front_bytes front ++ R.coming source.new) }
+    ensures end { result ≡ Ok None → R.known source.old ≡ true → R.coming source.old ≡ [] }
+    ensures counted { OnOk result ((R.errors source.new ≡ R.errors source.old) × (R.raised source.new ≡ R.raised source.old)) }
+    ensures kept { R.errors source.old ≤ R.errors source.new }
+    ensures behind { R.known source.old ≡ true → R.errors source.new ≡ R.errors source.old → R.behind source.new ≡ R.behind source.old }
+    ensures place { IfErr result (λ f. f.at ≡ Place.Marker) }
+    ensures why { IfErr result (λ f. f.why ≡ Why.Read) }
+    ensures rises { IfErr result (λ f. R.known source.old ≡ true → R.raised source.old < R.raised source.new) }
+    ensures risen { IfErr result (λ f. Rises (R.raised source.old) (R.raised source.new)) }
+    ensures names { R.names source.new ≡ R.names source.old }
+{
+    let mut first = [0];
+    match source.pull(&mut first) {
+        Ok(0) => Ok(None),
+        Ok(_) => Ok(Some(first[0])),
+        Err(_) => Err(Fault {
+            at: Place::Marker,
+            why: Why::Read,
+        }),
+    }
+}
+
+/// Decodes an Ogg stream or a native one.
+fn decode_as<R: Source, S: Sink>(
+    alloc: Global,
+    is_ogg: bool,
+    source: &mut R,
+    profile: Profile,
+    sink: &mut S,
+) -> Result<(), Fault>
+    ensures hands { R.known source.old ≡ true → S.known sink.old ≡ true →
+        Hands (read_either profile is_ogg (beginning (short_of ((R.behind source.old).fails))) (bits_of (R.coming source.old))) (taken S.takes) S.errors
+        ((R.errors source.new ≡ R.errors source.old) × (R.raised source.new ≡ R.raised source.old)) sink.old sink.new (outcome_of told result) }
+    ensures decides { R.known source.old ≡ true → S.known sink.old ≡ true → R.errors source.new ≡ R.errors source.old → R.raised source.new ≡ R.raised source.old → S.errors sink.new ≡ S.errors sink.old →
+        Decides (read_either profile is_ogg (beginning (short_of ((R.behind source.old).fails))) (bits_of (R.coming source.old))) (outcome_of told result) }
+    ensures kept { R.errors source.old ≤ R.errors source.new }
+    ensures read { IfErr result (λ f. R.known source.old ≡ true → (R.behind source.old).fails ≡ None → f.why ≡ Why.Read → (R.errors source.old < R.errors source.new) ⊎ (R.raised source.old < R.raised source.new)) }
+    // An error of the source and of the sink is counted, if the count can rise, whatever is known of them: no other call returns it.
+    ensures risen { IfErr result (λ f. f.why ≡ Why.Read → Rises (R.raised source.old) (R.raised source.new)) }
+    ensures sink { IfErr result (λ f. f.why ≡ Why.Sink → Rises (S.errors sink.old) (S.errors sink.new)) }
+    ensures names { S.names sink.new ≡ S.names sink.old }
+    ensures source_names { R.names source.new ≡ R.names source.old }
+{
+    if is_ogg {
+        decode_ogg(alloc, source, profile, sink)
+    } else {
+        decode(alloc, source, profile, sink)
+    }
+}
+
+/// Decodes a stream in either container, and passes its metadata blocks and frames to the sink: an Ogg stream if the
+/// first byte is `O`, that of a page (RFC 9639, section 10.1), a native one otherwise (section 6).
+///
+/// ```
+/// decode_any(rt.alloc(), &mut source, Profile::Subset, &mut sink)?;
+/// ```
+///
+/// # Errors
+/// [`Why::Read`] at the marker if the source returns an error for the first byte. Else those of [`decode_ogg`] or of
+/// [`decode`].
+pub fn decode_any<R: Source, S: Sink>(
+    alloc: Global,
+    source: &mut R,
+    profile: Profile,
+    sink: &mut S,
+) -> Result<(), Fault>
+    // Ok only if the bytes are such a stream, and the sink took exactly its items; refused only as the bytes are, after
+    // exactly the items before; and in each case the sink took whole items, from the start.
+    ensures hands { R.known source.old ≡ true → S.known sink.old ≡ true →
+        Hands (read_either profile (begins_page (R.coming source.old)) (beginning (short_of ((R.behind source.old).fails))) (bits_of (R.coming source.old))) (taken S.takes) S.errors
+        ((R.errors source.new ≡ R.errors source.old) × (R.raised source.new ≡ R.raised source.old)) sink.old sink.new (outcome_of told result) }
+    // Such a stream is not refused, unless memory runs out, and the place and the reason are those that the bytes show.
+    ensures decides { R.known source.old ≡ true → S.known sink.old ≡ true → R.errors source.new ≡ R.errors source.old → R.raised source.new ≡ R.raised source.old → S.errors sink.new ≡ S.errors sink.old →
+        Decides (read_either profile (begins_page (R.coming source.old)) (beginning (short_of ((R.behind source.old).fails))) (bits_of (R.coming source.old))) (outcome_of told result) }
+    ensures kept { R.errors source.old ≤ R.errors source.new }
+    // Read is returned only if the source returned an error in the call, unless one was announced.
+    ensures read { IfErr result (λ f. R.known source.old ≡ true → (R.behind source.old).fails ≡ None → f.why ≡ Why.Read → (R.errors source.old < R.errors source.new) ⊎ (R.raised source.old < R.raised source.new)) }
+    // An error of the source and of the sink is counted, if the count can rise, whatever is known of them: no other call returns it.
+    ensures risen { IfErr result (λ f. f.why ≡ Why.Read → Rises (R.raised source.old) (R.raised source.new)) }
+    ensures sink { IfErr result (λ f. f.why ≡ Why.Sink → Rises (S.errors sink.old) (S.errors sink.new)) }
+    ensures names { S.names sink.new ≡ S.names sink.old }
+    ensures source_names { R.names source.new ≡ R.names source.old }
+{
+    let front = pull_front(source)?;
+    let mut fronted = Fronted { front, source };
+    let outcome = decode_as(alloc, is_page(front), &mut fronted, profile, sink);
+    let _source = fronted.into_source();
     outcome
 }

@@ -12,7 +12,7 @@ ghost use Rattle.flac_ogg.specs.Writing.{header_count};
 
 use crate::encoding::{block_packet, header_count};
 use crate::held_packet::HeldPacket;
-use crate::packet_bytes::bytes_fit;
+use crate::verifying::bytes_fit;
 use flac_bits::{BitWriter, Collected, Target, Why};
 use flac_meta::BlockList;
 use flac_pages::{PacketKind, PacketMarks};

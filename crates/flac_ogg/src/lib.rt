@@ -16,29 +16,16 @@
 //! It re-exports what its users need from the crates below.
 #![tactic(auto)]
 
-mod advance;
-mod decoder;
 mod decoding;
-mod either;
 mod encoding;
-mod fronted;
 mod headers;
 mod held_packet;
-mod items;
 mod laws;
-mod mapping;
 mod ogg_encoder;
-mod packet_bytes;
 mod packets;
-mod parts;
-mod places;
-mod round_trip;
-mod sending;
 mod verifying;
 
-pub use decoder::ogg_decoder;
-pub use decoding::decode_ogg;
-pub use either::decode_any;
+pub use decoding::{Fronted, decode_any, decode_ogg, is_page, ogg_decoder, pull_front};
 pub use encoding::encode_ogg;
 pub use flac_bits::{Collected, Counted, Memory, Pieces, Source, Target, Why};
 pub use flac_frame::{Audio, FrameView, SetupFault};
@@ -51,11 +38,9 @@ pub use flac_native::{
     decode,
 };
 pub use flac_pages::{PacketBytes, Pages};
-pub use fronted::{Fronted, is_page, pull_front};
 pub use laws::{
     encoded_are_read, encoded_items, only_one_way, same_items, some_way, subset_is_lax,
 };
 pub use ogg_encoder::OggEncoder;
 pub use packets::OggPackets;
-pub use round_trip::encode_and_decode;
-pub use verifying::verify;
+pub use verifying::{encode_and_decode, verify};

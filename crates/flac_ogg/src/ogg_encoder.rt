@@ -9,7 +9,7 @@ ghost use Rattle.flac_native.specs.Given.{predictors_fault};
 ghost use Rattle.flac_native.specs.Stream.{Piece};
 ghost use Rattle.flac_native.specs.Pushing.{shape_of, shape_fault, open_info, unpushed, behind_block, spent_with, size_fault, push_fault, IsFirst};
 ghost use Rattle.flac_native.specs.Writing.{head_spelling};
-ghost use Rattle.flac_native.specs.declared.encode_fault.EncodeFault.TheVariants.{Spent, Setup};
+ghost use Rattle.flac_native.specs.declared.fault.EncodeFault.TheVariants.{Spent, Setup};
 ghost use Rattle.flac_pages.specs.Placed.{Placed, sequence_behind};
 ghost use Rattle.flac_pages.specs.Written.{packet_spelling};
 ghost use Rattle.flac_pages.specs.declared.writing.PacketKind.TheVariants.{Frame};
@@ -18,8 +18,7 @@ ghost use Rattle.flac_ogg.specs.Pushing.{open_fault, listed_fault, trying_ogg, S
 use crate::encoding::begins_with_comment;
 use crate::headers::headers_of;
 use crate::held_packet::HeldPacket;
-use crate::packet_bytes::bytes_fit;
-use crate::round_trip::in_memory;
+use crate::verifying::{bytes_fit, in_memory};
 use flac_bits::{Collected, Target, Why, send_all};
 use flac_frame::{EncodeBuffers, SetupFault};
 use flac_meta::BlockList;

@@ -1,16 +1,29 @@
-//! Verifies a stream in memory.
+//! Bytes in memory: verifying a stream, and encoding and decoding again.
 
-ghost use Rattle.std.specs.Prelude.{◌≢◌, ⊤, [], true, IfErr};
+ghost use Rattle.flac_bits.specs.Forms.{AreBytes};
+ghost use Rattle.std.specs.Prelude.{◌≢◌, ⊤, [], true, IfErr, ◌≡◌, ◌↔◌, List, false, IfOk, Err, Some, None};
 ghost use Rattle.flac_bits.specs.Handing.{outcome_of};
 ghost use Rattle.flac_native.specs.Item.{told};
-ghost use Rattle.flac_ogg.specs.Verifying.{Verifies};
+ghost use Rattle.flac_ogg.specs.Verifying.{Verifies, bytes_reading};
+ghost use Rattle.flac_native.specs.Given.{fits_plan};
+ghost use Rattle.flac_native.specs.Numbers.{is_of_whole};
+ghost use Rattle.flac_native.specs.Seeking.{repeats_table};
+ghost use Rattle.flac_native.specs.Stream.{Piece};
+ghost use Rattle.flac_ogg.specs.RoundTrip.{EncodedBytes, IsJust, NativeBytes, OggBytes, is_no_ogg, is_repeated};
+ghost use Rattle.flac_ogg.specs.Writing.{may_be_ogg};
 
-use crate::either::decode_any;
-use flac_bits::{Memory, Why};
-use flac_frame::FrameView;
-use flac_meta::Block;
-use flac_native::{Fault, Profile, Sink, SinkFault};
+use crate::decoding::decode_any;
+use crate::encoding::encode_ogg;
+use flac_bits::{Collected, Memory, Why};
+use flac_frame::{Audio, FrameView};
+use flac_meta::{Block, BlockList};
+use flac_native::{EncodeFault, Fault, Plan, Profile, Sink, SinkFault, encode};
 use std::alloc::Global;
+
+/// Each byte is below 256.
+pub(crate) fn bytes_fit(bytes: &[u8])
+    ensures { AreBytes bytes.now }
+{}
 
 /// Takes every block and every frame.
 #[derive(Drop)]
@@ -54,4 +67,117 @@ pub fn verify(alloc: Global, bytes: &[u8], profile: Profile) -> Result<(), Fault
     let mut source = Memory::new(bytes);
     let mut sink = Anything;
     decode_any(alloc, &mut source, profile, &mut sink)
+}
+
+/// The error of encoding into memory: there an error of the target is a failed allocation.
+pub(crate) fn in_memory(fault: EncodeFault) -> EncodeFault
+    ensures write { fault ≡ EncodeFault.Write → result ≡ EncodeFault.Memory }
+    ensures others { fault ≢ EncodeFault.Write → result ≡ fault }
+    ensures whole { is_of_whole fault ≡ true → is_of_whole result ≡ true }
+{
+    match fault {
+        EncodeFault::Write => EncodeFault::Memory,
+        other => other,
+    }
+}
+
+/// Encodes into memory as a native stream.
+fn native_bytes(
+    alloc: Global,
+    plan: &Plan,
+    list: &BlockList,
+    audio: &Audio,
+) -> Result<Vec<u8>, EncodeFault>
+    requires { fits_plan plan.now audio.now ≡ true }
+    ensures encoded { IfOk result (λ bytes. NativeBytes plan.now list.now audio.now bytes.items) }
+    ensures repeated { (result ≡ Err EncodeFault.RepeatedBlock) ↔ (repeats_table plan.now list.now ≡ true) }
+    ensures mapping { result ≢ Err EncodeFault.BadMapping }
+    ensures write { result ≢ Err EncodeFault.Write }
+    ensures whole { IfErr result (λ e. is_of_whole e ≡ true) }
+{
+    let mut target = Collected::new(alloc);
+    match encode(alloc, plan, list, audio, &mut target) {
+        Ok(()) => {
+            let bytes = target.into_bytes();
+            bytes_fit(bytes.as_slice());
+            Ok(bytes)
+        }
+        Err(fault) => Err(in_memory(fault)),
+    }
+}
+
+/// Encodes into memory as an Ogg stream with this serial number.
+fn ogg_bytes(
+    alloc: Global,
+    serial: u32,
+    plan: &Plan,
+    list: &BlockList,
+    audio: &Audio,
+) -> Result<Vec<u8>, EncodeFault>
+    requires { fits_plan plan.now audio.now ≡ true }
+    ensures encoded { IfOk result (λ bytes. OggBytes serial plan.now list.now audio.now bytes.items) }
+    ensures repeated { result ≢ Err EncodeFault.RepeatedBlock }
+    ensures mapping { (result ≡ Err EncodeFault.BadMapping) ↔ (may_be_ogg plan.now list.now ≡ false) }
+    ensures write { result ≢ Err EncodeFault.Write }
+    ensures whole { IfErr result (λ e. is_of_whole e ≡ true) }
+{
+    let mut target = Collected::new(alloc);
+    match encode_ogg(alloc, serial, plan, list, audio, &mut target) {
+        Ok(()) => {
+            let bytes = target.into_bytes();
+            bytes_fit(bytes.as_slice());
+            Ok(bytes)
+        }
+        Err(fault) => Err(in_memory(fault)),
+    }
+}
+
+/// Decodes a stream of a profile again. Its only error is `Memory`: an allocation failed.
+fn decode_again(alloc: Global, bytes: &[u8], profile: Profile) -> Result<(), Why>
+    requires { (items : List Piece) × IsJust (bytes_reading profile bytes.now) items }
+    ensures memory { IfErr result (λ e. e ≡ Why.Memory) }
+{
+    match verify(alloc, bytes, profile) {
+        Ok(()) => Ok(()),
+        Err(fault) => Err(fault.why),
+    }
+}
+
+/// Encodes samples into memory, decodes the bytes again in the plan's profile, and returns them: an Ogg stream with this serial number (RFC
+/// 9639, section 10.1), or without one a native stream (section 6). They are a stream of exactly what was given, as if
+/// by [`encode_ogg`] or [`encode`].
+///
+/// The plan must fit the samples ([`Plan::fits`]).
+///
+/// ```
+/// let bytes = encode_and_decode(rt.alloc(), None, &plan, &blocks, &audio)?;
+/// ```
+///
+/// # Errors
+/// - [`EncodeFault::BadMapping`] for an Ogg stream, if the list does not begin with a Vorbis comment or the plan asks
+///   for a seek table.
+/// - [`EncodeFault::RepeatedBlock`] for a native stream, if the list has a seek table and the plan asks for one.
+/// - [`EncodeFault::Memory`] if an allocation fails, in encoding or in decoding.
+pub fn encode_and_decode(
+    alloc: Global,
+    serial: Option<u32>,
+    plan: &Plan,
+    list: &BlockList,
+    audio: &Audio,
+) -> Result<Vec<u8>, EncodeFault>
+    requires { fits_plan plan.now audio.now ≡ true }
+    ensures encoded { IfOk result (λ bytes. EncodedBytes serial plan.now list.now audio.now bytes.items) }
+    ensures mapping { (result ≡ Err EncodeFault.BadMapping) ↔ (is_no_ogg serial plan.now list.now ≡ true) }
+    ensures repeated { (result ≡ Err EncodeFault.RepeatedBlock) ↔ (is_repeated serial plan.now list.now ≡ true) }
+    ensures write { result ≢ Err EncodeFault.Write }
+    ensures whole { IfErr result (λ e. is_of_whole e ≡ true) }
+{
+    let bytes = match serial {
+        Some(serial) => ogg_bytes(alloc, serial, plan, list, audio)?,
+        None => native_bytes(alloc, plan, list, audio)?,
+    };
+    match decode_again(alloc, bytes.as_slice(), plan.profile()) {
+        Ok(()) => Ok(bytes),
+        Err(_) => Err(EncodeFault::Memory),
+    }
 }

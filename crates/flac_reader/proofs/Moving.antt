@@ -12,9 +12,9 @@ use Rattle.flac_native.specs.Track.{IsAt}
 use Rattle.flac_native.specs.Giving.{StillGives, Stage, seen_by, Goes, MovesFrom, Moves, IsFirst as First}
 use Rattle.flac_native.specs.declared.fault.Place.{Place}
 use Rattle.flac_native.specs.declared.fault.Fault.{Fault}
-use Rattle.flac_native.specs.declared.part.Part.{Part}
-use Rattle.flac_native.specs.declared.course.Course.{Course}
-use Rattle.flac_native.specs.declared.course.Course.TheVariants as course
+use Rattle.flac_native.specs.declared.container.Part.{Part}
+use Rattle.flac_native.specs.declared.decoder.Course.{Course}
+use Rattle.flac_native.specs.declared.decoder.Course.TheVariants as course
 use Rattle.flac_native.specs.declared.container.Container as container
 use Rattle.flac_reader.specs.Coming.{ComesBehind, Comes, IsFirst, IsCalm, HadRoom, Counted, stream_items, only_frame}
 

@@ -10,7 +10,7 @@ use Rattle.flac_native.specs.Coming.{ReadAs}
 use Rattle.flac_native.specs.Item.{Item}
 use Rattle.flac_native.specs.Giving.{Stage, stage_of, StillGives}
 use Rattle.flac_native.specs.declared.fault.Place.{Place}
-use Rattle.flac_native.specs.declared.course.Course.TheVariants as course
+use Rattle.flac_native.specs.declared.decoder.Course.TheVariants as course
 use Rattle.flac_native.specs.declared.container.Container as container
 use Rattle.flac_reader.specs.Coming.{Comes, ComesBehind, HeadOf, stream_items}
 use Rattle.flac_reader.specs.Kept.{first_info}

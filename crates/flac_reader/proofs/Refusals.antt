@@ -16,7 +16,7 @@ use Rattle.flac_native.specs.Track.{IsAt}
 use Rattle.flac_native.specs.Coming.{ReadAs}
 use Rattle.flac_native.specs.Item.{told}
 use Rattle.flac_native.specs.Giving.{Stage}
-use Rattle.flac_native.specs.declared.course.Course.TheVariants as course
+use Rattle.flac_native.specs.declared.decoder.Course.TheVariants as course
 use Rattle.flac_native.specs.declared.fault.Place.{Place}
 use Rattle.flac_native.specs.declared.fault.Place.TheVariants as place
 use Rattle.flac_native.specs.declared.fault.Fault.{Fault}

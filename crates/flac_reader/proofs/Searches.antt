@@ -14,7 +14,7 @@ use Rattle.flac_frame.specs.Frame.{Frame}
 use Rattle.flac_native.specs.Stream.{Piece, Progress}
 use Rattle.flac_native.specs.Track.{IsAt}
 use Rattle.flac_native.specs.Coming.{ReadAs}
-use Rattle.flac_native.specs.declared.course.Course.TheVariants as course
+use Rattle.flac_native.specs.declared.decoder.Course.TheVariants as course
 use Rattle.flac_native.specs.Item.{Item, frame, told}
 use Rattle.flac_native.specs.Giving.{Stage, stage_of, held}
 use Rattle.flac_native.specs.Decoding.{beginning}

@@ -14,8 +14,8 @@ use Rattle.flac_native.specs.Item.{Item, metadata, frame, told}
 use Rattle.flac_native.specs.Giving.{StillGives, EndsBy, Stage, held, seen_by}
 use Rattle.flac_native.specs.declared.fault.Place.{Place}
 use Rattle.flac_native.specs.declared.fault.Fault.{Fault}
-use Rattle.flac_native.specs.declared.course.Course.{Course}
-use Rattle.flac_native.specs.declared.course.Course.TheVariants as course
+use Rattle.flac_native.specs.declared.decoder.Course.{Course}
+use Rattle.flac_native.specs.declared.decoder.Course.TheVariants as course
 use Rattle.flac_native.specs.declared.container.Container as container
 use Rattle.flac_reader.specs.Kept.{keeps}
 use Rattle.flac_reader.specs.Starting.{frames_start}

@@ -1,0 +1,5 @@
+use Rattle.std.proofs.Common.{rules}
+use Rattle.flac_native.proofs.fault.EncodeFault.as_str.Goals as goal
+
+pub returns-in-Write : goal.returns-in-Write
+returns-in-Write c = search rules

@@ -1,5 +1,0 @@
-use Rattle.flac_native.proofs.ReadBack as back
-use Rattle.flac_native.proofs.promises.encoded_are_read_back.Goals as goal
-
-pub returns : goal.returns
-returns c = back.encoded_are_read_back

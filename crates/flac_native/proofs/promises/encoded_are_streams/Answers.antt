@@ -1,5 +1,0 @@
-use Rattle.flac_native.proofs.Streams as streams
-use Rattle.flac_native.proofs.promises.encoded_are_streams.Goals as goal
-
-pub returns : goal.returns
-returns c = streams.encoded_are_streams

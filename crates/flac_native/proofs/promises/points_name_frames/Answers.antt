@@ -1,5 +1,0 @@
-use Rattle.flac_native.proofs.Sought as sought
-use Rattle.flac_native.proofs.promises.points_name_frames.Goals as goal
-
-pub returns : goal.returns
-returns c = sought.points_name_frames

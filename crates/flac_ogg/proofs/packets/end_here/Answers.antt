@@ -1,0 +1,12 @@
+use Rattle.std.proofs.Common.{sym, ◌∙◌}
+use Rattle.flac_ogg.proofs.Stepped.{due_here, over_here, refused_here}
+use Rattle.flac_ogg.proofs.packets.end_here.Goals as goal
+
+pub returns-then-not-is_past_metadata-clause-ends : goal.returns-then-not-is_past_metadata-clause-ends
+returns-then-not-is_past_metadata-clause-ends c = λ p at way. due_here c.args.track.now p c.block_due.result at (sym c.is_past_metadata.ensures ∙ c.if-not-is_past_metadata.true) c.block_due.ensures.at c.block_due.ensures.why
+
+pub returns-in-Ok-clause-ends : goal.returns-in-Ok-clause-ends
+returns-in-Ok-clause-ends c = λ p at way. over_here c.args.track.now p at way (sym c.is_past_metadata.ensures ∙ c.if-not-is_past_metadata.false) (c.in-Ok.ensures.judged p at)
+
+pub returns-in-Err-clause-ends : goal.returns-in-Err-clause-ends
+returns-in-Err-clause-ends c = λ p at way. refused_here c.args.track.now p c.in-Err.why at way (sym c.is_past_metadata.ensures ∙ c.if-not-is_past_metadata.false) (c.in-Err.ensures.judged p at)

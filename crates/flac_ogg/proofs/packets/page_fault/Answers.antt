@@ -1,0 +1,14 @@
+use Rattle.std.proofs.Common.{sym, ap, ◌∙◌}
+use Rattle.flac_ogg.specs.Steps.{refused}
+use Rattle.flac_ogg.proofs.Stepped.{page_refused}
+use Rattle.flac_ogg.proofs.Breaking.{in_page}
+use Rattle.flac_ogg.proofs.packets.page_fault.Goals as goal
+
+pub returns-then-is_last-clause-fault : goal.returns-then-is_last-clause-fault
+returns-then-is_last-clause-fault c = λ p at way. rw c.if-is_last.true (c.behind_last.ensures.fault p at way)
+
+pub returns-clause-fault : goal.returns-clause-fault
+returns-clause-fault c = λ p at way. rw c.if-is_last.false (page_refused p (c.args.page, c.args.why) ∙ ap (λ k. refused k c.args.why) (sym c.page_place.ensures))
+
+pub returns-clause-page : goal.returns-clause-page
+returns-clause-page c = λ out. c.page_place.ensures ∙ in_page c.args.page c.args.why out
