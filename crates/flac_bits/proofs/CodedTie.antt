@@ -10,7 +10,7 @@ use Rattle.flac_bits.specs.Number.{lead_form, continued, some_or_bad, number}
 use Rattle.flac_bits.specs.Coded.{six_bits, in_bytes, number_spelling, IsNumber, NumbersAreSpelled, NumbersAreReadAgain}
 use Rattle.flac_bits.specs.Meaning.{Spells}
 use Rattle.flac_bits.proofs.Meaning.{again}
-use Rattle.flac_bits.specs.Forms.{Ties}
+use Rattle.flac_bits.specs.inner.Forms.{Ties}
 use Rattle.flac_bits.specs.declared.why.Why.TheVariants.{BadNumber}
 use Rattle.flac_bits.proofs.Ties.{ForEach, ForSome, tie, each_tied, some_tied, choose_each, choose_true, choose_false}
 

@@ -6,7 +6,8 @@ use Rattle.std.proofs.lemmas.Bool.Decides.{nat_tests}
 use Rattle.std.proofs.lemmas.Bool.{cases_lt}
 use Rattle.std.specs.Prelude.{is_some}
 use Rattle.flac_bits.specs.State.{Behind, short_of}
-use Rattle.flac_bits.specs.Store.{Fence, Came, allowed, forbidden, reached, reason_of, seen, room_behind, hides_late}
+use Rattle.flac_bits.specs.Store.{Fence, allowed, forbidden, reached, reason_of, hides_late}
+use Rattle.flac_bits.specs.inner.Store.{Came, seen, room_behind}
 use Rattle.flac_bits.specs.declared.why.Why.{Why}
 use Rattle.flac_bits.specs.declared.why.Why.TheVariants.{Read}
 

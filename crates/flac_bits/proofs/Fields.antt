@@ -4,7 +4,8 @@ use Rattle.std.proofs.lemmas.List.{length-append}
 use Rattle.flac_bits.specs.Bits.{unsigned, bits_of}
 use Rattle.flac_bits.specs.State.{Mark, Cursor, step, past, with_short}
 use Rattle.flac_bits.specs.declared.why.Why.{Why}
-use Rattle.flac_bits.specs.Store.{Store, Takes}
+use Rattle.flac_bits.specs.Store.{Store}
+use Rattle.flac_bits.specs.inner.Store.{Takes}
 use Rattle.flac_bits.specs.Meaning.{unary_bits}
 use Rattle.flac_bits.specs.Layout.{next_bit, number_at, zeros_at, run}
 use Rattle.flac_bits.specs.Rice.{rice}

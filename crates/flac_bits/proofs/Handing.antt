@@ -4,8 +4,10 @@ use Rattle.std.proofs.lemmas.List.{append-nil, length-append}
 use Rattle.flac_bits.specs.State.{Mark, Cursor, State, past, fresh}
 use Rattle.flac_bits.specs.Meaning.{Spells}
 use Rattle.flac_bits.specs.Fence.{InRoom}
-use Rattle.flac_bits.specs.Items.{Grammar, after, Joined, mark_behind, StopsAt, Refused, Step, item, over, refused, step_at, NeedsBits}
-use Rattle.flac_bits.specs.Handing.{IsCalm, TakesAll, Reading, Hands, by_grammar, IsRead, OneReading, SomeReading}
+use Rattle.flac_bits.specs.Items.{Grammar, after, Joined, mark_behind, StopsAt, Refused, Step, item, over, refused}
+use Rattle.flac_bits.specs.inner.Items.{step_at, NeedsBits}
+use Rattle.flac_bits.specs.Handing.{TakesAll, Reading, Hands, by_grammar, IsRead, OneReading, SomeReading}
+use Rattle.flac_bits.specs.inner.Handing.{IsCalm}
 use Rattle.flac_bits.specs.declared.why.Why.{Why}
 use Rattle.flac_bits.specs.declared.why.Why.TheVariants.{Memory}
 use Rattle.flac_bits.proofs.Laws.{at_}

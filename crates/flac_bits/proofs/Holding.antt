@@ -5,7 +5,8 @@ use Rattle.std.proofs.Math.Seq.{drop-cons}
 use Rattle.std.proofs.lemmas.Nat.{shr_high}
 use Rattle.flac_bits.specs.Bits.{unsigned, bits_of}
 use Rattle.flac_bits.specs.State.{Mark, past}
-use Rattle.flac_bits.specs.Store.{passed, four_at}
+use Rattle.flac_bits.specs.Store.{passed}
+use Rattle.flac_bits.specs.inner.Store.{four_at}
 use Rattle.flac_bits.proofs.Laws.{unsigned_low, past-append}
 use Rattle.flac_bits.proofs.Words.{split, length-unsigned}
 

@@ -2,7 +2,8 @@
 use Rattle.std.proofs.Common.{◌≡◌, ◌%◌, ℕ, Bool, List, [], ◌∷◌, ◌++◌, length, Option, Some, None, refl, sym, ap, subst, ◌∙◌, arith}
 use Rattle.flac_bits.specs.State.{Mark, past, fresh}
 use Rattle.flac_bits.specs.Fence.{InRoom}
-use Rattle.flac_bits.specs.Items.{Grammar, Joined, FitsRoom, AllValid, all_spelled, TiesItems, JoinsSpellings}
+use Rattle.flac_bits.specs.Items.{Grammar, Joined}
+use Rattle.flac_bits.specs.inner.Items.{FitsRoom, AllValid, all_spelled, TiesItems, JoinsSpellings}
 use Rattle.flac_bits.proofs.Marks.{past-unread}
 
 pub fresh_unread : (m : Mark) → m.unread ≡ 0 → (fresh m).unread ≡ 0

@@ -6,7 +6,8 @@ use Rattle.flac_bits.specs.State.{Mark, Cursor, past, fresh}
 use Rattle.flac_bits.specs.Layout.{Layout, Rule, Reason, because}
 use Rattle.flac_bits.specs.Meaning.{Spells, IsCut, AllKept, BreaksFirst}
 use Rattle.flac_bits.specs.Fence.{InRoom, read_in}
-use Rattle.flac_bits.specs.Items.{Grammar, after, Joined, mark_behind, Stream, StopsAt, Refused, Step, item, over, refused, stepped, judged, step_at, NeedsBits}
+use Rattle.flac_bits.specs.Items.{Grammar, after, Joined, mark_behind, Stream, StopsAt, Refused, Step, item, over, refused}
+use Rattle.flac_bits.specs.inner.Items.{stepped, judged, step_at, NeedsBits}
 use Rattle.flac_bits.specs.declared.why.Why.{Why}
 use Rattle.flac_bits.proofs.Laws.{at_}
 use Rattle.flac_bits.proofs.Meaning.{again, cut_short, differ}

@@ -6,7 +6,7 @@ use Rattle.std.proofs.lemmas.Nat.{pow-add, shl_whole, mul-add-lt}
 use Rattle.flac_bits.specs.State.{Mark, Cursor, State, step}
 use Rattle.flac_bits.proofs.Laws.{at_}
 use Rattle.flac_bits.specs.Layout.{next_bit, number_at, number_from, zeros_from, and_then, Reason}
-use Rattle.flac_bits.specs.Reading.{Goes}
+use Rattle.flac_bits.specs.inner.Reading.{Goes}
 
 pub number_more : (n i value : ℕ) (c : Cursor) → i < n → number_from (n - i) value c ≡ and_then (next_bit c) (λ b d. number_from (n - (i + 1)) (2 * value + bit_value b) d)
 unfolding number_from

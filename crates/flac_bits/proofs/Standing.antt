@@ -9,11 +9,12 @@ use Rattle.flac_bits.specs.Bits.{unsigned, bits_of}
 use Rattle.flac_bits.specs.State.{State, Behind, short_of}
 use Rattle.flac_bits.specs.Layout.{number_at, zeros_at, run, and_then}
 use Rattle.flac_bits.specs.Lists.{list_of, behind as put_behind}
-use Rattle.flac_bits.specs.Stretches.{IsRead}
+use Rattle.flac_bits.specs.inner.Stretches.{IsRead}
 use Rattle.flac_bits.proofs.Stretches.{stretch_read}
 use Rattle.flac_bits.specs.Meaning.{unary_bits}
 use Rattle.flac_bits.specs.Rice.{rice, rice_value}
-use Rattle.flac_bits.specs.Store.{Store, Fence, Takes, HoldsSame, Passes, Came, SameBits, allowed, forbidden, reached, most_of, reason_of, state_of}
+use Rattle.flac_bits.specs.Store.{Store, Fence, allowed, forbidden, reached, most_of, reason_of, state_of}
+use Rattle.flac_bits.specs.inner.Store.{Takes, HoldsSame, Passes, Came, SameBits}
 use Rattle.flac_bits.specs.declared.why.Why.{Why}
 use Rattle.flac_bits.specs.declared.why.Why.TheVariants.{Read, Truncated, FrameTooLong}
 use Rattle.flac_bits.proofs.Words.{length-unsigned}

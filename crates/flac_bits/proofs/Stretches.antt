@@ -12,8 +12,9 @@ use Rattle.flac_bits.specs.Layout.{run, and_then}
 use Rattle.flac_bits.specs.Lists.{list_of, behind}
 use Rattle.flac_bits.specs.Meaning.{unary_bits}
 use Rattle.flac_bits.specs.Rice.{rice, rice_value, unfolded}
-use Rattle.flac_bits.specs.Store.{Store, Passes, passed, four_at}
-use Rattle.flac_bits.specs.Stretches.{IsRead}
+use Rattle.flac_bits.specs.Store.{Store, passed}
+use Rattle.flac_bits.specs.inner.Store.{Passes, four_at}
+use Rattle.flac_bits.specs.inner.Stretches.{IsRead}
 use Rattle.flac_bits.proofs.Back.{same_parts, begun_more}
 use Rattle.flac_bits.proofs.Fields.{cursor_of, past-with_short}
 use Rattle.flac_bits.proofs.Holding.{length-bits_of, bits_of-append, four_left, came_tie, came_passed, took_tie, took_mark}

@@ -7,7 +7,8 @@ use Rattle.flac_bits.specs.State.{Mark, past, with_short}
 use Rattle.flac_bits.specs.declared.why.Why.TheVariants.{Truncated}
 use Rattle.flac_bits.specs.Layout.{Layout, done, bind, bits, unary, judge, refuse, mark, choose}
 use Rattle.flac_bits.specs.Meaning.{Spells, AllKept, IsWithin, zeros_bits}
-use Rattle.flac_bits.specs.Forms.{Ties, IsBytes}
+use Rattle.flac_bits.specs.Forms.{IsBytes}
+use Rattle.flac_bits.specs.inner.Forms.{Ties}
 
 -- whatever the fields' values are, that fit and keep the rules: this holds of the bits and of the value
 abbrev pub ForEach : {A : Type 0} → Layout A → Mark → (List Bool → A → Type 0) → Type 0

@@ -4,7 +4,8 @@ use Rattle.std.proofs.lemmas.List.{append-nil}
 use Rattle.flac_bits.specs.Bits.{bits_of}
 use Rattle.flac_bits.specs.Forms.{joined}
 use Rattle.flac_bits.specs.State.{Mark, past}
-use Rattle.flac_bits.specs.Written.{Written, Adds, Writes, Wrote, WritesParts, Fails, begins, behind_parts, past_parts}
+use Rattle.flac_bits.specs.Written.{Written, Adds, Writes, Fails, begins}
+use Rattle.flac_bits.specs.inner.Written.{Wrote, WritesParts, behind_parts, past_parts}
 use Rattle.flac_bits.specs.declared.why.Why.{Why}
 use Rattle.flac_bits.proofs.Counting.{rises_then}
 use Rattle.flac_bits.proofs.Laws.{past-append}

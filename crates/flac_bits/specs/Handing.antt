@@ -1,7 +1,7 @@
 -- What a call hands to a receiver, which reads a stream item by item.
-use Rattle.std.specs.Prelude.{◌≡◌, ◌≢◌, ◌<◌, ℕ, Bool, true, List, [], ◌∷◌, ◌++◌, Option, Some, None, Result, Ok, Err, ◌⊎◌}
-use Rattle.flac_bits.specs.State.{Mark, Cursor, State}
-use Rattle.flac_bits.specs.Items.{Grammar, after, Joined, Stream, Refused, Step, item, over, refused}
+use Rattle.std.specs.Prelude.{◌≡◌, ◌≢◌, ◌<◌, ℕ, Bool, List, [], ◌∷◌, ◌++◌, Option, Some, None, Result, Ok, Err, ◌⊎◌}
+use Rattle.flac_bits.specs.State.{Mark}
+use Rattle.flac_bits.specs.Items.{Grammar, after, Joined, Stream, Refused, refused}
 use Rattle.flac_bits.specs.declared.why.Why.{Why}
 use Rattle.flac_bits.specs.declared.why.Why.TheVariants.{Memory, Read, Sink}
 
@@ -16,20 +16,6 @@ outcome_of told (Err e) = Some (told e)
 abbrev pub reason_of : {X E P : Type 0} → (E → P × Why) → Result X E → Result X Why
 reason_of told (Ok x) = Ok x
 reason_of told (Err e) = Err (told e).1
-
--- the answer, seen by view, is what the step gives, but where memory is wanting
-abbrev pub StepIs : {X E I P : Type 0} → (X → I) → (E → P × Why) → Step I P → Cursor → Result (Option X) E → Type 0
-StepIs view told step at (Ok None) = step ≡ over
-StepIs view told step at (Ok (Some x)) = step ≡ item (view x) at
-StepIs view told step at (Err e) = (told e).1 ≢ Memory → step ≡ refused (told e).0 (told e).1
-
--- so it is where the source tells its bytes and answered no error in the call, foretold or not
-abbrev pub StepsTo : {X E I P : Type 0} → (X → I) → (E → P × Why) → Step I P → State → State → Result (Option X) E → Type 0
-StepsTo view told step old new result = old.known ≡ true → new.errors ≡ old.errors → new.raised ≡ old.raised → StepIs view told step new.cursor result
-
--- the source answered no error
-abbrev pub IsCalm : State → State → Type 0
-IsCalm old new = (new.errors ≡ old.errors) × (new.raised ≡ old.raised)
 
 -- ---- a whole reading
 

@@ -21,7 +21,7 @@ pub mod Standing
 pub mod Fencing
 pub mod Reasons
 pub mod Meant
-pub mod Stretches
 pub mod LittleEndian
 pub mod Unchecked
 pub mod Failing
+pub mod inner

@@ -39,12 +39,3 @@ pub record Decodes {X Y : Type 0} (view : X → Y) (layout : Layout Y) (old : Cu
 
 abbrev pub Means : {X Y : Type 0} → (X → Y) → Layout Y → State → State → Result X Why → Type 0
 Means view layout old new result = old.known ≡ true → new.errors ≡ old.errors → Decodes view layout old.cursor new.cursor.left result
-
--- a loop has read without a refusal so far, and what it has still to read gives what the whole gives
-pub record Goes {Y : Type 0} (old now : State) (rest whole : Result Y Reason) : Type 0 where
-  pub known : old.known ≡ true → now.known ≡ true
-  pub errors : now.errors ≡ old.errors
-  pub raised : now.raised ≡ old.raised
-  pub behind : old.known ≡ true → now.behind ≡ old.behind
-  pub names : now.names ≡ old.names
-  pub reads : old.known ≡ true → rest ≡ whole

@@ -6,8 +6,9 @@ ghost use Rattle.flac_bits.specs.Bits.{unsigned, bits_of};
 ghost use Rattle.flac_bits.specs.Meaning.{unary_bits};
 ghost use Rattle.flac_bits.specs.State.{past, Rises};
 ghost use Rattle.flac_bits.specs.Rice.{IsResidual};
-ghost use Rattle.flac_bits.specs.Stretches.{IsRead};
-ghost use Rattle.flac_bits.specs.Store.{Store, passed, Takes, Passes, HoldsSame, four_at, allowed, forbidden, reached, seen as seen_bytes, room_behind as room_behind_bytes, hides_late, reason_of, Came};
+ghost use Rattle.flac_bits.specs.inner.Stretches.{IsRead};
+ghost use Rattle.flac_bits.specs.Store.{Store, passed, allowed, forbidden, reached, hides_late, reason_of};
+ghost use Rattle.flac_bits.specs.inner.Store.{Takes, Passes, HoldsSame, four_at, seen as seen_bytes, room_behind as room_behind_bytes, Came};
 
 use crate::source::Source;
 use crate::stretch::{four_bytes, values_by};

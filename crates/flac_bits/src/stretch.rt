@@ -3,8 +3,8 @@
 ghost use Rattle.std.specs.Prelude.{◌≡◌, ◌<◌, ◌≤◌, ◌+◌, ◌++◌, ℕ, List, Bool, length, take, drop, get_or, pos};
 ghost use Rattle.flac_bits.specs.Bits.{unsigned, bits_of};
 ghost use Rattle.flac_bits.specs.Rice.{IsResidual};
-ghost use Rattle.flac_bits.specs.Store.{four_at};
-ghost use Rattle.flac_bits.specs.Stretches.{IsRead};
+ghost use Rattle.flac_bits.specs.inner.Store.{four_at};
+ghost use Rattle.flac_bits.specs.inner.Stretches.{IsRead};
 
 use crate::signed::unfolded;
 use crate::word::Word;

@@ -8,7 +8,8 @@ use Rattle.flac_native.specs.Decoding.{taken}
 use Rattle.flac_native.proofs.Messages.{rows_split}
 use Rattle.flac_frame.specs.Interleaved.{interleaved, row, rows}
 use Rattle.flac_frame.proofs.Interleaved.{row_more, rows_more}
-use Rattle.flac_c.specs.Sampled.{samples_from, frame_bytes, depth_behind, samples_in, numbers_from, numbers_in}
+use Rattle.flac_c.specs.Sampled.{samples_from, frame_bytes, numbers_from}
+use Rattle.flac_c.specs.inner.Sampled.{depth_behind, samples_in, numbers_in}
 
 -- No rows.
 pub rows_none : (width : ℕ) (channels : List (List ℤ)) (i : ℕ) → rows_bytes width channels 0 i ≡ []

@@ -15,7 +15,7 @@ use Rattle.flac_native.specs.Item.{told}
 use Rattle.flac_native.specs.declared.fault.Fault.{Fault}
 use Rattle.flac_native.proofs.Onwards.{Told, nothing_told, step_of}
 use Rattle.flac_c.specs.Starts.{IsHead, RefusesHead}
-use Rattle.flac_c.specs.Blocks.{IsFound, HeadRead, IsRefusedAt}
+use Rattle.flac_c.specs.inner.Blocks.{IsFound, HeadRead, IsRefusedAt}
 use Rattle.flac_c.specs.declared.metadata.Metadata.{Metadata}
 use Rattle.flac_c.proofs.FramesRead.{at_bytes}
 use Rattle.flac_header.specs.declared.subset.Profile.TheVariants.{Subset}

@@ -26,7 +26,7 @@ use Rattle.flac_native.specs.declared.track.Phase.{Phase}
 use Rattle.flac_native.specs.declared.track.Phase.TheVariants.{Opening, Blocks, Frames}
 use Rattle.flac_c.specs.Heads.{comments_from, comments_after, count_of}
 use Rattle.flac_c.specs.Starts.{are_metadata, point_after, point_from}
-use Rattle.flac_c.specs.Blocks.{Noted, IsFound, BlockRead, PartsRead, BlocksCome, HeadRead, IsRefusedAt}
+use Rattle.flac_c.specs.inner.Blocks.{Noted, IsFound, BlockRead, PartsRead, BlocksCome, HeadRead, IsRefusedAt}
 use Rattle.flac_c.specs.declared.metadata.Metadata.{Metadata}
 
 -- ---- what blocks tell, behind one more

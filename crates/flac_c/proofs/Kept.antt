@@ -10,7 +10,8 @@ use Rattle.flac_bits.specs.Handing.{TakesAll, outcome_of}
 use Rattle.flac_native.specs.Stream.{Piece, marked, block, framed}
 use Rattle.flac_native.specs.Item.{Item, told}
 use Rattle.flac_native.specs.Decoding.{taken}
-use Rattle.flac_c.specs.Heads.{info_from, comments_from, frames_from, info_behind, comments_behind, frames_behind}
+use Rattle.flac_c.specs.Heads.{info_from, comments_from, frames_from}
+use Rattle.flac_c.specs.inner.Heads.{info_behind, comments_behind, frames_behind}
 
 -- What holds of a count that is 0.
 pub can_rise : (n : ℕ) → n ≡ 0 → nat_lt n 18446744073709551615 ≡ true

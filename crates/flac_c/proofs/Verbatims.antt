@@ -19,7 +19,8 @@ use Rattle.flac_subframe.proofs.Family.{wasted_less, may_stand}
 use Rattle.flac_subframe.proofs.Lengths.{length-samples}
 use Rattle.flac_subframe.proofs.Powers.{half_low, times_more, all_times, even, none_wasted, silent}
 use Rattle.flac_subframe.proofs.WholeLeast.{length-subframe}
-use Rattle.flac_frame.specs.Encoding.{AreForms, EachStands}
+use Rattle.flac_frame.specs.Encoding.{EachStands}
+use Rattle.flac_frame.specs.inner.Encoding.{AreForms}
 
 -- ---- whether all samples are even
 

@@ -7,7 +7,6 @@ use Rattle.flac_meta.specs.declared.block.Block.{Block}
 use Rattle.flac_meta.specs.declared.block.Block.TheVariants.{VorbisComment}
 use Rattle.flac_meta.specs.declared.comments.Comments.{Comments}
 use Rattle.flac_header.specs.declared.subset.Profile.TheVariants.{Subset}
-use Rattle.flac_native.specs.Item.{Item, metadata, frame}
 use Rattle.flac_native.specs.Stream.{Piece, marked, block, framed, info_after}
 use Rattle.flac_native.specs.declared.fault.Place.{Place}
 use Rattle.flac_native.specs.declared.fault.Place.TheVariants as place
@@ -32,25 +31,12 @@ comments_from comments (marked ∷ xs) = comments_from comments xs
 comments_from comments (block last b ∷ xs) = comments_from (comments_after comments b) xs
 comments_from comments (framed f ∷ xs) = comments_from comments xs
 
--- and behind one item
-abbrev pub info_behind : Option Info → Item → Option Info
-info_behind info (metadata b) = info_after info b
-info_behind info (frame f) = info
-
-abbrev pub comments_behind : Option Comments → Item → Option Comments
-comments_behind comments (metadata b) = comments_after comments b
-comments_behind comments (frame f) = comments
-
 -- whether a frame is among items, or else was before; no metadata block comes behind one
 abbrev pub frames_from : Bool → List Piece → Bool
 frames_from over [] = over
 frames_from over (marked ∷ xs) = frames_from over xs
 frames_from over (block last b ∷ xs) = frames_from over xs
 frames_from over (framed f ∷ xs) = frames_from true xs
-
-abbrev pub frames_behind : Bool → Item → Bool
-frames_behind over (metadata b) = over
-frames_behind over (frame f) = true
 
 -- bytes that begin with items of this STREAMINFO and these comments, of which one is a frame or none is
 abbrev pub BeginsBy : List ℕ → Bool → Option Info → Option Comments → Type 0

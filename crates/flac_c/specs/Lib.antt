@@ -5,5 +5,5 @@ pub mod Heads
 pub mod Interleaved
 pub mod Sampled
 pub mod Starts
-pub mod Blocks
 pub mod Bound
+pub mod inner

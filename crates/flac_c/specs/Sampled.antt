@@ -4,7 +4,6 @@ use Rattle.flac_meta.specs.declared.block.Block.{Block}
 use Rattle.flac_meta.specs.declared.block.Block.TheVariants.{StreamInfo}
 use Rattle.flac_frame.specs.Frame.{Frame}
 use Rattle.flac_frame.specs.Interleaved.{interleaved}
-use Rattle.flac_native.specs.Item.{Item, metadata, frame}
 use Rattle.flac_native.specs.Message.{sample_width, rows_bytes}
 use Rattle.flac_native.specs.Stream.{Piece, marked, block, framed}
 
@@ -30,15 +29,6 @@ samples_from asked depth (marked ∷ xs) = samples_from asked depth xs
 samples_from asked depth (block last b ∷ xs) = samples_from asked (depth_after depth b) xs
 samples_from asked depth (framed f ∷ xs) = frame_bytes asked depth f ++ samples_from asked depth xs
 
--- and what one item adds
-abbrev pub depth_behind : ℕ → Item → ℕ
-depth_behind depth (metadata b) = depth_after depth b
-depth_behind depth (frame f) = depth
-
-abbrev pub samples_in : (asked depth : ℕ) → Item → List ℕ
-samples_in asked depth (metadata b) = []
-samples_in asked depth (frame f) = frame_bytes asked depth f
-
 -- ---- as numbers
 
 -- the samples of all frames, interleaved channel by channel
@@ -47,8 +37,3 @@ numbers_from [] = []
 numbers_from (marked ∷ xs) = numbers_from xs
 numbers_from (block last b ∷ xs) = numbers_from xs
 numbers_from (framed f ∷ xs) = interleaved f ++ numbers_from xs
-
--- and what one item adds
-abbrev pub numbers_in : Item → List ℤ
-numbers_in (metadata b) = []
-numbers_in (frame f) = interleaved f

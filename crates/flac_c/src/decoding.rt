@@ -7,7 +7,8 @@ ghost use Rattle.flac_native.specs.Stream.{Piece};
 ghost use Rattle.flac_frame.specs.Lent.{frame_of};
 ghost use Rattle.flac_ogg.specs.Verifying.{Verifies, bytes_reading};
 ghost use Rattle.flac_c.specs.Answers.{IsAnswered, IsCopied, in_c};
-ghost use Rattle.flac_c.specs.Sampled.{depth_behind, samples_in, samples_from};
+ghost use Rattle.flac_c.specs.Sampled.{samples_from};
+ghost use Rattle.flac_c.specs.inner.Sampled.{depth_behind, samples_in};
 
 use crate::failures::Failures;
 use crate::fault::{FlacProvedFault, in_c};

@@ -4,7 +4,8 @@ ghost use Rattle.std.specs.Prelude.{◌≡◌, ◌≢◌, [], nat_lt, true, fals
 ghost use Rattle.flac_native.specs.Item.{told};
 ghost use Rattle.flac_native.specs.Stream.{Piece};
 ghost use Rattle.flac_ogg.specs.Verifying.{Verifies, bytes_reading};
-ghost use Rattle.flac_c.specs.Heads.{info_behind, comments_behind, frames_behind, info_from, BeginsBy, EndsBy, Begins, Lacks};
+ghost use Rattle.flac_c.specs.Heads.{info_from, BeginsBy, EndsBy, Begins, Lacks};
+ghost use Rattle.flac_c.specs.inner.Heads.{info_behind, comments_behind, frames_behind};
 
 use crate::failures::Failures;
 use flac_bits::{Memory, Why};

@@ -7,7 +7,7 @@ ghost use Rattle.flac_bits.specs.State.{fresh, started};
 ghost use Rattle.flac_meta.specs.Block.{block as block_layout};
 ghost use Rattle.flac_native.specs.Stream.{marker};
 ghost use Rattle.flac_c.specs.Starts.{point_among};
-ghost use Rattle.flac_c.specs.Blocks.{Noted, IsFound, BlockRead, HeadRead, IsRefusedAt};
+ghost use Rattle.flac_c.specs.inner.Blocks.{Noted, IsFound, BlockRead, HeadRead, IsRefusedAt};
 
 use flac_bits::{BitReader, Memory, Why};
 use flac_meta::{Block, SeekPoint, Seen, StreamInfo, read_block};

@@ -7,7 +7,8 @@ ghost use Rattle.flac_frame.specs.Lent.{frame_of};
 ghost use Rattle.flac_frame.specs.Interleaved.{interleaved, row};
 ghost use Rattle.flac_ogg.specs.Verifying.{Verifies, bytes_reading};
 ghost use Rattle.flac_c.specs.Answers.{IsAnswered, IsCopied, in_c};
-ghost use Rattle.flac_c.specs.Sampled.{numbers_in, numbers_from};
+ghost use Rattle.flac_c.specs.Sampled.{numbers_from};
+ghost use Rattle.flac_c.specs.inner.Sampled.{numbers_in};
 
 use crate::failures::Failures;
 use crate::fault::{FlacProvedFault, in_c};

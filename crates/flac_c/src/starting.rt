@@ -11,7 +11,7 @@ ghost use Rattle.flac_bits.specs.declared.why.Why.TheVariants.{Truncated};
 ghost use Rattle.flac_native.specs.Decoding.{beginning};
 ghost use Rattle.flac_c.specs.Cursors.{StartsIn};
 ghost use Rattle.flac_c.specs.Answers.{IsAnswered, in_c};
-ghost use Rattle.flac_c.specs.Blocks.{IsFound};
+ghost use Rattle.flac_c.specs.inner.Blocks.{IsFound};
 ghost use Rattle.flac_c.specs.Heads.{comments_from};
 ghost use Rattle.flac_c.specs.Starts.{IsHead, point_from, first_frame, at_point, StandsFirst, StandsBefore, RefusesHead};
 

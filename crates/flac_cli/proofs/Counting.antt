@@ -5,7 +5,7 @@ use Rattle.flac_bits.specs.Handing.{TakesAll}
 use Rattle.flac_native.specs.Item.{Item}
 use Rattle.flac_native.specs.Decoding.{taken}
 use Rattle.flac_cli.specs.Counted.{frames_in, samples_in_all, printed}
-use Rattle.flac_cli.specs.Taking.{frames_after, samples_after}
+use Rattle.flac_cli.specs.inner.Taking.{frames_after, samples_after}
 
 -- A count goes on where it stopped.
 more_counted : (n k rest total : ℕ) → total ≡ printed (printed (n + k) + rest) → total ≡ printed (n + (rest + k))

@@ -5,7 +5,7 @@ use Rattle.std.specs.Borrow.{GName}
 use Rattle.std.specs.List.{FoldsTo, concat}
 use Rattle.std.specs.Fmt.{WritesInCalls}
 use Rattle.flac_bits.specs.declared.target.Target as target
-use Rattle.flac_cli.specs.Lined.{Adds}
+use Rattle.flac_cli.specs.inner.Lined.{Adds}
 
 pub none_taken : (bytes : List ℕ) → take 0 bytes ≡ []
 none_taken [] = refl

@@ -23,8 +23,10 @@ use Rattle.flac_native.specs.declared.fault.EncodeFault.TheVariants.{Memory, Rep
 use Rattle.flac_native.specs.declared.fault.EncodeFault.TheVariants as encode
 use Rattle.flac_cli.specs.Asked.{Asked}
 use Rattle.flac_cli.specs.Encoded.{comment_list, cut_as}
-use Rattle.flac_cli.specs.Predictors.{AreListed, IsWrongLine}
-use Rattle.flac_cli.specs.Raw.{AreChannels, raw_channels, raw_sound}
+use Rattle.flac_cli.specs.Predictors.{AreListed}
+use Rattle.flac_cli.specs.inner.Predictors.{IsWrongLine}
+use Rattle.flac_cli.specs.Raw.{raw_channels, raw_sound}
+use Rattle.flac_cli.specs.inner.Raw.{AreChannels}
 use Rattle.flac_cli.specs.Refusals.{format_fault, raw_fault, stream_fault, refusal, refusal_of, IsReason, IsOutside}
 use Rattle.flac_cli.specs.Reports.{Files, fault_line, path_of, line_text, IsReport}
 use Rattle.flac_cli.specs.declared.encoding.Refusal.{Refusal}

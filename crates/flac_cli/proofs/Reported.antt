@@ -18,9 +18,12 @@ use Rattle.flac_native.specs.declared.fault.Fault.{Fault}
 use Rattle.flac_native.specs.declared.fault.Place.{Place}
 use Rattle.flac_native.specs.declared.retagging.RetagFault.{RetagFault}
 use Rattle.flac_cli.specs.Encoded.{comments_of}
-use Rattle.flac_cli.specs.Lined.{text_at, at_place}
+use Rattle.flac_cli.specs.Lined.{text_at}
+use Rattle.flac_cli.specs.inner.Lined.{at_place}
 use Rattle.flac_cli.specs.Outcomes as outcomes
-use Rattle.flac_cli.specs.Outcomes.{Outcome, at_some_place, reason_text, input_reading, Reads, IsRetagged, IsOutOfMemory, IsRetagOutOfMemory, IsUnlisted, Fits}
+use Rattle.flac_cli.specs.inner.Outcomes as inner_outcomes
+use Rattle.flac_cli.specs.Outcomes.{Outcome, reason_text, input_reading, Reads, IsRetagged, IsOutOfMemory, IsRetagOutOfMemory, IsUnlisted, Fits}
+use Rattle.flac_cli.specs.inner.Outcomes.{at_some_place}
 
 -- ---- reasons
 
@@ -46,7 +49,7 @@ as_outcome (Some p) = Some (Some p.0, p.1)
 module _ (profile : Profile) (bytes : List ℕ) (behind : Behind) {K : Type 0} (takes : K → Piece → K → Type 0) (errors : K → ℕ) (calm : Type 0) (old new : K) where
   -- What a call that decodes answers is what the input is, if neither the source nor the sink failed.
   pub decoded_fits : (r : Result (Unit {0}) Fault) → Hands (input_reading profile bytes behind) takes errors calm old new (outcome_of told r) → Decides (input_reading profile bytes behind) (outcome_of told r)
-      → calm → errors new ≡ errors old → Fits IsOutOfMemory (Reads profile bytes behind) (outcome_of outcomes.at_place r)
+      → calm → errors new ≡ errors old → Fits IsOutOfMemory (Reads profile bytes behind) (outcome_of inner_outcomes.at_place r)
   decoded_fits (Ok x) h d quiet same =
       let whole = h.done quiet refl in
       record {
@@ -81,10 +84,10 @@ module _ (profile : Profile) (bytes : List ℕ) (behind : Behind) {K : Type 0} (
 
   -- If the sink failed, that is what it answers.
   pub sink_failed : (r : Result (Unit {0}) Fault) → Hands (input_reading profile bytes behind) takes errors calm old new (outcome_of told r) → errors old < errors new
-      → (at : Place) × (outcome_of outcomes.at_place r ≡ Some (Some at, why.Sink))
+      → (at : Place) × (outcome_of inner_outcomes.at_place r ≡ Some (Some at, why.Sink))
   sink_failed r h rose = let f = h.failed rose in (f.0, as_placed r f.0 why.Sink f.1)
     where
-      as_placed : (r : Result (Unit {0}) Fault) (at : Place) (w : Why) → outcome_of told r ≡ Some (at, w) → outcome_of outcomes.at_place r ≡ Some (Some at, w)
+      as_placed : (r : Result (Unit {0}) Fault) (at : Place) (w : Why) → outcome_of told r ≡ Some (at, w) → outcome_of inner_outcomes.at_place r ≡ Some (Some at, w)
       as_placed (Ok x) at w e = ap as_outcome e
       as_placed (Err f) at w e = ap as_outcome e
 

@@ -17,7 +17,8 @@ use Rattle.flac_header.specs.declared.subset.Profile.{Profile}
 use Rattle.flac_header.specs.declared.subset.Profile.TheVariants.{Subset, Lax}
 use Rattle.flac_frame.specs.Audio.{Sound, IsSound, samples_each}
 use Rattle.flac_jobs.specs.declared.formats.Format.{Format}
-use Rattle.flac_cli.specs.Raw.{number_of, samples_at, channels_at, IsChannel, IsPart, AreParts, IsMore, AreChannels, IsRaw}
+use Rattle.flac_cli.specs.Raw.{number_of, samples_at, channels_at, IsRaw}
+use Rattle.flac_cli.specs.inner.Raw.{IsChannel, IsPart, AreParts, IsMore, AreChannels}
 
 -- the first so many channels
 pub record AreFirst (bytes : List ℕ) (rows row width count : ℕ) (channels : List (List ℤ)) : Type 0 where

@@ -6,7 +6,7 @@ use Rattle.flac_native.specs.Message.{frame_message}
 use Rattle.flac_native.specs.Item.{Item}
 use Rattle.flac_native.specs.Decoding.{taken}
 use Rattle.flac_cli.specs.Samples.{all_samples}
-use Rattle.flac_cli.specs.Taking.{depth_behind, samples_in}
+use Rattle.flac_cli.specs.inner.Taking.{depth_behind, samples_in}
 
 module _ {S : Type 0} (is_known : S → Bool) (bytes : S → List ℕ) (bits : S → ℕ) where
   -- what such a sink makes of an item

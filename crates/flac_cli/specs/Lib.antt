@@ -10,4 +10,4 @@ pub mod Reports
 pub mod Retagged
 pub mod Samples
 pub mod Streams
-pub mod Taking
+pub mod inner

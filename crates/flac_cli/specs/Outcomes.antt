@@ -1,5 +1,5 @@
 -- What the program reports of a job that reads a stream, native or Ogg.
-use Rattle.std.specs.Prelude.{◌≡◌, ◌⊎◌, ◌≤◌, ◌<◌, ℕ, List, ◌++◌, map, codes, Option, Some, None}
+use Rattle.std.specs.Prelude.{◌≡◌, ◌⊎◌, ◌≤◌, ◌<◌, ℕ, List, ◌++◌, map, Option, Some, None}
 use Rattle.flac_bits.specs.Bits.{bits_of}
 use Rattle.flac_bits.specs.Handing.{Reading}
 use Rattle.flac_bits.specs.Reasons as reasons
@@ -9,12 +9,10 @@ use Rattle.flac_bits.specs.declared.why.Why.TheVariants as why
 use Rattle.flac_meta.specs.Spelling.{comments_length}
 use Rattle.flac_header.specs.declared.subset.Profile.{Profile}
 use Rattle.flac_native.specs.Decoding.{beginning}
-use Rattle.flac_native.specs.Places.{place_text, fault_text}
+use Rattle.flac_native.specs.Places.{fault_text}
 use Rattle.flac_native.specs.Retag.{HasHead, IsRefused}
 use Rattle.flac_native.specs.Stream.{Piece}
-use Rattle.flac_native.specs.declared.fault.Fault.{Fault}
 use Rattle.flac_native.specs.declared.fault.Place.{Place}
-use Rattle.flac_native.specs.declared.retagging.RetagFault.{RetagFault}
 use Rattle.flac_ogg.specs.Either.{begins_page, read_either}
 use Rattle.flac_cli.specs.Encoded.{comments_of}
 use Rattle.flac_cli.specs.Reports.{fault_line}
@@ -27,18 +25,6 @@ use Rattle.flac_jobs.specs.declared.jobs.Job.TheVariants as job
 -- nothing, or the place of a refusal, if it has one, and its reason
 abbrev pub Outcome : Type 0
 Outcome = Option (Option Place × Why)
-
--- the outcomes of calls
-abbrev pub at_place : Fault → Option Place × Why
-at_place fault = (Some fault.at, fault.why)
-
-abbrev pub at_some_place : RetagFault → Option Place × Why
-at_some_place fault = (fault.at, fault.why)
-
--- the text of a reason: behind that of its place, if it has one
-abbrev pub placed : Option Place → (text : List ℕ) → List ℕ
-placed None text = text
-placed (Some at) text = place_text at ++ (codes ": " ++ text)
 
 -- the number and the name of a reason, as a fault at this place is printed
 abbrev pub reason_text : Option Place → Why → List ℕ

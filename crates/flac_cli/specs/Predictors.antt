@@ -6,10 +6,6 @@ use Rattle.std.specs.Str.Parse.{starts_with_minus}
 use Rattle.flac_subframe.specs.Bodies.{Chooses, linear}
 use Rattle.flac_subframe.specs.Handed.{predictor_of}
 use Rattle.flac_subframe.specs.declared.linear.LinearPredictor.{LinearPredictor}
-use Rattle.flac_cli.specs.declared.predictors.Line.{Line}
-use Rattle.flac_cli.specs.declared.predictors.Line.TheVariants as line
-use Rattle.flac_cli.specs.declared.predictors.ListFault.{ListFault}
-use Rattle.flac_cli.specs.declared.predictors.ListFault.TheVariants as fault
 
 -- ---- words
 
@@ -85,14 +81,3 @@ predictors_in text = lines_after 1 [] (slice_split (λ byte. byte == 10) text)
 -- the text is a list of just these predictors
 abbrev pub AreListed : (text : List ℕ) → List LinearPredictor → Type 0
 AreListed text ps = predictors_in text ≡ Ok (map predictor_of ps)
-
--- what was found in a line
-abbrev pub found_in : Line → Option (List Chooses)
-found_in line.Blank = Some []
-found_in (line.Predictor p) = Some (predictor_of p ∷ [])
-found_in line.Wrong = None
-
--- the first wrong line of a text has the number of this error
-abbrev pub IsWrongLine : (text : List ℕ) → ListFault → Type 0
-IsWrongLine text fault.Memory = ⊥
-IsWrongLine text (fault.Line number) = predictors_in text ≡ Err number

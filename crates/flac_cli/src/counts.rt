@@ -1,7 +1,7 @@
 //! A sink that counts.
 
 ghost use Rattle.std.specs.Prelude.{◌≡◌, true, []};
-ghost use Rattle.flac_cli.specs.Taking.{frames_after, samples_after};
+ghost use Rattle.flac_cli.specs.inner.Taking.{frames_after, samples_after};
 
 use flac_frame::FrameView;
 use flac_meta::Block;

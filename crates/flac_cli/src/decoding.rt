@@ -6,7 +6,8 @@ ghost use Rattle.flac_bits.specs.State.{Rises};
 ghost use Rattle.flac_native.specs.Decoding.{taken};
 ghost use Rattle.flac_native.specs.Stream.{Piece};
 ghost use Rattle.flac_native.specs.declared.fault.Place.{Place};
-ghost use Rattle.flac_cli.specs.Outcomes.{at_place, Fits, Reads, IsOutOfMemory};
+ghost use Rattle.flac_cli.specs.Outcomes.{Fits, Reads, IsOutOfMemory};
+ghost use Rattle.flac_cli.specs.inner.Outcomes.{at_place};
 ghost use Rattle.flac_cli.specs.Streams.{IsStream, Tells};
 
 use flac_bits::{Source, Why};

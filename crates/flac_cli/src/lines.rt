@@ -2,8 +2,9 @@
 
 ghost use Rattle.std.specs.Prelude.{◌≡◌, ◌≤◌, ◌<◌, ◌+◌, ◌%◌, ◌++◌, true, [], length, take, decimal, Some, OnOk, OnErr};
 ghost use Rattle.flac_native.specs.Places.{place_text};
-ghost use Rattle.flac_cli.specs.Lined.{Adds, at_place, text_at};
-ghost use Rattle.flac_cli.specs.Outcomes.{placed};
+ghost use Rattle.flac_cli.specs.Lined.{text_at};
+ghost use Rattle.flac_cli.specs.inner.Lined.{Adds, at_place};
+ghost use Rattle.flac_cli.specs.inner.Outcomes.{placed};
 ghost use Rattle.flac_cli.specs.Reports.{fault_line};
 
 use flac_bits::{Target, Why, send_all};

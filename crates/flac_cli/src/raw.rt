@@ -3,7 +3,8 @@
 ghost use Rattle.std.specs.Prelude.{◌≡◌, ◌≢◌, ◌≤◌, ◌<◌, ◌+◌, ◌*◌, ◌%◌, ◌++◌, [], true, length, map, take, slice_index_or, ℕ, IfOk, IfErr, IfSome, OnOk, OnErr, None};
 ghost use Rattle.flac_bits.specs.Signed.{FitsBits};
 ghost use Rattle.flac_native.specs.Message.{sample_bytes};
-ghost use Rattle.flac_cli.specs.Raw.{number_of, IsPart, AreParts, IsMore, AreChannels};
+ghost use Rattle.flac_cli.specs.Raw.{number_of};
+ghost use Rattle.flac_cli.specs.inner.Raw.{IsPart, AreParts, IsMore, AreChannels};
 
 use byteorder::{ByteOrder, LittleEndian};
 use flac_bits::{Source, Why};

@@ -4,7 +4,8 @@ ghost use Rattle.std.specs.Prelude.{◌≡◌, ◌≢◌, true, map, OnOk, IfErr
 ghost use Rattle.flac_bits.specs.Bits.{bits_of};
 ghost use Rattle.flac_bits.specs.Handing.{outcome_of};
 ghost use Rattle.flac_native.specs.Retag.{not_written};
-ghost use Rattle.flac_cli.specs.Outcomes.{at_some_place, Fits, IsRetagged, IsRetagOutOfMemory};
+ghost use Rattle.flac_cli.specs.Outcomes.{Fits, IsRetagged, IsRetagOutOfMemory};
+ghost use Rattle.flac_cli.specs.inner.Outcomes.{at_some_place};
 ghost use Rattle.flac_cli.specs.Reports.{Serves};
 ghost use Rattle.flac_cli.specs.Retagged.{RetagsWith};
 ghost use Rattle.flac_cli.specs.Streams.{Tells};

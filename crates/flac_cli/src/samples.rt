@@ -2,7 +2,7 @@
 
 ghost use Rattle.std.specs.Prelude.{◌≡◌, ◌≤◌, ◌<◌, ◌++◌, ◌∷◌, nat_lt, true};
 ghost use Rattle.flac_bits.specs.Bits.{bit_value};
-ghost use Rattle.flac_cli.specs.Taking.{depth_behind, samples_in};
+ghost use Rattle.flac_cli.specs.inner.Taking.{depth_behind, samples_in};
 
 use crate::failures::Failures;
 use crate::frames::send_frame;

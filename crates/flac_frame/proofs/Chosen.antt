@@ -10,8 +10,10 @@ use Rattle.flac_subframe.specs.declared.limits.Limits.{Limits}
 use Rattle.flac_subframe.specs.Family.{IsMadeIn, form_in}
 use Rattle.flac_subframe.specs.Spelling.{subframe_spelling, IsSubframe}
 use Rattle.flac_subframe.specs.Subframe.{Form, samples_of}
-use Rattle.flac_frame.specs.Chosen.{forms_of, AreMade, AreChosen}
-use Rattle.flac_frame.specs.Encoding.{block_of, AreForms, AreLeast, IsLeastFor}
+use Rattle.flac_frame.specs.Chosen.{forms_of, AreMade}
+use Rattle.flac_frame.specs.inner.Chosen.{AreChosen}
+use Rattle.flac_frame.specs.Encoding.{block_of}
+use Rattle.flac_frame.specs.inner.Encoding.{AreForms, AreLeast, IsLeastFor}
 use Rattle.flac_frame.specs.Frame.{side_bit}
 use Rattle.flac_frame.specs.Spelling.{subframes_spelling}
 use Rattle.flac_frame.specs.Stereo.{side_of, middle_of}

@@ -6,7 +6,8 @@ use Rattle.flac_subframe.specs.declared.linear.LinearPredictor.{LinearPredictor}
 use Rattle.flac_bits.specs.Signed.{FitsBits}
 use Rattle.flac_bits.specs.declared.why.Why.{Why}
 use Rattle.flac_subframe.specs.Subframe.{Form}
-use Rattle.flac_frame.specs.Encoding.{block_of, AreForms, AreLeast}
+use Rattle.flac_frame.specs.Encoding.{block_of}
+use Rattle.flac_frame.specs.inner.Encoding.{AreForms, AreLeast}
 
 -- ---- samples in wider places
 

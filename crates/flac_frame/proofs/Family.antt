@@ -9,7 +9,8 @@ use Rattle.flac_header.specs.Spelling.{header_spelling}
 use Rattle.flac_subframe.specs.Spelling.{subframe_spelling}
 use Rattle.flac_subframe.specs.Subframe.{Form}
 use Rattle.flac_frame.specs.Audio.{Sound}
-use Rattle.flac_frame.specs.Encoding.{partition_limit, IsEncoding, AreLeast, EachStands, IsOfWidened, IsLeastWith, subframes_cost}
+use Rattle.flac_frame.specs.Encoding.{partition_limit, IsEncoding, EachStands, IsOfWidened, IsLeastWith, subframes_cost}
+use Rattle.flac_frame.specs.inner.Encoding.{AreLeast}
 use Rattle.flac_frame.specs.Spelling.{FrameForm, frame_spelling, subframes_spelling}
 use Rattle.flac_frame.specs.Stereo.{kept_as}
 use Rattle.flac_frame.proofs.Short.{header_long, whole_long}

@@ -17,8 +17,10 @@ use Rattle.flac_frame.specs.Audio.{Sound, IsSound, samples_each}
 use Rattle.flac_frame.specs.Frame.{limits_at}
 use Rattle.flac_frame.specs.Stereo.{joined, kept_as}
 use Rattle.flac_frame.specs.Spelling.{FrameForm, subframes_spelling, HaveSamples}
-use Rattle.flac_frame.specs.Chosen.{forms_of, AreMade, AreChosen, IsChoiceWith}
-use Rattle.flac_frame.specs.Encoding.{block_of, partition_limit, AreForms, AreLeast, IsEncoding, IsLeastWith, IsShort, subframes_cost}
+use Rattle.flac_frame.specs.Chosen.{forms_of, AreMade, IsChoiceWith}
+use Rattle.flac_frame.specs.inner.Chosen.{AreChosen}
+use Rattle.flac_frame.specs.Encoding.{block_of, partition_limit, IsEncoding, IsLeastWith, IsShort, subframes_cost}
+use Rattle.flac_frame.specs.inner.Encoding.{AreForms, AreLeast}
 use Rattle.flac_frame.specs.declared.frame_choice.FrameChoice.{FrameChoice}
 use Rattle.flac_frame.proofs.Encoded.{is_block, part_fits}
 use Rattle.flac_frame.proofs.Short.{all_short, parts_few, frame_short}

@@ -20,7 +20,7 @@ use Rattle.flac_frame.specs.declared.pair_choices.PairChoices.{PairChoices}
 use Rattle.flac_frame.specs.Encoding.{partition_limit, EachStands, IsEncoding, IsLeastWith, IsShort, subframes_cost}
 use Rattle.flac_frame.specs.declared.frame_choice.FrameChoice.{FrameChoice}
 use Rattle.flac_frame.specs.Frame.{side_bit, limits_at}
-use Rattle.flac_frame.specs.Pair.{IsPairCode, pair_cost, choices_cost, first_kept, second_kept, IsFirstLeast, IsChosen, IsPlane, ArePlanes}
+use Rattle.flac_frame.specs.inner.Pair.{IsPairCode, pair_cost, choices_cost, first_kept, second_kept, IsFirstLeast, IsChosen, IsPlane, ArePlanes}
 use Rattle.flac_frame.specs.Spelling.{FrameForm, subframes_spelling, HaveSamples}
 use Rattle.flac_frame.specs.Stereo.{joined, kept_as, side_of, middle_of, ChannelsAreKept}
 use Rattle.flac_frame.proofs.Family.{coded_as, least_frame, kept_same}

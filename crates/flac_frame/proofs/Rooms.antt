@@ -11,7 +11,7 @@ use Rattle.flac_subframe.specs.Least.{IsLeast}
 use Rattle.flac_subframe.specs.Spelling.{subframe_spelling, IsSubframe}
 use Rattle.flac_subframe.specs.Subframe.{Form, samples_of}
 use Rattle.flac_frame.specs.Frame.{limits_at}
-use Rattle.flac_frame.specs.Pair.{IsChosen}
+use Rattle.flac_frame.specs.inner.Pair.{IsChosen}
 
 -- as many are placed, in an array that is as long
 pub room_for : (n m places before : ℕ) → n ≡ m → places ≡ before → m ≤ before → n ≤ places

@@ -24,7 +24,8 @@ use Rattle.flac_subframe.proofs.Family.{widened_stand}
 use Rattle.flac_subframe.proofs.Made.{all_within}
 use Rattle.flac_subframe.proofs.Lengths.{length-samples}
 use Rattle.flac_subframe.proofs.WholeLeast.{length-subframe}
-use Rattle.flac_frame.specs.Encoding.{IsLeastFor, AreLeast, IsShort}
+use Rattle.flac_frame.specs.Encoding.{IsShort}
+use Rattle.flac_frame.specs.inner.Encoding.{IsLeastFor, AreLeast}
 use Rattle.flac_frame.specs.Spelling.{FrameForm, subframes_spelling, filled, checked, frame_spelling}
 
 -- ---- a header

@@ -23,7 +23,7 @@ use Rattle.flac_frame.specs.Audio.{Sound, IsSound}
 use Rattle.flac_frame.specs.Frame.{side_bit, each_fits}
 use Rattle.flac_frame.specs.Stereo.{joined}
 use Rattle.flac_frame.specs.Spelling.{frame_spelling, subframes_spelling, filled, checked, AreSubframes, HaveSamples}
-use Rattle.flac_frame.specs.Encoding.{AreForms, end_spelling, behind_header}
+use Rattle.flac_frame.specs.inner.Encoding.{AreForms, end_spelling, behind_header}
 use Rattle.flac_frame.proofs.FrameTie.{end_is}
 use Rattle.flac_frame.proofs.Encoded.{failed}
 

@@ -10,8 +10,9 @@ use Rattle.flac_subframe.specs.Spelling.{subframe_spelling}
 use Rattle.flac_subframe.specs.Subframe.{Form}
 use Rattle.flac_frame.specs.Audio.{Sound}
 use Rattle.flac_frame.specs.Chosen.{forms_of, AreMade, IsChoiceWith}
-use Rattle.flac_frame.specs.Encoding.{WritesFrameWith, behind_header}
-use Rattle.flac_frame.specs.Pair.{IsPairCode}
+use Rattle.flac_frame.specs.Encoding.{WritesFrameWith}
+use Rattle.flac_frame.specs.inner.Encoding.{behind_header}
+use Rattle.flac_frame.specs.inner.Pair.{IsPairCode}
 use Rattle.flac_frame.specs.Spelling.{FrameForm, frame_spelling, subframes_spelling}
 use Rattle.flac_frame.specs.Stereo.{kept_as}
 use Rattle.flac_frame.specs.declared.frame_choice.FrameChoice.{FrameChoice}

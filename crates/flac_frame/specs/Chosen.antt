@@ -6,7 +6,7 @@ use Rattle.flac_subframe.specs.declared.linear.LinearPredictor.{LinearPredictor}
 use Rattle.flac_subframe.specs.Family.{IsMadeIn, form_in}
 use Rattle.flac_subframe.specs.Subframe.{Form}
 use Rattle.flac_frame.specs.Audio.{Sound}
-use Rattle.flac_frame.specs.Encoding.{IsEncoding, IsLeastWith, IsShort, subframes_cost, AreForms, AreLeast}
+use Rattle.flac_frame.specs.Encoding.{IsEncoding, IsLeastWith, IsShort, subframes_cost}
 use Rattle.flac_frame.specs.Spelling.{FrameForm}
 use Rattle.flac_frame.specs.Stereo.{kept_as}
 use Rattle.flac_frame.specs.declared.frame_choice.FrameChoice.{FrameChoice}
@@ -43,9 +43,3 @@ AllWide most choices = All (λ c. 2 ^ most ≤ vec_len c.codings) choices
 pub record HasPlaces (channels most : ℕ) (c : FrameChoice) : Type 0 where
   pub many : channels ≤ length c.subframes.items
   pub wide : AllWide most c.subframes.items
-
--- the choices are of the least subframes of channels, each by itself
-pub record AreChosen (most : ℕ) (ps : List LinearPredictor) (depth size : ℕ) (choices : List WideChoice) (block : List (List ℤ)) : Type 0 where
-  pub made : AreMade ps choices block
-  pub are : AreForms most ps depth size (forms_of ps choices block) block
-  pub least : AreLeast most ps depth (forms_of ps choices block) block

@@ -1,24 +1,21 @@
 -- What encoding a frame writes.
-use Rattle.std.specs.Prelude.{◌≡◌, ℕ, ◌≤◌, ◌<◌, ◌↔◌, Bool, ℤ, List, [], ◌∷◌, ◌++◌, ◌*◌, length, map, take, drop, Some, Option, All, Result, true, false, ⊤}
-use Rattle.flac_bits.specs.Bits.{unsigned}
-use Rattle.flac_bits.specs.State.{Mark, past, fresh}
+use Rattle.std.specs.Prelude.{◌≡◌, ℕ, ◌≤◌, ◌<◌, ◌↔◌, ℤ, List, [], ◌∷◌, ◌*◌, length, map, take, drop, Some, Option, All, Result, true, false, ⊤}
 use Rattle.flac_bits.specs.Signed.{FitsBits}
 use Rattle.flac_bits.specs.Written.{Written, Writes}
 use Rattle.flac_bits.specs.declared.why.Why.{Why}
 use Rattle.flac_bits.specs.Meaning.{AllKept}
 use Rattle.flac_meta.specs.Info.{Info}
-use Rattle.flac_header.specs.Header.{Header, IsHeader, channels_of, greatest_in, allowed}
+use Rattle.flac_header.specs.Header.{IsHeader, channels_of, greatest_in, allowed}
 use Rattle.flac_header.specs.Choice.{chosen_header}
-use Rattle.flac_header.specs.Spelling.{restarted, header_spelling}
+use Rattle.flac_header.specs.Spelling.{restarted}
 use Rattle.flac_header.specs.declared.subset.Profile.{Profile}
 use Rattle.flac_subframe.specs.declared.limits.Limits.{Limits}
 use Rattle.flac_subframe.specs.declared.linear.LinearPredictor.{LinearPredictor}
 use Rattle.flac_subframe.specs.Chosen.{fixed_below, offered}
 use Rattle.flac_subframe.specs.Family.{Stands}
-use Rattle.flac_subframe.specs.Handed.{AreWithin}
 use Rattle.flac_subframe.specs.Laws.{InFamily, InWidened}
 use Rattle.flac_subframe.specs.Least.{IsLeast}
-use Rattle.flac_subframe.specs.Spelling.{subframe_spelling, IsSubframe}
+use Rattle.flac_subframe.specs.Spelling.{IsSubframe}
 use Rattle.flac_subframe.specs.Subframe.{Form, samples_of}
 use Rattle.flac_frame.specs.Audio.{Sound}
 use Rattle.flac_frame.specs.Follows.{HasFormat}
@@ -56,18 +53,6 @@ most_in profile = (limits_at profile 0).partition
 -- the greatest partition order of the samples' subframes
 abbrev pub partition_limit : Sound → ℕ
 partition_limit sound = (limits_at sound.profile sound.rate).partition
-
--- no form in the family takes fewer bits for the samples: constant, verbatim, or a fixed predictor of order 0 to 4 with either coding method, partition orders
--- up to the greatest and any parameter or escape, and as many wasted bits as all samples lack; and behind these the linear predictors that are handed in
-abbrev pub IsLeastFor : (most : ℕ) → List LinearPredictor → ℕ → List ℤ → Form → Type 0
-IsLeastFor most ps depth s f = IsLeast (λ g. Stands most (offered ps) g s) (λ g. length (subframe_spelling depth g)) f
-
--- each channel's subframe is the least by itself
-abbrev pub AreLeast : (most : ℕ) → List LinearPredictor → ℕ → List Form → List (List ℤ) → Type 0
-AreLeast most ps depth [] [] = ⊤
-AreLeast most ps depth [] (s ∷ ss) = ⊥
-AreLeast most ps depth (f ∷ fs) [] = ⊥
-AreLeast most ps depth (f ∷ fs) (s ∷ ss) = IsLeastFor most ps depth s f × AreLeast most ps depth fs ss
 
 -- a frame of at most 16777215 bytes
 abbrev pub IsShort : ℕ → FrameForm → Type 0
@@ -145,20 +130,3 @@ pub record IsFrameOf (profile : Profile) (info : Info) (size number : ℕ) (bloc
 abbrev pub EncodingsAreFrames : Type 0
 EncodingsAreFrames = (sound : Sound) (size number : ℕ) (block : List (List ℤ)) (f : FrameForm) (info : Info) → info.rate ≡ sound.rate → info.depth ≡ sound.bits → info.channels ≡ length block
     → IsEncoding sound size number block f → IsFrameOf sound.profile info size number block f
-
--- ---- its parts
-
--- forms that may be spelled, where the orders of the predictors are within the limit, have the samples of channels, each by itself
-abbrev pub AreForms : (most : ℕ) → List LinearPredictor → (depth size : ℕ) → List Form → List (List ℤ) → Type 0
-AreForms most ps depth size [] [] = ⊤
-AreForms most ps depth size [] (s ∷ ss) = ⊥
-AreForms most ps depth size (f ∷ fs) [] = ⊥
-AreForms most ps depth size (f ∷ fs) (s ∷ ss) = ((limits : Limits) → most ≤ limits.partition → AreWithin limits.linear ps → IsSubframe depth size limits f) × (samples_of depth size f ≡ Some s) × AreForms most ps depth size fs ss
-
--- zeros up to a whole byte behind a mark, and CRC-16
-abbrev pub end_spelling : Mark → List Bool
-end_spelling m = unsigned m.unread 0 ++ unsigned 16 (past (unsigned m.unread 0) m).check16
-
--- behind the header of a frame come its subframes, zeros up to a whole byte, and the check
-abbrev pub behind_header : Header → List Bool → Mark → List Bool
-behind_header h parts m = header_spelling h ++ (parts ++ end_spelling (past parts (past (header_spelling h) (fresh m))))

@@ -9,7 +9,8 @@ ghost use Rattle.flac_frame.specs.Audio.{samples_each};
 ghost use Rattle.flac_frame.specs.Chosen.{forms_of, AreMade, IsChoiceWith, HasPlaces};
 ghost use Rattle.flac_frame.specs.Encoding.{block_of, partition_limit};
 ghost use Rattle.flac_frame.specs.Frame.{side_bit, limits_at};
-ghost use Rattle.flac_frame.specs.Pair.{IsPairCode, IsFirstLeast, ArePlanes, AreWide, pair_cost, choices_cost};
+ghost use Rattle.flac_frame.specs.Pair.{AreWide};
+ghost use Rattle.flac_frame.specs.inner.Pair.{IsPairCode, IsFirstLeast, ArePlanes, pair_cost, choices_cost};
 ghost use Rattle.flac_frame.specs.Spelling.{subframes_spelling};
 ghost use Rattle.flac_frame.specs.Stereo.{side_of, middle_of, kept_as};
 

@@ -2,7 +2,8 @@
 
 ghost use Rattle.std.specs.Prelude.{◌≡◌, ◌≤◌, ℕ, slice_set, length, IfOk, IfErr};
 ghost use Rattle.flac_frame.specs.Chosen.{AllWide};
-ghost use Rattle.flac_frame.specs.Pair.{AreWide, IsPairCode, first_kept, second_kept};
+ghost use Rattle.flac_frame.specs.Pair.{AreWide};
+ghost use Rattle.flac_frame.specs.inner.Pair.{IsPairCode, first_kept, second_kept};
 
 use flac_bits::Why;
 use flac_subframe::{Limits, WideChoice};

@@ -6,7 +6,7 @@ ghost use Rattle.flac_subframe.specs.Family.{IsMadeIn, form_in};
 ghost use Rattle.flac_subframe.specs.Handed.{AreWithin};
 ghost use Rattle.flac_frame.specs.Encoding.{partition_limit};
 ghost use Rattle.flac_frame.specs.Frame.{limits_at};
-ghost use Rattle.flac_frame.specs.Pair.{IsChosen};
+ghost use Rattle.flac_frame.specs.inner.Pair.{IsChosen};
 
 use crate::limits::limits_at;
 use crate::subject::Subject;

@@ -4,7 +4,7 @@ use Rattle.std.proofs.lemmas.List.{append-nil}
 use Rattle.std.proofs.lemmas.Bool.Decides.{nat_tests}
 use Rattle.flac_bits.specs.Bits.{unsigned}
 use Rattle.flac_bits.specs.State.{Mark}
-use Rattle.flac_bits.specs.Forms.{Ties}
+use Rattle.flac_bits.specs.inner.Forms.{Ties}
 use Rattle.flac_bits.proofs.Ties.{tie, choose_each, choose_true, choose_false}
 use Rattle.flac_header.specs.Header.{size_field, rate_field, IsSize, IsRate, size_of_code, least_size, greatest_size, rate_of_code, least_rate, greatest_rate, rate_unit}
 use Rattle.flac_header.specs.Spelling.{size_spelling, rate_spelling}

@@ -6,7 +6,8 @@ use Rattle.flac_bits.specs.State.{Mark, past}
 use Rattle.flac_bits.specs.Check.{remainder}
 use Rattle.flac_bits.specs.Number.{number}
 use Rattle.flac_bits.specs.Coded.{number_spelling, IsNumber}
-use Rattle.flac_bits.specs.Forms.{Ties, joined}
+use Rattle.flac_bits.specs.Forms.{joined}
+use Rattle.flac_bits.specs.inner.Forms.{Ties}
 use Rattle.flac_bits.proofs.CodedTie.{number_tie}
 use Rattle.flac_bits.specs.Meaning.{Spells}
 use Rattle.flac_bits.proofs.Meaning.{again}

@@ -4,7 +4,8 @@ use Rattle.std.proofs.lemmas.List.{append-nil}
 use Rattle.flac_bits.specs.Bits.{unsigned}
 use Rattle.flac_bits.specs.State.{Mark, past, fresh}
 use Rattle.flac_bits.specs.Check.{remainder}
-use Rattle.flac_bits.specs.Written.{Written, Fails, Adds, Restarts, Writes, WritesParts, Wrote, behind_parts}
+use Rattle.flac_bits.specs.Written.{Written, Fails, Adds, Restarts, Writes}
+use Rattle.flac_bits.specs.inner.Written.{WritesParts, Wrote, behind_parts}
 use Rattle.flac_bits.specs.declared.why.Why.{Why}
 use Rattle.flac_bits.proofs.Check.{check8_is}
 use Rattle.flac_bits.proofs.Writing.{fails_later, fails_more, writes_then, parts_written, wrote_more, wrote_fails}

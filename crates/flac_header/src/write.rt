@@ -1,7 +1,8 @@
 //! Writing of frame headers.
 
 ghost use Rattle.std.specs.Prelude.{◌≡◌};
-ghost use Rattle.flac_bits.specs.Written.{Writes, WritesParts};
+ghost use Rattle.flac_bits.specs.Written.{Writes};
+ghost use Rattle.flac_bits.specs.inner.Written.{WritesParts};
 ghost use Rattle.flac_header.specs.Header.{IsSize, IsRate};
 ghost use Rattle.flac_header.specs.Spelling.{size_spelling, rate_spelling, code_parts, header_parts, header_spelling, restarted};
 

@@ -8,7 +8,8 @@ use Rattle.flac_bits.specs.State.{Mark, past}
 use Rattle.flac_bits.specs.Layout.{Layout, done, bind, bits, choose}
 use Rattle.flac_bits.specs.Lists.{list_of}
 use Rattle.flac_bits.specs.Meaning.{Spells}
-use Rattle.flac_bits.specs.Forms.{Ties, joined, IsBytes, AreBytes}
+use Rattle.flac_bits.specs.Forms.{joined, IsBytes, AreBytes}
+use Rattle.flac_bits.specs.inner.Forms.{Ties}
 use Rattle.flac_bits.specs.declared.why.Why.{Why}
 use Rattle.flac_bits.specs.declared.why.Why.TheVariants as why
 use Rattle.flac_bits.proofs.Meaning.{again}

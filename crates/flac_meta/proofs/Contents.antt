@@ -5,7 +5,8 @@ use Rattle.flac_bits.specs.Bits.{unsigned, bits_of}
 use Rattle.flac_bits.specs.State.{Mark}
 use Rattle.flac_bits.specs.Layout.{done, bits}
 use Rattle.flac_bits.specs.Lists.{list_of}
-use Rattle.flac_bits.specs.Forms.{Ties, joined, IsBytes, AreBytes}
+use Rattle.flac_bits.specs.Forms.{joined, IsBytes, AreBytes}
+use Rattle.flac_bits.specs.inner.Forms.{Ties}
 use Rattle.flac_bits.proofs.Ties.{tie, each_tied, some_tied, bytes_tie}
 use Rattle.flac_bits.specs.LittleEndian.{little_32, little_bits}
 use Rattle.flac_meta.specs.Info.{info_sizes, info_format, stream_info}

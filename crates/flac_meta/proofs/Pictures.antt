@@ -3,7 +3,8 @@ use Rattle.std.proofs.Common.{◌≡◌, ℕ, ◌+◌, ◌-◌, ◌^◌, ◌<◌
 use Rattle.flac_bits.specs.Bits.{unsigned}
 use Rattle.flac_bits.specs.State.{Mark}
 use Rattle.flac_bits.specs.Layout.{bits}
-use Rattle.flac_bits.specs.Forms.{Ties, joined}
+use Rattle.flac_bits.specs.Forms.{joined}
+use Rattle.flac_bits.specs.inner.Forms.{Ties}
 use Rattle.flac_bits.proofs.Ties.{tie, each_tied, some_tied}
 use Rattle.flac_meta.specs.Fields.{sized, number_32}
 use Rattle.flac_meta.specs.Picture.{sizes, picture_front, picture}

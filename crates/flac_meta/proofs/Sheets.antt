@@ -4,7 +4,8 @@ use Rattle.flac_bits.specs.Bits.{unsigned, bits_of, bit_value}
 use Rattle.flac_bits.specs.State.{Mark}
 use Rattle.flac_bits.specs.Layout.{bits}
 use Rattle.flac_bits.specs.Lists.{list_of}
-use Rattle.flac_bits.specs.Forms.{Ties, joined, IsBytes}
+use Rattle.flac_bits.specs.Forms.{joined, IsBytes}
+use Rattle.flac_bits.specs.inner.Forms.{Ties}
 use Rattle.flac_bits.proofs.Ties.{tie, each_tied, some_tied, bytes_tie}
 use Rattle.flac_meta.specs.Fields.{nothing_left, reserved}
 use Rattle.flac_meta.specs.CueSheet.{cue_index, cue_count, track_front, cue_track, cue_tracks, sheet_front, cue_sheet}

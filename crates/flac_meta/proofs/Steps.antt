@@ -8,7 +8,7 @@ use Rattle.flac_bits.specs.Written.{Written, Writes}
 use Rattle.flac_bits.specs.declared.why.Why.{Why}
 use Rattle.flac_bits.proofs.Writing.{Towards, towards_last}
 use Rattle.flac_meta.specs.Spelling.{each_spelled, zero_bits}
-use Rattle.flac_meta.specs.Fielded.{field_spelling, fields_spelling}
+use Rattle.flac_meta.specs.inner.Fielded.{field_spelling, fields_spelling}
 use Rattle.flac_meta.specs.declared.fields.Field.{Field}
 
 -- one more item

@@ -9,7 +9,8 @@ use Rattle.flac_bits.specs.State.{Mark, past}
 use Rattle.flac_bits.specs.Layout.{Layout, bind, bits, refuse}
 use Rattle.flac_bits.specs.Lists.{list_of}
 use Rattle.flac_bits.specs.Meaning.{Spells}
-use Rattle.flac_bits.specs.Forms.{Ties, joined, IsBytes, AreBytes}
+use Rattle.flac_bits.specs.Forms.{joined, IsBytes, AreBytes}
+use Rattle.flac_bits.specs.inner.Forms.{Ties}
 use Rattle.flac_bits.specs.declared.why.Why.{Why}
 use Rattle.flac_bits.specs.declared.why.Why.TheVariants.{BlockLength}
 use Rattle.flac_bits.proofs.Ties.{ForEach, ForSome, tie, each_part, each_tied, some_tied, bytes_tie, choose_each, choose_false}

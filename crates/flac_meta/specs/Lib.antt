@@ -9,7 +9,7 @@ pub mod CueSheet
 pub mod Block
 pub mod Spelling
 pub mod Listed
-pub mod Fielded
 pub mod Parts
 pub mod Named
 pub mod Valid
+pub mod inner

@@ -2,7 +2,7 @@
 
 ghost use Rattle.std.specs.Prelude.{◌<◌, ◌^◌, length};
 ghost use Rattle.flac_bits.specs.Written.{Writes};
-ghost use Rattle.flac_meta.specs.Fielded.{fields_spelling};
+ghost use Rattle.flac_meta.specs.inner.Fielded.{fields_spelling};
 ghost use Rattle.flac_meta.specs.Spelling.{zero_bits, little_sized, sized_bits};
 
 use crate::fields::Field;

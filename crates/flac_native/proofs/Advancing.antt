@@ -4,7 +4,8 @@ use Rattle.flac_bits.specs.Bits.{is_nil}
 use Rattle.flac_bits.specs.State.{Cursor}
 use Rattle.flac_bits.specs.Layout.{Rule}
 use Rattle.flac_bits.specs.Meaning.{AllKept, BreaksFirst}
-use Rattle.flac_bits.specs.Items.{step_at, over, refused, judged}
+use Rattle.flac_bits.specs.Items.{over, refused}
+use Rattle.flac_bits.specs.inner.Items.{step_at, judged}
 use Rattle.flac_bits.specs.declared.why.Why.{Why}
 use Rattle.flac_native.specs.Stream.{Piece, Progress, Stand, grammar, may_end_in, end_rules}
 use Rattle.flac_native.specs.Track.{IsAt, info_in}

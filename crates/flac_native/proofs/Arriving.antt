@@ -3,15 +3,17 @@ use Rattle.std.proofs.Common.{◌≡◌, true, List, [], ◌∷◌, ◌++◌, ap
 use Rattle.flac_bits.specs.State.{State, Cursor, past, fresh}
 use Rattle.flac_bits.specs.Fencing.{lifted}
 use Rattle.flac_bits.specs.Reading.{Counts}
-use Rattle.flac_bits.specs.Items.{Step, item, over, refused, step_at}
-use Rattle.flac_bits.specs.Handing.{StepIs, reason_of}
+use Rattle.flac_bits.specs.Items.{Step, item, over, refused}
+use Rattle.flac_bits.specs.inner.Items.{step_at}
+use Rattle.flac_bits.specs.Handing.{reason_of}
+use Rattle.flac_bits.specs.inner.Handing.{StepIs}
 use Rattle.flac_bits.specs.declared.why.Why.{Why}
 use Rattle.flac_bits.specs.declared.why.Why.TheVariants.{Memory}
 use Rattle.flac_bits.proofs.Laws.{at_}
 use Rattle.flac_bits.proofs.Items.{final, spelled_step, over_step, stops_step}
 use Rattle.flac_native.specs.Stream.{Piece, Progress, grammar, next}
 use Rattle.flac_native.specs.Item.{told}
-use Rattle.flac_native.specs.Within.{IsOpen}
+use Rattle.flac_native.specs.inner.Within.{IsOpen}
 use Rattle.flac_native.specs.Coming.{PartsCome, IsNext}
 use Rattle.flac_native.specs.declared.fault.Place.{Place}
 use Rattle.flac_native.specs.declared.fault.Fault.{Fault}

@@ -21,7 +21,8 @@ use Rattle.flac_frame.specs.Frame.{Frame}
 use Rattle.flac_native.specs.Stream.{Piece, marked, block, framed, Progress, Stand, grammar, opening, next, layout, layout_in, marker}
 use Rattle.flac_native.specs.Given.{closing}
 use Rattle.flac_native.specs.Track.{is_behind_blocks}
-use Rattle.flac_native.specs.Retag.{AreKept, keeps, unless_comment, without_comments}
+use Rattle.flac_native.specs.Retag.{unless_comment, without_comments}
+use Rattle.flac_native.specs.inner.Retag.{AreKept, keeps}
 use Rattle.flac_native.specs.declared.track.Phase.{Phase}
 use Rattle.flac_native.specs.declared.track.Phase.TheVariants.{Opening, Blocks, Frames}
 use Rattle.flac_native.proofs.WholeBytes.{Whole, content_whole, header_long, length-joined}

@@ -6,14 +6,16 @@ use Rattle.flac_bits.specs.Layout.{Layout, Reason, run, done, ◌>>=◌, and_the
 use Rattle.flac_bits.specs.Reading.{Reads, Counts}
 use Rattle.flac_bits.specs.Fence.{fenced, unfenced, read_in}
 use Rattle.flac_bits.specs.Fencing.{lifted, fence_at, all_left}
-use Rattle.flac_bits.specs.Items.{Grammar, step_at, item}
+use Rattle.flac_bits.specs.Items.{Grammar, item}
+use Rattle.flac_bits.specs.inner.Items.{step_at}
 use Rattle.flac_bits.specs.declared.why.Why.{Why}
 use Rattle.flac_bits.proofs.Counting.{rises_then}
 use Rattle.flac_bits.proofs.Meaning.{past-short}
 use Rattle.flac_bits.proofs.Fences.{answers_in}
 use Rattle.flac_bits.proofs.Items.{step_spelled}
 use Rattle.flac_bits.proofs.Handing.{SoFar, Far}
-use Rattle.flac_native.specs.Within.{ReadsWithin, IsOpen}
+use Rattle.flac_native.specs.Within.{ReadsWithin}
+use Rattle.flac_native.specs.inner.Within.{IsOpen}
 
 -- ---- no fence stands
 

@@ -1,7 +1,7 @@
 -- An input has one answer.
 use Rattle.std.proofs.Common.{◌≡◌, ◌<◌, true, false, [], length, Option, Some, None, inl, arith}
 use Rattle.flac_bits.specs.Meaning.{Spells, IsCut}
-use Rattle.flac_bits.specs.Items.{NeedsBits}
+use Rattle.flac_bits.specs.inner.Items.{NeedsBits}
 use Rattle.flac_bits.specs.Handing.{OneReading, SomeReading}
 use Rattle.flac_bits.proofs.Handing.{HasBits, one_reading, some_reading}
 use Rattle.flac_bits.proofs.Items.{spelled_some}

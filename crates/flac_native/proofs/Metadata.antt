@@ -3,7 +3,8 @@ use Rattle.std.proofs.Common.{◌≡◌, ℕ, ◌&&◌, Bool, true, false, List,
 use Rattle.flac_bits.specs.Bits.{is_nil}
 use Rattle.flac_bits.specs.State.{Cursor, Mark, fresh}
 use Rattle.flac_bits.specs.Meaning.{Spells}
-use Rattle.flac_bits.specs.Items.{step_at, item, over, refused}
+use Rattle.flac_bits.specs.Items.{item, over, refused}
+use Rattle.flac_bits.specs.inner.Items.{step_at}
 use Rattle.flac_bits.specs.declared.why.Why.{Why}
 use Rattle.flac_bits.proofs.Items.{step_spelled, step_over, step_stops}
 use Rattle.flac_meta.specs.Info.{Info}

@@ -21,7 +21,8 @@ use Rattle.flac_header.specs.declared.subset.Profile.TheVariants.{Subset}
 use Rattle.flac_native.specs.Given.{closing}
 use Rattle.flac_native.specs.Stream.{marked, block, Progress, grammar, opening, next, room_in}
 use Rattle.flac_native.specs.Writing.{blocks_spelling, head_spelling}
-use Rattle.flac_native.specs.Retag.{is_comment, without_comments, AreKept, MayBeHead, RetaggedAreRead}
+use Rattle.flac_native.specs.Retag.{is_comment, without_comments, RetaggedAreRead}
+use Rattle.flac_native.specs.inner.Retag.{AreKept, MayBeHead}
 use Rattle.flac_native.specs.declared.track.Phase.{Phase}
 use Rattle.flac_native.specs.declared.track.Phase.TheVariants.{Opening, Blocks, Frames}
 use Rattle.flac_native.proofs.Blocks.{block_there}

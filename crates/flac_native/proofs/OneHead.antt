@@ -3,7 +3,8 @@ use Rattle.std.proofs.Common.{◌≡◌, ℕ, Bool, true, false, List, [], ◌�
 use Rattle.flac_bits.specs.State.{Cursor, Mark, past, fresh}
 use Rattle.flac_bits.specs.Meaning.{Spells}
 use Rattle.flac_bits.specs.Fence.{InRoom}
-use Rattle.flac_bits.specs.Items.{Step, step_at, item, refused, after, Joined}
+use Rattle.flac_bits.specs.Items.{Step, item, refused, after, Joined}
+use Rattle.flac_bits.specs.inner.Items.{step_at}
 use Rattle.flac_bits.specs.declared.why.Why.{Why}
 use Rattle.flac_bits.proofs.Laws.{at_}
 use Rattle.flac_bits.proofs.Items.{Steps, spelled_step, step_spelled, step_stops, refused_steps}

@@ -11,9 +11,9 @@ use Rattle.flac_meta.specs.Spelling.{block_spelling}
 use Rattle.flac_meta.specs.declared.block.Block.{Block}
 use Rattle.flac_meta.specs.declared.block.Block.TheVariants as block_of
 use Rattle.flac_meta.specs.declared.comments.Comments.{Comments}
-use Rattle.flac_native.specs.InOrder.{MayBeWritten, Advances}
+use Rattle.flac_native.specs.inner.InOrder.{MayBeWritten, Advances}
 use Rattle.flac_native.specs.Writing.{blocks_spelling}
-use Rattle.flac_native.specs.Retag.{MayBeHead, new_head}
+use Rattle.flac_native.specs.inner.Retag.{MayBeHead, new_head}
 use Rattle.flac_native.proofs.WholeBytes.{Whole, whole_nil, whole_append, blocks_whole}
 
 abbrev answered : {X : Type 0} → X → Result X Why

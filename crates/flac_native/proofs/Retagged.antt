@@ -12,7 +12,8 @@ use Rattle.flac_meta.specs.declared.block.Block.{Block}
 use Rattle.flac_meta.specs.declared.block.Block.TheVariants as block_of
 use Rattle.flac_meta.specs.declared.comments.Comments.{Comments}
 use Rattle.flac_native.specs.Writing.{head_spelling}
-use Rattle.flac_native.specs.Retag.{AreKept, Retags, BeginsRetagging, new_head, without_comments}
+use Rattle.flac_native.specs.Retag.{Retags, BeginsRetagging, without_comments}
+use Rattle.flac_native.specs.inner.Retag.{AreKept, new_head}
 
 module _ (c : Cursor) (kept : List Block) (rest : List Bool) (comments : Comments) (head : List ℕ) (are : AreKept c kept rest) (is : bits_of head ≡ new_head comments kept) where
   -- what stands before the frames

@@ -15,7 +15,8 @@ use Rattle.flac_frame.specs.Spelling.{FrameForm, frame_spelling}
 use Rattle.flac_frame.proofs.FrameTie.{frames_bytes}
 use Rattle.flac_native.specs.Given.{Cut, frame_of}
 use Rattle.flac_native.specs.Room.{placed}
-use Rattle.flac_native.specs.Writing.{AreCounted, IsSpelled, WritesAll, WritesNext, HasRoom}
+use Rattle.flac_native.specs.Writing.{AreCounted, IsSpelled, HasRoom}
+use Rattle.flac_native.specs.inner.Writing.{WritesAll, WritesNext}
 use Rattle.flac_native.proofs.Spelled.{as_long, begins_long}
 
 -- ---- bits, and the rest that is held

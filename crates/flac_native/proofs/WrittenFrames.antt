@@ -15,7 +15,8 @@ use Rattle.flac_frame.specs.Spelling.{FrameForm, frame_spelling}
 use Rattle.flac_frame.proofs.FrameTie.{frames_bytes}
 use Rattle.flac_meta.specs.declared.seek_table.SeekPoint.{SeekPoint}
 use Rattle.flac_native.specs.Given.{Cut, blocks_in, frame_of}
-use Rattle.flac_native.specs.Writing.{SpellsFrame, SpellsLeast, AreFrames, AreLeastFrames, AreCounted, HaveFrames, IsSpelled, WritesOn, WritesAll, WritesFrames}
+use Rattle.flac_native.specs.Writing.{SpellsFrame, SpellsLeast, AreFrames, AreLeastFrames, AreCounted, IsSpelled}
+use Rattle.flac_native.specs.inner.Writing.{HaveFrames, WritesOn, WritesAll, WritesFrames}
 use Rattle.flac_native.proofs.Gathered.{nth, snoc, length-snoc, each_more}
 use Rattle.flac_native.proofs.Rooms.{unstarted}
 use Rattle.flac_native.proofs.Spelled.{came_out, each_append, each_drop}

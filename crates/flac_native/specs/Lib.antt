@@ -15,12 +15,11 @@ pub mod Points
 pub mod Numbers
 pub mod Retag
 pub mod Resuming
-pub mod InOrder
 pub mod ReadBack
 pub mod Whole
 pub mod BlockOrder
 pub mod Ordered
 pub mod Room
-pub mod Lent
 pub mod Places
 pub mod Wider
+pub mod inner

@@ -1,23 +1,20 @@
 -- What retagging makes of a stream: the same STREAMINFO, the given comments, the other blocks in their order, and the rest of the input.
-use Rattle.std.specs.Prelude.{◌≡◌, Bool, true, false, cond, List, [], ◌∷◌, ◌++◌, length, Some, None, ◌≤◌, ◌<◌}
-use Rattle.flac_bits.specs.Bits.{unsigned}
-use Rattle.flac_bits.specs.State.{Mark, Cursor}
+use Rattle.std.specs.Prelude.{◌≡◌, Bool, true, false, cond, List, [], ◌∷◌, ◌++◌, Some, None, ◌≤◌}
+use Rattle.flac_bits.specs.State.{Mark}
 use Rattle.flac_bits.specs.Items.{Joined, Refused}
 use Rattle.flac_bits.specs.declared.why.Why.{Why}
 use Rattle.flac_bits.specs.declared.why.Why.TheVariants as why
 use Rattle.flac_header.specs.declared.subset.Profile.{Profile}
 use Rattle.flac_header.specs.declared.subset.Profile.TheVariants.{Subset}
 use Rattle.flac_meta.specs.Info.{Info}
-use Rattle.flac_meta.specs.Listed.{block_fault}
 use Rattle.flac_meta.specs.Spelling.{comments_length}
 use Rattle.flac_meta.specs.Valid.{IsComments}
 use Rattle.flac_meta.specs.declared.comments.Comments.{Comments}
 use Rattle.flac_meta.specs.declared.block.Block.{Block}
 use Rattle.flac_meta.specs.declared.block.Block.TheVariants as blocks
-use Rattle.flac_native.specs.Stream.{Piece, marked, block, framed, grammar, opening}
+use Rattle.flac_native.specs.Stream.{Piece, marked, grammar, opening}
 use Rattle.flac_native.specs.Given.{closing}
-use Rattle.flac_native.specs.InOrder.{MayBeWritten}
-use Rattle.flac_native.specs.Writing.{blocks_spelling, head_spelling}
+use Rattle.flac_native.specs.Writing.{head_spelling}
 use Rattle.flac_native.specs.declared.fault.Place.{Place}
 use Rattle.flac_native.specs.declared.fault.Place.TheVariants as place
 use Rattle.flac_native.specs.declared.retagging.RetagFault.{RetagFault}
@@ -102,32 +99,6 @@ pub record BeginsRetagging (m : Mark) (text : List Bool) (comments : Comments) (
   pub left : List Bool
   pub written : after ≡ before ++ front
   pub retags : Retags m text comments before (before ++ (front ++ left))
-
--- ---- what is kept of the input
-
--- the blocks that are kept, with those of one more part, which is no frame
-abbrev pub keeps : List Block → Piece → List Block → Type 0
-keeps old marked new = new ≡ old
-keeps old (block last b) new = new ≡ old ++ unless_comment b
-keeps old (framed f) new = ⊥
-
--- what is kept where bits begin with a marker and blocks
-pub record AreKept (c : Cursor) (kept : List Block) (rest : List Bool) : Type 0 where
-  pub info : Info
-  pub list : List Block
-  pub input : BeginsWith c.mark c.left info list rest
-  pub are : kept ≡ blocks.StreamInfo info ∷ without_comments list
-
--- what stands before the frames with these comments, where the first of these blocks is STREAMINFO
-abbrev pub new_head : Comments → List Block → List Bool
-new_head comments [] = []
-new_head comments (b ∷ bs) = unsigned 32 0x664C6143 ++ blocks_spelling (b ∷ blocks.VorbisComment comments ∷ bs)
-
--- the blocks of such a head may be written
-pub record MayBeHead (comments : Comments) (kept : List Block) : Type 0 where
-  pub note : block_fault (blocks.VorbisComment comments) ≡ None
-  pub some : 0 < length kept
-  pub each : MayBeWritten kept
 
 -- ---- what is answered
 

@@ -1,21 +1,16 @@
 -- Reading with no fence set before, of an item that may have so many bytes at most.
-use Rattle.std.specs.Prelude.{◌≡◌, ℕ, Bool, true, List, [], ◌++◌, Option, Result, Err, IfOk, IfErr, IsOkAnd, IsErrAnd}
-use Rattle.flac_bits.specs.State.{State, Cursor, started, short_of}
+use Rattle.std.specs.Prelude.{◌≡◌, ℕ, Bool, true, List, ◌++◌, Option, Result, IfOk, IfErr, IsOkAnd, IsErrAnd}
+use Rattle.flac_bits.specs.State.{State, Cursor, started}
 use Rattle.flac_bits.specs.Layout.{Layout}
 use Rattle.flac_bits.specs.Reading.{Gives}
 use Rattle.flac_bits.specs.Meaning.{Spells}
 use Rattle.flac_bits.specs.Fence.{InRoom, StopsIn, read_in}
 use Rattle.flac_bits.specs.Fencing.{lifted}
 use Rattle.flac_bits.specs.declared.why.Why.{Why}
-use Rattle.flac_bits.specs.declared.why.Why.TheVariants.{Memory}
 
 -- what was returned is what the layout gives within the room, the checks having begun there
 abbrev pub ReadsWithin : {X Y : Type 0} → Option ℕ → (X → Y) → Layout Y → State → State → Result X Why → Type 0
 ReadsWithin room view layout old new result = Gives view (read_in room layout (started (lifted old)).cursor) (lifted old) new result
-
--- the same where no growth was refused
-abbrev pub ReadsWithinInRoom : {X Y : Type 0} → Option ℕ → (X → Y) → Layout Y → State → State → Result X Why → Type 0
-ReadsWithinInRoom room view layout old new result = (result ≡ Err Memory → ⊥) → ReadsWithin room view layout old new result
 
 -- What was returned is told by the meaning of the layout alone: a value is the one that a front of the input spells within the room, a reason is one for
 -- which no item is there, of which there is but one.
@@ -28,8 +23,3 @@ pub record DecodesWithin {X Y : Type 0} (room : Option ℕ) (view : X → Y) (la
 -- so it is where the source tells its bytes and did not fail in the call
 abbrev pub MeansWithin : {X Y : Type 0} → Option ℕ → (X → Y) → Layout Y → State → State → Result X Why → Type 0
 MeansWithin room view layout old new result = old.known ≡ true → new.errors ≡ old.errors → DecodesWithin room view layout (started (lifted old)).cursor new.cursor.left result
-
--- no fence stands
-pub record IsOpen (s : State) : Type 0 where
-  pub none : s.behind.fenced ≡ []
-  pub short : s.cursor.mark.short ≡ short_of s.behind.fails

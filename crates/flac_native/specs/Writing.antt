@@ -1,10 +1,6 @@
 -- What encoding writes, and that it is a stream of what was given.
-use Rattle.std.specs.Prelude.{ℤ, ◌≡◌, ℕ, ◌*◌, ◌<◌, ◌≤◌, Bool, true, List, [], ◌∷◌, ◌++◌, length, slice_index_or, None, Result, OnOk, OnErr, IfErr}
-use Rattle.flac_bits.specs.Bits.{unsigned, bits_of, is_nil}
-use Rattle.flac_bits.specs.State.{Rises}
-use Rattle.flac_bits.specs.Written.{Written, Fails}
-use Rattle.flac_bits.specs.declared.why.Why.{Why}
-use Rattle.flac_bits.specs.declared.target.Target as target
+use Rattle.std.specs.Prelude.{◌≡◌, ℕ, ◌*◌, ◌<◌, ◌≤◌, Bool, true, List, [], ◌∷◌, ◌++◌, length, slice_index_or, None}
+use Rattle.flac_bits.specs.Bits.{unsigned, is_nil}
 use Rattle.flac_bits.specs.Forms.{joined}
 use Rattle.flac_bits.specs.Items.{Stream}
 use Rattle.flac_bits.specs.declared.why.Why.TheVariants.{Truncated}
@@ -100,69 +96,14 @@ pub record IsSpelled (p : Cut) (a : Sound) (number : ℕ) (text : List Bool) : T
   pub frame : SpellsFrame a (frame_of p.block_size a number) text
   pub least : SpellsLeast p.predictors a (frame_of p.block_size a number) text
 
--- These bits were written and sent, at a whole byte, or else the target failed.
-pub record WritesAll {X : Type 0} (text : List Bool) (old new : Written) (result : Result X Why) : Type 0 where
-  pub failed : IfErr result (λ e. Fails (old.bits ++ text) old new e)
-  pub known : OnOk result (old.known ≡ true → new.known ≡ true)
-  pub counted : OnOk result (new.errors ≡ old.errors)
-  pub names : new.names ≡ old.names
-  pub sent : OnOk result (old.known ≡ true → bits_of new.sent ≡ old.bits ++ text)
-
--- These bits were written, from a whole byte to one, or else the target failed. The checks may have begun anew among them, and the last bits may be held.
-pub record WritesOn {X : Type 0} (text : List Bool) (old new : Written) (result : Result X Why) : Type 0 where
-  pub failed : IfErr result (λ e. Fails (old.bits ++ text) old new e)
-  pub known : OnOk result (old.known ≡ true → new.known ≡ true)
-  pub counted : OnOk result (new.errors ≡ old.errors)
-  pub names : new.names ≡ old.names
-  pub bits : OnOk result (old.known ≡ true → new.bits ≡ old.bits ++ text)
-  pub whole : OnOk result (new.mark.unread ≡ 0)
-
--- so it is of the least frame of a number
-abbrev pub WritesNext : {X : Type 0} → Cut → Sound → ℕ → Written → Written → Result X Why → Type 0
-WritesNext p a number old new result = (text : List Bool) × IsSpelled p a number text × WritesAll text old new result
-
 -- it was chosen how the frame of a number is written
 pub record IsChoiceOf (p : Cut) (a : Sound) (number : ℕ) (c : FrameChoice) : Type 0 where
   pub chosen : IsChoiceWith p.predictors a (frame_of p.block_size a number).size number (frame_of p.block_size a number).channels c
   pub places : length a.channels ≤ length c.subframes.items
 
--- the second choice is the first, whatever was chosen
-pub record IsKept (c kept : FrameChoice) : Type 0 where
-  pub same : (ps : List LinearPredictor) (a : Sound) (size number : ℕ) (block : List (List ℤ)) → IsChoiceWith ps a size number block c → IsChoiceWith ps a size number block kept
-  pub many : length kept.subframes.items ≡ length c.subframes.items
-
 -- these are the choices of the first frames
 abbrev pub AreChoices : Cut → Sound → List FrameChoice → Type 0
 AreChoices p a choices = (i : ℕ) (c : FrameChoice) → i < length choices → c ≡ slice_index_or choices i c → IsChoiceOf p a i c
-
--- A call that was to send whole bytes of these bits sent all of them where it answered Ok, and else a beginning of them; then the target answered an error.
-pub record SendsBits {S X E : Type 0} (g : target.Ghosts S) (text : List Bool) (old new : S) (result : Result X E) : Type 0 where
-  pub known : OnOk result (g.known old ≡ true → g.known new ≡ true)
-  pub sent : OnOk result (g.known old ≡ true → bits_of (g.sent new) ≡ bits_of (g.sent old) ++ text)
-  pub begun : OnErr result (g.known old ≡ true → (front : List Bool) × (rest : List Bool) × (text ≡ front ++ rest) × (bits_of (g.sent new) ≡ bits_of (g.sent old) ++ front))
-  pub names : g.names new ≡ g.names old
-  pub counted : OnOk result (g.errors new ≡ g.errors old)
-  pub kept : g.errors old ≤ g.errors new
-  pub rises : OnErr result (g.known old ≡ true → g.errors old < g.errors new)
-  pub risen : OnErr result (Rises (g.errors old) (g.errors new))
-
--- each block of the samples has a least frame
-pub record HaveFrames (p : Cut) (a : Sound) : Type 0 where
-  pub frames : List (List Bool)
-  pub are : AreFrames p a frames
-  pub are_least : AreLeastFrames p a frames
-
--- all frames of the samples were written, each the least of its block
-abbrev pub WritesFrames : {X : Type 0} → Cut → Sound → Written → Written → Result X Why → Type 0
-WritesFrames p a old new result = (frames : List (List Bool)) × AreFrames p a frames × AreLeastFrames p a frames × WritesOn (joined frames) old new result
-
--- behind other bits they were written and sent
-abbrev pub WritesStream : {X : Type 0} → List Bool → Cut → Sound → Written → Written → Result X Why → Type 0
-WritesStream head p a old new result = (frames : List (List Bool)) × AreFrames p a frames × AreLeastFrames p a frames × WritesAll (head ++ joined frames) old new result
-
--- behind other bits all of them were sent, or else a beginning
-abbrev pub SendsStream : {S X E : Type 0} → target.Ghosts S → List Bool → Cut → Sound → S → S → Result X E → Type 0
-SendsStream g head p a old new result = (frames : List (List Bool)) × AreFrames p a frames × AreLeastFrames p a frames × SendsBits g (head ++ joined frames) old new result
 
 -- so many bytes hold any frame: the least frames are no longer than that
 pub record HasRoom (p : Cut) (a : Sound) (places : ℕ) : Type 0 where

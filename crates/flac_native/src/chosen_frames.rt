@@ -7,7 +7,8 @@ ghost use Rattle.flac_bits.specs.Bits.{bits_of};
 ghost use Rattle.flac_frame.specs.Audio.{samples_each};
 ghost use Rattle.flac_frame.specs.declared.frame_choice.FrameChoice.{FrameChoice};
 ghost use Rattle.flac_native.specs.Given.{fits_plan, blocks_in, info_of, room_of, frame_of};
-ghost use Rattle.flac_native.specs.Writing.{AreCounted, AreChoices, HasRoom, IsDigest, IsKept, IsSpelled, HaveFrames, WritesNext, WritesFrames};
+ghost use Rattle.flac_native.specs.Writing.{AreCounted, AreChoices, HasRoom, IsDigest, IsSpelled};
+ghost use Rattle.flac_native.specs.inner.Writing.{IsKept, HaveFrames, WritesNext, WritesFrames};
 ghost use Rattle.flac_frame.specs.Encoding.{block_of, WritesFrameWith};
 
 use crate::digest::{digest_of, feed_block};

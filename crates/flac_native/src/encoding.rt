@@ -3,8 +3,9 @@
 ghost use Rattle.std.specs.Prelude.{◌≡◌, ◌≢◌, ◌++◌, length, List, OnOk, IfErr, ◌∷◌, ◌≤◌, ◌<◌, ◌^◌, ◌↔◌, true, None, Err};
 ghost use Rattle.flac_bits.specs.Written.{Fails, Writes};
 ghost use Rattle.flac_meta.specs.declared.block.Block.{Block};
-ghost use Rattle.flac_native.specs.InOrder.{MayBeWritten, Advances};
-ghost use Rattle.flac_native.specs.Writing.{blocks_spelling, head_spelling, AreChoices, AreCounted, IsDigest, WritesAll, WritesStream, SendsBits, SendsStream, Encodes, BeginsEncoding};
+ghost use Rattle.flac_native.specs.inner.InOrder.{MayBeWritten, Advances};
+ghost use Rattle.flac_native.specs.Writing.{blocks_spelling, head_spelling, AreChoices, AreCounted, IsDigest, Encodes, BeginsEncoding};
+ghost use Rattle.flac_native.specs.inner.Writing.{WritesAll, WritesStream, SendsBits, SendsStream};
 ghost use Rattle.flac_bits.specs.Bits.{bits_of};
 ghost use Rattle.flac_bits.specs.State.{Rises};
 ghost use Rattle.flac_meta.specs.Listed.{block_fault};

@@ -4,10 +4,11 @@ ghost use Rattle.std.specs.Prelude.{◌≡◌, ◌≢◌, ◌≤◌, ◌+◌, �
 ghost use Rattle.flac_bits.specs.Bits.{is_nil};
 ghost use Rattle.flac_bits.specs.Fencing.{lifted};
 ghost use Rattle.flac_bits.specs.Reading.{Counts, Reads};
-ghost use Rattle.flac_bits.specs.Items.{step_at};
-ghost use Rattle.flac_bits.specs.Handing.{StepsTo, reason_of, IsOutside};
+ghost use Rattle.flac_bits.specs.inner.Items.{step_at};
+ghost use Rattle.flac_bits.specs.Handing.{reason_of, IsOutside};
+ghost use Rattle.flac_bits.specs.inner.Handing.{StepsTo};
 ghost use Rattle.flac_native.specs.Stream.{marker, layout, room_in, Progress, grammar, may_end_in, next};
-ghost use Rattle.flac_native.specs.Within.{ReadsWithinInRoom};
+ghost use Rattle.flac_native.specs.inner.Within.{ReadsWithinInRoom};
 ghost use Rattle.flac_native.specs.Track.{IsAt, IsMadeAs, piece_of, stand_of, info_in};
 ghost use Rattle.flac_native.specs.Item.{told};
 ghost use Rattle.flac_native.specs.Coming.{PartsCome};

@@ -3,12 +3,15 @@
 ghost use Rattle.std.specs.Prelude.{◌≡◌, ◌≢◌, ◌≤◌, ◌+◌, ◌++◌, [], true, false, OnOk, IfOk, IfErr, Some, None, ◌<◌, ◌⊎◌, Bool, List, OnErr, IfSome, IsErrAnd, Err};
 ghost use Rattle.flac_bits.specs.Fencing.{lifted};
 ghost use Rattle.flac_bits.specs.Reading.{Counts};
-ghost use Rattle.flac_bits.specs.Items.{step_at, item, refused};
-ghost use Rattle.flac_bits.specs.Handing.{IsCalm, reason_of};
+ghost use Rattle.flac_bits.specs.Items.{item, refused};
+ghost use Rattle.flac_bits.specs.inner.Items.{step_at};
+ghost use Rattle.flac_bits.specs.Handing.{reason_of};
+ghost use Rattle.flac_bits.specs.inner.Handing.{IsCalm};
 ghost use Rattle.flac_native.specs.Stream.{Piece, Progress, grammar, opening, next, block as block_piece};
 ghost use Rattle.flac_native.specs.Track.{IsAt, block_in, is_behind_blocks};
 ghost use Rattle.flac_native.specs.Item.{told};
-ghost use Rattle.flac_native.specs.Retag.{keeps, is_before_frames, AreKept, IsRefused, MayBeHead, new_head, not_read, not_written, BeginsWith, HasHead, Retags, BeginsRetagging, retagged, too_long, no_memory};
+ghost use Rattle.flac_native.specs.Retag.{is_before_frames, IsRefused, not_read, not_written, BeginsWith, HasHead, Retags, BeginsRetagging, retagged, too_long, no_memory};
+ghost use Rattle.flac_native.specs.inner.Retag.{keeps, AreKept, MayBeHead, new_head};
 ghost use Rattle.flac_bits.specs.Bits.{bits_of};
 ghost use Rattle.flac_bits.specs.Written.{Adds, Fails};
 ghost use Rattle.flac_bits.specs.State.{Rises, short_of};

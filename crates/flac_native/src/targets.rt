@@ -2,7 +2,7 @@
 
 ghost use Rattle.std.specs.Prelude.{◌≡◌, ◌≤◌, ◌<◌, ◌+◌, ◌-◌, ◌^◌, [], length, nat_lt, vec_capacity, IfOk, IfErr, ◌∷◌, ◌&&◌};
 ghost use Rattle.flac_native.specs.Room.{placed};
-ghost use Rattle.flac_native.specs.Lent.{has_still, sent_since, named};
+ghost use Rattle.flac_native.specs.inner.Lent.{has_still, sent_since, named};
 
 use flac_bits::{Target, Why};
 use std::alloc::Global;

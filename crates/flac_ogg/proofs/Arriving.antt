@@ -23,7 +23,8 @@ use Rattle.flac_pages.specs.Items.{IsAtPacket, GoesBehind}
 use Rattle.flac_ogg.specs.Stream.{start, packet_start, closed_packet, OggStream, OggRefused}
 use Rattle.flac_ogg.specs.Steps.{PacketStep, item, over, refused, packet_step, Goes}
 use Rattle.flac_ogg.specs.Decoding.{IsBrokenAt, ogg_reading}
-use Rattle.flac_ogg.specs.Telling.{IsUnderWay, MeetsIn, StepIs}
+use Rattle.flac_ogg.specs.Telling.{IsUnderWay}
+use Rattle.flac_ogg.specs.inner.Telling.{MeetsIn, StepIs}
 use Rattle.flac_ogg.specs.Coming.{final, ItemsCome, Foretells, IsClear}
 use Rattle.flac_ogg.proofs.MeaningContents.{ahead_of, begins_ahead, some_contents, contents_ahead, contents_fault, contents_stop}
 use Rattle.flac_ogg.proofs.MeaningSteps.{step_item, step_refused}

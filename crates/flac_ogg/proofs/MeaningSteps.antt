@@ -12,7 +12,8 @@ use Rattle.flac_native.specs.Stream.{Piece, Stand, Progress, grammar, room_in}
 use Rattle.flac_native.specs.declared.fault.Place.{Place}
 use Rattle.flac_native.specs.declared.fault.Place.TheVariants as place
 use Rattle.flac_pages.specs.Packets.{Ahead, size, ends, past_packet, lacing_of, left_in, rest_in, behind_in}
-use Rattle.flac_pages.specs.Items.{Packet, whole, end_in, end_of, short_at, IsItem, IsNoItem, TellsItem, item_in}
+use Rattle.flac_pages.specs.Items.{Packet, whole, end_in, end_of, IsItem, IsNoItem, TellsItem, item_in}
+use Rattle.flac_pages.specs.inner.Items.{short_at}
 use Rattle.flac_pages.specs.Given.{PacketsAhead}
 use Rattle.flac_pages.proofs.PacketMeaning.{packet_closes, given_rest}
 use Rattle.flac_pages.proofs.ItemMeaning.{item_means, item_again, refused_again}

@@ -41,7 +41,7 @@ use Rattle.flac_pages.specs.declared.writing.PacketKind.TheVariants as kind_of
 use Rattle.flac_pages.specs.Placed.{Placed, IsPlaced, marks_of, sequence_behind}
 use Rattle.flac_pages.specs.Written.{packet_spelling}
 use Rattle.flac_pages.specs.Items.{IsItem}
-use Rattle.flac_ogg.specs.Headers.{AreHeaders}
+use Rattle.flac_ogg.specs.inner.Headers.{AreHeaders}
 use Rattle.flac_ogg.specs.Listed.{texts_of}
 use Rattle.flac_ogg.specs.Mapping.{is_first_block, packet_layout}
 use Rattle.flac_ogg.specs.Native.{mapping_spelling, block_spellings, packet_spellings, native_text, AreStream}

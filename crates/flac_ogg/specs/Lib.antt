@@ -13,5 +13,5 @@ pub mod Listed
 pub mod Writing
 pub mod RoundTrip
 pub mod Pushing
-pub mod Headers
 pub mod Wider
+pub mod inner

@@ -1,7 +1,5 @@
 -- What encoding writes as an Ogg stream, and that it is one of what was given (RFC 9639, section 10.1).
-use Rattle.std.specs.Prelude.{◌≡◌, ℕ, zero, suc, ◌+◌, ◌*◌, min, Bool, true, false, cond, ◌&&◌, nat_eq, nat_lt, List, [], ◌∷◌, ◌++◌, length, map, replicate, Result}
-use Rattle.std.specs.List.{All, flat_map}
-use Rattle.flac_bits.specs.declared.target.Target as target
+use Rattle.std.specs.Prelude.{◌≡◌, ℕ, zero, suc, ◌+◌, ◌*◌, min, Bool, true, false, cond, ◌&&◌, nat_eq, nat_lt, List, [], ◌∷◌, ◌++◌, length, map, replicate}
 use Rattle.flac_bits.specs.declared.why.Why.TheVariants.{Truncated}
 use Rattle.flac_meta.specs.declared.block.Block.{Block}
 use Rattle.flac_meta.specs.declared.block.Block.TheVariants as blocks
@@ -9,11 +7,10 @@ use Rattle.flac_frame.specs.Audio.{Sound, samples_each}
 use Rattle.flac_native.specs.Decoding.{beginning}
 use Rattle.flac_native.specs.Stream.{framed}
 use Rattle.flac_native.specs.Given.{Cut, blocks_in, info_of, frames_of, closing}
-use Rattle.flac_native.specs.Writing.{AreFrames, AreLeastFrames, AreSizes, SendsBits}
+use Rattle.flac_native.specs.Writing.{AreFrames, AreLeastFrames, AreSizes}
 use Rattle.flac_pages.specs.declared.writing.PacketKind.{PacketKind}
 use Rattle.flac_pages.specs.declared.writing.PacketKind.TheVariants as kind_of
-use Rattle.flac_pages.specs.Page.{page_spelling}
-use Rattle.flac_pages.specs.Placed.{Placed, IsPlaced, pages_from, stream_spelling}
+use Rattle.flac_pages.specs.Placed.{Placed, stream_spelling}
 use Rattle.flac_ogg.specs.Stream.{OggStream}
 use Rattle.flac_ogg.specs.Native.{packet_spellings}
 use Rattle.flac_ogg.specs.Listed.{texts_of, kinds_in}
@@ -51,29 +48,6 @@ pub record ArePackets (p : Cut) (list : List Block) (a : Sound) (packets : List 
   pub sizes : AreSizes frames least greatest
   pub texts : texts_of packets ≡ packet_spellings (header_count (length list)) (info_of p a least greatest) list frames
   pub kinds : kinds_in packets ≡ kinds_of p list a
-
--- Pages from the one of a number on were sent, or else a beginning of them: all frames of the samples, each the least of its block
--- with the plan's predictors, in a packet each.
-pub record SendsPackets {S X E : Type 0} (g : target.Ghosts S) (serial from : ℕ) (p : Cut) (a : Sound) (old new : S) (result : Result X E) : Type 0 where
-  pub frames : List (List Bool)
-  pub are : AreFrames p a frames
-  pub are_least : AreLeastFrames p a frames
-  pub packets : List Placed
-  pub texts : texts_of packets ≡ frames
-  pub kinds : kinds_in packets ≡ frames_to p.block_size (samples_each a.channels) (blocks_in p.block_size (samples_each a.channels))
-  pub good : All IsPlaced packets
-  pub sends : SendsBits g (flat_map page_spelling (pages_from serial from false packets)) old new result
-
--- so it is of a whole stream, behind header packets
-pub record SendsOgg {S X E : Type 0} (g : target.Ghosts S) (serial : ℕ) (p : Cut) (a : Sound) (headers : List Placed) (old new : S) (result : Result X E) : Type 0 where
-  pub frames : List (List Bool)
-  pub are : AreFrames p a frames
-  pub are_least : AreLeastFrames p a frames
-  pub packets : List Placed
-  pub texts : texts_of packets ≡ frames
-  pub kinds : kinds_in packets ≡ frames_to p.block_size (samples_each a.channels) (blocks_in p.block_size (samples_each a.channels))
-  pub good : All IsPlaced packets
-  pub sends : SendsBits g (stream_spelling serial (headers ++ packets)) old new result
 
 -- Behind the bits that were there, an Ogg stream of what was given, and of the plan's profile, was written, of these packets.
 pub record EncodesOgg (serial : ℕ) (p : Cut) (list : List Block) (a : Sound) (before after : List Bool) : Type 0 where

@@ -6,7 +6,7 @@ ghost use Rattle.flac_bits.specs.Forms.{IsBytes, joined};
 ghost use Rattle.flac_bits.specs.Written.{Writes};
 ghost use Rattle.flac_meta.specs.Info.{Info};
 ghost use Rattle.flac_native.specs.Writing.{head_spelling};
-ghost use Rattle.flac_ogg.specs.Headers.{AreHeaders};
+ghost use Rattle.flac_ogg.specs.inner.Headers.{AreHeaders};
 ghost use Rattle.flac_ogg.specs.Native.{block_spellings, packet_spellings};
 ghost use Rattle.flac_ogg.specs.Writing.{header_count};
 

@@ -6,9 +6,11 @@ ghost use Rattle.flac_ogg.specs.Mapping.{mapping, is_first_block, page_place, it
 ghost use Rattle.flac_native.specs.Stream.{Stand, place_in, Progress, next, room_in, layout_in};
 ghost use Rattle.flac_native.specs.Track.{stand_of, IsAt, IsMadeAs, piece_of};
 ghost use Rattle.flac_bits.specs.Fencing.{lifted};
-ghost use Rattle.flac_native.specs.Within.{ReadsWithin, ReadsWithinInRoom};
+ghost use Rattle.flac_native.specs.Within.{ReadsWithin};
+ghost use Rattle.flac_native.specs.inner.Within.{ReadsWithinInRoom};
 ghost use Rattle.flac_native.specs.declared.track.Phase.TheVariants.{Opening, Frames};
-ghost use Rattle.flac_ogg.specs.Telling.{block_packet, first_packet, IsUnderWay, MeetsIn, StepIs, EndIs};
+ghost use Rattle.flac_ogg.specs.Telling.{IsUnderWay};
+ghost use Rattle.flac_ogg.specs.inner.Telling.{block_packet, first_packet, MeetsIn, StepIs, EndIs};
 ghost use Rattle.flac_pages.specs.Items.{packet_of, packet_mark, TellsItem, Meets, HasBehind, HasItsPage};
 ghost use Rattle.flac_bits.specs.Handing.{IsOutside};
 ghost use Rattle.flac_pages.specs.Packets.{Met, ahead};

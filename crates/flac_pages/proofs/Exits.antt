@@ -3,7 +3,8 @@ use Rattle.std.proofs.Common.{◌≡◌, ℕ, ◌<◌, ◌≤◌, Bool, true, fa
 use Rattle.std.specs.Prelude.{⊤, IfSome}
 use Rattle.flac_bits.specs.declared.why.Why.{Why}
 use Rattle.flac_pages.specs.Pages.{end_fault}
-use Rattle.flac_pages.specs.Packets.{Place, Ahead, Met, ahead, only_fault, next_segment, Turns, Steps, Begins, ended}
+use Rattle.flac_pages.specs.Packets.{Place, Ahead, Met, ahead, Begins}
+use Rattle.flac_pages.specs.inner.Packets.{only_fault, next_segment, Turns, Steps, ended}
 use Rattle.flac_pages.proofs.Stepping.{Same, Waits, met_then, segment_same, same_ahead, packet_over, pages_over, none_ahead, broken_ahead, closed_ahead}
 
 abbrev turn_ok : Result ⊤ Why

@@ -13,7 +13,8 @@ use Rattle.flac_bits.specs.declared.why.Why.TheVariants.{Memory, Read}
 use Rattle.flac_bits.proofs.Meaning.{past-short}
 use Rattle.flac_bits.proofs.Fences.{takes_in, refuses_in}
 use Rattle.flac_pages.specs.Packets.{Place, ahead, behind_of}
-use Rattle.flac_pages.specs.Items.{PacketEnd, whole, unended, cut_at, Packet, end_in, end_of, packet_of, packet_mark, short_at, in_packet, behind_item, TellsItem, Meets, CountsSo, GivesBack, IsAtPacket, JudgesPacket, GoesBehind, HasBehind}
+use Rattle.flac_pages.specs.Items.{PacketEnd, whole, unended, cut_at, Packet, end_in, end_of, packet_of, packet_mark, in_packet, behind_item, TellsItem, Meets, CountsSo, GivesBack, IsAtPacket, JudgesPacket, GoesBehind, HasBehind}
+use Rattle.flac_pages.specs.inner.Items.{short_at}
 use Rattle.flac_pages.proofs.ItemMeaning.{stopped, told_behind}
 
 pub short_is : (fails : Option (ℕ × Why)) (cut : Bool) → short_of fails ≡ short_at (end_in fails cut)

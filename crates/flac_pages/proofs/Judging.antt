@@ -8,7 +8,8 @@ use Rattle.flac_bits.specs.State.{State, Behind, Rises, short_of, without_fence}
 use Rattle.flac_bits.specs.declared.why.Why.{Why}
 use Rattle.flac_bits.specs.declared.why.Why.TheVariants.{Read, Memory, Sink, Truncated}
 use Rattle.flac_pages.specs.Packets.{Place, Met, ahead, behind_of, behind_in, behind_left}
-use Rattle.flac_pages.specs.Items.{PacketEnd, whole, unended, cut_at, end_of, in_packet, behind_item, why_in, HasItsPage, EndsPacket, CountsSo, GivesBack, JudgesPacket, GoesBehind}
+use Rattle.flac_pages.specs.Items.{PacketEnd, whole, unended, cut_at, end_of, in_packet, behind_item, HasItsPage, CountsSo, GivesBack, JudgesPacket, GoesBehind}
+use Rattle.flac_pages.specs.inner.Items.{why_in, EndsPacket}
 use Rattle.flac_pages.proofs.Stepping.{met_then}
 
 -- ---- behind a packet that is one item

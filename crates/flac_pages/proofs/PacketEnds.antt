@@ -4,8 +4,10 @@ use Rattle.std.specs.Prelude.{⊤}
 use Rattle.flac_bits.specs.State.{Behind}
 use Rattle.flac_bits.specs.declared.why.Why.{Why}
 use Rattle.flac_bits.specs.declared.why.Why.TheVariants.{PacketLength, Read, Memory, Sink}
-use Rattle.flac_pages.specs.Packets.{Place, ahead, behind_of, behind_in, broken_off, Finds, Copies}
-use Rattle.flac_pages.specs.Items.{whole, unended, cut_at, end_in, end_of, cut_off, EndsPacket, HasItsPage}
+use Rattle.flac_pages.specs.Packets.{Place, ahead, behind_of, behind_in, broken_off}
+use Rattle.flac_pages.specs.inner.Packets.{Finds, Copies}
+use Rattle.flac_pages.specs.Items.{whole, unended, cut_at, end_in, end_of, cut_off, HasItsPage}
+use Rattle.flac_pages.specs.inner.Items.{EndsPacket}
 use Rattle.flac_pages.proofs.Stepping.{met_then}
 
 -- what a way to the packet's end keeps

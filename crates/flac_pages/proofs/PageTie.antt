@@ -8,7 +8,8 @@ use Rattle.flac_bits.specs.State.{Mark}
 use Rattle.flac_bits.specs.Layout.{bits}
 use Rattle.flac_bits.specs.Lists.{list_of}
 use Rattle.flac_bits.specs.LittleEndian.{little_32, little_64}
-use Rattle.flac_bits.specs.Forms.{Ties, IsBytes}
+use Rattle.flac_bits.specs.Forms.{IsBytes}
+use Rattle.flac_bits.specs.inner.Forms.{Ties}
 use Rattle.flac_bits.specs.Meaning.{Spells}
 use Rattle.flac_bits.proofs.Meaning.{again}
 use Rattle.flac_bits.proofs.Ties.{tie, each_tied, some_tied, bytes_tie}

@@ -9,7 +9,8 @@ use Rattle.flac_bits.specs.Layout.{because}
 use Rattle.flac_bits.specs.declared.why.Why.{Why}
 use Rattle.flac_pages.specs.Page.{Page, is_last, after, goes_on_behind}
 use Rattle.flac_pages.specs.Pages.{Stop, closed, broken, one, next_page, pages_of, pages_behind, end_fault}
-use Rattle.flac_pages.specs.Packets.{Place, Ahead, Met, ahead, size, ends, past_packet, to_come, rest_of, behind_of, rest_in, behind_in, only_fault, broken_off, fault_of, stop_of, at_page, page_index, next_segment, Copies}
+use Rattle.flac_pages.specs.Packets.{Place, Ahead, Met, ahead, size, ends, past_packet, to_come, rest_of, behind_of, rest_in, behind_in, broken_off, fault_of, stop_of, at_page, page_index}
+use Rattle.flac_pages.specs.inner.Packets.{only_fault, next_segment, Copies}
 use Rattle.flac_pages.proofs.Turns.{good_turn, bad_turn}
 
 -- what a step keeps

@@ -14,7 +14,8 @@ use Rattle.flac_bits.specs.declared.why.Why.{Why}
 use Rattle.flac_pages.specs.declared.page.Before.{Before}
 use Rattle.flac_pages.specs.Page.{Page, page_behind, head_behind, is_last, after}
 use Rattle.flac_pages.specs.Pages.{Stop, Run, closed, broken, one, none, between, page_or_end, next_page, went_on, pages_in, pages_of, pages_behind, end_fault}
-use Rattle.flac_pages.specs.Packets.{Place, ahead, to_come, fault_of, stop_of, page_index, only_fault}
+use Rattle.flac_pages.specs.Packets.{Place, ahead, to_come, fault_of, stop_of, page_index}
+use Rattle.flac_pages.specs.inner.Packets.{only_fault}
 use Rattle.flac_pages.proofs.Anew.{anew_is, anew_err}
 use Rattle.flac_pages.proofs.Stepping.{ahead_is, turned, refused}
 

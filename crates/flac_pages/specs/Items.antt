@@ -1,5 +1,5 @@
 -- One item in one packet: the bytes of a packet are one item, a metadata block or a frame, and nothing else (RFC 9639, section 10.1).
-use Rattle.std.specs.Prelude.{◌≡◌, ◌≢◌, ◌↔◌, ◌<◌, ◌≤◌, ◌+◌, ◌*◌, ℕ, length, Bool, true, false, List, [], ◌∷◌, ◌++◌, Option, Some, None, Result, Ok, Err}
+use Rattle.std.specs.Prelude.{◌≡◌, ◌≢◌, ◌↔◌, ◌<◌, ◌+◌, ◌*◌, ℕ, length, Bool, true, false, List, [], ◌∷◌, ◌++◌, Option, Some, None, Result, Ok, Err}
 use Rattle.std.specs.Borrow.{GName}
 use Rattle.flac_bits.specs.Bits.{bits_of, is_nil}
 use Rattle.flac_bits.specs.State.{Mark, Cursor, State, Behind, short_of, without_fence}
@@ -36,11 +36,6 @@ end_of b = end_in b.fails b.cut
 -- the packet that a reader of packets has begun
 abbrev pub packet_of : Place → Packet
 packet_of p = record { bits = bits_of (rest_of p); ends = end_of (behind_of p) }
-
--- the reason where a field needs more bits than the packet has
-abbrev pub short_at : PacketEnd → Why
-short_at (cut_at n why) = Read
-short_at other = Truncated
 
 -- what is known of the bits behind, at a packet's first bit
 abbrev pub packet_mark : Place → Mark
@@ -109,37 +104,11 @@ abbrev pub PacketsTellOne : Type 0
 PacketsTellOne = (n : ℕ) (p : Place) (result : Result (List ℕ) (Option ℕ × Why))
     → TellsItem (λ x. x) None (list_of n (bits 8)) (packet_mark p) (packet_of p) result ↔ (item_in None (list_of n (bits 8)) (packet_mark p) (packet_of p) ≡ result)
 
--- a reason of an item's reader, told of the packet, where the reader met this page's fault, if any
-abbrev pub why_in : Option (ℕ × Why) → Why → Option ℕ × Why
-why_in fault Truncated = (None, PacketLength)
-why_in None Read = (None, Read)
-why_in (Some f) Read = (Some f.0, f.1)
-why_in fault why = (None, why)
-
 -- The page of an error, once `count` pages were read: one of the device has the page after them, and one of memory has none.
 abbrev pub HasItsPage : ℕ → Option ℕ × Why → Type 0
 HasItsPage count told = (told.1 ≡ Read → told.0 ≡ Some count) × (told.1 ≡ Memory → told.0 ≡ None)
 
 -- ---- what the calls do that judge a packet's end
-
--- A reader of packets went behind the packet that it had begun, to where the next one begins. Or the packet does not end there, and this is why.
-abbrev pub EndsPacket : {X : Type 0} → Place → Place → Result X (Option ℕ × Why) → Type 0
-EndsPacket old new (Ok x) = record {
-  known : old.known ≡ true → new.known ≡ true;
-  errors : new.errors ≡ old.errors;
-  raised : new.raised ≡ old.raised;
-  names : new.names ≡ old.names;
-  stands : (new.rest ≡ 0) × (new.more ≡ false);
-  room : new.most + length new.body ≤ old.most + length old.body;
-  ended : old.known ≡ true → end_of (behind_of old) ≡ whole;
-  behind : old.known ≡ true → behind_of new ≡ behind_of old;
-}
-EndsPacket old new (Err why) = record {
-  errors : old.errors ≤ new.errors;
-  met : Met why.1 old.raised new.raised;
-  names : new.names ≡ old.names;
-  fault : old.known ≡ true → new.errors ≡ old.errors → (end_of (behind_of old) ≢ whole) × (why ≡ cut_off (end_of (behind_of old)));
-}
 
 -- A reader of bits stands at the first bit of the packet that was begun, by pages that are lent under this name. What stays of them, whatever it meets: the name,
 -- how many errors of the device they had met, and the references that they go through.

@@ -6,3 +6,4 @@ pub mod Items
 pub mod Given
 pub mod Written
 pub mod Placed
+pub mod inner

@@ -137,10 +137,6 @@ rest_of p = rest_in p.rest p.more (ahead p)
 unfoldable pub behind_of : Place → Behind
 behind_of p = behind_in p.rest p.more (ahead p)
 
--- a page's fault, and nothing before it
-abbrev pub only_fault : ℕ × Why → Ahead
-only_fault f = record { lacing = []; bytes = []; fault = Some f; stop = Some f }
-
 -- where a page's fault breaks the packet off
 abbrev pub broken_off : ℕ × Why → Behind
 broken_off f = record { fails = Some f; cut = true; pieces = []; bytes = []; fault = Some f; stop = Some f; fenced = [] }
@@ -150,88 +146,6 @@ broken_off f = record { fails = Some f; cut = true; pieces = []; bytes = []; fau
 -- A call that refused for this reason: by Read it met an error of the device, whose count rose, if it could; and no reader answers Sink.
 abbrev pub Met : Why → ℕ → ℕ → Type 0
 Met why old new = (why ≡ Read → Rises old new) × (why ≡ Sink → ⊥)
-
--- the next segment of the page
-abbrev pub next_segment : Place → List ℕ → Place
-next_segment p [] = p
-next_segment p (v ∷ vs) = record p { rest = v; more = nat_eq v 255; lacing = vs }
-
--- the next page, or its fault: what good pages give stays
-abbrev pub Turns : {X : Type 0} → Place → Place → Result X Why → Type 0
-Turns old new (Ok x) = record {
-  known : old.known ≡ true → new.known ≡ true;
-  errors : new.errors ≡ old.errors;
-  raised : new.raised ≡ old.raised;
-  names : new.names ≡ old.names;
-  rest : new.rest ≡ 0;
-  more : new.more ≡ old.more;
-  room : new.most + length new.body ≤ old.most;
-  spends : 256 * new.most + length new.lacing < 256 * old.most;
-  ahead : old.known ≡ true → ahead new ≡ ahead old;
-}
-Turns old new (Err why) = record {
-  errors : old.errors ≤ new.errors;
-  met : Met why old.raised new.raised;
-  names : new.names ≡ old.names;
-  count : new.count ≡ old.count;
-  last : new.last ≡ false;
-  ahead : old.known ≡ true → new.errors ≡ old.errors → ahead old ≡ only_fault (old.count, why);
-}
-
--- A step towards the packet's next bytes: the same bytes are still to come, and the same behind them. There is none
--- to make at the packet's end; and what is refused is the fault behind the packet's last good byte.
-abbrev pub Steps : Place → Place → Result Bool Why → Type 0
-Steps old new (Ok true) = record {
-  known : old.known ≡ true → new.known ≡ true;
-  errors : new.errors ≡ old.errors;
-  raised : new.raised ≡ old.raised;
-  names : new.names ≡ old.names;
-  bytes : old.known ≡ true → rest_of new ≡ rest_of old;
-  behind : old.known ≡ true → behind_of new ≡ behind_of old;
-  room : new.most + length new.body ≤ old.most + length old.body;
-  spends : 256 * new.most + length new.lacing < 256 * old.most + length old.lacing;
-}
-Steps old new (Ok false) = record { same : new ≡ old; bytes : rest_of old ≡ []; fault : (behind_of old).fails ≡ None; none : old.more ≡ true → (ahead old).lacing ≡ [] }
-Steps old new (Err why) = record {
-  errors : old.errors ≤ new.errors;
-  met : Met why old.raised new.raised;
-  names : new.names ≡ old.names;
-  count : new.count ≡ old.count;
-  bytes : old.known ≡ true → new.errors ≡ old.errors → rest_of old ≡ [];
-  behind : old.known ≡ true → new.errors ≡ old.errors → behind_of old ≡ broken_off (old.count, why);
-}
-
--- the next byte of the packet is found, or the packet's end, or the fault behind its last good byte
-abbrev pub Finds : Place → Place → Result Bool Why → Type 0
-Finds old new (Ok found) = record {
-  known : old.known ≡ true → new.known ≡ true;
-  errors : new.errors ≡ old.errors;
-  raised : new.raised ≡ old.raised;
-  names : new.names ≡ old.names;
-  room : new.most + length new.body ≤ old.most + length old.body;
-  bytes : old.known ≡ true → rest_of new ≡ rest_of old;
-  behind : old.known ≡ true → behind_of new ≡ behind_of old;
-  byte : found ≡ true → 0 < new.rest;
-  over : found ≡ false → old.known ≡ true → (rest_of old ≡ []) × ((behind_of old).fails ≡ None);
-  stands : found ≡ false → (new.rest ≡ 0) × (new.more ≡ true → (ahead new).lacing ≡ []);
-}
-Finds old new (Err why) = record {
-  errors : old.errors ≤ new.errors;
-  met : Met why old.raised new.raised;
-  names : new.names ≡ old.names;
-  bytes : old.known ≡ true → new.errors ≡ old.errors → rest_of old ≡ [];
-  behind : old.known ≡ true → new.errors ≡ old.errors → behind_of old ≡ broken_off (new.count, why);
-}
-
--- so many bytes of the packet are copied to the room's front
-pub record Copies (old new : Place) (out : List ℕ) (n : ℕ) : Type 0 where
-  pub known : new.known ≡ old.known
-  pub errors : new.errors ≡ old.errors
-  pub raised : new.raised ≡ old.raised
-  pub names : new.names ≡ old.names
-  pub room : new.most + length new.body + n ≤ old.most + length old.body
-  pub bytes : rest_of old ≡ take n out ++ rest_of new
-  pub behind : behind_of new ≡ behind_of old
 
 -- The next packet is begun, of which good pages have a lacing value. Or they have none: where no fault stands there, all packets were read;
 -- or this is the fault, of the next page or behind the page marked last.
@@ -260,11 +174,6 @@ Begins old new (Err f) = record {
   fault : old.known ≡ true → new.errors ≡ old.errors → ((ahead old).lacing ≡ []) × ((ahead old).stop ≡ Some f);
   breaks : old.known ≡ true → new.errors ≡ old.errors → (ahead old).fault ≡ cond new.last None (Some f);
 }
-
--- behind the last page: no packet, or the fault there
-abbrev pub ended : ℕ → Option Why → Result Bool (ℕ × Why)
-ended n None = Ok false
-ended n (Some why) = Err (n, why)
 
 -- ---- one packet as a source
 

@@ -6,7 +6,8 @@ ghost use Rattle.flac_bits.specs.Layout.{bits as number};
 ghost use Rattle.flac_bits.specs.Lists.{list_of};
 ghost use Rattle.flac_bits.specs.Reading.{Counts, Reads};
 ghost use Rattle.flac_bits.specs.State.{short_of};
-ghost use Rattle.flac_pages.specs.Items.{end_of, behind_item, why_in, packet_of, packet_mark, TellsItem, Meets, GivesBack, IsAtPacket, JudgesPacket, GoesBehind, HasBehind, CountsSo, HasItsPage};
+ghost use Rattle.flac_pages.specs.Items.{end_of, behind_item, packet_of, packet_mark, TellsItem, Meets, GivesBack, IsAtPacket, JudgesPacket, GoesBehind, HasBehind, CountsSo, HasItsPage};
+ghost use Rattle.flac_pages.specs.inner.Items.{why_in};
 
 use crate::packet_bytes::PacketBytes;
 use crate::pages::Pages;

@@ -5,8 +5,10 @@ ghost use Rattle.flac_bits.specs.State.{short_of};
 ghost use Rattle.flac_bits.specs.Bits.{bits_of};
 ghost use Rattle.flac_pages.specs.Pages.{unless_over, end_fault};
 ghost use Rattle.flac_pages.specs.Page.{went_on, goes_on_behind};
-ghost use Rattle.flac_pages.specs.Items.{EndsPacket, HasItsPage};
-ghost use Rattle.flac_pages.specs.Packets.{next_segment, at_front, Met, Turns, Steps, Finds, Copies, Begins, ended};
+ghost use Rattle.flac_pages.specs.Items.{HasItsPage};
+ghost use Rattle.flac_pages.specs.inner.Items.{EndsPacket};
+ghost use Rattle.flac_pages.specs.Packets.{at_front, Met, Begins};
+ghost use Rattle.flac_pages.specs.inner.Packets.{next_segment, Turns, Steps, Finds, Copies, ended};
 
 use crate::page::Before;
 use crate::room::{PageRoom, next_page};

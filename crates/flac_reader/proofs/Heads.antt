@@ -14,7 +14,7 @@ use Rattle.flac_native.specs.declared.fault.Fault.{Fault}
 use Rattle.flac_native.specs.declared.container.Container as container
 use Rattle.flac_reader.specs.Kept.{keeps}
 use Rattle.flac_reader.specs.Coming.{Comes, IsCalm, HadRoom, Counted, HeadIs, HeadOf, stream_items}
-use Rattle.flac_reader.specs.Taking.{Took}
+use Rattle.flac_reader.specs.inner.Taking.{Took}
 use Rattle.flac_reader.specs.Starting.{and_block, and_blocks, frames_start}
 use Rattle.flac_reader.specs.declared.keep.Keep.{Keep}
 

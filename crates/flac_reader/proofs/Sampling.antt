@@ -14,7 +14,7 @@ use Rattle.flac_reader.specs.Coming.{FramesCome, IsFirst, IsCalm, Counted, only_
 use Rattle.flac_reader.specs.Giving.{Gives}
 use Rattle.flac_reader.specs.Places.{all_samples, left_at, is_over}
 use Rattle.flac_reader.specs.Sampling.{SamplesLeft, ComeBehind, SamplesCome, IsFirstSample, calls_left, GivesSample}
-use Rattle.flac_reader.specs.Stepping.{TakesSample, EntersFrame}
+use Rattle.flac_reader.specs.inner.Stepping.{TakesSample, EntersFrame}
 use Rattle.flac_reader.specs.declared.reader.Reader.{Reader}
 use Rattle.flac_reader.specs.declared.samples.Samples.{Samples}
 use Rattle.flac_reader.specs.declared.spot.Spot.{Spot}

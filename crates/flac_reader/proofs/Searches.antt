@@ -24,7 +24,8 @@ use Rattle.flac_native.specs.declared.fault.Fault.{Fault}
 use Rattle.flac_native.specs.declared.container.Container as container
 use Rattle.flac_reader.specs.Coming.{Comes, IsFirst, IsCalm, HadRoom, Counted, only_frame}
 use Rattle.flac_reader.specs.Opening.{IsReadAs}
-use Rattle.flac_reader.specs.Seeking.{holds, FirstIfHeld, PassedBy, HoldsFirst, Finds, Passes, Sought, SeeksTo, RefusesSeek}
+use Rattle.flac_reader.specs.Seeking.{holds, PassedBy, HoldsFirst, Finds, Sought, SeeksTo, RefusesSeek}
+use Rattle.flac_reader.specs.inner.Seeking.{FirstIfHeld, Passes}
 use Rattle.flac_reader.specs.declared.reader.Reader.{Reader}
 use Rattle.flac_reader.proofs.Heads.{room, same_room}
 use Rattle.flac_reader.proofs.Openings.{begun_comes}

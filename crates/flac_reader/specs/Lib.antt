@@ -1,14 +1,13 @@
 pub mod Kept
 pub mod Starting
 pub mod Coming
-pub mod Taking
 pub mod Giving
 pub mod Opening
 pub mod Either
 pub mod Places
 pub mod Sampling
-pub mod Stepping
 pub mod Refusing
 pub mod Seeking
 pub mod Moved
 pub mod Encoded
+pub mod inner

@@ -22,7 +22,7 @@ use Rattle.flac_native.specs.declared.fault.Fault.{Fault}
 use Rattle.flac_native.specs.declared.container.Container as container
 use Rattle.flac_reader.specs.Kept.{first_info}
 use Rattle.flac_reader.specs.Starting.{frames_start}
-use Rattle.flac_reader.specs.Coming.{Comes, FramesCome}
+use Rattle.flac_reader.specs.Coming.{FramesCome}
 use Rattle.flac_reader.specs.Opening.{IsReadAs}
 use Rattle.flac_reader.specs.declared.reader.Reader.{Reader}
 
@@ -56,11 +56,6 @@ number_of info None = 0
 number_of info (Some (metadata b)) = 0
 number_of info (Some (frame f)) = first_of info f
 
--- the number of its first sample, if it holds the sample
-abbrev pub FirstIfHeld : Info → ℕ → Frame → Option ℕ → Type 0
-FirstIfHeld info sample f None = holds info sample f ≡ false
-FirstIfHeld info sample f (Some n) = (holds info sample f ≡ true) × (n ≡ first_of info f)
-
 -- none of these frames holds it
 abbrev pub PassedBy : Info → ℕ → List Frame → Type 0
 PassedBy info sample frames = list_any (holds info sample) frames ≡ false
@@ -78,17 +73,6 @@ pub record Finds {C : Type 0} (g : container.Ghosts C) (info : Info) (sample : �
   pub by : PassedBy info sample passed
   pub holds : HoldsFirst info sample left
   pub come : FramesCome g ahead s left end
-
--- a search ended so; or the stream was refused behind frames that do not hold the sample
-abbrev pub Searches : {C X : Type 0} → container.Ghosts C → Info → ℕ → List Frame → Option (Place × Why) → Bool → Result X Fault → Stage C → Type 0
-Searches g info sample frames end ahead (Ok x) s = Finds g info sample frames end ahead s
-Searches g info sample frames end ahead (Err f) s = PassedBy info sample frames × (end ≡ Some (told f))
-
--- one frame was passed by; or the first that is to come holds the sample, or there is none, and it comes next
-abbrev pub Passes : {C : Type 0} → container.Ghosts C → Info → ℕ → List Frame → Option (Place × Why) → Result (Option ℕ) Fault → Stage C → Type 0
-Passes g info sample frames end (Ok None) s = (f : Frame) × (rest : List Frame) × (frames ≡ f ∷ rest) × (holds info sample f ≡ false) × Comes g s (map frame rest) end
-Passes g info sample frames end (Ok (Some n)) s = HoldsFirst info sample frames × FramesCome g true s frames end
-Passes g info sample frames end (Err f) s = (frames ≡ []) × (end ≡ Some (told f))
 
 -- A reader that was made over this input finds the frame.
 abbrev pub Sought : {C : Type 0} {g : container.Ghosts C} → Info → ℕ → Reading Piece Place → Reader C g → Type 0

@@ -7,7 +7,7 @@ ghost use Rattle.flac_native.specs.Giving.{stage_of, held};
 ghost use Rattle.flac_reader.specs.Kept.{first_info};
 ghost use Rattle.flac_reader.specs.Coming.{Comes, IsCalm, HadRoom, Counted, HeadIs, HeadOf, GivesFrame, stream_items};
 ghost use Rattle.flac_reader.specs.Refusing.{RefusedHead};
-ghost use Rattle.flac_reader.specs.Taking.{Took};
+ghost use Rattle.flac_reader.specs.inner.Taking.{Took};
 ghost use Rattle.flac_reader.specs.Starting.{and_blocks};
 
 use crate::keep::{Keep, keep_block};

@@ -31,7 +31,7 @@ pub struct Samples<C: Container> {
 
 impl<C: Container> Samples<C> {
     ghost use Rattle.flac_reader.specs.Giving.{Gives};
-    ghost use Rattle.flac_reader.specs.Stepping.{TakesSample, EntersFrame};
+    ghost use Rattle.flac_reader.specs.inner.Stepping.{TakesSample, EntersFrame};
 
     /// The samples of the frames that the reader has not lent yet.
     pub(crate) fn over(reader: Reader<C>) -> Samples<C>

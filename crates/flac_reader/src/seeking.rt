@@ -6,7 +6,8 @@ ghost use Rattle.flac_frame.specs.Lent.{frame_of};
 ghost use Rattle.flac_native.specs.Item.{frame as framed};
 ghost use Rattle.flac_native.specs.Giving.{stage_of, held};
 ghost use Rattle.flac_reader.specs.Coming.{Comes, IsCalm, HadRoom, Counted};
-ghost use Rattle.flac_reader.specs.Seeking.{offset_before, first_of, FirstIfHeld, number_of, Passes, Searches};
+ghost use Rattle.flac_reader.specs.Seeking.{offset_before, first_of, number_of};
+ghost use Rattle.flac_reader.specs.inner.Seeking.{FirstIfHeld, Passes, Searches};
 
 use flac_meta::SeekPoint;
 use flac_native::{Container, Decoder, Fault, FrameView, Item, Place, StreamInfo, Why};

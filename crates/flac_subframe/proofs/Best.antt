@@ -3,13 +3,14 @@ use Rattle.std.proofs.Common.{◌≡◌, ◌∙◌, refl, inl, inr, sym, ap, ℕ
 use Rattle.std.proofs.lemmas.List.{get_or-map, map_more}
 use Rattle.std.proofs.lemmas.List.FromFn.{map-range_with_len_more}
 use Rattle.flac_subframe.specs.Cost.{Codings, MayWrite}
-use Rattle.flac_subframe.specs.Cost.{residual_cost}
+use Rattle.flac_subframe.specs.inner.Cost.{residual_cost}
 use Rattle.flac_subframe.specs.declared.choice.Kind.{Kind}
 use Rattle.flac_subframe.specs.declared.choice.Kind.TheVariants.{Constant, Verbatim, Fixed, Linear}
 use Rattle.flac_subframe.specs.declared.linear.LinearPredictor.{LinearPredictor}
 use Rattle.flac_subframe.specs.Handed.{predictor_of, handed_at}
 use Rattle.flac_subframe.specs.Bodies.{fields_cost, Chooses, fixed, coefficients_of, shift_of, order_of, differences, Among, Body, constant, verbatim, predicted, StandsFor}
-use Rattle.flac_subframe.specs.Chosen.{Way, IsBest, IsHanded, IsHeld, IsLeastOf, HasNone, body_of, body_held, body_under, held_as, codings_by, fixed_below}
+use Rattle.flac_subframe.specs.Chosen.{IsHanded, IsHeld, body_of, body_held, body_under, fixed_below}
+use Rattle.flac_subframe.specs.inner.Chosen.{Way, IsBest, IsLeastOf, HasNone, held_as, codings_by}
 use Rattle.flac_subframe.proofs.Bodies.{among_more, among_split, least_kept, least_taken, body_stands, body_costs, body_least, none_stands, residual_is, length-predicted, method_bits}
 
 module _ (hs : List LinearPredictor) (most d : ℕ) (s : List ℤ) (ps : List Chooses) (p : Chooses) (best : Way) (so : IsBest hs most d s ps best) where

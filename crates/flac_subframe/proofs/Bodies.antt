@@ -10,11 +10,12 @@ use Rattle.flac_subframe.specs.Prediction.{Restored}
 use Rattle.flac_subframe.specs.Least.{IsLeast}
 use Rattle.flac_bits.specs.Signed.{signed}
 use Rattle.flac_subframe.specs.Cost.{MayWrite, Codings}
-use Rattle.flac_subframe.specs.Cost.{residual_cost}
+use Rattle.flac_subframe.specs.inner.Cost.{residual_cost}
 use Rattle.flac_subframe.proofs.Lengths.{length-residual, length-signed, length-samples, length-predictor, length-two, length-three}
 use Rattle.flac_subframe.specs.Spelling.{content_spelling, residual_spelling, predictor_spelling}
 use Rattle.flac_subframe.specs.Bodies.{fields_cost, residual_of, Chooses, fixed, linear, coefficients_of, shift_of, order_of, Body, constant, verbatim, predicted, spelled, Among, Predicts, StandsFor, difference, differences}
-use Rattle.flac_subframe.specs.Chosen.{IsLeastOf, HasNone, body_under}
+use Rattle.flac_subframe.specs.Chosen.{body_under}
+use Rattle.flac_subframe.specs.inner.Chosen.{IsLeastOf, HasNone}
 use Rattle.flac_subframe.proofs.Differences.{first_all}
 
 -- ---- what bodies cost

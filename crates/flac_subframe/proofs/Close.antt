@@ -5,7 +5,7 @@ use Rattle.std.proofs.lemmas.List.Sums.{sum_by-cons}
 use Rattle.std.proofs.lemmas.Nat.{shr-shr, mul-le}
 use Rattle.std.proofs.lemmas.Bool.{cases_lt}
 use Rattle.std.proofs.Math.Nat.{mul_comm}
-use Rattle.flac_subframe.specs.Cost.{folded_cost, value_cost}
+use Rattle.flac_subframe.specs.inner.Cost.{folded_cost, value_cost}
 use Rattle.flac_subframe.specs.Spelling.{folded}
 use Rattle.flac_subframe.proofs.Folds.{cost_split, costs_folded}
 

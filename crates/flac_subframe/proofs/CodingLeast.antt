@@ -5,7 +5,7 @@ use Rattle.flac_subframe.specs.declared.coding.Coding.TheVariants.{Rice, Escape}
 use Rattle.flac_subframe.specs.Least.{IsLeast}
 use Rattle.flac_subframe.specs.Cost.{MayCode}
 use Rattle.flac_subframe.specs.Spelling.{FitsWidth}
-use Rattle.flac_subframe.specs.Cost.{coding_cost}
+use Rattle.flac_subframe.specs.inner.Cost.{coding_cost}
 use Rattle.std.proofs.lemmas.Nat.{mul-le}
 
 module _ (w : ℕ) (rs : List ℤ) (best : Coding) (n : ℕ) (member : MayCode w rs best)

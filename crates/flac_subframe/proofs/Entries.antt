@@ -5,8 +5,8 @@ use Rattle.std.proofs.lemmas.List.Sums.{sum_by-le}
 use Rattle.std.proofs.lemmas.List.Elements.{All-weaker}
 use Rattle.flac_subframe.specs.declared.coding.Coding.TheVariants.{Rice}
 use Rattle.flac_subframe.specs.Cost.{MayCode}
-use Rattle.flac_subframe.specs.Cost.{value_cost, coding_cost}
-use Rattle.flac_subframe.specs.Halves.{LeastBelow}
+use Rattle.flac_subframe.specs.inner.Cost.{value_cost, coding_cost}
+use Rattle.flac_subframe.specs.inner.Halves.{LeastBelow}
 use Rattle.flac_subframe.proofs.Splits.{value_small}
 use Rattle.flac_bits.specs.Rice.{IsResidual}
 

@@ -10,7 +10,7 @@ use Rattle.flac_bits.specs.Bits.{unsigned}
 use Rattle.flac_bits.specs.State.{Mark, past}
 use Rattle.flac_bits.specs.Layout.{Layout}
 use Rattle.flac_bits.specs.Lists.{list_of}
-use Rattle.flac_bits.specs.Forms.{Ties}
+use Rattle.flac_bits.specs.inner.Forms.{Ties}
 use Rattle.flac_bits.specs.Signed.{signed, signed_field, to_signed, modulo}
 use Rattle.flac_bits.proofs.Ties.{ForSome, tie, each_tied, some_tied}
 use Rattle.flac_subframe.specs.Spelling.{FitsWidth}

@@ -3,7 +3,8 @@ use Rattle.std.proofs.Common.{◌≡◌, inl, inr, ℕ, ◌≤◌, ◌<◌, arit
 use Rattle.std.proofs.lemmas.Bool.{cases_lt}
 use Rattle.flac_subframe.specs.declared.halving.Found.{Found}
 use Rattle.flac_subframe.specs.Least.{IsLeast}
-use Rattle.flac_subframe.specs.Cost.{Codings, MayWrite, residual_cost, codings_in}
+use Rattle.flac_subframe.specs.Cost.{Codings, MayWrite, codings_in}
+use Rattle.flac_subframe.specs.inner.Cost.{residual_cost}
 
 module _ (order low high : ℕ) (rs : List ℤ) where
   pub up_to : (f : Codings) → MayWrite high order rs f → f.halvings ≤ low → MayWrite low order rs f

@@ -8,8 +8,8 @@ use Rattle.std.proofs.lemmas.List.FromFn.{map-range_with_len_more}
 use Rattle.std.proofs.lemmas.List.Sums.{sum_by-cons}
 use Rattle.std.proofs.Math.Nat.{suc-mul}
 use Rattle.flac_bits.specs.Rice.{IsResidual}
-use Rattle.flac_subframe.specs.Cost.{folded_cost, value_cost}
-use Rattle.flac_subframe.specs.Halves.{segment, IsWidth}
+use Rattle.flac_subframe.specs.inner.Cost.{folded_cost, value_cost}
+use Rattle.flac_subframe.specs.inner.Halves.{segment, IsWidth}
 use Rattle.flac_subframe.specs.Spelling.{folded, FitsWidth}
 use Rattle.flac_subframe.proofs.Digits.{below_from_fits, fits_from_below}
 

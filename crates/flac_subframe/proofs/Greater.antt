@@ -4,7 +4,7 @@ use Rattle.std.proofs.Math.Nat.{pow-le-pow_right}
 use Rattle.std.proofs.lemmas.Bool.{cases_lt}
 use Rattle.std.proofs.lemmas.List.{get_or-set_same, get_or-set_other, get_or_append_left, get_or-append-add, length-take-le}
 use Rattle.std.proofs.lemmas.List.Elements.{All-append}
-use Rattle.flac_subframe.specs.Halves.{part, Halves, IsWidth}
+use Rattle.flac_subframe.specs.inner.Halves.{part, Halves, IsWidth}
 use Rattle.flac_subframe.proofs.Splits.{part_splits, halves_at, power_more}
 use Rattle.flac_subframe.specs.Spelling.{FitsWidth}
 

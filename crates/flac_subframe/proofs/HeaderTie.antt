@@ -5,7 +5,7 @@ use Rattle.std.proofs.lemmas.List.{append-nil}
 use Rattle.flac_bits.specs.Bits.{unsigned}
 use Rattle.flac_bits.specs.State.{Mark, past}
 use Rattle.flac_bits.specs.Layout.{done, unary, bind}
-use Rattle.flac_bits.specs.Forms.{Ties}
+use Rattle.flac_bits.specs.inner.Forms.{Ties}
 use Rattle.flac_bits.specs.Meaning.{Spells, unary_bits, zeros_bits, IsWithin}
 use Rattle.flac_subframe.specs.Laws.{SubframesAreSpelled, SubframesAreReadAgain}
 use Rattle.flac_bits.proofs.Meaning.{again}

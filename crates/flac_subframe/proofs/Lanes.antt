@@ -18,7 +18,7 @@ use Rattle.flac_subframe.specs.Bodies.{difference, differences}
 use Rattle.flac_subframe.specs.Spelling.{folded}
 use Rattle.flac_subframe.specs.Numbers.{sample_at}
 use Rattle.flac_subframe.specs.Prediction.{weighted}
-use Rattle.flac_subframe.specs.Products.{HasSums, StayBelow}
+use Rattle.flac_subframe.specs.inner.Products.{HasSums, StayBelow}
 use Rattle.std.proofs.Math.ListN.{get_or-eq_default}
 use Rattle.flac_bits.specs.Signed.{FitsBits}
 use Rattle.flac_subframe.proofs.Bounds.{abs_product, abs_from_bits_15}

@@ -12,7 +12,8 @@ use Rattle.flac_subframe.specs.declared.coding.Coding.{Coding}
 use Rattle.flac_subframe.specs.declared.coding.Coding.TheVariants.{Rice, Escape}
 use Rattle.flac_subframe.specs.Spelling.{folded, value_spelling, coding_spelling, partition_spelling, residual_spelling, predictor_spelling}
 use Rattle.flac_subframe.specs.Subframe.{Predictor}
-use Rattle.flac_subframe.specs.Cost.{value_cost, coding_cost, partitions_cost, residual_cost, Codings}
+use Rattle.flac_subframe.specs.Cost.{Codings}
+use Rattle.flac_subframe.specs.inner.Cost.{value_cost, coding_cost, partitions_cost, residual_cost}
 use Rattle.flac_subframe.specs.Bodies.{cut, residual_of}
 
 pub length-unsigned : (n v : ℕ) → length (unsigned n v) ≡ n

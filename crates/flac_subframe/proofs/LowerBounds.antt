@@ -9,8 +9,9 @@ use Rattle.std.proofs.lemmas.Bool.{cases_lt}
 use Rattle.std.proofs.Math.Nat.{div-mul-le_self, lt-div-mul-add, le_of_mul-le-mul_right}
 use Rattle.flac_subframe.specs.declared.coding.Coding.{Coding}
 use Rattle.flac_subframe.specs.declared.coding.Coding.TheVariants.{Rice, Escape}
-use Rattle.flac_subframe.specs.Cost.{Codings, MayCode, MayCodeEach, MayWrite, value_cost, coding_cost, partitions_cost, residual_cost}
-use Rattle.flac_subframe.specs.Halves.{Halves}
+use Rattle.flac_subframe.specs.Cost.{Codings, MayCode, MayCodeEach, MayWrite}
+use Rattle.flac_subframe.specs.inner.Cost.{value_cost, coding_cost, partitions_cost, residual_cost}
+use Rattle.flac_subframe.specs.inner.Halves.{Halves}
 use Rattle.flac_subframe.specs.Spelling.{folded, FitsWidth}
 use Rattle.flac_subframe.proofs.Splits.{coarser, power_more, twice}
 

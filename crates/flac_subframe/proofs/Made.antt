@@ -7,9 +7,11 @@ use Rattle.flac_subframe.specs.declared.linear.LinearPredictor.{LinearPredictor}
 use Rattle.flac_subframe.specs.Bodies.{Chooses, fixed, linear, order_of, Among, Body, constant, verbatim, predicted, StandsFor, content_of}
 use Rattle.flac_subframe.specs.Cost.{Codings, MayWrite}
 use Rattle.flac_subframe.specs.declared.chosen.Choice.{Choice}
-use Rattle.flac_subframe.specs.Chosen.{body_under, body_held, body_of, IsHeld, held_as, codings_by, offered}
+use Rattle.flac_subframe.specs.Chosen.{body_under, body_held, body_of, IsHeld, offered}
+use Rattle.flac_subframe.specs.inner.Chosen.{held_as, codings_by}
 use Rattle.flac_subframe.specs.Handed.{predictor_of, handed_at, AreWithin}
-use Rattle.flac_subframe.specs.Family.{OrderIsFew, kind_number, IsMadeWith, IsMadeAs, form_with, form_as}
+use Rattle.flac_subframe.specs.Family.{IsMadeWith, IsMadeAs, form_with, form_as}
+use Rattle.flac_subframe.specs.inner.Family.{OrderIsFew, kind_number}
 use Rattle.flac_subframe.specs.Wasted.{shortened}
 use Rattle.flac_subframe.specs.Spelling.{type_of}
 use Rattle.flac_subframe.specs.Prediction.{fixed_coefficients}

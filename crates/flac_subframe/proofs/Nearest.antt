@@ -7,7 +7,7 @@ use Rattle.std.proofs.lemmas.List.{get_or-set_same, get_or-set_other, get_or_def
 use Rattle.flac_bits.specs.Signed.{FitsBits}
 use Rattle.flac_subframe.specs.Numbers.{sample_at}
 use Rattle.flac_subframe.specs.Prediction.{prediction, weighted, fixed_coefficients}
-use Rattle.flac_subframe.specs.Sums.{second_of, third_of, fourth_of}
+use Rattle.flac_subframe.specs.inner.Sums.{second_of, third_of, fourth_of}
 use Rattle.flac_subframe.proofs.Bounds.{fits_more}
 use Rattle.flac_subframe.proofs.Predicted.{fixed_length}
 

@@ -4,11 +4,11 @@ use Rattle.std.proofs.lemmas.Bool.{cases_lt}
 use Rattle.flac_subframe.specs.declared.coding.Coding.{Coding}
 use Rattle.flac_subframe.specs.Least.{IsLeast}
 use Rattle.flac_subframe.specs.Cost.{MayWrite, MayCodeEach}
-use Rattle.flac_subframe.specs.Cost.{HalvedTo, ByMethod}
-use Rattle.flac_subframe.specs.Cost.{partitions_cost, residual_cost, Partitioned}
+use Rattle.flac_subframe.specs.inner.Cost.{HalvedTo, ByMethod}
+use Rattle.flac_subframe.specs.inner.Cost.{partitions_cost, residual_cost, Partitioned}
 use Rattle.std.proofs.Math.Nat.{pow-le-pow_right}
-use Rattle.flac_subframe.specs.Halves.{Halves, LeastBelow}
-use Rattle.flac_subframe.specs.Least.{IsLeastCost}
+use Rattle.flac_subframe.specs.inner.Halves.{Halves, LeastBelow}
+use Rattle.flac_subframe.specs.inner.Least.{IsLeastCost}
 use Rattle.flac_subframe.specs.Cost.{Codings}
 
 module _ (w p most order : ℕ) (rs : List ℤ) (method : (w ≡ 4) ⊎ (w ≡ 5)) (within : p ≤ most) (halves : Halves order rs p) where

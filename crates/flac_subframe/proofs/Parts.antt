@@ -6,7 +6,7 @@ use Rattle.std.proofs.lemmas.List.Elements.{All-append}
 use Rattle.std.proofs.lemmas.Slice.{take-put_mid}
 use Rattle.flac_bits.specs.State.{Cursor, State}
 use Rattle.flac_bits.specs.Layout.{Layout, run, and_then, bind, done, Reason}
-use Rattle.flac_bits.specs.Reading.{Goes}
+use Rattle.flac_bits.specs.inner.Reading.{Goes}
 use Rattle.flac_bits.proofs.Loops.{goes_on}
 use Rattle.flac_bits.specs.Signed.{FitsBits}
 use Rattle.flac_subframe.specs.Residual.{Partition, partition, partitions, all_values}

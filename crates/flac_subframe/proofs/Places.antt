@@ -2,7 +2,7 @@
 use Rattle.std.proofs.Common.{ℕ, ◌^◌, ◌≤◌, arith}
 use Rattle.std.proofs.Math.Nat.{pow-le-pow_right}
 use Rattle.flac_subframe.specs.declared.tables.Tables.{Tables}
-use Rattle.flac_subframe.specs.Halves.{HasPlaces}
+use Rattle.flac_subframe.specs.inner.Halves.{HasPlaces}
 
 pub power_le : (p q : ℕ) → p ≤ q → 2 ^ p ≤ 2 ^ q
 power_le p q le = pow-le-pow_right {n = 2} (omega arith) {i = p} {j = q} le

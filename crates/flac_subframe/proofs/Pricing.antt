@@ -8,8 +8,8 @@ use Rattle.flac_subframe.specs.declared.coding.Coding.{Coding}
 use Rattle.flac_subframe.specs.Least.{IsLeast}
 use Rattle.flac_bits.specs.Rice.{IsResidual}
 use Rattle.flac_subframe.specs.Cost.{MayCode}
-use Rattle.flac_subframe.specs.Halves.{Halves}
-use Rattle.flac_subframe.specs.Cost.{coding_cost, partitions_cost, Partitioned}
+use Rattle.flac_subframe.specs.inner.Halves.{Halves}
+use Rattle.flac_subframe.specs.inner.Cost.{coding_cost, partitions_cost, Partitioned}
 
 -- a least coding for the first partition and least codings for the rest
 pub first_and_rest : (w long size m : ℕ) (rs : List ℤ) (c : Coding) (tail : List Coding) →

@@ -9,7 +9,8 @@ use Rattle.flac_bits.specs.Bits.{unsigned}
 use Rattle.flac_bits.specs.State.{Mark, past}
 use Rattle.flac_bits.specs.Layout.{done, bits, bind}
 use Rattle.flac_bits.specs.Lists.{list_of}
-use Rattle.flac_bits.specs.Forms.{joined, Ties}
+use Rattle.flac_bits.specs.Forms.{joined}
+use Rattle.flac_bits.specs.inner.Forms.{Ties}
 use Rattle.flac_bits.specs.Meaning.{unary_bits, zeros_bits, IsWithin}
 use Rattle.flac_bits.specs.Rice.{rice, rice_value, unfolded, within, IsResidual}
 use Rattle.flac_bits.specs.Signed.{signed, signed_field}

@@ -2,10 +2,11 @@
 use Rattle.std.proofs.Common.{◌≡◌, inl, inr, ℕ, ◌+◌, ◌*◌, ◌≤◌, ◌<◌, ◌^◌, arith, ℤ, List, [], ◌∷◌, ◌++◌, length, All}
 use Rattle.flac_subframe.specs.Least.{IsLeast}
 use Rattle.flac_subframe.specs.Cost.{MayWrite}
-use Rattle.flac_subframe.specs.Cost.{residual_cost}
+use Rattle.flac_subframe.specs.inner.Cost.{residual_cost}
 use Rattle.flac_subframe.specs.Bodies.{coefficients_of, shift_of, order_of, differences}
 use Rattle.flac_subframe.specs.declared.linear.LinearPredictor.{LinearPredictor}
-use Rattle.flac_subframe.specs.Chosen.{Way, IsBest, IsHeld, IsLeastOf, body_held, body_under}
+use Rattle.flac_subframe.specs.Chosen.{IsHeld, body_held, body_under}
+use Rattle.flac_subframe.specs.inner.Chosen.{Way, IsBest, IsLeastOf}
 use Rattle.flac_subframe.proofs.Best.{best_none, best_above, best_taken}
 use Rattle.flac_subframe.specs.Bodies.{Chooses, fields_cost}
 use Rattle.flac_bits.specs.Rice.{IsResidual}

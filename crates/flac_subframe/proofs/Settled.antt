@@ -3,9 +3,10 @@ use Rattle.std.proofs.Common.{◌≡◌, ◌∙◌, inl, inr, refl, ap, ℕ, suc
 use Rattle.std.proofs.lemmas.List.{drop-drop}
 use Rattle.flac_subframe.specs.declared.coding.Coding.{Coding}
 use Rattle.flac_subframe.specs.declared.coding.Coding.TheVariants.{Rice, Escape}
-use Rattle.flac_subframe.specs.Cost.{Codings, MayCode, MayCodeEach, MayWrite, ByMethod, coding_cost, partitions_cost, residual_cost}
-use Rattle.flac_subframe.specs.Least.{IsLeastCost}
-use Rattle.flac_subframe.specs.Halves.{part, start, LeastBelow}
+use Rattle.flac_subframe.specs.Cost.{Codings, MayCode, MayCodeEach, MayWrite}
+use Rattle.flac_subframe.specs.inner.Cost.{ByMethod, coding_cost, partitions_cost, residual_cost}
+use Rattle.flac_subframe.specs.inner.Least.{IsLeastCost}
+use Rattle.flac_subframe.specs.inner.Halves.{part, start, LeastBelow}
 use Rattle.flac_subframe.proofs.Splits.{start_next, start_rises}
 
 -- a coding of the first method that costs no more

@@ -10,8 +10,8 @@ use Rattle.std.proofs.Math.Pow.{mod-mod-pow}
 use Rattle.std.proofs.Math.Nat.{zero-mod, div-add-mod}
 use Rattle.std.proofs.lemmas.Bool.{cases_eq, cases_lt}
 use Rattle.std.proofs.lemmas.List.Sums.{sum_by-append, sum_by-le}
-use Rattle.flac_subframe.specs.Cost.{value_cost}
-use Rattle.flac_subframe.specs.Halves.{start, segment, part, Halves, entry, priced, LeastBelow}
+use Rattle.flac_subframe.specs.inner.Cost.{value_cost}
+use Rattle.flac_subframe.specs.inner.Halves.{start, segment, part, Halves, entry, priced, LeastBelow}
 use Rattle.std.proofs.Math.Nat.{pow-le-pow_right}
 use Rattle.flac_bits.specs.Rice.{IsResidual}
 

@@ -2,7 +2,7 @@
 use Rattle.std.proofs.Common.{◌≡◌, Result, Ok, Err, refl, ap}
 use Rattle.flac_bits.specs.State.{Cursor, State}
 use Rattle.flac_bits.specs.Layout.{and_then, Reason}
-use Rattle.flac_bits.specs.Reading.{Goes}
+use Rattle.flac_bits.specs.inner.Reading.{Goes}
 
 -- a loop that has read nothing yet
 pub starts : {Y : Type 0} (old : State) (rest whole : Result Y Reason) → rest ≡ whole → Goes old old rest whole

@@ -5,7 +5,8 @@ use Rattle.std.proofs.lemmas.List.{append-nil}
 use Rattle.flac_bits.specs.Bits.{unsigned}
 use Rattle.flac_bits.specs.State.{Mark}
 use Rattle.flac_bits.specs.Lists.{list_of}
-use Rattle.flac_bits.specs.Forms.{joined, Ties}
+use Rattle.flac_bits.specs.Forms.{joined}
+use Rattle.flac_bits.specs.inner.Forms.{Ties}
 use Rattle.flac_bits.specs.Signed.{signed, signed_field}
 use Rattle.flac_bits.proofs.Ties.{ForEach, ForSome, tie, each_tied, some_tied, choose_true, choose_false}
 use Rattle.flac_subframe.specs.declared.limits.Limits.{Limits}

@@ -5,8 +5,8 @@ use Rattle.std.proofs.lemmas.Bool.{cases_lt}
 use Rattle.std.proofs.lemmas.List.Sums.{sum_by-append}
 use Rattle.std.proofs.lemmas.Nat.{pow_pos}
 use Rattle.flac_bits.specs.Rice.{IsResidual}
-use Rattle.flac_subframe.specs.Cost.{value_cost}
-use Rattle.flac_subframe.specs.Halves.{part, Halves, entry, priced, LeastBelow}
+use Rattle.flac_subframe.specs.inner.Cost.{value_cost}
+use Rattle.flac_subframe.specs.inner.Halves.{part, Halves, entry, priced, LeastBelow}
 use Rattle.flac_subframe.proofs.Convex.{no_less_after, more_before, last_no_more, next_less}
 use Rattle.flac_subframe.proofs.Splits.{part_splits, coarser, part_small, power_more}
 

@@ -3,7 +3,8 @@ use Rattle.std.proofs.Common.{◌≡◌, sym, ℕ, ◌+◌, ◌-◌, ◌≤◌, 
 use Rattle.flac_bits.specs.Signed.{FitsBits}
 use Rattle.flac_subframe.specs.declared.limits.Limits.{Limits}
 use Rattle.flac_subframe.specs.declared.linear.LinearPredictor.{LinearPredictor}
-use Rattle.flac_subframe.specs.Chosen.{Way, IsBest, body_held, offered}
+use Rattle.flac_subframe.specs.Chosen.{body_held, offered}
+use Rattle.flac_subframe.specs.inner.Chosen.{Way, IsBest}
 use Rattle.flac_subframe.specs.Family.{Stands, IsMadeAs, form_as}
 use Rattle.flac_subframe.specs.Handed.{AreWithin}
 use Rattle.flac_subframe.specs.Least.{IsLeast}

@@ -1,12 +1,10 @@
--- What the codings of a residual cost, in bits, and which a residual may have.
-use Rattle.std.specs.Prelude.{ℕ, ℤ, ◌≡◌, ◌+◌, ◌-◌, ◌*◌, ◌/◌, ◌%◌, ◌^◌, ◌<◌, ◌≤◌, ◌⊎◌, cond, nat_lt, List, [], ◌∷◌, length, map, take, drop, All}
-use Rattle.std.specs.List.{sum_by}
+-- Which codings a residual may have.
+use Rattle.std.specs.Prelude.{ℕ, ℤ, ◌≡◌, ◌+◌, ◌-◌, ◌/◌, ◌%◌, ◌^◌, ◌<◌, ◌≤◌, ◌⊎◌, cond, nat_lt, List, [], ◌∷◌, length, map, take, drop, All}
 use Rattle.flac_subframe.specs.declared.coding.Coding.{Coding}
 use Rattle.flac_subframe.specs.declared.coding.Coding.TheVariants.{Rice, Escape}
 use Rattle.flac_subframe.specs.declared.halving.ResidualChoice.{ResidualChoice}
 use Rattle.flac_subframe.specs.declared.halving.Found.{Found}
-use Rattle.flac_subframe.specs.declared.view.CodedView.{CodedView}
-use Rattle.flac_subframe.specs.Spelling.{folded, FitsWidth}
+use Rattle.flac_subframe.specs.Spelling.{FitsWidth}
 
 -- the codings that a partition may have
 abbrev pub MayCode : ℕ → List ℤ → Coding → Type 0
@@ -33,38 +31,9 @@ pub record MayWrite (most order : ℕ) (rs : List ℤ) (f : Codings) : Type 0 wh
   pub each : length f.codings ≡ 2 ^ f.halvings
   pub codings : MayCodeEach f.parameter_bits ((length rs + order) / 2 ^ f.halvings - order) ((length rs + order) / 2 ^ f.halvings) rs f.codings
 
--- a folded number under a Rice parameter: its quotient in zeros, a one, and k bits
-abbrev pub folded_cost : ℕ → ℕ → ℕ
-folded_cost k n = n / 2 ^ k + 1 + k
-
-abbrev pub value_cost : ℕ → ℤ → ℕ
-value_cost k r = folded_cost k (folded r)
-
--- a partition beside its parameter
-abbrev pub coding_cost : Coding → List ℤ → ℕ
-coding_cost (Rice k) rs = sum_by (value_cost k) rs
-coding_cost (Escape n) rs = 5 + n * length rs
-
-unfoldable pub partitions_cost : ℕ → ℕ → ℕ → List ℤ → List Coding → ℕ
-partitions_cost w first size rs [] = 0
-partitions_cost w first size rs (c ∷ cs) = w + coding_cost c (take first rs) + partitions_cost w size size (drop first rs) cs
-
-abbrev pub residual_cost : ℕ → List ℤ → Codings → ℕ
-residual_cost order rs f =
-    6 + partitions_cost f.parameter_bits ((length rs + order) / 2 ^ f.halvings - order) ((length rs + order) / 2 ^ f.halvings) rs f.codings
-
--- one coding for each of n partitions
-abbrev pub Partitioned : ℕ → ℕ → ℕ → ℕ → List ℤ → List Coding → Type 0
-Partitioned w first size n rs cs = (length cs ≡ n) × MayCodeEach w first size rs cs
-
 -- the coding that a byte stands for: below 32 a Rice parameter, and from 32 on the width of an escape
 unfoldable pub coding_of : ℕ → Coding
 coding_of n = cond (nat_lt n 32) (Rice n) (Escape (n - 32))
-
--- the coding has a byte
-abbrev pub HasByte : Coding → Type 0
-HasByte (Rice k) = k < 32
-HasByte (Escape n) = n < 32
 
 abbrev pub codings_of : ResidualChoice → Codings
 codings_of c = record { parameter_bits = c.parameter_bits; halvings = c.halvings; codings = map coding_of c.codings.items }
@@ -72,14 +41,3 @@ codings_of c = record { parameter_bits = c.parameter_bits; halvings = c.halvings
 -- the same of bytes in an array, which may have more places
 abbrev pub codings_in : Found → List ℕ → Codings
 codings_in f bytes = record { parameter_bits = f.parameter_bits; halvings = f.halvings; codings = map coding_of (take (2 ^ f.halvings) bytes) }
-
--- the same of bytes that are lent
-abbrev pub codings_lent : CodedView → Codings
-codings_lent c = record { parameter_bits = c.parameter_bits; halvings = c.halvings; codings = map coding_of c.codings.now }
-
--- the forms of one method and partition order, and of one method
-abbrev pub HalvedTo : ℕ → ℕ → ℕ → ℕ → List ℤ → Codings → Type 0
-HalvedTo w p most order rs f = (f.parameter_bits ≡ w) × (f.halvings ≡ p) × MayWrite most order rs f
-
-abbrev pub ByMethod : ℕ → ℕ → ℕ → List ℤ → Codings → Type 0
-ByMethod w most order rs f = (f.parameter_bits ≡ w) × MayWrite most order rs f

@@ -1,14 +1,12 @@
 -- The forms of a subframe for some samples, and the form that a choice stands for.
-use Rattle.std.specs.Prelude.{ℕ, ℤ, ◌≡◌, ◌≤◌, ◌+◌, ◌^◌, List, [], length, map}
+use Rattle.std.specs.Prelude.{ℕ, ℤ, ◌≡◌, ◌≤◌, ◌^◌, List, [], length, map}
 use Rattle.flac_subframe.specs.declared.chosen.Choice.{Choice}
-use Rattle.flac_subframe.specs.Bodies.{Chooses, order_of, Body, content_of, StandsFor}
+use Rattle.flac_subframe.specs.Bodies.{Chooses, Body, content_of, StandsFor}
 use Rattle.flac_subframe.specs.declared.held.HeldKind.{HeldKind}
-use Rattle.flac_subframe.specs.declared.held.HeldKind.TheVariants.{AsConstant, AsVerbatim, AsFixed, AsLinear}
 use Rattle.flac_subframe.specs.declared.wide.WideChoice.{WideChoice}
 use Rattle.flac_subframe.specs.declared.linear.LinearPredictor.{LinearPredictor}
 use Rattle.flac_subframe.specs.Chosen.{body_of, body_held, IsHanded, IsHeld, offered}
 use Rattle.flac_subframe.specs.Cost.{Codings, codings_in}
-use Rattle.flac_subframe.specs.Handed.{handed_at}
 use Rattle.flac_subframe.specs.Subframe.{Form}
 use Rattle.flac_subframe.specs.Wasted.{IsWasted, times_power, shortened}
 
@@ -63,19 +61,3 @@ pub record IsMadeIn (ps : List LinearPredictor) (c : WideChoice) (s : List ℤ) 
   pub made : IsMadeAs ps c.wasted c.kind (codings_kept c) s
   pub few : c.found.halvings ≤ 15
   pub places : 2 ^ c.found.halvings ≤ length c.codings.items
-
--- ---- the header
-
--- the order of a fixed predictor
-abbrev pub OrderIsFew : HeldKind → Type 0
-OrderIsFew AsConstant = Unit {0}
-OrderIsFew AsVerbatim = Unit {0}
-OrderIsFew (AsFixed order) = order ≤ 4
-OrderIsFew (AsLinear index) = Unit {0}
-
--- the type of a subframe (RFC 9639, section 9.2.1)
-abbrev pub kind_number : List LinearPredictor → HeldKind → ℕ
-kind_number ps AsConstant = 0
-kind_number ps AsVerbatim = 1
-kind_number ps (AsFixed order) = 8 + order
-kind_number ps (AsLinear index) = 31 + order_of (handed_at ps index)

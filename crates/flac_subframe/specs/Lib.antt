@@ -2,16 +2,14 @@ pub mod Numbers
 pub mod Prediction
 pub mod Residual
 pub mod Subframe
-pub mod Sums
 pub mod Laws
 pub mod Spelling
 pub mod Least
 pub mod Cost
-pub mod Halves
 pub mod Bodies
 pub mod Handed
 pub mod Chosen
 pub mod Wasted
 pub mod Family
 pub mod Room
-pub mod Products
+pub mod inner

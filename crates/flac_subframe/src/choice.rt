@@ -7,8 +7,9 @@ ghost use Rattle.flac_subframe.specs.Spelling.{folded};
 ghost use Rattle.flac_subframe.specs.Least.{IsLeast};
 ghost use Rattle.flac_bits.specs.Rice.{IsResidual};
 ghost use Rattle.flac_subframe.specs.Bodies.{Chooses, fixed, differences, StandsFor, spelled};
-ghost use Rattle.flac_subframe.specs.Chosen.{IsBest, fixed_below, offered, way_held, way_priced};
-ghost use Rattle.flac_subframe.specs.Halves.{HasPlaces};
+ghost use Rattle.flac_subframe.specs.Chosen.{fixed_below, offered};
+ghost use Rattle.flac_subframe.specs.inner.Chosen.{IsBest, way_held, way_priced};
+ghost use Rattle.flac_subframe.specs.inner.Halves.{HasPlaces};
 ghost use Rattle.flac_subframe.specs.Handed.{predictor_of, handed_at};
 ghost use Rattle.flac_subframe.specs.declared.linear.LinearPredictor.{LinearPredictor};
 

@@ -3,8 +3,9 @@
 ghost use Rattle.std.specs.Prelude.{◌≡◌, ◌<◌, ◌≤◌, ◌^◌, length, All};
 ghost use Rattle.flac_bits.specs.Signed.{FitsBits};
 ghost use Rattle.flac_subframe.specs.Least.{IsLeast};
-ghost use Rattle.flac_subframe.specs.Chosen.{fixed_below, offered, held_as, codings_by, no_codings};
-ghost use Rattle.flac_subframe.specs.Cost.{codings_lent};
+ghost use Rattle.flac_subframe.specs.Chosen.{fixed_below, offered};
+ghost use Rattle.flac_subframe.specs.inner.Chosen.{held_as, codings_by, no_codings};
+ghost use Rattle.flac_subframe.specs.inner.Cost.{codings_lent};
 ghost use Rattle.flac_subframe.specs.Family.{Stands, IsMadeOf, IsMadeWith, form_of, form_with};
 ghost use Rattle.flac_subframe.specs.Handed.{AreWithin};
 ghost use Rattle.flac_subframe.specs.Spelling.{subframe_spelling, IsSubframe};

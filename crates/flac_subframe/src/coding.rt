@@ -11,7 +11,8 @@ pub enum Coding {
 
 impl Coding {
     ghost use Rattle.std.specs.Prelude.{◌≡◌};
-    ghost use Rattle.flac_subframe.specs.Cost.{coding_of, HasByte};
+    ghost use Rattle.flac_subframe.specs.Cost.{coding_of};
+    ghost use Rattle.flac_subframe.specs.inner.Cost.{HasByte};
 
     /// The byte that stands for it: the parameter, or 32 above the width of an escape.
     pub(crate) fn byte(self) -> u8

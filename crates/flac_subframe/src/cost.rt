@@ -2,7 +2,7 @@
 
 ghost use Rattle.std.specs.Prelude.{◌≡◌, ◌<◌, ◌≤◌, ◌^◌, ◌*◌, ◌/◌, ◌+◌, ◌↔◌, ℕ, length, All};
 ghost use Rattle.std.specs.List.{sum_by};
-ghost use Rattle.flac_subframe.specs.Cost.{folded_cost};
+ghost use Rattle.flac_subframe.specs.inner.Cost.{folded_cost};
 
 use crate::coding::Coding;
 

@@ -3,8 +3,8 @@
 
 ghost use Rattle.std.specs.Prelude.{◌≡◌, ◌<◌, ◌≤◌, ◌^◌, ◌+◌, ◌-◌, ◌*◌, ◌/◌, ℕ, true, false, length, map, min, All, IsTrue, slice_index, ◌⊎◌};
 ghost use Rattle.std.specs.List.{sum_by};
-ghost use Rattle.flac_subframe.specs.Cost.{value_cost};
-ghost use Rattle.flac_subframe.specs.Halves.{part, priced, entry, HasEntries};
+ghost use Rattle.flac_subframe.specs.inner.Cost.{value_cost};
+ghost use Rattle.flac_subframe.specs.inner.Halves.{part, priced, entry, HasEntries};
 
 use crate::cost::rice_bits;
 use crate::halving::power;

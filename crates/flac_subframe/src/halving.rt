@@ -1,7 +1,8 @@
 //! The form of a residual.
 
 ghost use Rattle.std.specs.Prelude.{◌≡◌, ◌≤◌, ◌^◌, length};
-ghost use Rattle.flac_subframe.specs.Cost.{codings_of, codings_in, codings_lent};
+ghost use Rattle.flac_subframe.specs.Cost.{codings_of, codings_in};
+ghost use Rattle.flac_subframe.specs.inner.Cost.{codings_lent};
 
 use crate::view::CodedView;
 use arrayvec::ArrayVec;

@@ -9,7 +9,7 @@ ghost use Rattle.flac_bits.specs.Rice.{IsResidual};
 ghost use Rattle.flac_bits.specs.Signed.{FitsBits};
 ghost use Rattle.flac_subframe.specs.Bodies.{differences};
 ghost use Rattle.flac_subframe.specs.Numbers.{sample_at};
-ghost use Rattle.flac_subframe.specs.Products.{HasSums, StayBelow};
+ghost use Rattle.flac_subframe.specs.inner.Products.{HasSums, StayBelow};
 ghost use Rattle.flac_subframe.specs.Spelling.{folded};
 
 use crate::folding::fold_narrow;

@@ -3,9 +3,10 @@
 ghost use Rattle.std.specs.Prelude.{◌≡◌, ◌<◌, ◌≤◌, ◌^◌, ◌+◌, ◌-◌, ◌*◌, ℕ, length, map, All, IsTrue, slice_index};
 ghost use Rattle.std.specs.Int.Count.{count_leading_zeros};
 ghost use Rattle.std.specs.List.{sum_by};
-ghost use Rattle.flac_subframe.specs.Cost.{value_cost, MayWrite, Codings, residual_cost};
+ghost use Rattle.flac_subframe.specs.Cost.{MayWrite, Codings};
+ghost use Rattle.flac_subframe.specs.inner.Cost.{value_cost, residual_cost};
 ghost use Rattle.flac_subframe.specs.Spelling.{folded, FitsWidth};
-ghost use Rattle.flac_subframe.specs.Halves.{part, IsWidth, HasWidths};
+ghost use Rattle.flac_subframe.specs.inner.Halves.{part, IsWidth, HasWidths};
 
 use crate::cost::quotients;
 use crate::halving::power;

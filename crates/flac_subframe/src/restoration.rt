@@ -6,7 +6,7 @@ ghost use Rattle.std.specs.Int.RustNames.{unsigned_abs};
 ghost use Rattle.flac_bits.specs.Signed.{FitsBits};
 ghost use Rattle.flac_subframe.specs.Numbers.{sample_at};
 ghost use Rattle.flac_subframe.specs.Prediction.{fixed_coefficients, prediction, Restored};
-ghost use Rattle.flac_subframe.specs.Sums.{second_of, third_of, fourth_of};
+ghost use Rattle.flac_subframe.specs.inner.Sums.{second_of, third_of, fourth_of};
 
 use crate::numbers::fits_bits;
 

@@ -3,9 +3,11 @@
 
 ghost use Rattle.std.specs.Prelude.{◌≡◌, ◌≢◌, ◌<◌, ◌≤◌, ◌^◌, ◌+◌, ◌-◌, ◌*◌, ◌/◌, ℕ, length, map, take, All, IsTrue, ◌⊎◌, IfSome, IfNone};
 ghost use Rattle.flac_bits.specs.Rice.{IsResidual};
-ghost use Rattle.flac_subframe.specs.Least.{IsLeast, IsLeastCost};
-ghost use Rattle.flac_subframe.specs.Cost.{MayCode, MayWrite, Codings, coding_of, codings_in, HalvedTo, ByMethod, coding_cost, partitions_cost, residual_cost, Partitioned};
-ghost use Rattle.flac_subframe.specs.Halves.{Halves, HasEntries, HasPlaces, LeastBelow, IsWidth, HasWidths};
+ghost use Rattle.flac_subframe.specs.Least.{IsLeast};
+ghost use Rattle.flac_subframe.specs.inner.Least.{IsLeastCost};
+ghost use Rattle.flac_subframe.specs.Cost.{MayCode, MayWrite, Codings, coding_of, codings_in};
+ghost use Rattle.flac_subframe.specs.inner.Cost.{HalvedTo, ByMethod, coding_cost, partitions_cost, residual_cost, Partitioned};
+ghost use Rattle.flac_subframe.specs.inner.Halves.{Halves, HasEntries, HasPlaces, LeastBelow, IsWidth, HasWidths};
 
 use crate::coding::Coding;
 use crate::cost::Priced;

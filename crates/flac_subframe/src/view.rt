@@ -6,7 +6,7 @@ ghost use Rattle.flac_bits.specs.Signed.{FitsBits};
 ghost use Rattle.flac_bits.specs.Rice.{IsResidual};
 ghost use Rattle.flac_subframe.specs.Numbers.{sample_at};
 ghost use Rattle.flac_subframe.specs.Spelling.{folded};
-ghost use Rattle.flac_subframe.specs.Halves.{Halves};
+ghost use Rattle.flac_subframe.specs.inner.Halves.{Halves};
 
 use crate::held::HeldKind;
 use crate::linear::LinearPredictor;
@@ -68,8 +68,8 @@ pub(crate) struct CodedView<'a> {
 
 impl<'a> CodedView<'a> {
     ghost use Rattle.std.specs.Prelude.{◌≡◌};
-    ghost use Rattle.flac_subframe.specs.Chosen.{no_codings};
-    ghost use Rattle.flac_subframe.specs.Cost.{codings_lent};
+    ghost use Rattle.flac_subframe.specs.inner.Chosen.{no_codings};
+    ghost use Rattle.flac_subframe.specs.inner.Cost.{codings_lent};
 
     /// That of a subframe without a residual.
     pub(crate) fn none() -> CodedView<'a>

@@ -2,8 +2,8 @@
 
 ghost use Rattle.std.specs.Prelude.{◌≡◌, ◌<◌, ◌≤◌, ◌^◌, ◌+◌, ◌*◌, ℕ, length, map, All, slice_index};
 ghost use Rattle.std.specs.List.{sum_by};
-ghost use Rattle.flac_subframe.specs.Cost.{value_cost};
-ghost use Rattle.flac_subframe.specs.Halves.{part, IsWidth, HasWidths};
+ghost use Rattle.flac_subframe.specs.inner.Cost.{value_cost};
+ghost use Rattle.flac_subframe.specs.inner.Halves.{part, IsWidth, HasWidths};
 
 use crate::cost::{rice_bits, width};
 use crate::halving::power;

@@ -6,9 +6,11 @@ ghost use Rattle.flac_bits.specs.Signed.{signed, FitsBits};
 ghost use Rattle.flac_bits.specs.Written.{Writes};
 ghost use Rattle.flac_subframe.specs.Bodies.{cut, residual_of, content_of, Predicts, fixed, order_of, coefficients_of, shift_of, differences, StandsFor};
 ghost use Rattle.flac_subframe.specs.Chosen.{body_under, body_held, IsHeld, offered};
-ghost use Rattle.flac_subframe.specs.Family.{form_as, form_of, form_with, IsMadeAs, IsMadeOf, IsMadeWith, OrderIsFew, kind_number};
+ghost use Rattle.flac_subframe.specs.Family.{form_as, form_of, form_with, IsMadeAs, IsMadeOf, IsMadeWith};
+ghost use Rattle.flac_subframe.specs.inner.Family.{OrderIsFew, kind_number};
 ghost use Rattle.flac_subframe.specs.Handed.{predictor_of, handed};
-ghost use Rattle.flac_subframe.specs.Cost.{MayCode, MayCodeEach, MayWrite, coding_of, codings_lent};
+ghost use Rattle.flac_subframe.specs.Cost.{MayCode, MayCodeEach, MayWrite, coding_of};
+ghost use Rattle.flac_subframe.specs.inner.Cost.{codings_lent};
 ghost use Rattle.flac_subframe.specs.Spelling.{value_spelling, coding_spelling, partition_spelling, residual_spelling, predictor_spelling, content_spelling, header_spelling, subframe_spelling};
 
 use crate::chosen::{Choice, MOST_SAMPLES};

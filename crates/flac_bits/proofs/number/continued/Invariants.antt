@@ -1,7 +1,7 @@
 use Rattle.std.proofs.Common.{◌<◌, ◌≤◌, ◌+◌, ◌*◌, ◌^◌, ◌-◌}
 use Rattle.flac_bits.specs.Layout.{run}
 use Rattle.flac_bits.specs.Number.{continued}
-use Rattle.flac_bits.specs.Reading.{Goes}
+use Rattle.flac_bits.specs.inner.Reading.{Goes}
 use Rattle.flac_bits.proofs.number.continued.Given as goal
 
 abbrev pub invariant-loop-i : goal.invariant-loop-i

@@ -1,5 +1,6 @@
 use Rattle.std.proofs.Common.{◌≡◌, ◌∷◌, List, Bool, true, false, length, [], ap, ◌∙◌, arith, refl}
-use Rattle.flac_bits.specs.Store.{Store, HoldsSame}
+use Rattle.flac_bits.specs.Store.{Store}
+use Rattle.flac_bits.specs.inner.Store.{HoldsSame}
 use Rattle.flac_bits.proofs.Standing.{same_bits, then_same, came_bits, same_most, came_most}
 use Rattle.flac_bits.proofs.reader.fill.Goals as goal
 

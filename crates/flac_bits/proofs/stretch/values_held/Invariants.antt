@@ -1,6 +1,6 @@
 use Rattle.std.proofs.Common.{◌≡◌, ℕ, ◌≤◌, ◌<◌, ◌++◌, Bool, List, get_or, ◌-◌, pos}
 use Rattle.flac_bits.specs.Rice.{IsResidual}
-use Rattle.flac_bits.specs.Stretches.{IsRead}
+use Rattle.flac_bits.specs.inner.Stretches.{IsRead}
 use Rattle.flac_bits.proofs.stretch.values_held.Given as goal
 
 abbrev pub invariant-loop-i : goal.invariant-loop-i

@@ -1,7 +1,7 @@
 use Rattle.std.proofs.Common.{◌≡◌, ℕ, ◌≤◌, ◌<◌, ◌++◌, Bool, List, length, take, get_or, ◌-◌, pos}
 use Rattle.flac_bits.specs.Bits.{bits_of}
 use Rattle.flac_bits.specs.Rice.{IsResidual}
-use Rattle.flac_bits.specs.Stretches.{IsRead}
+use Rattle.flac_bits.specs.inner.Stretches.{IsRead}
 use Rattle.flac_bits.proofs.stretch.values_in.Given as goal
 
 abbrev pub invariant-loop-used : goal.invariant-loop-used

@@ -1,6 +1,6 @@
 use Rattle.std.proofs.Common.{sym, subst, ◌∙◌, arith}
 use Rattle.flac_meta.specs.declared.block.Seen.{Seen}
-use Rattle.flac_c.specs.Blocks.{BlocksCome}
+use Rattle.flac_c.specs.inner.Blocks.{BlocksCome}
 use Rattle.flac_c.proofs.Heading.{marker_was_read, marker_was_refused, head_read, blocks_come, blocks_refused}
 use Rattle.flac_c.proofs.metadata.read_parts.Goals as goal
 

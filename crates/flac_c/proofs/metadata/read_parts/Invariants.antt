@@ -1,4 +1,4 @@
-use Rattle.flac_c.specs.Blocks.{BlocksCome}
+use Rattle.flac_c.specs.inner.Blocks.{BlocksCome}
 use Rattle.flac_c.proofs.metadata.read_parts.Given as goal
 
 abbrev pub invariant-loop-index : goal.invariant-loop-index

@@ -2,7 +2,7 @@ use Rattle.std.proofs.Common.{◌≡◌, ◌*◌, ◌%◌, Option, Some, None, �
 use Rattle.std.specs.Prelude.{IfSome}
 use Rattle.std.proofs.lemmas.Result.{err_from_is_err_and}
 use Rattle.flac_native.specs.Message.{sample_width}
-use Rattle.flac_cli.specs.Raw.{AreChannels}
+use Rattle.flac_cli.specs.inner.Raw.{AreChannels}
 use Rattle.flac_cli.specs.Refusals.{format_fault}
 use Rattle.flac_cli.proofs.Rows.{raw_is}
 use Rattle.flac_cli.proofs.Refused.{sound_of, bad_format, bad_length, bad_samples, good_samples}

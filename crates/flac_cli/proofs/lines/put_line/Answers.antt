@@ -1,6 +1,7 @@
 use Rattle.std.proofs.Common.{◌≡◌, ap, ◌∙◌, take, [], subst}
 use Rattle.std.proofs.lemmas.Result.{err_from_is_err_and}
-use Rattle.flac_cli.specs.Lined.{Adds, text_at}
+use Rattle.flac_cli.specs.Lined.{text_at}
+use Rattle.flac_cli.specs.inner.Lined.{Adds}
 use Rattle.flac_cli.specs.Reports.{fault_line}
 use Rattle.flac_cli.proofs.Lined.{none_taken, adds_then, lost, lost_then, adds_lost, sent_adds}
 use Rattle.flac_cli.proofs.lines.put_line.Goals as goal

@@ -1,5 +1,5 @@
 use Rattle.std.proofs.Common.{◌≡◌, ◌*◌, ℕ, List, length, map}
-use Rattle.flac_cli.specs.Raw.{AreParts}
+use Rattle.flac_cli.specs.inner.Raw.{AreParts}
 use Rattle.flac_cli.proofs.Rows.{HalfMore}
 use Rattle.flac_cli.proofs.raw.push_rows.Given as goal
 

@@ -1,6 +1,6 @@
 use Rattle.std.proofs.Common.{◌≡◌, subst, arith}
 use Rattle.std.specs.Prelude.{OnOk}
-use Rattle.flac_cli.specs.Raw.{IsPart, IsMore}
+use Rattle.flac_cli.specs.inner.Raw.{IsPart, IsMore}
 use Rattle.flac_cli.proofs.raw.push_samples.Goals as goal
 
 pub returns-in_default-clause-more : goal.returns-in_default-clause-more

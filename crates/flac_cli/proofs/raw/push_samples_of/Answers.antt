@@ -1,6 +1,6 @@
 use Rattle.std.proofs.Common.{◌≡◌, ◌+◌, ◌-◌, ◌++◌, sym, arith, subst, length, take, drop, ℤ, List}
 use Rattle.std.proofs.lemmas.List.{take_all, length-take, length-drop}
-use Rattle.flac_cli.specs.Raw.{IsChannel}
+use Rattle.flac_cli.specs.inner.Raw.{IsChannel}
 use Rattle.flac_cli.proofs.Rows.{channel_more, grown, places_behind}
 use Rattle.flac_cli.proofs.raw.push_samples_of.Goals as goal
 

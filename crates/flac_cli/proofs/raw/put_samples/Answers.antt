@@ -1,7 +1,7 @@
 use Rattle.std.proofs.Common.{◌<◌, ◌≡◌, rules, arith, subst, take, length, w32, SFits}
 use Rattle.std.proofs.lemmas.Int.{to_z-of_z}
 use Rattle.std.proofs.lemmas.List.{take_more_set, take_all}
-use Rattle.flac_cli.specs.Raw.{IsChannel}
+use Rattle.flac_cli.specs.inner.Raw.{IsChannel}
 use Rattle.flac_cli.proofs.Rows.{no_samples, sample_pushed}
 use Rattle.flac_cli.proofs.raw.put_samples.Goals as goal
 

@@ -1,5 +1,5 @@
 use Rattle.std.proofs.Common.{take}
-use Rattle.flac_cli.specs.Raw.{IsChannel}
+use Rattle.flac_cli.specs.inner.Raw.{IsChannel}
 use Rattle.flac_cli.proofs.raw.put_samples.Given as goal
 
 abbrev pub invariant-loop-i : goal.invariant-loop-i

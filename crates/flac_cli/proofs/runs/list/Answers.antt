@@ -1,6 +1,6 @@
 use Rattle.std.proofs.Common.{arith, ◌∙◌, sym}
 use Rattle.flac_bits.specs.Handing.{outcome_of}
-use Rattle.flac_cli.specs.Outcomes.{at_place}
+use Rattle.flac_cli.specs.inner.Outcomes.{at_place}
 use Rattle.flac_cli.proofs.Outcomes.{then_ok, counts_on}
 use Rattle.flac_cli.proofs.Reported.{listed_fits}
 use Rattle.flac_cli.proofs.runs.list.Goals as goal

@@ -1,7 +1,7 @@
 use Rattle.std.proofs.Common.{◌≡◌, ap, ◌∙◌, take, [], subst}
 use Rattle.std.proofs.lemmas.Result.{err_from_is_err_and}
 use Rattle.flac_cli.specs.Counted.{line_of}
-use Rattle.flac_cli.specs.Lined.{Adds}
+use Rattle.flac_cli.specs.inner.Lined.{Adds}
 use Rattle.flac_cli.proofs.Lined.{none_taken, adds_then, lost, lost_then, adds_lost, sent_adds}
 use Rattle.flac_cli.proofs.runs.put_counts.Goals as goal
 

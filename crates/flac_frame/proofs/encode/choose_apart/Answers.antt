@@ -3,7 +3,8 @@ use Rattle.std.proofs.lemmas.List.{with_items_is}
 use Rattle.std.specs.Vec.{with_items}
 use Rattle.flac_subframe.specs.Spelling.{subframe_spelling}
 use Rattle.flac_subframe.specs.declared.wide.WideChoice.{WideChoice}
-use Rattle.flac_frame.specs.Chosen.{forms_of, AreChosen, AllWide}
+use Rattle.flac_frame.specs.Chosen.{forms_of, AllWide}
+use Rattle.flac_frame.specs.inner.Chosen.{AreChosen}
 use Rattle.flac_frame.specs.Encoding.{block_of, partition_limit}
 use Rattle.flac_frame.specs.declared.frame_choice.FrameChoice.{FrameChoice}
 use Rattle.flac_frame.proofs.Frames.{apart_choice}

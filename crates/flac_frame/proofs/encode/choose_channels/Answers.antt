@@ -7,7 +7,8 @@ use Rattle.flac_subframe.specs.Family.{form_in}
 use Rattle.flac_subframe.specs.Handed.{AreWithin}
 use Rattle.flac_subframe.specs.Spelling.{subframe_spelling}
 use Rattle.flac_subframe.specs.declared.wide.WideChoice.{WideChoice}
-use Rattle.flac_frame.specs.Chosen.{forms_of, AreChosen}
+use Rattle.flac_frame.specs.Chosen.{forms_of}
+use Rattle.flac_frame.specs.inner.Chosen.{AreChosen}
 use Rattle.flac_frame.specs.Encoding.{block_of, partition_limit}
 use Rattle.flac_frame.proofs.Chosen.{FirstChosen, none_chosen, one_chosen, all_chosen}
 use Rattle.flac_frame.proofs.Encoded.{block_more}

@@ -6,7 +6,7 @@ use Rattle.flac_subframe.specs.declared.wide.WideChoice.{WideChoice}
 use Rattle.flac_frame.specs.declared.frame_choice.FrameChoice.{FrameChoice}
 use Rattle.flac_frame.specs.Chosen.{AllWide}
 use Rattle.flac_frame.specs.Encoding.{block_of, partition_limit}
-use Rattle.flac_frame.specs.Pair.{ArePlanes}
+use Rattle.flac_frame.specs.inner.Pair.{ArePlanes}
 use Rattle.flac_frame.proofs.PairLeast.{pair_choice}
 use Rattle.flac_frame.proofs.Sounds.{depth_small}
 use Rattle.flac_frame.proofs.pair.choose_pair.Goals as goal

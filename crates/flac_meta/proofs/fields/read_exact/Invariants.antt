@@ -1,7 +1,7 @@
 use Rattle.std.proofs.Common.{length, take, ◌-◌, ◌≤◌}
 use Rattle.flac_bits.specs.Layout.{bits, run, and_then}
 use Rattle.flac_bits.specs.Lists.{list_of, behind}
-use Rattle.flac_bits.specs.Reading.{Goes}
+use Rattle.flac_bits.specs.inner.Reading.{Goes}
 use Rattle.flac_meta.proofs.fields.read_exact.Given as goal
 
 abbrev pub invariant-loop-i : goal.invariant-loop-i

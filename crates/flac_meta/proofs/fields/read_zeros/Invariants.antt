@@ -1,6 +1,6 @@
 use Rattle.std.proofs.Common.{◌≤◌, ◌-◌, ◌*◌, ◌/◌}
 use Rattle.flac_bits.specs.Layout.{run}
-use Rattle.flac_bits.specs.Reading.{Goes}
+use Rattle.flac_bits.specs.inner.Reading.{Goes}
 use Rattle.flac_meta.specs.Fields.{zeros}
 use Rattle.flac_meta.proofs.Zeros.{zeros_then}
 use Rattle.flac_meta.proofs.fields.read_zeros.Given as goal

@@ -1,6 +1,6 @@
 use Rattle.std.proofs.Common.{◌*◌, ◌-◌, ◌≤◌}
 use Rattle.flac_bits.specs.Layout.{run}
-use Rattle.flac_bits.specs.Reading.{Goes}
+use Rattle.flac_bits.specs.inner.Reading.{Goes}
 use Rattle.flac_meta.specs.Padding.{skipped}
 use Rattle.flac_meta.proofs.fields.skip_bytes.Given as goal
 

@@ -2,7 +2,7 @@ use Rattle.std.proofs.Common.{◌+◌, drop}
 use Rattle.std.proofs.lemmas.Result.{err_from_is_err_and}
 use Rattle.flac_bits.proofs.Writing.{towards_more, towards_end, towards_fail}
 use Rattle.flac_meta.specs.Spelling.{each_spelled}
-use Rattle.flac_meta.specs.Fielded.{field_spelling}
+use Rattle.flac_meta.specs.inner.Fielded.{field_spelling}
 use Rattle.flac_meta.proofs.Steps.{each_step, each_end}
 use Rattle.flac_meta.proofs.put.put_fields.Goals as goal
 

@@ -1,7 +1,7 @@
 use Rattle.std.proofs.Common.{drop}
 use Rattle.flac_bits.proofs.Writing.{Towards}
 use Rattle.flac_meta.specs.Spelling.{each_spelled}
-use Rattle.flac_meta.specs.Fielded.{field_spelling}
+use Rattle.flac_meta.specs.inner.Fielded.{field_spelling}
 use Rattle.flac_meta.proofs.put.put_fields.Given as goal
 
 abbrev pub invariant-loop-field : goal.invariant-loop-field

@@ -1,7 +1,7 @@
 use Rattle.std.proofs.Common.{◌≤◌, ◌-◌, None}
 use Rattle.flac_bits.specs.Layout.{run, and_then}
 use Rattle.flac_bits.specs.Lists.{behind}
-use Rattle.flac_bits.specs.Reading.{Goes}
+use Rattle.flac_bits.specs.inner.Reading.{Goes}
 use Rattle.flac_meta.specs.SeekTable.{seek_points}
 use Rattle.flac_meta.proofs.seek_table.read_seek_table.Given as goal
 

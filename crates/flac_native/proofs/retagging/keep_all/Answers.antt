@@ -5,7 +5,7 @@ use Rattle.flac_bits.specs.Fencing.{lifted}
 use Rattle.flac_bits.proofs.Handing.{starts, one_more, step_refused}
 use Rattle.flac_native.specs.Stream.{Progress, Stand, grammar, next, opening}
 use Rattle.flac_native.specs.Track.{IsAt, is_behind_blocks}
-use Rattle.flac_native.specs.Retag.{keeps}
+use Rattle.flac_native.specs.inner.Retag.{keeps}
 use Rattle.flac_native.specs.declared.track.Track.{Track}
 use Rattle.flac_native.proofs.Bounds.{so_far_lifted, open_on, lifted_open, step_short}
 use Rattle.flac_native.proofs.Metadata.{no_errors}

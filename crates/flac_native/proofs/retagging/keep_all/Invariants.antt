@@ -2,7 +2,7 @@ use Rattle.flac_bits.specs.Fencing.{lifted}
 use Rattle.flac_bits.proofs.Handing.{SoFar, Went}
 use Rattle.flac_native.specs.Stream.{Progress, grammar}
 use Rattle.flac_native.specs.Track.{IsAt}
-use Rattle.flac_native.specs.Retag.{keeps}
+use Rattle.flac_native.specs.inner.Retag.{keeps}
 use Rattle.flac_native.proofs.Metadata.{no_errors}
 use Rattle.flac_native.proofs.retagging.keep_all.Given as goal
 

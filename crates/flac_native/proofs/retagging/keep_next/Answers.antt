@@ -1,6 +1,7 @@
 use Rattle.std.proofs.Common.{sym, ap, subst, ◌∙◌, ◌≡◌, true, false}
 use Rattle.flac_bits.specs.Fencing.{lifted}
-use Rattle.flac_bits.specs.Items.{step_at, refused}
+use Rattle.flac_bits.specs.Items.{refused}
+use Rattle.flac_bits.specs.inner.Items.{step_at}
 use Rattle.flac_native.specs.Stream.{Progress, Stand, grammar, place_in}
 use Rattle.flac_native.specs.Track.{IsAt, shown, is_behind_blocks}
 use Rattle.flac_native.specs.Retag.{is_before_frames}

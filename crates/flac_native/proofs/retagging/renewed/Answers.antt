@@ -1,7 +1,7 @@
 use Rattle.std.proofs.Common.{ap, ◌∙◌, nat_lt}
 use Rattle.flac_bits.specs.Bits.{bits_of}
 use Rattle.flac_bits.specs.Written.{Written}
-use Rattle.flac_native.specs.Retag.{new_head}
+use Rattle.flac_native.specs.inner.Retag.{new_head}
 use Rattle.flac_native.proofs.Heads.{Blank, head_collected}
 use Rattle.flac_native.proofs.Renewing.{new_head_whole}
 use Rattle.flac_native.proofs.retagging.renewed.Goals as goal

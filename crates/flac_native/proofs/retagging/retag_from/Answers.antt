@@ -8,7 +8,8 @@ use Rattle.flac_meta.specs.declared.block.Block.{Block}
 use Rattle.flac_meta.specs.declared.comments.Comments.{Comments}
 use Rattle.flac_native.specs.declared.fault.Place.TheVariants as place
 use Rattle.flac_native.specs.declared.retagging.RetagFault.{RetagFault}
-use Rattle.flac_native.specs.Retag.{AreKept, MayBeHead, new_head, not_read, not_written}
+use Rattle.flac_native.specs.Retag.{not_read, not_written}
+use Rattle.flac_native.specs.inner.Retag.{AreKept, MayBeHead, new_head}
 use Rattle.flac_native.proofs.NewHead.{kept_may_be_head}
 use Rattle.flac_native.proofs.Retagged.{all_retagged, some_retagged, head_begun}
 use Rattle.flac_native.proofs.retagging.retag_from.Goals as goal

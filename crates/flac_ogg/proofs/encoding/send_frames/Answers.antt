@@ -4,7 +4,8 @@ use Rattle.std.proofs.lemmas.Result.{err_from_is_err_and}
 use Rattle.flac_bits.specs.Bits.{bits_of}
 use Rattle.flac_frame.specs.Audio.{samples_each}
 use Rattle.flac_native.specs.Given.{blocks_in}
-use Rattle.flac_native.specs.Writing.{HasRoom, IsSpelled, SendsBits}
+use Rattle.flac_native.specs.Writing.{HasRoom, IsSpelled}
+use Rattle.flac_native.specs.inner.Writing.{SendsBits}
 use Rattle.flac_native.proofs.Gathered.{still_some, all_gathered}
 use Rattle.flac_native.proofs.Planned.{planned, fit}
 use Rattle.flac_native.proofs.Spelled.{came_out}

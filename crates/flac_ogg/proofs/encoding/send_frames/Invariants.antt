@@ -2,7 +2,7 @@ use Rattle.std.proofs.Common.{◌≡◌, ◌<◌, ◌≤◌, ◌-◌, ◌*◌, m
 use Rattle.flac_frame.specs.Audio.{samples_each}
 use Rattle.flac_native.specs.Given.{blocks_in, room_of}
 use Rattle.flac_native.proofs.Spelled.{came_out}
-use Rattle.flac_ogg.specs.Writing.{SendsPackets}
+use Rattle.flac_ogg.specs.inner.Writing.{SendsPackets}
 use Rattle.flac_ogg.proofs.SentPackets.{SentPackets}
 use Rattle.flac_ogg.proofs.encoding.send_frames.Given as goal
 

@@ -2,7 +2,7 @@ use Rattle.std.proofs.Common.{arith, ◌≡◌, ◌+◌, ◌-◌, ◌*◌, ◌�
 use Rattle.flac_subframe.specs.Prediction.{fixed_coefficients}
 use Rattle.flac_subframe.specs.Bodies.{fixed}
 use Rattle.flac_subframe.proofs.Differences.{length-fixed}
-use Rattle.flac_subframe.specs.Chosen.{way_held}
+use Rattle.flac_subframe.specs.inner.Chosen.{way_held}
 use Rattle.flac_subframe.proofs.Orders.{least_of_all, none_of_all}
 use Rattle.flac_subframe.proofs.Places.{fewer_places}
 use Rattle.flac_subframe.proofs.Searching.{too_long, out_of_range, too_dear, no_better, better}

@@ -1,7 +1,7 @@
 use Rattle.std.proofs.Common.{arith, ap, sym, ◌≡◌, ◌∙◌, ◌+◌, ◌-◌, ◌*◌, ◌<◌, ◌++◌, ◌∷◌, [], refl, ℕ, List, length, get_or}
 use Rattle.flac_subframe.specs.declared.linear.LinearPredictor.{LinearPredictor}
 use Rattle.flac_subframe.specs.Bodies.{Chooses, coefficients_of, shift_of, order_of, fields_cost}
-use Rattle.flac_subframe.specs.Chosen.{way_held}
+use Rattle.flac_subframe.specs.inner.Chosen.{way_held}
 use Rattle.flac_subframe.specs.Handed.{predictor_of, handed_at}
 use Rattle.flac_subframe.proofs.Best.{at_place}
 use Rattle.flac_subframe.proofs.Orders.{least_of_all, none_of_all}

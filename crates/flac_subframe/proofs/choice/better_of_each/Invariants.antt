@@ -1,7 +1,7 @@
 use Rattle.std.proofs.Common.{◌≡◌, ◌≤◌, ◌^◌, ◌++◌, List, length, map, take}
 use Rattle.flac_subframe.specs.Bodies.{Chooses}
-use Rattle.flac_subframe.specs.Chosen.{IsBest, way_held}
-use Rattle.flac_subframe.specs.Halves.{HasPlaces}
+use Rattle.flac_subframe.specs.inner.Chosen.{IsBest, way_held}
+use Rattle.flac_subframe.specs.inner.Halves.{HasPlaces}
 use Rattle.flac_subframe.specs.Handed.{predictor_of}
 use Rattle.flac_subframe.proofs.choice.better_of_each.Given as goal
 

@@ -1,6 +1,7 @@
 use Rattle.std.proofs.Common.{arith, [], ◌∷◌, ◌≡◌, ◌∙◌}
 use Rattle.flac_subframe.specs.Bodies.{fixed}
-use Rattle.flac_subframe.specs.Chosen.{IsBest, fixed_below, way_held}
+use Rattle.flac_subframe.specs.Chosen.{fixed_below}
+use Rattle.flac_subframe.specs.inner.Chosen.{IsBest, way_held}
 use Rattle.flac_subframe.proofs.Best.{next_tried, first_tried, all_tried}
 use Rattle.flac_subframe.proofs.Complete.{among}
 use Rattle.flac_subframe.proofs.choice.search.Goals as goal

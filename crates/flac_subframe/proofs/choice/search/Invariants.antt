@@ -1,7 +1,8 @@
 use Rattle.std.proofs.Common.{◌≡◌, ◌≤◌, ◌∷◌, length}
 use Rattle.flac_subframe.specs.Bodies.{fixed}
-use Rattle.flac_subframe.specs.Chosen.{IsBest, fixed_below, way_held}
-use Rattle.flac_subframe.specs.Halves.{HasPlaces}
+use Rattle.flac_subframe.specs.Chosen.{fixed_below}
+use Rattle.flac_subframe.specs.inner.Chosen.{IsBest, way_held}
+use Rattle.flac_subframe.specs.inner.Halves.{HasPlaces}
 use Rattle.flac_subframe.proofs.choice.search.Given as goal
 
 abbrev pub invariant-loop-order : goal.invariant-loop-order

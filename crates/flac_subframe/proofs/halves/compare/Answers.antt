@@ -1,5 +1,5 @@
 use Rattle.std.proofs.Common.{arith, ◌≡◌, ℕ, refl}
-use Rattle.flac_subframe.specs.Halves.{part}
+use Rattle.flac_subframe.specs.inner.Halves.{part}
 use Rattle.flac_subframe.proofs.Splits.{least_more, part_small}
 use Rattle.flac_subframe.proofs.Walks.{settled, kept_by}
 use Rattle.flac_subframe.proofs.halves.compare.Goals as goal

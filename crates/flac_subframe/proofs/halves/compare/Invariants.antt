@@ -1,5 +1,5 @@
 use Rattle.std.proofs.Common.{◌^◌, ◌≤◌, ◌<◌, ℕ}
-use Rattle.flac_subframe.specs.Halves.{part, entry, LeastBelow}
+use Rattle.flac_subframe.specs.inner.Halves.{part, entry, LeastBelow}
 use Rattle.flac_subframe.proofs.halves.compare.Given as goal
 
 abbrev pub invariant-loop-parameter : goal.invariant-loop-parameter

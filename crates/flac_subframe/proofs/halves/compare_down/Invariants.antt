@@ -1,5 +1,5 @@
 use Rattle.std.proofs.Common.{◌^◌, ◌≤◌, ◌<◌, ℕ}
-use Rattle.flac_subframe.specs.Halves.{part, entry}
+use Rattle.flac_subframe.specs.inner.Halves.{part, entry}
 use Rattle.flac_subframe.proofs.Walks.{LeastWithin}
 use Rattle.flac_subframe.proofs.halves.compare_down.Given as goal
 

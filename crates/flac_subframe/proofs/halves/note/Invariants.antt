@@ -1,5 +1,5 @@
 use Rattle.std.proofs.Common.{◌≡◌, ◌≤◌, ◌<◌, ℕ, get_or, min}
-use Rattle.flac_subframe.specs.Halves.{priced}
+use Rattle.flac_subframe.specs.inner.Halves.{priced}
 use Rattle.flac_subframe.proofs.halves.note.Given as goal
 
 abbrev pub invariant-loop-j : goal.invariant-loop-j

@@ -1,7 +1,7 @@
 use Rattle.std.proofs.Common.{◌≡◌, ◌^◌, ◌≤◌, ◌<◌, ℕ, get_or, min}
 use Rattle.std.specs.List.{sum_by}
-use Rattle.flac_subframe.specs.Cost.{value_cost}
-use Rattle.flac_subframe.specs.Halves.{part, entry, priced}
+use Rattle.flac_subframe.specs.inner.Cost.{value_cost}
+use Rattle.flac_subframe.specs.inner.Halves.{part, entry, priced}
 use Rattle.flac_subframe.proofs.halves.pass.Given as goal
 
 abbrev pub invariant-loop-level : goal.invariant-loop-level

@@ -2,7 +2,7 @@ use Rattle.std.proofs.Common.{arith, ◌≡◌, ◌∙◌, ◌+◌, ◌<◌, ◌
 use Rattle.std.proofs.lemmas.Bool.{cases_lt}
 use Rattle.std.proofs.lemmas.List.{drop-drop, get_or-set_same, get_or-set_other}
 use Rattle.std.proofs.lemmas.List.Elements.{All-take, All-drop}
-use Rattle.flac_subframe.specs.Halves.{part, start}
+use Rattle.flac_subframe.specs.inner.Halves.{part, start}
 use Rattle.flac_subframe.proofs.Splits.{start_next, start_rises, start_none}
 use Rattle.flac_subframe.proofs.Folds.{segment_cost}
 use Rattle.flac_subframe.proofs.halves.price.Goals as goal

@@ -1,7 +1,7 @@
 use Rattle.std.proofs.Common.{◌≡◌, ◌+◌, ◌-◌, ◌<◌, ℕ, get_or, length, drop}
 use Rattle.std.specs.List.{sum_by}
-use Rattle.flac_subframe.specs.Cost.{value_cost}
-use Rattle.flac_subframe.specs.Halves.{part, start}
+use Rattle.flac_subframe.specs.inner.Cost.{value_cost}
+use Rattle.flac_subframe.specs.inner.Halves.{part, start}
 use Rattle.flac_subframe.proofs.halves.price.Given as goal
 
 abbrev pub invariant-loop-sum : goal.invariant-loop-sum

@@ -1,7 +1,7 @@
 use Rattle.std.proofs.Common.{arith, ◌≡◌, ◌*◌, ◌/◌, ◌^◌, ◌≤◌, ℕ, ap, length}
 use Rattle.std.specs.List.{sum_by}
 use Rattle.std.proofs.lemmas.Nat.{mul-le}
-use Rattle.flac_subframe.specs.Cost.{value_cost}
+use Rattle.flac_subframe.specs.inner.Cost.{value_cost}
 use Rattle.flac_subframe.proofs.LowerBounds.{rice_at_least}
 use Rattle.flac_subframe.proofs.pruning.bound_part.Goals as goal
 

@@ -5,7 +5,7 @@ use Rattle.flac_bits.specs.Rice.{IsResidual}
 use Rattle.flac_subframe.specs.Spelling.{folded}
 use Rattle.flac_subframe.proofs.Folds.{folds_small}
 use Rattle.flac_subframe.proofs.LowerBounds.{bound_more, bound_end, bound_of_all, bound_of_last}
-use Rattle.flac_subframe.specs.Halves.{part, start}
+use Rattle.flac_subframe.specs.inner.Halves.{part, start}
 use Rattle.flac_subframe.proofs.Splits.{start_next, start_rises}
 use Rattle.flac_subframe.proofs.pruning.bound_parts.Goals as goal
 

@@ -1,7 +1,7 @@
 use Rattle.std.proofs.Common.{arith, ◌≡◌, ◌/◌, ◌-◌, ◌^◌, ◌≤◌, ℕ, ℤ, List, ap, length}
 use Rattle.std.specs.List.{sum_by}
 use Rattle.std.specs.Int.Count.{count_leading_zeros}
-use Rattle.flac_subframe.specs.Cost.{value_cost}
+use Rattle.flac_subframe.specs.inner.Cost.{value_cost}
 use Rattle.flac_subframe.proofs.LowerBounds.{rice_at_least}
 use Rattle.flac_subframe.proofs.Sixteen.{few_zeros, brought, one_each}
 use Rattle.flac_subframe.proofs.pruning.bound_sixteen.Goals as goal

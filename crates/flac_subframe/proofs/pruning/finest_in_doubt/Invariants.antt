@@ -1,5 +1,6 @@
 use Rattle.std.proofs.Common.{◌≡◌, ◌≤◌, ◌<◌, length}
-use Rattle.flac_subframe.specs.Cost.{Codings, MayWrite, residual_cost}
+use Rattle.flac_subframe.specs.Cost.{Codings, MayWrite}
+use Rattle.flac_subframe.specs.inner.Cost.{residual_cost}
 use Rattle.flac_subframe.proofs.pruning.finest_in_doubt.Given as goal
 
 abbrev pub invariant-loop-halvings : goal.invariant-loop-halvings

@@ -1,5 +1,5 @@
 use Rattle.flac_subframe.specs.Prediction.{fixed_coefficients}
-use Rattle.flac_subframe.specs.Sums.{second_of, third_of, fourth_of}
+use Rattle.flac_subframe.specs.inner.Sums.{second_of, third_of, fourth_of}
 use Rattle.flac_subframe.proofs.Restoring.{RestoredTo}
 use Rattle.flac_subframe.proofs.Nearest.{HoldsLast}
 use Rattle.flac_subframe.proofs.restoration.restore_order.Given as goal

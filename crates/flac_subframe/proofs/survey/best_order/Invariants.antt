@@ -1,7 +1,7 @@
 use Rattle.std.proofs.Common.{◌≡◌, ◌≤◌, ◌*◌, ◌^◌}
-use Rattle.flac_subframe.specs.Cost.{HalvedTo}
-use Rattle.flac_subframe.specs.Cost.{residual_cost}
-use Rattle.flac_subframe.specs.Least.{IsLeastCost}
+use Rattle.flac_subframe.specs.inner.Cost.{HalvedTo}
+use Rattle.flac_subframe.specs.inner.Cost.{residual_cost}
+use Rattle.flac_subframe.specs.inner.Least.{IsLeastCost}
 use Rattle.flac_subframe.proofs.Orders.{BelowOrder}
 use Rattle.flac_subframe.proofs.survey.best_order.Given as goal
 

@@ -4,7 +4,7 @@ use Rattle.std.proofs.lemmas.List.Elements.{All-take}
 use Rattle.flac_bits.specs.Rice.{IsResidual}
 use Rattle.flac_subframe.proofs.Bytes.{one_coding_more}
 use Rattle.flac_subframe.proofs.Pricing.{priced_more, priced_least, priced_bits, priced_start}
-use Rattle.flac_subframe.specs.Halves.{part, start}
+use Rattle.flac_subframe.specs.inner.Halves.{part, start}
 use Rattle.flac_subframe.proofs.Orders.{place_within}
 use Rattle.flac_subframe.proofs.Splits.{halves_at, start_next, start_rises}
 use Rattle.flac_subframe.proofs.survey.gather.Goals as goal

@@ -1,7 +1,7 @@
 use Rattle.std.proofs.Common.{◌≡◌, ◌+◌, ◌-◌, drop, length, map, take}
 use Rattle.flac_subframe.specs.Cost.{coding_of}
 use Rattle.flac_subframe.proofs.Pricing.{PricedTo}
-use Rattle.flac_subframe.specs.Halves.{start}
+use Rattle.flac_subframe.specs.inner.Halves.{start}
 use Rattle.flac_subframe.proofs.survey.gather.Given as goal
 
 abbrev pub invariant-loop-j : goal.invariant-loop-j

@@ -1,6 +1,6 @@
 use Rattle.std.proofs.Common.{arith, inl, inr}
 use Rattle.std.proofs.lemmas.Bool.{cases_lt}
-use Rattle.flac_subframe.specs.Halves.{Halves}
+use Rattle.flac_subframe.specs.inner.Halves.{Halves}
 use Rattle.flac_subframe.proofs.Splits.{halves_at}
 use Rattle.flac_subframe.proofs.survey.greatest_halvings.Goals as goal
 use Rattle.flac_subframe.proofs.survey.greatest_halvings.Goals.{then-block-power-ne0-via-then-block-power-ne0, then-block-power-ne0-via-else-block-power-ne0+then-block-next}

@@ -1,5 +1,5 @@
 use Rattle.std.proofs.Common.{◌-◌}
-use Rattle.flac_subframe.specs.Halves.{Halves}
+use Rattle.flac_subframe.specs.inner.Halves.{Halves}
 use Rattle.flac_subframe.proofs.survey.greatest_halvings.Given as goal
 
 abbrev pub invariant-loop-next : goal.invariant-loop-next

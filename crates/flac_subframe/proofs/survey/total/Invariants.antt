@@ -1,7 +1,7 @@
 use Rattle.std.proofs.Common.{◌≡◌, ◌+◌, ◌-◌, List, drop, length}
 use Rattle.flac_subframe.specs.declared.coding.Coding.{Coding}
 use Rattle.flac_subframe.proofs.Pricing.{PricedTo}
-use Rattle.flac_subframe.specs.Halves.{start}
+use Rattle.flac_subframe.specs.inner.Halves.{start}
 use Rattle.flac_subframe.proofs.survey.total.Given as goal
 
 abbrev pub invariant-loop-j : goal.invariant-loop-j

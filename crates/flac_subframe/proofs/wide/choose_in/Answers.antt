@@ -1,7 +1,7 @@
 use Rattle.std.proofs.Common.{arith, ◌≡◌, ◌≤◌, ◌∙◌, ap, sym, length}
 use Rattle.std.proofs.lemmas.List.{with_items_is}
 use Rattle.std.specs.Vec.{with_items}
-use Rattle.flac_subframe.specs.Chosen.{Way, way_held}
+use Rattle.flac_subframe.specs.inner.Chosen.{Way, way_held}
 use Rattle.flac_subframe.proofs.Places.{power_le}
 use Rattle.flac_subframe.proofs.Ways.{way_least, way_bits, way_made, way_valid, way_restored}
 use Rattle.flac_subframe.proofs.wide.choose_in.Goals as goal

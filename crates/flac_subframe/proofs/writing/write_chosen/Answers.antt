@@ -3,7 +3,7 @@ use Rattle.std.proofs.lemmas.Result.{err_from_is_err_and}
 use Rattle.flac_bits.proofs.Writing.{writes_then, fails_first}
 use Rattle.flac_subframe.specs.Bodies.{content_of}
 use Rattle.flac_subframe.specs.Chosen.{body_held}
-use Rattle.flac_subframe.specs.Cost.{codings_lent}
+use Rattle.flac_subframe.specs.inner.Cost.{codings_lent}
 use Rattle.flac_subframe.specs.Spelling.{type_of, header_spelling, content_spelling}
 use Rattle.flac_subframe.specs.Subframe.{Form, Content}
 use Rattle.flac_subframe.proofs.Powers.{shortened_is}

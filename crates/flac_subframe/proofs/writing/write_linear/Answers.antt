@@ -4,7 +4,7 @@ use Rattle.std.proofs.lemmas.Result.{err_from_is_err_and}
 use Rattle.flac_bits.specs.Signed.{signed}
 use Rattle.flac_bits.proofs.Writing.{writes_then, fails_first}
 use Rattle.flac_subframe.specs.Bodies.{residual_of, differences}
-use Rattle.flac_subframe.specs.Cost.{codings_lent}
+use Rattle.flac_subframe.specs.inner.Cost.{codings_lent}
 use Rattle.flac_subframe.specs.Handed.{handed}
 use Rattle.flac_subframe.specs.Spelling.{predictor_spelling, residual_spelling}
 use Rattle.flac_subframe.proofs.WriteSteps.{linear_text}

@@ -3,7 +3,7 @@ use Rattle.std.proofs.lemmas.Result.{err_from_is_err_and}
 use Rattle.flac_bits.specs.Bits.{unsigned}
 use Rattle.flac_bits.proofs.Writing.{writes_then, fails_first}
 use Rattle.flac_subframe.specs.Bodies.{cut}
-use Rattle.flac_subframe.specs.Cost.{codings_lent}
+use Rattle.flac_subframe.specs.inner.Cost.{codings_lent}
 use Rattle.flac_subframe.specs.Spelling.{partition_spelling}
 use Rattle.flac_subframe.proofs.Bodies.{method_bits}
 use Rattle.flac_subframe.proofs.WriteSteps.{residual_text}

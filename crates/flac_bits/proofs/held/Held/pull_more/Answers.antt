@@ -1,5 +1,6 @@
 use Rattle.std.proofs.Common.{◌≡◌, take, refl, sym, ap, ◌∙◌, arith}
-use Rattle.flac_bits.specs.Store.{Store, seen}
+use Rattle.flac_bits.specs.Store.{Store}
+use Rattle.flac_bits.specs.inner.Store.{seen}
 use Rattle.flac_bits.proofs.Marks.{pulled_mark}
 use Rattle.std.proofs.lemmas.List.{length-take, length-drop}
 use Rattle.flac_bits.proofs.Coming.{came_is, came_none, hides_none, none_allowed, none_forbidden, ends_short, foretold, not_foretold, seen_fits}

@@ -1,6 +1,7 @@
 use Rattle.std.proofs.Common.{◌≡◌, ◌≤◌, ◌+◌, ◌++◌, length, take, drop, ap, ◌∙◌, arith}
 use Rattle.flac_bits.specs.Bits.{unsigned, bits_of}
-use Rattle.flac_bits.specs.Store.{Store, four_at}
+use Rattle.flac_bits.specs.Store.{Store}
+use Rattle.flac_bits.specs.inner.Store.{four_at}
 use Rattle.flac_bits.proofs.Holding.{came_four, came_four_mark, came_four_left}
 use Rattle.flac_bits.proofs.held.Held.top_up.Goals as goal
 

@@ -1,7 +1,8 @@
 use Rattle.std.proofs.Common.{◌≡◌, ◌≤◌, ◌++◌, ℕ, List, Bool, Option, Some, None, IfSome, sym, ap, ◌∙◌, refl}
 use Rattle.flac_bits.specs.Bits.{bits_of}
 use Rattle.flac_bits.specs.Meaning.{unary_bits}
-use Rattle.flac_bits.specs.Store.{Store, Fence, passed, Takes}
+use Rattle.flac_bits.specs.Store.{Store, Fence, passed}
+use Rattle.flac_bits.specs.inner.Store.{Takes}
 use Rattle.flac_bits.specs.State.{Mark, past}
 use Rattle.flac_bits.proofs.Holding.{took_tie, took_mark}
 use Rattle.flac_bits.proofs.held.Held.unary.Goals as goal

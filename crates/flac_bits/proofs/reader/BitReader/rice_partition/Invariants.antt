@@ -1,7 +1,7 @@
 use Rattle.std.proofs.Common.{ℕ, ◌≤◌, ◌<◌, length, take, get_or, ◌-◌, pos}
 use Rattle.flac_bits.specs.Layout.{run, and_then}
 use Rattle.flac_bits.specs.Lists.{list_of, behind}
-use Rattle.flac_bits.specs.Reading.{Goes}
+use Rattle.flac_bits.specs.inner.Reading.{Goes}
 use Rattle.flac_bits.specs.Rice.{rice_value}
 use Rattle.flac_bits.specs.Rice.{IsResidual}
 use Rattle.flac_bits.proofs.reader.BitReader.rice_partition.Given as goal

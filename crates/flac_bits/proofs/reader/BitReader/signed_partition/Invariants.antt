@@ -1,7 +1,7 @@
 use Rattle.std.proofs.Common.{ℕ, ◌≤◌, ◌<◌, length, take, get_or, ◌-◌, pos}
 use Rattle.flac_bits.specs.Layout.{run, and_then}
 use Rattle.flac_bits.specs.Lists.{list_of, behind}
-use Rattle.flac_bits.specs.Reading.{Goes}
+use Rattle.flac_bits.specs.inner.Reading.{Goes}
 use Rattle.flac_bits.specs.Signed.{signed_field}
 use Rattle.flac_bits.specs.Signed.{FitsBits}
 use Rattle.flac_bits.proofs.reader.BitReader.signed_partition.Given as goal

@@ -1,7 +1,8 @@
 use Rattle.std.proofs.Common.{◌≡◌, ◌++◌, ◌+◌, ◌*◌, ◌<◌, ◌≤◌, ℕ, List, Bool, [], length, take, Ok, sym, ap, ◌∙◌, arith, append_assoc}
 use Rattle.std.proofs.lemmas.List.{length-append, length-take}
 use Rattle.flac_bits.specs.Bits.{bits_of}
-use Rattle.flac_bits.specs.Store.{Store, Passes, Fence, allowed, reached, reason_of, most_of}
+use Rattle.flac_bits.specs.Store.{Store, Fence, allowed, reached, reason_of, most_of}
+use Rattle.flac_bits.specs.inner.Store.{Passes}
 use Rattle.flac_bits.specs.State.{State, Mark, past, with_short}
 use Rattle.flac_bits.proofs.Fields.{past-with_short}
 use Rattle.flac_bits.proofs.Holding.{length-bits_of}

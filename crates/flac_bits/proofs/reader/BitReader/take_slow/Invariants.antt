@@ -1,6 +1,6 @@
 use Rattle.std.proofs.Common.{◌<◌, ◌≤◌, ◌+◌, ◌^◌, ◌-◌}
 use Rattle.flac_bits.specs.Layout.{number_from}
-use Rattle.flac_bits.specs.Reading.{Goes}
+use Rattle.flac_bits.specs.inner.Reading.{Goes}
 use Rattle.flac_bits.proofs.reader.BitReader.take_slow.Given as goal
 
 abbrev pub invariant-loop-i : goal.invariant-loop-i

@@ -1,5 +1,5 @@
 use Rattle.std.proofs.Common.{◌≤◌, ◌<◌, ◌+◌, ◌-◌, length}
-use Rattle.flac_pages.specs.Packets.{Copies}
+use Rattle.flac_pages.specs.inner.Packets.{Copies}
 use Rattle.flac_pages.proofs.pages.Pages.copy_in_page.Given as goal
 
 abbrev pub invariant-loop-done : goal.invariant-loop-done

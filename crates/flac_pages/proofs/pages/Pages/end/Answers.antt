@@ -1,6 +1,7 @@
 use Rattle.std.proofs.Common.{ap, sym, ◌∙◌, arith}
 use Rattle.flac_pages.specs.Pages.{end_fault}
-use Rattle.flac_pages.specs.Packets.{Place, ended}
+use Rattle.flac_pages.specs.Packets.{Place}
+use Rattle.flac_pages.specs.inner.Packets.{ended}
 use Rattle.flac_pages.proofs.Exits.{closes, met_at}
 use Rattle.flac_pages.proofs.pages.Pages.end.Goals as goal
 

@@ -1,6 +1,7 @@
 use Rattle.std.proofs.Common.{◌+◌, ◌<◌, drop, length, ap, sym, ◌∙◌, arith, length-drop}
 use Rattle.std.specs.List.{sum}
-use Rattle.flac_pages.specs.Packets.{Place, next_segment}
+use Rattle.flac_pages.specs.Packets.{Place}
+use Rattle.flac_pages.specs.inner.Packets.{next_segment}
 use Rattle.flac_pages.proofs.Stepping.{segment_is, next_value, sum_more}
 use Rattle.flac_pages.proofs.pages.Pages.take_segment.Goals as goal
 

@@ -1,4 +1,4 @@
--- What the steps of an iterator over samples do.
+-- For proofs of the iterator over samples: what its steps do.
 use Rattle.std.specs.Prelude.{◌≡◌, ℕ, Bool, true, false, ℤ, [], ◌∷◌, Option, Some, None, Result, Ok, Err}
 use Rattle.flac_frame.specs.Frame.{Frame}
 use Rattle.flac_native.specs.Item.{Item, frame}

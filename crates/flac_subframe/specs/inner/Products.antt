@@ -1,4 +1,4 @@
--- The sums of a linear predictor, made one product after another for all samples (RFC 9639, section 9.2.6).
+-- For proofs of restoration: the sums of a linear predictor, made one product after another for all samples (RFC 9639, section 9.2.6).
 use Rattle.std.specs.Prelude.{ℕ, ℤ, ◌≡◌, ◌+◌, ◌<◌, ◌*ℤ◌, List, length, take}
 use Rattle.std.specs.Int.RustNames.{unsigned_abs}
 use Rattle.flac_subframe.specs.Numbers.{sample_at}

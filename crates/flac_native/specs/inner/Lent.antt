@@ -1,4 +1,4 @@
--- What a target was sent since it was borrowed.
+-- For proofs of encoding: what a target was sent since it was borrowed.
 use Rattle.std.specs.Prelude.{ℕ, Bool, true, false, cond, nat_eq, List, [], ◌∷◌, ◌++◌, length}
 
 -- the bytes that were sent before are still there

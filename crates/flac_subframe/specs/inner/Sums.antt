@@ -1,4 +1,4 @@
--- The last samples, from the nearest of them and its differences.
+-- For proofs of restoration: the last samples, from the nearest of them and its differences.
 use Rattle.std.specs.Prelude.{ℤ, ◌+ℤ◌, ◌-ℤ◌}
 
 abbrev pub second_of : ℤ → ℤ → ℤ

@@ -1,4 +1,4 @@
--- What a call does that reads one item of the metadata.
+-- For proofs of reading metadata: what a call does that reads one item of it.
 use Rattle.std.specs.Prelude.{◌≡◌, ℕ, Bool, true, false, List, [], ◌∷◌, ◌++◌, filter, Option, Some, Result, Ok, Err}
 use Rattle.flac_bits.specs.declared.why.Why.{Why}
 use Rattle.flac_meta.specs.declared.block.Block.{Block}

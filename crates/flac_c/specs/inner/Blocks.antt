@@ -1,4 +1,4 @@
--- Metadata blocks that are read one after another.
+-- For proofs of reading metadata: blocks that are read one after another.
 use Rattle.std.specs.Prelude.{◌≡◌, ℕ, Bool, true, List, ◌++◌, Option, None}
 use Rattle.flac_bits.specs.State.{State, past, fresh}
 use Rattle.flac_bits.specs.Meaning.{Spells}

@@ -1,4 +1,4 @@
--- Header packets that are put one after another, of which the last is held back.
+-- For proofs of encoding: header packets that are put one after another, of which the last is held back.
 use Rattle.std.specs.Prelude.{◌≡◌, Bool, List, length, replicate}
 use Rattle.std.specs.List.{All}
 use Rattle.flac_bits.specs.Bits.{bits_of}

@@ -1,4 +1,4 @@
--- What sinks make of an item.
+-- For proofs of the sinks: what they make of an item.
 use Rattle.std.specs.Prelude.{ℕ, ◌+◌, min, List, []}
 use Rattle.flac_native.specs.Item.{Item, metadata, frame}
 use Rattle.flac_native.specs.Message.{frame_message}

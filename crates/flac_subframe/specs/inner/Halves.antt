@@ -1,7 +1,7 @@
--- The partitions of a residual at each partition order, and the best coding of each so far.
+-- For proofs of the search: the partitions of a residual at each partition order, and the best coding of each so far.
 use Rattle.std.specs.Prelude.{ℕ, ℤ, ◌≡◌, ◌+◌, ◌-◌, ◌*◌, ◌/◌, ◌%◌, ◌^◌, ◌<◌, ◌≤◌, List, length, take, drop, slice_index, All, ◌↔◌}
 use Rattle.std.specs.List.{sum_by}
-use Rattle.flac_subframe.specs.Cost.{value_cost}
+use Rattle.flac_subframe.specs.inner.Cost.{value_cost}
 use Rattle.flac_subframe.specs.declared.tables.Tables.{Tables}
 use Rattle.flac_subframe.specs.Spelling.{FitsWidth}
 

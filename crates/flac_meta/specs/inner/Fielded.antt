@@ -1,4 +1,4 @@
--- Fields that are written one after another.
+-- For proofs of writing: fields that are written one after another.
 use Rattle.std.specs.Prelude.{Bool, List}
 use Rattle.flac_bits.specs.Bits.{unsigned}
 use Rattle.flac_meta.specs.Spelling.{each_spelled}

@@ -1,4 +1,4 @@
--- Blocks that are written one after another.
+-- For proofs of encoding: blocks that are written one after another.
 use Rattle.std.specs.Prelude.{◌≡◌, ◌<◌, ℕ, true, Bool, List, ◌++◌, length, get_or, None}
 use Rattle.flac_bits.specs.State.{past}
 use Rattle.flac_bits.specs.Written.{Written}

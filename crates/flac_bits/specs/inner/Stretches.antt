@@ -1,4 +1,4 @@
--- Values off the bits that come next.
+-- For proofs of reading many values at once: values off the bits that come next.
 use Rattle.std.specs.Prelude.{◌≡◌, ℕ, ℤ, ◌++◌, ◌-◌, length, take, Bool, List}
 use Rattle.flac_bits.specs.State.{Mark, past}
 use Rattle.flac_bits.specs.Layout.{run, and_then}

@@ -1,0 +1,8 @@
+-- What private contracts and proofs need, and no contract of an exported function.
+pub mod Reading
+pub mod Written
+pub mod Store
+pub mod Forms
+pub mod Items
+pub mod Handing
+pub mod Stretches

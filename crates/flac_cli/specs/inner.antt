@@ -1,0 +1,6 @@
+-- What private contracts and proofs need, and no contract of an exported function.
+pub mod Lined
+pub mod Outcomes
+pub mod Predictors
+pub mod Raw
+pub mod Taking

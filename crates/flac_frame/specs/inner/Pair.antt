@@ -1,0 +1,56 @@
+-- For proofs of the search: the shortest of the ways to keep two channels.
+use Rattle.std.specs.Prelude.{◌≡◌, ℕ, ◌+◌, ◌≤◌, ◌<◌, ◌⊎◌, cond, nat_eq, ℤ, List, length, Some}
+use Rattle.flac_subframe.specs.declared.limits.Limits.{Limits}
+use Rattle.flac_subframe.specs.declared.linear.LinearPredictor.{LinearPredictor}
+use Rattle.flac_subframe.specs.declared.wide.WideChoice.{WideChoice}
+use Rattle.flac_subframe.specs.Family.{IsMadeIn, form_in}
+use Rattle.flac_subframe.specs.Handed.{AreWithin}
+use Rattle.flac_subframe.specs.Spelling.{subframe_spelling, IsSubframe}
+use Rattle.flac_subframe.specs.Subframe.{Form, samples_of}
+use Rattle.flac_frame.specs.inner.Encoding.{IsLeastFor}
+use Rattle.flac_frame.specs.Stereo.{side_of, middle_of}
+use Rattle.flac_frame.specs.declared.pair_choices.PairChoices.{PairChoices}
+
+-- the codes of two channels (RFC 9639, section 9.1.3)
+abbrev pub IsPairCode : ℕ → Type 0
+IsPairCode code = (code ≡ 1) ⊎ (code ≡ 8) ⊎ (code ≡ 9) ⊎ (code ≡ 10)
+
+-- how many bits two subframes take under a code, from what those of left, right, side and middle take
+abbrev pub pair_cost : (left right side middle code : ℕ) → ℕ
+pair_cost left right side middle code = cond (nat_eq code 8) (left + side) (cond (nat_eq code 9) (side + right) (cond (nat_eq code 10) (middle + side) (left + right)))
+
+-- no code costs less, and those below cost more
+pub record IsFirstLeast (cost : ℕ → ℕ) (code : ℕ) : Type 0 where
+  pub one : IsPairCode code
+  pub least : (c : ℕ) → IsPairCode c → cost code ≤ cost c
+  pub first : (c : ℕ) → IsPairCode c → c < code → cost code < cost c
+
+-- a least form of samples, which may be spelled, has them, and takes so many bits
+pub record IsChosen (most : ℕ) (ps : List LinearPredictor) (depth : ℕ) (s : List ℤ) (f : Form) (bits : ℕ) : Type 0 where
+  pub least : IsLeastFor most ps depth s f
+  pub cost : bits ≡ length (subframe_spelling depth f)
+  pub valid : (limits : Limits) → most ≤ limits.partition → AreWithin limits.linear ps → IsSubframe depth (length s) limits f
+  pub samples : samples_of depth (length s) f ≡ Some s
+
+-- what was chosen of samples makes a least form of them
+pub record IsPlane (most : ℕ) (ps : List LinearPredictor) (depth : ℕ) (s : List ℤ) (c : WideChoice) : Type 0 where
+  pub chosen : IsChosen most ps depth s (form_in ps c s) c.bits
+  pub made : IsMadeIn ps c s
+
+-- what was chosen of left and right, of their side and of their middle (section 4.2)
+pub record ArePlanes (most : ℕ) (ps : List LinearPredictor) (depth : ℕ) (left right : List ℤ) (c : PairChoices) : Type 0 where
+  pub lefts : IsPlane most ps depth left c.left
+  pub rights : IsPlane most ps depth right c.right
+  pub sides : IsPlane most ps (depth + 1) (side_of left right) c.side
+  pub middles : IsPlane most ps depth (middle_of left right) c.middle
+
+-- how many bits two subframes take under a code
+abbrev pub choices_cost : PairChoices → ℕ → ℕ
+choices_cost c code = pair_cost c.left.bits c.right.bits c.side.bits c.middle.bits code
+
+-- which of the choices a code keeps first, and which second
+abbrev pub first_kept : ℕ → PairChoices → WideChoice
+first_kept code c = cond (nat_eq code 9) c.side (cond (nat_eq code 10) c.middle c.left)
+
+abbrev pub second_kept : ℕ → PairChoices → WideChoice
+second_kept code c = cond (nat_eq code 8) c.side (cond (nat_eq code 9) c.right (cond (nat_eq code 10) c.side c.right))

@@ -1,0 +1,37 @@
+-- For proofs of retagging: which blocks are kept, and the head that is written.
+use Rattle.std.specs.Prelude.{◌≡◌, Bool, List, [], ◌∷◌, ◌++◌, length, None, ◌<◌}
+use Rattle.flac_bits.specs.Bits.{unsigned}
+use Rattle.flac_bits.specs.State.{Cursor}
+use Rattle.flac_meta.specs.Info.{Info}
+use Rattle.flac_meta.specs.Listed.{block_fault}
+use Rattle.flac_meta.specs.declared.comments.Comments.{Comments}
+use Rattle.flac_meta.specs.declared.block.Block.{Block}
+use Rattle.flac_meta.specs.declared.block.Block.TheVariants as blocks
+use Rattle.flac_native.specs.Stream.{Piece, marked, block, framed}
+use Rattle.flac_native.specs.inner.InOrder.{MayBeWritten}
+use Rattle.flac_native.specs.Writing.{blocks_spelling}
+use Rattle.flac_native.specs.Retag.{unless_comment, without_comments, BeginsWith}
+
+-- the blocks that are kept, with those of one more part, which is no frame
+abbrev pub keeps : List Block → Piece → List Block → Type 0
+keeps old marked new = new ≡ old
+keeps old (block last b) new = new ≡ old ++ unless_comment b
+keeps old (framed f) new = ⊥
+
+-- what is kept where bits begin with a marker and blocks
+pub record AreKept (c : Cursor) (kept : List Block) (rest : List Bool) : Type 0 where
+  pub info : Info
+  pub list : List Block
+  pub input : BeginsWith c.mark c.left info list rest
+  pub are : kept ≡ blocks.StreamInfo info ∷ without_comments list
+
+-- what stands before the frames with these comments, where the first of these blocks is STREAMINFO
+abbrev pub new_head : Comments → List Block → List Bool
+new_head comments [] = []
+new_head comments (b ∷ bs) = unsigned 32 0x664C6143 ++ blocks_spelling (b ∷ blocks.VorbisComment comments ∷ bs)
+
+-- the blocks of such a head may be written
+pub record MayBeHead (comments : Comments) (kept : List Block) : Type 0 where
+  pub note : block_fault (blocks.VorbisComment comments) ≡ None
+  pub some : 0 < length kept
+  pub each : MayBeWritten kept

@@ -1,0 +1,69 @@
+-- For proofs of encoding: what was written or sent so far.
+use Rattle.std.specs.Prelude.{ℤ, ◌≡◌, ℕ, ◌<◌, ◌≤◌, Bool, true, List, ◌++◌, length, Result, OnOk, OnErr, IfErr}
+use Rattle.flac_bits.specs.Bits.{bits_of}
+use Rattle.flac_bits.specs.State.{Rises}
+use Rattle.flac_bits.specs.Written.{Written, Fails}
+use Rattle.flac_bits.specs.declared.why.Why.{Why}
+use Rattle.flac_bits.specs.declared.target.Target as target
+use Rattle.flac_bits.specs.Forms.{joined}
+use Rattle.flac_frame.specs.Audio.{Sound}
+use Rattle.flac_subframe.specs.declared.linear.LinearPredictor.{LinearPredictor}
+use Rattle.flac_frame.specs.Chosen.{IsChoiceWith}
+use Rattle.flac_frame.specs.declared.frame_choice.FrameChoice.{FrameChoice}
+use Rattle.flac_native.specs.Given.{Cut}
+use Rattle.flac_native.specs.Writing.{AreFrames, AreLeastFrames, IsSpelled}
+
+-- These bits were written and sent, at a whole byte, or else the target failed.
+pub record WritesAll {X : Type 0} (text : List Bool) (old new : Written) (result : Result X Why) : Type 0 where
+  pub failed : IfErr result (λ e. Fails (old.bits ++ text) old new e)
+  pub known : OnOk result (old.known ≡ true → new.known ≡ true)
+  pub counted : OnOk result (new.errors ≡ old.errors)
+  pub names : new.names ≡ old.names
+  pub sent : OnOk result (old.known ≡ true → bits_of new.sent ≡ old.bits ++ text)
+
+-- These bits were written, from a whole byte to one, or else the target failed. The checks may have begun anew among them, and the last bits may be held.
+pub record WritesOn {X : Type 0} (text : List Bool) (old new : Written) (result : Result X Why) : Type 0 where
+  pub failed : IfErr result (λ e. Fails (old.bits ++ text) old new e)
+  pub known : OnOk result (old.known ≡ true → new.known ≡ true)
+  pub counted : OnOk result (new.errors ≡ old.errors)
+  pub names : new.names ≡ old.names
+  pub bits : OnOk result (old.known ≡ true → new.bits ≡ old.bits ++ text)
+  pub whole : OnOk result (new.mark.unread ≡ 0)
+
+-- so it is of the least frame of a number
+abbrev pub WritesNext : {X : Type 0} → Cut → Sound → ℕ → Written → Written → Result X Why → Type 0
+WritesNext p a number old new result = (text : List Bool) × IsSpelled p a number text × WritesAll text old new result
+
+-- the second choice is the first, whatever was chosen
+pub record IsKept (c kept : FrameChoice) : Type 0 where
+  pub same : (ps : List LinearPredictor) (a : Sound) (size number : ℕ) (block : List (List ℤ)) → IsChoiceWith ps a size number block c → IsChoiceWith ps a size number block kept
+  pub many : length kept.subframes.items ≡ length c.subframes.items
+
+-- A call that was to send whole bytes of these bits sent all of them where it answered Ok, and else a beginning of them; then the target answered an error.
+pub record SendsBits {S X E : Type 0} (g : target.Ghosts S) (text : List Bool) (old new : S) (result : Result X E) : Type 0 where
+  pub known : OnOk result (g.known old ≡ true → g.known new ≡ true)
+  pub sent : OnOk result (g.known old ≡ true → bits_of (g.sent new) ≡ bits_of (g.sent old) ++ text)
+  pub begun : OnErr result (g.known old ≡ true → (front : List Bool) × (rest : List Bool) × (text ≡ front ++ rest) × (bits_of (g.sent new) ≡ bits_of (g.sent old) ++ front))
+  pub names : g.names new ≡ g.names old
+  pub counted : OnOk result (g.errors new ≡ g.errors old)
+  pub kept : g.errors old ≤ g.errors new
+  pub rises : OnErr result (g.known old ≡ true → g.errors old < g.errors new)
+  pub risen : OnErr result (Rises (g.errors old) (g.errors new))
+
+-- each block of the samples has a least frame
+pub record HaveFrames (p : Cut) (a : Sound) : Type 0 where
+  pub frames : List (List Bool)
+  pub are : AreFrames p a frames
+  pub are_least : AreLeastFrames p a frames
+
+-- all frames of the samples were written, each the least of its block
+abbrev pub WritesFrames : {X : Type 0} → Cut → Sound → Written → Written → Result X Why → Type 0
+WritesFrames p a old new result = (frames : List (List Bool)) × AreFrames p a frames × AreLeastFrames p a frames × WritesOn (joined frames) old new result
+
+-- behind other bits they were written and sent
+abbrev pub WritesStream : {X : Type 0} → List Bool → Cut → Sound → Written → Written → Result X Why → Type 0
+WritesStream head p a old new result = (frames : List (List Bool)) × AreFrames p a frames × AreLeastFrames p a frames × WritesAll (head ++ joined frames) old new result
+
+-- behind other bits all of them were sent, or else a beginning
+abbrev pub SendsStream : {S X E : Type 0} → target.Ghosts S → List Bool → Cut → Sound → S → S → Result X E → Type 0
+SendsStream g head p a old new result = (frames : List (List Bool)) × AreFrames p a frames × AreLeastFrames p a frames × SendsBits g (head ++ joined frames) old new result

@@ -1,0 +1,41 @@
+-- For proofs of reading packets: how a call ends one, and why.
+use Rattle.std.specs.Prelude.{◌≡◌, ◌≢◌, ◌≤◌, ◌+◌, ℕ, length, true, false, Option, Some, None, Result, Ok, Err}
+use Rattle.flac_bits.specs.declared.why.Why.{Why}
+use Rattle.flac_bits.specs.declared.why.Why.TheVariants.{Read, Truncated, PacketLength}
+use Rattle.flac_pages.specs.Packets.{Place, Met, behind_of}
+use Rattle.flac_pages.specs.Items.{PacketEnd, whole, cut_at, end_of, cut_off}
+
+-- the reason where a field needs more bits than the packet has
+abbrev pub short_at : PacketEnd → Why
+short_at (cut_at n why) = Read
+short_at other = Truncated
+
+-- ---- how it is read
+
+-- a reason of an item's reader, told of the packet, where the reader met this page's fault, if any
+abbrev pub why_in : Option (ℕ × Why) → Why → Option ℕ × Why
+why_in fault Truncated = (None, PacketLength)
+why_in None Read = (None, Read)
+why_in (Some f) Read = (Some f.0, f.1)
+why_in fault why = (None, why)
+
+-- ---- what the calls do that judge a packet's end
+
+-- A reader of packets went behind the packet that it had begun, to where the next one begins. Or the packet does not end there, and this is why.
+abbrev pub EndsPacket : {X : Type 0} → Place → Place → Result X (Option ℕ × Why) → Type 0
+EndsPacket old new (Ok x) = record {
+  known : old.known ≡ true → new.known ≡ true;
+  errors : new.errors ≡ old.errors;
+  raised : new.raised ≡ old.raised;
+  names : new.names ≡ old.names;
+  stands : (new.rest ≡ 0) × (new.more ≡ false);
+  room : new.most + length new.body ≤ old.most + length old.body;
+  ended : old.known ≡ true → end_of (behind_of old) ≡ whole;
+  behind : old.known ≡ true → behind_of new ≡ behind_of old;
+}
+EndsPacket old new (Err why) = record {
+  errors : old.errors ≤ new.errors;
+  met : Met why.1 old.raised new.raised;
+  names : new.names ≡ old.names;
+  fault : old.known ≡ true → new.errors ≡ old.errors → (end_of (behind_of old) ≢ whole) × (why ≡ cut_off (end_of (behind_of old)));
+}

@@ -1,0 +1,8 @@
+-- What private contracts and proofs need, and no contract of an exported function.
+pub mod Sums
+pub mod Least
+pub mod Cost
+pub mod Halves
+pub mod Chosen
+pub mod Family
+pub mod Products

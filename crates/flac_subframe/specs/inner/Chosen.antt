@@ -1,0 +1,63 @@
+-- For proofs of the search: what the best choice so far is.
+use Rattle.std.specs.Prelude.{ℕ, ℤ, List, [], length, ◌≡◌, ◌<◌, ◌≤◌, ◌^◌, ◌⊎◌, All}
+use Rattle.flac_subframe.specs.Least.{IsLeast}
+use Rattle.flac_bits.specs.Rice.{IsResidual}
+use Rattle.flac_subframe.specs.Cost.{MayWrite}
+use Rattle.flac_subframe.specs.inner.Cost.{residual_cost}
+use Rattle.flac_subframe.specs.Cost.{Codings, codings_of, codings_in}
+use Rattle.flac_subframe.specs.declared.choice.PricedChoice.{PricedChoice}
+use Rattle.flac_subframe.specs.declared.choice.Kind.{Kind}
+use Rattle.flac_subframe.specs.declared.choice.Kind.TheVariants.{Constant, Verbatim, Fixed, Linear}
+use Rattle.flac_subframe.specs.declared.held.HeldKind.{HeldKind}
+use Rattle.flac_subframe.specs.declared.held.HeldKind.TheVariants.{AsConstant, AsVerbatim, AsFixed, AsLinear}
+use Rattle.flac_subframe.specs.declared.held.Held.{Held}
+use Rattle.flac_subframe.specs.declared.linear.LinearPredictor.{LinearPredictor}
+use Rattle.flac_subframe.specs.Bodies.{Chooses, differences, StandsFor, spelled}
+use Rattle.flac_subframe.specs.Chosen.{body_held, IsHeld}
+
+-- a way to write samples, and how many bits it takes; of the codings only a kind with a residual makes use
+pub record Way : Type 0 where
+  pub kind : HeldKind
+  pub codings : Codings
+  pub bits : ℕ
+
+-- the best so far, and the bytes of its codings
+abbrev pub way_held : Held → List ℕ → Way
+way_held h bytes = record { kind = h.kind; codings = codings_in h.found bytes; bits = h.bits }
+
+abbrev pub no_codings : Codings
+no_codings = record { parameter_bits = 4; halvings = 0; codings = [] }
+
+abbrev pub held_as : Kind → HeldKind
+held_as Constant = AsConstant
+held_as Verbatim = AsVerbatim
+held_as (Fixed order residual) = AsFixed order
+held_as (Linear index residual) = AsLinear index
+
+abbrev pub codings_by : Kind → Codings
+codings_by Constant = no_codings
+codings_by Verbatim = no_codings
+codings_by (Fixed order residual) = codings_of residual
+codings_by (Linear index residual) = codings_of residual
+
+abbrev pub way_priced : PricedChoice → Way
+way_priced p = record { kind = held_as p.kind; codings = codings_by p.kind; bits = p.bits }
+
+-- a way, whose linear predictor is one of those that are handed in, is the least by the predictors that were tried
+pub record IsBest (handed : List LinearPredictor) (most bits : ℕ) (s : List ℤ) (tried : List Chooses) (w : Way) : Type 0 where
+  pub within : IsHeld handed w.kind
+  pub least : IsLeast (λ b. StandsFor most tried b s) (λ b. length (spelled bits b)) (body_held handed w.kind w.codings s)
+  pub priced : w.bits ≡ length (spelled bits (body_held handed w.kind w.codings s))
+  pub small : w.bits ≤ 2 ^ 60
+
+-- codings are the least for what a predictor leaves, and take n bits
+pub record IsLeastOf (most : ℕ) (cs : List ℤ) (shift : ℕ) (s : List ℤ) (f : Codings) (n : ℕ) : Type 0 where
+  pub room : length cs < length s
+  pub range : All IsResidual (differences cs shift s)
+  pub least : IsLeast (MayWrite most (length cs) (differences cs shift s)) (residual_cost (length cs) (differences cs shift s)) f
+  pub bits : n ≡ residual_cost (length cs) (differences cs shift s) f
+  pub small : n ≤ 2 ^ 49
+
+-- the predictor cannot be used: its order is too large, or it leaves a value out of range
+abbrev pub HasNone : List ℤ → ℕ → List ℤ → Type 0
+HasNone cs shift s = (length s ≤ length cs) ⊎ (All IsResidual (differences cs shift s) → ⊥)
