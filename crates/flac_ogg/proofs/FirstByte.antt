@@ -3,7 +3,6 @@ use Rattle.std.proofs.Common.{◌≡◌, ℕ, ◌<◌, Bool, true, false, List, 
 use Rattle.flac_bits.specs.State.{Mark}
 use Rattle.flac_bits.specs.Handing.{Hands}
 use Rattle.flac_bits.specs.declared.why.Why.{Why}
-use Rattle.flac_bits.specs.declared.why.Why.TheVariants.{Read}
 use Rattle.flac_native.specs.Stream.{Piece}
 use Rattle.flac_native.specs.declared.fault.Place.{Place}
 use Rattle.flac_native.specs.declared.fault.Place.TheVariants as place
@@ -29,17 +28,17 @@ begins_nothing profile true mark text = (goes_begins profile mark text [] (start
 begins_nothing profile false mark text = ([], text, refl, refl)
 
 -- at the marker it is told that a call was broken off before the first item
-breaks_nothing : (profile : Profile) (is_ogg : Bool) (mark : Mark) (text : List Bool) (at : Place) (why : Why) → at ≡ place.Marker → why ≡ Read → (read_either profile is_ogg mark text).breaks [] at why
-breaks_nothing profile true mark text at why e is = inr (refl, is, e)
-breaks_nothing profile false mark text at why e is = e
+breaks_nothing : (profile : Profile) (is_ogg : Bool) (mark : Mark) (text : List Bool) (at : Place) (why : Why) → at ≡ place.Marker → (read_either profile is_ogg mark text).breaks [] at why
+breaks_nothing profile true mark text at why e = inr (refl, e)
+breaks_nothing profile false mark text at why e = e
 
 -- the source failed before the first item
 pub nothing_came : {K : Type 0} (profile : Profile) (is_ogg : Bool) (mark : Mark) (text : List Bool) (takes : K → Piece → K → Type 0) (errors : K → ℕ) (calm : Type 0) (sink : K) (outcome : Option (Place × Why))
-    → (calm → ⊥) → ((at : Place) (why : Why) → outcome ≡ Some (at, why) → (at ≡ place.Marker) × (why ≡ Read)) → Hands (read_either profile is_ogg mark text) takes errors calm sink sink outcome
+    → (calm → ⊥) → ((at : Place) (why : Why) → outcome ≡ Some (at, why) → at ≡ place.Marker) → Hands (read_either profile is_ogg mark text) takes errors calm sink sink outcome
 nothing_came profile is_ogg mark text takes errors calm sink outcome none marker = record {
   done = λ quiet e. absurd (none quiet);
   refused = λ quiet at why e room same. absurd (none quiet);
   begun = ([], sink, begins_nothing profile is_ogg mark text, refl, λ same. refl);
-  broken = λ at why e out. ([], begins_nothing profile is_ogg mark text, breaks_nothing profile is_ogg mark text at why (marker at why e).0 (marker at why e).1, refl);
+  broken = λ at why e out. ([], begins_nothing profile is_ogg mark text, breaks_nothing profile is_ogg mark text at why (marker at why e), refl);
   failed = λ rose. absurd (omega (arith, rose));
 }

@@ -26,12 +26,12 @@ abbrev pub IsBrokenAt : ℕ → Progress → Place → Why → Type 0
 IsBrokenAt n p at why = (why ≡ Read → at ≡ place.Page n) × (why ≡ Memory → (p.stand.phase ≢ Frames) × (at ≡ grammar.place p))
 
 -- it is an Ogg stream of these items, or is refused behind them, or its first packets are these items; the next one stands where it would in a native stream.
--- Before the first item an error of the device may be told at the marker too
+-- Before the first item either may be told at the marker too
 abbrev pub ogg_reading : Profile → Mark → List Bool → Reading Piece Place
 ogg_reading profile mark text = record {
   whole = λ items. OggStream profile mark items text;
   refused = λ items at why. OggRefused profile mark items text at why;
   begins = λ items. BeginsWith profile mark items text;
   place = λ items. grammar.place (after grammar (start profile) items);
-  breaks = λ items at why. ((n : ℕ) × IsBrokenAt n (after grammar (start profile) items) at why) ⊎ ((items ≡ []) × (why ≡ Read) × (at ≡ place.Marker));
+  breaks = λ items at why. ((n : ℕ) × IsBrokenAt n (after grammar (start profile) items) at why) ⊎ ((items ≡ []) × (at ≡ place.Marker));
 }

@@ -17,4 +17,4 @@ returns-in_err-front-clause-hands g c =
     let source = c.args.source.now in
     let rose : R.raised source < R.raised c.pull_front.new.source = search (rules, known) in
     nothing_came c.args.profile (begins_page (R.coming source)) (beginning (short_of ((R.behind source).fails))) (bits_of (R.coming source)) (taken g.S.Sink.takes) g.S.Sink.errors _ c.args.sink.now _ (λ q. omega (arith, rose, q.1))
-    (λ at why e. (sym (same_end _ at _ why e).0 ∙ place, sym (same_end _ at _ why e).1 ∙ c.in_err-front.ensures.why)))
+    (λ at why e. sym (same_end _ at _ why e).0 ∙ place))

@@ -30,7 +30,7 @@ pub invariant_of-result : goal.invariant_of-result
 invariant_of-result g c = record {
   shape = c.in_ok-head.ensures.accepted;
   predictors = none_tried Subset c.args.rate c.new-in-Ok-send_all.result.items c.new-in-Ok-send_all.ensures.items;
-  buffers = c.in-Ok-new.ensures.ok;
+  buffers = c.in-Ok.ensures.ok;
   number = omega arith;
   samples = omega arith;
 }
