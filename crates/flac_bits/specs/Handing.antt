@@ -1,7 +1,7 @@
 -- What a call hands to a receiver, which reads a stream item by item.
 use Rattle.std.specs.Prelude.{◌≡◌, ◌≢◌, ◌<◌, ℕ, Bool, List, [], ◌∷◌, ◌++◌, Option, Some, None, Result, Ok, Err, ◌⊎◌}
 use Rattle.flac_bits.specs.State.{Mark}
-use Rattle.flac_bits.specs.Items.{Grammar, after, Joined, Stream, Refused, refused}
+use Rattle.flac_bits.specs.Items.{Grammar, after, Joined, Stream, Refused}
 use Rattle.flac_bits.specs.declared.why.Why.{Why}
 use Rattle.flac_bits.specs.declared.why.Why.TheVariants.{Memory, Read, Sink}
 

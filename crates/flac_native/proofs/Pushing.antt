@@ -284,7 +284,23 @@ counts_fit n channels e some few = (grind (arith, nat_tests), grind (arith, nat_
 still_room : (samples n number : ℕ) → (nat_le (2 ^ 36) (samples + n) || nat_le (2 ^ 31) number) ≡ false → (samples + n < 2 ^ 36) × (number < 2 ^ 31) × (nat_le (2 ^ 36) n ≡ false)
 still_room samples n number e = (grind (arith, nat_tests), grind (arith, nat_tests), grind (arith, nat_tests))
 
+few_each : (n : ℕ) → n ≤ 65535 → nat_le (2 ^ 36) n ≡ false
+few_each n few = grind (arith, nat_tests)
+
+-- a block that fits a format can be encoded
+pub fits_format : (s : Shape) (block : List (List ℤ)) → shape_fault s ≡ None → block_fault s.channels s.bits block ≡ None → samples_each block ≤ s.block_size → audio_fault s.profile s.rate s.bits block ≡ None
+unfolding block_fault audio_fault channels_fault
+fits_format s block shape h small =
+    let q = shaped s shape in
+    let c = first_none (not (nat_eq (length block) s.channels)) _ _ h in
+    let d = first_none (not (as_long block)) _ _ c.1 in
+    let f = first_none (not (each_small s.bits block)) _ _ d.1 in
+    let counts = counts_fit (length block) s.channels c.0 q.some q.few in
+    let few = few_each (samples_each block) (omega (arith, small, q.small)) in
+    rw (q.has_rate, q.has_bits, counts.1, d.0, f.0, few) refl
+
 pub record Accepted {S : Type 0} (e : Pushed S) (block : List (List ℤ)) : Type 0 where
+  pub fits : block_fault e.shape.channels e.shape.bits block ≡ None
   pub good : audio_fault e.shape.profile e.shape.rate e.shape.bits block ≡ None
   pub many : length block ≡ e.shape.channels
   pub some : 0 < samples_each block
@@ -311,6 +327,7 @@ accepted e block shape h =
     let room = still_room e.samples n e.number g.0 in
     let size = either_false _ _ i.0 in
     record {
+      fits = b.0;
       good = rw (q.has_rate, q.has_bits, counts.1, d.0, f.0, room.2) refl;
       many = counts.0;
       some = not_zero n size.0;

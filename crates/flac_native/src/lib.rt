@@ -9,6 +9,7 @@
 //! | encode outside the streamable subset | [`Audio::new_in`] |
 //! | try linear predictors of one's own | [`LinearPredictor`] and [`Plan::with_predictors`] |
 //! | encode a block at a time | [`StreamEncoder`] |
+//! | encode one block as a frame | [`StreamFormat::encode_block`] |
 //! | replace the comments | [`retag`] |
 //!
 //! It re-exports what its users need from the crates below: sources and targets, metadata blocks, frames, and errors. A
@@ -42,7 +43,7 @@ pub use fault::{EncodeFault, Fault, Place};
 pub use flac_bits::{
     BitReader, BitWriter, Collected, Counted, Memory, Pieces, Source, Target, Why,
 };
-pub use flac_frame::{Audio, FrameView, SetupFault, greatest_order};
+pub use flac_frame::{Audio, EncodeBuffers, FrameView, SetupFault, greatest_order};
 pub use flac_header::Profile;
 pub use flac_meta::{
     Block, BlockList, Bytes, Comments, CueIndex, CueIndices, CueSheet, CueTrack, CueTracks,

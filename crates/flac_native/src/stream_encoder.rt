@@ -6,7 +6,7 @@ ghost use Rattle.std.specs.List.{list_all};
 ghost use Rattle.flac_bits.specs.Bits.{bits_of};
 ghost use Rattle.flac_subframe.specs.Numbers.{fits};
 ghost use Rattle.flac_subframe.specs.Handed.{AreWithin};
-ghost use Rattle.flac_frame.specs.Audio.{samples_each, audio_fault};
+ghost use Rattle.flac_frame.specs.Audio.{samples_each};
 ghost use Rattle.flac_frame.specs.Encoding.{most_in};
 ghost use Rattle.flac_frame.specs.Frame.{limits_at};
 ghost use Rattle.flac_native.specs.Given.{predictors_fault};
@@ -117,11 +117,17 @@ impl StreamFormat {
     }
 
     /// Encodes a block of the format as the frame of this number, in memory (RFC 9639, section 9): a shortest frame, also
-    /// over these linear predictors. The frame has `number` in its header, counted from 0.
+    /// over these linear predictors. The frame has `number` in its header, counted from 0 and below 2^31 (section 9.1.5).
     ///
     /// The caller sees to it that nothing is refused: the format and the block have no fault
     /// ([`StreamFormat::fault`], [`StreamFormat::block_fault`]), nor have the predictors ([`crate::predictors_fault`]); the block
-    /// has at least one sample, and at most as many as the buffers were made for, in the format's profile.
+    /// has at least one sample, and at most as many as the format's blocks; and the buffers were made for the profile and
+    /// the block size of the format.
+    ///
+    /// ```
+    /// let mut buffers = EncodeBuffers::new_in(alloc, format.profile, format.block_size)?;
+    /// let frame = format.encode_block(alloc, &[], &[left.as_slice(), right.as_slice()], 0, &mut buffers)?;
+    /// ```
     ///
     /// # Errors
     /// [`Why::Memory`] if an allocation fails.
@@ -133,10 +139,12 @@ impl StreamFormat {
         number: u64,
         buffers: &mut EncodeBuffers,
     ) -> Result<Vec<u8>, Why>
-        requires good { audio_fault self.now.profile self.now.rate self.now.bits (map (λ c. c.now) block.now) ≡ None }
+        requires format { shape_fault (shape_of self.now) ≡ None }
+        requires block { block_fault self.now.channels self.now.bits (map (λ c. c.now) block.now) ≡ None }
         requires predictors { predictors_fault self.now.profile self.now.rate predictors.now ≡ None }
         requires some { 0 < samples_each (map (λ c. c.now) block.now) }
-        requires room { samples_each (map (λ c. c.now) block.now) ≤ buffers.old.block }
+        requires size { samples_each (map (λ c. c.now) block.now) ≤ self.now.block_size }
+        requires room { self.now.block_size ≤ buffers.old.block }
         requires most { most_in self.now.profile ≤ buffers.old.most }
         requires number { number < 2 ^ 31 }
         ensures kept { buffers.new ≡ buffers.old }

@@ -3,8 +3,8 @@
 use flac_bits::{Collected, Counted, Memory, Target};
 use flac_meta::BlockList;
 use flac_native::{
-    Decoder, EncodeFault, LinearPredictor, Profile, SetupFault, StreamEncoder, StreamFormat,
-    block_len, predictors_fault,
+    Decoder, EncodeBuffers, EncodeFault, LinearPredictor, Profile, SetupFault, StreamEncoder,
+    StreamFormat, block_len, predictors_fault,
 };
 use flac_testing::{Narrow, Recorder, count_rising, number_of};
 use std::alloc::Global;
@@ -57,6 +57,43 @@ fn one_sample(rt: HostRuntime) -> Result<(), Fail> {
     let wanted = hex::decode(alloc, ONE)?;
     assert!(rt; answers == [0, 19, 46, 42]);
     assert!(rt; target.bytes() == wanted.as_slice());
+    Ok(())
+}
+
+/// The block of the stream above as a frame by itself, if the format, the block and the list have no fault.
+fn one_frame(alloc: Global) -> Result<Option<Vec<u8>>, Fail> {
+    let format = StreamFormat {
+        profile: Profile::Subset,
+        rate: 44100,
+        bits: 16,
+        channels: 2,
+        block_size: 4096,
+    };
+    let (left, right) = ([25588], [10416]);
+    let block = [left.as_slice(), right.as_slice()];
+    let list: [LinearPredictor; 0] = [];
+    let mut buffers = EncodeBuffers::new_in(alloc, format.profile, format.block_size)?;
+    let faults = (
+        format.fault(),
+        format.block_fault(&block),
+        predictors_fault(format.profile, format.rate, &list),
+    );
+    let frame = match faults {
+        (None, None, None) => format
+            .encode_block(alloc, &list, &block, 0, &mut buffers)
+            .map(Some),
+        _ => Ok(None),
+    };
+    drop(buffers);
+    Ok(frame?)
+}
+
+/// A format encodes the block as the frame that the stream has behind its 42 bytes of metadata.
+#[test]
+fn one_block(rt: HostRuntime) -> Result<(), Fail> {
+    let frame = one_frame(rt.alloc())?;
+    let wanted = hex::decode(rt.alloc(), ONE)?;
+    assert!(rt; frame.is_some_and(|it| it.as_slice() == &wanted[42..]));
     Ok(())
 }
 

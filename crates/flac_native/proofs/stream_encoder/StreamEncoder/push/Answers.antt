@@ -19,16 +19,17 @@ returns-in-Some-clause-failed g c = λ w known. never_write _ _ _ _ c.push_fault
 pub returns-in-Some-clause-risen : goal.returns-in-Some-clause-risen
 returns-in-Some-clause-risen g c = λ w few. never_write _ _ _ _ c.push_fault.ensures c.in-Some.is w
 
-pub encode_block-requires-clause-good : goal.encode_block-requires-clause-good
-encode_block-requires-clause-good g c = let a = not_refused _ _ _ _ c.self.view_is c.self.invariant.shape c.push_fault.ensures c.in_default.is in a.good
+pub encode_block-requires-clause-block : goal.encode_block-requires-clause-block
+encode_block-requires-clause-block g c = let a = not_refused _ _ _ _ c.self.view_is c.self.invariant.shape c.push_fault.ensures c.in_default.is in a.fits
 
 pub encode_block-requires-clause-some : goal.encode_block-requires-clause-some
 encode_block-requires-clause-some g c = let a = not_refused _ _ _ _ c.self.view_is c.self.invariant.shape c.push_fault.ensures c.in_default.is in a.some
 
+pub encode_block-requires-clause-size : goal.encode_block-requires-clause-size
+encode_block-requires-clause-size g c = let a = not_refused _ _ _ _ c.self.view_is c.self.invariant.shape c.push_fault.ensures c.in_default.is in a.most
+
 pub encode_block-requires-clause-room : goal.encode_block-requires-clause-room
-encode_block-requires-clause-room g c =
-    let a = not_refused _ _ _ _ c.self.view_is c.self.invariant.shape c.push_fault.ensures c.in_default.is in
-    subst (λ (r : Room). samples_each (map (λ b. b.now) c.args.block.now) ≤ r.block) (sym c.self.invariant.buffers) a.most
+encode_block-requires-clause-room g c = subst (λ (r : Room). c.self.inside.format.block_size ≤ r.block) (sym c.self.invariant.buffers) (omega arith)
 
 pub encode_block-requires-clause-number : goal.encode_block-requires-clause-number
 encode_block-requires-clause-number g c = let a = not_refused _ _ _ _ c.self.view_is c.self.invariant.shape c.push_fault.ensures c.in_default.is in a.number

@@ -39,11 +39,11 @@ returns-in-Some-clause-risen g c =
     let at = fault_here _ _ (map (λ b. b.now) c.args.block.now) _ c.self.view_is c.push_fault.ensures in
     λ w few. never_write _ _ _ _ at.1 c.in-Some.is w
 
-pub encode_block-requires-clause-good : goal.encode_block-requires-clause-good
-encode_block-requires-clause-good g c =
+pub encode_block-requires-clause-block : goal.encode_block-requires-clause-block
+encode_block-requires-clause-block g c =
     let at = fault_here _ _ (map (λ b. b.now) c.args.block.now) _ c.self.view_is c.push_fault.ensures in
     let a = not_refused _ _ _ _ refl c.self.invariant.shape at.0 c.in_default.is in
-    a.good
+    a.fits
 
 pub encode_block-requires-clause-some : goal.encode_block-requires-clause-some
 encode_block-requires-clause-some g c =
@@ -51,11 +51,14 @@ encode_block-requires-clause-some g c =
     let a = not_refused _ _ _ _ refl c.self.invariant.shape at.0 c.in_default.is in
     a.some
 
-pub encode_block-requires-clause-room : goal.encode_block-requires-clause-room
-encode_block-requires-clause-room g c =
+pub encode_block-requires-clause-size : goal.encode_block-requires-clause-size
+encode_block-requires-clause-size g c =
     let at = fault_here _ _ (map (λ b. b.now) c.args.block.now) _ c.self.view_is c.push_fault.ensures in
     let a = not_refused _ _ _ _ refl c.self.invariant.shape at.0 c.in_default.is in
-    subst (λ (r : Room). samples_each (map (λ b. b.now) c.args.block.now) ≤ r.block) (sym c.self.invariant.buffers) a.most
+    a.most
+
+pub encode_block-requires-clause-room : goal.encode_block-requires-clause-room
+encode_block-requires-clause-room g c = subst (λ (r : Room). c.self.inside.format.block_size ≤ r.block) (sym c.self.invariant.buffers) (omega arith)
 
 pub encode_block-requires-clause-most : goal.encode_block-requires-clause-most
 encode_block-requires-clause-most g c = subst (λ (r : Room). most_in c.self.inside.format.profile ≤ r.most) (sym c.self.invariant.buffers) (omega arith)
