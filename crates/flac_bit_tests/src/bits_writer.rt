@@ -33,28 +33,28 @@ fn put_step<W: Target>(writer: &mut BitWriter<W>, step: &str) -> Result<(), Fail
     Ok(())
 }
 
-/// Makes the calls of a row, and writes out the last bits.
+/// Makes the calls of a row.
 fn put_steps<W: Target>(writer: &mut BitWriter<W>, calls: &str) -> Result<(), Fail> {
     for step in calls.split(", ") {
         put_step(writer, step)?;
     }
-    writer.finish()?;
     Ok(())
 }
 
-/// The bytes that these calls write.
-fn written(alloc: Global, calls: &str) -> Result<Vec<u8>, Fail> {
+/// How many bytes the writer counts after these calls, and the bytes that they write.
+fn written(alloc: Global, calls: &str) -> Result<(u64, Vec<u8>), Fail> {
     let mut writer = BitWriter::new(Collected::new(alloc));
     put_steps(&mut writer, calls)?;
-    Ok(writer.into_target().into_bytes())
+    let count = writer.bytes_written();
+    Ok((count, writer.into_bytes()?))
 }
 
-/// Whether the calls of a row write its bytes.
+/// Whether the calls of a row write its bytes, and the writer counts them.
 fn is_written(alloc: Global, row: &str) -> Result<bool, Fail> {
     let (calls, words) = row.split_once(" | ").unwrap_or((row, ""));
     let wanted = bytes_of(alloc, words)?;
-    let found = written(alloc, calls)?;
-    Ok(found.as_slice() == wanted.as_slice())
+    let (count, found) = written(alloc, calls)?;
+    Ok(count == wanted.len() as u64 && found.as_slice() == wanted.as_slice())
 }
 
 #[test]

@@ -250,6 +250,52 @@ fn writes_packets_of_whole_segments(rt: HostRuntime) -> Result<(), Fail> {
     Ok(())
 }
 
+/// Packets of whole segments of zeros, each the last of its stream: how many bytes it has, the number of the page after it, and its pages.
+const LAST_PACKETS: [(usize, u32, &str); 3] = [
+    (
+        255,
+        8,
+        "4f6767530004050000000000000001000000070000001dd3163d02ff00 00*255",
+    ),
+    (
+        510,
+        8,
+        "4f676753000405000000000000000100000007000000f432592903ffff00 00*510",
+    ),
+    (
+        65025,
+        9,
+        "4f6767530000ffffffffffffffff010000000700000014b55703ff ff*255 00*65025
+4f6767530005050000000000000001000000080000001e30ee150100",
+    ),
+];
+
+/// Whether a packet of this many zeros is written as these pages, and `next` is the number of the page after them.
+fn writes_zeros(
+    alloc: Global,
+    marks: PacketMarks,
+    length: usize,
+    next: u32,
+    pages: &str,
+) -> Result<bool, Fail> {
+    let zeros = vec![in alloc; 0u8; length]?;
+    let (after, found) = written(alloc, marks, &zeros)?;
+    Ok(after == next && found.as_slice() == bytes_of(alloc, pages)?.as_slice())
+}
+
+#[test]
+fn last_packets_of_whole_segments(rt: HostRuntime) -> Result<(), Fail> {
+    let mut marks = marks_of(7, PacketKind::Frame { end: 5 });
+    marks.last = true;
+    for (length, next, pages) in LAST_PACKETS {
+        assert!(rt;
+            writes_zeros(rt.alloc(), marks, length, next, pages)?,
+            "{length}"
+        );
+    }
+    Ok(())
+}
+
 /// Pages of a packet of 70000 zeros: of header packets each tells position 0, of frames the one on which it ends tells its samples.
 const LONG_HEADER: &str = "4f676753000000000000000000000100000001000000dc77ac19ff ff*255 00*65025
 4f676753000100000000000000000100000002000000540b04a814 ff*19 82 00*4975";
@@ -257,11 +303,9 @@ const LONG_HEADER: &str = "4f676753000000000000000000000100000001000000dc77ac19f
 const LONG_FRAME: &str = "4f6767530000ffffffffffffffff01000000010000006b5464fbff ff*255 00*65025
 4f676753000100100000000000000100000002000000de4eb8b414 ff*19 82 00*4975";
 
-/// Whether a packet of this kind of 70000 zeros is written as these pages.
+/// Whether a packet of this kind of 70000 zeros is written as these two pages.
 fn writes_long(alloc: Global, kind: PacketKind, pages: &str) -> Result<bool, Fail> {
-    let zeros = vec![in alloc; 0u8; 70000]?;
-    let (_, found) = written(alloc, marks_of(1, kind), &zeros)?;
-    Ok(found.as_slice() == bytes_of(alloc, pages)?.as_slice())
+    writes_zeros(alloc, marks_of(1, kind), 70000, 3, pages)
 }
 
 #[test]
