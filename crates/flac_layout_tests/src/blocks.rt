@@ -2,8 +2,9 @@
 
 use flac_bits::{BitReader, BitWriter, Collected, Memory, Why};
 use flac_meta::{
-    Block, BlockList, Bytes, Comments, CueIndices, CueTrack, CueTracks, SeekPoint, SeekTable, Seen,
-    StreamInfo, Texts, blocks_are_spelled, read_block, write_block, write_comments,
+    Block, BlockList, Bytes, Comments, CueIndices, CueSheet, CueTrack, CueTracks, SeekPoint,
+    SeekTable, Seen, StreamInfo, Texts, blocks_are_spelled, read_block, write_block,
+    write_comments,
 };
 use flac_vectors::bytes_of;
 use std::alloc::Global;
@@ -381,6 +382,16 @@ fn other_picture(alloc: Global) -> Block {
     }
 }
 
+/// A cue sheet of zeros, which has no tracks.
+fn sheet_of_zeros(alloc: Global) -> Block {
+    Block::CueSheet(CueSheet {
+        catalogue: [0; 128],
+        lead_in: 0,
+        cd: false,
+        tracks: CueTracks::from_vec(Vec::new(alloc)),
+    })
+}
+
 /// Why no list is made of a cue sheet without tracks.
 fn sheet_fault(alloc: Global) -> Result<Option<Why>, Fail> {
     let sheet = sheet_without_tracks(alloc)?;
@@ -395,6 +406,8 @@ fn blocks_without_a_list(rt: HostRuntime) -> Result<(), Fail> {
     assert!(rt; padding == Ok(Some(Why::BlockLength)));
     let sheet = sheet_fault(rt.alloc())?;
     assert!(rt; sheet == Some(Why::CueSheet));
+    let zeros = fault(rt.alloc(), sheet_of_zeros(rt.alloc()));
+    assert!(rt; zeros == Ok(Some(Why::CueSheet)));
     Ok(())
 }
 
@@ -404,12 +417,24 @@ const POINT: SeekPoint = SeekPoint {
     length: 4096,
 };
 
+const OTHER_POINT: SeekPoint = SeekPoint {
+    sample: 1,
+    offset: 0,
+    length: 1,
+};
+
+/// Why no list is made of a seek table that has this point twice.
+fn twice_fault(alloc: Global, point: SeekPoint) -> Result<Option<Why>, Fail> {
+    let table = SeekTable::from_vec(vec![in alloc; point; 2]?);
+    Ok(fault(alloc, Block::SeekTable(table))?)
+}
+
 #[test]
 fn points_rise(rt: HostRuntime) -> Result<(), Fail> {
-    let alloc = rt.alloc();
-    let table = SeekTable::from_vec(vec![in alloc; POINT; 2]?);
-    let refused = fault(alloc, Block::SeekTable(table))?;
-    assert_eq!(rt; refused, Some(Why::SeekOrder));
+    for point in [POINT, OTHER_POINT] {
+        let refused = twice_fault(rt.alloc(), point)?;
+        assert!(rt; refused == Some(Why::SeekOrder));
+    }
     Ok(())
 }
 
