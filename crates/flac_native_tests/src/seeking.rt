@@ -5,7 +5,7 @@ use flac_frame::{Audio, FrameView};
 use flac_meta::{Block, BlockList, SeekPoint, SeekTable, StreamInfo};
 use flac_native::{Container, Decoder, EncodeFault, Item, Plan, Profile, encode};
 use flac_testing::{encoded, ends};
-use flac_vectors::TEN_THOUSAND;
+use flac_vectors::{TEN_THOUSAND, bytes_of};
 use std::alloc::Global;
 use std::mem::drop;
 use std::process::Abort;
@@ -84,13 +84,27 @@ fn written_with_points(rt: HostRuntime) -> Result<(), Fail> {
     Ok(())
 }
 
-/// Reads the second and the third frame, and the end.
-fn two_and_end<C: Container>(rt: &impl Abort, decoder: &mut Decoder<C>) {
-    let second = Some((1, 1, 4096, Some(4096), Some(8191)));
-    assert!(rt; next_frame(decoder) == second);
-    let third = Some((2, 1, 1808, Some(8192), Some(9999)));
-    assert!(rt; next_frame(decoder) == third);
+/// Reads these frames, and the end.
+fn check_frames<C: Container>(rt: &impl Abort, decoder: &mut Decoder<C>, frames: &[Told]) {
+    for frame in frames {
+        assert!(rt; next_frame(decoder) == Some(*frame));
+    }
     assert!(rt; ends(decoder));
+}
+
+/// Resumes a stream of this STREAMINFO at these bytes of it, which are these frames.
+fn check_resumed(
+    rt: &impl Abort,
+    alloc: Global,
+    bytes: Option<&[u8]>,
+    info: &StreamInfo,
+    frames: &[Told],
+) -> Result<(), Fail> {
+    let source = Memory::new(bytes.unwrap_or(&[]));
+    let mut decoder = Decoder::resume(alloc, source, info, Profile::Subset)?;
+    check_frames(rt, &mut decoder, frames);
+    drop(decoder);
+    Ok(())
 }
 
 /// The stream is read from its second point on: two frames, and the end.
@@ -98,9 +112,23 @@ fn two_and_end<C: Container>(rt: &impl Abort, decoder: &mut Decoder<C>) {
 fn resumed_at_a_point(rt: HostRuntime) -> Result<(), Fail> {
     let stream = ten_thousand(rt.alloc())?;
     let info = StreamInfo::new(4096, 4096, 15, 17, 44100, 1, 16, 10000, DIGEST)?;
-    let source = Memory::new(stream.get(100 + 15..).unwrap_or(&[]));
-    let mut decoder = Decoder::resume(rt.alloc(), source, &info, Profile::Subset)?;
-    two_and_end(&rt, &mut decoder);
-    drop(decoder);
-    Ok(())
+    let frames = [
+        (1, 1, 4096, Some(4096), Some(8191)),
+        (2, 1, 1808, Some(8192), Some(9999)),
+    ];
+    check_resumed(&rt, rt.alloc(), stream.get(100 + 15..), &info, &frames)
+}
+
+/// The seek table of the seventeen samples in blocks of 16, with a point each 16: the first frame has 16 bytes.
+const POINTS: &str = "83000024 00*16 0010 0000000000000010 0000000000000010 0001";
+
+/// The frames that are read have neither the digest nor the number of samples that STREAMINFO says.
+#[test]
+fn resumed_with_another_digest(rt: HostRuntime) -> Result<(), Fail> {
+    let stream = encoded(rt.alloc(), &seventeen(rt.alloc())?, 16, 16)?;
+    let points = bytes_of(rt.alloc(), POINTS)?;
+    assert!(rt; stream.get(42..82) == Some(points.as_slice()) && stream.len() > 98);
+    let info = StreamInfo::new(16, 16, 0, 0, 44100, 1, 16, 17, [1; 16])?;
+    let frames = [(1, 1, 1, Some(16), Some(16))];
+    check_resumed(&rt, rt.alloc(), stream.get(98..), &info, &frames)
 }
