@@ -4,13 +4,11 @@ use Rattle.std.proofs.lemmas.List.{get_or-map, map_more}
 use Rattle.std.proofs.lemmas.List.FromFn.{map-range_with_len_more}
 use Rattle.flac_subframe.specs.Cost.{Codings, MayWrite}
 use Rattle.flac_subframe.specs.inner.Cost.{residual_cost}
-use Rattle.flac_subframe.specs.declared.choice.Kind.{Kind}
-use Rattle.flac_subframe.specs.declared.choice.Kind.TheVariants.{Constant, Verbatim, Fixed, Linear}
 use Rattle.flac_subframe.specs.declared.linear.LinearPredictor.{LinearPredictor}
 use Rattle.flac_subframe.specs.Handed.{predictor_of, handed_at}
 use Rattle.flac_subframe.specs.Bodies.{fields_cost, Chooses, fixed, coefficients_of, shift_of, order_of, differences, Among, Body, constant, verbatim, predicted, StandsFor}
-use Rattle.flac_subframe.specs.Chosen.{IsHanded, IsHeld, body_of, body_held, body_under, fixed_below}
-use Rattle.flac_subframe.specs.inner.Chosen.{Way, IsBest, IsLeastOf, HasNone, held_as, codings_by}
+use Rattle.flac_subframe.specs.Chosen.{IsHeld, body_held, body_under, fixed_below}
+use Rattle.flac_subframe.specs.inner.Chosen.{Way, IsBest, IsLeastOf, HasNone}
 use Rattle.flac_subframe.proofs.Bodies.{among_more, among_split, least_kept, least_taken, body_stands, body_costs, body_least, none_stands, residual_is, length-predicted, method_bits}
 
 module _ (hs : List LinearPredictor) (most d : ℕ) (s : List ℤ) (ps : List Chooses) (p : Chooses) (best : Way) (so : IsBest hs most d s ps best) where
@@ -108,29 +106,3 @@ pub one_linear_more : (tried : List Chooses) (ps : List LinearPredictor) (i : �
 one_linear_more tried ps i within =
     ap (λ (l : List Chooses). tried ++ l) (linear_more ps i within)
     ∙ sym (append_assoc tried (map predictor_of (take i ps)) (handed_at ps i ∷ []))
-
--- ---- a choice that keeps its codings
-
-module _ (hs : List LinearPredictor) (s : List ℤ) where
-  pub body_same : (k : Kind) → body_held hs (held_as k) (codings_by k) s ≡ body_of hs k s
-  body_same Constant = refl
-  body_same Verbatim = refl
-  body_same (Fixed order residual) = refl
-  body_same (Linear index residual) = refl
-
-  pub handed_same : (k : Kind) → IsHeld hs (held_as k) → IsHanded hs k
-  handed_same Constant h = tt
-  handed_same Verbatim h = tt
-  handed_same (Fixed order residual) h = tt
-  handed_same (Linear index residual) h = h
-
-  pub held_same : (k : Kind) → IsHanded hs k → IsHeld hs (held_as k)
-  held_same Constant h = tt
-  held_same Verbatim h = tt
-  held_same (Fixed order residual) h = tt
-  held_same (Linear index residual) h = h
-
--- a way with the same body is the best too
-pub best_same : (hs : List LinearPredictor) (most d : ℕ) (s : List ℤ) (tried : List Chooses) (old new : Way) → IsHeld hs new.kind → new.bits ≡ old.bits
-    → body_held hs new.kind new.codings s ≡ body_held hs old.kind old.codings s → IsBest hs most d s tried old → IsBest hs most d s tried new
-best_same hs most d s tried old new within bits body so = record { within = within; least = rw body so.least; priced = rw (bits, body) so.priced; small = rw bits so.small }

@@ -6,16 +6,14 @@ use Rattle.flac_subframe.specs.declared.held.HeldKind.TheVariants.{AsConstant, A
 use Rattle.flac_subframe.specs.declared.linear.LinearPredictor.{LinearPredictor}
 use Rattle.flac_subframe.specs.Bodies.{Chooses, fixed, linear, order_of, Among, Body, constant, verbatim, predicted, StandsFor, content_of}
 use Rattle.flac_subframe.specs.Cost.{Codings, MayWrite}
-use Rattle.flac_subframe.specs.declared.chosen.Choice.{Choice}
-use Rattle.flac_subframe.specs.Chosen.{body_under, body_held, body_of, IsHeld, offered}
-use Rattle.flac_subframe.specs.inner.Chosen.{held_as, codings_by}
+use Rattle.flac_subframe.specs.Chosen.{body_under, body_held, IsHeld, offered}
 use Rattle.flac_subframe.specs.Handed.{predictor_of, handed_at, AreWithin}
-use Rattle.flac_subframe.specs.Family.{IsMadeWith, IsMadeAs, form_with, form_as}
+use Rattle.flac_subframe.specs.Family.{IsMadeAs}
 use Rattle.flac_subframe.specs.inner.Family.{OrderIsFew, kind_number}
 use Rattle.flac_subframe.specs.Wasted.{shortened}
 use Rattle.flac_subframe.specs.Spelling.{type_of}
 use Rattle.flac_subframe.specs.Prediction.{fixed_coefficients}
-use Rattle.flac_subframe.proofs.Best.{at_place, body_same, held_same}
+use Rattle.flac_subframe.proofs.Best.{at_place}
 use Rattle.flac_subframe.proofs.Differences.{length-fixed}
 
 order_is : (a b : ℕ) → fixed a ≡ fixed b → a ≡ b
@@ -105,16 +103,11 @@ fewer_orders most more ps (predicted p ws f rs) t le h =
 pub all_within : (ps : List LinearPredictor) → AreWithin 32 ps
 all_within ps = λ i d lt. (get_or ps i d).few
 
--- a choice that keeps its codings, as one whose codings stand apart
-pub made_same : (ps : List LinearPredictor) (c : Choice) (s : List ℤ) → IsMadeWith ps c s → IsMadeAs ps c.wasted (held_as c.kind) (codings_by c.kind) s
-made_same ps c s made =
-    let t : List ℤ = shortened c.wasted s in
-    record {
-      wasted = made.wasted;
-      times = made.times;
-      within = held_same ps t c.kind made.within;
-      stands = rw (body_same ps t c.kind) (fewer_orders 8 15 (offered ps) (body_of ps c.kind t) t (omega arith) made.stands);
-    }
-
-pub form_same : (ps : List LinearPredictor) (c : Choice) (s : List ℤ) → form_as ps c.wasted (held_as c.kind) (codings_by c.kind) s ≡ form_with ps c s
-form_same ps c s = rw (body_same ps (shortened c.wasted s) c.kind) refl
+-- a choice that was made with few partition orders is one with more
+pub made_of_fewer : (most more : ℕ) (ps : List LinearPredictor) (k : ℕ) (kind : HeldKind) (f : Codings) (s : List ℤ) → most ≤ more → IsMadeAs most ps k kind f s → IsMadeAs more ps k kind f s
+made_of_fewer most more ps k kind f s le made = record {
+  wasted = made.wasted;
+  times = made.times;
+  within = made.within;
+  stands = fewer_orders most more (offered ps) (body_held ps kind f (shortened k s)) (shortened k s) le made.stands;
+}

@@ -23,12 +23,12 @@ module _ (most d k : ℕ) (ps : List LinearPredictor) (s : List ℤ) (w : Way) (
   pub way_bits : 8 + k + w.bits ≡ length (subframe_spelling d (form_as ps k w.kind w.codings s))
   way_bits = rw so.priced (sym (length-subframe d (form_as ps k w.kind w.codings s)))
 
-  pub way_made : most ≤ 15 → IsMadeAs ps k w.kind w.codings s
-  way_made few = record {
+  pub way_made : (more : ℕ) → most ≤ more → IsMadeAs more ps k w.kind w.codings s
+  way_made more few = record {
     wasted = wasted;
     times = times;
     within = so.within;
-    stands = fewer_orders most 15 (offered ps) (body_held ps w.kind w.codings (shortened k s)) (shortened k s) few so.least.member;
+    stands = fewer_orders most more (offered ps) (body_held ps w.kind w.codings (shortened k s)) (shortened k s) few so.least.member;
   }
 
   pub way_valid : most ≤ 15 → 0 < length s → All (FitsBits d) s → (limits : Limits) → most ≤ limits.partition → AreWithin limits.linear ps → IsSubframe d (length s) limits (form_as ps k w.kind w.codings s)

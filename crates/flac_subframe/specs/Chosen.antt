@@ -1,10 +1,7 @@
 -- What a choice of the code stands for.
 use Rattle.std.specs.Prelude.{ℕ, ℤ, List, ◌++◌, take, length, map, ◌<◌}
 use Rattle.std.specs.List.{range_with_len}
-use Rattle.flac_subframe.specs.declared.halving.ResidualChoice.{ResidualChoice}
-use Rattle.flac_subframe.specs.Cost.{Codings, codings_of}
-use Rattle.flac_subframe.specs.declared.choice.Kind.{Kind}
-use Rattle.flac_subframe.specs.declared.choice.Kind.TheVariants.{Constant, Verbatim, Fixed, Linear}
+use Rattle.flac_subframe.specs.Cost.{Codings}
 use Rattle.flac_subframe.specs.declared.held.HeldKind.{HeldKind}
 use Rattle.flac_subframe.specs.declared.held.HeldKind.TheVariants.{AsConstant, AsVerbatim, AsFixed, AsLinear}
 use Rattle.flac_subframe.specs.declared.linear.LinearPredictor.{LinearPredictor}
@@ -24,26 +21,7 @@ offered ps = fixed_below 5 ++ map predictor_of ps
 abbrev pub body_under : Chooses → Codings → List ℤ → Body
 body_under p f s = predicted p (take (length (coefficients_of p)) s) f (differences (coefficients_of p) (shift_of p) s)
 
-abbrev pub body_by : Chooses → ResidualChoice → List ℤ → Body
-body_by p r s = body_under p (codings_of r) s
-
--- the body of a kind, whose linear predictor is one of a list
-abbrev pub body_of : List LinearPredictor → Kind → List ℤ → Body
-body_of ps Constant s = constant (sample_at s 0)
-body_of ps Verbatim s = verbatim s
-body_of ps (Fixed order residual) s = body_by (fixed order) residual s
-body_of ps (Linear index residual) s = body_by (handed_at ps index) residual s
-
--- the linear predictor of a kind has a place in the list
-abbrev pub IsHanded : List LinearPredictor → Kind → Type 0
-IsHanded ps Constant = Unit {0}
-IsHanded ps Verbatim = Unit {0}
-IsHanded ps (Fixed order residual) = Unit {0}
-IsHanded ps (Linear index residual) = index < length ps
-
--- ---- where the codings stand apart
-
--- the body of a kind, and the codings of its residual
+-- the body of a kind, whose linear predictor is one of a list, and of the codings of its residual
 abbrev pub body_held : List LinearPredictor → HeldKind → Codings → List ℤ → Body
 body_held ps AsConstant f s = constant (sample_at s 0)
 body_held ps AsVerbatim f s = verbatim s

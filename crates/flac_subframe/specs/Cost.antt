@@ -2,7 +2,6 @@
 use Rattle.std.specs.Prelude.{ℕ, ℤ, ◌≡◌, ◌+◌, ◌-◌, ◌/◌, ◌%◌, ◌^◌, ◌<◌, ◌≤◌, ◌⊎◌, cond, nat_lt, List, [], ◌∷◌, length, map, take, drop, All}
 use Rattle.flac_subframe.specs.declared.coding.Coding.{Coding}
 use Rattle.flac_subframe.specs.declared.coding.Coding.TheVariants.{Rice, Escape}
-use Rattle.flac_subframe.specs.declared.halving.ResidualChoice.{ResidualChoice}
 use Rattle.flac_subframe.specs.declared.halving.Found.{Found}
 use Rattle.flac_subframe.specs.Spelling.{FitsWidth}
 
@@ -35,9 +34,10 @@ pub record MayWrite (most order : ℕ) (rs : List ℤ) (f : Codings) : Type 0 wh
 unfoldable pub coding_of : ℕ → Coding
 coding_of n = cond (nat_lt n 32) (Rice n) (Escape (n - 32))
 
-abbrev pub codings_of : ResidualChoice → Codings
-codings_of c = record { parameter_bits = c.parameter_bits; halvings = c.halvings; codings = map coding_of c.codings.items }
+-- the form of a residual and the bytes of its codings
+abbrev pub codings_of : Found → List ℕ → Codings
+codings_of f bytes = record { parameter_bits = f.parameter_bits; halvings = f.halvings; codings = map coding_of bytes }
 
 -- the same of bytes in an array, which may have more places
 abbrev pub codings_in : Found → List ℕ → Codings
-codings_in f bytes = record { parameter_bits = f.parameter_bits; halvings = f.halvings; codings = map coding_of (take (2 ^ f.halvings) bytes) }
+codings_in f bytes = codings_of f (take (2 ^ f.halvings) bytes)

@@ -1,22 +1,21 @@
 //! The content of the fewest bits for the samples of a subframe.
-ghost use Rattle.std.specs.Prelude.{◌≡◌, ◌<◌, ◌≤◌, ◌^◌, ◌+◌, ◌++◌, ◌∷◌, [], ◌*◌, List, ℕ, ℤ, length, All, IsTrue, ◌↔◌, replicate, map};
+ghost use Rattle.std.specs.Prelude.{◌≡◌, ◌<◌, ◌≤◌, ◌^◌, ◌+◌, ◌-◌, ◌++◌, ◌∷◌, [], ◌*◌, List, ℕ, length, All, IsTrue, ◌↔◌, replicate, map};
 ghost use Rattle.flac_bits.specs.Signed.{FitsBits};
 ghost use Rattle.flac_subframe.specs.Numbers.{sample_at};
 ghost use Rattle.flac_subframe.specs.Prediction.{fixed_coefficients};
 ghost use Rattle.flac_subframe.specs.Spelling.{folded};
-ghost use Rattle.flac_subframe.specs.Least.{IsLeast};
 ghost use Rattle.flac_bits.specs.Rice.{IsResidual};
-ghost use Rattle.flac_subframe.specs.Bodies.{Chooses, fixed, differences, StandsFor, spelled};
+ghost use Rattle.flac_subframe.specs.Bodies.{Chooses, fixed, differences};
 ghost use Rattle.flac_subframe.specs.Chosen.{fixed_below, offered};
-ghost use Rattle.flac_subframe.specs.inner.Chosen.{IsBest, way_held, way_priced};
+ghost use Rattle.flac_subframe.specs.inner.Chosen.{IsBest, way_held};
 ghost use Rattle.flac_subframe.specs.inner.Halves.{HasPlaces};
 ghost use Rattle.flac_subframe.specs.Handed.{predictor_of, handed_at};
+ghost use Rattle.flac_subframe.specs.Wasted.{IsWasted, times_power, shortened};
 ghost use Rattle.flac_subframe.specs.declared.linear.LinearPredictor.{LinearPredictor};
 
-use crate::chosen::MOST_SAMPLES;
 use crate::folding::fold_each;
-use crate::halving::{Found, ResidualChoice, gathered};
-use crate::held::{Held, HeldKind};
+use crate::halving::{Found, power};
+use crate::held::{Held, HeldKind, Sought};
 use crate::leaving::{take_differences, take_weighed};
 use crate::linear::LinearPredictor;
 use crate::narrowed::{narrow, peak, take_narrow};
@@ -24,29 +23,8 @@ use crate::products::take_products;
 use crate::survey::{greatest_halvings, least_residual};
 use crate::tables::Tables;
 use crate::view::{ResidualView, SampleView, Scope};
+use crate::wasted::drop_wasted;
 use crate::wide_products::take_wide_products;
-
-/// How the samples of a subframe are written. A linear predictor is named by its place in the list that was handed in.
-#[derive(Drop, Clone, Debug, PartialEq, Eq)]
-pub enum Kind {
-    Constant,
-    Verbatim,
-    Fixed {
-        order: usize,
-        residual: ResidualChoice,
-    },
-    Linear {
-        index: usize,
-        residual: ResidualChoice,
-    },
-}
-
-/// A choice, and how many bits it takes.
-#[derive(Drop)]
-pub struct PricedChoice {
-    pub kind: Kind,
-    pub bits: u64,
-}
 
 /// Whether all samples are the first one.
 pub(crate) fn all_equal(samples: &[i64]) -> bool
@@ -346,7 +324,7 @@ fn begin(samples: &[i64], bits: u32) -> Held
 
 /// The content of the fewest bits: constant, verbatim, a fixed predictor or one of the linear ones, with a partition order up to the
 /// greatest. The codings of its residual are in their array.
-pub(crate) fn search(
+fn search(
     subject: &SampleView<'_>,
     wide: &mut [i64],
     values: &mut [i32],
@@ -375,165 +353,81 @@ pub(crate) fn search(
     best
 }
 
-/// The best of all as a choice that keeps its codings.
-fn release(held: Held, codings: &[u8]) -> PricedChoice
-    requires few { held.found.halvings ≤ 8 }
-    requires places { 2 ^ held.found.halvings ≤ length codings.now }
-    ensures { (handed : List LinearPredictor) (most bits : ℕ) (s : List ℤ) (tried : List Chooses) → IsBest handed most bits s tried (way_held held codings.now) → IsBest handed most bits s tried (way_priced result) }
-{
-    let kind = match held.kind {
-        HeldKind::AsConstant => Kind::Constant,
-        HeldKind::AsVerbatim => Kind::Verbatim,
-        HeldKind::AsFixed(order) => Kind::Fixed {
-            order,
-            residual: gathered(held.found, codings),
-        },
-        HeldKind::AsLinear(index) => Kind::Linear {
-            index,
-            residual: gathered(held.found, codings),
-        },
-    };
-    PricedChoice {
-        kind,
-        bits: held.bits,
-    }
-}
-
-/// The content of the fewest bits, with a partition order up to 8, worked out in arrays that are each at least as long as the samples.
-fn choose_among(
-    samples: &[i64],
-    bits: u32,
-    scope: &Scope<'_>,
-    narrowed: &mut [i32],
+/// The content of the fewest bits, by tables that stand one after another in an array.
+fn search_within(
+    subject: &SampleView<'_>,
     wide: &mut [i64],
     values: &mut [i32],
     folds: &mut [u32],
-) -> PricedChoice
+    tables: &mut [u64],
+    widths: &mut [u8],
+    codings: &mut [u8],
+) -> Held
+    requires some { 0 < length subject.now.samples.now }
+    requires wide { length subject.now.samples.now ≤ length wide.old }
+    requires places { length subject.now.samples.now ≤ length values.old }
+    requires folds { length subject.now.samples.now ≤ length folds.old }
+    requires tables { 5 * 2 ^ subject.now.most ≤ length tables.old }
+    requires widths { 2 * 2 ^ subject.now.most ≤ length widths.old }
+    requires codings { 2 ^ subject.now.most ≤ length codings.old }
+    ensures best { IsBest subject.now.predictors.now subject.now.most subject.now.bits subject.now.samples.now (offered subject.now.predictors.now) (way_held result codings.new) }
+    ensures within { result.found.halvings ≤ subject.now.most }
+{
+    let count = power(subject.most);
+    let (sums, rest) = tables.split_at_mut(count);
+    let (four, five) = rest.split_at_mut(2 * count);
+    let mut tables = Tables {
+        sums,
+        four,
+        five,
+        widths,
+        codings,
+    };
+    search(subject, wide, values, folds, &mut tables)
+}
+
+/// The wasted bits of some samples and the content of the fewest bits for the rest, whose codings are put into the first of the places.
+pub(crate) fn choose_in_places(
+    samples: &[i64],
+    depth: u32,
+    scope: &Scope<'_>,
+    longs: &mut [i64],
+    shorts: &mut [i32],
+    folds: &mut [u32],
+    tables: &mut [u64],
+    widths: &mut [u8],
+    codings: &mut [u8],
+) -> Sought
     requires some { 0 < length samples.now }
     requires few { length samples.now ≤ 65535 }
-    requires bits { bits ≤ 33 }
-    requires fits { All (FitsBits 33) samples.now }
-    requires most { scope.now.most ≤ 8 }
-    requires narrowed { length samples.now ≤ length narrowed.old }
-    requires wide { length samples.now ≤ length wide.old }
-    requires places { length samples.now ≤ length values.old }
+    requires depth { (1 ≤ depth) × (depth ≤ 33) }
+    requires fits { All (FitsBits depth) samples.now }
+    requires longs { 2 * length samples.now ≤ length longs.old }
+    requires shorts { 2 * length samples.now ≤ length shorts.old }
     requires folds { length samples.now ≤ length folds.old }
-    ensures { IsBest scope.now.predictors.now scope.now.most bits samples.now (offered scope.now.predictors.now) (way_priced result) }
+    requires tables { 5 * 2 ^ scope.now.most ≤ length tables.old }
+    requires widths { 2 * 2 ^ scope.now.most ≤ length widths.old }
+    requires codings { 2 ^ scope.now.most ≤ length codings.old }
+    ensures wasted { IsWasted result.wasted samples.now }
+    ensures some { result.wasted < depth }
+    ensures times { samples.now ≡ map (times_power result.wasted) (shortened result.wasted samples.now) }
+    ensures best { IsBest scope.now.predictors.now scope.now.most (depth - result.wasted) (shortened result.wasted samples.now) (offered scope.now.predictors.now) (way_held result.held codings.new) }
+    ensures within { result.held.found.halvings ≤ scope.now.most }
 {
-    let mut sums = [0; 256];
-    let mut four = [0; 512];
-    let mut five = [0; 512];
-    let mut widths = [0; 512];
-    let mut codings = [0; 256];
-    let mut tables = Tables {
-        sums: &mut sums,
-        four: &mut four,
-        five: &mut five,
-        widths: &mut widths,
-        codings: &mut codings,
-    };
-    let narrowed = &mut narrowed[..samples.len()];
-    let narrow = narrow(samples, narrowed);
+    let (shortened, wide) = longs.split_at_mut(samples.len());
+    let wasted = drop_wasted(samples, depth, shortened);
+    let (narrowed, values) = shorts.split_at_mut(samples.len());
+    let narrow = narrow(shortened, narrowed);
     let peak = peak(narrowed, narrow, !scope.predictors.is_empty());
     let subject = SampleView {
-        samples,
+        samples: shortened,
         narrowed,
-        bits,
+        bits: depth - wasted,
         most: scope.most,
         predictors: scope.predictors,
         narrow,
         peak,
     };
-    let best = search(&subject, wide, values, folds, &mut tables);
-    release(best, tables.codings)
-}
-
-/// The most samples of a block in the subset at up to 48 kHz.
-const FEW_SAMPLES: usize = 4608;
-
-/// The same for few samples, by arrays on the stack that are soon made ready.
-#[inline(never)]
-fn choose_of_few(
-    samples: &[i64],
-    bits: u32,
-    scope: &Scope<'_>,
-    wide: &mut [i64],
-    folds: &mut [u32],
-) -> PricedChoice
-    requires some { 0 < length samples.now }
-    requires few { length samples.now ≤ 4608 }
-    requires bits { bits ≤ 33 }
-    requires fits { All (FitsBits 33) samples.now }
-    requires most { scope.now.most ≤ 8 }
-    requires wide { length samples.now ≤ length wide.old }
-    requires folds { length samples.now ≤ length folds.old }
-    ensures { IsBest scope.now.predictors.now scope.now.most bits samples.now (offered scope.now.predictors.now) (way_priced result) }
-{
-    let mut narrowed = [0; FEW_SAMPLES];
-    let mut values = [0; FEW_SAMPLES];
-    choose_among(
-        samples,
-        bits,
-        scope,
-        &mut narrowed,
-        wide,
-        &mut values,
-        folds,
-    )
-}
-
-/// The same for many samples.
-#[inline(never)]
-fn choose_of_many(
-    samples: &[i64],
-    bits: u32,
-    scope: &Scope<'_>,
-    wide: &mut [i64],
-    folds: &mut [u32],
-) -> PricedChoice
-    requires some { 0 < length samples.now }
-    requires few { length samples.now ≤ 65535 }
-    requires bits { bits ≤ 33 }
-    requires fits { All (FitsBits 33) samples.now }
-    requires most { scope.now.most ≤ 8 }
-    requires wide { length samples.now ≤ length wide.old }
-    requires folds { length samples.now ≤ length folds.old }
-    ensures { IsBest scope.now.predictors.now scope.now.most bits samples.now (offered scope.now.predictors.now) (way_priced result) }
-{
-    let mut narrowed = [0; MOST_SAMPLES];
-    let mut values = [0; MOST_SAMPLES];
-    choose_among(
-        samples,
-        bits,
-        scope,
-        &mut narrowed,
-        wide,
-        &mut values,
-        folds,
-    )
-}
-
-/// The content of the fewest bits: constant, verbatim, a fixed predictor or one of the linear ones, with a partition order up to the
-/// greatest, which is at most 8.
-pub(crate) fn choose_body(
-    samples: &[i64],
-    bits: u32,
-    scope: &Scope<'_>,
-    values: &mut [i64],
-    folds: &mut [u32],
-) -> PricedChoice
-    requires some { 0 < length samples.now }
-    requires few { length samples.now ≤ 65535 }
-    requires bits { bits ≤ 33 }
-    requires fits { All (FitsBits 33) samples.now }
-    requires most { scope.now.most ≤ 8 }
-    requires places { length samples.now ≤ length values.old }
-    requires folds { length samples.now ≤ length folds.old }
-    ensures { IsBest scope.now.predictors.now scope.now.most bits samples.now (offered scope.now.predictors.now) (way_priced result) }
-{
-    if samples.len() <= FEW_SAMPLES {
-        choose_of_few(samples, bits, scope, values, folds)
-    } else {
-        choose_of_many(samples, bits, scope, values, folds)
-    }
+    let held = search_within(&subject, wide, values, folds, tables, widths, codings);
+    Sought { wasted, held }
 }

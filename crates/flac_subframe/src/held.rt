@@ -4,7 +4,7 @@ use crate::halving::Found;
 
 /// How the samples of a subframe are written, but for the codings of a residual. A linear predictor is named by its
 /// place in the list that was handed in.
-#[derive(Clone, Copy)]
+#[derive(Clone, Copy, Debug, PartialEq, Eq)]
 pub enum HeldKind {
     AsConstant,
     AsVerbatim,
@@ -18,4 +18,11 @@ pub struct Held {
     pub kind: HeldKind,
     pub found: Found,
     pub bits: u64,
+}
+
+/// What was found for some samples: how many of their lowest bits are left out, and the content of the fewest bits for the rest.
+#[derive(Clone, Copy)]
+pub(crate) struct Sought {
+    pub(crate) wasted: u32,
+    pub(crate) held: Held,
 }

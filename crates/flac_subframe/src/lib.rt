@@ -31,7 +31,7 @@ mod widths;
 mod workspace;
 mod writing;
 
-pub use chosen::{Choice, choose, choose_into, choose_with, choose_with_into};
+pub use chosen::{Choice, choose, choose_with};
 pub use limits::Limits;
 pub use linear::LinearPredictor;
 pub use predictors::{predict_fixed, predict_linear};
@@ -42,6 +42,4 @@ pub use promises::{
 pub use subframe::read_subframe;
 pub use wide::{WideChoice, choose_in, write_subframe_in};
 pub use workspace::Workspace;
-pub use writing::{
-    write_subframe, write_subframe_into, write_subframe_with, write_subframe_with_into,
-};
+pub use writing::{write_subframe, write_subframe_with};

@@ -66,23 +66,6 @@ pub(crate) struct CodedView<'a> {
     pub(crate) codings: &'a [u8],
 }
 
-impl<'a> CodedView<'a> {
-    ghost use Rattle.std.specs.Prelude.{◌≡◌};
-    ghost use Rattle.flac_subframe.specs.inner.Chosen.{no_codings};
-    ghost use Rattle.flac_subframe.specs.inner.Cost.{codings_lent};
-
-    /// That of a subframe without a residual.
-    pub(crate) fn none() -> CodedView<'a>
-        ensures { codings_lent result ≡ no_codings }
-    {
-        CodedView {
-            parameter_bits: 4,
-            halvings: 0,
-            codings: &[],
-        }
-    }
-}
-
 /// A choice as it is written: its kind, and the form of its residual, which a kind without one does not use.
 #[derive(Clone, Copy)]
 pub(crate) struct ChosenView<'a> {

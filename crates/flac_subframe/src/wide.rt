@@ -1,30 +1,25 @@
 //! The shortest subframe of some samples, with partition orders up to 15, worked out in arrays that are made once.
 
-ghost use Rattle.std.specs.Prelude.{◌≡◌, ◌<◌, ◌≤◌, ◌-◌, ◌*◌, ◌^◌, ℤ, List, length, map, take, All, IfOk, IfErr, vec_len};
+ghost use Rattle.std.specs.Prelude.{◌≡◌, ◌<◌, ◌≤◌, ◌*◌, ◌^◌, ℤ, List, length, take, All, IfOk, IfErr, vec_len};
 ghost use Rattle.flac_bits.specs.Signed.{FitsBits};
 ghost use Rattle.flac_bits.specs.Written.{Writes};
 ghost use Rattle.flac_bits.specs.declared.why.Why.{Why};
 ghost use Rattle.flac_subframe.specs.Least.{IsLeast};
 ghost use Rattle.flac_subframe.specs.Chosen.{offered};
-ghost use Rattle.flac_subframe.specs.inner.Chosen.{IsBest, way_held};
 ghost use Rattle.flac_subframe.specs.inner.Cost.{codings_lent};
-ghost use Rattle.flac_subframe.specs.Family.{Stands, IsMadeAs, IsMadeIn, codings_kept, form_as, form_in};
+ghost use Rattle.flac_subframe.specs.Family.{Stands, IsMadeIn, codings_kept, form_in};
 ghost use Rattle.flac_subframe.specs.Handed.{AreWithin};
 ghost use Rattle.flac_subframe.specs.Spelling.{subframe_spelling, IsSubframe};
 ghost use Rattle.flac_subframe.specs.Subframe.{samples_of};
-ghost use Rattle.flac_subframe.specs.Wasted.{IsWasted, times_power, shortened};
 ghost use Rattle.flac_subframe.specs.declared.limits.Limits.{Limits};
 ghost use Rattle.flac_subframe.specs.declared.linear.LinearPredictor.{LinearPredictor};
 
-use crate::choice::search;
+use crate::choice::choose_in_places;
 use crate::halving::{Found, power};
-use crate::held::{Held, HeldKind};
+use crate::held::HeldKind;
 use crate::limits::Limits;
 use crate::linear::LinearPredictor;
-use crate::narrowed::{narrow, peak};
-use crate::tables::Tables;
-use crate::view::{ChosenView, CodedView, SampleView, Scope};
-use crate::wasted::drop_wasted;
+use crate::view::{ChosenView, CodedView, Scope};
 use crate::workspace::Workspace;
 use crate::writing::write_chosen;
 use flac_bits::{BitWriter, Target, Why};
@@ -132,96 +127,10 @@ impl WideChoice {
     }
 }
 
-/// What was found for some samples: how many of their lowest bits are left out, and the content of the fewest bits for the rest.
-#[derive(Clone, Copy)]
-struct Sought {
-    wasted: u32,
-    held: Held,
-}
-
-/// The content of the fewest bits, by tables that stand one after another in an array.
-fn search_within(
-    subject: &SampleView<'_>,
-    wide: &mut [i64],
-    values: &mut [i32],
-    folds: &mut [u32],
-    tables: &mut [u64],
-    widths: &mut [u8],
-    codings: &mut [u8],
-) -> Held
-    requires some { 0 < length subject.now.samples.now }
-    requires wide { length subject.now.samples.now ≤ length wide.old }
-    requires places { length subject.now.samples.now ≤ length values.old }
-    requires folds { length subject.now.samples.now ≤ length folds.old }
-    requires tables { 5 * 2 ^ subject.now.most ≤ length tables.old }
-    requires widths { 2 * 2 ^ subject.now.most ≤ length widths.old }
-    requires codings { 2 ^ subject.now.most ≤ length codings.old }
-    ensures best { IsBest subject.now.predictors.now subject.now.most subject.now.bits subject.now.samples.now (offered subject.now.predictors.now) (way_held result codings.new) }
-    ensures within { result.found.halvings ≤ subject.now.most }
-{
-    let count = power(subject.most);
-    let (sums, rest) = tables.split_at_mut(count);
-    let (four, five) = rest.split_at_mut(2 * count);
-    let mut tables = Tables {
-        sums,
-        four,
-        five,
-        widths,
-        codings,
-    };
-    search(subject, wide, values, folds, &mut tables)
-}
-
-/// The wasted bits of some samples and the content of the fewest bits for the rest, whose codings are put into the first of the places.
-fn choose_in_places(
-    samples: &[i64],
-    depth: u32,
-    scope: &Scope<'_>,
-    longs: &mut [i64],
-    shorts: &mut [i32],
-    folds: &mut [u32],
-    tables: &mut [u64],
-    widths: &mut [u8],
-    codings: &mut [u8],
-) -> Sought
-    requires some { 0 < length samples.now }
-    requires few { length samples.now ≤ 65535 }
-    requires depth { (1 ≤ depth) × (depth ≤ 33) }
-    requires fits { All (FitsBits depth) samples.now }
-    requires longs { 2 * length samples.now ≤ length longs.old }
-    requires shorts { 2 * length samples.now ≤ length shorts.old }
-    requires folds { length samples.now ≤ length folds.old }
-    requires tables { 5 * 2 ^ scope.now.most ≤ length tables.old }
-    requires widths { 2 * 2 ^ scope.now.most ≤ length widths.old }
-    requires codings { 2 ^ scope.now.most ≤ length codings.old }
-    ensures wasted { IsWasted result.wasted samples.now }
-    ensures some { result.wasted < depth }
-    ensures times { samples.now ≡ map (times_power result.wasted) (shortened result.wasted samples.now) }
-    ensures best { IsBest scope.now.predictors.now scope.now.most (depth - result.wasted) (shortened result.wasted samples.now) (offered scope.now.predictors.now) (way_held result.held codings.new) }
-    ensures within { result.held.found.halvings ≤ scope.now.most }
-{
-    let (shortened, wide) = longs.split_at_mut(samples.len());
-    let wasted = drop_wasted(samples, depth, shortened);
-    let (narrowed, values) = shorts.split_at_mut(samples.len());
-    let narrow = narrow(shortened, narrowed);
-    let peak = peak(narrowed, narrow, !scope.predictors.is_empty());
-    let subject = SampleView {
-        samples: shortened,
-        narrowed,
-        bits: depth - wasted,
-        most: scope.most,
-        predictors: scope.predictors,
-        narrow,
-        peak,
-    };
-    let held = search_within(&subject, wide, values, folds, tables, widths, codings);
-    Sought { wasted, held }
-}
-
 /// Chooses the subframe of the fewest bits for samples of a depth of 1 to 33 bits, with partition orders up to that of the limits, at
 /// most 15, and puts it into the place of a choice (RFC 9639, section 9.2.7).
 ///
-/// The family is that of [`crate::choose_with_into`], with the partition orders that the limits allow: constant, verbatim, the fixed
+/// The family is that of [`crate::choose_with`], with the partition orders that the limits allow: constant, verbatim, the fixed
 /// predictors of order 0 to 4 and the linear ones that are handed in, with either coding method and every parameter and escape; the
 /// wasted bits are as many as all samples lack. Among equals the first of this order is chosen. The samples are 1 or more and at most
 /// as many as the workspace was made for; the workspace and the place were made for partition orders up to that of the limits or

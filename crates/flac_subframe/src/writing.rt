@@ -311,7 +311,7 @@ pub(crate) fn write_chosen<W: Target>(
     requires fits { All (FitsBits depth) samples.now }
     requires places { length samples.now ≤ length shortened.old }
     requires values { length samples.now ≤ length values.old }
-    requires made { IsMadeAs predictors.now chosen.now.wasted chosen.now.kind (codings_lent chosen.now.residual) samples.now }
+    requires made { IsMadeAs 15 predictors.now chosen.now.wasted chosen.now.kind (codings_lent chosen.now.residual) samples.now }
     ensures { Writes (subframe_spelling depth (form_as predictors.now chosen.now.wasted chosen.now.kind (codings_lent chosen.now.residual) samples.now)) writer.old writer.new result }
 {
     let places = &mut shortened[..samples.len()];
@@ -323,7 +323,7 @@ pub(crate) fn write_chosen<W: Target>(
 /// Writes the subframe that was chosen for samples of a depth (RFC 9639, section 9.2).
 ///
 /// The choice is one that was made of these samples at this depth. The work is done in arrays of 1 MB on the stack; for many blocks
-/// [`write_subframe_into`] takes arrays that are used again. Errors: `Write`.
+/// [`crate::write_subframe_in`] takes arrays that are used again. Errors: `Write`.
 pub fn write_subframe<W: Target>(
     choice: &Choice,
     samples: &[i64],
@@ -337,38 +337,13 @@ pub fn write_subframe<W: Target>(
     requires made { IsMadeOf choice.now samples.now }
     ensures { Writes (subframe_spelling depth (form_of choice.now samples.now)) bits.old bits.new result }
 {
-    let mut shortened = [0; MOST_SAMPLES];
-    let mut values = [0; MOST_SAMPLES];
-    write_subframe_into(choice, samples, depth, &mut shortened, &mut values, bits)
-}
-
-/// Writes the subframe that was chosen for samples of a depth, with places for them and for the residual, which are overwritten.
-///
-/// The choice is one that was made of these samples at this depth. Errors: `Write`.
-pub fn write_subframe_into<W: Target>(
-    choice: &Choice,
-    samples: &[i64],
-    depth: u32,
-    shortened: &mut [i64],
-    values: &mut [i64],
-    writer: &mut BitWriter<W>,
-) -> Result<(), Why>
-    requires some { 0 < length samples.now }
-    requires few { length samples.now ≤ 65535 }
-    requires depth { (1 ≤ depth) × (depth ≤ 33) }
-    requires fits { All (FitsBits depth) samples.now }
-    requires places { length samples.now ≤ length shortened.old }
-    requires values { length samples.now ≤ length values.old }
-    requires made { IsMadeOf choice.now samples.now }
-    ensures { Writes (subframe_spelling depth (form_of choice.now samples.now)) writer.old writer.new result }
-{
-    write_subframe_with_into(choice, &[], samples, depth, shortened, values, writer)
+    write_subframe_with(choice, &[], samples, depth, bits)
 }
 
 /// Writes the subframe that was chosen for samples of a depth with linear predictors beside the fixed ones (RFC 9639, section 9.2).
 ///
 /// The choice is one that was made of these samples at this depth with just these predictors. The work is done in arrays of 1 MB on the
-/// stack; for many blocks [`write_subframe_with_into`] takes arrays that are used again. Errors: `Write`.
+/// stack; for many blocks [`crate::write_subframe_in`] takes arrays that are used again. Errors: `Write`.
 pub fn write_subframe_with<W: Target>(
     choice: &Choice,
     predictors: &[LinearPredictor],
@@ -385,46 +360,13 @@ pub fn write_subframe_with<W: Target>(
 {
     let mut places = [0; MOST_SAMPLES];
     let mut values = [0; MOST_SAMPLES];
-    write_subframe_with_into(
-        choice,
+    write_chosen(
+        &choice.lent(),
         predictors,
         samples,
         depth,
         &mut places,
         &mut values,
         bits,
-    )
-}
-
-/// Writes the subframe that was chosen for samples of a depth with linear predictors beside the fixed ones, with places for the samples
-/// and for the residual, which are overwritten.
-///
-/// The choice is one that was made of these samples at this depth with just these predictors. Errors: `Write`.
-pub fn write_subframe_with_into<W: Target>(
-    choice: &Choice,
-    predictors: &[LinearPredictor],
-    samples: &[i64],
-    depth: u32,
-    shortened: &mut [i64],
-    values: &mut [i64],
-    writer: &mut BitWriter<W>,
-) -> Result<(), Why>
-    requires some { 0 < length samples.now }
-    requires few { length samples.now ≤ 65535 }
-    requires depth { (1 ≤ depth) × (depth ≤ 33) }
-    requires fits { All (FitsBits depth) samples.now }
-    requires places { length samples.now ≤ length shortened.old }
-    requires values { length samples.now ≤ length values.old }
-    requires made { IsMadeWith predictors.now choice.now samples.now }
-    ensures { Writes (subframe_spelling depth (form_with predictors.now choice.now samples.now)) writer.old writer.new result }
-{
-    write_chosen(
-        &choice.lent(),
-        predictors,
-        samples,
-        depth,
-        shortened,
-        values,
-        writer,
     )
 }

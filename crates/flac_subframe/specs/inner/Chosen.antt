@@ -1,15 +1,11 @@
 -- For proofs of the search: what the best choice so far is.
-use Rattle.std.specs.Prelude.{ℕ, ℤ, List, [], length, ◌≡◌, ◌<◌, ◌≤◌, ◌^◌, ◌⊎◌, All}
+use Rattle.std.specs.Prelude.{ℕ, ℤ, List, length, ◌≡◌, ◌<◌, ◌≤◌, ◌^◌, ◌⊎◌, All}
 use Rattle.flac_subframe.specs.Least.{IsLeast}
 use Rattle.flac_bits.specs.Rice.{IsResidual}
 use Rattle.flac_subframe.specs.Cost.{MayWrite}
 use Rattle.flac_subframe.specs.inner.Cost.{residual_cost}
-use Rattle.flac_subframe.specs.Cost.{Codings, codings_of, codings_in}
-use Rattle.flac_subframe.specs.declared.choice.PricedChoice.{PricedChoice}
-use Rattle.flac_subframe.specs.declared.choice.Kind.{Kind}
-use Rattle.flac_subframe.specs.declared.choice.Kind.TheVariants.{Constant, Verbatim, Fixed, Linear}
+use Rattle.flac_subframe.specs.Cost.{Codings, codings_in}
 use Rattle.flac_subframe.specs.declared.held.HeldKind.{HeldKind}
-use Rattle.flac_subframe.specs.declared.held.HeldKind.TheVariants.{AsConstant, AsVerbatim, AsFixed, AsLinear}
 use Rattle.flac_subframe.specs.declared.held.Held.{Held}
 use Rattle.flac_subframe.specs.declared.linear.LinearPredictor.{LinearPredictor}
 use Rattle.flac_subframe.specs.Bodies.{Chooses, differences, StandsFor, spelled}
@@ -24,24 +20,6 @@ pub record Way : Type 0 where
 -- the best so far, and the bytes of its codings
 abbrev pub way_held : Held → List ℕ → Way
 way_held h bytes = record { kind = h.kind; codings = codings_in h.found bytes; bits = h.bits }
-
-abbrev pub no_codings : Codings
-no_codings = record { parameter_bits = 4; halvings = 0; codings = [] }
-
-abbrev pub held_as : Kind → HeldKind
-held_as Constant = AsConstant
-held_as Verbatim = AsVerbatim
-held_as (Fixed order residual) = AsFixed order
-held_as (Linear index residual) = AsLinear index
-
-abbrev pub codings_by : Kind → Codings
-codings_by Constant = no_codings
-codings_by Verbatim = no_codings
-codings_by (Fixed order residual) = codings_of residual
-codings_by (Linear index residual) = codings_of residual
-
-abbrev pub way_priced : PricedChoice → Way
-way_priced p = record { kind = held_as p.kind; codings = codings_by p.kind; bits = p.bits }
 
 -- a way, whose linear predictor is one of those that are handed in, is the least by the predictors that were tried
 pub record IsBest (handed : List LinearPredictor) (most bits : ℕ) (s : List ℤ) (tried : List Chooses) (w : Way) : Type 0 where

@@ -38,7 +38,7 @@ returns-clause-made c =
     let way : Way = way_held found.result.held found.new.codings in
     let few : c.args.limits.now.partition ≤ 15 = omega (arith, rw (← c.workspace.view_is) at c.requires.partition, c.workspace.invariant.most) in
     record {
-      made = rw back (way_made c.args.limits.now.partition c.args.depth found.result.wasted c.args.predictors.now c.args.samples.now way so.wasted so.some so.times so.best few);
+      made = rw back (way_made c.args.limits.now.partition c.args.depth found.result.wasted c.args.predictors.now c.args.samples.now way so.wasted so.some so.times so.best 15 few);
       few = omega (arith, so.within, few);
       places = rw back (omega (arith, power_le found.result.held.found.halvings c.args.limits.now.partition so.within, c.requires.places, c.args.choice.now.codings.ok.0, found.auto.codings, ap length c.deref_mut-6.ensures.value));
     }

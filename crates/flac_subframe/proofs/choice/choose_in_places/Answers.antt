@@ -1,5 +1,5 @@
 use Rattle.flac_subframe.proofs.Powers.{shortened_is}
-use Rattle.flac_subframe.proofs.wide.choose_in_places.Goals as goal
+use Rattle.flac_subframe.proofs.choice.choose_in_places.Goals as goal
 
 pub returns-clause-times : goal.returns-clause-times
 returns-clause-times c =
