@@ -4,6 +4,15 @@ use Rattle.flac_subframe.proofs.Places.{power_le}
 use Rattle.flac_subframe.proofs.Ways.{way_least, way_bits, way_made, way_valid, way_restored}
 use Rattle.flac_subframe.proofs.chosen.choose_with.Goals as goal
 
+pub choose_in_places-sought-requires-clause-longs : goal.choose_in_places-sought-requires-clause-longs
+choose_in_places-sought-requires-clause-longs c = omega (arith, c.requires.few)
+
+pub choose_in_places-sought-requires-clause-shorts : goal.choose_in_places-sought-requires-clause-shorts
+choose_in_places-sought-requires-clause-shorts c = omega (arith, c.requires.few)
+
+pub choose_in_places-sought-requires-clause-folds : goal.choose_in_places-sought-requires-clause-folds
+choose_in_places-sought-requires-clause-folds c = c.requires.few
+
 pub choose_in_places-sought-requires-clause-tables : goal.choose_in_places-sought-requires-clause-tables
 choose_in_places-sought-requires-clause-tables c = omega (arith, power_le c.args.limits.now.partition 8 c.requires.partition)
 
