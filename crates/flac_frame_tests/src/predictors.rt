@@ -3,12 +3,13 @@
 ghost use Rattle.std.specs.Prelude.{◌≡◌};
 
 use crate::subframes::all_fit;
+use crate::wide::written_in;
 use flac_bits::{BitWriter, Collected, Target, Why};
 use flac_frame::{Audio, EncodeBuffers, encode_frame_with, frame_widened_is_plain, greatest_order};
 use flac_header::Profile;
 use flac_subframe::{
-    Choice, Limits, LinearPredictor, choose, choose_with, choose_with_into,
-    widened_family_is_plain, write_subframe_with, write_subframe_with_into,
+    Choice, Limits, LinearPredictor, choose, choose_with, widened_family_is_plain,
+    write_subframe_with,
 };
 use flac_vectors::WAVE_SAMPLES;
 use std::alloc::Global;
@@ -61,18 +62,7 @@ fn chosen(samples: &[i64], depth: u32, predictors: &[LinearPredictor]) -> Option
     if !all_fit(samples, depth) || !LinearPredictor::are_within(predictors, 32) {
         return None;
     }
-    let mut shortened = [0i64; 16];
-    let mut values = [0i64; 16];
-    let mut folds = [0u32; 16];
-    Some(choose_with_into(
-        samples,
-        depth,
-        &limits,
-        predictors,
-        &mut shortened,
-        &mut values,
-        &mut folds,
-    ))
+    Some(choose_with(samples, depth, &limits, predictors))
 }
 
 /// How many bits it takes, 0 if it is asked for nothing that may be.
@@ -106,51 +96,6 @@ fn written(
     Ok(writer.into_target().into_bytes())
 }
 
-/// The same for 1 to 16 samples, in arrays of the caller's.
-fn written_into(
-    alloc: Global,
-    samples: &[i64],
-    depth: u32,
-    predictors: &[LinearPredictor],
-) -> Result<Vec<u8>, Why> {
-    let limits = Limits {
-        partition: 8,
-        linear: 32,
-    };
-    let len = samples.len();
-    if len == 0 || len > 16 || depth == 0 || depth > 33 {
-        return Err(Why::BlockSize);
-    }
-    if !all_fit(samples, depth) || !LinearPredictor::are_within(predictors, 32) {
-        return Err(Why::SampleRange);
-    }
-    let mut shortened = [0i64; 16];
-    let mut values = [0i64; 16];
-    let mut folds = [0u32; 16];
-    let choice = choose_with_into(
-        samples,
-        depth,
-        &limits,
-        predictors,
-        &mut shortened,
-        &mut values,
-        &mut folds,
-    );
-    let mut writer = BitWriter::new(Collected::new(alloc));
-    write_subframe_with_into(
-        &choice,
-        predictors,
-        samples,
-        depth,
-        &mut shortened,
-        &mut values,
-        &mut writer,
-    )?;
-    writer.align()?;
-    writer.finish()?;
-    Ok(writer.into_target().into_bytes())
-}
-
 /// A wave of two samples, which a predictor of the coefficient -1 foretells.
 const WAVE: [i64; 16] = [
     1001, -1001, 1001, -1001, 1001, -1001, 1001, -1001, 1001, -1001, 1001, -1001, 1001, -1001,
@@ -160,7 +105,7 @@ const WAVE: [i64; 16] = [
 /// Whether this is the subframe of the wave, from either call.
 fn writes(alloc: Global, predictors: &[LinearPredictor], wanted: &[u8]) -> Result<bool, Fail> {
     let first = written(alloc, &WAVE, 16, predictors)?;
-    let second = written_into(alloc, &WAVE, 16, predictors)?;
+    let (_, second) = written_in(alloc, &WAVE, 16, 8, predictors)?;
     Ok(first.as_slice() == wanted && second.as_slice() == wanted)
 }
 

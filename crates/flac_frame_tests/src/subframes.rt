@@ -1,13 +1,13 @@
 //! Subframes from outside: worked by hand from RFC 9639, and of its appendix D.
 
-ghost use Rattle.std.specs.Prelude.{◌≤◌, length, All, IsTrue};
+ghost use Rattle.std.specs.Prelude.{◌≡◌, ◌≤◌, ◌^◌, length, All, IsTrue, vec_len};
 ghost use Rattle.flac_bits.specs.Signed.{FitsBits};
 
 use flac_bits::{BitReader, BitWriter, Collected, Memory, Target, Why};
 use flac_subframe::{
-    Limits, choose, choose_into, predict_fixed, predict_linear, read_subframe,
+    Limits, WideChoice, Workspace, choose, choose_in, predict_fixed, predict_linear, read_subframe,
     samples_are_restored, subframes_are_read_again, subframes_are_spelled, write_subframe,
-    write_subframe_into,
+    write_subframe_in,
 };
 use flac_vectors::{fields_of, pair_of, samples_of};
 use std::alloc::Global;
@@ -155,16 +155,13 @@ fn write_least<W: Target>(
     writer: &mut BitWriter<W>,
 ) -> Result<u64, Why>
     requires depth { (1 ≤ depth) × (depth ≤ 33) }
-    requires block { (1 ≤ length samples.now) × (length samples.now ≤ 64) }
+    requires block { (1 ≤ length samples.now) × (length samples.now ≤ 65535) }
 {
     if !all_fit(samples, depth) {
         return Err(Why::SampleRange);
     }
-    let mut shortened = [0i64; 64];
-    let mut values = [0i64; 64];
-    let mut folds = [0u32; 64];
-    let choice = choose_into(samples, depth, &mut shortened, &mut values, &mut folds);
-    write_subframe_into(&choice, samples, depth, &mut shortened, &mut values, writer)?;
+    let choice = choose(samples, depth);
+    write_subframe(&choice, samples, depth, writer)?;
     writer.align()?;
     writer.finish()?;
     Ok(choice.bits())
@@ -240,44 +237,65 @@ fn writes_the_least(rt: HostRuntime) -> Result<(), Fail> {
     Ok(())
 }
 
-/// One subframe after another, at one target.
 #[test]
-fn writes_one_after_another(rt: HostRuntime) {
+fn writes_at_its_own_arrays(rt: HostRuntime) {
+    let ramp = [0, 1, 2, 3, 4, 5, 6, 7, 8, 9, 10, 11, 12, 13, 14, 15];
     let mut writer = BitWriter::new(Collected::new(rt.alloc()));
-    let first = write_least(&[25588], 16, &mut writer);
-    let second = write_least(&[0; 16], 8, &mut writer);
-    assert!(rt; (first, second) == (Ok(24), Ok(16)));
-    assert!(rt; writer.into_target().bytes() == [0x01, 0x58, 0xFD, 0x00, 0x00].as_slice());
+    let first = write_least(&ramp, 16, &mut writer);
+    let second = write_least(&[25588; 4096], 16, &mut writer);
+    assert!(rt; (first, second) == (Ok(55), Ok(24)));
+    let wanted = [0x14, 0x00, 0x00, 0x00, 0x01, 0x03, 0xC0, 0x01, 0x58, 0xFD];
+    assert!(rt; writer.into_target().bytes() == wanted.as_slice());
 }
 
-/// The least subframe of some samples, chosen and written at arrays on the stack, as its bytes.
-fn write_alone<W: Target>(
+/// The same in a workspace and a place for a choice.
+fn write_least_in<W: Target>(
     samples: &[i64],
     depth: u32,
+    workspace: &mut Workspace,
+    choice: &mut WideChoice,
     writer: &mut BitWriter<W>,
 ) -> Result<u64, Why>
     requires depth { (1 ≤ depth) × (depth ≤ 33) }
-    requires block { (1 ≤ length samples.now) × (length samples.now ≤ 65535) }
+    requires block { (1 ≤ length samples.now) × (length samples.now ≤ workspace.old.block) }
+    requires partition { 8 ≤ workspace.old.most }
+    requires places { 2 ^ 8 ≤ vec_len choice.old.codings }
+    ensures room { workspace.new ≡ workspace.old }
+    ensures places { vec_len choice.new.codings ≡ vec_len choice.old.codings }
 {
     if !all_fit(samples, depth) {
         return Err(Why::SampleRange);
     }
-    let choice = choose(samples, depth);
-    write_subframe(&choice, samples, depth, writer)?;
+    let limits = Limits {
+        partition: 8,
+        linear: 0,
+    };
+    choose_in(samples, depth, &limits, &[], workspace, choice);
+    write_subframe_in(choice, &[], samples, depth, workspace, writer)?;
     writer.align()?;
     writer.finish()?;
     Ok(choice.bits())
 }
 
+/// Writes two subframes in turn in one workspace and one place: how many bits each takes.
+fn write_two<W: Target>(alloc: Global, writer: &mut BitWriter<W>) -> Result<(u64, u64), Why> {
+    let limits = Limits {
+        partition: 8,
+        linear: 0,
+    };
+    let mut workspace = Workspace::new(alloc, 16, &limits)?;
+    let mut choice = WideChoice::new(alloc, &limits)?;
+    let first = write_least_in(&[25588], 16, &mut workspace, &mut choice, writer);
+    let second = write_least_in(&[0; 16], 8, &mut workspace, &mut choice, writer);
+    Ok((first?, second?))
+}
+
+/// One subframe after another, at one target.
 #[test]
-fn writes_at_its_own_arrays(rt: HostRuntime) {
-    let ramp = [0, 1, 2, 3, 4, 5, 6, 7, 8, 9, 10, 11, 12, 13, 14, 15];
+fn writes_one_after_another(rt: HostRuntime) {
     let mut writer = BitWriter::new(Collected::new(rt.alloc()));
-    let first = write_alone(&ramp, 16, &mut writer);
-    let second = write_alone(&[25588; 4096], 16, &mut writer);
-    assert!(rt; (first, second) == (Ok(55), Ok(24)));
-    let wanted = [0x14, 0x00, 0x00, 0x00, 0x01, 0x03, 0xC0, 0x01, 0x58, 0xFD];
-    assert!(rt; writer.into_target().bytes() == wanted.as_slice());
+    assert!(rt; write_two(rt.alloc(), &mut writer) == Ok((24, 16)));
+    assert!(rt; writer.into_target().bytes() == [0x01, 0x58, 0xFD, 0x00, 0x00].as_slice());
 }
 
 #[test]

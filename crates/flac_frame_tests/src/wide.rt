@@ -13,7 +13,7 @@ use std::alloc::Global;
 use std::process::Abort;
 use std::test::Fail;
 
-/// The depth of all samples here.
+/// The depth of the samples here.
 const DEPTH: u32 = 24;
 
 /// Partition orders up to the greatest, and linear predictors of any order.
@@ -32,15 +32,16 @@ fn limits(partition: u32) -> Limits
 fn write_in<W: Target>(
     alloc: Global,
     samples: &[i64],
+    depth: u32,
     partition: u32,
     predictors: &[LinearPredictor],
     writer: &mut BitWriter<W>,
 ) -> Result<u64, Why> {
     let len = samples.len();
-    if len == 0 || len > 65535 || partition > 15 {
+    if len == 0 || len > 65535 || depth == 0 || depth > 33 || partition > 15 {
         return Err(Why::BlockSize);
     }
-    if !all_fit(samples, DEPTH) || !LinearPredictor::are_within(predictors, 32) {
+    if !all_fit(samples, depth) || !LinearPredictor::are_within(predictors, 32) {
         return Err(Why::SampleRange);
     }
     let limits = limits(partition);
@@ -48,27 +49,28 @@ fn write_in<W: Target>(
     let mut choice = WideChoice::new(alloc, &limits)?;
     choose_in(
         samples,
-        DEPTH,
+        depth,
         &limits,
         predictors,
         &mut workspace,
         &mut choice,
     );
-    write_subframe_in(&choice, predictors, samples, DEPTH, &mut workspace, writer)?;
+    write_subframe_in(&choice, predictors, samples, depth, &mut workspace, writer)?;
     writer.align()?;
     writer.finish()?;
     Ok(choice.bits())
 }
 
 /// How many bits the shortest subframe takes, and its bytes.
-fn written(
+pub(crate) fn written_in(
     alloc: Global,
     samples: &[i64],
+    depth: u32,
     partition: u32,
     predictors: &[LinearPredictor],
 ) -> Result<(u64, Vec<u8>), Why> {
     let mut writer = BitWriter::new(Collected::new(alloc));
-    let bits = write_in(alloc, samples, partition, predictors, &mut writer)?;
+    let bits = write_in(alloc, samples, depth, partition, predictors, &mut writer)?;
     Ok((bits, writer.into_target().into_bytes()))
 }
 
@@ -110,7 +112,7 @@ fn alternating_bytes(alloc: Global, order: u32) -> Result<Vec<u8>, Why> {
 /// Checks the subframe of 2^order such samples, of which each has a partition of its own.
 fn check_alternating(rt: &impl Abort, alloc: Global, order: u32) -> Result<(), Fail> {
     let samples = alternating(alloc, 1 << (order % 16))?;
-    let (bits, bytes) = written(alloc, &samples, 15, &[])?;
+    let (bits, bytes) = written_in(alloc, &samples, DEPTH, 15, &[])?;
     let wanted = alternating_bytes(alloc, order)?;
     let each = (samples.len() as u64).wrapping_mul(17);
     assert!(rt; bits == each.wrapping_add(14), "{order}");
@@ -241,8 +243,8 @@ fn plain_bits(alloc: Global, samples: &[i64], partition: u32) -> Result<u64, Fai
 /// Whether a block takes as many bits as the least of all forms with partition orders up to 15, and more if they are up to 8.
 fn is_least(alloc: Global, len: usize, run: usize) -> Result<bool, Fail> {
     let samples = bursts(alloc, len, run)?;
-    let (wide, _) = written(alloc, &samples, 15, &[])?;
-    let (narrow, _) = written(alloc, &samples, 8, &[])?;
+    let (wide, _) = written_in(alloc, &samples, DEPTH, 15, &[])?;
+    let (narrow, _) = written_in(alloc, &samples, DEPTH, 8, &[])?;
     let least = plain_bits(alloc, &samples, 15)?;
     Ok(wide == least && wide < narrow && narrow == plain_bits(alloc, &samples, 8)?)
 }
@@ -278,7 +280,7 @@ fn by_a_predictor(rt: HostRuntime) -> Result<(), Fail> {
     let Some(predictor) = LinearPredictor::new(1, 0, &[-1]) else {
         return Ok(());
     };
-    let (bits, _) = written(alloc, &samples, 15, &[predictor])?;
+    let (bits, _) = written_in(alloc, &samples, DEPTH, 15, &[predictor])?;
     let (_, rest) = left.split_at(left.len().min(1));
     let wanted = residual_bits(rest, 1, 15).wrapping_add(8 + 24 + 10);
     assert!(rt; bits == wanted && wanted < plain_bits(alloc, &samples, 15)?);
@@ -301,7 +303,7 @@ fn write_alone<W: Target>(samples: &[i64], writer: &mut BitWriter<W>) -> Result<
 /// Whether the subframe of a block with partition orders up to 8 is the one of the subset, byte for byte.
 fn is_of_the_subset(alloc: Global, len: usize, run: usize) -> Result<bool, Fail> {
     let samples = bursts(alloc, len, run)?;
-    let wide = written(alloc, &samples, 8, &[])?;
+    let wide = written_in(alloc, &samples, DEPTH, 8, &[])?;
     let mut writer = BitWriter::new(Collected::new(alloc));
     let bits = write_alone(&samples, &mut writer)?;
     let bytes = writer.into_target().into_bytes();
