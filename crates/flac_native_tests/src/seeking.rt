@@ -5,7 +5,7 @@ use flac_frame::{Audio, FrameView};
 use flac_meta::{Block, BlockList, SeekPoint, SeekTable, StreamInfo};
 use flac_native::{Container, Decoder, EncodeFault, Item, Plan, Profile, encode};
 use flac_testing::{encoded, ends};
-use flac_vectors::{TEN_THOUSAND, bytes_of};
+use flac_vectors::TEN_THOUSAND;
 use std::alloc::Global;
 use std::mem::drop;
 use std::process::Abort;
@@ -120,15 +120,17 @@ fn resumed_at_a_point(rt: HostRuntime) -> Result<(), Fail> {
 }
 
 /// The seek table of the seventeen samples in blocks of 16, with a point each 16: the first frame has 16 bytes.
-const POINTS: &str = "83000024 00*16 0010 0000000000000010 0000000000000010 0001";
+const POINTS: [u8; 40] = [
+    0x83, 0, 0, 0x24, 0, 0, 0, 0, 0, 0, 0, 0, 0, 0, 0, 0, 0, 0, 0, 0, 0, 16, 0, 0, 0, 0, 0, 0, 0,
+    16, 0, 0, 0, 0, 0, 0, 0, 16, 0, 1,
+];
 
 /// The frames that are read have neither the digest nor the number of samples that STREAMINFO says.
 #[test]
 fn resumed_with_another_digest(rt: HostRuntime) -> Result<(), Fail> {
-    let stream = encoded(rt.alloc(), &seventeen(rt.alloc())?, 16, 16)?;
-    let points = bytes_of(rt.alloc(), POINTS)?;
-    assert!(rt; stream.get(42..82) == Some(points.as_slice()) && stream.len() > 98);
     let info = StreamInfo::new(16, 16, 0, 0, 44100, 1, 16, 17, [1; 16])?;
+    let stream = encoded(rt.alloc(), &seventeen(rt.alloc())?, 16, 16)?;
+    assert!(rt; stream.get(42..82) == Some(POINTS.as_slice()) && stream.len() > 98);
     let frames = [(1, 1, 1, Some(16), Some(16))];
     check_resumed(&rt, rt.alloc(), stream.get(98..), &info, &frames)
 }
