@@ -190,10 +190,10 @@ const WRITTEN: &str = "# Predicted, equal, and a single sample: constant before 
 20 23 | 7 | 1000dc
 16 23 | 0 0 0 0 0 | 10003e";
 
-/// The shortest subframe of 1 to 64 samples, written to a new target: how many bits it takes, and its bytes.
-fn written(alloc: Global, samples: &[i64], depth: u32) -> Result<(u64, Vec<u8>), Why> {
+/// The shortest subframe of 1 to 65535 samples, written to a new target: how many bits it takes, and its bytes.
+pub(crate) fn written(alloc: Global, samples: &[i64], depth: u32) -> Result<(u64, Vec<u8>), Why> {
     let len = samples.len();
-    if len == 0 || len > 64 || depth == 0 || depth > 33 {
+    if len == 0 || len > 65535 || depth == 0 || depth > 33 {
         return Err(Why::BlockSize);
     }
     let mut writer = BitWriter::new(Collected::new(alloc));
@@ -277,7 +277,7 @@ fn write_least_in<W: Target>(
     Ok(choice.bits())
 }
 
-/// Writes two subframes in turn in one workspace and one place: how many bits each takes.
+/// Writes two subframes in turn in one workspace and one place: how many bits each takes, 0 if one is refused.
 fn write_two<W: Target>(alloc: Global, writer: &mut BitWriter<W>) -> Result<(u64, u64), Why> {
     let limits = Limits {
         partition: 8,
@@ -285,9 +285,9 @@ fn write_two<W: Target>(alloc: Global, writer: &mut BitWriter<W>) -> Result<(u64
     };
     let mut workspace = Workspace::new(alloc, 16, &limits)?;
     let mut choice = WideChoice::new(alloc, &limits)?;
-    let first = write_least_in(&[25588], 16, &mut workspace, &mut choice, writer);
-    let second = write_least_in(&[0; 16], 8, &mut workspace, &mut choice, writer);
-    Ok((first?, second?))
+    let first = write_least_in(&[25588], 16, &mut workspace, &mut choice, writer).unwrap_or(0);
+    let second = write_least_in(&[0; 16], 8, &mut workspace, &mut choice, writer).unwrap_or(0);
+    Ok((first, second))
 }
 
 /// One subframe after another, at one target.

@@ -2,11 +2,10 @@
 
 ghost use Rattle.std.specs.Prelude.{◌≡◌};
 
-use crate::subframes::all_fit;
+use crate::subframes::{all_fit, written};
 use flac_bits::{BitReader, BitWriter, Collected, Memory, Target, Why};
 use flac_subframe::{
-    Limits, LinearPredictor, WideChoice, Workspace, choose, choose_in, read_subframe,
-    write_subframe, write_subframe_in,
+    Limits, LinearPredictor, WideChoice, Workspace, choose_in, read_subframe, write_subframe_in,
 };
 use flac_vectors::bursts;
 use std::alloc::Global;
@@ -287,27 +286,12 @@ fn by_a_predictor(rt: HostRuntime) -> Result<(), Fail> {
     Ok(())
 }
 
-/// Writes the shortest subframe of the subset, with zeros up to a whole byte, and returns how many bits it takes.
-fn write_alone<W: Target>(samples: &[i64], writer: &mut BitWriter<W>) -> Result<u64, Why> {
-    let len = samples.len();
-    if len == 0 || len > 65535 || !all_fit(samples, DEPTH) {
-        return Err(Why::SampleRange);
-    }
-    let choice = choose(samples, DEPTH);
-    write_subframe(&choice, samples, DEPTH, writer)?;
-    writer.align()?;
-    writer.finish()?;
-    Ok(choice.bits())
-}
-
 /// Whether the subframe of a block with partition orders up to 8 is the one of the subset, byte for byte.
 fn is_of_the_subset(alloc: Global, len: usize, run: usize) -> Result<bool, Fail> {
     let samples = bursts(alloc, len, run)?;
     let wide = written_in(alloc, &samples, DEPTH, 8, &[])?;
-    let mut writer = BitWriter::new(Collected::new(alloc));
-    let bits = write_alone(&samples, &mut writer)?;
-    let bytes = writer.into_target().into_bytes();
-    Ok(wide.0 == bits && wide.1.as_slice() == bytes.as_slice())
+    let alone = written(alloc, &samples, DEPTH)?;
+    Ok(wide.0 == alone.0 && wide.1.as_slice() == alone.1.as_slice())
 }
 
 #[test]
