@@ -2,8 +2,10 @@
 //! one channel in frames of 4096, 4096 and 1808 samples.
 
 use flac_meta::BlockList;
-use flac_native::StreamEncoder;
-use flac_reader::{Container, Counted, Fault, Keep, Profile, Samples, open_native};
+use flac_native::{StreamEncoder, Target};
+use flac_reader::{
+    Container, Counted, Fault, FrameView, Keep, Profile, Reader, Samples, open_native,
+};
 use flac_vectors::{EXAMPLE_TAGGED, TEN_THOUSAND};
 use std::alloc::Global;
 use std::fs;
@@ -31,6 +33,31 @@ fn title_and_peak(alloc: Global, file: File) -> Result<String, Fail> {
     Ok(format!(in alloc; "{}: {}", title?, peak?)?)
 }
 
+/// Encodes a frame of one or two channels.
+fn push<W: Target + Drop>(
+    encoder: &mut StreamEncoder<W>,
+    frame: FrameView<'_>,
+) -> Result<(), Fail> {
+    if frame.channels() > 1 {
+        encoder.push(&[frame.channel(0), frame.channel(1)])?;
+    } else if frame.channels() > 0 {
+        encoder.push(&[frame.channel(0)])?;
+    }
+    Ok(())
+}
+
+/// Encodes each frame that comes.
+fn copy_frames<C: Container + Drop, W: Target + Drop>(
+    reader: &mut Reader<C>,
+    encoder: &mut StreamEncoder<W>,
+) -> Result<(), Fail> {
+    for _ in 0..u64::MAX {
+        let Some(frame) = reader.next()? else { break };
+        push(encoder, frame)?;
+    }
+    Ok(())
+}
+
 /// Copies a native stream of one or two channels, frame by frame, through decoder and encoder.
 fn copy(alloc: Global, from: File, to: File) -> Result<(), Fail> {
     let mut reader = open_native(alloc, Counted::new(from), Profile::Subset, Keep::Tags)?;
@@ -39,15 +66,7 @@ fn copy(alloc: Global, from: File, to: File) -> Result<(), Fail> {
     let (count, block) = (u32::from(info.channels()), u32::from(info.greatest_block()));
     let (list, to) = (BlockList::new(Vec::new(alloc))?, Counted::new(to));
     let mut encoder = StreamEncoder::new(alloc, rate, bits, count, block, &list, to)?;
-    for _ in 0..u64::MAX {
-        match reader.next()? {
-            Some(frame) if frame.channels() > 1 => {
-                encoder.push(&[frame.channel(0), frame.channel(1)])?;
-            }
-            Some(frame) if frame.channels() > 0 => encoder.push(&[frame.channel(0)])?,
-            _ => break,
-        }
-    }
+    copy_frames(&mut reader, &mut encoder)?;
     let _file = encoder.finish()?;
     Ok(())
 }

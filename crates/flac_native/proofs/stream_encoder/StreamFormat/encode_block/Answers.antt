@@ -1,4 +1,4 @@
-use Rattle.std.proofs.Common.{◌≡◌, ⊥, ℤ, List, Option, Some, None, map, absurd, sym, subst, ◌∙◌}
+use Rattle.std.proofs.Common.{◌≡◌, ℤ, List, Option, Some, None, map, sym, subst}
 use Rattle.flac_subframe.specs.Handed.{AreWithin}
 use Rattle.flac_frame.specs.Audio.{Sound, audio_fault}
 use Rattle.flac_frame.specs.Frame.{limits_at}
@@ -15,7 +15,7 @@ unreachable-requires c =
     let f = c.args.self.now in
     let block = map (λ b. b.now) c.args.block.now in
     let fit = fits_format (shape_of f) block c.requires.format c.requires.block c.requires.size in
-    not_both _ _ fit (subst (λ (k : List (List ℤ)). audio_fault f.profile f.rate f.bits k ≡ Some c.in-Err.e) c.in_ok-channels.ensures.items c.in-Err.ensures)
+    not_both _ _ fit (subst (λ (k : List (List ℤ)). audio_fault f.profile f.rate f.bits k ≡ Some c.in-Err.field-0) c.in_ok-channels.ensures.items c.in-Err.ensures)
 
 pub frame_bytes-requires-clause-orders : goal.frame_bytes-requires-clause-orders
 frame_bytes-requires-clause-orders c =
