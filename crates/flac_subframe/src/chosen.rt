@@ -17,6 +17,7 @@ use crate::halving::{Found, power};
 use crate::held::{HeldKind, Sought};
 use crate::limits::Limits;
 use crate::linear::LinearPredictor;
+use crate::tables::filled;
 use crate::view::{ChosenView, CodedView, Scope};
 use arrayvec::ArrayVec;
 
@@ -142,9 +143,9 @@ pub fn choose_with(
     ensures restored { samples_of depth (length samples.now) (form_with predictors.now result samples.now) ≡ Some samples.now }
     ensures small { result.bits ≤ 2 ^ 61 }
 {
-    let mut longs = [0; 2 * MOST_SAMPLES];
-    let mut shorts = [0; 2 * MOST_SAMPLES];
-    let mut folds = [0; MOST_SAMPLES];
+    let mut longs: [i64; 2 * MOST_SAMPLES] = filled(0);
+    let mut shorts: [i32; 2 * MOST_SAMPLES] = filled(0);
+    let mut folds: [u32; MOST_SAMPLES] = filled(0);
     let mut tables = [0; 1280];
     let mut widths = [0; 512];
     let mut codings = [0; 256];

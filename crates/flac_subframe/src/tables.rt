@@ -11,3 +11,10 @@ pub(crate) struct Tables<'a> {
     pub(crate) widths: &'a mut [u8],
     pub(crate) codings: &'a mut [u8],
 }
+
+/// An array with one value in all places. For the prover its result is any array of that length; the places of a literal are counted one
+/// by one wherever its length is asked for.
+#[inline(always)]
+pub(crate) fn filled<T: Copy, const N: usize>(value: T) -> [T; N] {
+    [value; N]
+}

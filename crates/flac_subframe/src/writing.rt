@@ -21,6 +21,7 @@ use crate::held::HeldKind;
 use crate::leaving::{take_fixed, take_linear};
 use crate::linear::LinearPredictor;
 use crate::predictors::fixed_coefficients;
+use crate::tables::filled;
 use crate::view::{ChosenView, CodedView};
 use crate::wasted::drop_wasted;
 use flac_bits::{BitWriter, Target, Why};
@@ -358,8 +359,8 @@ pub fn write_subframe_with<W: Target>(
     requires made { IsMadeWith predictors.now choice.now samples.now }
     ensures { Writes (subframe_spelling depth (form_with predictors.now choice.now samples.now)) bits.old bits.new result }
 {
-    let mut places = [0; MOST_SAMPLES];
-    let mut values = [0; MOST_SAMPLES];
+    let mut places: [i64; MOST_SAMPLES] = filled(0);
+    let mut values: [i64; MOST_SAMPLES] = filled(0);
     write_chosen(
         &choice.lent(),
         predictors,

@@ -11,7 +11,7 @@ pub choose_in_places-sought-requires-clause-shorts : goal.choose_in_places-sough
 choose_in_places-sought-requires-clause-shorts c = omega (arith, c.requires.few)
 
 pub choose_in_places-sought-requires-clause-folds : goal.choose_in_places-sought-requires-clause-folds
-choose_in_places-sought-requires-clause-folds c = c.requires.few
+choose_in_places-sought-requires-clause-folds c = omega (arith, c.requires.few)
 
 pub choose_in_places-sought-requires-clause-tables : goal.choose_in_places-sought-requires-clause-tables
 choose_in_places-sought-requires-clause-tables c = omega (arith, power_le c.args.limits.now.partition 8 c.requires.partition)

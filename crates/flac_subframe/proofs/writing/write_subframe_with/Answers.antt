@@ -4,10 +4,10 @@ use Rattle.flac_subframe.proofs.Made.{made_of_fewer}
 use Rattle.flac_subframe.proofs.writing.write_subframe_with.Goals as goal
 
 pub write_chosen-requires-clause-places : goal.write_chosen-requires-clause-places
-write_chosen-requires-clause-places g c = c.requires.few
+write_chosen-requires-clause-places g c = omega (arith, c.requires.few)
 
 pub write_chosen-requires-clause-values : goal.write_chosen-requires-clause-values
-write_chosen-requires-clause-values g c = c.requires.few
+write_chosen-requires-clause-values g c = omega (arith, c.requires.few)
 
 pub write_chosen-requires-clause-made : goal.write_chosen-requires-clause-made
 write_chosen-requires-clause-made g c =
