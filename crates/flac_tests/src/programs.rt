@@ -34,14 +34,11 @@ fn title_and_peak(alloc: Global, file: File) -> Result<String, Fail> {
 }
 
 /// Encodes a frame of one or two channels.
-fn push<W: Target + Drop>(
-    encoder: &mut StreamEncoder<W>,
-    frame: FrameView<'_>,
-) -> Result<(), Fail> {
+fn push<W: Target + Drop>(to: &mut StreamEncoder<W>, frame: FrameView<'_>) -> Result<(), Fail> {
     if frame.channels() > 1 {
-        encoder.push(&[frame.channel(0), frame.channel(1)])?;
+        to.push(&[frame.channel(0), frame.channel(1)])?;
     } else if frame.channels() > 0 {
-        encoder.push(&[frame.channel(0)])?;
+        to.push(&[frame.channel(0)])?;
     }
     Ok(())
 }
