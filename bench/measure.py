@@ -96,7 +96,7 @@ def once(words):
         process.returncode = os.waitstatus_to_exitcode(status)
         err.seek(0)
         text = err.read().decode(errors="replace").strip()
-    if process.returncode == 2 or text.endswith(": 49 NotYet"):
+    if process.returncode == 2:
         raise Refused("not yet")
     if process.returncode != 0:
         raise Refused(f"status {process.returncode}: {text[:200]}")
