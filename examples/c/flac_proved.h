@@ -15,7 +15,8 @@
  * Memory: each call frees what it allocates before it returns, and keeps no pointer. If an allocation fails, the call returns 2.
  * Threads: there is no state but the caller's memory, so that calls may run at once in several threads.
  *
- * Numbers: each call returns 0, or the number of a reason (docs/errors.md); flac_proved_strerror has its text.
+ * Numbers: each call that reads or encodes returns 0, or the number of a reason (docs/errors.md); flac_proved_strerror has its text.
+ * flac_proved_bound, flac_proved_strerror and flac_proved_place return a number of bytes.
  *
  * Buffers: a call that fills a buffer of `room` elements stores in *len how many elements there are in all. It writes them to the front of
  * the buffer, as far as there is room, and nothing behind that; the rest of the buffer stays as it is. So *len > room means that the buffer
