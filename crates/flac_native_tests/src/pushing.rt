@@ -88,12 +88,20 @@ fn one_frame(alloc: Global) -> Result<Option<Vec<u8>>, Fail> {
     Ok(frame?)
 }
 
-/// A format encodes the block as the frame that the stream has behind its 42 bytes of metadata.
+/// Whether a stream is its 42 bytes of metadata and this frame.
+fn is_frame_of(frame: &[u8], stream: &[u8]) -> bool {
+    stream.len() > 42 && frame == &stream[42..]
+}
+
+/// A format encodes the block as the frame that the stream has behind its metadata.
 #[test]
 fn one_block(rt: HostRuntime) -> Result<(), Fail> {
-    let frame = one_frame(rt.alloc())?;
     let wanted = hex::decode(rt.alloc(), ONE)?;
-    assert!(rt; frame.is_some_and(|it| it.as_slice() == &wanted[42..]));
+    let Some(frame) = one_frame(rt.alloc())? else {
+        assert!(rt; false);
+        return Ok(());
+    };
+    assert!(rt; is_frame_of(&frame, &wanted));
     Ok(())
 }
 
