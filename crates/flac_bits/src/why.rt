@@ -5,6 +5,7 @@ ghost use Rattle.flac_bits.specs.declared.why.Why.TheVariants.{Memory, Read, Wri
 ghost use Rattle.flac_bits.specs.Reasons.{number_of, text_of};
 
 use std::alloc::{AllocError, AllocFailed};
+use std::error::Error;
 use std::fmt;
 
 /// The reason of an error of reading, decoding or writing. Each has a number from 1 to 39, see [`Why::number`].
@@ -173,6 +174,8 @@ impl fmt::Display for Why {
         f.write_str(self.as_str())
     }
 }
+
+impl Error for Why {}
 
 impl From<AllocError> for Why {
     ghost from_gives = { λ _ e. e ≡ Memory };

@@ -20,10 +20,20 @@ use flac_frame::FrameView;
 use flac_header::Profile;
 use flac_meta::Block;
 use std::alloc::Global;
+use std::error::Error;
+use std::fmt;
 
 /// The error of a [`Sink`]: it did not take the item. It ends decoding with `Why::Sink`.
 #[derive(Clone, Copy, Debug, PartialEq, Eq)]
 pub struct SinkFault;
+
+impl fmt::Display for SinkFault {
+    fn fmt<W: fmt::Write>(&self, f: &mut fmt::Formatter<W>) -> fmt::Result {
+        f.write_str("the sink did not take the item")
+    }
+}
+
+impl Error for SinkFault {}
 
 /// Receives the metadata blocks and frames of a stream, in the order of the stream. [`crate::decode`] calls it.
 ///

@@ -62,6 +62,8 @@ impl fmt::Display for Fault {
     }
 }
 
+impl std::error::Error for Fault {}
+
 /// Why encoding failed. Each reason has a number, see [`EncodeFault::number`]. [`crate::encode`] and `encode_ogg` of
 /// `flac_ogg` return no other than `Memory`, `RepeatedBlock`, `BadMapping` and `Write`.
 ///

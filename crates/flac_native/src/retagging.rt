@@ -55,6 +55,8 @@ impl fmt::Display for RetagFault {
     }
 }
 
+impl std::error::Error for RetagFault {}
+
 /// Keeps a block that is no comment block. Its only error is `Memory`: an allocation failed.
 fn keep(kept: &mut Vec<Block>, last: bool, block: Option<Block>) -> Result<(), Why>
     ensures keeps { OnOk result (keeps kept.old.items (block_in last block) kept.new.items) }

@@ -1,11 +1,12 @@
 //! Other comments for a stream: the example of RFC 9639, appendix D.1, its digest unknown.
 
 use flac_native::{
-    Block, Bytes, Collected, Comments, Container, Decoder, Item, Memory, Pieces, Place, Profile,
-    RetagFault, Texts, Why, only_one_head, retag,
+    Block, Bytes, Collected, Comments, Container, Decoder, Fault, Item, Memory, Pieces, Place,
+    Profile, RetagFault, SinkFault, Texts, Why, only_one_head, retag,
 };
 use flac_vectors::{CUT_COMMENTS, EXAMPLE_INFO, EXAMPLE_TAGGED, TWO_INFOS, fields_of};
 use std::alloc::Global;
+use std::error::Error;
 use std::mem::drop;
 use std::process::Abort;
 use std::test::Fail;
@@ -175,5 +176,27 @@ fn tags_of_a_stream(rt: HostRuntime) -> Result<(), Fail> {
     drop(decoder);
     let title = title?.unwrap_or(Vec::new(rt.alloc()));
     assert!(rt; title.as_slice() == b"x".as_slice());
+    Ok(())
+}
+
+/// The text of an error of any type, as a program prints it.
+fn text_of<E: Error>(alloc: Global, error: &E) -> Result<String, Fail> {
+    Ok(format!(in alloc; "{error}")?)
+}
+
+/// The errors are those of the standard library, too, so that a program can pass each of them on.
+#[test]
+fn errors_are_of_std(rt: HostRuntime) -> Result<(), Fail> {
+    let alloc = rt.alloc();
+    let at = Place::Frame(3);
+    let why = Why::FrameCheck;
+    let cut = RetagFault {
+        at: Some(Place::Block(0)),
+        why: Why::Truncated,
+    };
+    assert!(rt; text_of(alloc, &why)?.as_str() == "26 FrameCheck");
+    assert!(rt; text_of(alloc, &Fault { at, why })?.as_str() == "frame 3: 26 FrameCheck");
+    assert!(rt; text_of(alloc, &cut)?.as_str() == "block 0: 3 Truncated");
+    assert!(rt; text_of(alloc, &SinkFault)?.as_str() == "the sink did not take the item");
     Ok(())
 }
