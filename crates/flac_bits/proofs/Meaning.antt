@@ -217,9 +217,9 @@ one_way l m a b r s x y p q e =
 pub no_fault : {A : Type 0} (l : Layout A) (m : Mark) (a b r s : List Bool) (x : A) (why : Why) → Spells l m a x → Shows l m b why → a ++ r ≡ b ++ s → ⊥
 no_fault l m a b r s x why p q e = differ (x, at_ r (past a m)) (because why) (sym (again l m a r x p) ∙ (ap (λ t. run l (at_ t m)) e ∙ shown l m b s why q))
 
-decodes : {X Y : Type 0} (view : X → Y) (l : Layout Y) (old new : Cursor) (result : Result X Why) → Answers view (run l old) new result → Decodes view l old new.left result
+decodes : {X Y : Type 0} (view : X → Y) (l : Layout Y) (old new : Cursor) (result : Result X Why) → Answers view (run l old) new result → Decodes view l old new result
 decodes view l old new (Ok x) answers = record {
-  found = let t = takes l old.left old.mark (view x) new answers in (t.0, t.1, t.2);
+  found = let t = takes l old.left old.mark (view x) new answers in (t.0, (t.1, t.3), t.2);
   only = λ text rest y e s.
       let same = is_ok_of (view x) y new (at_ rest (past text old.mark)) (sym answers ∙ ap (λ t. run l (at_ t old.mark)) e ∙ again l old.mark text rest y s) in
       (same.0, ap (λ (c : Cursor). c.left) same.1);
@@ -238,3 +238,16 @@ decodes view l old new (Err why) answers = record {
 -- a call that reads a layout answers what it means
 pub means : {X Y : Type 0} (view : X → Y) (l : Layout Y) (old new : State) (result : Result X Why) → Reads view l old new result → Means view l old new result
 means view l old new result reads known same = decodes view l old.cursor new.cursor result (reads known same)
+
+answers : {X Y : Type 0} (view : X → Y) (l : Layout Y) (old new : Cursor) (result : Result X Why) → Decodes view l old new result → Answers view (run l old) new result
+answers view l old new (Ok x) d =
+    let t = d.found in
+    ap (λ k. run l (at_ k old.mark)) t.1.0 ∙ again l old.mark t.0 new.left (view x) t.2 ∙ ap (λ k. read (view x, at_ new.left k)) (sym t.1.1)
+answers view l old new (Err why) d = elim d.fault [
+  | inl (front, rest, split, s) ↦ ap (λ k. run l (at_ k old.mark)) split ∙ shown l old.mark front rest why s
+  | inr (short, s) ↦ cut_short l old.left old.mark s ∙ ap (λ w. failed_by (because w)) (sym short)
+]
+
+-- and one that answers what a layout means reads it
+pub reads : {X Y : Type 0} (view : X → Y) (l : Layout Y) (old new : State) (result : Result X Why) → Means view l old new result → Reads view l old new result
+reads view l old new result means known same = answers view l old.cursor new.cursor result (means known same)

@@ -1,6 +1,6 @@
 -- What a reading call does.
 use Rattle.std.specs.Prelude.{◌≡◌, ◌<◌, ◌≤◌, Bool, true, List, ◌++◌, Result, Ok, Err, IfOk, IfErr, IsOkAnd, IsErrAnd, ◌⊎◌}
-use Rattle.flac_bits.specs.State.{Cursor, State, Rises}
+use Rattle.flac_bits.specs.State.{Cursor, State, Rises, Consumes}
 use Rattle.flac_bits.specs.Layout.{Layout, Reason, because, run}
 use Rattle.flac_bits.specs.Meaning.{Spells, Shows, IsCut}
 use Rattle.flac_bits.specs.declared.why.Why.{Why}
@@ -28,14 +28,14 @@ Reads view layout old new result = Gives view (run layout old.cursor) old new re
 abbrev pub ReadsInRoom : {X Y : Type 0} → (X → Y) → Layout Y → State → State → Result X Why → Type 0
 ReadsInRoom view layout old new result = (result ≡ Err Memory → ⊥) → Reads view layout old new result
 
--- what was returned is told by the meaning of the layout alone: a value is the one that the front of the input spells,
--- a reason is one that a front of the input shows, or the input ends inside
-pub record Decodes {X Y : Type 0} (view : X → Y) (layout : Layout Y) (old : Cursor) (left : List Bool) (result : Result X Why) : Type 0 where
-  pub found : IfOk result (λ x. (text : List Bool) × (old.left ≡ text ++ left) × Spells layout old.mark text (view x))
-  pub only : (text rest : List Bool) (y : Y) → old.left ≡ text ++ rest → Spells layout old.mark text y → IsOkAnd result (λ x. (view x ≡ y) × (left ≡ rest))
+-- what was returned is told by the meaning of the layout alone: a value is the one that the front of the input spells, and the reader stands behind
+-- just these bits; a reason is one that a front of the input shows, or the input ends inside
+pub record Decodes {X Y : Type 0} (view : X → Y) (layout : Layout Y) (old new : Cursor) (result : Result X Why) : Type 0 where
+  pub found : IfOk result (λ x. (text : List Bool) × Consumes text old new × Spells layout old.mark text (view x))
+  pub only : (text rest : List Bool) (y : Y) → old.left ≡ text ++ rest → Spells layout old.mark text y → IsOkAnd result (λ x. (view x ≡ y) × (new.left ≡ rest))
   pub fault : IfErr result (λ e. ((front : List Bool) × (rest : List Bool) × (old.left ≡ front ++ rest) × Shows layout old.mark front e) ⊎ ((e ≡ old.mark.short) × IsCut layout old.mark old.left))
   pub shown : (front rest : List Bool) (why : Why) → old.left ≡ front ++ rest → Shows layout old.mark front why → IsErrAnd result (λ e. e ≡ why)
   pub cut : IsCut layout old.mark old.left → IsErrAnd result (λ e. e ≡ old.mark.short)
 
 abbrev pub Means : {X Y : Type 0} → (X → Y) → Layout Y → State → State → Result X Why → Type 0
-Means view layout old new result = old.known ≡ true → new.errors ≡ old.errors → Decodes view layout old.cursor new.cursor.left result
+Means view layout old new result = old.known ≡ true → new.errors ≡ old.errors → Decodes view layout old.cursor new.cursor result

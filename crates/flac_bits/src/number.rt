@@ -66,7 +66,6 @@ pub fn read_number<R: Source>(bits: &mut BitReader<R>, max_bits: u32) -> Result<
     ensures spends { OnOk result (bits.new.most + 8 ≤ bits.old.most) }
     ensures counts { Counts bits.old bits.new result }
     ensures memory { IfErr result (λ e. e ≢ Why.Memory) }
-    ensures reads { Reads (λ v. v) (number max_bits) bits.old bits.new result }
     ensures means { Means (λ v. v) (number max_bits) bits.old bits.new result }
 {
     number_here(bits, max_bits)

@@ -129,7 +129,6 @@ impl FrameBuffers {
         ensures spends { OnOk result (bits.new.most + 40 ≤ bits.old.most) }
         ensures counts { Counts bits.old bits.new result }
         ensures memory { IfErr result (λ e. e ≢ Why.Memory) }
-        ensures reads { Reads (λ _. self.new.held) (frame profile info.now self.old.before) (started bits.old) bits.new result }
         ensures means { Means (λ _. self.new.held) (frame profile info.now self.old.before) (started bits.old) bits.new result }
     {
         self.read_in(bits, info, profile)
@@ -201,7 +200,6 @@ impl FrameBuffers {
         ensures spends { OnOk result (bits.new.most + 40 ≤ bits.old.most) }
         ensures counts { Counts bits.old bits.new result }
         ensures memory { IfErr result (λ e. e ≢ Why.Memory) }
-        ensures reads { Reads frame_of (frame profile info.now self.old.before) (started bits.old) bits.new result }
         ensures means { Means frame_of (frame profile info.now self.old.before) (started bits.old) bits.new result }
         ensures* after { sem 𝓛 (follows_so the_row the_row self.entry.ghost_name none (λ _ _. ⊤) (λ last. Leaves self.old last frame_of result)) }
     {

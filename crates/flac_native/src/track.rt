@@ -1,12 +1,12 @@
 //! The state of a stream between its parts, and what is compared at its end.
 
-ghost use Rattle.std.specs.Prelude.{◌≡◌, ◌≢◌, ◌≤◌, ◌+◌, cond, OnOk, IfOk, IfErr, Err, Some, is_some, true, ⊤, ℕ, List, [], min, false};
+ghost use Rattle.std.specs.Prelude.{◌≡◌, ◌≢◌, ◌≤◌, ◌+◌, cond, OnOk, OnErr, IfOk, IfErr, Err, Some, is_some, true, ⊤, ℕ, List, [], min, false};
 ghost use Rattle.std.specs.Borrow.{sem, follows_so};
 ghost use mathlib.Core.Option.{none};
 ghost use Rattle.flac_bits.specs.Reading.{Counts, ReadsInRoom, Means};
 ghost use Rattle.flac_bits.specs.Fencing.{lifted};
 ghost use Rattle.flac_native.specs.Within.{ReadsWithin, MeansWithin};
-ghost use Rattle.flac_meta.specs.Block.{block as block_layout};
+ghost use Rattle.flac_meta.specs.Block.{block as block_layout, seen_after};
 ghost use Rattle.flac_native.specs.Resuming.{at_frames};
 ghost use Rattle.flac_frame.specs.Lent.{frame_of};
 ghost use Rattle.flac_native.specs.Stream.{Progress, marked, block as block_piece, framed, phase_behind, raised, info_after, before_behind, frame_behind, place_in, next, opening, layout_in, is_unknown, end_rules};
@@ -37,6 +37,21 @@ pub(crate) enum Phase {
     Blocks,
     /// A frame, or the end.
     Frames,
+}
+
+/// What [`read_block`] does, proved by the reading of the layout.
+fn read_here<R: Source>(
+    alloc: Global,
+    bits: &mut BitReader<R>,
+    seen: &mut Seen,
+) -> Result<(bool, Block), Why>
+    ensures spends { OnOk result (bits.new.most + 32 ≤ bits.old.most) }
+    ensures counts { Counts bits.old bits.new result }
+    ensures reads { ReadsInRoom (λ x. x) (block_layout seen.old) bits.old bits.new result }
+    ensures seen { IfOk result (λ x. seen.new ≡ seen_after seen.old x.1) }
+    ensures unseen { OnErr result (seen.new ≡ seen.old) }
+{
+    read_block(alloc, bits, seen)
 }
 
 /// The state of a stream between two of its parts, by which they are read one by one (RFC 9639, section 6): a metadata
@@ -151,14 +166,25 @@ impl Track {
     pub fn block<R: Source>(&mut self, bits: &mut BitReader<R>) -> Result<(bool, Block), Why>
         ensures spends { OnOk result (bits.new.most + 32 ≤ bits.old.most) }
         ensures counts { Counts bits.old bits.new result }
-        ensures reads { ReadsInRoom (λ x. x) (block_layout (stand_of self.old).seen) bits.old bits.new result }
         ensures means { (result ≡ Err Why.Memory → ⊥) → Means (λ x. x) (block_layout (stand_of self.old).seen) bits.old bits.new result }
         ensures next { IfOk result (λ x. (p : Progress) → IsAt self.old p → IsAt self.new (next p (block_piece x.0 x.1))) }
         // The block that Track::next_block keeps does not change.
         ensures last { self.new.last ≡ self.old.last }
         ensures kept { self.new.block ≡ self.old.block }
     {
-        let (last, block) = read_block(self.alloc, bits, &mut self.seen)?;
+        self.block_here(bits)
+    }
+
+    /// What [`Track::block`] does, proved by the reading of the layout.
+    fn block_here<R: Source>(&mut self, bits: &mut BitReader<R>) -> Result<(bool, Block), Why>
+        ensures spends { OnOk result (bits.new.most + 32 ≤ bits.old.most) }
+        ensures counts { Counts bits.old bits.new result }
+        ensures reads { ReadsInRoom (λ x. x) (block_layout (stand_of self.old).seen) bits.old bits.new result }
+        ensures next { IfOk result (λ x. (p : Progress) → IsAt self.old p → IsAt self.new (next p (block_piece x.0 x.1))) }
+        ensures last { self.new.last ≡ self.old.last }
+        ensures kept { self.new.block ≡ self.old.block }
+    {
+        let (last, block) = read_here(self.alloc, bits, &mut self.seen)?;
         self.note(last, &block)?;
         Ok((last, block))
     }
@@ -171,12 +197,22 @@ impl Track {
     pub fn next_block<R: Source>(&mut self, bits: &mut BitReader<R>) -> Result<(), Why>
         ensures spends { OnOk result (bits.new.most + 32 ≤ bits.old.most) }
         ensures counts { Counts bits.old bits.new result }
-        ensures reads { ReadsInRoom (λ _. kept self.new) (layout_in Blocks (stand_of self.old)) bits.old bits.new result }
         ensures means { (result ≡ Err Why.Memory → ⊥) → Means (λ _. kept self.new) (layout_in Blocks (stand_of self.old)) bits.old bits.new result }
         ensures next { OnOk result ((p : Progress) → IsAt self.old p → IsAt self.new (next p (kept self.new))) }
         ensures made { OnOk result (is_some self.new.block ≡ true) }
     {
-        let (last, block) = self.block(bits)?;
+        self.next_block_here(bits)
+    }
+
+    /// What [`Track::next_block`] does, proved by the reading of the layout.
+    pub(crate) fn next_block_here<R: Source>(&mut self, bits: &mut BitReader<R>) -> Result<(), Why>
+        ensures spends { OnOk result (bits.new.most + 32 ≤ bits.old.most) }
+        ensures counts { Counts bits.old bits.new result }
+        ensures reads { ReadsInRoom (λ _. kept self.new) (layout_in Blocks (stand_of self.old)) bits.old bits.new result }
+        ensures next { OnOk result ((p : Progress) → IsAt self.old p → IsAt self.new (next p (kept self.new))) }
+        ensures made { OnOk result (is_some self.new.block ≡ true) }
+    {
+        let (last, block) = self.block_here(bits)?;
         self.last = last;
         self.block = Some(block);
         Ok(())
@@ -190,16 +226,29 @@ impl Track {
     /// Those of [`flac_frame::FrameBuffers::fill`]; [`Why::FrameTooLong`] if it has more bytes;
     /// [`Why::NotStreamInfoFirst`] if no STREAMINFO was read. Never [`Why::Memory`]. The track must not be used to read
     /// on then.
-    #[tactic(auto, unfolding(crate::specs::Stream::frame_behind))]
     pub fn next_frame<R: Source>(&mut self, bits: &mut BitReader<R>) -> Result<(), Why>
         ensures spends { OnOk result (bits.new.most + 40 ≤ bits.old.most) }
         ensures counts { Counts (lifted bits.old) bits.new result }
         ensures memory { IfErr result (λ e. e ≢ Why.Memory) }
-        ensures reads { ReadsWithin (Some 16777215) (λ _. shown self.new) (frame_behind (stand_of self.old).profile (stand_of self.old).info (stand_of self.old).before) bits.old bits.new result }
         ensures means { MeansWithin (Some 16777215) (λ _. shown self.new) (frame_behind (stand_of self.old).profile (stand_of self.old).info (stand_of self.old).before) bits.old bits.new result }
         ensures next { OnOk result ((p : Progress) → IsAt self.old p → IsAt self.new (next p (framed (shown self.new)))) }
         ensures made { OnOk result (is_some (stand_of self.new).info ≡ true) }
         // The block that Track::next_block keeps does not change.
+        ensures last { self.new.last ≡ self.old.last }
+        ensures kept { self.new.block ≡ self.old.block }
+    {
+        self.next_frame_here(bits)
+    }
+
+    /// What [`Track::next_frame`] does, proved by the reading of the layout.
+    #[tactic(auto, unfolding(crate::specs::Stream::frame_behind))]
+    pub(crate) fn next_frame_here<R: Source>(&mut self, bits: &mut BitReader<R>) -> Result<(), Why>
+        ensures spends { OnOk result (bits.new.most + 40 ≤ bits.old.most) }
+        ensures counts { Counts (lifted bits.old) bits.new result }
+        ensures memory { IfErr result (λ e. e ≢ Why.Memory) }
+        ensures reads { ReadsWithin (Some 16777215) (λ _. shown self.new) (frame_behind (stand_of self.old).profile (stand_of self.old).info (stand_of self.old).before) bits.old bits.new result }
+        ensures next { OnOk result ((p : Progress) → IsAt self.old p → IsAt self.new (next p (framed (shown self.new)))) }
+        ensures made { OnOk result (is_some (stand_of self.new).info ≡ true) }
         ensures last { self.new.last ≡ self.old.last }
         ensures kept { self.new.block ≡ self.old.block }
     {
@@ -235,7 +284,6 @@ impl Track {
         ensures spends { OnOk result (bits.new.most + 40 ≤ bits.old.most) }
         ensures counts { Counts (lifted bits.old) bits.new result }
         ensures memory { IfErr result (λ e. e ≢ Why.Memory) }
-        ensures reads { ReadsWithin (Some 16777215) frame_of (frame_behind (stand_of self.old).profile (stand_of self.old).info (stand_of self.old).before) bits.old bits.new result }
         ensures means { MeansWithin (Some 16777215) frame_of (frame_behind (stand_of self.old).profile (stand_of self.old).info (stand_of self.old).before) bits.old bits.new result }
         ensures* after { sem 𝓛 (follows_so the_row the_row self.entry.ghost_name none (λ _ _. ⊤)
             (λ last. IfOk result (λ v. (p : Progress) → IsAt self.old p → IsAt last (next p (framed (frame_of v)))))) }

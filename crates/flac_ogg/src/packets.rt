@@ -1,14 +1,14 @@
 //! The packets of an Ogg stream as a container.
 
-ghost use Rattle.std.specs.Prelude.{◌≡◌, ◌≢◌, ◌≤◌, ◌+◌, OnOk, IfErr, ◌<◌, IfOk, Some, true, false, length, None, Err, ℕ, cond, IfSome, ◌&&◌, not, nat_eq};
+ghost use Rattle.std.specs.Prelude.{◌≡◌, ◌≢◌, ◌≤◌, ◌+◌, OnOk, IfErr, ◌<◌, IfOk, Some, true, false, length, None, Err, ℕ, cond, IfSome, ◌&&◌, not, nat_eq, is_some};
 ghost use Rattle.flac_bits.specs.Reading.{Counts, Reads, ReadsInRoom};
 ghost use Rattle.flac_ogg.specs.Mapping.{mapping, is_first_block, page_place, item_place, packet_place, packet_layout};
-ghost use Rattle.flac_native.specs.Stream.{Stand, place_in, Progress, next, room_in, layout_in};
-ghost use Rattle.flac_native.specs.Track.{stand_of, IsAt, IsMadeAs, piece_of};
+ghost use Rattle.flac_native.specs.Stream.{Stand, place_in, Progress, next, room_in, layout_in, framed, frame_behind};
+ghost use Rattle.flac_native.specs.Track.{stand_of, IsAt, IsMadeAs, piece_of, kept, shown};
 ghost use Rattle.flac_bits.specs.Fencing.{lifted};
 ghost use Rattle.flac_native.specs.Within.{ReadsWithin};
 ghost use Rattle.flac_native.specs.inner.Within.{ReadsWithinInRoom};
-ghost use Rattle.flac_native.specs.declared.track.Phase.TheVariants.{Opening, Frames};
+ghost use Rattle.flac_native.specs.declared.track.Phase.TheVariants.{Opening, Blocks, Frames};
 ghost use Rattle.flac_ogg.specs.Telling.{IsUnderWay};
 ghost use Rattle.flac_ogg.specs.inner.Telling.{block_packet, first_packet, MeetsIn, StepIs, EndIs};
 ghost use Rattle.flac_pages.specs.Items.{packet_of, packet_mark, TellsItem, Meets, HasBehind, HasItsPage};
@@ -88,6 +88,17 @@ pub(crate) fn packet_fault(at: Place, told: (Option<u64>, Why)) -> Fault
     }
 }
 
+/// What [`Track::next_block`] does, proved by the reading of the layout.
+fn block_here<R: Source>(bits: &mut BitReader<R>, track: &mut Track) -> Result<(), Why>
+    ensures spends { OnOk result (bits.new.most + 32 ≤ bits.old.most) }
+    ensures counts { Counts bits.old bits.new result }
+    ensures reads { ReadsInRoom (λ _. kept track.new) (layout_in Blocks (stand_of track.old)) bits.old bits.new result }
+    ensures next { OnOk result ((p : Progress) → IsAt track.old p → IsAt track.new (next p (kept track.new))) }
+    ensures made { OnOk result (is_some track.new.block ≡ true) }
+{
+    track.next_block(bits)
+}
+
 /// Reads a block.
 fn read_block<R: Source>(bits: &mut BitReader<R>, track: &mut Track) -> Result<Part, Why>
     ensures spends { OnOk result (bits.new.most < bits.old.most) }
@@ -96,7 +107,7 @@ fn read_block<R: Source>(bits: &mut BitReader<R>, track: &mut Track) -> Result<P
     ensures made { IfOk result (λ part. IsMadeAs part track.old track.new) }
     ensures next { IfOk result (λ part. (p : Progress) → IsAt track.old p → IsAt track.new (next p (piece_of track.new part))) }
 {
-    track.next_block(bits)?;
+    block_here(bits, track)?;
     Ok(Part::Block)
 }
 
@@ -112,6 +123,20 @@ fn read_first_block<R: Source>(bits: &mut BitReader<R>, track: &mut Track) -> Re
     read_block(bits, track)
 }
 
+/// What [`Track::next_frame`] does, proved by the reading of the layout.
+fn frame_here<R: Source>(bits: &mut BitReader<R>, track: &mut Track) -> Result<(), Why>
+    ensures spends { OnOk result (bits.new.most + 40 ≤ bits.old.most) }
+    ensures counts { Counts (lifted bits.old) bits.new result }
+    ensures memory { IfErr result (λ e. e ≢ Why.Memory) }
+    ensures reads { ReadsWithin (Some 16777215) (λ _. shown track.new) (frame_behind (stand_of track.old).profile (stand_of track.old).info (stand_of track.old).before) bits.old bits.new result }
+    ensures next { OnOk result ((p : Progress) → IsAt track.old p → IsAt track.new (next p (framed (shown track.new)))) }
+    ensures made { OnOk result (is_some (stand_of track.new).info ≡ true) }
+    ensures last { track.new.last ≡ track.old.last }
+    ensures kept { track.new.block ≡ track.old.block }
+{
+    track.next_frame(bits)
+}
+
 /// Reads a frame.
 fn read_frame<R: Source>(bits: &mut BitReader<R>, track: &mut Track) -> Result<Part, Why>
     ensures spends { OnOk result (bits.new.most < bits.old.most) }
@@ -121,7 +146,7 @@ fn read_frame<R: Source>(bits: &mut BitReader<R>, track: &mut Track) -> Result<P
     ensures made { IfOk result (λ part. IsMadeAs part track.old track.new) }
     ensures next { IfOk result (λ part. (p : Progress) → IsAt track.old p → IsAt track.new (next p (piece_of track.new part))) }
 {
-    track.next_frame(bits)?;
+    frame_here(bits, track)?;
     Ok(Part::Frame)
 }
 

@@ -1,6 +1,6 @@
 -- What is returned for the next page is what a page means.
 use Rattle.std.proofs.Common.{◌≡◌, ℕ, ◌++◌, Option, Result, Ok, Err, sym, ap, ◌∙◌}
-use Rattle.flac_bits.specs.State.{Cursor, State, past}
+use Rattle.flac_bits.specs.State.{Cursor, State, past, fresh}
 use Rattle.flac_bits.specs.Layout.{run, number_at, Reason, because}
 use Rattle.flac_bits.specs.Reading.{Answers, Gives}
 use Rattle.flac_bits.specs.Unchecked.{begun_anew}
@@ -15,12 +15,12 @@ use Rattle.flac_pages.proofs.Anew.{anew_is, anew_err}
 use Rattle.flac_pages.proofs.Turns.{is_page}
 use Rattle.flac_pages.proofs.PageRuns.{no_page_read, read_no_page, next_again}
 
-decodes_page : {X : Type 0} (view : X → Page) (before : Option Before) (old new : Cursor) (result : Result X Why) → Answers view (begun_anew (next_page before old)) new result → DecodesPage view before old new.left result
+decodes_page : {X : Type 0} (view : X → Page) (before : Option Before) (old new : Cursor) (result : Result X Why) → Answers view (begun_anew (next_page before old)) new result → DecodesPage view before old new result
 decodes_page view before old new (Ok x) answers =
     let read = anew_is (next_page before old) (view x) new answers in
     let same = ap (λ (c : Cursor). c.left) read.2 in
     record {
-      found = let t = takes (page before) old.left old.mark (view x) read.0 (is_page before old (view x) read.0 read.1) in (t.0, t.1 ∙ ap (λ r. t.0 ++ r) (sym same), t.2);
+      found = let t = takes (page before) old.left old.mark (view x) read.0 (is_page before old (view x) read.0 read.1) in (t.0, (t.1 ∙ ap (λ r. t.0 ++ r) (sym same), ap (λ (c : Cursor). c.mark) read.2 ∙ ap fresh t.3), t.2);
       only = λ text rest p e s.
           let both = is_ok_of (view x) p read.0 (at_ rest (past text old.mark)) (sym read.1 ∙ ap (λ t. next_page before (at_ t old.mark)) e ∙ next_again before old.mark text rest p s) in
           (both.0, same ∙ ap (λ (c : Cursor). c.left) both.1);

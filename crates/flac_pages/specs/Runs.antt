@@ -2,6 +2,7 @@
 use Rattle.std.specs.Prelude.{◌≡◌, ◌↔◌, ◌<◌, ◌≤◌, Bool, true, false, List, [], ◌∷◌, ◌++◌, length, Option, Some, Result, IfOk, IfErr, IsOkAnd, IsErrAnd, ◌⊎◌, ⊤}
 use Rattle.flac_bits.specs.State.{Mark, Cursor, State, past}
 use Rattle.flac_bits.specs.Meaning.{Spells, Shows, IsCut}
+use Rattle.flac_bits.specs.Unchecked.{Passes}
 use Rattle.flac_bits.specs.declared.why.Why.{Why}
 use Rattle.flac_pages.specs.declared.page.Before.{Before}
 use Rattle.flac_pages.specs.Page.{Page, page, is_last, after}
@@ -29,16 +30,17 @@ IsNoPage before m left why =
     ⊎ (((length left < 8) × (why ≡ between m.short))
     ⊎ ((8 ≤ length left) × IsCut (page before) m left × (why ≡ m.short)))
 
--- What was returned for the next page is told by what a page means alone: a page is the one that the front of the input spells, and where none is there it is refused for that reason.
-pub record DecodesPage {X : Type 0} (view : X → Page) (before : Option Before) (old : Cursor) (left : List Bool) (result : Result X Why) : Type 0 where
-  pub found : IfOk result (λ x. (text : List Bool) × (old.left ≡ text ++ left) × Spells (page before) old.mark text (view x))
-  pub only : (text rest : List Bool) (p : Page) → old.left ≡ text ++ rest → Spells (page before) old.mark text p → IsOkAnd result (λ x. (view x ≡ p) × (left ≡ rest))
+-- What was returned for the next page is told by what a page means alone: a page is the one that the front of the input spells, behind
+-- just whose bits the reader stands, the checks begun anew; and where none is there it is refused for that reason.
+pub record DecodesPage {X : Type 0} (view : X → Page) (before : Option Before) (old new : Cursor) (result : Result X Why) : Type 0 where
+  pub found : IfOk result (λ x. (text : List Bool) × Passes text old new × Spells (page before) old.mark text (view x))
+  pub only : (text rest : List Bool) (p : Page) → old.left ≡ text ++ rest → Spells (page before) old.mark text p → IsOkAnd result (λ x. (view x ≡ p) × (new.left ≡ rest))
   pub fault : IfErr result (λ why. IsNoPage before old.mark old.left why)
   pub refused : (why : Why) → IsNoPage before old.mark old.left why → IsErrAnd result (λ e. e ≡ why)
 
 -- so it is where the source tells its bytes and did not fail in the call
 abbrev pub MeansPage : {X : Type 0} → (X → Page) → Option Before → State → State → Result X Why → Type 0
-MeansPage view before old new result = old.known ≡ true → new.errors ≡ old.errors → DecodesPage view before old.cursor new.cursor.left result
+MeansPage view before old new result = old.known ≡ true → new.errors ≡ old.errors → DecodesPage view before old.cursor new.cursor result
 
 -- these pages end so, behind the bits `text` that spell them, where `rest` is left
 abbrev pub EndsSo : Option Before → Mark → List Page → (text rest : List Bool) → Stop → Type 0

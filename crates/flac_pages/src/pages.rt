@@ -11,7 +11,7 @@ ghost use Rattle.flac_pages.specs.Packets.{at_front, Met, Begins};
 ghost use Rattle.flac_pages.specs.inner.Packets.{next_segment, Turns, Steps, Finds, Copies, ended};
 
 use crate::page::Before;
-use crate::room::{PageRoom, next_page};
+use crate::room::{PageRoom, next_page_here};
 use flac_bits::{BitReader, Source, Why};
 use std::alloc::Global;
 use std::marker::Model;
@@ -181,7 +181,7 @@ impl<R: Source> Pages<R> {
         ensures turns { Turns self.old self.new result }
     {
         let went_on = went_on(self.before);
-        match next_page(&mut self.reader, &mut self.page, self.before) {
+        match next_page_here(&mut self.reader, &mut self.page, self.before) {
             Ok(()) => {
                 let head = self.page.head();
                 let goes_on = goes_on_behind(went_on, self.page.lacing());

@@ -252,7 +252,6 @@ fn between(why: Why) -> Why
 ///   the page before; [`Why::BadMapping`] if a first page is not marked first, or is not that of FLAC, with one packet
 ///   of 51 bytes (RFC 9639, section 10.1).
 /// - [`Why::Read`] if the source fails.
-#[tactic(auto, unfolding(crate::specs::Pages::next_page))]
 pub fn next_page<R: Source>(
     reader: &mut BitReader<R>,
     room: &mut PageRoom,
@@ -263,8 +262,24 @@ pub fn next_page<R: Source>(
     ensures cleared { OnErr result ((room.new.lacing ≡ []) × (room.new.body ≡ [])) }
     ensures counts { Counts reader.old reader.new result }
     ensures memory { IfErr result (λ e. e ≢ Why.Memory) }
-    ensures reads { Gives (λ _. room.new) (begun_anew (next_page before reader.old.cursor)) reader.old reader.new result }
     ensures means { MeansPage (λ _. room.new) before reader.old reader.new result }
+{
+    next_page_here(reader, room, before)
+}
+
+/// What [`next_page`] does, proved by the reading of the layout.
+#[tactic(auto, unfolding(crate::specs::Pages::next_page))]
+pub(crate) fn next_page_here<R: Source>(
+    reader: &mut BitReader<R>,
+    room: &mut PageRoom,
+    before: Option<Before>,
+) -> Result<(), Why>
+    ensures spends { OnOk result (reader.new.most + 8 + length room.new.body ≤ reader.old.most) }
+    ensures whole { OnOk result ((length room.new.body ≡ sum room.new.lacing) × (length room.new.body ≤ 65025) × (length room.new.lacing ≤ 255)) }
+    ensures cleared { OnErr result ((room.new.lacing ≡ []) × (room.new.body ≡ [])) }
+    ensures counts { Counts reader.old reader.new result }
+    ensures memory { IfErr result (λ e. e ≢ Why.Memory) }
+    ensures reads { Gives (λ _. room.new) (begun_anew (next_page before reader.old.cursor)) reader.old reader.new result }
 {
     match reader.take(8) {
         Ok(first) => match room.read_behind(reader, before, first as u8) {

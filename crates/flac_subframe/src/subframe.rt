@@ -323,7 +323,6 @@ pub fn read_subframe<R: Source>(
     ensures spends { OnOk result (bits.new.most + 8 ≤ bits.old.most) }
     ensures counts { Counts bits.old bits.new result }
     ensures memory { IfErr result (λ e. e ≢ Why.Memory) }
-    ensures reads { Reads (λ fits. cond fits (Some samples.new) None) (subframe_samples depth block limits.now) bits.old bits.new result }
     ensures means { Means (λ fits. cond fits (Some samples.new) None) (subframe_samples depth block limits.now) bits.old bits.new result }
 {
     read_here(bits, depth, block, limits, samples)

@@ -30,21 +30,21 @@ pub loop-channel-preserved : goal.loop-channel-preserved
 loop-channel-preserved g c =
     let l = c.loop-channel in
     let long : length l.samples ≡ c.args.channels * c.args.block = omega (arith, l.auto.samples, c.requires.places) in
-    let own : length c.read_subframe.new.samples ≡ c.args.block = omega (arith, c.read_subframe.auto.samples) in
-    let next = turn c.args.bits.now l.bits c.read_subframe.new.bits c.args.depth c.args.code c.args.block c.args.limits.now l.fits c.in_ok-read_subframe.field-0 c.if-not-branch.fits l.channel c.args.channels l.samples c.read_subframe.new.samples
+    let own : length c.subframe_here.new.samples ≡ c.args.block = omega (arith, c.subframe_here.auto.samples) in
+    let next = turn c.args.bits.now l.bits c.subframe_here.new.bits c.args.depth c.args.code c.args.block c.args.limits.now l.fits c.in_ok-subframe_here.field-0 c.if-not-branch.fits l.channel c.args.channels l.samples c.subframe_here.new.samples
     (run (subframes c.args.depth c.args.code c.args.block c.args.limits.now (Some []) 0 c.args.channels) c.args.bits.now.cursor) l.invariant.2 c.loop-channel-test.true long own in
-    let reads = rw c.side_bit.ensures.bit at c.in_ok-read_subframe.ensures.reads in
+    let reads = rw c.side_bit.ensures.bit at c.in_ok-subframe_here.ensures.reads in
     let within : l.channel * c.args.block ≤ length l.samples = omega (arith, long, part_ends l.channel c.args.channels c.args.block c.loop-channel-test.true) in
     elim c.if-not-branch.branch [
       | then-not-branch w ↦ (
-        omega (arith, c.in_ok-read_subframe.ensures.spends, l.invariant.0),
+        omega (arith, c.in_ok-subframe_here.ensures.spends, l.invariant.0),
         λ yes. never c.if-not-branch.fits w.fits-is yes,
-        next (both_false l.fits c.if-not-branch.fits c.in_ok-read_subframe.field-0 w.fits-is w.if-not-branch.true) c.in_ok-read_subframe.ensures.counts reads,
+        next (both_false l.fits c.if-not-branch.fits c.in_ok-subframe_here.field-0 w.fits-is w.if-not-branch.true) c.in_ok-subframe_here.ensures.counts reads,
       )
       | else-not-branch w ↦ (
-        omega (arith, c.in_ok-read_subframe.ensures.spends, l.invariant.0),
-        λ yes. all_more (FitsBits 34) l.channel c.args.block l.samples c.read_subframe.new.samples within own (l.invariant.1 (sym w.fits-is ∙ yes)) (c.in_ok-read_subframe.ensures.small w.if-not-branch.false),
-        next (both_true l.fits c.if-not-branch.fits c.in_ok-read_subframe.field-0 w.fits-is w.if-not-branch.false) c.in_ok-read_subframe.ensures.counts reads,
+        omega (arith, c.in_ok-subframe_here.ensures.spends, l.invariant.0),
+        λ yes. all_more (FitsBits 34) l.channel c.args.block l.samples c.subframe_here.new.samples within own (l.invariant.1 (sym w.fits-is ∙ yes)) (c.in_ok-subframe_here.ensures.small w.if-not-branch.false),
+        next (both_true l.fits c.if-not-branch.fits c.in_ok-subframe_here.field-0 w.fits-is w.if-not-branch.false) c.in_ok-subframe_here.ensures.counts reads,
       )
     ]
 
@@ -56,17 +56,17 @@ returns-clause-small g c = λ yes.
     let all : length l.samples ≡ l.channel * c.args.block = long ∙ ap (λ k. k * c.args.block) (sym e) in
     subst (All (FitsBits 34)) (take_all (l.channel * c.args.block) l.samples (omega (arith, all))) (l.invariant.1 yes)
 
-pub returns-in_err-read_subframe-clause-counts : goal.returns-in_err-read_subframe-clause-counts
-returns-in_err-read_subframe-clause-counts g c =
+pub returns-in_err-subframe_here-clause-counts : goal.returns-in_err-subframe_here-clause-counts
+returns-in_err-subframe_here-clause-counts g c =
     let p = err_from_is_err_and c.from_residual.result c.from_residual.ensures.1 in
-    rw (p.1, p.2) (failed_then c.args.bits.now c.loop-channel.bits c.read_subframe.new.bits (gone c.loop-channel.invariant.2) c.in_err-read_subframe.ensures.counts)
+    rw (p.1, p.2) (failed_then c.args.bits.now c.loop-channel.bits c.subframe_here.new.bits (gone c.loop-channel.invariant.2) c.in_err-subframe_here.ensures.counts)
 
-pub returns-in_err-read_subframe-clause-reads : goal.returns-in_err-read_subframe-clause-reads
-returns-in_err-read_subframe-clause-reads g c =
+pub returns-in_err-subframe_here-clause-reads : goal.returns-in_err-subframe_here-clause-reads
+returns-in_err-subframe_here-clause-reads g c =
     let p = err_from_is_err_and c.from_residual.result c.from_residual.ensures.1 in
     let l = c.loop-channel in
-    let reads = rw c.side_bit.ensures.bit at c.in_err-read_subframe.ensures.reads in
-    rw (p.1, p.2) (gone_fault c.args.bits.now l.bits c.read_subframe.new.bits _ l.invariant.2
+    let reads = rw c.side_bit.ensures.bit at c.in_err-subframe_here.ensures.reads in
+    rw (p.1, p.2) (gone_fault c.args.bits.now l.bits c.subframe_here.new.bits _ l.invariant.2
     (subframes_more c.args.depth c.args.code c.args.block c.args.limits.now (cond l.fits (Some (chunks l.channel c.args.block l.samples)) None) l.channel c.args.channels l.bits.cursor c.loop-channel-test.true) reads)
 
 pub returns-clause-counts : goal.returns-clause-counts

@@ -31,29 +31,29 @@ returns-in_err-header g c =
       spends = tt;
       counts = c.in_err-header.ensures.counts;
       memory = c.in_err-header.ensures.memory;
-      reads = told_fault (started c.args.bits.now) c.read_header.new.bits _ c.in_err-header.ensures.reads;
+      reads = told_fault (started c.args.bits.now) c.header_here.new.bits _ c.in_err-header.ensures.reads;
     })
 
 pub returns-then-not-allows-clause-counts : goal.returns-then-not-allows-clause-counts
-returns-then-not-allows-clause-counts g c = refused_then c.args.bits.now c.read_header.new.bits c.in_ok-header.ensures.counts refl
+returns-then-not-allows-clause-counts g c = refused_then c.args.bits.now c.header_here.new.bits c.in_ok-header.ensures.counts refl
 
 pub returns-then-not-allows-clause-memory : goal.returns-then-not-allows-clause-memory
 returns-then-not-allows-clause-memory g c = subset_no_memory
 
 pub returns-then-differs-clause-counts : goal.returns-then-differs-clause-counts
-returns-then-differs-clause-counts g c = refused_then c.args.bits.now c.read_header.new.bits c.in_ok-header.ensures.counts refl
+returns-then-differs-clause-counts g c = refused_then c.args.bits.now c.header_here.new.bits c.in_ok-header.ensures.counts refl
 
 pub returns-then-differs-clause-memory : goal.returns-then-differs-clause-memory
 returns-then-differs-clause-memory g c = mismatch_no_memory
 
 pub returns-then-breaks_sequence-clause-counts : goal.returns-then-breaks_sequence-clause-counts
-returns-then-breaks_sequence-clause-counts g c = refused_then c.args.bits.now c.read_header.new.bits c.in_ok-header.ensures.counts refl
+returns-then-breaks_sequence-clause-counts g c = refused_then c.args.bits.now c.header_here.new.bits c.in_ok-header.ensures.counts refl
 
 pub returns-then-breaks_sequence-clause-memory : goal.returns-then-breaks_sequence-clause-memory
 returns-then-breaks_sequence-clause-memory g c = sequence_no_memory
 
 pub returns-then-breaks_size-clause-counts : goal.returns-then-breaks_size-clause-counts
-returns-then-breaks_size-clause-counts g c = refused_then c.args.bits.now c.read_header.new.bits c.in_ok-header.ensures.counts refl
+returns-then-breaks_size-clause-counts g c = refused_then c.args.bits.now c.header_here.new.bits c.in_ok-header.ensures.counts refl
 
 pub returns-then-breaks_size-clause-memory : goal.returns-then-breaks_size-clause-memory
 returns-then-breaks_size-clause-memory g c = size_no_memory

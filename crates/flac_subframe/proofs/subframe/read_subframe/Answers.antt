@@ -4,9 +4,6 @@ use Rattle.flac_subframe.specs.Subframe.{subframe_samples}
 use Rattle.flac_subframe.proofs.Samples.{samples_run}
 use Rattle.flac_subframe.proofs.subframe.read_subframe.Goals as goal
 
-pub returns-clause-reads : goal.returns-clause-reads
-returns-clause-reads g c = λ known same. rw (samples_run c.args.depth c.args.block c.args.limits.now c.args.bits.now.cursor) (c.read_here.ensures.reads known same)
-
 pub returns-clause-means : goal.returns-clause-means
 returns-clause-means g c = means (λ fits. cond fits (Some c.read_here.new.samples) None) (subframe_samples c.args.depth c.args.block c.args.limits.now) c.args.bits.now c.read_here.new.bits c.read_here.result
     (λ known same. rw (samples_run c.args.depth c.args.block c.args.limits.now c.args.bits.now.cursor) (c.read_here.ensures.reads known same))

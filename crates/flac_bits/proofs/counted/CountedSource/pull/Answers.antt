@@ -1,5 +1,4 @@
-use Rattle.std.proofs.Common.{◌≡◌, Bool, true, false, refl, arith}
-use Rattle.std.specs.Prelude.{◌&&◌}
+use Rattle.std.proofs.Common.{arith}
 use Rattle.std.proofs.lemmas.List.{length-take}
 use Rattle.flac_bits.proofs.CountedBytes.{same_known, consumed}
 use Rattle.flac_bits.proofs.counted.CountedSource.pull.Goals as goal

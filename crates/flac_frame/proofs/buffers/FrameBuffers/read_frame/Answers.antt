@@ -1,8 +1,9 @@
 use Rattle.std.proofs.Common.{Err, Ok, Some, ap, sym, refl, ◌∙◌}
+use Rattle.std.specs.Bool.{⊤}
 use Rattle.std.proofs.lemmas.Result.{err_from_is_err_and}
 use Rattle.flac_bits.specs.State.{started}
-use Rattle.flac_bits.proofs.Meaning.{means}
-use Rattle.flac_frame.specs.Frame.{frame, after}
+use Rattle.flac_bits.proofs.Meaning.{means, reads}
+use Rattle.flac_frame.specs.Frame.{Frame, frame, after}
 use Rattle.flac_frame.specs.Lent.{frame_of}
 use Rattle.flac_frame.proofs.buffers.FrameBuffers.read_frame.Goals as goal
 
@@ -16,8 +17,7 @@ returns-in_err-fill g c =
         spends = tt;
         counts = was.counts;
         memory = was.memory;
-        reads = was.reads;
-        means = means frame_of (frame c.args.profile c.args.info.now c.args.self.now.before) (started c.args.bits.now) c.fill.new.bits (Err c.in_err-fill.field-0.0) was.reads;
+        means = means frame_of (frame c.args.profile c.args.info.now c.args.self.now.before) (started c.args.bits.now) c.fill.new.bits (Err c.in_err-fill.field-0.0) (reads {X = ⊤} {Y = Frame} (λ _. c.fill.new.self.held) (frame c.args.profile c.args.info.now c.args.self.now.before) (started c.args.bits.now) c.fill.new.bits _ was.means);
         after = tt;
       },
     )
@@ -26,14 +26,14 @@ pub returns : goal.returns
 returns g c =
     let was = c.in_ok-fill.ensures in
     let held = sym c.view.ensures in
-    let reads = rw held at was.reads in (
+    let read = reads {X = ⊤} {Y = Frame} (λ _. c.fill.new.self.held) (frame c.args.profile c.args.info.now c.args.self.now.before) (started c.args.bits.now) c.fill.new.bits (Ok tt) was.means in
+    let told = rw held at read in (
       (refl, λ _. tt, (was.room.0, was.room.1, (was.before ∙ ap (λ f. Some (after c.args.self.now.before f)) held, held))),
       record {
         spends = was.spends;
         counts = was.counts;
         memory = tt;
-        reads = reads;
-        means = means frame_of (frame c.args.profile c.args.info.now c.args.self.now.before) (started c.args.bits.now) c.fill.new.bits (Ok c.view.result) reads;
+        means = means frame_of (frame c.args.profile c.args.info.now c.args.self.now.before) (started c.args.bits.now) c.fill.new.bits (Ok c.view.result) told;
         after = tt;
       },
     )

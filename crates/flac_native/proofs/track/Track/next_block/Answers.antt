@@ -1,10 +1,8 @@
-use Rattle.std.proofs.lemmas.Result.{err_from_is_err_and}
 use Rattle.flac_bits.proofs.Meaning.{means}
-use Rattle.flac_bits.proofs.Telling.{told_fault}
-use Rattle.flac_native.proofs.Giving.{same_why}
+use Rattle.flac_native.specs.Stream.{layout_in}
+use Rattle.flac_native.specs.Track.{stand_of, kept}
+use Rattle.flac_native.specs.declared.track.Phase.TheVariants.{Blocks}
 use Rattle.flac_native.proofs.track.Track.next_block.Goals as goal
 
-pub returns-in_err-last-clause-means : goal.returns-in_err-last-clause-means
-returns-in_err-last-clause-means g c =
-    let p = err_from_is_err_and c.from_residual.result c.from_residual.ensures.1 in
-    rw (p.1, p.2) (λ room. means _ _ c.args.bits.now c.block.new.bits _ (told_fault c.args.bits.now c.block.new.bits _ (c.in_err-last.ensures.reads (λ e. room (same_why _ _ e)))))
+pub returns-clause-means : goal.returns-clause-means
+returns-clause-means g c = λ room. means (λ _. kept c.next_block_here.new.self) (layout_in Blocks (stand_of c.args.self.now)) c.args.bits.now c.next_block_here.new.bits c.next_block_here.result (c.next_block_here.ensures.reads room)

@@ -15,7 +15,7 @@ pub returns-in-Ok-clause-turns : goal.returns-in-Ok-clause-turns
 returns-in-Ok-clause-turns g c =
     let inside = c.self.inside in
     let is = c.self.view_is in
-    let page = c.next_page.new.room in
+    let page = c.next_page_here.new.room in
     let rest = ap (λ (p : Place). p.rest) is ∙ c.requires.rest in
     let none = ap (λ (p : Place). p.lacing) is ∙ c.requires.read in
     let no_body : drop inside.at inside.page.body ≡ [] = drop_all inside.at inside.page.body (omega (arith, ap sum none, rest, c.self.invariant.2)) in

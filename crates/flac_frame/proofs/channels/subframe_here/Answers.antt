@@ -1,0 +1,7 @@
+use Rattle.std.proofs.Common.{Some, None, cond}
+use Rattle.flac_bits.proofs.Meaning.{reads}
+use Rattle.flac_subframe.specs.Subframe.{subframe_samples}
+use Rattle.flac_frame.proofs.channels.subframe_here.Goals as goal
+
+pub returns-clause-reads : goal.returns-clause-reads
+returns-clause-reads g c = reads (λ fits. cond fits (Some c.read_subframe.new.samples) None) (subframe_samples c.args.depth c.args.block c.args.limits.now) c.args.bits.now c.read_subframe.new.bits c.read_subframe.result c.read_subframe.ensures.means
