@@ -196,13 +196,7 @@ impl Comments {
     pub fn parts(&self, i: usize) -> Option<(&[u8], &[u8])>
         ensures { MatchOption result (LacksParts self.now.list i) (λ p. AreParts self.now.list i p.0.now p.1.now) }
     {
-        let list = self.list.as_slice();
-        if i >= list.len() {
-            return None;
-        }
-        let text = list[i].as_slice();
-        let k = place_of_equals(text)?;
-        Some((&text[..k], &text[k + 1..]))
+        parts_of(self.get(i)?)
     }
 
     /// The length in bytes of the content of a Vorbis comment block with these comments, or 16777216 if it is above
