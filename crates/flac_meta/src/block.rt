@@ -3,7 +3,7 @@
 ghost use Rattle.std.specs.Prelude.{◌≡◌, None, false, min, length, OnOk, IfOk, ◌+◌, ◌<◌, ◌≤◌, ◌^◌, OnErr, true, Ok, Err, Some, IfSome, ◌∷◌, []};
 ghost use Rattle.flac_meta.specs.Spelling.{kind_of, length_of, header_spelling, content_spelling, block_spelling, comments_length};
 ghost use Rattle.flac_meta.specs.Listed.{is_forbidden, block_fault, has_bad_sheet};
-ghost use Rattle.flac_meta.specs.Header.{nothing_seen, block_header};
+ghost use Rattle.flac_meta.specs.Header.{nothing_seen, is_repeated, block_header};
 ghost use Rattle.flac_meta.specs.Block.{seen_after, application, content, block, MemoryAsked};
 ghost use Rattle.flac_bits.specs.Reading.{Counts, Reads, ReadsInRoom, Means};
 ghost use Rattle.flac_bits.specs.State.{Cursor};
@@ -47,7 +47,7 @@ pub enum Block {
 }
 
 /// Whether a block keeps raw bytes under a type that is not reserved: outside 7 to 126.
-fn is_of_forbidden_kind(block: &Block) -> bool
+pub(crate) fn is_of_forbidden_kind(block: &Block) -> bool
     ensures { result ≡ is_forbidden block.now }
 {
     match block {
@@ -141,6 +141,19 @@ impl Seen {
         }
     }
 
+    /// Whether a block of this type was read of which there is at most one: STREAMINFO (0), a seek table (3) or a Vorbis
+    /// comment (4).
+    pub(crate) fn has(&self, kind: u8) -> bool
+        ensures { result ≡ is_repeated self.now kind }
+    {
+        match kind {
+            0 => self.stream_info,
+            3 => self.seek_table,
+            4 => self.comments,
+            _ => false,
+        }
+    }
+
     /// Notes that this block was read.
     pub(crate) fn note(&mut self, block: &Block)
         ensures { self.new ≡ seen_after self.old block.now }
@@ -184,13 +197,7 @@ pub(crate) fn read_block_header<R: Source>(
     if kind == 127 {
         return Err(Why::ForbiddenType);
     }
-    let repeated = match kind {
-        0 => seen.stream_info,
-        3 => seen.seek_table,
-        4 => seen.comments,
-        _ => false,
-    };
-    if repeated {
+    if seen.has(kind) {
         return Err(Why::RepeatedBlock);
     }
     let wrong_length = match kind {
