@@ -105,10 +105,7 @@ impl Block {
             Block::StreamInfo(_) => 34,
             Block::Padding(size) => (*size as u64).min(TOO_LONG),
             Block::Application { id: _, bytes } => capped(4, bytes.len()),
-            Block::SeekTable(table) => {
-                let count = table.points().len();
-                capped(0, if count >= 16777216 { count } else { 18 * count })
-            }
+            Block::SeekTable(table) => capped(0, table.points().len().saturating_mul(18)),
             Block::VorbisComment(comments) => comments.length(),
             Block::CueSheet(sheet) => tracks_behind(396, sheet.tracks.as_slice()),
             Block::Picture(picture) => {

@@ -200,7 +200,7 @@ pub(crate) fn tracks_behind(before: u64, tracks: &[CueTrack]) -> u64
     for track in tracks {
         total = capped(total, 36);
         let count = track.indices.as_slice().len();
-        total = capped(total, if count >= 16777216 { count } else { 12 * count });
+        total = capped(total, count.saturating_mul(12));
     }
     total
 }
