@@ -16,7 +16,7 @@ ghost use Rattle.flac_meta.specs.declared.block.Block.TheVariants as block_of;
 
 use crate::comments::{Comments, put_comments, read_comments};
 use crate::cue_sheet::{CueSheet, is_bad, put_sheet, read_cue_sheet, tracks_behind};
-use crate::fields::{Field, TOO_LONG, capped, flag, read_exact, read_raw, skip_bytes};
+use crate::fields::{Field, MOST_BYTES, TOO_LONG, capped, flag, read_exact, read_raw, skip_bytes};
 use crate::lists::Bytes;
 use crate::picture::{Picture, put_picture, read_picture};
 use crate::put::{put_fields, put_zeros};
@@ -63,7 +63,7 @@ pub(crate) fn fault_of(block: &Block) -> Option<Why>
     if is_of_forbidden_kind(block) {
         return Some(Why::ForbiddenType);
     }
-    if block.length() > 16777215 {
+    if block.length() > MOST_BYTES {
         return Some(Why::BlockLength);
     }
     match block {
@@ -446,7 +446,7 @@ pub fn write_comments<W: Target>(
     ensures refused { IfSome (block_fault (block_of.VorbisComment comments.now)) (λ why. (result ≡ Err why) × (writer.new ≡ writer.old)) }
     ensures writes { block_fault (block_of.VorbisComment comments.now) ≡ None → Writes (block_spelling last (block_of.VorbisComment comments.now)) writer.old writer.new result }
 {
-    if comments.length() > 16777215 {
+    if comments.length() > MOST_BYTES {
         return Err(Why::BlockLength);
     }
     put_comments_block(writer, comments, last)

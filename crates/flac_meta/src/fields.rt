@@ -169,15 +169,18 @@ pub(crate) fn read_zeros<R: Source>(bits: &mut BitReader<R>, count: u32) -> Resu
     Ok(clear)
 }
 
-/// One more than the largest length of a content in bytes.
-pub(crate) const TOO_LONG: u64 = 16777216;
+/// The most bytes that the content of a metadata block can have (RFC 9639, section 8.1): 2^24 - 1.
+pub const MOST_BYTES: u64 = 16777215;
+
+/// The length in bytes that stands for every longer one: one more than [`MOST_BYTES`].
+pub(crate) const TOO_LONG: u64 = MOST_BYTES + 1;
 
 /// The sum of two lengths, or 16777216 if it is larger.
 pub(crate) fn capped(a: u64, b: usize) -> u64
     requires { a ≤ 16777216 }
     ensures { result ≡ min (a + b) 16777216 }
 {
-    if b >= 16777216 {
+    if b as u64 >= TOO_LONG {
         return TOO_LONG;
     }
     (a + b as u64).min(TOO_LONG)

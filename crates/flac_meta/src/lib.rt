@@ -17,6 +17,7 @@ pub use block::{Block, Seen, read_block, write_block, write_comments};
 pub use block_list::BlockList;
 pub use comments::{Comments, Values};
 pub use cue_sheet::{CueIndex, CueIndices, CueSheet, CueTrack, CueTracks};
+pub use fields::MOST_BYTES;
 pub use laws::blocks_are_spelled;
 pub use lists::{Bytes, Texts};
 pub use picture::Picture;
