@@ -16,13 +16,13 @@ ghost use Rattle.flac_meta.specs.declared.block.Block.TheVariants as block_of;
 
 use crate::comments::{Comments, put_comments, read_comments};
 use crate::cue_sheet::{CueSheet, is_bad, put_sheet, read_cue_sheet, tracks_behind};
-use crate::fields::{Field, MOST_BYTES, TOO_LONG, capped, flag, read_exact, read_raw, skip_bytes};
+use crate::fields::{Field, MOST_BYTES, TOO_LONG, capped, flag, read_raw, skip_bytes};
 use crate::lists::Bytes;
 use crate::picture::{Picture, put_picture, read_picture};
 use crate::put::{put_fields, put_zeros};
 use crate::seek_table::{SeekTable, are_in_order, put_points, read_seek_table};
 use crate::stream_info::{StreamInfo, put_info, read_stream_info};
-use flac_bits::{BitReader, BitWriter, Source, Target, Why};
+use flac_bits::{BitReader, BitWriter, Source, Target, Why, read_bytes};
 use std::alloc::Global;
 
 /// A metadata block (RFC 9639, section 8.1). Sections are those of RFC 9639.
@@ -222,7 +222,7 @@ fn read_application<R: Source>(
     ensures reads { ReadsInRoom (λ b. b) (application length) bits.old bits.new result }
 {
     let mut id = [0u8; 4];
-    read_exact(bits, &mut id)?;
+    read_bytes(bits, &mut id)?;
     let bytes = read_raw(alloc, bits, length - 4)?;
     Ok(Block::Application { id, bytes })
 }

@@ -30,19 +30,6 @@ pub(crate) fn flag(set: bool) -> u64
     if set { 1 } else { 0 }
 }
 
-/// Fills `out` with the next bytes.
-#[tactic(auto, using(flac_bits::proofs::Lists::list_more, flac_bits::proofs::Lists::list_end, flac_bits::proofs::Lists::list_start))]
-pub(crate) fn read_exact<R: Source>(bits: &mut BitReader<R>, out: &mut [u8]) -> Result<(), Why>
-    ensures spends { OnOk result (bits.new.most ≤ bits.old.most) }
-    ensures counts { Counts bits.old bits.new result }
-    ensures reads { Reads (λ _. out.new) (list_of (length out.old) (number 8)) bits.old bits.new result }
-{
-    for i in 0..out.len() {
-        out[i] = bits.take(8)? as u8;
-    }
-    Ok(())
-}
-
 /// Skips `length` bytes.
 #[tactic(auto, using(crate::proofs::Skips::skip_more, crate::proofs::Skips::skip_last))]
 pub(crate) fn skip_bytes<R: Source>(bits: &mut BitReader<R>, length: u32) -> Result<(), Why>
