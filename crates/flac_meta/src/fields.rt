@@ -6,6 +6,7 @@ ghost use Rattle.flac_bits.specs.Layout.{bits as number};
 ghost use Rattle.flac_bits.specs.Lists.{list_of};
 ghost use Rattle.flac_bits.specs.Reading.{Counts, Reads, ReadsInRoom};
 ghost use Rattle.flac_meta.specs.Fields.{ends_short, sized, number_32, zeros};
+ghost use Rattle.flac_meta.specs.inner.Counted.{counted};
 ghost use Rattle.flac_meta.specs.Padding.{skipped};
 ghost use Rattle.flac_bits.specs.LittleEndian.{little_32};
 
@@ -79,47 +80,19 @@ pub(crate) fn read_raw<R: Source>(
     Ok(Bytes::from_vec(bytes))
 }
 
-/// Reads a number of 32 bits, lowest byte first, and that many bytes, of a content of which `left` bytes are left.
-#[tactic(auto, unfolding(crate::specs::Fields::sized))]
-pub(crate) fn read_sized_little<R: Source>(
+/// Reads `size` bytes, of a content of which `left` bytes are left.
+fn read_counted<R: Source>(
     alloc: Global,
     bits: &mut BitReader<R>,
+    size: u32,
     left: u32,
 ) -> Result<Bytes, Why>
-    requires { left < 2 ^ 24 }
-    ensures fits { IfOk result (λ b. 4 + length b ≤ left) }
+    ensures fits { IfOk result (λ b. length b ≤ left) }
     ensures spends { OnOk result (bits.new.most ≤ bits.old.most) }
     ensures counts { Counts bits.old bits.new result }
-    ensures reads { ReadsInRoom (λ b. b) (sized little_32 left) bits.old bits.new result }
+    ensures reads { ReadsInRoom (λ b. b) (counted size left) bits.old bits.new result }
 {
-    if left < 4 {
-        return Err(too_short(bits, left));
-    }
-    let size = read_little_32(bits)?;
-    if left - 4 < size {
-        return Err(Why::BlockLength);
-    }
-    read_raw(alloc, bits, size)
-}
-
-/// Reads a number of 32 bits and that many bytes, of a content of which `left` bytes are left.
-#[tactic(auto, unfolding(crate::specs::Fields::sized))]
-pub(crate) fn read_sized<R: Source>(
-    alloc: Global,
-    bits: &mut BitReader<R>,
-    left: u32,
-) -> Result<Bytes, Why>
-    requires { left < 2 ^ 24 }
-    ensures fits { IfOk result (λ b. 4 + length b ≤ left) }
-    ensures spends { OnOk result (bits.new.most ≤ bits.old.most) }
-    ensures counts { Counts bits.old bits.new result }
-    ensures reads { ReadsInRoom (λ b. b) (sized (number 32) left) bits.old bits.new result }
-{
-    if left < 4 {
-        return Err(too_short(bits, left));
-    }
-    let size = bits.take(32)? as u32;
-    if left - 4 < size {
+    if left < size {
         return Err(Why::BlockLength);
     }
     read_raw(alloc, bits, size)
@@ -138,6 +111,42 @@ pub(crate) fn read_number_32<R: Source>(bits: &mut BitReader<R>, left: u32) -> R
         return Err(too_short(bits, left));
     }
     Ok(bits.take(32)? as u32)
+}
+
+/// Reads a number of 32 bits and that many bytes, of a content of which `left` bytes are left.
+pub(crate) fn read_sized<R: Source>(
+    alloc: Global,
+    bits: &mut BitReader<R>,
+    left: u32,
+) -> Result<Bytes, Why>
+    requires { left < 2 ^ 24 }
+    ensures fits { IfOk result (λ b. 4 + length b ≤ left) }
+    ensures spends { OnOk result (bits.new.most ≤ bits.old.most) }
+    ensures counts { Counts bits.old bits.new result }
+    ensures reads { ReadsInRoom (λ b. b) (sized (number 32) left) bits.old bits.new result }
+{
+    let size = read_number_32(bits, left)?;
+    read_counted(alloc, bits, size, left - 4)
+}
+
+/// Reads a number of 32 bits, lowest byte first, and that many bytes, of a content of which `left` bytes are left.
+#[tactic(auto, unfolding(crate::specs::Fields::sized))]
+pub(crate) fn read_sized_little<R: Source>(
+    alloc: Global,
+    bits: &mut BitReader<R>,
+    left: u32,
+) -> Result<Bytes, Why>
+    requires { left < 2 ^ 24 }
+    ensures fits { IfOk result (λ b. 4 + length b ≤ left) }
+    ensures spends { OnOk result (bits.new.most ≤ bits.old.most) }
+    ensures counts { Counts bits.old bits.new result }
+    ensures reads { ReadsInRoom (λ b. b) (sized little_32 left) bits.old bits.new result }
+{
+    if left < 4 {
+        return Err(too_short(bits, left));
+    }
+    let size = read_little_32(bits)?;
+    read_counted(alloc, bits, size, left - 4)
 }
 
 /// Reads `count` bits, and returns whether all are zeros.
