@@ -168,7 +168,7 @@ pub(crate) fn read_zeros<R: Source>(bits: &mut BitReader<R>, count: u32) -> Resu
 /// The most bytes that the content of a metadata block can have (RFC 9639, section 8.1): 2^24 - 1.
 pub const MOST_BYTES: u64 = 16777215;
 
-/// The length in bytes that stands for every longer one: one more than [`MOST_BYTES`].
+/// The length in bytes that stands for all above [`MOST_BYTES`].
 pub(crate) const TOO_LONG: u64 = MOST_BYTES + 1;
 
 /// The sum of two lengths, or 16777216 if it is larger.
