@@ -96,7 +96,7 @@ impl Block {
         }
     }
 
-    /// The length of the content in bytes, without the block's header; or 16777216 if it is above 16777215, the most
+    /// The number of bytes in the content, without the block's header; or 16777216 if it is above 16777215, the most
     /// that a block can have.
     pub fn length(&self) -> u64
         ensures { result ≡ min (length_of self.now) 16777216 }

@@ -135,7 +135,7 @@ impl Comments {
         self.vendor.as_slice()
     }
 
-    /// How many comments there are.
+    /// The number of comments. [`Comments::length`] is the number of bytes.
     pub fn len(&self) -> usize
         ensures { result ≡ length self.now.list }
     {
@@ -199,8 +199,8 @@ impl Comments {
         parts_of(self.get(i)?)
     }
 
-    /// The length in bytes of the content of a Vorbis comment block with these comments, or 16777216 if it is above
-    /// 16777215, the most that a block can have.
+    /// The number of bytes in the content of a Vorbis comment block with these comments, without the block's header; or
+    /// 16777216 if it is above 16777215, the most that a block can have. [`Comments::len`] is the number of comments.
     pub fn length(&self) -> u64
         ensures { result ≡ min (comments_length self.now) 16777216 }
     {

@@ -19,7 +19,7 @@ pub struct SeekPoint {
     pub sample: u64,
     /// Bytes from the first byte of the first frame to the first byte of this one.
     pub offset: u64,
-    /// How many samples of each channel the frame has.
+    /// The number of samples that the frame has of each channel; no number of bytes.
     pub length: u16,
 }
 
