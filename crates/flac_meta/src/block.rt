@@ -138,8 +138,8 @@ impl Seen {
         }
     }
 
-    /// Whether a block of this type was read of which there is at most one: STREAMINFO (0), a seek table (3) or a Vorbis
-    /// comment (4).
+    /// Whether a block of this type was read, if there may be one at most: STREAMINFO (0), a seek table (3) or a
+    /// Vorbis comment (4).
     pub(crate) fn has(&self, kind: u8) -> bool
         ensures { result ≡ is_repeated self.now kind }
     {

@@ -24,8 +24,8 @@ pub struct SeekPoint {
 }
 
 impl SeekPoint {
-    /// Whether the point is a placeholder, which names no frame: its sample number is 2^64 - 1, and its other fields mean
-    /// nothing (RFC 9639, section 8.5.1).
+    /// Whether the point is a placeholder, which names no frame: its sample number is 2^64 - 1, and its other fields
+    /// mean nothing (RFC 9639, section 8.5.1).
     pub fn is_placeholder(&self) -> bool
         ensures { result ≡ nat_eq self.now.sample placeholder }
     {
@@ -101,7 +101,8 @@ impl SeekTable {
     }
 }
 
-/// Whether a seek point may come after one of the sample number `before`: if its own is larger, or if it is a placeholder.
+/// Whether a seek point may come after one of the sample number `before`: if its own is larger, or if it is a
+/// placeholder.
 pub(crate) fn may_follow(before: Option<u64>, point: &SeekPoint) -> bool
     ensures { result ≡ follows before point.now.sample }
 {
