@@ -438,6 +438,22 @@ fn points_rise(rt: HostRuntime) -> Result<(), Fail> {
     Ok(())
 }
 
+/// A point that names no frame.
+const PLACEHOLDER: SeekPoint = SeekPoint {
+    sample: u64::MAX,
+    offset: 0,
+    length: 0,
+};
+
+#[test]
+fn placeholders_may_repeat(rt: HostRuntime) -> Result<(), Fail> {
+    assert!(rt; PLACEHOLDER.is_placeholder());
+    assert!(rt; !POINT.is_placeholder());
+    let refused = twice_fault(rt.alloc(), PLACEHOLDER)?;
+    assert!(rt; refused == None);
+    Ok(())
+}
+
 /// How many places a track has, taken out of their list and put back.
 fn places(track: CueTrack) -> usize {
     let indices = CueIndices::from_vec(track.indices.into_vec());

@@ -10,5 +10,6 @@ pub mod Contents
 pub mod Pictures
 pub mod Sheets
 pub mod Blocks
+pub mod Repeated
 pub mod Small
 pub mod Short

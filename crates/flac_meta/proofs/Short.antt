@@ -1,16 +1,17 @@
 -- Contents that are too short, and rules between fields.
-use Rattle.std.proofs.Common.{◌≡◌, ℕ, ◌+◌, ◌-◌, ◌*◌, ◌<◌, ◌≤◌, Bool, true, false, not, nat_eq, nat_lt, List, [], ◌∷◌, Result, Ok, Err, refl, sym, ap, ◌∙◌, arith}
+use Rattle.std.proofs.Common.{◌≡◌, ℕ, ◌-◌, ◌*◌, ◌<◌, ◌≤◌, Bool, true, false, not, nat_lt, [], ◌∷◌, Result, Ok, Err, refl, sym, ap, ◌∙◌, arith}
 use Rattle.std.proofs.lemmas.Bool.Decides.{nat_tests}
 use Rattle.std.specs.Prelude.{⊤}
 use Rattle.flac_bits.specs.State.{State, Cursor}
-use Rattle.flac_bits.specs.Layout.{Layout, Reason, run, and_then, because, unless_broken}
+use Rattle.flac_bits.specs.Layout.{Layout, Reason, run, bind, choose, and_then, because, unless_broken}
 use Rattle.flac_bits.specs.declared.why.Why.{Why}
 use Rattle.flac_bits.specs.declared.why.Why.TheVariants.{BlockLength, CueSheet}
 use Rattle.flac_bits.specs.Reading.{Counts, Answers, Gives}
 use Rattle.flac_bits.proofs.Counting.{Answered, answered_then, failed_then}
 use Rattle.flac_bits.proofs.Telling.{Told}
 use Rattle.flac_meta.specs.Padding.{skipped}
-use Rattle.flac_meta.specs.Fields.{ends_short, part, zeros, reserved}
+use Rattle.flac_meta.specs.Fields.{ends_short, part, sized, zeros, reserved}
+use Rattle.flac_meta.specs.inner.Counted.{counted}
 use Rattle.flac_meta.proofs.Tied.{less_not}
 
 pub is_less : (a b : ℕ) → a < b → nat_lt a b ≡ true
@@ -87,3 +88,19 @@ gives_kept view broken why old new result d more is q = λ known same. answers_s
 pub gives_part : {X Y : Type 0} (view : X → Y) (size left : ℕ) (fields : Layout Y) (old new : State) (result : Result X Why) → size ≤ left
     → Gives view (run fields old.cursor) old new result → Gives view (run (part size left fields) old.cursor) old new result
 gives_part view size left fields old new result le q = λ known same. answers_same view new.cursor result (part_long size left fields old.cursor le) (q known same)
+
+-- ---- bytes behind their number
+
+short_then : {A X Y : Type 0} (r : Result (X × Cursor) Reason) (more : A → Cursor → Result (Y × Cursor) Reason) → and_then r (λ _ d. failed {A = Y} (because BlockLength)) ≡ and_then (and_then r (λ _ d. failed {A = A} (because BlockLength))) more
+short_then (Ok x) more = refl
+short_then (Err e) more = refl
+
+part_then : {A Y : Type 0} (short : Bool) (left : ℕ) (first : Layout A) (rest : A → Layout Y) (c : Cursor)
+    → run (choose short (ends_short left) (bind first rest)) c ≡ and_then (run (choose short (ends_short left) first) c) (λ x d. run (rest x) d)
+part_then true left first rest c = short_then (run (skipped (8 * left)) c) (λ x d. run (rest x) d)
+part_then false left first rest c = refl
+
+-- the number, and then the bytes
+pub sized_parts : (number : Layout ℕ) (left : ℕ) (c : Cursor) → run (sized number left) c ≡ and_then (run (part 4 left number) c) (λ size d. run (counted size (left - 4)) d)
+unfolding sized
+sized_parts number left c = part_then (nat_lt left 4) left number (λ size. counted size (left - 4)) c

@@ -3,7 +3,7 @@
 ghost use Rattle.std.specs.Prelude.{◌≡◌, None, false, min, length, OnOk, IfOk, ◌+◌, ◌<◌, ◌≤◌, ◌^◌, OnErr, true, Ok, Err, Some, IfSome, ◌∷◌, []};
 ghost use Rattle.flac_meta.specs.Spelling.{kind_of, length_of, header_spelling, content_spelling, block_spelling, comments_length};
 ghost use Rattle.flac_meta.specs.Listed.{is_forbidden, block_fault, has_bad_sheet};
-ghost use Rattle.flac_meta.specs.Header.{nothing_seen, block_header};
+ghost use Rattle.flac_meta.specs.Header.{nothing_seen, is_repeated, block_header};
 ghost use Rattle.flac_meta.specs.Block.{seen_after, application, content, block, MemoryAsked};
 ghost use Rattle.flac_bits.specs.Reading.{Counts, Reads, ReadsInRoom, Means};
 ghost use Rattle.flac_bits.specs.State.{Cursor};
@@ -16,13 +16,13 @@ ghost use Rattle.flac_meta.specs.declared.block.Block.TheVariants as block_of;
 
 use crate::comments::{Comments, put_comments, read_comments};
 use crate::cue_sheet::{CueSheet, is_bad, put_sheet, read_cue_sheet, tracks_behind};
-use crate::fields::{Field, TOO_LONG, capped, flag, read_exact, read_raw, skip_bytes};
+use crate::fields::{Field, MOST_BYTES, TOO_LONG, capped, flag, read_raw, skip_bytes};
 use crate::lists::Bytes;
 use crate::picture::{Picture, put_picture, read_picture};
 use crate::put::{put_fields, put_zeros};
 use crate::seek_table::{SeekTable, are_in_order, put_points, read_seek_table};
 use crate::stream_info::{StreamInfo, put_info, read_stream_info};
-use flac_bits::{BitReader, BitWriter, Source, Target, Why};
+use flac_bits::{BitReader, BitWriter, Source, Target, Why, read_bytes};
 use std::alloc::Global;
 
 /// A metadata block (RFC 9639, section 8.1). Sections are those of RFC 9639.
@@ -47,7 +47,7 @@ pub enum Block {
 }
 
 /// Whether a block keeps raw bytes under a type that is not reserved: outside 7 to 126.
-fn is_of_forbidden_kind(block: &Block) -> bool
+pub(crate) fn is_of_forbidden_kind(block: &Block) -> bool
     ensures { result ≡ is_forbidden block.now }
 {
     match block {
@@ -63,7 +63,7 @@ pub(crate) fn fault_of(block: &Block) -> Option<Why>
     if is_of_forbidden_kind(block) {
         return Some(Why::ForbiddenType);
     }
-    if block.length() > 16777215 {
+    if block.length() > MOST_BYTES {
         return Some(Why::BlockLength);
     }
     match block {
@@ -96,7 +96,7 @@ impl Block {
         }
     }
 
-    /// The length of the content in bytes, without the block's header; or 16777216 if it is above 16777215, the most
+    /// The number of bytes in the content, without the block's header; or 16777216 if it is above 16777215, the most
     /// that a block can have.
     pub fn length(&self) -> u64
         ensures { result ≡ min (length_of self.now) 16777216 }
@@ -105,10 +105,7 @@ impl Block {
             Block::StreamInfo(_) => 34,
             Block::Padding(size) => (*size as u64).min(TOO_LONG),
             Block::Application { id: _, bytes } => capped(4, bytes.len()),
-            Block::SeekTable(table) => {
-                let count = table.points().len();
-                capped(0, if count >= 16777216 { count } else { 18 * count })
-            }
+            Block::SeekTable(table) => capped(0, table.points().len().saturating_mul(18)),
             Block::VorbisComment(comments) => comments.length(),
             Block::CueSheet(sheet) => tracks_behind(396, sheet.tracks.as_slice()),
             Block::Picture(picture) => {
@@ -138,6 +135,19 @@ impl Seen {
             stream_info: false,
             seek_table: false,
             comments: false,
+        }
+    }
+
+    /// Whether a block of this type was read, if there may be one at most: STREAMINFO (0), a seek table (3) or a
+    /// Vorbis comment (4).
+    pub(crate) fn has(&self, kind: u8) -> bool
+        ensures { result ≡ is_repeated self.now kind }
+    {
+        match kind {
+            0 => self.stream_info,
+            3 => self.seek_table,
+            4 => self.comments,
+            _ => false,
         }
     }
 
@@ -184,13 +194,7 @@ pub(crate) fn read_block_header<R: Source>(
     if kind == 127 {
         return Err(Why::ForbiddenType);
     }
-    let repeated = match kind {
-        0 => seen.stream_info,
-        3 => seen.seek_table,
-        4 => seen.comments,
-        _ => false,
-    };
-    if repeated {
+    if seen.has(kind) {
         return Err(Why::RepeatedBlock);
     }
     let wrong_length = match kind {
@@ -218,7 +222,7 @@ fn read_application<R: Source>(
     ensures reads { ReadsInRoom (λ b. b) (application length) bits.old bits.new result }
 {
     let mut id = [0u8; 4];
-    read_exact(bits, &mut id)?;
+    read_bytes(bits, &mut id)?;
     let bytes = read_raw(alloc, bits, length - 4)?;
     Ok(Block::Application { id, bytes })
 }
@@ -441,7 +445,7 @@ pub fn write_comments<W: Target>(
     ensures refused { IfSome (block_fault (block_of.VorbisComment comments.now)) (λ why. (result ≡ Err why) × (writer.new ≡ writer.old)) }
     ensures writes { block_fault (block_of.VorbisComment comments.now) ≡ None → Writes (block_spelling last (block_of.VorbisComment comments.now)) writer.old writer.new result }
 {
-    if comments.length() > 16777215 {
+    if comments.length() > MOST_BYTES {
         return Err(Why::BlockLength);
     }
     put_comments_block(writer, comments, last)

@@ -7,7 +7,7 @@ ghost use Rattle.std.specs.Cmp.{partial_equiv_from_equiv};
 ghost use Rattle.std.specs.Cmp.Lexicographic.{pointwise, lists_equiv};
 ghost use Rattle.flac_meta.specs.Listed.{fault_behind, list_fault, info_seen};
 
-use crate::block::{Block, Seen, fault_of};
+use crate::block::{Block, Seen, fault_of, is_of_forbidden_kind};
 use crate::comments::Comments;
 use crate::cue_sheet::{CueIndex, CueSheet, CueTrack};
 use crate::lists::Bytes;
@@ -204,16 +204,11 @@ impl Eq for BlockList {
 }
 
 /// Why a block may not come after those seen, or `None` if it may.
+#[tactic(auto, using(crate::proofs::Repeated::came_allowed, crate::proofs::Repeated::came_forbidden))]
 fn fault_after(seen: Seen, block: &Block) -> Option<Why>
     ensures { result ≡ fault_behind seen block.now }
 {
-    let repeated = match block {
-        Block::StreamInfo(_) => seen.stream_info,
-        Block::SeekTable(_) => seen.seek_table,
-        Block::VorbisComment(_) => seen.comments,
-        _ => false,
-    };
-    if repeated {
+    if !is_of_forbidden_kind(block) && seen.has(block.kind()) {
         return Some(Why::RepeatedBlock);
     }
     fault_of(block)

@@ -135,7 +135,7 @@ impl Comments {
         self.vendor.as_slice()
     }
 
-    /// How many comments there are.
+    /// The number of comments. [`Comments::length`] is the number of bytes.
     pub fn len(&self) -> usize
         ensures { result ≡ length self.now.list }
     {
@@ -196,17 +196,11 @@ impl Comments {
     pub fn parts(&self, i: usize) -> Option<(&[u8], &[u8])>
         ensures { MatchOption result (LacksParts self.now.list i) (λ p. AreParts self.now.list i p.0.now p.1.now) }
     {
-        let list = self.list.as_slice();
-        if i >= list.len() {
-            return None;
-        }
-        let text = list[i].as_slice();
-        let k = place_of_equals(text)?;
-        Some((&text[..k], &text[k + 1..]))
+        parts_of(self.get(i)?)
     }
 
-    /// The length in bytes of the content of a Vorbis comment block with these comments, or 16777216 if it is above
-    /// 16777215, the most that a block can have.
+    /// The number of bytes in the content of a Vorbis comment block with these comments, without the block's header; or
+    /// 16777216 if it is above 16777215, the most that a block can have. [`Comments::len`] is the number of comments.
     pub fn length(&self) -> u64
         ensures { result ≡ min (comments_length self.now) 16777216 }
     {

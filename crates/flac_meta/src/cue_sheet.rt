@@ -12,9 +12,9 @@ ghost use Rattle.flac_bits.specs.Bits.{unsigned, bits_of, bit_value};
 ghost use Rattle.flac_bits.specs.Forms.{joined};
 ghost use Rattle.flac_bits.specs.Written.{Writes};
 
-use crate::fields::{Field, capped, flag, read_exact, read_zeros, too_short};
+use crate::fields::{Field, capped, flag, read_zeros, too_short};
 use crate::put::{put_fields, put_zeros};
-use flac_bits::{BitReader, BitWriter, Source, Target, Why};
+use flac_bits::{BitReader, BitWriter, Source, Target, Why, read_bytes};
 use std::alloc::{AllocError, Global};
 use std::marker::Model;
 
@@ -200,7 +200,7 @@ pub(crate) fn tracks_behind(before: u64, tracks: &[CueTrack]) -> u64
     for track in tracks {
         total = capped(total, 36);
         let count = track.indices.as_slice().len();
-        total = capped(total, if count >= 16777216 { count } else { 12 * count });
+        total = capped(total, count.saturating_mul(12));
     }
     total
 }
@@ -276,7 +276,7 @@ fn read_track_front<R: Source>(
     let offset = bits.take(64)?;
     let number = bits.take(8)? as u8;
     let mut isrc = [0u8; 12];
-    read_exact(bits, &mut isrc)?;
+    read_bytes(bits, &mut isrc)?;
     let audio = bits.take(1)? == 0;
     let pre_emphasis = bits.take(1)? == 1;
     if !read_zeros(bits, 6 + 8 * 13)? {
@@ -363,7 +363,7 @@ fn read_sheet_front<R: Source>(bits: &mut BitReader<R>) -> Result<([u8; 128], u6
     ensures reads { Reads (λ f. f) sheet_front bits.old bits.new result }
 {
     let mut catalogue = [0u8; 128];
-    read_exact(bits, &mut catalogue)?;
+    read_bytes(bits, &mut catalogue)?;
     let lead_in = bits.take(64)?;
     let cd = bits.take(1)? == 1;
     if !read_zeros(bits, 7 + 8 * 258)? {

@@ -6,6 +6,7 @@ ghost use Rattle.flac_bits.specs.Layout.{bits as number};
 ghost use Rattle.flac_bits.specs.Lists.{list_of};
 ghost use Rattle.flac_bits.specs.Reading.{Counts, Reads, ReadsInRoom};
 ghost use Rattle.flac_meta.specs.Fields.{ends_short, sized, number_32, zeros};
+ghost use Rattle.flac_meta.specs.inner.Counted.{counted};
 ghost use Rattle.flac_meta.specs.Padding.{skipped};
 ghost use Rattle.flac_bits.specs.LittleEndian.{little_32};
 
@@ -28,19 +29,6 @@ pub(crate) fn flag(set: bool) -> u64
     ensures fits { result < 2 ^ 1 }
 {
     if set { 1 } else { 0 }
-}
-
-/// Fills `out` with the next bytes.
-#[tactic(auto, using(flac_bits::proofs::Lists::list_more, flac_bits::proofs::Lists::list_end, flac_bits::proofs::Lists::list_start))]
-pub(crate) fn read_exact<R: Source>(bits: &mut BitReader<R>, out: &mut [u8]) -> Result<(), Why>
-    ensures spends { OnOk result (bits.new.most ≤ bits.old.most) }
-    ensures counts { Counts bits.old bits.new result }
-    ensures reads { Reads (λ _. out.new) (list_of (length out.old) (number 8)) bits.old bits.new result }
-{
-    for i in 0..out.len() {
-        out[i] = bits.take(8)? as u8;
-    }
-    Ok(())
 }
 
 /// Skips `length` bytes.
@@ -92,47 +80,19 @@ pub(crate) fn read_raw<R: Source>(
     Ok(Bytes::from_vec(bytes))
 }
 
-/// Reads a number of 32 bits, lowest byte first, and that many bytes, of a content of which `left` bytes are left.
-#[tactic(auto, unfolding(crate::specs::Fields::sized))]
-pub(crate) fn read_sized_little<R: Source>(
+/// Reads `size` bytes, of a content of which `left` bytes are left.
+fn read_counted<R: Source>(
     alloc: Global,
     bits: &mut BitReader<R>,
+    size: u32,
     left: u32,
 ) -> Result<Bytes, Why>
-    requires { left < 2 ^ 24 }
-    ensures fits { IfOk result (λ b. 4 + length b ≤ left) }
+    ensures fits { IfOk result (λ b. length b ≤ left) }
     ensures spends { OnOk result (bits.new.most ≤ bits.old.most) }
     ensures counts { Counts bits.old bits.new result }
-    ensures reads { ReadsInRoom (λ b. b) (sized little_32 left) bits.old bits.new result }
+    ensures reads { ReadsInRoom (λ b. b) (counted size left) bits.old bits.new result }
 {
-    if left < 4 {
-        return Err(too_short(bits, left));
-    }
-    let size = read_little_32(bits)?;
-    if left - 4 < size {
-        return Err(Why::BlockLength);
-    }
-    read_raw(alloc, bits, size)
-}
-
-/// Reads a number of 32 bits and that many bytes, of a content of which `left` bytes are left.
-#[tactic(auto, unfolding(crate::specs::Fields::sized))]
-pub(crate) fn read_sized<R: Source>(
-    alloc: Global,
-    bits: &mut BitReader<R>,
-    left: u32,
-) -> Result<Bytes, Why>
-    requires { left < 2 ^ 24 }
-    ensures fits { IfOk result (λ b. 4 + length b ≤ left) }
-    ensures spends { OnOk result (bits.new.most ≤ bits.old.most) }
-    ensures counts { Counts bits.old bits.new result }
-    ensures reads { ReadsInRoom (λ b. b) (sized (number 32) left) bits.old bits.new result }
-{
-    if left < 4 {
-        return Err(too_short(bits, left));
-    }
-    let size = bits.take(32)? as u32;
-    if left - 4 < size {
+    if left < size {
         return Err(Why::BlockLength);
     }
     read_raw(alloc, bits, size)
@@ -153,6 +113,42 @@ pub(crate) fn read_number_32<R: Source>(bits: &mut BitReader<R>, left: u32) -> R
     Ok(bits.take(32)? as u32)
 }
 
+/// Reads a number of 32 bits and that many bytes, of a content of which `left` bytes are left.
+pub(crate) fn read_sized<R: Source>(
+    alloc: Global,
+    bits: &mut BitReader<R>,
+    left: u32,
+) -> Result<Bytes, Why>
+    requires { left < 2 ^ 24 }
+    ensures fits { IfOk result (λ b. 4 + length b ≤ left) }
+    ensures spends { OnOk result (bits.new.most ≤ bits.old.most) }
+    ensures counts { Counts bits.old bits.new result }
+    ensures reads { ReadsInRoom (λ b. b) (sized (number 32) left) bits.old bits.new result }
+{
+    let size = read_number_32(bits, left)?;
+    read_counted(alloc, bits, size, left - 4)
+}
+
+/// Reads a number of 32 bits, lowest byte first, and that many bytes, of a content of which `left` bytes are left.
+#[tactic(auto, unfolding(crate::specs::Fields::sized))]
+pub(crate) fn read_sized_little<R: Source>(
+    alloc: Global,
+    bits: &mut BitReader<R>,
+    left: u32,
+) -> Result<Bytes, Why>
+    requires { left < 2 ^ 24 }
+    ensures fits { IfOk result (λ b. 4 + length b ≤ left) }
+    ensures spends { OnOk result (bits.new.most ≤ bits.old.most) }
+    ensures counts { Counts bits.old bits.new result }
+    ensures reads { ReadsInRoom (λ b. b) (sized little_32 left) bits.old bits.new result }
+{
+    if left < 4 {
+        return Err(too_short(bits, left));
+    }
+    let size = read_little_32(bits)?;
+    read_counted(alloc, bits, size, left - 4)
+}
+
 /// Reads `count` bits, and returns whether all are zeros.
 #[tactic(auto, using(crate::proofs::Zeros::zeros_first, crate::proofs::Zeros::zeros_more, crate::proofs::Zeros::zeros_end))]
 pub(crate) fn read_zeros<R: Source>(bits: &mut BitReader<R>, count: u32) -> Result<bool, Why>
@@ -169,15 +165,18 @@ pub(crate) fn read_zeros<R: Source>(bits: &mut BitReader<R>, count: u32) -> Resu
     Ok(clear)
 }
 
-/// One more than the largest length of a content in bytes.
-pub(crate) const TOO_LONG: u64 = 16777216;
+/// The most bytes that the content of a metadata block can have (RFC 9639, section 8.1): 2^24 - 1.
+pub const MOST_BYTES: u64 = 16777215;
+
+/// The length in bytes that stands for all above [`MOST_BYTES`].
+pub(crate) const TOO_LONG: u64 = MOST_BYTES + 1;
 
 /// The sum of two lengths, or 16777216 if it is larger.
 pub(crate) fn capped(a: u64, b: usize) -> u64
     requires { a ≤ 16777216 }
     ensures { result ≡ min (a + b) 16777216 }
 {
-    if b >= 16777216 {
+    if b as u64 >= TOO_LONG {
         return TOO_LONG;
     }
     (a + b as u64).min(TOO_LONG)

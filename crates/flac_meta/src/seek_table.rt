@@ -1,10 +1,10 @@
 //! Seek tables (RFC 9639, section 8.5).
 
-ghost use Rattle.std.specs.Prelude.{◌≡◌, OnOk, ◌<◌, ◌≤◌, length, None, false};
+ghost use Rattle.std.specs.Prelude.{◌≡◌, OnOk, ◌<◌, ◌≤◌, length, None, false, nat_eq};
 ghost use Rattle.std.specs.Cmp.{partial_equiv_from_equiv};
 ghost use Rattle.std.specs.Cmp.Lexicographic.{pointwise, lists_equiv};
 ghost use Rattle.flac_bits.specs.Reading.{Counts, Reads, ReadsInRoom};
-ghost use Rattle.flac_meta.specs.SeekTable.{follows, seek_point, seek_points, in_order};
+ghost use Rattle.flac_meta.specs.SeekTable.{placeholder, follows, seek_point, seek_points, in_order};
 ghost use Rattle.flac_bits.specs.Written.{Writes};
 ghost use Rattle.flac_meta.specs.Spelling.{each_spelled, point_spelling};
 
@@ -19,8 +19,18 @@ pub struct SeekPoint {
     pub sample: u64,
     /// Bytes from the first byte of the first frame to the first byte of this one.
     pub offset: u64,
-    /// How many samples of each channel the frame has.
+    /// The number of samples that the frame has of each channel; no number of bytes.
     pub length: u16,
+}
+
+impl SeekPoint {
+    /// Whether the point is a placeholder, which names no frame: its sample number is 2^64 - 1, and its other fields
+    /// mean nothing (RFC 9639, section 8.5.1).
+    pub fn is_placeholder(&self) -> bool
+        ensures { result ≡ nat_eq self.now.sample placeholder }
+    {
+        self.sample == u64::MAX
+    }
 }
 
 /// A seek table (RFC 9639, section 8.5). If it is to be written, sample numbers rise strictly, and placeholders come
@@ -91,14 +101,14 @@ impl SeekTable {
     }
 }
 
-/// Whether a seek point of this sample number may come after one of the number `before`: if it is larger, or a
+/// Whether a seek point may come after one of the sample number `before`: if its own is larger, or if it is a
 /// placeholder.
-pub(crate) fn may_follow(before: Option<u64>, sample: u64) -> bool
-    ensures { result ≡ follows before sample }
+pub(crate) fn may_follow(before: Option<u64>, point: &SeekPoint) -> bool
+    ensures { result ≡ follows before point.now.sample }
 {
     match before {
         None => true,
-        Some(number) => number < sample || sample == u64::MAX,
+        Some(number) => number < point.sample || point.is_placeholder(),
     }
 }
 
@@ -112,14 +122,15 @@ fn read_point<R: Source>(bits: &mut BitReader<R>, before: Option<u64>) -> Result
     let sample = bits.take(64)?;
     let offset = bits.take(64)?;
     let length = bits.take(16)? as u16;
-    if !may_follow(before, sample) {
-        return Err(Why::SeekOrder);
-    }
-    Ok(SeekPoint {
+    let point = SeekPoint {
         sample,
         offset,
         length,
-    })
+    };
+    if !may_follow(before, &point) {
+        return Err(Why::SeekOrder);
+    }
+    Ok(point)
 }
 
 /// Reads a seek table of `count` points.
@@ -172,7 +183,7 @@ pub(crate) fn are_in_order(points: &[SeekPoint]) -> bool
 {
     let mut before = None;
     for point in points {
-        if !may_follow(before, point.sample) {
+        if !may_follow(before, point) {
             return false;
         }
         before = Some(point.sample);

@@ -6,9 +6,9 @@ ghost use Rattle.flac_bits.specs.Reading.{Counts, Reads};
 ghost use Rattle.flac_bits.specs.Written.{Writes};
 ghost use Rattle.flac_meta.specs.Spelling.{info_spelling};
 
-use crate::fields::{Field, read_exact};
+use crate::fields::Field;
 use crate::put::put_fields;
-use flac_bits::{BitReader, BitWriter, Source, Target, Why};
+use flac_bits::{BitReader, BitWriter, Source, Target, Why, read_bytes};
 use std::marker::Model;
 
 /// STREAMINFO: properties of the whole stream (RFC 9639, section 8.2). Its fields are always in their ranges.
@@ -253,7 +253,7 @@ pub(crate) fn read_stream_info<R: Source>(bits: &mut BitReader<R>) -> Result<Str
     let (least_block, greatest_block, least_frame, greatest_frame) = read_sizes(bits)?;
     let (rate, channels, depth, total) = read_format(bits)?;
     let mut digest = [0u8; 16];
-    read_exact(bits, &mut digest)?;
+    read_bytes(bits, &mut digest)?;
     if least_block < 16 || greatest_block < least_block || rate == 0 || depth < 4 {
         return Err(Why::BadStreamInfo);
     }

@@ -29,7 +29,7 @@ use crate::native::advance;
 use crate::track::Track;
 use flac_bits::{BitReader, BitWriter, Collected, Source, Target, Why, send_all};
 use flac_header::Profile;
-use flac_meta::{Block, Comments, write_block, write_comments};
+use flac_meta::{Block, Comments, MOST_BYTES, write_block, write_comments};
 use std::alloc::Global;
 use std::fmt;
 
@@ -372,7 +372,7 @@ pub fn retag<R: Source, W: Target>(
     ensures kept { R.errors source.old ≤ R.errors source.new }
     ensures names { W.names target.new ≡ W.names target.old }
 {
-    if comments.length() > 16777215 {
+    if comments.length() > MOST_BYTES {
         return Err(RetagFault {
             at: None,
             why: Why::BlockLength,

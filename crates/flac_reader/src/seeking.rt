@@ -18,7 +18,7 @@ pub(crate) fn offset_before(points: &[SeekPoint], sample: u64) -> u64
 {
     let mut offset = 0;
     for point in points {
-        if point.sample <= sample && point.sample != u64::MAX {
+        if point.sample <= sample && !point.is_placeholder() {
             offset = point.offset;
         }
     }

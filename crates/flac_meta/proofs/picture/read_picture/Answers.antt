@@ -1,6 +1,6 @@
 use Rattle.std.proofs.lemmas.Result.{err_from_is_err_and}
 use Rattle.flac_bits.proofs.Counting.{answered_then, failed_then}
-use Rattle.flac_bits.proofs.Telling.{told_then, told_fault}
+use Rattle.flac_bits.proofs.Telling.{told_fault}
 use Rattle.flac_meta.specs.Picture.{picture}
 use Rattle.flac_meta.proofs.picture.read_picture.Goals as goal
 

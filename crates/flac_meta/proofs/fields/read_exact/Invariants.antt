@@ -1,8 +1,0 @@
-use Rattle.std.proofs.Common.{length, take, ◌-◌, ◌≤◌}
-use Rattle.flac_bits.specs.Layout.{bits, run, and_then}
-use Rattle.flac_bits.specs.Lists.{list_of, behind}
-use Rattle.flac_bits.specs.inner.Reading.{Goes}
-use Rattle.flac_meta.proofs.fields.read_exact.Given as goal
-
-abbrev pub invariant-loop-i : goal.invariant-loop-i
-invariant-loop-i g l = (l.bits.most ≤ l.initial.bits.most) × Goes l.initial.bits l.bits (and_then (run (list_of (length l.initial.out - l.i) (bits 8)) l.bits.cursor) (behind (take l.i l.out))) (run (list_of (length l.initial.out) (bits 8)) l.initial.bits.cursor)
