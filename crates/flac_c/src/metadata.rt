@@ -32,7 +32,7 @@ fn point_among(points: &[SeekPoint], sample: u64, best: Option<SeekPoint>) -> Op
 {
     let mut found = best;
     for point in points {
-        if point.sample <= sample && !point.is_placeholder() {
+        if point.sample <= sample && point.sample != u64::MAX {
             found = Some(*point);
         }
     }

@@ -69,7 +69,7 @@ fn write_info<W: Write>(lines: &mut W, info: &StreamInfo) -> fmt::Result {
 /// Writes a line for each seek point.
 fn write_points<W: Write>(lines: &mut W, table: &SeekTable) -> fmt::Result {
     for point in table.points() {
-        if point.is_placeholder() {
+        if point.sample == u64::MAX {
             writeln!(lines, "  placeholder")?;
         } else {
             let (sample, offset, length) = (point.sample, point.offset, point.length);
