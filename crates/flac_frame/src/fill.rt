@@ -39,27 +39,13 @@ fn read_body<R: Source>(
     let depth = info.depth() as u32;
     let block = header.size();
     let limits = limits_at(profile, info.rate());
-    let fits = read_subframes(
-        bits,
-        depth,
-        header.channel_code(),
-        block,
-        &limits,
-        channels,
-        wide,
-    )?;
+    let assignment = header.channel_assignment();
+    let fits = read_subframes(bits, depth, assignment, block, &limits, channels, wide)?;
     read_end(bits)?;
     if !fits {
         return Err(Why::SampleRange);
     }
-    if !join_channels(
-        header.channel_code(),
-        channels,
-        block as usize,
-        depth,
-        wide,
-        out,
-    ) {
+    if !join_channels(assignment, channels, block as usize, depth, wide, out) {
         return Err(Why::SampleRange);
     }
     Ok(())

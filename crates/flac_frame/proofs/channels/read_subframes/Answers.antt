@@ -6,6 +6,7 @@ use Rattle.flac_bits.proofs.Telling.{gone_fault}
 use Rattle.std.proofs.lemmas.List.{take_all}
 use Rattle.std.proofs.lemmas.Result.{err_from_is_err_and}
 use Rattle.flac_bits.specs.Signed.{FitsBits}
+use Rattle.flac_header.specs.Assignment.{code_of}
 use Rattle.flac_frame.specs.Frame.{subframes}
 use Rattle.flac_frame.specs.View.{chunks}
 use Rattle.flac_frame.proofs.Subframes.{turn, subframes_more, subframes_over, part_ends, both_true, both_false, all_more}
@@ -23,7 +24,7 @@ pub returns-clause-reads : goal.returns-clause-reads
 returns-clause-reads g c = λ known same.
     let l = c.loop-channel in
     let e : l.channel ≡ c.args.channels = omega (arith, c.loop-channel-test.false, l.auto.channel-end) in
-    sym (l.invariant.2.reads known) ∙ subframes_over c.args.depth c.args.code c.args.block c.args.limits.now (cond l.fits (Some (chunks l.channel c.args.block l.samples)) None) l.channel c.args.channels l.bits.cursor (omega (arith, c.loop-channel-test.false))
+    sym (l.invariant.2.reads known) ∙ subframes_over c.args.depth (code_of c.args.assignment) c.args.block c.args.limits.now (cond l.fits (Some (chunks l.channel c.args.block l.samples)) None) l.channel c.args.channels l.bits.cursor (omega (arith, c.loop-channel-test.false))
     ∙ ap (λ k. okay (cond l.fits (Some (chunks k c.args.block l.samples)) None, l.bits.cursor)) e
 
 pub loop-channel-preserved : goal.loop-channel-preserved
@@ -31,8 +32,8 @@ loop-channel-preserved g c =
     let l = c.loop-channel in
     let long : length l.samples ≡ c.args.channels * c.args.block = omega (arith, l.auto.samples, c.requires.places) in
     let own : length c.read_subframe.new.samples ≡ c.args.block = omega (arith, c.read_subframe.auto.samples) in
-    let next = turn c.args.bits.now l.bits c.read_subframe.new.bits c.args.depth c.args.code c.args.block c.args.limits.now l.fits c.in_ok-read_subframe.field-0 c.if-not-branch.fits l.channel c.args.channels l.samples c.read_subframe.new.samples
-    (run (subframes c.args.depth c.args.code c.args.block c.args.limits.now (Some []) 0 c.args.channels) c.args.bits.now.cursor) l.invariant.2 c.loop-channel-test.true long own in
+    let next = turn c.args.bits.now l.bits c.read_subframe.new.bits c.args.depth (code_of c.args.assignment) c.args.block c.args.limits.now l.fits c.in_ok-read_subframe.field-0 c.if-not-branch.fits l.channel c.args.channels l.samples c.read_subframe.new.samples
+    (run (subframes c.args.depth (code_of c.args.assignment) c.args.block c.args.limits.now (Some []) 0 c.args.channels) c.args.bits.now.cursor) l.invariant.2 c.loop-channel-test.true long own in
     let reads = rw c.side_bit.ensures.bit at c.in_ok-read_subframe.ensures.reads in
     let within : l.channel * c.args.block ≤ length l.samples = omega (arith, long, part_ends l.channel c.args.channels c.args.block c.loop-channel-test.true) in
     elim c.if-not-branch.branch [
@@ -67,7 +68,7 @@ returns-in_err-read_subframe-clause-reads g c =
     let l = c.loop-channel in
     let reads = rw c.side_bit.ensures.bit at c.in_err-read_subframe.ensures.reads in
     rw (p.1, p.2) (gone_fault c.args.bits.now l.bits c.read_subframe.new.bits _ l.invariant.2
-    (subframes_more c.args.depth c.args.code c.args.block c.args.limits.now (cond l.fits (Some (chunks l.channel c.args.block l.samples)) None) l.channel c.args.channels l.bits.cursor c.loop-channel-test.true) reads)
+    (subframes_more c.args.depth (code_of c.args.assignment) c.args.block c.args.limits.now (cond l.fits (Some (chunks l.channel c.args.block l.samples)) None) l.channel c.args.channels l.bits.cursor c.loop-channel-test.true) reads)
 
 pub returns-clause-counts : goal.returns-clause-counts
 returns-clause-counts g c = gone c.loop-channel.invariant.2
