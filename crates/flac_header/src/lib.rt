@@ -11,7 +11,7 @@ mod subset;
 mod write;
 
 pub use channel_assignment::ChannelAssignment;
-pub use choice::{depth_code, depth_code_in, rate_code, rate_code_in};
+pub use choice::{depth_code_in, rate_code_in};
 pub use frame_header::FrameHeader;
 pub use promises::headers_are_spelled;
 pub use read::read_header;

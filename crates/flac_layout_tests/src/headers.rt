@@ -245,3 +245,10 @@ fn channel_assignments(rt: HostRuntime) {
     assert!(rt; stored(9) == Some(ChannelAssignment::SideRight));
     assert!(rt; stored(10) == Some(ChannelAssignment::MidSide));
 }
+
+#[test]
+fn greatest_blocks(rt: HostRuntime) {
+    assert!(rt; Profile::Subset.greatest_block(48000) == 4608);
+    assert!(rt; Profile::Subset.greatest_block(48001) == 16384);
+    assert!(rt; Profile::Lax.greatest_block(48000) == 65535);
+}
