@@ -111,6 +111,7 @@ fn choose_apart(
     let channels = audio.channels();
     choice.code = channels.len() as u8 - 1;
     choice.bits = choose_channels(subject, samples, workspace, &mut choice.subframes);
+    // called for its clauses, that there is such a header
     let _header = FrameHeader::chosen_in(
         audio.profile(),
         size,
@@ -283,6 +284,7 @@ pub fn choose_frame(
     ensures places { HasPlaces (length audio.now.channels) buffers.old.most choice.new }
     ensures many { length choice.new.subframes.items ≡ length choice.old.subframes.items }
 {
+    // read for the invariant of the buffers
     let _places = buffers.places.len();
     let first = range.start;
     let subject = Subject {
@@ -331,6 +333,7 @@ pub fn write_frame<W: Target>(
     ensures kept { buffers.new ≡ buffers.old }
     ensures wrote { WritesFrameWith predictors.now audio.now (range.end - range.start) number (block_of range.start (range.end - range.start) audio.now.channels) writer.old writer.new result }
 {
+    // read for the invariant of the buffers
     let _places = buffers.places.len();
     let begin = range.start;
     let subject = Subject {
@@ -402,8 +405,10 @@ pub fn encode_frame_with<W: Target>(
     // The count of the writer stops at 2^64 - 1.
     ensures bytes { IfOk result (λ bytes. writer.old.known ≡ true → writer.new.mark.bytes < 2 ^ 64 - 1 → length writer.new.bits ≡ length writer.old.bits + 8 * bytes) }
 {
+    // called for its clauses, that the samples can be encoded
     let _channels = audio.channels();
     let before = writer.bytes_written();
+    // read for the invariant of the buffers
     let _places = buffers.places.len();
     let start = range.start;
     let size = range.end - range.start;

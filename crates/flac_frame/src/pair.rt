@@ -191,6 +191,7 @@ pub(crate) fn choose_pair(
     ensures room { workspace.new ≡ workspace.old }
 {
     let audio = subject.audio;
+    // called for its clauses, that the samples can be encoded
     let _channels = audio.channels();
     let size = subject.size;
     let (left, rest) = places.split_at_mut(size);
@@ -208,6 +209,7 @@ pub(crate) fn choose_pair(
     };
     let (assignment, bits) = choose_planes(subject, &planes, choices, workspace);
     let code = assignment.code();
+    // called for its clauses, that there is such a header
     let _header = FrameHeader::chosen_in(
         audio.profile(),
         size as u32,
@@ -297,6 +299,7 @@ fn write_two<W: Target>(
     ensures room { workspace.new ≡ workspace.old }
 {
     let assignment = choice.assignment();
+    // called for its clauses, that the samples can be encoded
     let _channels = subject.audio.channels();
     let depth = subject.audio.bits();
     let subframes = choice.subframes.as_slice();
