@@ -17,13 +17,13 @@ ghost use Rattle.flac_frame.specs.Stereo.{kept_as};
 use crate::audio::Audio;
 use crate::encode_buffers::EncodeBuffers;
 use crate::frame_choice::FrameChoice;
-use crate::limits::limits_at;
 use crate::pair::{choose_pair, write_pair};
 use crate::pair_choices::PairChoices;
+use crate::plane::choose_plane;
 use crate::subject::Subject;
 use flac_bits::{BitWriter, Target, Why};
 use flac_header::{FrameHeader, write_header};
-use flac_subframe::{LinearPredictor, WideChoice, Workspace, choose_in, write_subframe_in};
+use flac_subframe::{LinearPredictor, WideChoice, Workspace, write_subframe_in};
 use std::ops::Range;
 
 /// Writes samples to places of 64 bits.
@@ -67,20 +67,12 @@ fn choose_channels(
     let start = subject.start;
     let size = subject.size;
     let depth = audio.bits();
-    let limits = limits_at(audio.profile(), audio.rate());
     let channels = audio.channels();
     let mut bits = 0;
     for i in 0..channels.len() {
         widen(part_of(&channels[i], start, size), samples);
         let choice = &mut subframes[i];
-        choose_in(
-            samples,
-            depth,
-            &limits,
-            subject.predictors,
-            workspace,
-            choice,
-        );
+        choose_plane(samples, depth, subject, workspace, choice);
         bits += choice.bits();
     }
     bits
