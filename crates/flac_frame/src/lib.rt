@@ -34,7 +34,6 @@ mod subject;
 mod view;
 
 pub use audio::Audio;
-pub use before::Before;
 pub use buffers::FrameBuffers;
 pub use encode::{choose_frame, encode_frame, encode_frame_with, write_frame};
 pub use encode_buffers::EncodeBuffers;
