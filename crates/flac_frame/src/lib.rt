@@ -28,6 +28,7 @@ mod planes;
 mod promises;
 mod samples;
 mod setup;
+mod shape;
 mod start;
 mod stereo;
 mod subject;

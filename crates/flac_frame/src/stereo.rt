@@ -9,6 +9,7 @@ ghost use Rattle.flac_frame.specs.View.{chunks};
 ghost use Rattle.flac_frame.specs.Frame.{each_fits};
 
 use crate::samples::{excess, lowest, narrow};
+use crate::shape::Shape;
 use flac_header::ChannelAssignment;
 
 /// The left and the right sample of two samples that were decorrelated (RFC 9639, section 4.2).
@@ -74,21 +75,20 @@ fn join_two(
 #[tactic(auto, unfolding(crate::specs::Stereo::joined), using(crate::proofs::Bodies::each_is))]
 pub(crate) fn join_channels(
     assignment: ChannelAssignment,
-    channels: usize,
-    block: usize,
-    depth: u32,
+    shape: &Shape,
     samples: &[i64],
     out: &mut [i32],
 ) -> bool
     requires valid { IsAssignment assignment }
-    requires two { 7 < code_of assignment → channels ≡ 2 }
-    requires depth { (1 ≤ depth) × (depth ≤ 32) }
-    requires long { length samples.now ≡ channels * block }
+    requires two { 7 < code_of assignment → shape.now.channels ≡ 2 }
+    requires long { length samples.now ≡ shape.now.channels * shape.now.block }
     requires places { length out.old ≡ length samples.now }
     requires small { All (FitsBits 34) samples.now }
-    ensures fits { result ≡ each_fits depth (joined (code_of assignment) (chunks channels block samples.now)) }
-    ensures same { result ≡ true → chunks channels block out.new ≡ joined (code_of assignment) (chunks channels block samples.now) }
+    ensures fits { result ≡ each_fits shape.now.depth (joined (code_of assignment) (chunks shape.now.channels shape.now.block samples.now)) }
+    ensures same { result ≡ true → chunks shape.now.channels shape.now.block out.new ≡ joined (code_of assignment) (chunks shape.now.channels shape.now.block samples.now) }
 {
+    let block = shape.block as usize;
+    let depth = shape.depth;
     if assignment.is_decorrelated() {
         let (first, second) = samples.split_at(block);
         let (left, right) = out.split_at_mut(block);
