@@ -25,3 +25,4 @@ pub mod Written
 pub mod Copies
 pub mod Interleaved
 pub mod Wider
+pub mod Assigned

@@ -7,7 +7,7 @@ use flac_header::FrameHeader;
 /// What the next frame of a stream depends on: the first block size, the blocking strategy, the number that the next
 /// frame must have, and the size of the last block (RFC 9639, sections 9.1.1 and 9.1.5).
 #[derive(Clone, Copy, Debug)]
-pub struct Before {
+pub(crate) struct Before {
     pub(crate) first_size: u32,
     pub(crate) variable: bool,
     pub(crate) next: u64,

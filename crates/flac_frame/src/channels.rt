@@ -3,24 +3,29 @@
 ghost use Rattle.std.specs.Prelude.{◌≡◌, ◌≢◌, ◌≤◌, ◌<◌, ◌+◌, ◌*◌, OnOk, IfOk, length, cond, Some, None, [], nat_le, All, IsTrue, IfErr};
 ghost use Rattle.flac_bits.specs.Signed.{FitsBits};
 ghost use Rattle.flac_bits.specs.Reading.{Counts, Reads};
+ghost use Rattle.flac_header.specs.Assignment.{code_of, IsAssignment};
 ghost use Rattle.flac_frame.specs.Frame.{side_bit, subframes};
 ghost use Rattle.flac_frame.specs.View.{chunks};
 ghost use Rattle.flac_subframe.specs.Subframe.{subframe_samples};
 
+use crate::shape::Shape;
 use flac_bits::{BitReader, Source, Why};
+use flac_header::ChannelAssignment;
 use flac_subframe::{Limits, read_subframe};
 
 /// How many bits the samples of a channel have more than those of the stream: 1 for a side channel (RFC 9639, section
 /// 4.2).
 #[tactic(auto, unfolding(crate::specs::Frame::side_bit))]
-pub(crate) fn side_bit(code: u8, channel: usize) -> u32
-    ensures bit { result ≡ side_bit code channel }
+pub(crate) fn side_bit(assignment: ChannelAssignment, channel: usize) -> u32
+    requires { IsAssignment assignment }
+    ensures bit { result ≡ side_bit (code_of assignment) channel }
     ensures small { result ≤ 1 }
 {
-    match code {
-        9 => u32::from(channel == 0),
-        8.. => u32::from(channel == 1),
-        _ => 0,
+    match assignment {
+        ChannelAssignment::Independent(_) => 0,
+        ChannelAssignment::LeftSide => u32::from(channel == 1),
+        ChannelAssignment::SideRight => u32::from(channel == 0),
+        ChannelAssignment::MidSide => u32::from(channel == 1),
     }
 }
 
@@ -50,30 +55,30 @@ fn subframe_here<R: Source>(
 #[tactic(auto, using(crate::proofs::Subframes::subframes_more))]
 pub(crate) fn read_subframes<R: Source>(
     bits: &mut BitReader<R>,
-    depth: u32,
-    code: u8,
-    block: u32,
-    limits: &Limits,
-    channels: usize,
+    assignment: ChannelAssignment,
+    shape: &Shape,
     samples: &mut [i64],
 ) -> Result<bool, Why>
-    requires depth { (1 ≤ depth) × (depth ≤ 32) }
-    requires block { (1 ≤ block) × (block ≤ 65535) }
-    requires limits { (limits.now.partition ≤ 15) × (limits.now.linear ≤ 32) }
-    requires channels { channels ≤ 8 }
-    requires places { length samples.old ≡ channels * block }
+    requires assignment { IsAssignment assignment }
+    requires places { length samples.old ≡ shape.now.channels * shape.now.block }
     ensures small { IfOk result (λ fits. IsTrue fits → All (FitsBits 34) samples.new) }
     ensures spends { OnOk result (bits.new.most ≤ bits.old.most) }
     ensures counts { Counts bits.old bits.new result }
     ensures memory { IfErr result (λ e. e ≢ Why.Memory) }
-    ensures reads { Reads (λ fits. cond fits (Some (chunks channels block samples.new)) None) (subframes depth code block limits.now (Some []) 0 channels) bits.old bits.new result }
+    ensures reads { Reads (λ fits. cond fits (Some (chunks shape.now.channels shape.now.block samples.new)) None) (subframes shape.now.depth (code_of assignment) shape.now.block shape.now.limits (Some []) 0 shape.now.channels) bits.old bits.new result }
 {
-    let size = block as usize;
+    let size = shape.block as usize;
     let mut fits = true;
-    for channel in 0..channels {
+    for channel in 0..shape.channels {
         let start = channel * size;
         let own = &mut samples[start..start + size];
-        if !subframe_here(bits, depth + side_bit(code, channel), block, limits, own)? {
+        if !subframe_here(
+            bits,
+            shape.depth + side_bit(assignment, channel),
+            shape.block,
+            &shape.limits,
+            own,
+        )? {
             fits = false;
         }
     }

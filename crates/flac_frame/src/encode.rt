@@ -17,13 +17,13 @@ ghost use Rattle.flac_frame.specs.Stereo.{kept_as};
 use crate::audio::Audio;
 use crate::encode_buffers::EncodeBuffers;
 use crate::frame_choice::FrameChoice;
-use crate::limits::limits_at;
 use crate::pair::{choose_pair, write_pair};
 use crate::pair_choices::PairChoices;
+use crate::plane::choose_plane;
 use crate::subject::Subject;
 use flac_bits::{BitWriter, Target, Why};
 use flac_header::{FrameHeader, write_header};
-use flac_subframe::{LinearPredictor, WideChoice, Workspace, choose_in, write_subframe_in};
+use flac_subframe::{LinearPredictor, WideChoice, Workspace, write_subframe_in};
 use std::ops::Range;
 
 /// Writes samples to places of 64 bits.
@@ -67,20 +67,12 @@ fn choose_channels(
     let start = subject.start;
     let size = subject.size;
     let depth = audio.bits();
-    let limits = limits_at(audio.profile(), audio.rate());
     let channels = audio.channels();
     let mut bits = 0;
     for i in 0..channels.len() {
         widen(part_of(&channels[i], start, size), samples);
         let choice = &mut subframes[i];
-        choose_in(
-            samples,
-            depth,
-            &limits,
-            subject.predictors,
-            workspace,
-            choice,
-        );
+        choose_plane(samples, depth, subject, workspace, choice);
         bits += choice.bits();
     }
     bits
@@ -111,6 +103,7 @@ fn choose_apart(
     let channels = audio.channels();
     choice.code = channels.len() as u8 - 1;
     choice.bits = choose_channels(subject, samples, workspace, &mut choice.subframes);
+    // called for its clauses, that there is such a header
     let _header = FrameHeader::chosen_in(
         audio.profile(),
         size,
@@ -283,6 +276,7 @@ pub fn choose_frame(
     ensures places { HasPlaces (length audio.now.channels) buffers.old.most choice.new }
     ensures many { length choice.new.subframes.items ≡ length choice.old.subframes.items }
 {
+    // read for the invariant of the buffers
     let _places = buffers.places.len();
     let first = range.start;
     let subject = Subject {
@@ -331,6 +325,7 @@ pub fn write_frame<W: Target>(
     ensures kept { buffers.new ≡ buffers.old }
     ensures wrote { WritesFrameWith predictors.now audio.now (range.end - range.start) number (block_of range.start (range.end - range.start) audio.now.channels) writer.old writer.new result }
 {
+    // read for the invariant of the buffers
     let _places = buffers.places.len();
     let begin = range.start;
     let subject = Subject {
@@ -402,8 +397,10 @@ pub fn encode_frame_with<W: Target>(
     // The count of the writer stops at 2^64 - 1.
     ensures bytes { IfOk result (λ bytes. writer.old.known ≡ true → writer.new.mark.bytes < 2 ^ 64 - 1 → length writer.new.bits ≡ length writer.old.bits + 8 * bytes) }
 {
+    // called for its clauses, that the samples can be encoded
     let _channels = audio.channels();
     let before = writer.bytes_written();
+    // read for the invariant of the buffers
     let _places = buffers.places.len();
     let start = range.start;
     let size = range.end - range.start;

@@ -44,7 +44,8 @@ impl Model for EncodeBuffers {
 }
 
 impl EncodeBuffers {
-    /// Allocates arrays for frames of the streamable subset: as [`EncodeBuffers::new_in`] does for [`Profile::Subset`].
+    /// Allocates arrays for frames of the streamable subset, of at most `max_block` samples of each channel, at most
+    /// 65535: as [`EncodeBuffers::new_in`] does for [`Profile::Subset`].
     ///
     /// # Errors
     /// [`Why::Memory`] if an allocation fails.
@@ -56,7 +57,7 @@ impl EncodeBuffers {
         EncodeBuffers::new_in(alloc, Profile::Subset, max_block)
     }
 
-    /// Allocates arrays for frames of a profile, of at most `max_block` samples of each channel, 1 to 65535. In
+    /// Allocates arrays for frames of a profile, of at most `max_block` samples of each channel, at most 65535. In
     /// [`Profile::Lax`] they take 1.8 MB beside those for the samples.
     ///
     /// # Errors

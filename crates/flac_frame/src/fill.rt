@@ -11,6 +11,7 @@ use crate::before::Before;
 use crate::channels::read_subframes;
 use crate::end::read_end;
 use crate::limits::limits_at;
+use crate::shape::Shape;
 use crate::start::read_start;
 use crate::stereo::join_channels;
 use flac_bits::{BitReader, Source, Why};
@@ -35,31 +36,19 @@ fn read_body<R: Source>(
     ensures memory { IfErr result (λ e. e ≢ Why.Memory) }
     ensures reads { Reads (λ _. frame_in info.now.channels header.now out.new) (frame_body profile info.now header.now) bits.old bits.new result }
 {
-    let channels = info.channels() as usize;
-    let depth = info.depth() as u32;
-    let block = header.size();
-    let limits = limits_at(profile, info.rate());
-    let fits = read_subframes(
-        bits,
-        depth,
-        header.channel_code(),
-        block,
-        &limits,
-        channels,
-        wide,
-    )?;
+    let shape = Shape {
+        channels: info.channels() as usize,
+        block: header.size(),
+        depth: info.depth() as u32,
+        limits: limits_at(profile, info.rate()),
+    };
+    let assignment = header.channel_assignment();
+    let fits = read_subframes(bits, assignment, &shape, wide)?;
     read_end(bits)?;
     if !fits {
         return Err(Why::SampleRange);
     }
-    if !join_channels(
-        header.channel_code(),
-        channels,
-        block as usize,
-        depth,
-        wide,
-        out,
-    ) {
+    if !join_channels(assignment, &shape, wide, out) {
         return Err(Why::SampleRange);
     }
     Ok(())

@@ -2,6 +2,7 @@
 
 ghost use Rattle.std.specs.Prelude.{◌≡◌, ◌≤◌, ◌*◌, ℕ, List, ℤ, length, IfOk, IfErr, IfSome};
 ghost use Rattle.flac_bits.specs.Coded.{number_spelling};
+ghost use Rattle.flac_header.specs.Assignment.{code_of, IsAssignment};
 ghost use Rattle.flac_header.specs.Choice.{size_choice, rate_choice_in, stated_rate};
 ghost use Rattle.flac_header.specs.Spelling.{size_spelling, rate_spelling};
 ghost use Rattle.flac_subframe.specs.declared.linear.LinearPredictor.{LinearPredictor};
@@ -9,11 +10,12 @@ ghost use Rattle.flac_frame.specs.Audio.{Sound};
 ghost use Rattle.flac_frame.specs.Chosen.{IsChoiceWith, HasPlaces};
 ghost use Rattle.flac_frame.specs.Encoding.{most_in};
 ghost use Rattle.flac_frame.specs.Spelling.{frame_spelling};
+ghost use Rattle.flac_frame.specs.inner.Pair.{IsPairCode};
 
 use crate::audio::Audio;
 use crate::limits::limits_at;
 use flac_bits::Why;
-use flac_header::{Profile, rate_code_in};
+use flac_header::{ChannelAssignment, Profile, rate_code_in};
 use flac_subframe::WideChoice;
 use std::alloc::Global;
 
@@ -142,6 +144,18 @@ impl FrameChoice {
             bits: self.bits,
             subframes,
         })
+    }
+
+    /// How the two channels are stored.
+    pub(crate) fn assignment(&self) -> ChannelAssignment
+        requires { IsPairCode self.now.code }
+        ensures code { code_of result ≡ self.now.code }
+        ensures valid { IsAssignment result }
+    {
+        let Some(assignment) = ChannelAssignment::from_code(self.code) else {
+            unreachable!();
+        };
+        assignment
     }
 
     /// How many bytes the frame has that was chosen for a block of `size` samples of each channel and this number, 1 to

@@ -1,5 +1,14 @@
 //! Whole FLAC frames: reading them into buffers that lend their samples, and encoding samples as the shortest frame
 //! (RFC 9639, section 9).
+//!
+//! | To | Begin with |
+//! |---|---|
+//! | read the frames of a stream | [`FrameBuffers::new`] and [`FrameBuffers::read_frame`] |
+//! | use the samples of a frame | [`FrameView::channel`] and [`FrameView::interleave`] |
+//! | encode a block as a frame | [`Audio::new`], [`EncodeBuffers::new`] and [`encode_frame`] |
+//! | encode outside the streamable subset | [`Audio::new_in`] and [`EncodeBuffers::new_in`] |
+//! | try linear predictors of one's own | [`encode_frame_with`] |
+//! | know a frame's size before it is written | [`choose_frame`], [`FrameChoice::frame_bytes`] and [`write_frame`] |
 #![tactic(auto)]
 
 mod audio;
@@ -19,13 +28,13 @@ mod planes;
 mod promises;
 mod samples;
 mod setup;
+mod shape;
 mod start;
 mod stereo;
 mod subject;
 mod view;
 
 pub use audio::Audio;
-pub use before::Before;
 pub use buffers::FrameBuffers;
 pub use encode::{choose_frame, encode_frame, encode_frame_with, write_frame};
 pub use encode_buffers::EncodeBuffers;

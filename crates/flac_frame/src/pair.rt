@@ -4,6 +4,7 @@ ghost use Rattle.std.specs.Prelude.{◌≡◌, ◌<◌, ◌≤◌, ◌+◌, ◌*
 ghost use Rattle.std.specs.Int.{int_shr};
 ghost use Rattle.flac_bits.specs.Signed.{FitsBits};
 ghost use Rattle.flac_bits.specs.Written.{Writes};
+ghost use Rattle.flac_header.specs.Assignment.{code_of, IsAssignment};
 ghost use Rattle.flac_subframe.specs.Handed.{AreWithin};
 ghost use Rattle.flac_frame.specs.Audio.{samples_each};
 ghost use Rattle.flac_frame.specs.Chosen.{forms_of, AreMade, IsChoiceWith, HasPlaces};
@@ -23,7 +24,7 @@ use crate::plane::choose_plane;
 use crate::planes::Planes;
 use crate::subject::Subject;
 use flac_bits::{BitWriter, Target, Why};
-use flac_header::FrameHeader;
+use flac_header::{ChannelAssignment, FrameHeader};
 use flac_subframe::{Workspace, write_subframe_in};
 
 /// The side of two samples (RFC 9639, section 4.2).
@@ -67,48 +68,49 @@ fn split_channels(left: &[i32], right: &[i32], side: &mut [i64], middle: &mut [i
     }
 }
 
-/// The channel code of two channels whose subframes take the fewest bits, from those that left, right, side and middle
-/// take, and these bits: 1 for left and right, 8 for left and side, 9 for side and right, 10 for middle and side; the
-/// first of equals.
-fn least_code(left: u64, right: u64, side: u64, middle: u64) -> (u8, u64)
+/// The channel assignment of two channels whose subframes take the fewest bits, from those that left, right, side and
+/// middle take, and these bits; the first of equals.
+fn least_assignment(left: u64, right: u64, side: u64, middle: u64) -> (ChannelAssignment, u64)
     requires left { left ≤ 2 ^ 61 }
     requires right { right ≤ 2 ^ 61 }
     requires side { side ≤ 2 ^ 61 }
     requires middle { middle ≤ 2 ^ 61 }
-    ensures best { IsFirstLeast (pair_cost left right side middle) result.0 }
-    ensures bits { result.1 ≡ pair_cost left right side middle result.0 }
+    ensures valid { IsAssignment result.0 }
+    ensures best { IsFirstLeast (pair_cost left right side middle) (code_of result.0) }
+    ensures bits { result.1 ≡ pair_cost left right side middle (code_of result.0) }
 {
     let independent = left + right;
     let left_side = left + side;
     let side_right = side + right;
     let middle_side = middle + side;
     if independent <= left_side.min(side_right).min(middle_side) {
-        return (1, independent);
+        return (ChannelAssignment::Independent(2), independent);
     }
     if left_side <= side_right.min(middle_side) {
-        return (8, left_side);
+        return (ChannelAssignment::LeftSide, left_side);
     }
     if side_right <= middle_side {
-        return (9, side_right);
+        return (ChannelAssignment::SideRight, side_right);
     }
-    (10, middle_side)
+    (ChannelAssignment::MidSide, middle_side)
 }
 
-/// Chooses a shortest subframe of left, right, side and middle each. Returns the channel code whose two subframes take
-/// the fewest bits, and these bits.
+/// Chooses a shortest subframe of left, right, side and middle each. Returns the channel assignment whose two subframes
+/// take the fewest bits, and these bits.
 fn choose_planes(
     subject: &Subject<'_>,
     planes: &Planes<'_>,
     choices: &mut PairChoices,
     workspace: &mut Workspace,
-) -> (u8, u64)
+) -> (ChannelAssignment, u64)
     requires block { length planes.now.left.now ≤ workspace.old.block }
     requires partition { partition_limit subject.now.audio.now ≤ workspace.old.most }
     requires wide { AreWide workspace.old.most choices.old }
     requires orders { AreWithin (limits_at subject.now.audio.now.profile subject.now.audio.now.rate).linear subject.now.predictors.now }
     ensures planes { ArePlanes (partition_limit subject.now.audio.now) subject.now.predictors.now planes.now.depth planes.now.left.now planes.now.right.now choices.new }
-    ensures best { IsFirstLeast (choices_cost choices.new) result.0 }
-    ensures bits { result.1 ≡ choices_cost choices.new result.0 }
+    ensures valid { IsAssignment result.0 }
+    ensures best { IsFirstLeast (choices_cost choices.new) (code_of result.0) }
+    ensures bits { result.1 ≡ choices_cost choices.new (code_of result.0) }
     ensures wide { AreWide workspace.old.most choices.new }
     ensures room { workspace.new ≡ workspace.old }
 {
@@ -129,7 +131,7 @@ fn choose_planes(
         workspace,
         &mut choices.middle,
     );
-    least_code(
+    least_assignment(
         choices.left.bits(),
         choices.right.bits(),
         choices.side.bits(),
@@ -189,6 +191,7 @@ pub(crate) fn choose_pair(
     ensures room { workspace.new ≡ workspace.old }
 {
     let audio = subject.audio;
+    // called for its clauses, that the samples can be encoded
     let _channels = audio.channels();
     let size = subject.size;
     let (left, rest) = places.split_at_mut(size);
@@ -204,7 +207,9 @@ pub(crate) fn choose_pair(
         middle,
         depth,
     };
-    let (code, bits) = choose_planes(subject, &planes, choices, workspace);
+    let (assignment, bits) = choose_planes(subject, &planes, choices, workspace);
+    let code = assignment.code();
+    // called for its clauses, that there is such a header
     let _header = FrameHeader::chosen_in(
         audio.profile(),
         size as u32,
@@ -215,54 +220,65 @@ pub(crate) fn choose_pair(
     );
     choice.code = code;
     choice.bits = bits;
-    choices.keep(code, &mut choice.subframes);
+    choices.keep(assignment, &mut choice.subframes);
 }
 
-/// Puts what a channel code keeps of two channels into places of 64 bits (RFC 9639, section 9.1.3).
-fn put_kept(code: u8, left: &[i32], right: &[i32], first: &mut [i64], second: &mut [i64])
-    requires code { IsPairCode code }
+/// Puts what a channel assignment keeps of two channels into places of 64 bits (RFC 9639, section 9.1.3).
+fn put_kept(
+    assignment: ChannelAssignment,
+    left: &[i32],
+    right: &[i32],
+    first: &mut [i64],
+    second: &mut [i64],
+)
+    requires valid { IsAssignment assignment }
     requires long { length right.now ≡ length left.now }
     requires first { length first.old ≡ length left.now }
     requires second { length second.old ≡ length left.now }
-    ensures kept { kept_as code (left.now ∷ right.now ∷ []) ≡ first.new ∷ second.new ∷ [] }
-    ensures fits { (depth : ℕ) → 1 ≤ depth → All (FitsBits depth) left.now → All (FitsBits depth) right.now → All (FitsBits (depth + side_bit code 0)) first.new × All (FitsBits (depth + side_bit code 1)) second.new }
+    ensures kept { kept_as (code_of assignment) (left.now ∷ right.now ∷ []) ≡ first.new ∷ second.new ∷ [] }
+    ensures fits { (depth : ℕ) → 1 ≤ depth → All (FitsBits depth) left.now → All (FitsBits depth) right.now → All (FitsBits (depth + side_bit (code_of assignment) 0)) first.new × All (FitsBits (depth + side_bit (code_of assignment) 1)) second.new }
 {
-    if code == 8 {
-        widen(left, first);
-        put_side(left, right, second);
-        return;
+    match assignment {
+        ChannelAssignment::Independent(_) => {
+            widen(left, first);
+            widen(right, second);
+        }
+        ChannelAssignment::LeftSide => {
+            widen(left, first);
+            put_side(left, right, second);
+        }
+        ChannelAssignment::SideRight => {
+            put_side(left, right, first);
+            widen(right, second);
+        }
+        ChannelAssignment::MidSide => split_channels(left, right, second, first),
     }
-    if code == 9 {
-        put_side(left, right, first);
-        widen(right, second);
-        return;
-    }
-    if code == 10 {
-        split_channels(left, right, second, first);
-        return;
-    }
-    widen(left, first);
-    widen(right, second);
 }
 
-/// Puts what a channel code keeps of two channels' samples from `start` on into places of 64 bits.
-fn keep_pair(code: u8, audio: &Audio, start: usize, first: &mut [i64], second: &mut [i64])
-    requires code { IsPairCode code }
+/// Puts what a channel assignment keeps of two channels' samples from `start` on into places of 64 bits.
+fn keep_pair(
+    assignment: ChannelAssignment,
+    audio: &Audio,
+    start: usize,
+    first: &mut [i64],
+    second: &mut [i64],
+)
+    requires valid { IsAssignment assignment }
     requires two { length audio.now.channels ≡ 2 }
     requires within { start + length first.old ≤ samples_each audio.now.channels }
     requires second { length second.old ≡ length first.old }
-    ensures kept { kept_as code (block_of start (length first.old) audio.now.channels) ≡ first.new ∷ second.new ∷ [] }
-    ensures first_fits { All (FitsBits (audio.now.bits + side_bit code 0)) first.new }
-    ensures second_fits { All (FitsBits (audio.now.bits + side_bit code 1)) second.new }
+    ensures kept { kept_as (code_of assignment) (block_of start (length first.old) audio.now.channels) ≡ first.new ∷ second.new ∷ [] }
+    ensures first_fits { All (FitsBits (audio.now.bits + side_bit (code_of assignment) 0)) first.new }
+    ensures second_fits { All (FitsBits (audio.now.bits + side_bit (code_of assignment) 1)) second.new }
 {
     let channels = audio.channels();
     let size = first.len();
     let left = part_of(&channels[0], start, size);
     let right = part_of(&channels[1], start, size);
-    put_kept(code, left, right, first, second);
+    put_kept(assignment, left, right, first, second);
 }
 
-/// Writes the subframes that were chosen of what a channel code keeps of two channels.
+/// Writes the subframes that were chosen of what a channel assignment keeps of two channels.
 fn write_two<W: Target>(
     subject: &Subject<'_>,
     choice: &FrameChoice,
@@ -271,6 +287,7 @@ fn write_two<W: Target>(
     workspace: &mut Workspace,
     writer: &mut BitWriter<W>,
 ) -> Result<(), Why>
+    requires code { IsPairCode choice.now.code }
     requires some { 0 < length first.now }
     requires block { length first.now ≤ workspace.old.block }
     requires second { length second.now ≡ length first.now }
@@ -281,14 +298,15 @@ fn write_two<W: Target>(
     ensures text { Writes (subframes_spelling subject.now.audio.now.bits choice.now.code 0 (forms_of subject.now.predictors.now choice.now.subframes.items (first.now ∷ second.now ∷ []))) writer.old writer.new result }
     ensures room { workspace.new ≡ workspace.old }
 {
-    let code = choice.code;
+    let assignment = choice.assignment();
+    // called for its clauses, that the samples can be encoded
     let _channels = subject.audio.channels();
     let depth = subject.audio.bits();
     let subframes = choice.subframes.as_slice();
     let left = &subframes[0];
     let right = &subframes[1];
-    let left_depth = depth + side_bit(code, 0);
-    let right_depth = depth + side_bit(code, 1);
+    let left_depth = depth + side_bit(assignment, 0);
+    let right_depth = depth + side_bit(assignment, 1);
     let predictors = subject.predictors;
     write_subframe_in(left, predictors, first, left_depth, workspace, writer)?;
     write_subframe_in(right, predictors, second, right_depth, workspace, writer)
@@ -314,6 +332,7 @@ pub(crate) fn write_pair<W: Target>(
     let size = subject.size;
     let (first, rest) = places.split_at_mut(size);
     let second = &mut rest[..size];
-    keep_pair(choice.code, subject.audio, subject.start, first, second);
+    let assignment = choice.assignment();
+    keep_pair(assignment, subject.audio, subject.start, first, second);
     write_two(subject, choice, first, second, workspace, writer)
 }

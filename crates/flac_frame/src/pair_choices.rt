@@ -1,11 +1,13 @@
 //! Places for the subframes that are chosen of two channels.
 
 ghost use Rattle.std.specs.Prelude.{◌≡◌, ◌≤◌, ℕ, slice_set, length, IfOk, IfErr};
+ghost use Rattle.flac_header.specs.Assignment.{code_of, IsAssignment};
 ghost use Rattle.flac_frame.specs.Chosen.{AllWide};
 ghost use Rattle.flac_frame.specs.Pair.{AreWide};
-ghost use Rattle.flac_frame.specs.inner.Pair.{IsPairCode, first_kept, second_kept};
+ghost use Rattle.flac_frame.specs.inner.Pair.{first_kept, second_kept};
 
 use flac_bits::Why;
+use flac_header::ChannelAssignment;
 use flac_subframe::{Limits, WideChoice};
 use std::alloc::Global;
 use std::mem::swap;
@@ -41,29 +43,30 @@ impl PairChoices {
         })
     }
 
-    /// Swaps the two choices that a channel code keeps with the first places.
-    pub(crate) fn keep(&mut self, code: u8, places: &mut [WideChoice])
-        requires code { IsPairCode code }
+    /// Swaps the two choices that a channel assignment keeps with the first places.
+    pub(crate) fn keep(&mut self, assignment: ChannelAssignment, places: &mut [WideChoice])
+        requires valid { IsAssignment assignment }
         requires two { 2 ≤ length places.old }
-        ensures kept { places.new ≡ slice_set (slice_set places.old 0 (first_kept code self.old)) 1 (second_kept code self.old) }
+        ensures kept { places.new ≡ slice_set (slice_set places.old 0 (first_kept (code_of assignment) self.old)) 1 (second_kept (code_of assignment) self.old) }
         ensures wide { (most : ℕ) → AreWide most self.old → AllWide most places.old → AreWide most self.new × AllWide most places.new }
     {
-        if code == 8 {
-            swap(&mut self.left, &mut places[0]);
-            swap(&mut self.side, &mut places[1]);
-            return;
+        match assignment {
+            ChannelAssignment::Independent(_) => {
+                swap(&mut self.left, &mut places[0]);
+                swap(&mut self.right, &mut places[1]);
+            }
+            ChannelAssignment::LeftSide => {
+                swap(&mut self.left, &mut places[0]);
+                swap(&mut self.side, &mut places[1]);
+            }
+            ChannelAssignment::SideRight => {
+                swap(&mut self.side, &mut places[0]);
+                swap(&mut self.right, &mut places[1]);
+            }
+            ChannelAssignment::MidSide => {
+                swap(&mut self.middle, &mut places[0]);
+                swap(&mut self.side, &mut places[1]);
+            }
         }
-        if code == 9 {
-            swap(&mut self.side, &mut places[0]);
-            swap(&mut self.right, &mut places[1]);
-            return;
-        }
-        if code == 10 {
-            swap(&mut self.middle, &mut places[0]);
-            swap(&mut self.side, &mut places[1]);
-            return;
-        }
-        swap(&mut self.left, &mut places[0]);
-        swap(&mut self.right, &mut places[1]);
     }
 }

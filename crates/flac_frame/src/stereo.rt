@@ -3,25 +3,31 @@
 ghost use Rattle.std.specs.Prelude.{◌≡◌, ◌<◌, ◌≤◌, ◌*◌, ◌∷◌, [], length, All, true};
 ghost use Rattle.std.specs.Simd.Lanes.{zip2};
 ghost use Rattle.flac_bits.specs.Signed.{FitsBits};
+ghost use Rattle.flac_header.specs.Assignment.{code_of, IsAssignment};
 ghost use Rattle.flac_frame.specs.Stereo.{left_of, right_of, joined};
 ghost use Rattle.flac_frame.specs.View.{chunks};
 ghost use Rattle.flac_frame.specs.Frame.{each_fits};
 
 use crate::samples::{excess, lowest, narrow};
+use crate::shape::Shape;
+use flac_header::ChannelAssignment;
 
-/// The left and the right sample of two samples that were decorrelated under a channel code (RFC 9639, section 4.2).
+/// The left and the right sample of two samples that were decorrelated (RFC 9639, section 4.2).
 #[inline(always)]
 #[tactic(auto, unfolding(crate::specs::Stereo::left_of, crate::specs::Stereo::right_of))]
-pub(crate) fn join_samples(code: u8, first: i64, second: i64) -> (i64, i64)
+fn join_samples(assignment: ChannelAssignment, first: i64, second: i64) -> (i64, i64)
+    requires valid { IsAssignment assignment }
+    requires joined { 7 < code_of assignment }
     requires first { FitsBits 34 first }
     requires second { FitsBits 34 second }
-    ensures left { result.0 ≡ left_of code first second }
-    ensures right { result.1 ≡ right_of code first second }
+    ensures left { result.0 ≡ left_of (code_of assignment) first second }
+    ensures right { result.1 ≡ right_of (code_of assignment) first second }
 {
-    match code {
-        8 => (first, first - second),
-        9 => (first + second, second),
-        _ => {
+    match assignment {
+        ChannelAssignment::Independent(_) => (first, second),
+        ChannelAssignment::LeftSide => (first, first - second),
+        ChannelAssignment::SideRight => (first + second, second),
+        ChannelAssignment::MidSide => {
             let right = first - (second >> 1);
             (right + second, right)
         }
@@ -31,26 +37,28 @@ pub(crate) fn join_samples(code: u8, first: i64, second: i64) -> (i64, i64)
 /// Writes the left and the right samples of two decorrelated channels, and returns whether each fits the depth.
 #[inline(always)]
 fn join_two(
-    code: u8,
+    assignment: ChannelAssignment,
     depth: u32,
     first: &[i64],
     second: &[i64],
     left: &mut [i32],
     right: &mut [i32],
 ) -> bool
+    requires valid { IsAssignment assignment }
+    requires joined { 7 < code_of assignment }
     requires depth { (1 ≤ depth) × (depth ≤ 32) }
     requires long { length second.now ≡ length first.now }
     requires lefts { length left.old ≡ length first.now }
     requires rights { length right.old ≡ length first.now }
     requires first { All (FitsBits 34) first.now }
     requires second { All (FitsBits 34) second.now }
-    ensures fits { result ≡ each_fits depth (zip2 (left_of code) first.now second.now ∷ zip2 (right_of code) first.now second.now ∷ []) }
-    ensures left { result ≡ true → left.new ≡ zip2 (left_of code) first.now second.now }
-    ensures right { result ≡ true → right.new ≡ zip2 (right_of code) first.now second.now }
+    ensures fits { result ≡ each_fits depth (zip2 (left_of (code_of assignment)) first.now second.now ∷ zip2 (right_of (code_of assignment)) first.now second.now ∷ []) }
+    ensures left { result ≡ true → left.new ≡ zip2 (left_of (code_of assignment)) first.now second.now }
+    ensures right { result ≡ true → right.new ≡ zip2 (right_of (code_of assignment)) first.now second.now }
 {
     let mut wrong = 0;
     for i in 0..first.len() {
-        let (joined_left, joined_right) = join_samples(code, first[i], second[i]);
+        let (joined_left, joined_right) = join_samples(assignment, first[i], second[i]);
         let over = excess(joined_left, depth);
         let above = excess(joined_right, depth);
         wrong |= over | above;
@@ -66,25 +74,25 @@ fn join_two(
 /// In both arrays the channels come one after another.
 #[tactic(auto, unfolding(crate::specs::Stereo::joined), using(crate::proofs::Bodies::each_is))]
 pub(crate) fn join_channels(
-    code: u8,
-    channels: usize,
-    block: usize,
-    depth: u32,
+    assignment: ChannelAssignment,
+    shape: &Shape,
     samples: &[i64],
     out: &mut [i32],
 ) -> bool
-    requires two { 7 < code → channels ≡ 2 }
-    requires depth { (1 ≤ depth) × (depth ≤ 32) }
-    requires long { length samples.now ≡ channels * block }
+    requires valid { IsAssignment assignment }
+    requires two { 7 < code_of assignment → shape.now.channels ≡ 2 }
+    requires long { length samples.now ≡ shape.now.channels * shape.now.block }
     requires places { length out.old ≡ length samples.now }
     requires small { All (FitsBits 34) samples.now }
-    ensures fits { result ≡ each_fits depth (joined code (chunks channels block samples.now)) }
-    ensures same { result ≡ true → chunks channels block out.new ≡ joined code (chunks channels block samples.now) }
+    ensures fits { result ≡ each_fits shape.now.depth (joined (code_of assignment) (chunks shape.now.channels shape.now.block samples.now)) }
+    ensures same { result ≡ true → chunks shape.now.channels shape.now.block out.new ≡ joined (code_of assignment) (chunks shape.now.channels shape.now.block samples.now) }
 {
-    if code > 7 {
+    let block = shape.block as usize;
+    let depth = shape.depth;
+    if assignment.is_decorrelated() {
         let (first, second) = samples.split_at(block);
         let (left, right) = out.split_at_mut(block);
-        return join_two(code, depth, first, second, left, right);
+        return join_two(assignment, depth, first, second, left, right);
     }
     narrow(samples, depth, out)
 }

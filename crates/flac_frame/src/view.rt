@@ -63,7 +63,7 @@ impl<'a> FrameView<'a> {
         self.number
     }
 
-    /// The samples of channel `i`, counted from 0: [`FrameView::len`] of them.
+    /// The samples of channel `i`, counted from 0 and below [`FrameView::channels`]: [`FrameView::len`] of them.
     pub fn channel(&self, i: usize) -> &'a [i32]
         requires { i < length (frame_of self.now).channels }
         ensures value { result.now ≡ slice_index_or (frame_of self.now).channels i [] }
@@ -73,7 +73,8 @@ impl<'a> FrameView<'a> {
         &self.samples[start..start + self.block]
     }
 
-    /// Sample `i` of a channel, both counted from 0. It has as many bits as STREAMINFO states, at most 32.
+    /// Sample `i` of a channel, both counted from 0: the channel is below [`FrameView::channels`], and `i` below
+    /// [`FrameView::len`]. It has as many bits as STREAMINFO states, at most 32.
     pub fn sample(&self, channel: usize, i: usize) -> i32
         requires channel { channel < length (frame_of self.now).channels }
         requires index { i < (frame_of self.now).size }

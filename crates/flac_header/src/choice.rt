@@ -40,7 +40,7 @@ fn size_code(size: u32) -> Option<u8>
 /// The code of a sample rate in Hz (RFC 9639, section 9.1.2): one that names the rate, or else 12 for multiples of 1000
 /// up to 255000, 13 up to 65535, and 14 for multiples of 10 up to 655350. `None` if there is none, and for 0 Hz.
 #[tactic(auto, unfolding(crate::specs::Choice::rate_choice))]
-pub fn rate_code(rate: u32) -> Option<u8>
+fn rate_code(rate: u32) -> Option<u8>
     ensures code { result ≡ rate_choice rate }
     ensures range { IfSome result (λ c. c < 15) }
     ensures fits { IfSome result (λ c. IsRate c rate) }
@@ -67,7 +67,7 @@ pub fn rate_code(rate: u32) -> Option<u8>
 
 /// The code of 8, 12, 16, 20, 24 or 32 bits per sample (RFC 9639, section 9.1.4); `None` for others.
 #[tactic(auto, unfolding(crate::specs::Choice::depth_choice))]
-pub fn depth_code(depth: u32) -> Option<u8>
+fn depth_code(depth: u32) -> Option<u8>
     ensures code { result ≡ depth_choice depth }
     ensures range { IfSome result (λ c. (c < 8) × (nat_eq c 3 ≡ false)) }
 {
@@ -89,8 +89,9 @@ fn stated_rate(code: u8, rate: u32) -> u32
     if code == 0 { 0 } else { rate }
 }
 
-/// The code of a sample rate in Hz under a profile: that of [`rate_code`], and in [`Profile::Lax`] else 0, which leaves a
-/// rate of 1 to 1048575 Hz to STREAMINFO (RFC 9639, sections 8.2 and 9.1.2). `None` if there is none.
+/// The code of a sample rate in Hz under a profile: one that names the rate, or else 12 for multiples of 1000 up to
+/// 255000, 13 up to 65535, and 14 for multiples of 10 up to 655350; in [`Profile::Lax`] else 0, which leaves a rate of 1
+/// to 1048575 Hz to STREAMINFO (RFC 9639, sections 8.2 and 9.1.2). `None` if there is none, and for 0 Hz.
 #[tactic(auto, unfolding(crate::specs::Choice::rate_choice_in))]
 pub fn rate_code_in(profile: Profile, rate: u32) -> Option<u8>
     ensures code { result ≡ rate_choice_in profile rate }
@@ -109,8 +110,8 @@ pub fn rate_code_in(profile: Profile, rate: u32) -> Option<u8>
     }
 }
 
-/// The code of a number of bits per sample under a profile: that of [`depth_code`], and in [`Profile::Lax`] else 0, which
-/// leaves a depth of 4 to 32 bits to STREAMINFO (RFC 9639, sections 8.2 and 9.1.4). `None` if there is none.
+/// The code of a number of bits per sample under a profile: that of 8, 12, 16, 20, 24 or 32, and in [`Profile::Lax`] else
+/// 0, which leaves a depth of 4 to 32 bits to STREAMINFO (RFC 9639, sections 8.2 and 9.1.4). `None` if there is none.
 #[tactic(auto, unfolding(crate::specs::Choice::depth_choice_in))]
 pub fn depth_code_in(profile: Profile, depth: u32) -> Option<u8>
     ensures code { result ≡ depth_choice_in profile depth }
@@ -131,7 +132,7 @@ pub fn depth_code_in(profile: Profile, depth: u32) -> Option<u8>
 impl FrameHeader {
     /// Makes the header of a frame with a frame number: block size in samples, rate in Hz, channel code 0 to 10
     /// ([`FrameHeader::channel_code`]), bits per sample, and number below 2^31. A code that names a value is preferred
-    /// to one that asks for a field, see [`rate_code`]. `None` if a value has no code or is out of its range.
+    /// to one that asks for a field, see [`rate_code_in`]. `None` if a value has no code or is out of its range.
     ///
     /// ```
     /// // 4096 samples of two independent channels, 16 bits at 44100 Hz, in frame 0

@@ -1,8 +1,10 @@
 //! Frame headers.
 
 ghost use Rattle.std.specs.Prelude.{◌≡◌, ◌≤◌, ◌<◌, ◌^◌, not, nat_eq};
+ghost use Rattle.flac_header.specs.Assignment.{assignment_of, code_of, IsAssignment};
 ghost use Rattle.flac_header.specs.Header.{channels_of, depth_of};
 
+use crate::channel_assignment::{ChannelAssignment, assignment_of};
 use std::marker::Model;
 
 /// The header of a frame, with the codes that state its values (RFC 9639, section 9.1). No code is reserved, and block
@@ -76,6 +78,15 @@ impl FrameHeader {
             code @ 0..=7 => code as u32 + 1,
             _ => 2,
         }
+    }
+
+    /// How the channels are stored (section 9.1.3).
+    pub fn channel_assignment(&self) -> ChannelAssignment
+        ensures assignment { result ≡ assignment_of self.now.channel_code }
+        ensures code { code_of result ≡ self.now.channel_code }
+        ensures valid { IsAssignment result }
+    {
+        assignment_of(self.channel_code)
     }
 
     /// The channel code, 0 to 10 (section 9.1.3). 0 to 7 are one to eight independent channels; the others are

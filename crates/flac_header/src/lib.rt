@@ -2,6 +2,7 @@
 //! 9.1).
 #![tactic(auto)]
 
+mod channel_assignment;
 mod choice;
 mod frame_header;
 mod promises;
@@ -9,7 +10,8 @@ mod read;
 mod subset;
 mod write;
 
-pub use choice::{depth_code, depth_code_in, rate_code, rate_code_in};
+pub use channel_assignment::ChannelAssignment;
+pub use choice::{depth_code_in, rate_code_in};
 pub use frame_header::FrameHeader;
 pub use promises::headers_are_spelled;
 pub use read::read_header;

@@ -1,11 +1,11 @@
 //! The rules of the streamable subset (RFC 9639, section 7).
 
-ghost use Rattle.std.specs.Prelude.{◌≡◌};
-ghost use Rattle.flac_header.specs.Header.{allowed};
+ghost use Rattle.std.specs.Prelude.{◌≡◌, ◌≤◌};
+ghost use Rattle.flac_header.specs.Header.{allowed, greatest_in};
 
 use crate::frame_header::FrameHeader;
 
-/// Which streams a decoder accepts.
+/// Which streams a decoder accepts, and an encoder writes.
 #[derive(Clone, Copy, Debug, PartialEq, Eq)]
 pub enum Profile {
     /// Streams of the streamable subset (RFC 9639, section 7).
@@ -16,12 +16,28 @@ pub enum Profile {
     Lax,
 }
 
+impl Profile {
+    /// The largest block size in samples that the profile allows at a sample rate in Hz: in [`Profile::Subset`] 4608 up to
+    /// 48000 Hz and 16384 above, in [`Profile::Lax`] 65535, the largest that a frame header can state (RFC 9639, sections
+    /// 7 and 9.1.6).
+    pub fn greatest_block(self, rate: u32) -> u32
+        ensures greatest { result ≡ greatest_in self rate }
+        ensures small { result ≤ 65535 }
+    {
+        let subset = if rate <= 48000 { 4608 } else { 16384 };
+        match self {
+            Profile::Subset => subset,
+            Profile::Lax => 65535,
+        }
+    }
+}
+
 /// Whether the streamable subset allows the header (RFC 9639, section 7): it states rate and depth itself, and the
 /// block has at most 16384 samples, or 4608 if the rate is at most 48000 Hz.
 #[tactic(auto, unfolding(crate::specs::Header::allowed))]
 pub fn subset_allows(header: &FrameHeader) -> bool
     ensures { result ≡ allowed Profile.Subset header.now }
 {
-    let longest = if header.rate <= 48000 { 4608 } else { 16384 };
+    let longest = Profile::Subset.greatest_block(header.rate);
     header.rate_code != 0 && header.depth_code != 0 && header.size <= longest
 }

@@ -2,8 +2,8 @@
 
 use flac_bits::{BitReader, BitWriter, Collected, Memory, Why};
 use flac_header::{
-    FrameHeader, Profile, depth_code_in, headers_are_spelled, rate_code_in, read_header,
-    subset_allows, write_header,
+    ChannelAssignment, FrameHeader, Profile, depth_code_in, headers_are_spelled, rate_code_in,
+    read_header, subset_allows, write_header,
 };
 use flac_vectors::bytes_of;
 use std::alloc::Global;
@@ -44,6 +44,7 @@ fn is_variable(header: &FrameHeader) -> bool {
         && subset_allows(header)
         && (header.size(), header.rate(), header.channels()) == (4096, 44100, 1)
         && (header.channel_code(), header.depth(), header.number()) == (0, 16, 4608)
+        && header.channel_assignment() == ChannelAssignment::Independent(1)
 }
 
 #[test]
@@ -214,4 +215,40 @@ fn codes_in_profiles(rt: HostRuntime) {
     assert!(rt; depth_code_in(Profile::Lax, 31) == Some(0));
     assert!(rt; depth_code_in(Profile::Lax, 32) == Some(7));
     assert!(rt; depth_code_in(Profile::Lax, 33).is_none());
+}
+
+/// The code of the channel assignment of a code, and whether it is decorrelated stereo; nothing if the code has none.
+fn assigned(code: u8) -> Option<(u8, bool)> {
+    let assignment = ChannelAssignment::from_code(code)?;
+    Some((assignment.code(), assignment.is_decorrelated()))
+}
+
+/// How the header that is chosen with a channel code says that the channels are stored.
+fn stored(code: u8) -> Option<ChannelAssignment> {
+    let header = FrameHeader::chosen(4096, 44100, code, 16, 0)?;
+    Some(header.channel_assignment())
+}
+
+#[test]
+fn channel_assignments(rt: HostRuntime) {
+    for code in 0..11 {
+        assert!(rt; assigned(code) == Some((code, code > 7)), "{code}");
+        assert!(rt;
+            stored(code) == ChannelAssignment::from_code(code),
+            "{code}"
+        );
+    }
+    assert!(rt; assigned(11).is_none());
+    assert!(rt; stored(0) == Some(ChannelAssignment::Independent(1)));
+    assert!(rt; stored(7) == Some(ChannelAssignment::Independent(8)));
+    assert!(rt; stored(8) == Some(ChannelAssignment::LeftSide));
+    assert!(rt; stored(9) == Some(ChannelAssignment::SideRight));
+    assert!(rt; stored(10) == Some(ChannelAssignment::MidSide));
+}
+
+#[test]
+fn greatest_blocks(rt: HostRuntime) {
+    assert!(rt; Profile::Subset.greatest_block(48000) == 4608);
+    assert!(rt; Profile::Subset.greatest_block(48001) == 16384);
+    assert!(rt; Profile::Lax.greatest_block(48000) == 65535);
 }

@@ -6,6 +6,7 @@ use Rattle.flac_bits.proofs.Telling.{gone_fault}
 use Rattle.std.proofs.lemmas.List.{take_all}
 use Rattle.std.proofs.lemmas.Result.{err_from_is_err_and}
 use Rattle.flac_bits.specs.Signed.{FitsBits}
+use Rattle.flac_header.specs.Assignment.{code_of}
 use Rattle.flac_frame.specs.Frame.{subframes}
 use Rattle.flac_frame.specs.View.{chunks}
 use Rattle.flac_frame.proofs.Subframes.{turn, subframes_more, subframes_over, part_ends, both_true, both_false, all_more}
@@ -22,19 +23,19 @@ never false e f = absurd cc
 pub returns-clause-reads : goal.returns-clause-reads
 returns-clause-reads g c = λ known same.
     let l = c.loop-channel in
-    let e : l.channel ≡ c.args.channels = omega (arith, c.loop-channel-test.false, l.auto.channel-end) in
-    sym (l.invariant.2.reads known) ∙ subframes_over c.args.depth c.args.code c.args.block c.args.limits.now (cond l.fits (Some (chunks l.channel c.args.block l.samples)) None) l.channel c.args.channels l.bits.cursor (omega (arith, c.loop-channel-test.false))
-    ∙ ap (λ k. okay (cond l.fits (Some (chunks k c.args.block l.samples)) None, l.bits.cursor)) e
+    let e : l.channel ≡ c.args.shape.now.channels = omega (arith, c.loop-channel-test.false, l.auto.channel-end) in
+    sym (l.invariant.2.reads known) ∙ subframes_over c.args.shape.now.depth (code_of c.args.assignment) c.args.shape.now.block c.args.shape.now.limits (cond l.fits (Some (chunks l.channel c.args.shape.now.block l.samples)) None) l.channel c.args.shape.now.channels l.bits.cursor (omega (arith, c.loop-channel-test.false))
+    ∙ ap (λ k. okay (cond l.fits (Some (chunks k c.args.shape.now.block l.samples)) None, l.bits.cursor)) e
 
 pub loop-channel-preserved : goal.loop-channel-preserved
 loop-channel-preserved g c =
     let l = c.loop-channel in
-    let long : length l.samples ≡ c.args.channels * c.args.block = omega (arith, l.auto.samples, c.requires.places) in
-    let own : length c.subframe_here.new.samples ≡ c.args.block = omega (arith, c.subframe_here.auto.samples) in
-    let next = turn c.args.bits.now l.bits c.subframe_here.new.bits c.args.depth c.args.code c.args.block c.args.limits.now l.fits c.in_ok-subframe_here.field-0 c.if-not-branch.fits l.channel c.args.channels l.samples c.subframe_here.new.samples
-    (run (subframes c.args.depth c.args.code c.args.block c.args.limits.now (Some []) 0 c.args.channels) c.args.bits.now.cursor) l.invariant.2 c.loop-channel-test.true long own in
+    let long : length l.samples ≡ c.args.shape.now.channels * c.args.shape.now.block = omega (arith, l.auto.samples, c.requires.places) in
+    let own : length c.subframe_here.new.samples ≡ c.args.shape.now.block = omega (arith, c.subframe_here.auto.samples) in
+    let next = turn c.args.bits.now l.bits c.subframe_here.new.bits c.args.shape.now.depth (code_of c.args.assignment) c.args.shape.now.block c.args.shape.now.limits l.fits c.in_ok-subframe_here.field-0 c.if-not-branch.fits l.channel c.args.shape.now.channels l.samples c.subframe_here.new.samples
+    (run (subframes c.args.shape.now.depth (code_of c.args.assignment) c.args.shape.now.block c.args.shape.now.limits (Some []) 0 c.args.shape.now.channels) c.args.bits.now.cursor) l.invariant.2 c.loop-channel-test.true long own in
     let reads = rw c.side_bit.ensures.bit at c.in_ok-subframe_here.ensures.reads in
-    let within : l.channel * c.args.block ≤ length l.samples = omega (arith, long, part_ends l.channel c.args.channels c.args.block c.loop-channel-test.true) in
+    let within : l.channel * c.args.shape.now.block ≤ length l.samples = omega (arith, long, part_ends l.channel c.args.shape.now.channels c.args.shape.now.block c.loop-channel-test.true) in
     elim c.if-not-branch.branch [
       | then-not-branch w ↦ (
         omega (arith, c.in_ok-subframe_here.ensures.spends, l.invariant.0),
@@ -43,7 +44,7 @@ loop-channel-preserved g c =
       )
       | else-not-branch w ↦ (
         omega (arith, c.in_ok-subframe_here.ensures.spends, l.invariant.0),
-        λ yes. all_more (FitsBits 34) l.channel c.args.block l.samples c.subframe_here.new.samples within own (l.invariant.1 (sym w.fits-is ∙ yes)) (c.in_ok-subframe_here.ensures.small w.if-not-branch.false),
+        λ yes. all_more (FitsBits 34) l.channel c.args.shape.now.block l.samples c.subframe_here.new.samples within own (l.invariant.1 (sym w.fits-is ∙ yes)) (c.in_ok-subframe_here.ensures.small w.if-not-branch.false),
         next (both_true l.fits c.if-not-branch.fits c.in_ok-subframe_here.field-0 w.fits-is w.if-not-branch.false) c.in_ok-subframe_here.ensures.counts reads,
       )
     ]
@@ -51,10 +52,10 @@ loop-channel-preserved g c =
 pub returns-clause-small : goal.returns-clause-small
 returns-clause-small g c = λ yes.
     let l = c.loop-channel in
-    let e : l.channel ≡ c.args.channels = omega (arith, c.loop-channel-test.false, l.auto.channel-end) in
-    let long : length l.samples ≡ c.args.channels * c.args.block = omega (arith, l.auto.samples, c.requires.places) in
-    let all : length l.samples ≡ l.channel * c.args.block = long ∙ ap (λ k. k * c.args.block) (sym e) in
-    subst (All (FitsBits 34)) (take_all (l.channel * c.args.block) l.samples (omega (arith, all))) (l.invariant.1 yes)
+    let e : l.channel ≡ c.args.shape.now.channels = omega (arith, c.loop-channel-test.false, l.auto.channel-end) in
+    let long : length l.samples ≡ c.args.shape.now.channels * c.args.shape.now.block = omega (arith, l.auto.samples, c.requires.places) in
+    let all : length l.samples ≡ l.channel * c.args.shape.now.block = long ∙ ap (λ k. k * c.args.shape.now.block) (sym e) in
+    subst (All (FitsBits 34)) (take_all (l.channel * c.args.shape.now.block) l.samples (omega (arith, all))) (l.invariant.1 yes)
 
 pub returns-in_err-subframe_here-clause-counts : goal.returns-in_err-subframe_here-clause-counts
 returns-in_err-subframe_here-clause-counts g c =
@@ -67,7 +68,7 @@ returns-in_err-subframe_here-clause-reads g c =
     let l = c.loop-channel in
     let reads = rw c.side_bit.ensures.bit at c.in_err-subframe_here.ensures.reads in
     rw (p.1, p.2) (gone_fault c.args.bits.now l.bits c.subframe_here.new.bits _ l.invariant.2
-    (subframes_more c.args.depth c.args.code c.args.block c.args.limits.now (cond l.fits (Some (chunks l.channel c.args.block l.samples)) None) l.channel c.args.channels l.bits.cursor c.loop-channel-test.true) reads)
+    (subframes_more c.args.shape.now.depth (code_of c.args.assignment) c.args.shape.now.block c.args.shape.now.limits (cond l.fits (Some (chunks l.channel c.args.shape.now.block l.samples)) None) l.channel c.args.shape.now.channels l.bits.cursor c.loop-channel-test.true) reads)
 
 pub returns-clause-counts : goal.returns-clause-counts
 returns-clause-counts g c = gone c.loop-channel.invariant.2

@@ -3,8 +3,6 @@ use Rattle.std.proofs.lemmas.List.{length-map, length-take-le, take_all}
 use Rattle.std.proofs.lemmas.List.Elements.{All-set}
 use Rattle.std.proofs.lemmas.Nat.{mul-le}
 use Rattle.flac_bits.specs.Signed.{FitsBits}
-use Rattle.flac_subframe.specs.Family.{form_in}
-use Rattle.flac_subframe.specs.Handed.{AreWithin}
 use Rattle.flac_subframe.specs.Spelling.{subframe_spelling}
 use Rattle.flac_subframe.specs.declared.wide.WideChoice.{WideChoice}
 use Rattle.flac_frame.specs.Chosen.{forms_of}
@@ -12,8 +10,8 @@ use Rattle.flac_frame.specs.inner.Chosen.{AreChosen}
 use Rattle.flac_frame.specs.Encoding.{block_of, partition_limit}
 use Rattle.flac_frame.proofs.Chosen.{FirstChosen, none_chosen, one_chosen, all_chosen}
 use Rattle.flac_frame.proofs.Encoded.{block_more}
-use Rattle.flac_frame.proofs.Frames.{few_channels, one_long, one_fits, bits_small}
-use Rattle.flac_frame.proofs.Rooms.{few_of, wide_for, wide_still, limits_are, partition_is, chosen_of}
+use Rattle.flac_frame.proofs.Frames.{one_long, one_fits, bits_small}
+use Rattle.flac_frame.proofs.Rooms.{few_of, wide_for, wide_still}
 use Rattle.flac_frame.proofs.Short.{one_short}
 use Rattle.flac_frame.proofs.Sounds.{limit_few}
 use Rattle.flac_frame.proofs.encode.choose_channels.Goals as goal
@@ -25,33 +23,26 @@ part_of-requires c =
     let long = one_long (λ v. v.items) c.channels-channels.result.now s.audio.now e.sound e.items s.start s.size c.loop-i.i c.index-channels-i.result s.within c.loop-i-test.true c.index-channels-i.is in
     omega (arith, long, ap (λ (l : List ℤ). length l) c.deref.ensures.value)
 
-pub choose_in-requires-clause-depth : goal.choose_in-requires-clause-depth
-choose_in-requires-clause-depth c =
+pub choose_plane-requires-clause-depth : goal.choose_plane-requires-clause-depth
+choose_plane-requires-clause-depth c =
     let e = c.channels-channels.ensures in
     let deep = bits_small (λ v. v.items) c.channels-channels.result.now c.args.subject.now.audio.now e.sound e.items c.bits-depth.result c.bits-depth.ensures in
     (deep.0, few_of c.bits-depth.result 32 33 deep.1 (omega arith))
 
-pub choose_in-requires-clause-fits : goal.choose_in-requires-clause-fits
-choose_in-requires-clause-fits c =
+pub choose_plane-requires-clause-fits : goal.choose_plane-requires-clause-fits
+choose_plane-requires-clause-fits c =
     let e = c.channels-channels.ensures in
     let s = c.args.subject.now in
     let so : c.widen.new.out ≡ take s.size (drop s.start c.index-channels-i.result.items) = c.widen.ensures ∙ c.part_of.ensures.part ∙ ap (λ (l : List ℤ). take s.size (drop s.start l)) c.deref.ensures.value in
     subst (All (FitsBits c.bits-depth.result)) (sym so) (one_fits (λ v. v.items) c.channels-channels.result.now s.audio.now e.sound e.items s.start s.size c.loop-i.i c.bits-depth.result c.index-channels-i.result c.bits-depth.ensures c.loop-i-test.true c.index-channels-i.is)
 
-pub choose_in-requires-clause-places : goal.choose_in-requires-clause-places
-choose_in-requires-clause-places c =
+pub choose_plane-requires-clause-places : goal.choose_plane-requires-clause-places
+choose_plane-requires-clause-places c =
     let a = c.args.subject.now.audio.now in
-    let few = few_channels (λ v. v.items) c.channels-channels.result.now a c.channels-channels.ensures.sound c.channels-channels.ensures.items in
     let many = length-map c.channels-channels.result.now (λ v. v.items) in
     let same = ap (λ (l : List (List ℤ)). length l) c.channels-channels.ensures.items in
     let lt : c.loop-i.i < length c.loop-i.subframes = omega (arith, c.loop-i-test.true, c.requires.choices, c.loop-i.auto.subframes, many, same) in
-    let is = partition_is c.profile.result a.profile c.rate.result a.rate c.limits_at-limits.result c.limits_at-limits.ensures.limits c.profile.ensures c.rate.ensures in
-    wide_for c.limits_at-limits.result.partition c.args.workspace.now.most _ (omega (arith, is, c.requires.partition)) (c.loop-i.invariant.wide c.loop-i.i c.index-subframes-i.result lt)
-
-pub choose_in-requires-clause-orders : goal.choose_in-requires-clause-orders
-choose_in-requires-clause-orders c =
-    let a = c.args.subject.now.audio.now in
-    subst (λ l. AreWithin l.linear c.args.subject.now.predictors.now) (sym (limits_are c.profile.result a.profile c.rate.result a.rate c.limits_at-limits.result c.limits_at-limits.ensures.limits c.profile.ensures c.rate.ensures)) c.requires.orders
+    wide_for (partition_limit a) c.args.workspace.now.most _ c.requires.partition (c.loop-i.invariant.wide c.loop-i.i c.index-subframes-i.result lt)
 
 pub loop-i-init : goal.loop-i-init
 loop-i-init c = record {
@@ -82,12 +73,11 @@ loop-i-preserved c =
     let xs = c.channels-channels.result.now in
     let x = c.index-channels-i.result in
     let s = c.widen.new.out in
-    let y = c.choose_in.new.choice in
+    let y = c.choose_plane.new.choice in
     let deep = bits_small items xs a w.sound w.items depth c.bits-depth.ensures in
     let so : s ≡ take size (drop start x.items) = c.widen.ensures ∙ c.part_of.ensures.part ∙ ap (λ (l : List ℤ). take size (drop start l)) c.deref.ensures.value in
-    let e = c.choose_in.ensures in
-    let is_most = partition_is c.profile.result a.profile c.rate.result a.rate c.limits_at-limits.result c.limits_at-limits.ensures.limits c.profile.ensures c.rate.ensures in
-    let k = chosen_of most ps depth s (form_in ps y s) y.bits c.limits_at-limits.result is_most e.least e.bits e.valid e.restored in
+    let e = c.choose_plane.ensures in
+    let k = e.chosen in
     let block = block_of start size (map items (take i xs)) in
     let long : length s ≡ size = omega (arith, c.widen.auto.out, c.loop-i.auto.samples, c.requires.size) in
     let many : length xs ≡ length a.channels = sym (length-map xs items) ∙ ap (λ (l : List (List ℤ)). length l) w.items in

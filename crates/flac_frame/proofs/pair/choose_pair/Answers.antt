@@ -4,6 +4,7 @@ use Rattle.std.specs.Vec.{with_items}
 use Rattle.flac_bits.specs.Signed.{FitsBits}
 use Rattle.flac_subframe.specs.declared.wide.WideChoice.{WideChoice}
 use Rattle.flac_frame.specs.declared.frame_choice.FrameChoice.{FrameChoice}
+use Rattle.flac_header.specs.Assignment.{code_of}
 use Rattle.flac_frame.specs.Chosen.{AllWide}
 use Rattle.flac_frame.specs.Encoding.{block_of, partition_limit}
 use Rattle.flac_frame.specs.inner.Pair.{ArePlanes}
@@ -32,29 +33,29 @@ returns-clause-chosen c =
     let s = c.split_pair in
     let a = c.args.subject.now.audio.now in
     let n : ℕ = c.args.subject.now.size in
-    let k = c.choose_planes-code in
+    let k = c.choose_planes-assignment in
     let old = c.deref_mut.result.now in
-    let made : FrameChoice = record { code = k.result.0; bits = k.result.1; subframes = with_items c.args.choice.now.subframes c.keep.new.places } in
+    let made : FrameChoice = record { code = c.code-code.result; bits = k.result.1; subframes = with_items c.args.choice.now.subframes c.keep.new.places } in
     let back : made.subframes.items ≡ c.keep.new.places = with_items_is c.args.choice.now.subframes c.keep.new.places (c.keep.auto.places ∙ ap length c.deref_mut.ensures.value ∙ sym c.args.choice.now.subframes.ok.0) in
     let planes = subst (λ b. ArePlanes (partition_limit a) c.args.subject.now.predictors.now b s.new.left s.new.right k.new.choices) c.bits-depth.ensures k.ensures.planes in
     let long : length s.new.left ≡ n = omega (arith, s.auto.left, c.split_at_mut-left.ensures.front_len) in
     let right_long : length s.new.right ≡ length s.new.left = omega (arith, s.auto.left, s.auto.right, c.split_at_mut-left.ensures.front_len, c.split_at_mut-right.ensures.front_len) in
     let front : length c.split_at_mut-left.result.0.now ≡ n = c.split_at_mut-left.ensures.front_len in
     let block : s.new.left ∷ s.new.right ∷ [] ≡ block_of c.args.subject.now.start n a.channels = s.ensures.block ∙ ap (λ (m : ℕ). block_of c.args.subject.now.start m a.channels) front in
-    pair_choice c.args.subject.now.predictors.now a c.args.subject.now.number n s.new.left s.new.right (block_of c.args.subject.now.start n a.channels) k.new.choices k.result.0 planes k.ensures.best c.channels-channels.ensures.sound c.requires.orders
+    pair_choice c.args.subject.now.predictors.now a c.args.subject.now.number n s.new.left s.new.right (block_of c.args.subject.now.start n a.channels) k.new.choices (code_of k.result.0) planes k.ensures.best c.channels-channels.ensures.sound c.requires.orders
     (omega (arith, c.args.subject.now.some)) c.args.subject.now.few long right_long s.ensures.left_fits s.ensures.right_fits block
-    c.profile.result c.rate.result c.bits-depth.result c.chosen_in-header.result c.profile.ensures c.rate.ensures c.bits-depth.ensures c.chosen_in-header.ensures.chosen c.chosen_in-header.ensures.valid c.requires.number
-    made old (omega (arith, c.requires.choices.many, ap length c.deref_mut.ensures.value)) refl (back ∙ c.keep.ensures.kept) k.ensures.bits
+    c.profile.result c.rate.result c.bits-depth.result c.chosen_in-header.result c.profile.ensures c.rate.ensures c.bits-depth.ensures (rw c.code-code.ensures.code at c.chosen_in-header.ensures.chosen) c.chosen_in-header.ensures.valid c.requires.number
+    made old (omega (arith, c.requires.choices.many, ap length c.deref_mut.ensures.value)) c.code-code.ensures.code (back ∙ c.keep.ensures.kept) k.ensures.bits
 
 pub returns-clause-wide : goal.returns-clause-wide
-returns-clause-wide c = (c.keep.ensures.wide c.args.workspace.now.most c.choose_planes-code.ensures.wide (subst (λ l. AllWide c.args.workspace.now.most l) (sym c.deref_mut.ensures.value) c.requires.choices.wide)).0
+returns-clause-wide c = (c.keep.ensures.wide c.args.workspace.now.most c.choose_planes-assignment.ensures.wide (subst (λ l. AllWide c.args.workspace.now.most l) (sym c.deref_mut.ensures.value) c.requires.choices.wide)).0
 
 pub returns-clause-choices : goal.returns-clause-choices
 returns-clause-choices c =
     let most : ℕ = c.args.workspace.now.most in
-    let made : FrameChoice = record { code = c.choose_planes-code.result.0; bits = c.choose_planes-code.result.1; subframes = with_items c.args.choice.now.subframes c.keep.new.places } in
+    let made : FrameChoice = record { code = c.code-code.result; bits = c.choose_planes-assignment.result.1; subframes = with_items c.args.choice.now.subframes c.keep.new.places } in
     let back : made.subframes.items ≡ c.keep.new.places = with_items_is c.args.choice.now.subframes c.keep.new.places (c.keep.auto.places ∙ ap length c.deref_mut.ensures.value ∙ sym c.args.choice.now.subframes.ok.0) in
-    let wide = (c.keep.ensures.wide most c.choose_planes-code.ensures.wide (subst (λ l. AllWide most l) (sym c.deref_mut.ensures.value) c.requires.choices.wide)).1 in
+    let wide = (c.keep.ensures.wide most c.choose_planes-assignment.ensures.wide (subst (λ l. AllWide most l) (sym c.deref_mut.ensures.value) c.requires.choices.wide)).1 in
     record {
       many = omega (arith, c.requires.choices.many, ap length back, c.keep.auto.places, ap length c.deref_mut.ensures.value);
       wide = subst (λ (l : List WideChoice). AllWide most l) (sym back) wide;

@@ -1,5 +1,6 @@
 use Rattle.std.proofs.Common.{◌≡◌, ◌∙◌, ap, subst, sym, ℕ, ℤ, List, [], ◌∷◌, length, take, drop, All, arith}
 use Rattle.flac_bits.specs.Signed.{FitsBits}
+use Rattle.flac_header.specs.Assignment.{code_of}
 use Rattle.flac_frame.specs.Stereo.{kept_as}
 use Rattle.flac_frame.proofs.Frames.{two_blocks, part_small}
 use Rattle.flac_frame.proofs.Sounds.{depth_small}
@@ -13,7 +14,7 @@ returns-clause-kept c =
     let right : c.part_of-right.result.now ≡ take n (drop c.args.start c.index-channels-1.result.items) = c.part_of-right.ensures.part ∙ ap (λ k. take n (drop c.args.start k)) c.deref-2.ensures.value in
     let block = two_blocks (λ v. v.items) c.channels-channels.result.now c.args.audio.now e.sound e.items c.args.start n c.index-channels-0.result c.index-channels-1.result c.requires.two c.index-channels-0.is c.index-channels-1.is in
     let both = ap (λ (k : List ℤ). k ∷ c.part_of-right.result.now ∷ []) left ∙ ap (λ (k : List ℤ). take n (drop c.args.start c.index-channels-0.result.items) ∷ k ∷ []) right ∙ block in
-    ap (λ k. kept_as c.args.code k) (sym both) ∙ c.put_kept.ensures.kept
+    ap (λ k. kept_as (code_of c.args.assignment) k) (sym both) ∙ c.put_kept.ensures.kept
 
 pub returns-clause-first_fits : goal.returns-clause-first_fits
 returns-clause-first_fits c =

@@ -1,8 +1,9 @@
-use Rattle.std.proofs.Common.{[], ◌∷◌, sym, subst, arith}
+use Rattle.std.proofs.Common.{[], ◌∷◌, ◌∙◌, ap, sym, subst, arith}
 use Rattle.std.proofs.lemmas.Result.{err_from_is_err_and}
 use Rattle.flac_bits.specs.Written.{Writes}
 use Rattle.flac_bits.proofs.Writing.{fails_first, writes_then}
 use Rattle.flac_frame.specs.Chosen.{AreMade}
+use Rattle.flac_frame.specs.Frame.{side_bit}
 use Rattle.flac_frame.proofs.Chosen.{first_made, second_made, pair_texts}
 use Rattle.flac_frame.proofs.Encoded.{failed}
 use Rattle.flac_frame.proofs.Sounds.{depth_small}
@@ -41,13 +42,15 @@ write_subframe_in-requires-2-clause-made g c =
 pub returns-in_err-write_subframe_in-clause-text : goal.returns-in_err-write_subframe_in-clause-text
 returns-in_err-write_subframe_in-clause-text g c =
     let p = err_from_is_err_and c.from_residual.result c.from_residual.ensures.1 in
+    let is = c.assignment-assignment.ensures.code in
     let texts = pair_texts c.args.subject.now.predictors.now c.args.subject.now.audio.now.bits c.bits-depth.result c.args.choice.now.code c.side_bit.result c.side_bit-2.result c.args.choice.now.subframes.items c.as_slice-subframes.result.now
-    c.index-subframes-0.result c.index-subframes-1.result c.args.first.now c.args.second.now c.bits-depth.ensures c.as_slice-subframes.ensures.value c.requires.choices c.index-subframes-0.is c.index-subframes-1.is c.side_bit.ensures.bit c.side_bit-2.ensures.bit in
+    c.index-subframes-0.result c.index-subframes-1.result c.args.first.now c.args.second.now c.bits-depth.ensures c.as_slice-subframes.ensures.value c.requires.choices c.index-subframes-0.is c.index-subframes-1.is (c.side_bit.ensures.bit ∙ ap (λ k. side_bit k 0) is) (c.side_bit-2.ensures.bit ∙ ap (λ k. side_bit k 1) is) in
     rw (p.1, p.2) (subst (λ t. Writes t c.args.writer.now c.write_subframe_in.new.writer (failed c.in_err-write_subframe_in.field-0.0)) texts (fails_first _ _ c.in_err-write_subframe_in.ensures.text))
 
 pub returns-clause-text : goal.returns-clause-text
 returns-clause-text g c =
+    let is = c.assignment-assignment.ensures.code in
     let texts = pair_texts c.args.subject.now.predictors.now c.args.subject.now.audio.now.bits c.bits-depth.result c.args.choice.now.code c.side_bit.result c.side_bit-2.result c.args.choice.now.subframes.items c.as_slice-subframes.result.now
-    c.index-subframes-0.result c.index-subframes-1.result c.args.first.now c.args.second.now c.bits-depth.ensures c.as_slice-subframes.ensures.value c.requires.choices c.index-subframes-0.is c.index-subframes-1.is c.side_bit.ensures.bit c.side_bit-2.ensures.bit in
+    c.index-subframes-0.result c.index-subframes-1.result c.args.first.now c.args.second.now c.bits-depth.ensures c.as_slice-subframes.ensures.value c.requires.choices c.index-subframes-0.is c.index-subframes-1.is (c.side_bit.ensures.bit ∙ ap (λ k. side_bit k 0) is) (c.side_bit-2.ensures.bit ∙ ap (λ k. side_bit k 1) is) in
     subst (λ t. Writes t c.args.writer.now c.write_subframe_in-2.new.writer c.write_subframe_in-2.result) texts
     (writes_then _ c.write_subframe_in-2.new.writer c.write_subframe_in-2.result c.in_ok-write_subframe_in.ensures.text c.write_subframe_in-2.ensures.text)

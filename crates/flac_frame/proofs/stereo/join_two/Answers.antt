@@ -4,6 +4,7 @@ use Rattle.std.specs.Simd.Lanes.{zip2}
 use Rattle.std.proofs.lemmas.Int.{to_z-of_z}
 use Rattle.std.proofs.lemmas.List.{take_all}
 use Rattle.std.proofs.lemmas.Simd.{length-zip2}
+use Rattle.flac_header.specs.Assignment.{code_of}
 use Rattle.flac_subframe.specs.Numbers.{fits}
 use Rattle.flac_frame.specs.Stereo.{left_of, right_of}
 use Rattle.flac_frame.proofs.Depths.{fit_less, side_more, none_left, none_both, judged}
@@ -19,12 +20,12 @@ loop-i-preserved c =
     let few = c.requires.depth.1 in
     let a = c.args.first.now in
     let b = c.args.second.now in
-    let lefts = zip2 (left_of c.args.code) a b in
-    let rights = zip2 (right_of c.args.code) a b in
+    let lefts = zip2 (left_of (code_of c.args.assignment)) a b in
+    let rights = zip2 (right_of (code_of c.args.assignment)) a b in
     let long = c.requires.long in
     let lt = c.loop-i-test.true in
-    let left_long : length lefts ≡ length a = length-zip2 (left_of c.args.code) a b (sym long) in
-    let right_long : length rights ≡ length a = length-zip2 (right_of c.args.code) a b (sym long) in
+    let left_long : length lefts ≡ length a = length-zip2 (left_of (code_of c.args.assignment)) a b (sym long) in
+    let right_long : length rights ≡ length a = length-zip2 (right_of (code_of c.args.assignment)) a b (sym long) in
     let p : ℤ = get_or a i (pos 0) in
     let q : ℤ = get_or b i (pos 0) in
     let pf : SFits w64 p = search rules in
@@ -37,8 +38,8 @@ loop-i-preserved c =
     let vf : SFits w64 v = search rules in
     let us : to_z w64 (of_z w64 u) ≡ u = to_z-of_z w64 u uf in
     let vs : to_z w64 (of_z w64 v) ≡ v = to_z-of_z w64 v vf in
-    let u_is : u ≡ get_or lefts i (pos 0) = (rw (ps, qs) at c.join_samples-joined_left.ensures.left) ∙ sym (zip_at (left_of c.args.code) a b i long lt) in
-    let v_is : v ≡ get_or rights i (pos 0) = (rw (ps, qs) at c.join_samples-joined_left.ensures.right) ∙ sym (zip_at (right_of c.args.code) a b i long lt) in
+    let u_is : u ≡ get_or lefts i (pos 0) = (rw (ps, qs) at c.join_samples-joined_left.ensures.left) ∙ sym (zip_at (left_of (code_of c.args.assignment)) a b i long lt) in
+    let v_is : v ≡ get_or rights i (pos 0) = (rw (ps, qs) at c.join_samples-joined_left.ensures.right) ∙ sym (zip_at (right_of (code_of c.args.assignment)) a b i long lt) in
     let e = c.excess-over.result in
     let f = c.excess-above.result in
     let good_left : e ≡ 0 → fits depth u ≡ true = λ h. ap (fits depth) (sym us) ∙ c.excess-over.ensures.none h in
@@ -67,10 +68,10 @@ returns-clause-fits c =
     let l = c.loop-i in
     let a = c.args.first.now in
     let b = c.args.second.now in
-    let lefts = zip2 (left_of c.args.code) a b in
-    let rights = zip2 (right_of c.args.code) a b in
-    let left_long : length lefts ≡ length a = length-zip2 (left_of c.args.code) a b (sym c.requires.long) in
-    let right_long : length rights ≡ length a = length-zip2 (right_of c.args.code) a b (sym c.requires.long) in
+    let lefts = zip2 (left_of (code_of c.args.assignment)) a b in
+    let rights = zip2 (right_of (code_of c.args.assignment)) a b in
+    let left_long : length lefts ≡ length a = length-zip2 (left_of (code_of c.args.assignment)) a b (sym c.requires.long) in
+    let right_long : length rights ≡ length a = length-zip2 (right_of (code_of c.args.assignment)) a b (sym c.requires.long) in
     let left_all = take_all l.i lefts (omega (arith, left_long, c.loop-i-test.false)) in
     let right_all = take_all l.i rights (omega (arith, right_long, c.loop-i-test.false)) in
     let none = rw (left_all, right_all) at l.invariant.none in
@@ -82,8 +83,8 @@ returns-clause-left c = λ t.
     let l = c.loop-i in
     let a = c.args.first.now in
     let b = c.args.second.now in
-    let lefts = zip2 (left_of c.args.code) a b in
-    let left_long : length lefts ≡ length a = length-zip2 (left_of c.args.code) a b (sym c.requires.long) in
+    let lefts = zip2 (left_of (code_of c.args.assignment)) a b in
+    let left_long : length lefts ≡ length a = length-zip2 (left_of (code_of c.args.assignment)) a b (sym c.requires.long) in
     let z : l.wrong ≡ 0 = search rules in
     sym (take_all l.i l.left (omega (arith, l.auto.left, c.requires.lefts, c.loop-i-test.false))) ∙ l.invariant.left z ∙ take_all l.i lefts (omega (arith, left_long, c.loop-i-test.false))
 
@@ -92,7 +93,7 @@ returns-clause-right c = λ t.
     let l = c.loop-i in
     let a = c.args.first.now in
     let b = c.args.second.now in
-    let rights = zip2 (right_of c.args.code) a b in
-    let right_long : length rights ≡ length a = length-zip2 (right_of c.args.code) a b (sym c.requires.long) in
+    let rights = zip2 (right_of (code_of c.args.assignment)) a b in
+    let right_long : length rights ≡ length a = length-zip2 (right_of (code_of c.args.assignment)) a b (sym c.requires.long) in
     let z : l.wrong ≡ 0 = search rules in
     sym (take_all l.i l.right (omega (arith, l.auto.right, c.requires.rights, c.loop-i-test.false))) ∙ l.invariant.right z ∙ take_all l.i rights (omega (arith, right_long, c.loop-i-test.false))
