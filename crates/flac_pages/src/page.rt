@@ -1,5 +1,17 @@
 //! The fixed fields of a page (RFC 3533, section 6).
 
+ghost use Rattle.std.specs.Prelude.{◌≡◌};
+ghost use Rattle.flac_pages.specs.Page.{is_continued, is_first, is_last};
+
+/// The flag of a page that begins inside a packet.
+pub(crate) const CONTINUED: u8 = 1;
+
+/// The flag of the first page of a stream.
+pub(crate) const FIRST: u8 = 2;
+
+/// The flag of the last page of a stream.
+pub(crate) const LAST: u8 = 4;
+
 /// The fixed fields of a page (RFC 3533, section 6).
 #[derive(Clone, Copy, Debug, PartialEq, Eq)]
 pub struct Head {
@@ -14,6 +26,29 @@ pub struct Head {
     pub sequence: u32,
     /// The checksum of the whole page, in which it counts as 0 itself.
     pub sum: u32,
+}
+
+impl Head {
+    /// Whether the page begins inside a packet.
+    pub(crate) fn is_continued(self) -> bool
+        ensures { result ≡ is_continued self.flags }
+    {
+        self.flags / CONTINUED % 2 == 1
+    }
+
+    /// Whether it is marked as the first page of its stream.
+    pub(crate) fn is_first(self) -> bool
+        ensures { result ≡ is_first self.flags }
+    {
+        self.flags / FIRST % 2 == 1
+    }
+
+    /// Whether it is marked as the last page of its stream.
+    pub(crate) fn is_last(self) -> bool
+        ensures { result ≡ is_last self.flags }
+    {
+        self.flags / LAST % 2 == 1
+    }
 }
 
 /// What the next page must agree with, of the pages before it.

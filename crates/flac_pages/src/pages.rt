@@ -190,7 +190,7 @@ impl<R: Source> Pages<R> {
                     sequence: head.sequence,
                     goes_on,
                 });
-                self.last = head.flags / 4 % 2 == 1;
+                self.last = head.is_last();
                 self.next = 0;
                 self.at = 0;
                 self.count = self.count.saturating_add(1);

@@ -119,8 +119,8 @@ impl PageRoom {
         if head.sum != self.sum() {
             return Some(Why::PageCheck);
         }
-        let first = head.flags / 2 % 2 == 1;
-        let continued = head.flags % 2 == 1;
+        let first = head.is_first();
+        let continued = head.is_continued();
         let count = self.count();
         let bytes = self.body().len();
         match before {

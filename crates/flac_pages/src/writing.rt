@@ -7,7 +7,7 @@ ghost use Rattle.flac_pages.specs.Packets.{lacing_of};
 ghost use Rattle.flac_pages.specs.Placed.{AreInOrder, placed_in, stream_spelling};
 ghost use Rattle.flac_pages.specs.Written.{granule_at, summed, head_at, packet_spelling};
 
-use crate::page::Head;
+use crate::page::{CONTINUED, FIRST, Head, LAST};
 use flac_bits::{BitWriter, Target, Why, crc32_sum};
 
 /// The most bytes that a page can have: 255 segments of 255 bytes.
@@ -111,11 +111,11 @@ fn head_of(marks: PacketMarks, last: usize, page: usize) -> Head
     ensures { result ≡ head_at marks last page }
 {
     let begins = if page == 0 {
-        if marks.first { 2 } else { 0 }
+        if marks.first { FIRST } else { 0 }
     } else {
-        1
+        CONTINUED
     };
-    let ends = if page == last && marks.last { 4 } else { 0 };
+    let ends = if page == last && marks.last { LAST } else { 0 };
     Head {
         flags: begins + ends,
         granule: marks.kind.granule(page == last),
