@@ -25,7 +25,7 @@ use flac_bits::{BitWriter, Collected, Target, Why, send_all};
 use flac_frame::{Audio, EncodeBuffers};
 use flac_meta::{Block, BlockList, StreamInfo, write_block};
 use flac_native::{ChosenFrames, EncodeFault, Plan, Room};
-use flac_pages::{PacketKind, PacketMarks, write_packet};
+use flac_pages::{MOST_BODY, MOST_PAGE, PacketKind, PacketMarks, write_packet};
 use std::alloc::Global;
 
 /// Whether the first block is a Vorbis comment.
@@ -193,14 +193,14 @@ pub fn encode_ogg<W: Target>(
     }
 }
 
-/// A place for the pages of a packet of `packet` bytes, each of at most 65307 bytes (RFC 3533, section 6). Its only
-/// error is `Memory`: an allocation failed.
+/// A place for the pages of a packet of `packet` bytes, of which each but the last is as long as a page can be (RFC
+/// 3533, sections 5 and 6). Its only error is `Memory`: an allocation failed.
 pub(crate) fn page_room(alloc: Global, packet: u32) -> Result<Room, Why>
     requires { packet ≤ 16777215 }
     ensures places { IfOk result (λ room. 65307 * (packet / 65025 + 1) ≤ room.places) }
     ensures memory { IfErr result (λ e. e ≡ Why.Memory) }
 {
-    Room::new(alloc, 65307 * (packet as usize / 65025 + 1))
+    Room::new(alloc, MOST_PAGE * (packet as usize / MOST_BODY + 1))
 }
 
 /// Writes the pages of a packet, and sends what the writer holds. Returns the number of the page after them.

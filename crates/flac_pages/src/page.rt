@@ -3,6 +3,12 @@
 ghost use Rattle.std.specs.Prelude.{◌≡◌};
 ghost use Rattle.flac_pages.specs.Page.{is_continued, is_first, is_last};
 
+/// The most bytes that the segments of a page have: 255 of 255 bytes (RFC 3533, section 6).
+pub const MOST_BODY: usize = 65025;
+
+/// The most bytes that a page has: 27 in its fixed fields, 255 lacing values, and those of its segments.
+pub const MOST_PAGE: usize = 65307;
+
 /// The flag of a page that begins inside a packet.
 pub(crate) const CONTINUED: u8 = 1;
 

@@ -11,8 +11,8 @@ ghost use Rattle.flac_pages.specs.Page.{page_sum, page_behind, end_rules, first_
 ghost use Rattle.flac_pages.specs.Runs.{MeansPage};
 
 use crate::fields::read_head;
-use crate::page::{Before, Head};
-use crate::writing::{MOST_BYTES, sum_of_page};
+use crate::page::{Before, Head, MOST_BODY};
+use crate::writing::sum_of_page;
 use flac_bits::{BitReader, Source, Why, read_bytes, read_unchecked};
 use std::alloc::Global;
 use std::marker::Model;
@@ -47,7 +47,7 @@ impl PageRoom {
         ensures ok { IfOk result (λ p. (p.lacing ≡ []) × (p.body ≡ [])) }
         ensures err { IfErr result (λ e. e ≡ Why.Memory) }
     {
-        let body = vec![in alloc; 0u8; MOST_BYTES]?;
+        let body = vec![in alloc; 0u8; MOST_BODY]?;
         Ok(PageRoom {
             head: Head {
                 flags: 0,

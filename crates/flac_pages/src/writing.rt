@@ -8,11 +8,8 @@ ghost use Rattle.flac_pages.specs.Placed.{AreInOrder, placed_in, stream_spelling
 ghost use Rattle.flac_pages.specs.inner.Heads.{head_bytes};
 ghost use Rattle.flac_pages.specs.Written.{granule_at, summed, head_at, packet_spelling};
 
-use crate::page::{CONTINUED, FIRST, Head, LAST};
+use crate::page::{CONTINUED, FIRST, Head, LAST, MOST_BODY};
 use flac_bits::{BitWriter, Target, Why, crc32_sum};
-
-/// The most bytes that a page can have: 255 segments of 255 bytes.
-pub(crate) const MOST_BYTES: usize = 65025;
 
 /// What a packet is (RFC 9639, section 10.1).
 #[derive(Clone, Copy, Debug, PartialEq, Eq)]
@@ -168,14 +165,14 @@ pub fn write_packet<W: Target>(
     ensures wrote { Writes (packet_spelling marks packet.now) writer.old writer.new result }
     ensures next { IfOk result (λ n. n ≡ (marks.sequence + (length packet.now / 65025 + 1)) % 2 ^ 32) }
 {
-    let last = packet.len() / MOST_BYTES;
+    let last = packet.len() / MOST_BODY;
     for page in 0..last {
-        let from = MOST_BYTES * page;
+        let from = MOST_BODY * page;
         let head = head_of(marks, last, page);
-        write_page(head, &[255; 255], &packet[from..from + MOST_BYTES], writer)?;
+        write_page(head, &[255; 255], &packet[from..from + MOST_BODY], writer)?;
     }
     let head = head_of(marks, last, last);
-    write_last(head, &packet[MOST_BYTES * last..], writer)?;
+    write_last(head, &packet[MOST_BODY * last..], writer)?;
     Ok(head.sequence.wrapping_add(1))
 }
 
