@@ -1,4 +1,11 @@
 //! Pages and packets of an Ogg stream: reading and writing (RFC 3533).
+//!
+//! | To | Use |
+//! |---|---|
+//! | read packets | [`Pages`], with [`read_packet`], or [`PacketBytes`], [`packet_bits`] and [`end_item`] |
+//! | allocate room for a page first | [`PageRoom`] and [`Pages::over`] |
+//! | write packets | [`write_packet`] or [`write_packets`] |
+//! | read or write single pages, as these do and as tests do | [`next_page`], [`write_page`], [`sum_of_page`] |
 #![tactic(auto)]
 
 mod fields;

@@ -86,7 +86,7 @@ impl PageRoom {
     }
 
     /// The length of segment `index` in bytes, counted from 0. There must be such a segment.
-    pub fn segment(&self, index: u8) -> u8
+    pub(crate) fn segment(&self, index: u8) -> u8
         requires { index < length self.now.lacing }
         ensures { result ≡ get_or self.now.lacing index 0 }
     {
