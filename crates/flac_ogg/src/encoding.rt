@@ -19,7 +19,7 @@ ghost use Rattle.flac_frame.specs.Audio.{samples_each};
 ghost use Rattle.flac_pages.specs.Placed.{sequence_behind};
 ghost use Rattle.flac_pages.specs.Written.{packet_spelling};
 
-use crate::headers::Headers;
+use crate::headers::{Headers, write_mapped};
 use crate::verifying::bytes_fit;
 use flac_bits::{BitWriter, Collected, Target, Why, send_all};
 use flac_frame::{Audio, EncodeBuffers};
@@ -58,11 +58,7 @@ fn write_mapping<W: Target>(count: u64, writer: &mut BitWriter<W>) -> Result<(),
     requires { count < 2 ^ 16 }
     ensures { Writes (mapping_spelling count) writer.old writer.new result }
 {
-    writer.put(40, 0x7F464C4143)?;
-    writer.put(16, 0x0100)?;
-    writer.put(16, count)?;
-    writer.put(32, 0x664C6143)?;
-    Ok(())
+    write_mapped(count, b"fLaC", writer)
 }
 
 /// Writes the first packet: the mapping, and STREAMINFO, which is marked last if there are no other blocks.
