@@ -120,7 +120,7 @@ pub fn decode_ogg<R: Source, S: Sink>(
     outcome
 }
 
-/// A source whose first byte was pulled already ([`pull_front`]), and comes again.
+/// A source whose first byte was pulled already ([`pull_front`]), and comes again. For readers of either container.
 #[derive(Drop)]
 pub struct Fronted<S: Source> {
     /// The byte that was pulled, if there was one.
@@ -167,7 +167,8 @@ impl<S: Source> Source for Fronted<S> {
     }
 }
 
-/// Whether this is the first byte of a page, so that an Ogg stream begins with it (RFC 3533, section 6).
+/// Whether this byte begins a page, so that the stream is in Ogg (RFC 3533, section 6); false if there is none. For
+/// readers of either container.
 pub fn is_page(front: Option<u8>) -> bool
     ensures { result ≡ begins_page (front_bytes front) }
 {
@@ -177,7 +178,8 @@ pub fn is_page(front: Option<u8>) -> bool
     }
 }
 
-/// Pulls the first byte of a source, if there is one: `None` at its end.
+/// Pulls the first byte of a source, if there is one: `None` at its end. For readers of either container, which ask
+/// [`is_page`] about it, and put it in front of the source again by [`Fronted`].
 ///
 /// # Errors
 /// [`Why::Read`] at the marker if the source returns an error.
