@@ -159,7 +159,7 @@ pub fn encode_ogg<W: Target>(
     if !may_be_ogg(plan, list) {
         return Err(EncodeFault::BadMapping);
     }
-    let _blocks = list.blocks(); // the list's limits, for the proof
+    let _blocks = list.blocks(); // for the proof alone: what holds of every list
     let size = plan.block_size();
     let profile = plan.profile();
     let Ok(mut buffers) = EncodeBuffers::new_in(alloc, profile, size) else {
@@ -309,7 +309,7 @@ fn send_stream<W: Target>(
     ensures { (first : List Bool) (texts : List (List Bool)) (h : AreHeaders (first ∷ texts) headers.now) → SendsOgg W.Target headers.now.serial planned.now.plan.now planned.now.audio.now h.packets target.old target.new result }
 {
     let Planned { plan, audio, .. } = *planned;
-    let _size = plan.block_size(); // the plan's limits, for the proof
+    let _size = plan.block_size(); // for the proof alone: what holds of every plan
     send_all(target, headers.sent.as_slice())?;
     if audio.is_empty() {
         return send_all(target, headers.held.last.as_slice());

@@ -215,7 +215,7 @@ impl<W: Target + Drop> OggEncoder<W> {
             block_size,
         };
         let head = open_head(alloc, &format, list)?;
-        let _blocks = list.blocks();
+        let _blocks = list.blocks(); // for the proof alone: what holds of every list
         let Ok(buffers) = EncodeBuffers::new(alloc, block_size) else {
             return Err(EncodeFault::Memory);
         };

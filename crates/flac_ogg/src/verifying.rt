@@ -20,7 +20,7 @@ use flac_meta::{Block, BlockList};
 use flac_native::{EncodeFault, Fault, Plan, Profile, Sink, SinkFault, encode};
 use std::alloc::Global;
 
-/// Each byte is below 256.
+/// Does nothing: it is called for the proof alone, that each byte is below 256.
 pub(crate) fn bytes_fit(bytes: &[u8])
     ensures { AreBytes bytes.now }
 {}
