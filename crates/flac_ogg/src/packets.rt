@@ -22,7 +22,7 @@ ghost use Rattle.flac_ogg.specs.Coming.{ItemsCome, IsClear};
 
 use flac_bits::{BitReader, Source, Why};
 use flac_native::{Container, Fault, Part, Place, Track};
-use flac_pages::{PacketBytes, Pages, end_item, packet_bits};
+use flac_pages::{PacketBytes, PacketFault, Pages, end_item, packet_bits};
 
 /// Reads what the first packet has before STREAMINFO: the byte 7F and `FLAC`, version 1.0, the number of header
 /// packets, which may be any, and `fLaC` (RFC 9639, section 10.1).
@@ -83,7 +83,7 @@ fn refused_page(page: u64, why: Why) -> Fault
 }
 
 /// The fault of a packet that is not the item of this place: that of a page, if a page's error breaks the packet off.
-pub(crate) fn packet_fault(at: Place, told: (Option<u64>, Why)) -> Fault
+pub(crate) fn packet_fault(at: Place, told: PacketFault) -> Fault
     ensures place { (s : Stand) → at ≡ place_in s.phase s.index → result.at ≡ packet_place s told }
     ensures why { result.why ≡ told.1 }
 {
@@ -162,7 +162,7 @@ pub(crate) fn read_part<R: Source>(bits: &mut BitReader<R>, track: &mut Track) -
 pub(crate) fn read_packet<R: Source>(
     pages: &mut Pages<R>,
     track: &mut Track,
-) -> Result<Part, (Option<u64>, Why)>
+) -> Result<Part, PacketFault>
     ensures memory { (stand_of track.old).phase ≡ Frames → IfErr result (λ e. e.1 ≢ Why.Memory) }
     ensures kept { pages.old.errors ≤ pages.new.errors }
     ensures names { pages.new.names ≡ pages.old.names }

@@ -3,6 +3,8 @@
 ghost use Rattle.std.specs.Prelude.{◌≡◌};
 ghost use Rattle.flac_pages.specs.Page.{is_continued, is_first, is_last};
 
+use flac_bits::Why;
+
 /// The most bytes that the segments of a page have: 255 of 255 bytes (RFC 3533, section 6).
 pub const MOST_BODY: usize = 65025;
 
@@ -17,6 +19,12 @@ pub(crate) const FIRST: u8 = 2;
 
 /// The flag of the last page of a stream.
 pub(crate) const LAST: u8 = 4;
+
+/// A page that is refused: how many pages came before it, and why.
+pub type PageFault = (u64, Why);
+
+/// Why a packet is not what it has to be, and if a refused page breaks it off, how many pages came before that page.
+pub type PacketFault = (Option<u64>, Why);
 
 /// The fixed fields of a page (RFC 3533, section 6).
 #[derive(Clone, Copy, Debug, PartialEq, Eq)]
