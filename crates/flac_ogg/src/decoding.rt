@@ -96,7 +96,8 @@ pub fn decode_ogg<R: Source, S: Sink>(
         Decides (ogg_reading profile (beginning (short_of ((R.behind source.old).fails))) (bits_of (R.coming source.old))) (outcome_of told result) }
     // Read is returned only if the source returned an error in the call, unless one was announced.
     ensures read { IfErr result (λ f. R.known source.old ≡ true → (R.behind source.old).fails ≡ None → f.why ≡ Why.Read → R.errors source.old < R.errors source.new) }
-    // An error of the source and of the sink is counted, if the count can rise, whatever is known of them: no other call returns it.
+    // An error of the source and of the sink is counted, if the count can rise, whatever is known of them: no other
+    // call returns it.
     ensures risen { IfErr result (λ f. f.why ≡ Why.Read → Rises (R.raised source.old) (R.raised source.new)) }
     ensures sink { IfErr result (λ f. f.why ≡ Why.Sink → Rises (S.errors sink.old) (S.errors sink.new)) }
     ensures kept { R.errors source.old ≤ R.errors source.new }
@@ -222,7 +223,8 @@ fn decode_as<R: Source, S: Sink>(
         Decides (read_either profile is_ogg (beginning (short_of ((R.behind source.old).fails))) (bits_of (R.coming source.old))) (outcome_of told result) }
     ensures kept { R.errors source.old ≤ R.errors source.new }
     ensures read { IfErr result (λ f. R.known source.old ≡ true → (R.behind source.old).fails ≡ None → f.why ≡ Why.Read → (R.errors source.old < R.errors source.new) ⊎ (R.raised source.old < R.raised source.new)) }
-    // An error of the source and of the sink is counted, if the count can rise, whatever is known of them: no other call returns it.
+    // An error of the source and of the sink is counted, if the count can rise, whatever is known of them: no other
+    // call returns it.
     ensures risen { IfErr result (λ f. f.why ≡ Why.Read → Rises (R.raised source.old) (R.raised source.new)) }
     ensures sink { IfErr result (λ f. f.why ≡ Why.Sink → Rises (S.errors sink.old) (S.errors sink.new)) }
     ensures names { S.names sink.new ≡ S.names sink.old }
@@ -262,7 +264,8 @@ pub fn decode_any<R: Source, S: Sink>(
     ensures kept { R.errors source.old ≤ R.errors source.new }
     // Read is returned only if the source returned an error in the call, unless one was announced.
     ensures read { IfErr result (λ f. R.known source.old ≡ true → (R.behind source.old).fails ≡ None → f.why ≡ Why.Read → (R.errors source.old < R.errors source.new) ⊎ (R.raised source.old < R.raised source.new)) }
-    // An error of the source and of the sink is counted, if the count can rise, whatever is known of them: no other call returns it.
+    // An error of the source and of the sink is counted, if the count can rise, whatever is known of them: no other
+    // call returns it.
     ensures risen { IfErr result (λ f. f.why ≡ Why.Read → Rises (R.raised source.old) (R.raised source.new)) }
     ensures sink { IfErr result (λ f. f.why ≡ Why.Sink → Rises (S.errors sink.old) (S.errors sink.new)) }
     ensures names { S.names sink.new ≡ S.names sink.old }

@@ -30,8 +30,9 @@ use std::alloc::Global;
 use std::marker::Model;
 
 /// Encodes an Ogg stream of the streamable subset a block at a time, as a recorder does whose samples are not all there
-/// yet (RFC 9639, sections 7 and 10.1). [`OggEncoder::new`] writes the header packets, of STREAMINFO and the metadata blocks, [`OggEncoder::push`]
-/// makes a packet of one frame, and [`OggEncoder::finish`] ends the stream and returns the target.
+/// yet (RFC 9639, sections 7 and 10.1). [`OggEncoder::new`] writes the header packets, of STREAMINFO and the metadata
+/// blocks, [`OggEncoder::push`] makes a packet of one frame, and [`OggEncoder::finish`] ends the stream and returns the
+/// target.
 ///
 /// The last packet is held back until the next one comes or the stream ends, since the last page of a stream is marked.
 /// STREAMINFO states neither the number of samples nor the sizes of the frames nor the digest, since they are not known
