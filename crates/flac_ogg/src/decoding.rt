@@ -96,7 +96,8 @@ pub fn decode_ogg<R: Source, S: Sink>(
         Decides (ogg_reading profile (beginning (short_of ((R.behind source.old).fails))) (bits_of (R.coming source.old))) (outcome_of told result) }
     // Read is returned only if the source returned an error in the call, unless one was announced.
     ensures read { IfErr result (λ f. R.known source.old ≡ true → (R.behind source.old).fails ≡ None → f.why ≡ Why.Read → R.errors source.old < R.errors source.new) }
-    // An error of the source and of the sink is counted, if the count can rise, whatever is known of them: no other call returns it.
+    // An error of the source and of the sink is counted, if the count can rise, whatever is known of them: no other
+    // call returns it.
     ensures risen { IfErr result (λ f. f.why ≡ Why.Read → Rises (R.raised source.old) (R.raised source.new)) }
     ensures sink { IfErr result (λ f. f.why ≡ Why.Sink → Rises (S.errors sink.old) (S.errors sink.new)) }
     ensures kept { R.errors source.old ≤ R.errors source.new }
@@ -120,7 +121,7 @@ pub fn decode_ogg<R: Source, S: Sink>(
     outcome
 }
 
-/// A source whose first byte was pulled already ([`pull_front`]), and comes again.
+/// A source whose first byte was pulled already ([`pull_front`]), and comes again. For readers of either container.
 #[derive(Drop)]
 pub struct Fronted<S: Source> {
     /// The byte that was pulled, if there was one.
@@ -167,7 +168,8 @@ impl<S: Source> Source for Fronted<S> {
     }
 }
 
-/// Whether this is the first byte of a page, so that an Ogg stream begins with it (RFC 3533, section 6).
+/// Whether this byte begins a page, so that the stream is in Ogg (RFC 3533, section 6); false if there is none. For
+/// readers of either container.
 pub fn is_page(front: Option<u8>) -> bool
     ensures { result ≡ begins_page (front_bytes front) }
 {
@@ -177,7 +179,8 @@ pub fn is_page(front: Option<u8>) -> bool
     }
 }
 
-/// Pulls the first byte of a source, if there is one: `None` at its end.
+/// Pulls the first byte of a source, if there is one: `None` at its end. For readers of either container, which ask
+/// [`is_page`] about it, and put it in front of the source again by [`Fronted`].
 ///
 /// # Errors
 /// [`Why::Read`] at the marker if the source returns an error.
@@ -220,7 +223,8 @@ fn decode_as<R: Source, S: Sink>(
         Decides (read_either profile is_ogg (beginning (short_of ((R.behind source.old).fails))) (bits_of (R.coming source.old))) (outcome_of told result) }
     ensures kept { R.errors source.old ≤ R.errors source.new }
     ensures read { IfErr result (λ f. R.known source.old ≡ true → (R.behind source.old).fails ≡ None → f.why ≡ Why.Read → (R.errors source.old < R.errors source.new) ⊎ (R.raised source.old < R.raised source.new)) }
-    // An error of the source and of the sink is counted, if the count can rise, whatever is known of them: no other call returns it.
+    // An error of the source and of the sink is counted, if the count can rise, whatever is known of them: no other
+    // call returns it.
     ensures risen { IfErr result (λ f. f.why ≡ Why.Read → Rises (R.raised source.old) (R.raised source.new)) }
     ensures sink { IfErr result (λ f. f.why ≡ Why.Sink → Rises (S.errors sink.old) (S.errors sink.new)) }
     ensures names { S.names sink.new ≡ S.names sink.old }
@@ -260,7 +264,8 @@ pub fn decode_any<R: Source, S: Sink>(
     ensures kept { R.errors source.old ≤ R.errors source.new }
     // Read is returned only if the source returned an error in the call, unless one was announced.
     ensures read { IfErr result (λ f. R.known source.old ≡ true → (R.behind source.old).fails ≡ None → f.why ≡ Why.Read → (R.errors source.old < R.errors source.new) ⊎ (R.raised source.old < R.raised source.new)) }
-    // An error of the source and of the sink is counted, if the count can rise, whatever is known of them: no other call returns it.
+    // An error of the source and of the sink is counted, if the count can rise, whatever is known of them: no other
+    // call returns it.
     ensures risen { IfErr result (λ f. f.why ≡ Why.Read → Rises (R.raised source.old) (R.raised source.new)) }
     ensures sink { IfErr result (λ f. f.why ≡ Why.Sink → Rises (S.errors sink.old) (S.errors sink.new)) }
     ensures names { S.names sink.new ≡ S.names sink.old }

@@ -7,9 +7,9 @@ ghost use Rattle.flac_bits.specs.Written.{Writes};
 ghost use Rattle.flac_meta.specs.Listed.{block_fault};
 ghost use Rattle.flac_meta.specs.Spelling.{block_spelling};
 ghost use Rattle.flac_meta.specs.declared.block.Block.TheVariants as block_of;
-ghost use Rattle.flac_native.specs.Given.{fits_plan, info_of, room_of};
+ghost use Rattle.flac_native.specs.Given.{fits_plan, room_of};
 ghost use Rattle.flac_native.specs.Numbers.{is_of_whole};
-ghost use Rattle.flac_native.specs.Writing.{IsDigest, AreCounted, AreChoices, HasRoom};
+ghost use Rattle.flac_native.specs.Writing.{AreCounted, AreChoices, HasRoom};
 ghost use Rattle.flac_native.specs.inner.Writing.{WritesAll};
 ghost use Rattle.flac_ogg.specs.inner.Headers.{AreHeaders};
 ghost use Rattle.flac_ogg.specs.Native.{mapping_spelling, packet_spellings};
@@ -19,13 +19,13 @@ ghost use Rattle.flac_frame.specs.Audio.{samples_each};
 ghost use Rattle.flac_pages.specs.Placed.{sequence_behind};
 ghost use Rattle.flac_pages.specs.Written.{packet_spelling};
 
-use crate::headers::Headers;
+use crate::headers::{Headers, write_mapped};
 use crate::verifying::bytes_fit;
 use flac_bits::{BitWriter, Collected, Target, Why, send_all};
 use flac_frame::{Audio, EncodeBuffers};
 use flac_meta::{Block, BlockList, StreamInfo, write_block};
 use flac_native::{ChosenFrames, EncodeFault, Plan, Room};
-use flac_pages::{PacketKind, PacketMarks, write_packet};
+use flac_pages::{MOST_BODY, MOST_PAGE, PacketKind, PacketMarks, write_packet};
 use std::alloc::Global;
 
 /// Whether the first block is a Vorbis comment.
@@ -58,11 +58,7 @@ fn write_mapping<W: Target>(count: u64, writer: &mut BitWriter<W>) -> Result<(),
     requires { count < 2 ^ 16 }
     ensures { Writes (mapping_spelling count) writer.old writer.new result }
 {
-    writer.put(40, 0x7F464C4143)?;
-    writer.put(16, 0x0100)?;
-    writer.put(16, count)?;
-    writer.put(32, 0x664C6143)?;
-    Ok(())
+    write_mapped(count, b"fLaC", writer)
 }
 
 /// Writes the first packet: the mapping, and STREAMINFO, which is marked last if there are no other blocks.
@@ -102,23 +98,17 @@ pub(crate) fn block_packet(alloc: Global, block: &Block, last: bool) -> Result<V
     }
 }
 
-/// The header packets: the mapping with STREAMINFO, which is that of frames that were chosen, and a block each. Its only error is `Memory`: an allocation failed.
+/// The header packets: the mapping with STREAMINFO, and a block each. Its only error is `Memory`: an allocation failed.
 fn header_packets(
     alloc: Global,
     serial: u32,
-    plan: &Plan,
+    info: StreamInfo,
     list: &BlockList,
-    audio: &Audio,
-    frames: &ChosenFrames,
 ) -> Result<Headers, Why>
-    requires fits { fits_plan plan.now audio.now ≡ true }
-    requires sizes { (frames.now.least ≤ frames.now.greatest) × (frames.now.greatest < 2 ^ 24) }
-    requires digest { IsDigest audio.now frames.now.digest }
-    ensures made { IfOk result (λ h. AreHeaders (packet_spellings (header_count (length list.now)) (info_of plan.now audio.now frames.now.least frames.now.greatest) list.now []) h) }
+    ensures made { IfOk result (λ h. AreHeaders (packet_spellings (header_count (length list.now)) info list.now []) h) }
     ensures serial { IfOk result (λ h. h.serial ≡ serial) }
     ensures memory { IfErr result (λ e. e ≡ Why.Memory) }
 {
-    let info = frames.info(plan, audio);
     let blocks = list.blocks();
     let first = first_packet(alloc, info, blocks.len())?;
     let mut headers = Headers::new(alloc, serial, first.as_slice())?;
@@ -169,7 +159,7 @@ pub fn encode_ogg<W: Target>(
     if !may_be_ogg(plan, list) {
         return Err(EncodeFault::BadMapping);
     }
-    let _blocks = list.blocks();
+    let _blocks = list.blocks(); // for the proof alone: what holds of every list
     let size = plan.block_size();
     let profile = plan.profile();
     let Ok(mut buffers) = EncodeBuffers::new_in(alloc, profile, size) else {
@@ -178,7 +168,8 @@ pub fn encode_ogg<W: Target>(
     let Ok(frames) = ChosenFrames::new(alloc, plan, audio, &mut buffers) else {
         return Err(EncodeFault::Memory);
     };
-    let Ok(headers) = header_packets(alloc, serial, plan, list, audio, &frames) else {
+    let info = frames.info(plan, audio);
+    let Ok(headers) = header_packets(alloc, serial, info, list) else {
         return Err(EncodeFault::Memory);
     };
     let Ok(room) = frames.room(alloc) else {
@@ -187,29 +178,25 @@ pub fn encode_ogg<W: Target>(
     let Ok(pages) = page_room(alloc, frames.greatest()) else {
         return Err(EncodeFault::Memory);
     };
-    match send_stream(
-        &headers,
+    let planned = Planned {
         plan,
         audio,
-        &frames,
-        &mut buffers,
-        room,
-        pages,
-        target,
-    ) {
+        frames: &frames,
+    };
+    match send_stream(&headers, &planned, &mut buffers, room, pages, target) {
         Ok(()) => Ok(()),
         Err(_) => Err(EncodeFault::Write),
     }
 }
 
-/// A place for the pages of a packet of `packet` bytes, each of at most 65307 bytes (RFC 3533, section 6). Its only
-/// error is `Memory`: an allocation failed.
+/// A place for the pages of a packet of `packet` bytes, of which each but the last is as long as a page can be (RFC
+/// 3533, sections 5 and 6). Its only error is `Memory`: an allocation failed.
 pub(crate) fn page_room(alloc: Global, packet: u32) -> Result<Room, Why>
     requires { packet ≤ 16777215 }
     ensures places { IfOk result (λ room. 65307 * (packet / 65025 + 1) ≤ room.places) }
     ensures memory { IfErr result (λ e. e ≡ Why.Memory) }
 {
-    Room::new(alloc, 65307 * (packet as usize / 65025 + 1))
+    Room::new(alloc, MOST_PAGE * (packet as usize / MOST_BODY + 1))
 }
 
 /// Writes the pages of a packet, and sends what the writer holds. Returns the number of the page after them.
@@ -243,39 +230,50 @@ fn paged(marks: PacketMarks, packet: &[u8], place: Room) -> (Room, u32)
     }
 }
 
-/// Sends all frames, each in a packet, from page `from` on. After an error a prefix of them was sent.
+/// Samples, their plan, and the frames that were chosen for them.
+#[derive(Clone, Copy)]
+struct Planned<'a> {
+    plan: &'a Plan,
+    audio: &'a Audio,
+    frames: &'a ChosenFrames,
+}
+
+/// Sends all frames, each in a packet, from the page after the header packets on. After an error a prefix of them was
+/// sent.
 fn send_frames<W: Target>(
-    serial: u32,
-    from: u32,
-    plan: &Plan,
-    audio: &Audio,
-    frames: &ChosenFrames,
+    headers: &Headers,
+    planned: &Planned<'_>,
     buffers: &mut EncodeBuffers,
     room: Room,
     pages: Room,
     target: &mut W,
 ) -> Result<(), Why>
-    requires fits { fits_plan plan.now audio.now ≡ true }
-    requires some { 0 < samples_each audio.now.channels }
-    requires counted { AreCounted plan.now audio.now frames.now.least frames.now.greatest frames.now.points.items }
-    requires choices { AreChoices plan.now audio.now frames.now.choices.items }
-    requires buffers { buffers.old ≡ room_of plan.now }
-    requires room { HasRoom plan.now audio.now room.places }
-    requires pages { 65307 * (frames.now.greatest / 65025 + 1) ≤ pages.places }
-    ensures { SendsPackets W.Target serial from plan.now audio.now target.old target.new result }
+    requires fits { fits_plan planned.now.plan.now planned.now.audio.now ≡ true }
+    requires some { 0 < samples_each planned.now.audio.now.channels }
+    requires counted { AreCounted planned.now.plan.now planned.now.audio.now planned.now.frames.now.least planned.now.frames.now.greatest planned.now.frames.now.points.items }
+    requires choices { AreChoices planned.now.plan.now planned.now.audio.now planned.now.frames.now.choices.items }
+    requires buffers { buffers.old ≡ room_of planned.now.plan.now }
+    requires room { HasRoom planned.now.plan.now planned.now.audio.now room.places }
+    requires pages { 65307 * (planned.now.frames.now.greatest / 65025 + 1) ≤ pages.places }
+    ensures { SendsPackets W.Target headers.now.serial headers.now.held.next planned.now.plan.now planned.now.audio.now target.old target.new result }
 {
+    let Planned {
+        plan,
+        audio,
+        frames,
+    } = *planned;
     let size = plan.block_size() as usize;
     let total = audio.len();
     let mut room = room;
     let mut pages = pages;
-    let mut sequence = from;
+    let mut sequence = headers.held.next;
     let mut number = 0;
     let mut start = 0;
     while start < total {
         let end = start + size.min(total - start);
         room = frames.write(plan, audio, number, buffers, room);
         let marks = PacketMarks {
-            serial,
+            serial: headers.serial,
             sequence,
             kind: PacketKind::Frame { end: end as u64 },
             first: false,
@@ -294,39 +292,28 @@ fn send_frames<W: Target>(
 }
 
 /// Sends the header packets, and then the frames. After an error a prefix of them was sent.
-pub(crate) fn send_stream<W: Target>(
+fn send_stream<W: Target>(
     headers: &Headers,
-    plan: &Plan,
-    audio: &Audio,
-    frames: &ChosenFrames,
+    planned: &Planned<'_>,
     buffers: &mut EncodeBuffers,
     room: Room,
     pages: Room,
     target: &mut W,
 ) -> Result<(), Why>
-    requires fits { fits_plan plan.now audio.now ≡ true }
-    requires counted { AreCounted plan.now audio.now frames.now.least frames.now.greatest frames.now.points.items }
-    requires choices { AreChoices plan.now audio.now frames.now.choices.items }
-    requires buffers { buffers.old ≡ room_of plan.now }
-    requires room { HasRoom plan.now audio.now room.places }
-    requires pages { 65307 * (frames.now.greatest / 65025 + 1) ≤ pages.places }
-    ensures { (first : List Bool) (texts : List (List Bool)) (h : AreHeaders (first ∷ texts) headers.now) → SendsOgg W.Target headers.now.serial plan.now audio.now h.packets target.old target.new result }
+    requires fits { fits_plan planned.now.plan.now planned.now.audio.now ≡ true }
+    requires counted { AreCounted planned.now.plan.now planned.now.audio.now planned.now.frames.now.least planned.now.frames.now.greatest planned.now.frames.now.points.items }
+    requires choices { AreChoices planned.now.plan.now planned.now.audio.now planned.now.frames.now.choices.items }
+    requires buffers { buffers.old ≡ room_of planned.now.plan.now }
+    requires room { HasRoom planned.now.plan.now planned.now.audio.now room.places }
+    requires pages { 65307 * (planned.now.frames.now.greatest / 65025 + 1) ≤ pages.places }
+    ensures { (first : List Bool) (texts : List (List Bool)) (h : AreHeaders (first ∷ texts) headers.now) → SendsOgg W.Target headers.now.serial planned.now.plan.now planned.now.audio.now h.packets target.old target.new result }
 {
-    let _size = plan.block_size();
+    let Planned { plan, audio, .. } = *planned;
+    let _size = plan.block_size(); // for the proof alone: what holds of every plan
     send_all(target, headers.sent.as_slice())?;
     if audio.is_empty() {
         return send_all(target, headers.held.last.as_slice());
     }
     send_all(target, headers.held.middle.as_slice())?;
-    send_frames(
-        headers.serial,
-        headers.held.next,
-        plan,
-        audio,
-        frames,
-        buffers,
-        room,
-        pages,
-        target,
-    )
+    send_frames(headers, planned, buffers, room, pages, target)
 }

@@ -83,8 +83,12 @@ impl Headers {
     }
 }
 
-/// Writes the mapping before what begins with the marker (RFC 9639, section 10.1).
-fn write_mapped<W: Target>(count: u64, head: &[u8], writer: &mut BitWriter<W>) -> Result<(), Why>
+/// Writes the mapping before `head`, which is the marker or begins with it (RFC 9639, section 10.1).
+pub(crate) fn write_mapped<W: Target>(
+    count: u64,
+    head: &[u8],
+    writer: &mut BitWriter<W>,
+) -> Result<(), Why>
     requires { count < 2 ^ 16 }
     ensures { Writes (joined (unsigned 40 0x7F464C4143 ∷ unsigned 16 0x0100 ∷ unsigned 16 count ∷ bits_of head.now ∷ [])) writer.old writer.new result }
 {

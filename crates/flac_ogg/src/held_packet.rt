@@ -42,7 +42,8 @@ pub(crate) struct HeldPacket {
 }
 
 impl HeldPacket {
-    /// Holds a packet of these marks, apart from whether it is the last. Its only error is `Memory`: an allocation failed.
+    /// Holds a packet of these marks, apart from whether it is the last. Its only error is `Memory`: an allocation
+    /// failed.
     pub(crate) fn new(alloc: Global, marks: PacketMarks, packet: &[u8]) -> Result<HeldPacket, Why>
         ensures middle { IfOk result (λ h. bits_of h.middle.items ≡ packet_spelling (record marks { last = false }) packet.now) }
         ensures last { IfOk result (λ h. bits_of h.last.items ≡ packet_spelling (record marks { last = true }) packet.now) }

@@ -33,7 +33,8 @@ pub fn encoded_are_read()
     ensures { EncodedOggIsRead }
 {}
 
-/// An Ogg stream of the streamable subset (RFC 9639, section 7) is, without the subset's limits, an Ogg stream of the same items.
+/// An Ogg stream of the streamable subset (RFC 9639, section 7) is, without the subset's limits, an Ogg stream of the
+/// same items.
 pub fn subset_is_lax()
     ensures { SubsetOggIsLax }
 {}

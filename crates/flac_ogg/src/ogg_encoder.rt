@@ -30,8 +30,9 @@ use std::alloc::Global;
 use std::marker::Model;
 
 /// Encodes an Ogg stream of the streamable subset a block at a time, as a recorder does whose samples are not all there
-/// yet (RFC 9639, sections 7 and 10.1). [`OggEncoder::new`] writes the header packets, of STREAMINFO and the metadata blocks, [`OggEncoder::push`]
-/// makes a packet of one frame, and [`OggEncoder::finish`] ends the stream and returns the target.
+/// yet (RFC 9639, sections 7 and 10.1). [`OggEncoder::new`] writes the header packets, of STREAMINFO and the metadata
+/// blocks, [`OggEncoder::push`] makes a packet of one frame, and [`OggEncoder::finish`] ends the stream and returns the
+/// target.
 ///
 /// The last packet is held back until the next one comes or the stream ends, since the last page of a stream is marked.
 /// STREAMINFO states neither the number of samples nor the sizes of the frames nor the digest, since they are not known
@@ -215,7 +216,7 @@ impl<W: Target + Drop> OggEncoder<W> {
             block_size,
         };
         let head = open_head(alloc, &format, list)?;
-        let _blocks = list.blocks();
+        let _blocks = list.blocks(); // for the proof alone: what holds of every list
         let Ok(buffers) = EncodeBuffers::new(alloc, block_size) else {
             return Err(EncodeFault::Memory);
         };
@@ -241,9 +242,8 @@ impl<W: Target + Drop> OggEncoder<W> {
         }
     }
 
-    /// Sets the linear predictors that are tried for each subframe of the frames pushed from now on, beside the constant,
-    /// verbatim and fixed ones: at most 64, of an order of at most 12 at 48000 Hz or less, else 32 (RFC 9639, sections 7
-    /// and 9.2.6). They take the place of those before; an empty list is as none. The packet that is held is not changed.
+    /// Sets the linear predictors that are tried for the frames pushed from now on, as
+    /// [`StreamEncoder::set_predictors`] does. The packet that is held is not changed.
     ///
     /// ```
     /// let mut predictors = Vec::new(rt.alloc());
@@ -254,8 +254,7 @@ impl<W: Target + Drop> OggEncoder<W> {
     /// ```
     ///
     /// # Errors
-    /// [`SetupFault::TooManyPredictors`] if there are more than 64, else [`SetupFault::PredictorOrder`] if an order is too
-    /// large. The encoder is as it was then.
+    /// Those of [`StreamEncoder::set_predictors`]. The encoder is as it was then.
     pub fn set_predictors(&mut self, predictors: Vec<LinearPredictor>) -> Result<(), SetupFault>
         ensures set { OnOk result (self.new ≡ trying_ogg self.old predictors.items) }
         ensures stands { OnOk result ((items : List Piece) (packets : List Placed) (written : List Bool) → StandsForOgg self.old items packets written → StandsForOgg self.new items packets written) }
@@ -302,27 +301,15 @@ impl<W: Target + Drop> OggEncoder<W> {
         self.size_fault(block_len(block) as u64)
     }
 
-    /// Makes a block the next frame and holds its packet back, and writes the packet that was held. `block` has one
-    /// slice for each channel, of 1 to as many samples as the block size. Only the last block may be shorter than the
-    /// block size (RFC 9639, section 9.1). The frame is as short as one of [`crate::encode_ogg`] with the same predictors.
+    /// Makes a block the next frame, as [`StreamEncoder::push`] does, but holds its packet back, and writes the packet
+    /// that was held.
     ///
     /// Each packet begins a page. The page on which the frame ends has the number of samples so far as its granule
     /// position; the pages before it have all ones.
     ///
     /// # Errors
-    /// The first of these that applies:
-    ///
-    /// - [`EncodeFault::Spent`] after a call that returned [`EncodeFault::Write`];
-    /// - [`EncodeFault::Setup`] with `BadChannels` if there is not one slice for each channel, `LengthsDiffer` if they
-    ///   differ in length, `SampleTooLarge` if a sample does not fit its bits;
-    /// - [`EncodeFault::Setup`] with `TooLong` if the stream would have 2^36 samples of each channel or more, or more
-    ///   than 2^31 frames;
-    /// - [`EncodeFault::Setup`] with `BadBlockSize` if the block has no sample, or more than the block size;
-    /// - [`EncodeFault::BlockSize`] if the block before was shorter than the block size;
-    /// - [`EncodeFault::Memory`] if an allocation fails, or [`EncodeFault::Write`] if the target returns an error.
-    ///
-    /// After [`EncodeFault::Write`] the target was sent a prefix of the packet that was held. After each other error
-    /// the encoder is as it was, and nothing was sent.
+    /// Those of [`StreamEncoder::push`], but after [`EncodeFault::Write`] the target was sent a prefix of the packet
+    /// that was held. After each other error the encoder is as it was, and nothing was sent.
     pub fn push(&mut self, block: &[&[i32]]) -> Result<(), EncodeFault>
         ensures next { OnOk result (self.new.pushed ≡ behind_block self.old.pushed (samples_each (map (λ c. c.now) block.now)) self.new.pushed.target) }
         ensures serial { self.new.serial ≡ self.old.serial }

@@ -22,7 +22,7 @@ ghost use Rattle.flac_ogg.specs.Coming.{ItemsCome, IsClear};
 
 use flac_bits::{BitReader, Source, Why};
 use flac_native::{Container, Fault, Part, Place, Track};
-use flac_pages::{PacketBytes, Pages, end_item, packet_bits};
+use flac_pages::{PacketBytes, PacketFault, Pages, end_item, packet_bits};
 
 /// Reads what the first packet has before STREAMINFO: the byte 7F and `FLAC`, version 1.0, the number of header
 /// packets, which may be any, and `fLaC` (RFC 9639, section 10.1).
@@ -71,16 +71,24 @@ fn item_place(at: Place, why: Why) -> Place
     }
 }
 
+/// The fault of a page that was refused.
+fn refused_page(page: u64, why: Why) -> Fault
+    ensures at { result.at ≡ page_place page why }
+    ensures why { result.why ≡ why }
+{
+    Fault {
+        at: page_place(page, why),
+        why,
+    }
+}
+
 /// The fault of a packet that is not the item of this place: that of a page, if a page's error breaks the packet off.
-pub(crate) fn packet_fault(at: Place, told: (Option<u64>, Why)) -> Fault
+pub(crate) fn packet_fault(at: Place, told: PacketFault) -> Fault
     ensures place { (s : Stand) → at ≡ place_in s.phase s.index → result.at ≡ packet_place s told }
     ensures why { result.why ≡ told.1 }
 {
     match told {
-        (Some(page), why) => Fault {
-            at: page_place(page, why),
-            why,
-        },
+        (Some(page), why) => refused_page(page, why),
         (None, why) => Fault {
             at: item_place(at, why),
             why,
@@ -179,7 +187,7 @@ pub(crate) fn read_part<R: Source>(bits: &mut BitReader<R>, track: &mut Track) -
 pub(crate) fn read_packet<R: Source>(
     pages: &mut Pages<R>,
     track: &mut Track,
-) -> Result<Part, (Option<u64>, Why)>
+) -> Result<Part, PacketFault>
     ensures memory { (stand_of track.old).phase ≡ Frames → IfErr result (λ e. e.1 ≢ Why.Memory) }
     ensures kept { pages.old.errors ≤ pages.new.errors }
     ensures names { pages.new.names ≡ pages.old.names }
@@ -244,10 +252,7 @@ fn behind_last(track: &Track, page: u64, why: Why) -> Fault
     if !track.is_past_metadata() {
         return block_due(track);
     }
-    Fault {
-        at: page_place(page, why),
-        why,
-    }
+    refused_page(page, why)
 }
 
 /// The error if no packet is left: that of the page that was refused, or of a byte after the page marked last.
@@ -260,10 +265,7 @@ fn page_fault(track: &Track, is_last: bool, page: u64, why: Why) -> Fault
     if is_last {
         return behind_last(track, page, why);
     }
-    Fault {
-        at: page_place(page, why),
-        why,
-    }
+    refused_page(page, why)
 }
 
 /// Reads the next packet's block or frame; `None` at the end of the stream. After an error neither the pages nor the

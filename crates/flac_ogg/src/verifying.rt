@@ -20,7 +20,7 @@ use flac_meta::{Block, BlockList};
 use flac_native::{EncodeFault, Fault, Plan, Profile, Sink, SinkFault, encode};
 use std::alloc::Global;
 
-/// Each byte is below 256.
+/// Does nothing: it is called for the proof alone, that each byte is below 256.
 pub(crate) fn bytes_fit(bytes: &[u8])
     ensures { AreBytes bytes.now }
 {}
@@ -143,9 +143,9 @@ fn decode_again(alloc: Global, bytes: &[u8], profile: Profile) -> Result<(), Why
     }
 }
 
-/// Encodes samples into memory, decodes the bytes again in the plan's profile, and returns them: an Ogg stream with this serial number (RFC
-/// 9639, section 10.1), or without one a native stream (section 6). They are a stream of exactly what was given, as if
-/// by [`encode_ogg`] or [`encode`].
+/// Encodes samples into memory, decodes the bytes again in the plan's profile, and returns them: an Ogg stream with
+/// this serial number (RFC 9639, section 10.1), or without one a native stream (section 6). They are a stream of
+/// exactly what was given, as if by [`encode_ogg`] or [`encode`].
 ///
 /// The plan must fit the samples ([`Plan::fits`]).
 ///

@@ -10,6 +10,7 @@ ghost use Rattle.flac_pages.specs.Items.{end_of, behind_item, packet_of, packet_
 ghost use Rattle.flac_pages.specs.inner.Items.{why_in};
 
 use crate::packet_bytes::PacketBytes;
+use crate::page::{PacketFault, PageFault};
 use crate::pages::Pages;
 use flac_bits::{BitReader, Source, Why, read_bytes};
 
@@ -23,7 +24,7 @@ pub fn packet_bits<R: Source>(packet: PacketBytes<'_, R>) -> BitReader<PacketByt
 
 /// The error of an item's reader in terms of its packet: that of a refused page has the number of pages before it, and
 /// an item that the packet cuts off is [`Why::PacketLength`].
-fn why_in(fault: Option<(u64, Why)>, why: Why) -> (Option<u64>, Why)
+fn why_in(fault: Option<PageFault>, why: Why) -> PacketFault
     ensures value { result ≡ why_in fault why }
     ensures memory { IfSome fault (λ f. f.1 ≢ Why.Memory) → result.1 ≡ Why.Memory → why ≡ Why.Memory }
 {
@@ -40,7 +41,7 @@ fn why_in(fault: Option<(u64, Why)>, why: Why) -> (Option<u64>, Why)
 /// Checks that the packet ends after a whole item.
 fn end_behind<'a, R: Source>(
     bits: BitReader<PacketBytes<'a, R>>,
-) -> (Result<(), (Option<u64>, Why)>, &'a mut Pages<R>)
+) -> (Result<(), PacketFault>, &'a mut Pages<R>)
     ensures kept { bits.entry.errors ≤ result.1.now.errors }
     ensures back { GivesBack bits.entry result.1.ghost_name result.1.now (Ok tt) result.0 }
     ensures spends { OnOk result.0 (8 * (result.1.now.most + length result.1.now.body) ≤ bits.entry.most) }
@@ -75,7 +76,7 @@ fn end_behind<'a, R: Source>(
 pub fn end_item<'a, R: Source, X: Drop>(
     bits: BitReader<PacketBytes<'a, R>>,
     read: Result<X, Why>,
-) -> (Result<X, (Option<u64>, Why)>, &'a mut Pages<R>)
+) -> (Result<X, PacketFault>, &'a mut Pages<R>)
     ensures kept { bits.entry.errors ≤ result.1.now.errors }
     ensures back { GivesBack bits.entry result.1.ghost_name result.1.now read result.0 }
     // The bits that were read are spent.
@@ -116,10 +117,7 @@ fn fill<R: Source>(bits: &mut BitReader<R>, out: &mut [u8]) -> Result<(), Why>
 /// # Errors
 /// - [`Why::PacketLength`] if the packet has another length, or is still open at the end of the last page.
 /// - If a refused page breaks the packet off: the number of pages before that page, and its error.
-pub fn read_packet<R: Source>(
-    pages: &mut Pages<R>,
-    out: &mut [u8],
-) -> Result<(), (Option<u64>, Why)>
+pub fn read_packet<R: Source>(pages: &mut Pages<R>, out: &mut [u8]) -> Result<(), PacketFault>
     ensures kept { pages.old.errors ≤ pages.new.errors }
     ensures names { pages.new.names ≡ pages.old.names }
     // Read is reported only if the device returned an error in the call.

@@ -1,4 +1,11 @@
 //! Pages and packets of an Ogg stream: reading and writing (RFC 3533).
+//!
+//! | To | Use |
+//! |---|---|
+//! | read packets | [`Pages`], with [`read_packet`], or [`PacketBytes`], [`packet_bits`] and [`end_item`] |
+//! | allocate room for a page first | [`PageRoom`] and [`Pages::over`] |
+//! | write packets | [`write_packet`] or [`write_packets`] |
+//! | read or write single pages, as these do and as tests do | [`next_page`], [`write_page`], [`sum_of_page`] |
 #![tactic(auto)]
 
 mod fields;
@@ -12,7 +19,7 @@ mod writing;
 
 pub use item::{end_item, packet_bits, read_packet};
 pub use packet_bytes::PacketBytes;
-pub use page::{Before, Head};
+pub use page::{Before, Head, MOST_BODY, MOST_PAGE, PacketFault, PageFault};
 pub use pages::Pages;
 pub use promises::{
     packet_list_is_given, packets_are_given, packets_are_placed, packets_tell_one, pages_are_runs,

@@ -5,6 +5,7 @@ ghost use Rattle.std.specs.Option.{ForSome};
 ghost use Rattle.flac_bits.specs.declared.why.Why.TheVariants.{Memory};
 ghost use Rattle.flac_pages.specs.Packets.{Met, left_of, behind_left};
 
+use crate::page::PageFault;
 use crate::pages::Pages;
 use flac_bits::{Source, Why};
 use std::io;
@@ -17,7 +18,7 @@ pub struct PacketBytes<'a, R: Source> {
     pages: &'a mut Pages<R>,
     /// The pages as they were borrowed, for clauses only.
     lent: Snapshot<Pages<R>>,
-    fault: Option<(u64, Why)>,
+    fault: Option<PageFault>,
     errors: u64,
     ghost quiet: { fault ≡ None → errors ≡ 0 },
     ghost counted: { errors ≡ 0 → fault ≡ None },
@@ -44,7 +45,7 @@ impl<'a, R: Source> PacketBytes<'a, R> {
     }
 
     /// If a page was refused: how many pages came before it, and the error.
-    pub fn why(&self) -> Option<(u64, Why)>
+    pub fn why(&self) -> Option<PageFault>
         ensures fault { result ≡ self.now.fault }
         ensures memory { IfSome result (λ f. f.1 ≢ Why.Memory) }
     {

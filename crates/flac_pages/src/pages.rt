@@ -10,7 +10,7 @@ ghost use Rattle.flac_pages.specs.inner.Items.{EndsPacket};
 ghost use Rattle.flac_pages.specs.Packets.{at_front, Met, Begins};
 ghost use Rattle.flac_pages.specs.inner.Packets.{next_segment, Turns, Steps, Finds, Copies, ended};
 
-use crate::page::Before;
+use crate::page::{Before, PacketFault, PageFault};
 use crate::room::{PageRoom, next_page_here};
 use flac_bits::{BitReader, Source, Why};
 use std::alloc::Global;
@@ -190,7 +190,7 @@ impl<R: Source> Pages<R> {
                     sequence: head.sequence,
                     goes_on,
                 });
-                self.last = head.flags / 4 % 2 == 1;
+                self.last = head.is_last();
                 self.next = 0;
                 self.at = 0;
                 self.count = self.count.saturating_add(1);
@@ -299,7 +299,7 @@ impl<R: Source> Pages<R> {
     /// If a refused page breaks the packet off, the number of pages before that page, and its error.
     /// [`Why::PacketLength`] if the packet is still open at the end of the last page.
     #[tactic(auto, using(crate::proofs::PacketEnds::passed_more, crate::proofs::PacketEnds::ends_between, crate::proofs::PacketEnds::ends_inside, crate::proofs::PacketEnds::ends_broken, crate::proofs::PacketEnds::length_of_none, crate::proofs::PacketEnds::told_of_next))]
-    pub(crate) fn end_packet(&mut self) -> Result<(), (Option<u64>, Why)>
+    pub(crate) fn end_packet(&mut self) -> Result<(), PacketFault>
         ensures memory { IfErr result (λ e. e.1 ≢ Why.Memory) }
         ensures page { IfErr result (λ e. HasItsPage self.new.count e) }
         ensures ends { EndsPacket self.old self.new result }
@@ -324,7 +324,7 @@ impl<R: Source> Pages<R> {
     }
 
     /// What comes after the last page: false if the input ends there.
-    fn end(&mut self) -> Result<bool, (u64, Why)>
+    fn end(&mut self) -> Result<bool, PageFault>
         requires read { self.now.lacing ≡ [] }
         requires last { self.now.last ≡ true }
         ensures memory { IfErr result (λ e. e.1 ≢ Why.Memory) }
@@ -343,7 +343,7 @@ impl<R: Source> Pages<R> {
     /// The number of pages before the one that is refused, and its error: those of [`crate::next_page`], and
     /// [`Why::PageOrder`] for a byte after the last page.
     #[tactic(auto, using(crate::proofs::Exits::waits_begins, crate::proofs::Exits::waits_turned, crate::proofs::Exits::waits_refused, crate::proofs::Exits::waits_begun))]
-    pub fn next_packet(&mut self) -> Result<bool, (u64, Why)>
+    pub fn next_packet(&mut self) -> Result<bool, PageFault>
         requires { (self.now.rest ≡ 0) × (self.now.more ≡ false) }
         ensures memory { IfErr result (λ e. e.1 ≢ Why.Memory) }
         ensures page { IfErr result (λ e. e.0 ≡ self.new.count) }
@@ -391,7 +391,7 @@ fn end_fault<R: Source>(reader: &mut BitReader<R>) -> Option<Why>
 }
 
 /// What [`Pages::next_packet`] returns after the last page.
-fn ended(count: u64, fault: Option<Why>) -> Result<bool, (u64, Why)>
+fn ended(count: u64, fault: Option<Why>) -> Result<bool, PageFault>
     ensures value { result ≡ ended count fault }
     ensures memory { IfSome fault (λ e. e ≢ Why.Memory) → IfErr result (λ e. e.1 ≢ Why.Memory) }
     ensures page { IfErr result (λ e. e.0 ≡ count) }

@@ -11,8 +11,8 @@ ghost use Rattle.flac_pages.specs.Page.{page_sum, page_behind, end_rules, first_
 ghost use Rattle.flac_pages.specs.Runs.{MeansPage};
 
 use crate::fields::read_head;
-use crate::page::{Before, Head};
-use crate::writing::{MOST_BYTES, sum_of_page};
+use crate::page::{Before, Head, MOST_BODY};
+use crate::writing::sum_of_page;
 use flac_bits::{BitReader, Source, Why, read_bytes, read_unchecked};
 use std::alloc::Global;
 use std::marker::Model;
@@ -47,7 +47,7 @@ impl PageRoom {
         ensures ok { IfOk result (λ p. (p.lacing ≡ []) × (p.body ≡ [])) }
         ensures err { IfErr result (λ e. e ≡ Why.Memory) }
     {
-        let body = vec![in alloc; 0u8; MOST_BYTES]?;
+        let body = vec![in alloc; 0u8; MOST_BODY]?;
         Ok(PageRoom {
             head: Head {
                 flags: 0,
@@ -86,7 +86,7 @@ impl PageRoom {
     }
 
     /// The length of segment `index` in bytes, counted from 0. There must be such a segment.
-    pub fn segment(&self, index: u8) -> u8
+    pub(crate) fn segment(&self, index: u8) -> u8
         requires { index < length self.now.lacing }
         ensures { result ≡ get_or self.now.lacing index 0 }
     {
@@ -119,8 +119,8 @@ impl PageRoom {
         if head.sum != self.sum() {
             return Some(Why::PageCheck);
         }
-        let first = head.flags / 2 % 2 == 1;
-        let continued = head.flags % 2 == 1;
+        let first = head.is_first();
+        let continued = head.is_continued();
         let count = self.count();
         let bytes = self.body().len();
         match before {

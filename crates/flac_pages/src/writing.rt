@@ -5,13 +5,11 @@ ghost use Rattle.flac_bits.specs.Written.{Writes};
 ghost use Rattle.flac_pages.specs.Page.{page_sum, page_spelling};
 ghost use Rattle.flac_pages.specs.Packets.{lacing_of};
 ghost use Rattle.flac_pages.specs.Placed.{AreInOrder, placed_in, stream_spelling};
+ghost use Rattle.flac_pages.specs.inner.Heads.{head_bytes};
 ghost use Rattle.flac_pages.specs.Written.{granule_at, summed, head_at, packet_spelling};
 
-use crate::page::Head;
+use crate::page::{CONTINUED, FIRST, Head, LAST, MOST_BODY};
 use flac_bits::{BitWriter, Target, Why, crc32_sum};
-
-/// The most bytes that a page can have: 255 segments of 255 bytes.
-pub(crate) const MOST_BYTES: usize = 65025;
 
 /// What a packet is (RFC 9639, section 10.1).
 #[derive(Clone, Copy, Debug, PartialEq, Eq)]
@@ -63,6 +61,21 @@ pub struct PacketAt {
     pub kind: PacketKind,
 }
 
+/// The bytes of a page before its lacing values (RFC 3533, section 6, fields 1 to 8): `OggS`, version 0, the fields of
+/// `head` with this checksum in place of its own, and the number of lacing values.
+fn head_bytes(head: Head, sum: u32, count: u8) -> [u8; 27]
+    ensures { result ≡ head_bytes head sum count }
+{
+    let [g0, g1, g2, g3, g4, g5, g6, g7] = head.granule.to_le_bytes();
+    let [a0, a1, a2, a3] = head.serial.to_le_bytes();
+    let [n0, n1, n2, n3] = head.sequence.to_le_bytes();
+    let [c0, c1, c2, c3] = sum.to_le_bytes();
+    [
+        0x4F, 0x67, 0x67, 0x53, 0, head.flags, g0, g1, g2, g3, g4, g5, g6, g7, a0, a1, a2, a3, n0,
+        n1, n2, n3, c0, c1, c2, c3, count,
+    ]
+}
+
 /// The checksum of a page (RFC 3533, section 6, field 7): the remainder over all of the page, whose own checksum counts
 /// as 0. `lacing` has at most 255 values.
 pub fn sum_of_page(head: Head, lacing: &[u8], body: &[u8]) -> u32
@@ -70,12 +83,7 @@ pub fn sum_of_page(head: Head, lacing: &[u8], body: &[u8]) -> u32
     ensures { result ≡ page_sum (record { head = head; lacing = lacing.now; body = body.now }) }
 {
     let count = lacing.len() as u8;
-    let check = crc32_sum(0, &[0x4F, 0x67, 0x67, 0x53, 0, head.flags]);
-    let check = crc32_sum(check, &head.granule.to_le_bytes());
-    let check = crc32_sum(check, &head.serial.to_le_bytes());
-    let check = crc32_sum(check, &head.sequence.to_le_bytes());
-    let check = crc32_sum(check, &0u32.to_le_bytes());
-    let check = crc32_sum(check, &[count]);
+    let check = crc32_sum(0, &head_bytes(head, 0, count));
     let check = crc32_sum(check, lacing);
     crc32_sum(check, body)
 }
@@ -96,12 +104,7 @@ pub fn write_page<W: Target>(
 {
     let sum = sum_of_page(head, lacing, body);
     let count = lacing.len() as u8;
-    writer.put_bytes(&[0x4F, 0x67, 0x67, 0x53, 0, head.flags])?;
-    writer.put_bytes(&head.granule.to_le_bytes())?;
-    writer.put_bytes(&head.serial.to_le_bytes())?;
-    writer.put_bytes(&head.sequence.to_le_bytes())?;
-    writer.put_bytes(&sum.to_le_bytes())?;
-    writer.put_bytes(&[count])?;
+    writer.put_bytes(&head_bytes(head, sum, count))?;
     writer.put_bytes(lacing)?;
     writer.put_bytes(body)
 }
@@ -111,11 +114,11 @@ fn head_of(marks: PacketMarks, last: usize, page: usize) -> Head
     ensures { result ≡ head_at marks last page }
 {
     let begins = if page == 0 {
-        if marks.first { 2 } else { 0 }
+        if marks.first { FIRST } else { 0 }
     } else {
-        1
+        CONTINUED
     };
-    let ends = if page == last && marks.last { 4 } else { 0 };
+    let ends = if page == last && marks.last { LAST } else { 0 };
     Head {
         flags: begins + ends,
         granule: marks.kind.granule(page == last),
@@ -162,14 +165,14 @@ pub fn write_packet<W: Target>(
     ensures wrote { Writes (packet_spelling marks packet.now) writer.old writer.new result }
     ensures next { IfOk result (λ n. n ≡ (marks.sequence + (length packet.now / 65025 + 1)) % 2 ^ 32) }
 {
-    let last = packet.len() / MOST_BYTES;
+    let last = packet.len() / MOST_BODY;
     for page in 0..last {
-        let from = MOST_BYTES * page;
+        let from = MOST_BODY * page;
         let head = head_of(marks, last, page);
-        write_page(head, &[255; 255], &packet[from..from + MOST_BYTES], writer)?;
+        write_page(head, &[255; 255], &packet[from..from + MOST_BODY], writer)?;
     }
     let head = head_of(marks, last, last);
-    write_last(head, &packet[MOST_BYTES * last..], writer)?;
+    write_last(head, &packet[MOST_BODY * last..], writer)?;
     Ok(head.sequence.wrapping_add(1))
 }
 

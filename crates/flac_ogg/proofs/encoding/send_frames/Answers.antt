@@ -18,11 +18,11 @@ use Rattle.flac_ogg.proofs.encoding.send_frames.Goals as goal
 
 pub loop-start-init : goal.loop-start-init
 loop-start-init g c =
-    let p = c.args.plan.now in
+    let p = c.args.planned.now.plan.now in
     let q = planned p c.block_size-size.ensures.good in
-    let blocks = some_blocks p.block_size (samples_each c.args.audio.now.channels) q.least c.requires.some in
+    let blocks = some_blocks p.block_size (samples_each c.args.planned.now.audio.now.channels) q.least c.requires.some in
     record {
-      going = λ lt. packets_none g.W.Target c.args.serial c.args.from p c.args.audio.now c.args.target.now;
+      going = λ lt. packets_none g.W.Target c.args.headers.now.serial c.args.headers.now.held.next p c.args.planned.now.audio.now c.args.target.now;
       over = λ e. absurd (omega (arith, e, blocks));
       buffers = c.requires.buffers;
       room = refl;
@@ -33,8 +33,8 @@ loop-start-init g c =
 
 pub write-room-requires-clause-few : goal.write-room-requires-clause-few
 write-room-requires-clause-few g c =
-    let p = c.args.plan.now in
-    let a = c.args.audio.now in
+    let p = c.args.planned.now.plan.now in
+    let a = c.args.planned.now.audio.now in
     let b = p.block_size in
     let n = c.loop-start.number in
     let total = samples_each a.channels in
@@ -47,12 +47,12 @@ write-room-requires-clause-few g c =
     lt
 
 pub write-room-requires-clause-room : goal.write-room-requires-clause-room
-write-room-requires-clause-room g c = subst (HasRoom c.args.plan.now c.args.audio.now) (sym c.loop-start.invariant.room) c.requires.room
+write-room-requires-clause-room g c = subst (HasRoom c.args.planned.now.plan.now c.args.planned.now.audio.now) (sym c.loop-start.invariant.room) c.requires.room
 
 pub paged-filled-requires : goal.paged-filled-requires
 paged-filled-requires g c =
-    let p = c.args.plan.now in
-    let a = c.args.audio.now in
+    let p = c.args.planned.now.plan.now in
+    let a = c.args.planned.now.audio.now in
     let b = p.block_size in
     let n = c.loop-start.number in
     let total = samples_each a.channels in
@@ -64,14 +64,14 @@ paged-filled-requires g c =
     let lt : n < blocks_in b total = still_some b total n q.least more in
     let packet = c.bytes-packet.result.now in
     let is : IsSpelled p a n (bits_of packet) = subst (λ l. IsSpelled p a n (bits_of l)) (sym c.bytes-packet.ensures) c.write-room.ensures.frame in
-    let long : length packet ≤ c.args.frames.now.greatest = spelled_long p a n c.args.frames.now.least c.args.frames.now.greatest packet c.args.frames.now.points.items lt c.requires.counted is in
+    let long : length packet ≤ c.args.planned.now.frames.now.greatest = spelled_long p a n c.args.planned.now.frames.now.least c.args.planned.now.frames.now.greatest packet c.args.planned.now.frames.now.points.items lt c.requires.counted is in
     omega (arith, long, c.requires.pages, inv.pages)
 
 pub returns-in_err-send_all : goal.returns-in_err-send_all
 returns-in_err-send_all g c =
     let s = err_from_is_err_and c.from_residual.result c.from_residual.ensures.1 in
-    let p = c.args.plan.now in
-    let a = c.args.audio.now in
+    let p = c.args.planned.now.plan.now in
+    let a = c.args.planned.now.audio.now in
     let b = p.block_size in
     let n = c.loop-start.number in
     let total = samples_each a.channels in
@@ -84,7 +84,7 @@ returns-in_err-send_all g c =
     let up : b * suc n ≡ b * n + b = omega (arith, mul-suc b n) in
     let end : ℕ = c.loop-start.start + c.min.result in
     let end_is : end ≡ min total (b * suc n) = omega (arith, inv.start, c.min.ensures, up, more, c.block_size-size.ensures.value, c.len-total.ensures) in
-    let serial = c.args.serial in
+    let serial = c.args.headers.now.serial in
     let sequence = c.loop-start.sequence in
     let packet = c.bytes-packet.result.now in
     let is : IsSpelled p a n (bits_of packet) = subst (λ l. IsSpelled p a n (bits_of l)) (sym c.bytes-packet.ensures) c.write-room.ensures.frame in
@@ -97,13 +97,13 @@ returns-in_err-send_all g c =
     ∙ ap (λ k. packet_spelling (record { serial = serial; sequence = sequence; kind = Frame k; first = false; last = nat_eq end total }) packet) end_is in
     let last = last_is b total n end q.least lt end_is in
     let k = c.requires.counted in
-    rw s.1 (packets_fail g.W.Target serial c.args.from p a n sequence old mid new packet (nat_eq end total) k.frames _ _ few c.bytes_fit.ensures (inv.going lt) is lt last k.are k.are_least
+    rw s.1 (packets_fail g.W.Target serial c.args.headers.now.held.next p a n sequence old mid new packet (nat_eq end total) k.frames _ _ few c.bytes_fit.ensures (inv.going lt) is lt last k.are k.are_least
     (sends_as g.W.Target c.bytes.result.now _ mid new _ spelled c.in_err-send_all.ensures.sends))
 
 pub loop-start-preserved : goal.loop-start-preserved
 loop-start-preserved g c =
-    let p = c.args.plan.now in
-    let a = c.args.audio.now in
+    let p = c.args.planned.now.plan.now in
+    let a = c.args.planned.now.audio.now in
     let b = p.block_size in
     let n = c.loop-start.number in
     let total = samples_each a.channels in
@@ -116,7 +116,7 @@ loop-start-preserved g c =
     let up : b * suc n ≡ b * n + b = omega (arith, mul-suc b n) in
     let end : ℕ = c.loop-start.start + c.min.result in
     let end_is : end ≡ min total (b * suc n) = omega (arith, inv.start, c.min.ensures, up, more, c.block_size-size.ensures.value, c.len-total.ensures) in
-    let serial = c.args.serial in
+    let serial = c.args.headers.now.serial in
     let sequence = c.loop-start.sequence in
     let packet = c.bytes-packet.result.now in
     let is : IsSpelled p a n (bits_of packet) = subst (λ l. IsSpelled p a n (bits_of l)) (sym c.bytes-packet.ensures) c.write-room.ensures.frame in
@@ -134,12 +134,12 @@ loop-start-preserved g c =
     record {
       going = λ other.
           let goes : nat_eq end total ≡ false = sym last ∙ differ (n + 1) (blocks_in b total) other in
-          subst (λ k. SentPackets g.W.Target serial c.args.from p a (n + 1) k old new) (sym next)
-          (packets_more g.W.Target serial c.args.from p a n sequence old mid new packet few c.bytes_fit.ensures (inv.going lt) is
+          subst (λ k. SentPackets g.W.Target serial c.args.headers.now.held.next p a (n + 1) k old new) (sym next)
+          (packets_more g.W.Target serial c.args.headers.now.held.next p a n sequence old mid new packet few c.bytes_fit.ensures (inv.going lt) is
           (subst (λ l. SendsBits g.W.Target (packet_spelling (record { serial = serial; sequence = sequence; kind = Frame (min total (b * suc n)); first = false; last = l }) packet) mid new came_out) goes sends));
       over = λ all.
           let ends : nat_eq end total ≡ true = sym last ∙ agree (n + 1) (blocks_in b total) all in
-          packets_sent g.W.Target serial c.args.from p a n sequence old mid new packet tt few c.bytes_fit.ensures (inv.going lt) is all
+          packets_sent g.W.Target serial c.args.headers.now.held.next p a n sequence old mid new packet tt few c.bytes_fit.ensures (inv.going lt) is all
           (subst (λ l. SendsBits g.W.Target (packet_spelling (record { serial = serial; sequence = sequence; kind = Frame (min total (b * suc n)); first = false; last = l }) packet) mid new came_out) ends sends);
       buffers = c.write-room.ensures.kept ∙ inv.buffers;
       room = c.write-room.ensures.places ∙ inv.room;
@@ -150,13 +150,13 @@ loop-start-preserved g c =
 
 pub loop-start-smaller : goal.loop-start-smaller
 loop-start-smaller g c =
-    let q = planned c.args.plan.now c.block_size-size.ensures.good in
+    let q = planned c.args.planned.now.plan.now c.block_size-size.ensures.good in
     omega (arith, c.min.ensures, c.loop-start-test.true, c.block_size-size.ensures.value, q.least)
 
 pub returns : goal.returns
 returns g c =
-    let p = c.args.plan.now in
-    let a = c.args.audio.now in
+    let p = c.args.planned.now.plan.now in
+    let a = c.args.planned.now.audio.now in
     let inv = c.loop-start.invariant in
     let q = planned p c.block_size-size.ensures.good in
     inv.over (all_gathered p.block_size (samples_each a.channels) c.loop-start.number q.least inv.few (omega (arith, inv.start, c.loop-start-test.false, c.len-total.ensures)))

@@ -8,8 +8,8 @@ use Rattle.flac_ogg.proofs.encoding.send_frames.Given as goal
 
 abbrev pub invariant-loop-start : goal.invariant-loop-start
 invariant-loop-start g l = record {
-  going : l.number < blocks_in l.plan.block_size (samples_each l.audio.channels) → SentPackets g.W.Target l.serial l.from l.plan l.audio l.number l.sequence l.fn.target l.target;
-  over : l.number ≡ blocks_in l.plan.block_size (samples_each l.audio.channels) → SendsPackets g.W.Target l.serial l.from l.plan l.audio l.fn.target l.target came_out;
+  going : l.number < blocks_in l.plan.block_size (samples_each l.audio.channels) → SentPackets g.W.Target l.headers.serial l.headers.held.next l.plan l.audio l.number l.sequence l.fn.target l.target;
+  over : l.number ≡ blocks_in l.plan.block_size (samples_each l.audio.channels) → SendsPackets g.W.Target l.headers.serial l.headers.held.next l.plan l.audio l.fn.target l.target came_out;
   buffers : l.buffers ≡ room_of l.plan;
   room : l.room.places ≡ l.fn.room.places;
   pages : l.pages.places ≡ l.fn.pages.places;

@@ -9,8 +9,8 @@ use Rattle.flac_ogg.proofs.encoding.send_stream.Goals as goal
 pub returns-in_err-send_all : goal.returns-in_err-send_all
 returns-in_err-send_all g c =
     let s = err_from_is_err_and c.from_residual.result c.from_residual.ensures.1 in
-    let p = c.args.plan.now in
-    let a = c.args.audio.now in
+    let p = c.args.planned.now.plan.now in
+    let a = c.args.planned.now.audio.now in
     let few : samples_each a.channels < 2 ^ 64 = omega (arith, (planned p c.block_size-size.ensures.good).total, (fit p a c.requires.fits).total) in
     let k = c.requires.counted in
     rw s.1 (λ first texts h. written_failed c.args.headers.now first texts h g.W.Target p a k.frames k.are k.are_least few c.args.target.now c.send_all.new.target _ _
@@ -18,8 +18,8 @@ returns-in_err-send_all g c =
 
 pub returns-then-is_empty : goal.returns-then-is_empty
 returns-then-is_empty g c =
-    let p = c.args.plan.now in
-    let a = c.args.audio.now in
+    let p = c.args.planned.now.plan.now in
+    let a = c.args.planned.now.audio.now in
     let q = planned p c.block_size-size.ensures.good in
     let few : samples_each a.channels < 2 ^ 64 = omega (arith, q.total, (fit p a c.requires.fits).total) in
     let k = c.requires.counted in
@@ -31,8 +31,8 @@ returns-then-is_empty g c =
 pub returns-in_err-send_all-2 : goal.returns-in_err-send_all-2
 returns-in_err-send_all-2 g c =
     let s = err_from_is_err_and c.from_residual-in_err-send_all-2.result c.from_residual-in_err-send_all-2.ensures.1 in
-    let p = c.args.plan.now in
-    let a = c.args.audio.now in
+    let p = c.args.planned.now.plan.now in
+    let a = c.args.planned.now.audio.now in
     let q = planned p c.block_size-size.ensures.good in
     let few : samples_each a.channels < 2 ^ 64 = omega (arith, q.total, (fit p a c.requires.fits).total) in
     let k = c.requires.counted in
@@ -46,8 +46,8 @@ send_frames-requires-clause-some g c = grind (arith, nat_tests, c.is_empty.ensur
 
 pub returns : goal.returns
 returns g c =
-    let p = c.args.plan.now in
-    let a = c.args.audio.now in
+    let p = c.args.planned.now.plan.now in
+    let a = c.args.planned.now.audio.now in
     let q = planned p c.block_size-size.ensures.good in
     let some : 0 < samples_each a.channels = grind (arith, nat_tests, c.is_empty.ensures, c.if-is_empty.false) in
     λ first texts h. stream_sent c.args.headers.now first texts h g.W.Target p a c.args.target.now c.send_all.new.target c.send_all-2.new.target c.send_frames.new.target c.send_frames.result (some_blocks p.block_size (samples_each a.channels) q.least some)

@@ -34,7 +34,7 @@ returns-in-Ok-clause-turns g c =
       spends = omega (arith, ap (λ (p : Place). p.most) is, c.in-Ok.ensures.spends, c.in-Ok.ensures.whole.2);
       ahead = λ known. turned_anew c.args.self.now _ page c.requires.read (sym (ap (λ (p : Place). p.body) is) ∙ no_body) c.requires.last
           (ap (λ (p : Place). begun_anew (next_page p.before p.cursor)) (sym is) ∙ c.in-Ok.ensures.reads (ap (λ (p : Place). p.known) is ∙ known) counts.1)
-          refl refl (ap (λ (h : Head). is_last h.flags) c.head-head.ensures) before_is (c.saturating_add-self-inside.ensures ∙ ap (λ (p : Place). min (p.count + 1) 18446744073709551615) is);
+          refl refl (c.is_last-self-inside.ensures ∙ ap (λ (h : Head). is_last h.flags) c.head-head.ensures) before_is (c.saturating_add-self-inside.ensures ∙ ap (λ (p : Place). min (p.count + 1) 18446744073709551615) is);
     }
 
 pub returns-in-Err-clause-turns : goal.returns-in-Err-clause-turns
