@@ -142,7 +142,8 @@ pub fn hand_out<C: Container, S: Sink>(
     ensures met { IfOk result (λ _. (C.known container.old ≡ true → C.known container.new ≡ true) × (C.errors container.new ≡ C.errors container.old) × (C.raised container.new ≡ C.raised container.old)) }
     ensures kept { C.errors container.old ≤ C.errors container.new }
     ensures read { IfErr result (λ f. C.known container.old ≡ true → f.why ≡ Why.Read → C.clear container.old track.old → C.raised container.old < C.raised container.new) }
-    // An error of the device and of the sink is counted, if the count can rise, whatever is known of them: no other call returns it.
+    // An error of the device and of the sink is counted, if the count can rise, whatever is known of them: no other
+    // call returns it.
     ensures risen { IfErr result (λ f. f.why ≡ Why.Read → Rises (C.met container.old) (C.met container.new)) }
     ensures sink { IfErr result (λ f. f.why ≡ Why.Sink → Rises (S.errors sink.old) (S.errors sink.new)) }
     ensures behind { C.known container.old ≡ true → C.errors container.new ≡ C.errors container.old → C.behind container.new ≡ without_fence (C.behind container.old) }
@@ -193,7 +194,8 @@ pub fn decode<R: Source, S: Sink>(
         Decides (by_grammar grammar (opening profile) (beginning (short_of ((R.behind source.old).fails))) (bits_of (R.coming source.old))) (outcome_of told result) }
     ensures kept { R.errors source.old ≤ R.errors source.new }
     ensures read { IfErr result (λ f. R.known source.old ≡ true → f.why ≡ Why.Read → R.raised source.old < R.raised source.new) }
-    // An error of the source and of the sink is counted, if the count can rise, whatever is known of them: no other call returns it.
+    // An error of the source and of the sink is counted, if the count can rise, whatever is known of them: no other
+    // call returns it.
     ensures risen { IfErr result (λ f. f.why ≡ Why.Read → Rises (R.raised source.old) (R.raised source.new)) }
     ensures sink { IfErr result (λ f. f.why ≡ Why.Sink → Rises (S.errors sink.old) (S.errors sink.new)) }
     ensures names { S.names sink.new ≡ S.names sink.old }

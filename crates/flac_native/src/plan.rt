@@ -65,8 +65,9 @@ fn same_profile(one: Profile, other: Profile) -> bool
     }
 }
 
-/// Why linear predictors cannot be tried in a profile at a rate in Hz, or `None` if they can: `TooManyPredictors` if there
-/// are more than 64, else `PredictorOrder` if an order is above [`greatest_order`] (RFC 9639, sections 7 and 9.2.6).
+/// Why linear predictors cannot be tried in a profile at a rate in Hz, or `None` if they can: `TooManyPredictors` if
+/// there are more than 64, else `PredictorOrder` if an order is above [`greatest_order`] (RFC 9639, sections 7 and
+/// 9.2.6).
 pub fn predictors_fault(
     profile: Profile,
     rate: u32,

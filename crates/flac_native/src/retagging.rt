@@ -39,7 +39,7 @@ use std::fmt;
 #[derive(Clone, Copy, Debug, PartialEq, Eq)]
 pub struct RetagFault {
     /// Where the stream is refused, or where the source or an allocation failed. `None` if the comments are too long,
-    /// or if the target failed.
+    /// or if the target failed; and in the program `flac`, if an allocation for the comments failed.
     pub at: Option<Place>,
     /// The reason.
     pub why: Why,
@@ -310,7 +310,8 @@ fn retag_from<R: Source, W: Target>(
 /// a Vorbis comment block of these comments, the other metadata blocks in their order without an old comment block, and
 /// then all bytes that follow the metadata. These are copied as they are, and not verified.
 ///
-/// The metadata blocks are held in memory. The rest is copied 4096 bytes at a time.
+/// It holds the metadata blocks, the new metadata as bytes, and the buffers of one frame, though it reads no frame:
+/// they take up to 1.6 MB, by the channels and the block size of STREAMINFO. The rest is copied 4096 bytes at a time.
 ///
 /// ```
 /// let mut target = Counted::new(file);
