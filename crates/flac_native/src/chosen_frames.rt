@@ -101,7 +101,7 @@ impl ChosenFrames {
         ensures digest { IfOk result (λ f. IsDigest audio.now f.digest) }
         ensures memory { IfErr result (λ e. e ≡ Why.Memory) }
     {
-        let size = plan.block_size() as usize;
+        let _size = plan.block_size(); // for its clause alone
         let total = audio.len();
         let channels = audio.channels().len();
         let most = total / KEPT + 1;
@@ -116,11 +116,13 @@ impl ChosenFrames {
         let mut number = 0;
         let mut start = 0;
         while start < total {
-            let end = start + size.min(total - start);
+            let range = plan.range(audio, number);
+            let end = range.end;
+            let len = end - range.start;
             plan.note_point(number, offset, &mut points)?;
-            feed_block(&mut hasher, audio, start, end - start);
-            choose_frame(audio, start..end, number, predictors, buffers, &mut choice);
-            let bytes = choice.frame_bytes(audio, end - start, number);
+            feed_block(&mut hasher, audio, range.start, len);
+            choose_frame(audio, range, number, predictors, buffers, &mut choice);
+            let bytes = choice.frame_bytes(audio, len, number);
             keep(alloc, &mut choices, &choice, most)?;
             least = least_with(number, least, bytes);
             greatest = greatest_with(greatest, bytes);
