@@ -1,7 +1,7 @@
 //! How samples are divided into frames.
 
 ghost use Rattle.std.specs.Prelude.{◌≡◌, ◌<◌, ◌≤◌, ◌*◌, ◌^◌, ◌++◌, [], MatchResult, IfOk, OnOk, IfErr, true, Some, None};
-ghost use Rattle.flac_native.specs.Given.{same_profile, blocks_in, has_point, points_before, cut_in, cut_of, with_predictors, fits_plan, predictors_fault, plan_fault};
+ghost use Rattle.flac_native.specs.Given.{blocks_in, has_point, points_before, cut_in, cut_of, with_predictors, fits_plan, predictors_fault, plan_fault};
 ghost use Rattle.flac_native.specs.Seeking.{point_at};
 ghost use Rattle.flac_native.specs.inner.Writing.{IsRange};
 ghost use Rattle.flac_frame.specs.Audio.{samples_each};
@@ -53,16 +53,6 @@ impl Model for Plan {
     ghost view = { λ p. record { profile = p.asked.profile; block_size = p.asked.block_size; rate = p.asked.rate; bits = p.asked.bits; channels = p.asked.channels; total = p.asked.total; seek_every = p.asked.seek_every; predictors = listed p.predictors } };
 
     ghost invariant = { λ p. plan_fault (record { profile = p.asked.profile; block_size = p.asked.block_size; rate = p.asked.rate; bits = p.asked.bits; channels = p.asked.channels; total = p.asked.total; seek_every = p.asked.seek_every; predictors = listed p.predictors }) ≡ None };
-}
-
-/// Whether two profiles are the same.
-fn same_profile(one: Profile, other: Profile) -> bool
-    ensures { result ≡ same_profile one other }
-{
-    match one {
-        Profile::Subset => matches!(other, Profile::Subset),
-        Profile::Lax => matches!(other, Profile::Lax),
-    }
 }
 
 /// Why linear predictors cannot be tried in a profile at a rate in Hz, or `None` if they can: `TooManyPredictors` if
@@ -234,7 +224,7 @@ impl Plan {
     pub fn fits(&self, audio: &Audio) -> bool
         ensures { result ≡ fits_plan self.now audio.now }
     {
-        same_profile(self.asked.profile, audio.profile())
+        audio.profile() == self.asked.profile
             && self.asked.rate == audio.rate()
             && self.asked.bits == audio.bits()
             && self.asked.channels == audio.channels().len() as u64
