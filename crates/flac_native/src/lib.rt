@@ -50,6 +50,7 @@ pub use flac_meta::{
     Picture, SeekPoint, SeekTable, StreamInfo, Texts,
 };
 pub use flac_subframe::LinearPredictor;
+pub use format::LONGEST_FRAME;
 pub use item::Item;
 pub use laws::{
     blocks_are_in_order, encoded_are_read_back, encoded_are_resumed, encoded_are_streams,
