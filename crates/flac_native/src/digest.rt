@@ -308,13 +308,25 @@ fn part_of(channel: &[i32], start: usize, size: usize) -> &[i32]
     &channel[start..start + size]
 }
 
+/// How many whole bytes a sample of `bits` bits takes, as raw samples and the MD5 digest have it (RFC 9639, section
+/// 8.2).
+///
+/// ```
+/// let width = sample_width(12); // 2
+/// ```
+pub fn sample_width(bits: u32) -> usize
+    ensures { result ≡ sample_width bits }
+{
+    (bits as usize + 7) / 8
+}
+
 /// Adds `size` samples of each channel, from index `start` on, to the input of a digest, interleaved, as STREAMINFO's
 /// digest has all samples (RFC 9639, section 8.2).
 pub(crate) fn feed_block(hasher: &mut Md5, audio: &Audio, start: usize, size: usize)
     requires { start + size ≤ samples_each audio.now.channels }
     ensures { (m : List ℕ) → Holds hasher.old m → Holds hasher.new (m ++ rows_bytes (sample_width audio.now.bits) audio.now.channels size start) }
 {
-    let width = (audio.bits() as usize + 7) / 8;
+    let width = sample_width(audio.bits());
     let channels = audio.channels();
     if channels.len() == 2 {
         let left = part_of(&channels[0], start, size);

@@ -37,7 +37,7 @@ pub use chosen_frames::{ChosenFrames, info_of};
 pub use container::{Container, Part};
 pub use decoder::Decoder;
 pub use decoding::{Sink, SinkFault, decode, hand_out};
-pub use digest::put_rows;
+pub use digest::{put_rows, sample_width};
 pub use encoding::encode;
 pub use fault::{EncodeFault, Fault, Place};
 pub use flac_bits::{
