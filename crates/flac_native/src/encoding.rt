@@ -16,6 +16,7 @@ ghost use Rattle.flac_native.specs.Seeking.{table_of, is_table, has_table, repea
 
 use crate::chosen_frames::{ChosenFrames, write_frames};
 use crate::fault::EncodeFault;
+use crate::native::MARKER;
 use crate::plan::Plan;
 use crate::targets::Lent;
 use flac_bits::{BitWriter, Target, Why};
@@ -90,7 +91,7 @@ fn write_head<W: Target>(
     requires { block_fault (block_of.SeekTable points.items) ≡ None }
     ensures { Writes (head_spelling info (list.now ++ table_of points.items)) writer.old writer.new result }
 {
-    writer.put(32, 0x664C6143)?;
+    writer.put(32, MARKER)?;
     write_blocks(info, list, points, writer)
 }
 

@@ -18,14 +18,17 @@ use crate::fault::{Fault, Place};
 use crate::track::{Phase, Track};
 use flac_bits::{BitReader, Source, Why};
 
-/// Reads the four bytes `fLaC`.
+/// The marker with which a native stream begins: the four bytes `fLaC` as a number (RFC 9639, section 6).
+pub const MARKER: u64 = 0x664C6143;
+
+/// Reads the marker.
 #[tactic(auto, unfolding(crate::specs::Stream::marker))]
 fn read_marker<R: Source>(reader: &mut BitReader<R>) -> Result<(), Why>
     ensures spends { OnOk result (reader.new.most + 32 ≤ reader.old.most) }
     ensures counts { Counts reader.old reader.new result }
     ensures reads { Reads (λ u. u) marker reader.old reader.new result }
 {
-    if reader.take(32)? != 0x664C6143 {
+    if reader.take(32)? != MARKER {
         return Err(Why::BadMarker);
     }
     Ok(())

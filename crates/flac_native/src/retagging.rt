@@ -25,7 +25,7 @@ ghost use Rattle.flac_native.specs.Decoding.{beginning};
 use crate::container::Part;
 use crate::encoding::write_each;
 use crate::fault::{Fault, Place};
-use crate::native::advance;
+use crate::native::{MARKER, advance};
 use crate::track::Track;
 use flac_bits::{BitReader, BitWriter, Collected, Source, Target, Why, send_all};
 use flac_header::Profile;
@@ -187,7 +187,7 @@ fn write_renewed<W: Target>(
     let Some((info, others)) = kept.split_first() else {
         return Err(Why::NotStreamInfoFirst);
     };
-    writer.put(32, 0x664C6143)?;
+    writer.put(32, MARKER)?;
     write_block(info, false, writer)?;
     write_comments(comments, others.is_empty(), writer)?;
     write_each(others, others.len(), writer)
