@@ -82,7 +82,8 @@ pub trait Sink {
 
 /// Passes the part that was read last to the sink, unless it is the marker.
 fn hand<S: Sink>(part: Part, track: &Track, sink: &mut S) -> Result<(), SinkFault>
-    requires { part ≡ Part.Frame → is_some track.now.format ≡ true }
+    requires block { part ≡ Part.Block → is_some track.now.block ≡ true }
+    requires frame { part ≡ Part.Frame → is_some track.now.format ≡ true }
     ensures known { OnOk result (S.known sink.old ≡ true → S.known sink.new ≡ true) }
     ensures takes { OnOk result (S.known sink.old ≡ true → taken S.takes sink.old (piece_of track.now part) sink.new) }
     ensures counted { OnOk result (S.errors sink.new ≡ S.errors sink.old) }
@@ -94,7 +95,7 @@ fn hand<S: Sink>(part: Part, track: &Track, sink: &mut S) -> Result<(), SinkFaul
         Part::Marker => Ok(()),
         Part::Block => match &track.block {
             Some(block) => sink.block(block),
-            None => Ok(()),
+            None => unreachable!(),
         },
         Part::Frame => match &track.format {
             Some(format) => sink.frame(&format.view()),
@@ -105,7 +106,8 @@ fn hand<S: Sink>(part: Part, track: &Track, sink: &mut S) -> Result<(), SinkFaul
 
 /// Passes the part that was read last to the sink, and reports the position of a failure.
 fn hand_at<S: Sink>(at: Place, part: Part, track: &Track, sink: &mut S) -> Result<(), Fault>
-    requires { part ≡ Part.Frame → is_some track.now.format ≡ true }
+    requires block { part ≡ Part.Block → is_some track.now.block ≡ true }
+    requires frame { part ≡ Part.Frame → is_some track.now.format ≡ true }
     ensures known { OnOk result (S.known sink.old ≡ true → S.known sink.new ≡ true) }
     ensures takes { OnOk result (S.known sink.old ≡ true → taken S.takes sink.old (piece_of track.now part) sink.new) }
     ensures counted { OnOk result (S.errors sink.new ≡ S.errors sink.old) }
@@ -204,6 +206,6 @@ pub fn decode<R: Source, S: Sink>(
     let mut reader = BitReader::new(source);
     let mut track = Track::opening(alloc, profile);
     let outcome = hand_out(&mut reader, &mut track, sink);
-    let _source = reader.into_source();
+    let _source = reader.into_source(); // for its clauses alone
     outcome
 }

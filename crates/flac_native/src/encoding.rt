@@ -122,7 +122,7 @@ pub(crate) fn send_head<W: Target>(
 {
     let mut writer = BitWriter::new(Lent::over(target));
     let outcome = finish_head(info, list, points, &mut writer);
-    let _target = writer.into_target().into_target();
+    let _target = writer.into_target().into_target(); // for its clauses alone
     outcome
 }
 
@@ -197,7 +197,7 @@ fn send_stream<W: Target>(
 {
     let mut writer = BitWriter::new(Lent::over(target));
     let outcome = write_stream(plan, list, audio, frames, buffers, &mut writer);
-    let _target = writer.into_target().into_target();
+    let _target = writer.into_target().into_target(); // for its clauses alone
     outcome
 }
 
@@ -249,7 +249,7 @@ pub fn encode<W: Target>(
     if repeats_table(plan, list) {
         return Err(EncodeFault::RepeatedBlock);
     }
-    let _blocks = list.blocks();
+    let _blocks = list.blocks(); // for its clauses alone
     let size = plan.block_size();
     let Ok(mut buffers) = EncodeBuffers::new_in(alloc, plan.profile(), size) else {
         return Err(EncodeFault::Memory);

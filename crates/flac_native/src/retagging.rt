@@ -92,14 +92,8 @@ fn keep_next<R: Source>(
             Ok(()) => Ok(()),
             Err(why) => Err(Fault { at, why }),
         },
-        Ok(Some(Part::Frame)) => Err(Fault {
-            at,
-            why: Why::Truncated,
-        }),
-        Ok(None) => Err(Fault {
-            at,
-            why: Why::Truncated,
-        }),
+        Ok(Some(Part::Frame)) => unreachable!(),
+        Ok(None) => unreachable!(),
         Err(fault) => Err(Fault { at, why: fault.why }),
     }
 }
@@ -379,6 +373,6 @@ pub fn retag<R: Source, W: Target>(
     }
     let mut reader = BitReader::new(source);
     let outcome = retag_from(alloc, &mut reader, comments, target);
-    let _source = reader.into_source();
+    let _source = reader.into_source(); // for its clauses alone
     outcome
 }

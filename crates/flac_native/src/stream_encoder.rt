@@ -241,7 +241,7 @@ fn frame_bytes(
     ensures least { IfOk result (λ bytes. SpellsLeast predictors.now audio.now (frame_with number audio.now.channels) (bits_of bytes.items)) }
     ensures memory { IfErr result (λ e. e ≡ Why.Memory) }
 {
-    let _channels = audio.channels();
+    let _channels = audio.channels(); // for its clauses alone
     let end = audio.len();
     let mut writer = BitWriter::new(Collected::new(alloc));
     match encode_frame_with(audio, 0..end, number, predictors, buffers, &mut writer) {
@@ -367,7 +367,7 @@ impl<W: Target + Drop> StreamEncoder<W> {
         if let Some(fault) = format.fault() {
             return Err(EncodeFault::Setup(fault));
         }
-        let _blocks = list.blocks();
+        let _blocks = list.blocks(); // for its clauses alone
         let Ok(buffers) = EncodeBuffers::new_in(alloc, format.profile, format.block_size) else {
             return Err(EncodeFault::Memory);
         };
