@@ -13,11 +13,8 @@ use crate::fault::{FlacProvedFault, in_c};
 use flac_bits::{BitReader, Memory, Why};
 use flac_frame::{FrameBuffers, FrameView};
 use flac_meta::StreamInfo;
-use flac_native::{Fault, Place, Profile};
+use flac_native::{Fault, LONGEST_FRAME, Place, Profile};
 use std::alloc::Global;
-
-/// The most bytes that a frame can have: STREAMINFO states the sizes of frames in 24 bits (RFC 9639, section 8.2).
-const LONGEST_FRAME: u64 = 16777215;
 
 /// Reads the frame with which these bytes begin, whatever its number is, and returns how many bytes it has.
 fn fill_frame(bytes: &[u8], info: &StreamInfo, buffers: &mut FrameBuffers) -> Result<u64, Why>

@@ -1,5 +1,5 @@
 -- Frames that are encoded one after another.
-use Rattle.std.proofs.Common.{◌≡◌, ℕ, zero, suc, ◌+◌, ◌*◌, ◌<◌, ◌≤◌, min, max, Bool, true, false, cond, nat_eq, nat_lt, List, [], ◌∷◌, ◌++◌, length, length-append, get_or, refl, sym, ap, subst, ◌∙◌, arith, ◌⊎◌, inl, inr}
+use Rattle.std.proofs.Common.{◌≡◌, ℕ, zero, suc, ◌+◌, ◌-◌, ◌*◌, ◌^◌, ◌<◌, ◌≤◌, min, max, Bool, true, false, cond, nat_eq, nat_lt, List, [], ◌∷◌, ◌++◌, length, length-append, get_or, refl, sym, ap, subst, ◌∙◌, arith, ◌⊎◌, inl, inr}
 use Rattle.std.proofs.lemmas.Bool.{cases_lt}
 use Rattle.std.proofs.lemmas.Bool.Decides.{nat_tests}
 use Rattle.std.proofs.Math.ListN.{get_or-append}
@@ -13,9 +13,10 @@ use Rattle.flac_frame.specs.Spelling.{frame_spelling}
 use Rattle.flac_frame.specs.declared.frame_choice.FrameChoice.{FrameChoice}
 use Rattle.flac_native.specs.Given.{Cut, blocks_in, size_of, frame_of}
 use Rattle.flac_native.specs.Writing.{SpellsFrame, SpellsLeast, AreSizes, AreCounted, IsChoiceOf, AreChoices}
-use Rattle.flac_native.specs.inner.Writing.{IsKept}
+use Rattle.flac_native.specs.inner.Writing.{IsKept, IsRange}
 use Rattle.flac_native.specs.Seeking.{point_at, points_of}
 use Rattle.flac_native.proofs.Encoded.{least_part, all_parts}
+use Rattle.flac_native.proofs.Planned.{Planned, Fit}
 use Rattle.flac_native.proofs.Tables.{bytes_of, bytes_more, points_more}
 
 -- ---- sizes
@@ -196,6 +197,21 @@ all_gathered b total number some few h = elim (cases_lt number (blocks_in b tota
   | inl k ↦ absurd (omega (arith, least_part b total number some k, h))
   | inr k ↦ omega (arith, k, few)
 ]
+
+-- where the samples of a frame are
+pub range_is : (p : Cut) (a : Sound) (number start step : ℕ) → Planned p → Fit p a → number < blocks_in p.block_size (samples_each a.channels) → start ≡ p.block_size * number
+    → step ≡ min p.block_size (samples_each a.channels - start) → IsRange p a number start (start + step)
+range_is p a number start step q f some start_is step_is =
+    let more : p.block_size * number < samples_each a.channels = least_part p.block_size (samples_each a.channels) number q.least some in
+    let blocks : blocks_in p.block_size (samples_each a.channels) ≤ 2 ^ 31 = subst (λ t. blocks_in p.block_size t ≤ 2 ^ 31) f.total q.blocks in
+    record {
+      start = start_is;
+      size = omega (arith, start_is, step_is);
+      some = omega (arith, start_is, step_is, more, q.least);
+      within = omega (arith, start_is, step_is, more);
+      room = omega (arith, start_is, step_is);
+      few = omega (arith, some, blocks);
+    }
 
 -- all frames
 pub all_counted : (p : Cut) (a : Sound) (number offset least greatest : ℕ) (points : List SeekPoint) → Gathered p a number offset least greatest points → number ≡ blocks_in p.block_size (samples_each a.channels) → AreCounted p a least greatest points

@@ -1,16 +1,14 @@
 -- The marker and the blocks of a stream, one after another.
 use Rattle.std.proofs.Common.{◌≡◌, ℕ, ◌&&◌, Bool, true, false, List, Option, inl, inr, refl}
 use Rattle.flac_bits.specs.Bits.{is_nil}
-use Rattle.flac_bits.specs.State.{Cursor, Mark, fresh}
-use Rattle.flac_bits.specs.Meaning.{Spells}
-use Rattle.flac_bits.specs.Items.{item, over, refused}
+use Rattle.flac_bits.specs.State.{Cursor}
+use Rattle.flac_bits.specs.Items.{refused}
 use Rattle.flac_bits.specs.inner.Items.{step_at}
 use Rattle.flac_bits.specs.declared.why.Why.{Why}
-use Rattle.flac_bits.proofs.Items.{step_spelled, step_over, step_stops}
+use Rattle.flac_bits.proofs.Items.{step_stops}
 use Rattle.flac_meta.specs.Info.{Info}
 use Rattle.flac_meta.specs.declared.block.Block.{Block}
-use Rattle.flac_frame.specs.Frame.{Frame}
-use Rattle.flac_native.specs.Stream.{framed, Progress, Stand, grammar, layout, layout_in, may_end_in, place_in}
+use Rattle.flac_native.specs.Stream.{Progress, grammar, may_end_in, place_in}
 use Rattle.flac_native.specs.Track.{is_behind_blocks}
 use Rattle.flac_native.specs.Retag.{is_before_frames}
 use Rattle.flac_native.specs.declared.fault.Place.{Place}
@@ -25,24 +23,6 @@ ends_not : (phase : Phase) (info : Option Info) → is_behind_blocks phase ≡ f
 ends_not Opening info e = refl
 ends_not Blocks info e = refl
 ends_not Frames info e = absurd cc
-
--- the input may not end there
-pub not_over : (p : Progress) (c : Cursor) → is_behind_blocks p.stand.phase ≡ false → step_at grammar p c ≡ over → ⊥
-not_over p c early e =
-    let h = step_over grammar p c.mark c.left e in
-    two (may_end_in p.stand.phase p.stand.info) h.0 (ends_not p.stand.phase p.stand.info early)
-
-framed_not : (phase : Phase) (s : Stand) (m : Mark) (text : List Bool) (f : Frame) → is_behind_blocks phase ≡ false → Spells (layout_in phase s) m text (framed f) → ⊥
-framed_not Opening s m text f early h = let e = h.5.1 in absurd cc
-framed_not Blocks s m text f early h = let e = h.5.1 in absurd cc
-framed_not Frames s m text f early h = absurd cc
-
--- no frame comes there
-pub no_frame : (p : Progress) (c d : Cursor) (f : Frame) → is_behind_blocks p.stand.phase ≡ false → step_at grammar p c ≡ item (framed f) d → ⊥
-unfolding layout
-no_frame p c d f early e =
-    let h = step_spelled grammar p c.mark c.left (framed f) d e in
-    framed_not p.stand.phase p.stand (fresh c.mark) h.0 f early h.2
 
 both_true : (a b : Bool) → (a && b) ≡ true → a ≡ true
 both_true true b e = refl

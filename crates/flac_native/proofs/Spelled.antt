@@ -1,22 +1,22 @@
 -- Frames that are written and sent one after another.
-use Rattle.std.proofs.Common.{◌≡◌, ◌∙◌, refl, sym, ap, subst, ℕ, zero, suc, ◌+◌, ◌*◌, ◌/◌, ◌<◌, ◌≤◌, arith, Bool, true, false, List, [], ◌∷◌, ◌++◌, append_assoc, length, drop, Result, Ok, Err}
+use Rattle.std.proofs.Common.{◌≡◌, ◌∙◌, refl, sym, ap, subst, ℕ, zero, suc, ◌+◌, ◌-◌, ◌*◌, ◌/◌, ◌<◌, ◌≤◌, arith, Bool, true, false, List, [], ◌∷◌, ◌++◌, append_assoc, length, drop, Result, Ok, Err}
 use Rattle.std.proofs.lemmas.List.{append-nil, length-drop, get_or-drop}
 use Rattle.flac_bits.specs.Bits.{bits_of}
 use Rattle.flac_bits.specs.Sending.{Sends}
-use Rattle.flac_bits.specs.Written.{begins}
+use Rattle.flac_bits.specs.Written.{Written, begins}
 use Rattle.flac_bits.specs.declared.why.Why.{Why}
 use Rattle.flac_bits.specs.declared.target.Target as target
 use Rattle.flac_bits.proofs.Counting.{rises_then}
 use Rattle.flac_bits.proofs.Holding.{bits_of-append}
 use Rattle.flac_frame.specs.Audio.{Sound, samples_each}
-use Rattle.flac_frame.specs.Encoding.{block_of, IsEncoding, IsLeastWith, IsShort}
+use Rattle.flac_frame.specs.Encoding.{block_of, IsEncoding, IsLeastWith, IsShort, WritesFrameWith}
 use Rattle.flac_frame.specs.Frame.{Frame}
 use Rattle.flac_subframe.specs.declared.linear.LinearPredictor.{LinearPredictor}
 use Rattle.flac_frame.specs.Spelling.{FrameForm, frame_spelling}
 use Rattle.flac_native.specs.Given.{Cut, size_of, frame_of}
 use Rattle.flac_native.specs.Seeking.{points_from, points_of, point_at}
 use Rattle.flac_native.specs.Writing.{SpellsLeast, AreFrames, AreLeastFrames, AreSizes, IsSpelled}
-use Rattle.flac_native.specs.inner.Writing.{SendsBits}
+use Rattle.flac_native.specs.inner.Writing.{SendsBits, IsRange, WritesChosen}
 use Rattle.flac_native.proofs.Gathered.{nth}
 
 -- ---- least frames of a block are as long
@@ -35,6 +35,13 @@ spelled_of p a number start n f start_is n_is encoding least short =
     let e : IsEncoding a size number (block_of (p.block_size * number) size a.channels) f = subst (λ k. IsEncoding a k number (block_of (p.block_size * number) k a.channels) f) n_is (subst (λ k. IsEncoding a n number (block_of k n a.channels) f) start_is encoding) in
     let l : IsLeastWith p.predictors a size number (block_of (p.block_size * number) size a.channels) f = subst (λ k. IsLeastWith p.predictors a k number (block_of (p.block_size * number) k a.channels) f) n_is (subst (λ k. IsLeastWith p.predictors a n number (block_of k n a.channels) f) start_is least) in
     record { frame = record { form = f; encoding = e; spelling = refl; short = short }; least = record { form = f; least = l; spelling = refl } }
+
+-- so it was written
+pub chosen_of : (p : Cut) (a : Sound) (number start end : ℕ) (ps : List LinearPredictor) (old new : Written) (r : Result (Unit {0}) Why) → IsRange p a number start end → ps ≡ p.predictors
+    → WritesFrameWith ps a (end - start) number (block_of start (end - start) a.channels) old new r → WritesChosen p a number old new r
+chosen_of p a number start end ps old new r k tried w =
+    let least = subst (λ l. IsLeastWith l a (end - start) number (block_of start (end - start) a.channels) w.0) tried w.2.0 in
+    (w.0, spelled_of p a number start (end - start) w.0 k.start k.size w.1 least w.2.1, w.3)
 
 -- ---- a beginning is no longer
 

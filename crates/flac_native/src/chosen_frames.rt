@@ -6,10 +6,9 @@ ghost use Rattle.flac_meta.specs.declared.block.Block.TheVariants as blocks;
 ghost use Rattle.flac_bits.specs.Bits.{bits_of};
 ghost use Rattle.flac_frame.specs.Audio.{samples_each};
 ghost use Rattle.flac_frame.specs.declared.frame_choice.FrameChoice.{FrameChoice};
-ghost use Rattle.flac_native.specs.Given.{fits_plan, blocks_in, info_of, room_of, frame_of};
+ghost use Rattle.flac_native.specs.Given.{fits_plan, blocks_in, info_of, room_of};
 ghost use Rattle.flac_native.specs.Writing.{AreCounted, AreChoices, HasRoom, IsDigest, IsSpelled};
-ghost use Rattle.flac_native.specs.inner.Writing.{IsKept, HaveFrames, WritesNext, WritesFrames};
-ghost use Rattle.flac_frame.specs.Encoding.{block_of, WritesFrameWith};
+ghost use Rattle.flac_native.specs.inner.Writing.{IsKept, IsReady, HaveFrames, WritesChosen, WritesNext, WritesFrames};
 
 use crate::digest::{digest_of, feed_block};
 use crate::plan::Plan;
@@ -19,10 +18,9 @@ use flac_frame::{Audio, EncodeBuffers, FrameChoice, choose_frame, encode_frame_w
 use flac_meta::{SeekPoint, StreamInfo};
 use md5::{Digest, Md5};
 use std::alloc::Global;
-use std::ops::Range;
 
-/// One choice is kept for each 1000 samples of each channel: it takes some 100 bytes for each channel, and one for each
-/// partition of its residuals.
+/// One choice is kept for each 1000 samples of each channel: it takes some 80 bytes for each channel, and one for each
+/// partition of its residual.
 const KEPT: usize = 1000;
 
 /// How the frames of a plan are written, chosen before any of them is written: the sizes of the frames, and the choices
@@ -103,7 +101,7 @@ impl ChosenFrames {
         ensures digest { IfOk result (λ f. IsDigest audio.now f.digest) }
         ensures memory { IfErr result (λ e. e ≡ Why.Memory) }
     {
-        let size = plan.block_size() as usize;
+        let _size = plan.block_size(); // for its clause alone
         let total = audio.len();
         let channels = audio.channels().len();
         let most = total / KEPT + 1;
@@ -118,11 +116,13 @@ impl ChosenFrames {
         let mut number = 0;
         let mut start = 0;
         while start < total {
-            let end = start + size.min(total - start);
+            let range = plan.range(audio, number);
+            let end = range.end;
+            let len = end - range.start;
             plan.note_point(number, offset, &mut points)?;
-            feed_block(&mut hasher, audio, start, end - start);
-            choose_frame(audio, start..end, number, predictors, buffers, &mut choice);
-            let bytes = choice.frame_bytes(audio, end - start, number);
+            feed_block(&mut hasher, audio, range.start, len);
+            choose_frame(audio, range, number, predictors, buffers, &mut choice);
+            let bytes = choice.frame_bytes(audio, len, number);
             keep(alloc, &mut choices, &choice, most)?;
             least = least_with(number, least, bytes);
             greatest = greatest_with(greatest, bytes);
@@ -194,12 +194,14 @@ impl ChosenFrames {
         ensures places { result.places ≡ room.places }
         ensures frame { IsSpelled plan.now audio.now number (bits_of result.bytes.items) }
     {
-        let size = plan.block_size() as usize;
-        let total = audio.len();
         let choices = self.choices.as_slice();
-        let start = number as usize * size;
-        let end = start + size.min(total - start);
-        spell_next(plan, audio, start..end, number, choices, buffers, room)
+        let mut writer = BitWriter::new(room.emptied());
+        let outcome = write_next(plan, audio, number, choices, buffers, &mut writer);
+        let room = writer.into_target();
+        match outcome {
+            Ok(()) => room,
+            Err(_) => unreachable!(),
+        }
     }
 }
 
@@ -207,25 +209,17 @@ impl ChosenFrames {
 fn write_chosen<W: Target>(
     plan: &Plan,
     audio: &Audio,
-    range: Range<usize>,
     number: u64,
     choices: &[FrameChoice],
     buffers: &mut EncodeBuffers,
     writer: &mut BitWriter<W>,
 ) -> Result<(), Why>
-    requires fits { fits_plan plan.now audio.now ≡ true }
-    requires some { range.start < range.end }
-    requires within { range.end ≤ samples_each audio.now.channels }
-    requires start { range.start ≡ plan.now.block_size * number }
-    requires size { range.end - range.start ≡ (frame_of plan.now.block_size audio.now number).size }
-    requires buffers { buffers.old ≡ room_of plan.now }
-    requires number { number < 2 ^ 31 }
-    requires choices { AreChoices plan.now audio.now choices.now }
+    requires ready { IsReady plan.now audio.now number choices.now buffers.old }
     requires whole { writer.old.mark.unread ≡ 0 }
     ensures kept { buffers.new ≡ buffers.old }
-    ensures wrote { WritesFrameWith plan.now.predictors audio.now (range.end - range.start) number (block_of range.start (range.end - range.start) audio.now.channels) writer.old writer.new result }
+    ensures wrote { WritesChosen plan.now audio.now number writer.old writer.new result }
 {
-    let _size = plan.block_size();
+    let range = plan.range(audio, number);
     let predictors = plan.predictors();
     let at = number as usize;
     if at < choices.len() {
@@ -242,59 +236,18 @@ fn write_chosen<W: Target>(
 fn write_next<W: Target>(
     plan: &Plan,
     audio: &Audio,
-    range: Range<usize>,
     number: u64,
     choices: &[FrameChoice],
     buffers: &mut EncodeBuffers,
     writer: &mut BitWriter<W>,
 ) -> Result<(), Why>
-    requires fits { fits_plan plan.now audio.now ≡ true }
-    requires some { range.start < range.end }
-    requires within { range.end ≤ samples_each audio.now.channels }
-    requires start { range.start ≡ plan.now.block_size * number }
-    requires size { range.end - range.start ≡ (frame_of plan.now.block_size audio.now number).size }
-    requires buffers { buffers.old ≡ room_of plan.now }
-    requires number { number < 2 ^ 31 }
-    requires choices { AreChoices plan.now audio.now choices.now }
+    requires ready { IsReady plan.now audio.now number choices.now buffers.old }
     requires whole { writer.old.mark.unread ≡ 0 }
     ensures kept { buffers.new ≡ buffers.old }
     ensures wrote { WritesNext plan.now audio.now number writer.old writer.new result }
 {
-    write_chosen(plan, audio, range, number, choices, buffers, writer)?;
+    write_chosen(plan, audio, number, choices, buffers, writer)?;
     writer.finish()
-}
-
-/// The bytes of frame `number`, in a place that has room for them.
-pub(crate) fn spell_next(
-    plan: &Plan,
-    audio: &Audio,
-    range: Range<usize>,
-    number: u64,
-    choices: &[FrameChoice],
-    buffers: &mut EncodeBuffers,
-    room: Room,
-) -> Room
-    requires fits { fits_plan plan.now audio.now ≡ true }
-    requires some { range.start < range.end }
-    requires within { range.end ≤ samples_each audio.now.channels }
-    requires start { range.start ≡ plan.now.block_size * number }
-    requires size { range.end - range.start ≡ (frame_of plan.now.block_size audio.now number).size }
-    requires buffers { buffers.old ≡ room_of plan.now }
-    requires number { number < 2 ^ 31 }
-    requires few { number < blocks_in plan.now.block_size (samples_each audio.now.channels) }
-    requires choices { AreChoices plan.now audio.now choices.now }
-    requires room { HasRoom plan.now audio.now room.places }
-    ensures kept { buffers.new ≡ buffers.old }
-    ensures places { result.places ≡ room.places }
-    ensures frame { IsSpelled plan.now audio.now number (bits_of result.bytes.items) }
-{
-    let mut writer = BitWriter::new(room.emptied());
-    let outcome = write_next(plan, audio, range, number, choices, buffers, &mut writer);
-    let room = writer.into_target();
-    match outcome {
-        Ok(()) => room,
-        Err(_) => unreachable!(),
-    }
 }
 
 /// Writes all frames, one after another, at a whole byte.
@@ -317,16 +270,14 @@ pub(crate) fn write_frames<W: Target>(
     let mut number = 0;
     let mut start = 0;
     while start < total {
-        let end = start + size.min(total - start);
-        write_chosen(plan, audio, start..end, number, choices, buffers, writer)?;
+        write_chosen(plan, audio, number, choices, buffers, writer)?;
         number += 1;
-        start = end;
+        start += size;
     }
     Ok(())
 }
 
-/// STREAMINFO of samples that a plan was made for, and that have this digest, where the least and the greatest frame have so many bytes, below 2^24; 0 where there is
-/// no frame.
+/// [`info_of`] for samples whose MD5 digest is `digest`.
 pub(crate) fn info_with(
     plan: &Plan,
     audio: &Audio,

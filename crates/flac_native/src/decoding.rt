@@ -92,7 +92,8 @@ pub trait Sink {
 
 /// Passes the part that was read last to the sink, unless it is the marker.
 fn hand<S: Sink>(part: Part, track: &Track, sink: &mut S) -> Result<(), SinkFault>
-    requires { part ≡ Part.Frame → is_some track.now.format ≡ true }
+    requires block { part ≡ Part.Block → is_some track.now.block ≡ true }
+    requires frame { part ≡ Part.Frame → is_some track.now.format ≡ true }
     ensures known { OnOk result (S.known sink.old ≡ true → S.known sink.new ≡ true) }
     ensures takes { OnOk result (S.known sink.old ≡ true → taken S.takes sink.old (piece_of track.now part) sink.new) }
     ensures counted { OnOk result (S.errors sink.new ≡ S.errors sink.old) }
@@ -104,7 +105,7 @@ fn hand<S: Sink>(part: Part, track: &Track, sink: &mut S) -> Result<(), SinkFaul
         Part::Marker => Ok(()),
         Part::Block => match &track.block {
             Some(block) => sink.block(block),
-            None => Ok(()),
+            None => unreachable!(),
         },
         Part::Frame => match &track.format {
             Some(format) => sink.frame(&format.view()),
@@ -115,7 +116,8 @@ fn hand<S: Sink>(part: Part, track: &Track, sink: &mut S) -> Result<(), SinkFaul
 
 /// Passes the part that was read last to the sink, and reports the position of a failure.
 fn hand_at<S: Sink>(at: Place, part: Part, track: &Track, sink: &mut S) -> Result<(), Fault>
-    requires { part ≡ Part.Frame → is_some track.now.format ≡ true }
+    requires block { part ≡ Part.Block → is_some track.now.block ≡ true }
+    requires frame { part ≡ Part.Frame → is_some track.now.format ≡ true }
     ensures known { OnOk result (S.known sink.old ≡ true → S.known sink.new ≡ true) }
     ensures takes { OnOk result (S.known sink.old ≡ true → taken S.takes sink.old (piece_of track.now part) sink.new) }
     ensures counted { OnOk result (S.errors sink.new ≡ S.errors sink.old) }
@@ -152,7 +154,8 @@ pub fn hand_out<C: Container, S: Sink>(
     ensures met { IfOk result (λ _. (C.known container.old ≡ true → C.known container.new ≡ true) × (C.errors container.new ≡ C.errors container.old) × (C.raised container.new ≡ C.raised container.old)) }
     ensures kept { C.errors container.old ≤ C.errors container.new }
     ensures read { IfErr result (λ f. C.known container.old ≡ true → f.why ≡ Why.Read → C.clear container.old track.old → C.raised container.old < C.raised container.new) }
-    // An error of the device and of the sink is counted, if the count can rise, whatever is known of them: no other call returns it.
+    // An error of the device and of the sink is counted, if the count can rise, whatever is known of them: no other
+    // call returns it.
     ensures risen { IfErr result (λ f. f.why ≡ Why.Read → Rises (C.met container.old) (C.met container.new)) }
     ensures sink { IfErr result (λ f. f.why ≡ Why.Sink → Rises (S.errors sink.old) (S.errors sink.new)) }
     ensures behind { C.known container.old ≡ true → C.errors container.new ≡ C.errors container.old → C.behind container.new ≡ without_fence (C.behind container.old) }
@@ -203,7 +206,8 @@ pub fn decode<R: Source, S: Sink>(
         Decides (by_grammar grammar (opening profile) (beginning (short_of ((R.behind source.old).fails))) (bits_of (R.coming source.old))) (outcome_of told result) }
     ensures kept { R.errors source.old ≤ R.errors source.new }
     ensures read { IfErr result (λ f. R.known source.old ≡ true → f.why ≡ Why.Read → R.raised source.old < R.raised source.new) }
-    // An error of the source and of the sink is counted, if the count can rise, whatever is known of them: no other call returns it.
+    // An error of the source and of the sink is counted, if the count can rise, whatever is known of them: no other
+    // call returns it.
     ensures risen { IfErr result (λ f. f.why ≡ Why.Read → Rises (R.raised source.old) (R.raised source.new)) }
     ensures sink { IfErr result (λ f. f.why ≡ Why.Sink → Rises (S.errors sink.old) (S.errors sink.new)) }
     ensures names { S.names sink.new ≡ S.names sink.old }
@@ -212,6 +216,6 @@ pub fn decode<R: Source, S: Sink>(
     let mut reader = BitReader::new(source);
     let mut track = Track::opening(alloc, profile);
     let outcome = hand_out(&mut reader, &mut track, sink);
-    let _source = reader.into_source();
+    let _source = reader.into_source(); // for its clauses alone
     outcome
 }

@@ -42,8 +42,8 @@ fn put_whole(sample: i32, width: usize, out: &mut [u8], at: usize)
     out[at..at + 4].copy_from_slice(&sample.to_le_bytes());
 }
 
-/// Writes the lowest `width` bytes of a sample at a place, the lowest first. If these are three, the fourth is written after them, and the next sample
-/// overwrites it: one word is stored faster than three bytes.
+/// Writes the lowest `width` bytes of a sample at a place, the lowest first. If these are three, the fourth is written
+/// after them, and the next sample overwrites it: one word is stored faster than three bytes.
 #[inline(always)]
 fn put_sample(sample: i32, width: usize, out: &mut [u8], at: usize)
     requires width { width ≤ 4 }
@@ -88,7 +88,8 @@ fn put_row<C: Channels>(
     place
 }
 
-/// [`put_rows_in`] for a number of channels and a width that its callers fix. It is inlined, so that its loops have fixed lengths.
+/// [`put_rows_in`] for a number of channels and a width that its callers fix. It is inlined, so that its loops have
+/// fixed lengths.
 #[inline(always)]
 #[tactic(auto, unfolding(crate::specs::Message::rows_bytes), using(crate::proofs::Messages::rows_more))]
 fn put_rows_of<C: Channels>(
@@ -142,8 +143,9 @@ fn put_channels<C: Channels>(
     }
 }
 
-/// Writes the samples of all channels at `count` indices from `start` on, interleaved, each in its lowest `width` bytes, the
-/// lowest first, to the front of `out`, and returns how many bytes these are: at most 32 for each index. Bytes of `out` after them may change.
+/// Writes the samples of all channels at `count` indices from `start` on, interleaved, each in its lowest `width`
+/// bytes, the lowest first, to the front of `out`, and returns how many bytes these are: at most 32 for each index.
+/// Bytes of `out` after them may change.
 #[inline(always)]
 pub(crate) fn put_rows_in<C: Channels>(
     samples: &C,
@@ -169,8 +171,8 @@ pub(crate) fn put_rows_in<C: Channels>(
     }
 }
 
-/// Adds `len` samples of each channel, from `start` on, to the input of a digest, interleaved, each in its lowest `width`
-/// bytes.
+/// Adds `len` samples of each channel, from `start` on, to the input of a digest, interleaved, each in its lowest
+/// `width` bytes.
 #[inline(always)]
 #[tactic(auto, unfolding(crate::specs::Message::rows_bytes), using(crate::proofs::Messages::rows_split))]
 pub(crate) fn feed_rows<C: Channels>(
@@ -297,7 +299,7 @@ impl<'a> Channels for Pair<'a> {
     }
 }
 
-/// So many samples of a channel from one on.
+/// The `size` samples of a channel from index `start` on.
 fn part_of(channel: &[i32], start: usize, size: usize) -> &[i32]
     requires { start + size ≤ length channel.now }
     ensures part { result.now ≡ take size (drop start channel.now) }
@@ -306,12 +308,25 @@ fn part_of(channel: &[i32], start: usize, size: usize) -> &[i32]
     &channel[start..start + size]
 }
 
-/// Feeds so many samples of each channel from one on to a digest, as STREAMINFO's is of all samples (RFC 9639, section 8.2).
+/// How many whole bytes a sample of `bits` bits takes, as raw samples and the MD5 digest have it (RFC 9639, section
+/// 8.2).
+///
+/// ```
+/// let width = sample_width(12); // 2
+/// ```
+pub fn sample_width(bits: u32) -> usize
+    ensures { result ≡ sample_width bits }
+{
+    (bits as usize + 7) / 8
+}
+
+/// Adds `size` samples of each channel, from index `start` on, to the input of a digest, interleaved, as STREAMINFO's
+/// digest has all samples (RFC 9639, section 8.2).
 pub(crate) fn feed_block(hasher: &mut Md5, audio: &Audio, start: usize, size: usize)
     requires { start + size ≤ samples_each audio.now.channels }
     ensures { (m : List ℕ) → Holds hasher.old m → Holds hasher.new (m ++ rows_bytes (sample_width audio.now.bits) audio.now.channels size start) }
 {
-    let width = (audio.bits() as usize + 7) / 8;
+    let width = sample_width(audio.bits());
     let channels = audio.channels();
     if channels.len() == 2 {
         let left = part_of(&channels[0], start, size);

@@ -16,6 +16,7 @@ ghost use Rattle.flac_native.specs.Seeking.{table_of, is_table, has_table, repea
 
 use crate::chosen_frames::{ChosenFrames, write_frames};
 use crate::fault::EncodeFault;
+use crate::native::MARKER;
 use crate::plan::Plan;
 use crate::targets::Lent;
 use flac_bits::{BitWriter, Target, Why};
@@ -90,7 +91,7 @@ fn write_head<W: Target>(
     requires { block_fault (block_of.SeekTable points.items) ≡ None }
     ensures { Writes (head_spelling info (list.now ++ table_of points.items)) writer.old writer.new result }
 {
-    writer.put(32, 0x664C6143)?;
+    writer.put(32, MARKER)?;
     write_blocks(info, list, points, writer)
 }
 
@@ -121,7 +122,7 @@ pub(crate) fn send_head<W: Target>(
 {
     let mut writer = BitWriter::new(Lent::over(target));
     let outcome = finish_head(info, list, points, &mut writer);
-    let _target = writer.into_target().into_target();
+    let _target = writer.into_target().into_target(); // for its clauses alone
     outcome
 }
 
@@ -196,7 +197,7 @@ fn send_stream<W: Target>(
 {
     let mut writer = BitWriter::new(Lent::over(target));
     let outcome = write_stream(plan, list, audio, frames, buffers, &mut writer);
-    let _target = writer.into_target().into_target();
+    let _target = writer.into_target().into_target(); // for its clauses alone
     outcome
 }
 
@@ -209,10 +210,10 @@ fn send_stream<W: Target>(
 /// The plan must fit the samples ([`Plan::fits`]).
 ///
 /// It goes over the samples twice: first it chooses how each frame is written, then it writes one after another. Beside
-/// the samples it holds the seek points, at most some 350 bytes for each channel of each frame, and up to 4096 bytes of
-/// what is written; no frame is held. Outside the subset a channel of a frame takes some 100 bytes, and one for each
-/// partition of the residuals. If blocks have fewer than 1000 samples, it keeps the choices of the first frames only,
-/// and makes the others again.
+/// the samples it holds the working arrays of one frame ([`EncodeBuffers`]), the seek points, up to 4096 bytes of what
+/// is written, and for each channel of each frame some 80 bytes and one for each partition of its residual, of which
+/// the subset allows 256; no frame is held. If blocks have fewer than 1000 samples, it keeps the choices of the first
+/// frames only, and makes the others again.
 ///
 /// ```
 /// let plan = Plan::new(4096, &audio, 0)?;
@@ -248,7 +249,7 @@ pub fn encode<W: Target>(
     if repeats_table(plan, list) {
         return Err(EncodeFault::RepeatedBlock);
     }
-    let _blocks = list.blocks();
+    let _blocks = list.blocks(); // for its clauses alone
     let size = plan.block_size();
     let Ok(mut buffers) = EncodeBuffers::new_in(alloc, plan.profile(), size) else {
         return Err(EncodeFault::Memory);

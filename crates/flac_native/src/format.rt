@@ -32,7 +32,7 @@ pub(crate) fn greatest_in(profile: Profile, rate: u32) -> u32
 }
 
 /// The most bytes that a frame can have: STREAMINFO states the sizes of frames in 24 bits (RFC 9639, section 8.2).
-const LONGEST_FRAME: u64 = 16777215;
+pub const LONGEST_FRAME: u64 = 16777215;
 
 /// What [`FrameBuffers::fill`] does, proved by the reading of the layout.
 fn fill_here<R: Source>(

@@ -54,8 +54,8 @@ pub fn retagged_are_read()
     ensures { RetaggedAreRead }
 {}
 
-/// A stream of the streamable subset (RFC 9639, section 7) is, without the subset's limits, a stream of the same items: what [`flac_header::Profile::Subset`]
-/// accepts, [`flac_header::Profile::Lax`] accepts as the same.
+/// A stream of the streamable subset (RFC 9639, section 7) is, without the subset's limits, a stream of the same items:
+/// what [`flac_header::Profile::Subset`] accepts, [`flac_header::Profile::Lax`] accepts as the same.
 pub fn subset_is_lax()
     ensures { SubsetIsLax }
 {}

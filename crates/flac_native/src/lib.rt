@@ -37,7 +37,7 @@ pub use chosen_frames::{ChosenFrames, info_of};
 pub use container::{Container, Part};
 pub use decoder::Decoder;
 pub use decoding::{Sink, SinkFault, decode, hand_out};
-pub use digest::put_rows;
+pub use digest::{put_rows, sample_width};
 pub use encoding::encode;
 pub use fault::{EncodeFault, Fault, Place};
 pub use flac_bits::{
@@ -50,12 +50,14 @@ pub use flac_meta::{
     Picture, SeekPoint, SeekTable, StreamInfo, Texts,
 };
 pub use flac_subframe::LinearPredictor;
+pub use format::LONGEST_FRAME;
 pub use item::Item;
 pub use laws::{
     blocks_are_in_order, encoded_are_read_back, encoded_are_resumed, encoded_are_streams,
     frames_are_resumed, nothing_is_outside_lax, only_one_head, only_one_way, points_name_frames,
     retagged_are_read, some_way, streams_are_ordered, streams_are_whole, subset_is_lax,
 };
+pub use native::MARKER;
 pub use plan::{Plan, predictors_fault};
 pub use retagging::{RetagFault, retag};
 pub use stream_encoder::{StreamEncoder, StreamFormat, block_len};

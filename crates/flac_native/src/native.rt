@@ -9,7 +9,7 @@ ghost use Rattle.flac_bits.specs.Handing.{reason_of, IsOutside};
 ghost use Rattle.flac_bits.specs.inner.Handing.{StepsTo};
 ghost use Rattle.flac_native.specs.Stream.{marker, layout, room_in, Progress, grammar, may_end_in, next};
 ghost use Rattle.flac_native.specs.inner.Within.{ReadsWithinInRoom};
-ghost use Rattle.flac_native.specs.Track.{IsAt, IsMadeAs, piece_of, stand_of, info_in};
+ghost use Rattle.flac_native.specs.Track.{IsAt, IsMadeAs, piece_of, stand_of, info_in, is_behind_blocks};
 ghost use Rattle.flac_native.specs.Item.{told};
 ghost use Rattle.flac_native.specs.Coming.{PartsCome};
 
@@ -18,14 +18,17 @@ use crate::fault::{Fault, Place};
 use crate::track::{Phase, Track};
 use flac_bits::{BitReader, Source, Why};
 
-/// Reads the four bytes `fLaC`.
+/// The marker with which a native stream begins: the four bytes `fLaC` as a number (RFC 9639, section 6).
+pub const MARKER: u64 = 0x664C6143;
+
+/// Reads the marker.
 #[tactic(auto, unfolding(crate::specs::Stream::marker))]
 fn read_marker<R: Source>(reader: &mut BitReader<R>) -> Result<(), Why>
     ensures spends { OnOk result (reader.new.most + 32 ≤ reader.old.most) }
     ensures counts { Counts reader.old reader.new result }
     ensures reads { Reads (λ u. u) marker reader.old reader.new result }
 {
-    if reader.take(32)? != 0x664C6143 {
+    if reader.take(32)? != MARKER {
         return Err(Why::BadMarker);
     }
     Ok(())
@@ -39,6 +42,7 @@ fn read_part<R: Source>(reader: &mut BitReader<R>, track: &mut Track) -> Result<
     ensures memory { track.old.phase ≡ Phase.Frames → IfErr result (λ e. e ≢ Why.Memory) }
     ensures reads { ReadsWithinInRoom (room_in track.old.phase) (λ part. piece_of track.new part) (layout (stand_of track.old)) reader.old reader.new result }
     ensures made { IfOk result (λ part. IsMadeAs part track.old track.new) }
+    ensures later { IfOk result (λ part. part ≡ Part.Frame → is_behind_blocks track.old.phase ≡ true) }
     ensures next { IfOk result (λ part. (p : Progress) → IsAt track.old p → IsAt track.new (next p (piece_of track.new part))) }
 {
     match track.phase {
@@ -67,6 +71,7 @@ fn ends_here<R: Source>(reader: &mut BitReader<R>, track: &Track) -> Result<bool
     ensures spends { OnOk result (reader.new.most ≤ reader.old.most) }
     ensures counts { Counts reader.old reader.new result }
     ensures over { IfOk result (λ over. reader.old.known ≡ true → (reader.new.cursor ≡ reader.old.cursor) × (over ≡ (may_end_in track.now.phase (info_in track.now.format) && is_nil reader.old.cursor.left))) }
+    ensures later { IfOk result (λ over. over ≡ true → is_behind_blocks track.now.phase ≡ true) }
     ensures failed { IfErr result (λ e. e ≡ Why.Read) }
 {
     match track.phase {
@@ -92,6 +97,8 @@ pub(crate) fn advance<R: Source>(
     ensures broken { (p : Progress) → IsAt track.old p → IfErr result (λ f. IsOutside f.why → f.at ≡ grammar.place p) }
     ensures steps { (p : Progress) → IsAt track.old p → StepsTo (λ part. piece_of track.new part) told (step_at grammar p (lifted reader.old).cursor) (lifted reader.old) reader.new result }
     ensures made { IfOk result (λ o. IfSome o (λ part. IsMadeAs part track.old track.new)) }
+    // No frame and no end comes before the last metadata block.
+    ensures later { IfOk result (λ o. MatchOption o (is_behind_blocks track.old.phase ≡ true) (λ part. part ≡ Part.Frame → is_behind_blocks track.old.phase ≡ true)) }
     ensures next { IfOk result (λ o. IfSome o (λ part. (p : Progress) → IsAt track.old p → IsAt track.new (next p (piece_of track.new part)))) }
 {
     reader.lift();

@@ -1,8 +1,10 @@
 //! How samples are divided into frames.
 
 ghost use Rattle.std.specs.Prelude.{◌≡◌, ◌<◌, ◌≤◌, ◌*◌, ◌^◌, ◌++◌, [], MatchResult, IfOk, OnOk, IfErr, true, Some, None};
-ghost use Rattle.flac_native.specs.Given.{same_profile, blocks_in, has_point, points_before, cut_in, cut_of, with_predictors, fits_plan, predictors_fault, plan_fault};
+ghost use Rattle.flac_native.specs.Given.{blocks_in, has_point, points_before, cut_in, cut_of, with_predictors, fits_plan, predictors_fault, plan_fault};
 ghost use Rattle.flac_native.specs.Seeking.{point_at};
+ghost use Rattle.flac_native.specs.inner.Writing.{IsRange};
+ghost use Rattle.flac_frame.specs.Audio.{samples_each};
 
 use crate::format::greatest_in;
 use flac_bits::Why;
@@ -11,6 +13,7 @@ use flac_header::{Profile, depth_code_in, rate_code_in};
 use flac_meta::SeekPoint;
 use flac_subframe::LinearPredictor;
 use std::marker::Model;
+use std::ops::Range;
 
 /// The most points that a seek table of one block has: each has 18 bytes, and a block at most 16777215 (RFC 9639,
 /// sections 8.1 and 8.5).
@@ -52,18 +55,9 @@ impl Model for Plan {
     ghost invariant = { λ p. plan_fault (record { profile = p.asked.profile; block_size = p.asked.block_size; rate = p.asked.rate; bits = p.asked.bits; channels = p.asked.channels; total = p.asked.total; seek_every = p.asked.seek_every; predictors = listed p.predictors }) ≡ None };
 }
 
-/// Whether two profiles are the same.
-fn same_profile(one: Profile, other: Profile) -> bool
-    ensures { result ≡ same_profile one other }
-{
-    match one {
-        Profile::Subset => matches!(other, Profile::Subset),
-        Profile::Lax => matches!(other, Profile::Lax),
-    }
-}
-
-/// Why linear predictors cannot be tried in a profile at a rate in Hz, or `None` if they can: `TooManyPredictors` if there
-/// are more than 64, else `PredictorOrder` if an order is above [`greatest_order`] (RFC 9639, sections 7 and 9.2.6).
+/// Why linear predictors cannot be tried in a profile at a rate in Hz, or `None` if they can: `TooManyPredictors` if
+/// there are more than 64, else `PredictorOrder` if an order is above [`greatest_order`] (RFC 9639, sections 7 and
+/// 9.2.6).
 pub fn predictors_fault(
     profile: Profile,
     rate: u32,
@@ -230,7 +224,7 @@ impl Plan {
     pub fn fits(&self, audio: &Audio) -> bool
         ensures { result ≡ fits_plan self.now audio.now }
     {
-        same_profile(self.asked.profile, audio.profile())
+        audio.profile() == self.asked.profile
             && self.asked.rate == audio.rate()
             && self.asked.bits == audio.bits()
             && self.asked.channels == audio.channels().len() as u64
@@ -268,6 +262,21 @@ impl Plan {
         ensures { result ≡ self.now.seek_every }
     {
         self.asked.seek_every
+    }
+
+    /// The places of the samples of frame `number`, counted from 0, in each channel. The plan must fit the samples, and
+    /// have such a frame.
+    pub(crate) fn range(&self, audio: &Audio, number: u64) -> Range<usize>
+        requires fits { fits_plan self.now audio.now ≡ true }
+        requires few { number < blocks_in self.now.block_size (samples_each audio.now.channels) }
+        ensures range { IsRange self.now audio.now number result.start result.end }
+        ensures good { plan_fault self.now ≡ None }
+    {
+        let size = self.asked.block_size as usize;
+        let total = audio.len();
+        let start = number as usize * size;
+        let end = start + size.min(total - start);
+        start..end
     }
 
     /// Adds the seek point of the frame of this number, if it has one. The frame begins `offset` bytes after the first

@@ -25,7 +25,7 @@ ghost use Rattle.flac_native.specs.Decoding.{beginning};
 use crate::container::Part;
 use crate::encoding::write_each;
 use crate::fault::{Fault, Place};
-use crate::native::advance;
+use crate::native::{MARKER, advance};
 use crate::track::Track;
 use flac_bits::{BitReader, BitWriter, Collected, Source, Target, Why, send_all};
 use flac_header::Profile;
@@ -39,7 +39,7 @@ use std::fmt;
 #[derive(Clone, Copy, Debug, PartialEq, Eq)]
 pub struct RetagFault {
     /// Where the stream is refused, or where the source or an allocation failed. `None` if the comments are too long,
-    /// or if the target failed.
+    /// or if the target failed; and in the program `flac`, if an allocation for the comments failed.
     pub at: Option<Place>,
     /// The reason.
     pub why: Why,
@@ -94,14 +94,8 @@ fn keep_next<R: Source>(
             Ok(()) => Ok(()),
             Err(why) => Err(Fault { at, why }),
         },
-        Ok(Some(Part::Frame)) => Err(Fault {
-            at,
-            why: Why::Truncated,
-        }),
-        Ok(None) => Err(Fault {
-            at,
-            why: Why::Truncated,
-        }),
+        Ok(Some(Part::Frame)) => unreachable!(),
+        Ok(None) => unreachable!(),
         Err(fault) => Err(Fault { at, why: fault.why }),
     }
 }
@@ -189,7 +183,7 @@ fn write_renewed<W: Target>(
     let Some((info, others)) = kept.split_first() else {
         return Err(Why::NotStreamInfoFirst);
     };
-    writer.put(32, 0x664C6143)?;
+    writer.put(32, MARKER)?;
     write_block(info, false, writer)?;
     write_comments(comments, others.is_empty(), writer)?;
     write_each(others, others.len(), writer)
@@ -312,7 +306,8 @@ fn retag_from<R: Source, W: Target>(
 /// a Vorbis comment block of these comments, the other metadata blocks in their order without an old comment block, and
 /// then all bytes that follow the metadata. These are copied as they are, and not verified.
 ///
-/// The metadata blocks are held in memory. The rest is copied 4096 bytes at a time.
+/// It holds the metadata blocks, the new metadata as bytes, and the buffers of one frame, though it reads no frame:
+/// they take up to 1.6 MB, by the channels and the block size of STREAMINFO. The rest is copied 4096 bytes at a time.
 ///
 /// ```
 /// let mut target = Counted::new(file);
@@ -380,6 +375,6 @@ pub fn retag<R: Source, W: Target>(
     }
     let mut reader = BitReader::new(source);
     let outcome = retag_from(alloc, &mut reader, comments, target);
-    let _source = reader.into_source();
+    let _source = reader.into_source(); // for its clauses alone
     outcome
 }

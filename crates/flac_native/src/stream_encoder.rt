@@ -28,21 +28,20 @@ use flac_subframe::LinearPredictor;
 use std::alloc::Global;
 use std::marker::Model;
 
-/// The format of a stream that is encoded a block at a time (RFC 9639, sections 7, 8.2 and 9.1):
-///
-/// - the profile of the stream;
-/// - the sample rate in Hz: in [`Profile::Subset`] 1 to 65535, or a multiple of 10 up to 655350, in [`Profile::Lax`] 1
-///   to 1048575;
-/// - the bits per sample: in [`Profile::Subset`] 8, 12, 16, 20, 24 or 32, in [`Profile::Lax`] 4 to 32;
-/// - 1 to 8 channels;
-/// - the samples of each channel in a block: in [`Profile::Subset`] 16 to 16384, at most 4608 if the rate is at most
-///   48000 Hz, in [`Profile::Lax`] 16 to 65535.
+/// The format of a stream that is encoded a block at a time (RFC 9639, sections 7, 8.2 and 9.1).
 #[derive(Clone, Copy, Debug, PartialEq, Eq)]
 pub struct StreamFormat {
+    /// The profile of the stream.
     pub profile: Profile,
+    /// The sample rate in Hz: in [`Profile::Subset`] 1 to 65535, or a multiple of 10 up to 655350, in [`Profile::Lax`]
+    /// 1 to 1048575.
     pub rate: u32,
+    /// The bits per sample: in [`Profile::Subset`] 8, 12, 16, 20, 24 or 32, in [`Profile::Lax`] 4 to 32.
     pub bits: u32,
+    /// The number of channels: 1 to 8.
     pub channels: u32,
+    /// The samples of each channel in a block: in [`Profile::Subset`] 16 to 16384, at most 4608 if the rate is at most
+    /// 48000 Hz, in [`Profile::Lax`] 16 to 65535.
     pub block_size: u32,
 }
 
@@ -91,9 +90,9 @@ impl StreamFormat {
         }
     }
 
-    /// Why a block of samples does not fit the format, or `None` if it does: `BadChannels` if there is not one slice for
-    /// each channel, `LengthsDiffer` if they differ in length, or `SampleTooLarge` if a sample does not fit its bits, the
-    /// first that applies. How many samples it has is not judged here.
+    /// Why a block of samples does not fit the format, or `None` if it does: `BadChannels` if there is not one slice
+    /// for each channel, `LengthsDiffer` if they differ in length, or `SampleTooLarge` if a sample does not fit its
+    /// bits, the first that applies. How many samples it has is not judged here.
     ///
     /// The format has 1 to 32 bits per sample, as each has that [`StreamFormat::fault`] does not refuse.
     ///
@@ -116,13 +115,14 @@ impl StreamFormat {
         None
     }
 
-    /// Encodes a block of the format as the frame of this number, in memory (RFC 9639, section 9): a shortest frame, also
-    /// over these linear predictors. The frame has `number` in its header, counted from 0 and below 2^31 (section 9.1.5).
+    /// Encodes a block of the format as the frame of this number, in memory (RFC 9639, section 9): a shortest frame,
+    /// also over these linear predictors. The frame has `number` in its header, counted from 0 and below 2^31 (section
+    /// 9.1.5).
     ///
-    /// The caller sees to it that nothing is refused: the format and the block have no fault
-    /// ([`StreamFormat::fault`], [`StreamFormat::block_fault`]), nor have the predictors ([`crate::predictors_fault`]); the block
-    /// has at least one sample, and at most as many as the format's blocks; and the buffers were made for the profile and
-    /// the block size of the format.
+    /// The caller sees to it that nothing is refused: the format and the block have no fault ([`StreamFormat::fault`],
+    /// [`StreamFormat::block_fault`]), nor have the predictors ([`crate::predictors_fault`]); the block has at least
+    /// one sample, and at most as many as the format's blocks; and the buffers were made for the profile and the block
+    /// size of the format.
     ///
     /// ```
     /// let mut buffers = EncodeBuffers::new_in(alloc, format.profile, format.block_size)?;
@@ -241,7 +241,7 @@ fn frame_bytes(
     ensures least { IfOk result (λ bytes. SpellsLeast predictors.now audio.now (frame_with number audio.now.channels) (bits_of bytes.items)) }
     ensures memory { IfErr result (λ e. e ≡ Why.Memory) }
 {
-    let _channels = audio.channels();
+    let _channels = audio.channels(); // for its clauses alone
     let end = audio.len();
     let mut writer = BitWriter::new(Collected::new(alloc));
     match encode_frame_with(audio, 0..end, number, predictors, buffers, &mut writer) {
@@ -367,7 +367,7 @@ impl<W: Target + Drop> StreamEncoder<W> {
         if let Some(fault) = format.fault() {
             return Err(EncodeFault::Setup(fault));
         }
-        let _blocks = list.blocks();
+        let _blocks = list.blocks(); // for its clauses alone
         let Ok(buffers) = EncodeBuffers::new_in(alloc, format.profile, format.block_size) else {
             return Err(EncodeFault::Memory);
         };

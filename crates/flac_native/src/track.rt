@@ -17,7 +17,7 @@ ghost use Rattle.std.specs.Str.{bytes_eq};
 ghost use Rattle.flac_native.specs.Ends.{EndsBy};
 ghost use Rattle.md5.specs.Md5.{Holds};
 
-use crate::digest::feed;
+use crate::digest::{feed, sample_width};
 use crate::fault::Place;
 use crate::format::Format;
 use flac_bits::{BitReader, Source, Why};
@@ -258,7 +258,7 @@ impl Track {
         };
         format.fill(bits)?;
         let view = format.view();
-        let width = (usize::from(format.info.depth()) + 7) / 8;
+        let width = sample_width(u32::from(format.info.depth()));
         feed(&mut self.hasher, &view, width);
         self.samples = self.samples.saturating_add(view.len() as u64);
         self.index = self.index.saturating_add(1);

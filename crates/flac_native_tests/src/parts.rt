@@ -2,7 +2,7 @@
 
 use flac_native::{
     BitReader, Block, Decoder, EncodeFault, Fault, FrameView, Item, Memory, Place, Plan, Profile,
-    RetagFault, SetupFault, StreamInfo, Track, Why, info_of, put_rows,
+    RetagFault, SetupFault, StreamInfo, Track, Why, info_of, put_rows, sample_width,
 };
 use flac_testing::sample;
 use std::alloc::Global;
@@ -204,4 +204,14 @@ fn prints_faults(rt: HostRuntime) -> Result<(), Fail> {
     let (at, why) = (None, Why::BlockLength);
     prints(&rt, alloc, &RetagFault { at, why }, "7 BlockLength")?;
     prints(&rt, alloc, &SetupFault::SampleTooLarge, "44 SampleTooLarge")
+}
+
+/// A sample takes whole bytes.
+#[test]
+fn widths_are_whole_bytes(rt: HostRuntime) {
+    assert!(rt; sample_width(4) == 1);
+    assert!(rt; sample_width(8) == 1);
+    assert!(rt; sample_width(12) == 2);
+    assert!(rt; sample_width(20) == 3);
+    assert!(rt; sample_width(32) == 4);
 }

@@ -1,17 +1,20 @@
 -- For proofs of encoding: what was written or sent so far.
-use Rattle.std.specs.Prelude.{ℤ, ◌≡◌, ℕ, ◌<◌, ◌≤◌, Bool, true, List, ◌++◌, length, Result, OnOk, OnErr, IfErr}
+use Rattle.std.specs.Prelude.{ℤ, ◌≡◌, ℕ, ◌-◌, ◌*◌, ◌^◌, ◌<◌, ◌≤◌, Bool, true, List, ◌++◌, length, Result, OnOk, OnErr, IfErr}
 use Rattle.flac_bits.specs.Bits.{bits_of}
 use Rattle.flac_bits.specs.State.{Rises}
-use Rattle.flac_bits.specs.Written.{Written, Fails}
+use Rattle.flac_bits.specs.Written.{Written, Fails, Writes}
 use Rattle.flac_bits.specs.declared.why.Why.{Why}
 use Rattle.flac_bits.specs.declared.target.Target as target
 use Rattle.flac_bits.specs.Forms.{joined}
-use Rattle.flac_frame.specs.Audio.{Sound}
+use Rattle.flac_header.specs.Spelling.{restarted}
+use Rattle.flac_frame.specs.Audio.{Sound, samples_each}
+use Rattle.flac_frame.specs.Spelling.{FrameForm, frame_spelling}
+use Rattle.flac_subframe.specs.Room.{Room}
 use Rattle.flac_subframe.specs.declared.linear.LinearPredictor.{LinearPredictor}
 use Rattle.flac_frame.specs.Chosen.{IsChoiceWith}
 use Rattle.flac_frame.specs.declared.frame_choice.FrameChoice.{FrameChoice}
-use Rattle.flac_native.specs.Given.{Cut}
-use Rattle.flac_native.specs.Writing.{AreFrames, AreLeastFrames, IsSpelled}
+use Rattle.flac_native.specs.Given.{Cut, fits_plan, blocks_in, size_of, room_of}
+use Rattle.flac_native.specs.Writing.{AreFrames, AreLeastFrames, AreChoices, IsSpelled}
 
 -- These bits were written and sent, at a whole byte, or else the target failed.
 pub record WritesAll {X : Type 0} (text : List Bool) (old new : Written) (result : Result X Why) : Type 0 where
@@ -29,6 +32,26 @@ pub record WritesOn {X : Type 0} (text : List Bool) (old new : Written) (result 
   pub names : new.names ≡ old.names
   pub bits : OnOk result (old.known ≡ true → new.bits ≡ old.bits ++ text)
   pub whole : OnOk result (new.mark.unread ≡ 0)
+
+-- where the samples of the frame of a number are
+pub record IsRange (p : Cut) (a : Sound) (number from to : ℕ) : Type 0 where
+  pub start : from ≡ p.block_size * number
+  pub size : to - from ≡ size_of p.block_size (samples_each a.channels) number
+  pub some : from < to
+  pub within : to ≤ samples_each a.channels
+  pub room : to - from ≤ p.block_size
+  pub few : number < 2 ^ 31
+
+-- The frame of a number can be written: it has samples, which fit the plan; these are the choices of the first frames; and the buffers were made for the plan.
+pub record IsReady (p : Cut) (a : Sound) (number : ℕ) (choices : List FrameChoice) (room : Room) : Type 0 where
+  pub fits : fits_plan p a ≡ true
+  pub few : number < blocks_in p.block_size (samples_each a.channels)
+  pub chosen : AreChoices p a choices
+  pub buffers : room ≡ room_of p
+
+-- at a whole byte, where the checks begin, the least frame of a number was written
+abbrev pub WritesChosen : {X : Type 0} → Cut → Sound → ℕ → Written → Written → Result X Why → Type 0
+WritesChosen p a number old new result = (f : FrameForm) × IsSpelled p a number (frame_spelling a.bits f) × Writes (frame_spelling a.bits f) (restarted old) new result
 
 -- so it is of the least frame of a number
 abbrev pub WritesNext : {X : Type 0} → Cut → Sound → ℕ → Written → Written → Result X Why → Type 0

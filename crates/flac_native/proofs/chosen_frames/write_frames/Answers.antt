@@ -1,12 +1,11 @@
-use Rattle.std.proofs.Common.{◌≡◌, ◌≤◌, ◌<◌, ◌-◌, ◌*◌, ◌+◌, ◌^◌, ◌∙◌, min, subst, arith}
+use Rattle.std.proofs.Common.{◌≡◌, ◌<◌, ◌*◌, ◌+◌, ◌∙◌, arith}
 use Rattle.std.proofs.Math.Nat.{mul-suc}
 use Rattle.std.proofs.lemmas.Result.{err_from_is_err_and}
 use Rattle.flac_frame.specs.Audio.{samples_each}
 use Rattle.flac_frame.specs.Spelling.{frame_spelling}
 use Rattle.flac_native.specs.Given.{blocks_in}
-use Rattle.flac_native.proofs.Planned.{planned, fit}
+use Rattle.flac_native.proofs.Planned.{planned, fit, block_small}
 use Rattle.flac_native.proofs.Gathered.{still_some, all_gathered}
-use Rattle.flac_native.proofs.Spelled.{spelled_of}
 use Rattle.flac_native.proofs.WrittenFrames.{frame_added, frame_failed, frames_none, frames_more, frames_fail, frames_all}
 use Rattle.flac_native.proofs.chosen_frames.write_frames.Goals as goal
 
@@ -18,26 +17,13 @@ loop-start-init g c = record {
   few = omega arith;
 }
 
-pub write_chosen-requires-clause-some : goal.write_chosen-requires-clause-some
-write_chosen-requires-clause-some g c =
-    let q = planned c.args.plan.now c.block_size-size.ensures.good in
-    omega (arith, c.min.ensures, c.loop-start-test.true, c.block_size-size.ensures.value, q.least)
-
-pub write_chosen-requires-clause-start : goal.write_chosen-requires-clause-start
-write_chosen-requires-clause-start g c = omega (arith, c.loop-start.invariant.start, c.loop-start-test.true, c.len-total.ensures)
-
-pub write_chosen-requires-clause-size : goal.write_chosen-requires-clause-size
-write_chosen-requires-clause-size g c = omega (arith, c.loop-start.invariant.start, c.loop-start-test.true, c.len-total.ensures, c.min.ensures, c.block_size-size.ensures.value)
-
-pub write_chosen-requires-clause-number : goal.write_chosen-requires-clause-number
-write_chosen-requires-clause-number g c =
+pub write_chosen-requires-clause-ready : goal.write_chosen-requires-clause-ready
+write_chosen-requires-clause-ready g c =
     let p = c.args.plan.now in
     let total = samples_each c.args.audio.now.channels in
     let q = planned p c.block_size-size.ensures.good in
     let more : p.block_size * c.loop-start.number < total = omega (arith, c.loop-start.invariant.start, c.loop-start-test.true, c.len-total.ensures) in
-    let f = fit p c.args.audio.now c.requires.fits in
-    let blocks : blocks_in p.block_size total ≤ 2 ^ 31 = subst (λ t. blocks_in p.block_size t ≤ 2 ^ 31) f.total q.blocks in
-    omega (arith, still_some p.block_size total c.loop-start.number q.least more, blocks)
+    record { fits = c.requires.fits; few = still_some p.block_size total c.loop-start.number q.least more; chosen = c.requires.choices; buffers = c.loop-start.invariant.buffers }
 
 pub write_chosen-requires-clause-whole : goal.write_chosen-requires-clause-whole
 write_chosen-requires-clause-whole g c = c.loop-start.invariant.written.wrote.whole
@@ -52,12 +38,17 @@ returns-in_err-write_chosen g c =
     let q = planned p c.block_size-size.ensures.good in
     let more : p.block_size * n < total = omega (arith, c.loop-start.invariant.start, c.loop-start-test.true, c.len-total.ensures) in
     let few : n < blocks_in p.block_size total = still_some p.block_size total n q.least more in
-    let at : c.loop-start.start ≡ p.block_size * n = omega (arith, c.loop-start.invariant.start, more) in
-    let part : c.loop-start.start + c.min.result - c.loop-start.start ≡ min p.block_size (total - p.block_size * n) = omega (arith, c.min.ensures, at, c.block_size-size.ensures.value, c.len-total.ensures) in
     let have = c.requires.frames in
     let w = c.in_err-write_chosen.ensures.wrote in
     rw (s.1, s.2) (frames_fail p a n c.args.writer.now c.loop-start.writer c.write_chosen.new.writer (frame_spelling a.bits w.0) _ have.frames (omega (arith, few, have.are.many)) have.are have.are_least c.loop-start.invariant.written
-    (spelled_of p a n c.loop-start.start _ w.0 at part w.1 w.2.0 w.2.1) (frame_failed a.bits w.0 c.loop-start.writer c.write_chosen.new.writer _ w.3))
+    w.1 (frame_failed a.bits w.0 c.loop-start.writer c.write_chosen.new.writer _ w.2))
+
+pub overflow_add-start : goal.overflow_add-start
+overflow_add-start g c =
+    let p = c.args.plan.now in
+    let q = planned p c.block_size-size.ensures.good in
+    let f = fit p c.args.audio.now c.requires.fits in
+    omega (arith, c.loop-start-test.true, c.len-total.ensures, f.total, q.total, c.block_size-size.ensures.value, block_small p q)
 
 pub loop-start-preserved : goal.loop-start-preserved
 loop-start-preserved g c =
@@ -71,21 +62,18 @@ loop-start-preserved g c =
     let more : b * n < total = omega (arith, inv.start, c.loop-start-test.true, c.len-total.ensures) in
     let few : n < blocks_in b total = still_some b total n q.least more in
     let up : b * (n + 1) ≡ b * n + b = omega (arith, mul-suc b n) in
-    let at : c.loop-start.start ≡ b * n = omega (arith, inv.start, more) in
-    let part : c.loop-start.start + c.min.result - c.loop-start.start ≡ min b (total - b * n) = omega (arith, c.min.ensures, at, c.block_size-size.ensures.value, c.len-total.ensures) in
     let w = c.in_ok-write_chosen.ensures.wrote in
     record {
-      written = frames_more p a n c.args.writer.now c.loop-start.writer c.write_chosen.new.writer (frame_spelling a.bits w.0) inv.written (spelled_of p a n c.loop-start.start _ w.0 at part w.1 w.2.0 w.2.1)
-          (frame_added a.bits w.0 c.loop-start.writer c.write_chosen.new.writer inv.written.wrote.whole w.3);
+      written = frames_more p a n c.args.writer.now c.loop-start.writer c.write_chosen.new.writer (frame_spelling a.bits w.0) inv.written w.1 (frame_added a.bits w.0 c.loop-start.writer c.write_chosen.new.writer inv.written.wrote.whole w.2);
       buffers = c.write_chosen.ensures.kept ∙ inv.buffers;
-      start = omega (arith, at, c.min.ensures, up, more, c.block_size-size.ensures.value, c.len-total.ensures);
+      start = omega (arith, inv.start, up, c.block_size-size.ensures.value);
       few = omega (arith, few);
     }
 
 pub loop-start-smaller : goal.loop-start-smaller
 loop-start-smaller g c =
     let q = planned c.args.plan.now c.block_size-size.ensures.good in
-    omega (arith, c.min.ensures, c.loop-start-test.true, c.block_size-size.ensures.value, q.least)
+    omega (arith, c.loop-start-test.true, c.block_size-size.ensures.value, q.least)
 
 pub returns : goal.returns
 returns g c =

@@ -1,4 +1,4 @@
-use Rattle.std.proofs.Common.{◌≡◌, ◌≤◌, ◌-◌, ◌*◌, min}
+use Rattle.std.proofs.Common.{◌≡◌, ◌≤◌, ◌-◌, ◌*◌}
 use Rattle.flac_frame.specs.Audio.{samples_each}
 use Rattle.flac_native.specs.Given.{blocks_in, room_of}
 use Rattle.flac_native.proofs.WrittenFrames.{WrittenFrames}
@@ -8,7 +8,7 @@ abbrev pub invariant-loop-start : goal.invariant-loop-start
 invariant-loop-start g l = record {
   written : WrittenFrames l.plan l.audio l.number l.fn.writer l.writer;
   buffers : l.buffers ≡ room_of l.plan;
-  start : l.start ≡ min (samples_each l.audio.channels) (l.plan.block_size * l.number);
+  start : l.start ≡ l.plan.block_size * l.number;
   few : l.number ≤ blocks_in l.plan.block_size (samples_each l.audio.channels);
 }
 

@@ -1,4 +1,4 @@
-use Rattle.std.proofs.Common.{◌≡◌, ◌∙◌, ◌+◌, ◌/◌, ◌++◌, ◌≤◌, [], ◌∷◌, List, ℕ, ℤ, ap, sym, subst, refl, length, take, drop, arith}
+use Rattle.std.proofs.Common.{◌≡◌, ◌∙◌, ◌+◌, ◌++◌, ◌≤◌, [], ◌∷◌, List, ℕ, ℤ, ap, sym, subst, refl, length, take, drop, arith}
 use Rattle.std.proofs.lemmas.List.{length-map}
 use Rattle.flac_frame.specs.Encoding.{block_of}
 use Rattle.flac_frame.proofs.Frames.{few_channels, bits_small, each_long, two_blocks}
@@ -31,7 +31,7 @@ pub feed_rows-requires-clause-width : goal.feed_rows-requires-clause-width
 feed_rows-requires-clause-width c =
     let e = c.channels-channels.ensures in
     let deep = bits_small (λ v. v.items) c.channels-channels.result.now c.args.audio.now e.sound e.items c.args.audio.now.bits refl in
-    omega (arith, deep.1, c.bits.ensures)
+    omega (arith, deep.1, c.bits.ensures, c.sample_width-width.ensures)
 
 pub returns-then-channels-eq2 : goal.returns-then-channels-eq2
 returns-then-channels-eq2 c = λ m holds.
@@ -47,9 +47,9 @@ returns-then-channels-eq2 c = λ m holds.
     let right : r ≡ take n (drop start c.index-channels-1.result.items) = c.part_of-right.ensures.part ∙ ap (λ k. take n (drop start k)) c.deref-then-channels-eq2.ensures.value in
     let block = two_blocks (λ v. v.items) c.channels-channels.result.now a e.sound e.items start n c.index-channels-0.result c.index-channels-1.result many c.index-channels-0.is c.index-channels-1.is in
     let both : l ∷ r ∷ [] ≡ block_of start n a.channels = ap (λ (k : List ℤ). k ∷ r ∷ []) left ∙ ap (λ (k : List ℤ). take n (drop start c.index-channels-0.result.items) ∷ k ∷ []) right ∙ block in
-    let w : (c.bits.result + 7) / 8 ≡ width = ap (λ b. (b + 7) / 8) c.bits.ensures in
+    let w : c.sample_width-width.result ≡ width = c.sample_width-width.ensures ∙ ap sample_width c.bits.ensures in
     let z : start + 0 ≡ start = omega arith in
-    let rows : rows_bytes ((c.bits.result + 7) / 8) (l ∷ r ∷ []) n 0 ≡ rows_bytes width a.channels n start =
+    let rows : rows_bytes c.sample_width-width.result (l ∷ r ∷ []) n 0 ≡ rows_bytes width a.channels n start =
     ap (λ k. rows_bytes k (l ∷ r ∷ []) n 0) w ∙ ap (λ k. rows_bytes width k n 0) both ∙ part_rows width start n n 0 a.channels (omega arith) ∙ ap (λ k. rows_bytes width a.channels n k) z in
     subst (λ k. Holds c.feed_rows.new.hasher (m ++ k)) rows (c.feed_rows.ensures m holds)
 
@@ -63,11 +63,11 @@ pub feed_rows-requires-2-clause-width : goal.feed_rows-requires-2-clause-width
 feed_rows-requires-2-clause-width c =
     let e = c.channels-channels.ensures in
     let deep = bits_small (λ v. v.items) c.channels-channels.result.now c.args.audio.now e.sound e.items c.args.audio.now.bits refl in
-    omega (arith, deep.1, c.bits.ensures)
+    omega (arith, deep.1, c.bits.ensures, c.sample_width-width.ensures)
 
 pub feed_rows-requires-2-clause-end : goal.feed_rows-requires-2-clause-end
 feed_rows-requires-2-clause-end c = omega (arith, c.requires, c.channels-channels.ensures.sound.short)
 
 pub returns : goal.returns
 returns c = λ m holds.
-    subst (λ k. Holds c.feed_rows-2.new.hasher (m ++ rows_bytes k c.args.audio.now.channels c.args.size c.args.start)) (ap (λ b. (b + 7) / 8) c.bits.ensures) (c.feed_rows-2.ensures m holds)
+    subst (λ k. Holds c.feed_rows-2.new.hasher (m ++ rows_bytes k c.args.audio.now.channels c.args.size c.args.start)) (c.sample_width-width.ensures ∙ ap sample_width c.bits.ensures) (c.feed_rows-2.ensures m holds)

@@ -3,24 +3,14 @@ use Rattle.flac_bits.specs.Fencing.{lifted}
 use Rattle.flac_bits.specs.Items.{refused}
 use Rattle.flac_bits.specs.inner.Items.{step_at}
 use Rattle.flac_native.specs.Stream.{Progress, Stand, grammar, place_in}
-use Rattle.flac_native.specs.Track.{IsAt, shown, is_behind_blocks}
+use Rattle.flac_native.specs.Track.{IsAt, is_behind_blocks}
 use Rattle.flac_native.specs.Retag.{is_before_frames}
 use Rattle.flac_native.specs.declared.track.Track.{Track}
-use Rattle.flac_native.proofs.Metadata.{not_over, no_frame, refused_there, before_frames}
+use Rattle.flac_native.proofs.Metadata.{refused_there, before_frames}
 use Rattle.flac_native.proofs.retagging.keep_next.Goals as goal
 
 early : (t : Track) (p : Progress) → IsAt t p → is_behind_blocks t.phase ≡ false → is_behind_blocks p.stand.phase ≡ false
 early t p at e = ap (λ (s : Stand). is_behind_blocks s.phase) (sym at.stand) ∙ e
-
-pub returns-in-Ok-Some-Frame-clause-refused : goal.returns-in-Ok-Some-Frame-clause-refused
-returns-in-Ok-Some-Frame-clause-refused g c = λ p at known same quiet room.
-    let step = rw c.in-Ok-Some-Frame.field-0-is at c.in-Ok-Some-Frame.ensures in
-    absurd (no_frame p (lifted c.args.reader.now).cursor c.advance.new.reader.cursor (shown c.advance.new.track) (early c.args.track.now p at c.requires) (rw c.in-Ok-Some-Frame.field-0-0-is at (step.steps p at known same quiet)))
-
-pub returns-in-Ok-None-clause-refused : goal.returns-in-Ok-None-clause-refused
-returns-in-Ok-None-clause-refused g c = λ p at known same quiet room.
-    let step = rw c.in-Ok-None.field-0-is at c.in-Ok-None.ensures in
-    absurd (not_over p (lifted c.args.reader.now).cursor (early c.args.track.now p at c.requires) (step.steps p at known same quiet))
 
 pub returns-in-Err-clause-refused : goal.returns-in-Err-clause-refused
 returns-in-Err-clause-refused g c = λ p at known same quiet room.
@@ -34,9 +24,3 @@ returns-in-Err-clause-at g c = subst (λ q. is_before_frames q ≡ true) (sym c.
 
 pub returns-in-Err-keep-clause-at : goal.returns-in-Err-keep-clause-at
 returns-in-Err-keep-clause-at g c = subst (λ q. is_before_frames q ≡ true) (sym c.place-at.ensures) (before_frames c.args.track.now.phase c.args.track.now.index c.requires)
-
-pub returns-in-Ok-Some-Frame-clause-at : goal.returns-in-Ok-Some-Frame-clause-at
-returns-in-Ok-Some-Frame-clause-at g c = subst (λ q. is_before_frames q ≡ true) (sym c.place-at.ensures) (before_frames c.args.track.now.phase c.args.track.now.index c.requires)
-
-pub returns-in-Ok-None-clause-at : goal.returns-in-Ok-None-clause-at
-returns-in-Ok-None-clause-at g c = subst (λ q. is_before_frames q ≡ true) (sym c.place-at.ensures) (before_frames c.args.track.now.phase c.args.track.now.index c.requires)

@@ -1,4 +1,4 @@
-use Rattle.std.proofs.Common.{ℤ, Vec, Global, map, ◌≡◌, ◌≤◌, ◌<◌, ◌-◌, ◌*◌, ◌+◌, ◌^◌, min, max, sym, ap, subst, ◌∙◌, arith, ℕ, List, length, None}
+use Rattle.std.proofs.Common.{ℤ, Vec, Global, map, ◌≡◌, ◌≤◌, ◌<◌, ◌-◌, ◌*◌, ◌+◌, ◌^◌, min, max, refl, sym, ap, subst, ◌∙◌, arith, ℕ, List, length, None}
 use Rattle.std.proofs.Math.Nat.{mul-suc}
 use Rattle.std.proofs.lemmas.Bool.Decides.{nat_tests}
 use Rattle.std.proofs.lemmas.List.{length-map}
@@ -14,7 +14,9 @@ use Rattle.flac_frame.specs.Encoding.{block_of, most_in}
 use Rattle.flac_frame.specs.Frame.{limits_at}
 use Rattle.flac_frame.specs.declared.frame_choice.FrameChoice.{FrameChoice}
 use Rattle.flac_native.specs.Given.{Cut, blocks_in, room_of, sound_message}
+use Rattle.flac_native.specs.Message.{sample_width, rows_bytes}
 use Rattle.flac_native.specs.Writing.{AreChoices, AreCounted, IsChoiceOf}
+use Rattle.md5.specs.Md5.{Holds}
 use Rattle.flac_native.proofs.Messages.{fed_none, fed_more, fed_all}
 use Rattle.flac_native.proofs.Planned.{Planned, planned, fit, block_small, orders_of, partition_of}
 use Rattle.flac_native.proofs.Tables.{table_good}
@@ -49,19 +51,26 @@ loop-start-init c = record {
 }
 
 pub choose_frame-requires-clause-some : goal.choose_frame-requires-clause-some
-choose_frame-requires-clause-some c =
-    let q = planned c.args.plan.now c.block_size-size.ensures.good in
-    omega (arith, c.min.ensures, c.loop-start-test.true, c.block_size-size.ensures.value, q.least)
+choose_frame-requires-clause-some c = c.range-range.ensures.range.some
 
 pub choose_frame-requires-clause-number : goal.choose_frame-requires-clause-number
-choose_frame-requires-clause-number c =
+choose_frame-requires-clause-number c = c.range-range.ensures.range.few
+
+pub range-range-requires-clause-few : goal.range-range-requires-clause-few
+range-range-requires-clause-few c =
     let p = c.args.plan.now in
     let total = samples_each c.args.audio.now.channels in
-    let q = planned p c.block_size-size.ensures.good in
     let more : p.block_size * c.loop-start.number < total = omega (arith, c.loop-start.invariant.start, c.loop-start-test.true, c.len-total.ensures) in
-    let f = fit p c.args.audio.now c.requires.fits in
-    let blocks : blocks_in p.block_size total ≤ 2 ^ 31 = subst (λ t. blocks_in p.block_size t ≤ 2 ^ 31) f.total q.blocks in
-    omega (arith, still_some p.block_size total c.loop-start.number q.least more, blocks)
+    still_some p.block_size total c.loop-start.number (planned p c.block_size-size.ensures.good).least more
+
+pub overflow_sub-len : goal.overflow_sub-len
+overflow_sub-len c = omega (arith, c.range-range.ensures.range.some)
+
+pub feed_block-requires : goal.feed_block-requires
+feed_block-requires c = omega (arith, c.range-range.ensures.range.some, c.range-range.ensures.range.within)
+
+pub choose_frame-requires-clause-within : goal.choose_frame-requires-clause-within
+choose_frame-requires-clause-within c = c.range-range.ensures.range.within
 
 pub choose_frame-requires-clause-partition : goal.choose_frame-requires-clause-partition
 choose_frame-requires-clause-partition c = partition_of c.args.plan.now c.args.audio.now _ (fit c.args.plan.now c.args.audio.now c.requires.fits) c.loop-start.invariant.buffers
@@ -73,17 +82,13 @@ choose_frame-requires-clause-orders c =
     subst (AreWithin (limits_at a.profile a.rate).linear) (sym c.predictors-predictors.ensures) (orders_of p a (planned p c.block_size-size.ensures.good) (fit p a c.requires.fits))
 
 pub choose_frame-requires-clause-room : goal.choose_frame-requires-clause-room
-choose_frame-requires-clause-room c =
-    let block : c.loop-start.buffers.block ≡ c.args.plan.now.block_size = ap (λ (r : Room). r.block) c.loop-start.invariant.buffers in
-    omega (arith, c.min.ensures, c.block_size-size.ensures.value, block)
+choose_frame-requires-clause-room c = omega (arith, c.range-range.ensures.range.room, ap (λ (r : Room). r.block) c.loop-start.invariant.buffers)
 
 pub choose_frame-requires-clause-places : goal.choose_frame-requires-clause-places
 choose_frame-requires-clause-places c = c.loop-start.invariant.places
 
 pub frame_bytes-bytes-requires-clause-few : goal.frame_bytes-bytes-requires-clause-few
-frame_bytes-bytes-requires-clause-few c =
-    let p = c.args.plan.now in
-    omega (arith, c.min.ensures, c.block_size-size.ensures.value, block_small p (planned p c.block_size-size.ensures.good))
+frame_bytes-bytes-requires-clause-few c = omega (arith, c.range-range.ensures.range.room, block_small c.args.plan.now (planned c.args.plan.now c.block_size-size.ensures.good))
 
 pub frame_bytes-bytes-requires-clause-chosen : goal.frame_bytes-bytes-requires-clause-chosen
 frame_bytes-bytes-requires-clause-chosen c = (_, _, c.choose_frame.ensures.chosen)
@@ -108,24 +113,23 @@ loop-start-preserved c =
     let total = samples_each a.channels in
     let inv = c.loop-start.invariant in
     let q = planned p c.block_size-size.ensures.good in
-    let size_is = c.block_size-size.ensures.value in
-    let total_is = c.len-total.ensures in
-    let test = c.loop-start-test.true in
-    let step = c.min.ensures in
-    let more : b * n < total = omega (arith, inv.start, test, total_is) in
+    let more : b * n < total = omega (arith, inv.start, c.loop-start-test.true, c.len-total.ensures) in
     let few : n < blocks_in b total = still_some b total n q.least more in
     let up : b * (n + 1) ≡ b * n + b = omega (arith, mul-suc b n) in
-    let at : c.loop-start.start ≡ b * n = omega (arith, inv.start, more) in
-    let part : c.loop-start.start + c.min.result - c.loop-start.start ≡ min b (total - b * n) = omega (arith, step, at, size_is, total_is) in
-    let size : ℕ = c.loop-start.start + c.min.result - c.loop-start.start in
+    let r = c.range-range.result in
+    let k = c.range-range.ensures.range in
+    let size : ℕ = r.end - r.start in
     let choice = c.choose_frame.new.choice in
-    let is : IsChoiceWith p.predictors a size n (block_of c.loop-start.start size a.channels) choice =
-    subst (λ ps. IsChoiceWith ps a size n (block_of c.loop-start.start size a.channels) choice) c.predictors-predictors.ensures c.choose_frame.ensures.chosen in
+    let is : IsChoiceWith p.predictors a size n (block_of r.start size a.channels) choice =
+    subst (λ ps. IsChoiceWith ps a size n (block_of r.start size a.channels) choice) c.predictors-predictors.ensures c.choose_frame.ensures.chosen in
+    let from : c.loop-start.start ≡ r.start = omega (arith, inv.start, more, k.start) in
+    let to : r.start + size ≡ r.end = omega (arith, k.some) in
+    let fed = fed_more a c.loop-start.hasher c.feed_block.new.hasher r.start size size refl c.feed_block.ensures (subst (λ at. Holds c.loop-start.hasher (rows_bytes (sample_width a.bits) a.channels at 0)) from inv.fed) in
     let bytes : ℕ = c.frame_bytes-bytes.result in
     let now = c.note_point.new.points.items in
-    let g = gathered_more p a n c.loop-start.offset c.loop-start.least c.loop-start.greatest bytes c.loop-start.start _ choice c.loop-start.points.items now inv.gathered c.in_ok-note_point.ensures.noted at part is (c.frame_bytes-bytes.ensures.bytes _ _ is) in
+    let g = gathered_more p a n c.loop-start.offset c.loop-start.least c.loop-start.greatest bytes r.start _ choice c.loop-start.points.items now inv.gathered c.in_ok-note_point.ensures.noted k.start k.size is (c.frame_bytes-bytes.ensures.bytes _ _ is) in
     let keeps = c.in_ok-keep.ensures.kept in
-    let chosen : IsChoiceOf p a n choice = record { chosen = choice_of p a n c.loop-start.start _ choice at part is; places = c.choose_frame.ensures.places.many } in
+    let chosen : IsChoiceOf p a n choice = record { chosen = choice_of p a n r.start _ choice k.start k.size is; places = c.choose_frame.ensures.places.many } in
     let kept = choices_more p a c.loop-start.choices.items c.keep.new.choices.items keeps.0 n _ inv.choices inv.kept (kept_choice p a n choice keeps.0 keeps.1 chosen) keeps.2 in
     let max_is : c.greatest_with-greatest.result ≡ max c.loop-start.greatest bytes = c.greatest_with-greatest.ensures in
     let least_is : c.least_with-least.result ≡ least_with n c.loop-start.least bytes = c.least_with-least.ensures in
@@ -135,18 +139,16 @@ loop-start-preserved c =
       choices = kept.0;
       kept = kept.1;
       places = subst (λ (r : Room). HasPlaces (length a.channels) r.most choice) (sym c.choose_frame.ensures.kept) c.choose_frame.ensures.places;
-      fed = fed_more a c.loop-start.hasher c.feed_block.new.hasher c.loop-start.start c.min.result (c.loop-start.start + c.min.result - c.loop-start.start) (omega arith) c.feed_block.ensures inv.fed;
+      fed = subst (λ at. Holds c.feed_block.new.hasher (rows_bytes (sample_width a.bits) a.channels at 0)) to fed;
       buffers = c.choose_frame.ensures.kept ∙ inv.buffers;
-      start = omega (arith, at, step, up, more, size_is, total_is);
+      start = omega (arith, k.start, k.size, k.some, up, more);
       few = omega (arith, few);
       greatest = omega (arith, max_is, inv.greatest, g.1);
       least = ordered n c.loop-start.least c.loop-start.greatest bytes inv.least least_is max_is;
     }
 
 pub loop-start-smaller : goal.loop-start-smaller
-loop-start-smaller c =
-    let q = planned c.args.plan.now c.block_size-size.ensures.good in
-    omega (arith, c.min.ensures, c.loop-start-test.true, c.block_size-size.ensures.value, q.least)
+loop-start-smaller c = omega (arith, c.loop-start.invariant.start, c.range-range.ensures.range.start, c.range-range.ensures.range.some, c.range-range.ensures.range.within, c.len-total.ensures)
 
 pub returns-clause-digest : goal.returns-clause-digest
 returns-clause-digest c =

@@ -1,28 +1,49 @@
-use Rattle.std.proofs.Common.{◌≡◌, ◌≤◌, ◌<◌, ◌*◌, ◌^◌, ap, sym, subst, ◌∙◌, arith}
-use Rattle.std.proofs.Math.Nat.{mul_comm}
-use Rattle.flac_frame.specs.Audio.{samples_each}
-use Rattle.flac_native.specs.Given.{blocks_in}
+use Rattle.std.proofs.Common.{◌≡◌, ◌∙◌, ap, sym, subst, nat_lt, ℕ, List, arith, []}
+use Rattle.flac_bits.specs.Bits.{bits_of}
+use Rattle.flac_bits.specs.Written.{Written}
+use Rattle.flac_native.specs.Room.{placed}
 use Rattle.flac_native.specs.Writing.{AreChoices}
-use Rattle.flac_native.proofs.Encoded.{least_part}
-use Rattle.flac_native.proofs.Planned.{planned, fit}
+use Rattle.flac_native.proofs.Rooms.{spell_ok, spell_err}
 use Rattle.flac_native.proofs.chosen_frames.ChosenFrames.write.Goals as goal
 
-pub overflow_mul-start : goal.overflow_mul-start
-overflow_mul-start c =
-    let p = c.args.plan.now in
-    let total = samples_each c.args.audio.now.channels in
-    let at : p.block_size * c.args.number < total = least_part p.block_size total c.args.number (planned p c.block_size-size.ensures.good).least c.requires.few in
-    let size : c.block_size-size.result ≡ p.block_size = c.block_size-size.ensures.value in
-    let long : c.len-total.result ≡ total = c.len-total.ensures in
-    let start : c.args.number * c.block_size-size.result ≡ p.block_size * c.args.number = mul_comm c.args.number c.block_size-size.result ∙ ap (λ k. k * c.args.number) size in
-    omega (arith, start, at, long)
+pub write_next-outcome-requires-clause-ready : goal.write_next-outcome-requires-clause-ready
+write_next-outcome-requires-clause-ready c = record {
+  fits = c.requires.fits;
+  few = c.requires.few;
+  chosen = subst (AreChoices c.args.plan.now c.args.audio.now) (sym c.as_slice-choices.ensures.value) c.requires.choices;
+  buffers = c.requires.buffers;
+}
 
-pub spell_next-requires-clause-choices : goal.spell_next-requires-clause-choices
-spell_next-requires-clause-choices c = subst (AreChoices c.args.plan.now c.args.audio.now) (sym c.as_slice-choices.ensures.value) c.requires.choices
+pub unreachable-requires : goal.unreachable-requires
+unreachable-requires c =
+    let room = c.into_target-room.result in
+    let e = c.emptied.ensures in
+    let w = c.new-writer.ensures in
+    let places : ℕ = c.args.room.places in
+    let none : List ℕ = c.emptied.result.bytes.items in
+    let blank : c.new-writer.result.bits ≡ bits_of (placed places []) = ap (λ (v : Written). v.bits) w ∙ ap (λ n. bits_of (placed n none)) e.places ∙ ap (λ l. bits_of (placed places l)) e.none in
+    let known = ap (λ (v : Written). v.known) w ∙ ap (λ n. nat_lt n 18446744073709551615) e.errors in
+    spell_err _ _ c.args.plan.now c.args.audio.now c.args.number places room.places room.bytes.items c.new-writer.result c.write_next-outcome.new.writer known blank (sym c.into_target-room.ensures.sent) c.requires.room (omega (arith, c.requires.few, c.requires.room.are.many))
+    (λ some. room.full (omega (arith, some, c.into_target-room.ensures.errors))) c.in-Err.ensures.wrote
 
-pub spell_next-requires-clause-number : goal.spell_next-requires-clause-number
-spell_next-requires-clause-number c =
-    let p = c.args.plan.now in
-    let total = samples_each c.args.audio.now.channels in
-    let blocks : blocks_in p.block_size total ≤ 2 ^ 31 = subst (λ t. blocks_in p.block_size t ≤ 2 ^ 31) (fit p c.args.audio.now c.requires.fits).total (planned p c.block_size-size.ensures.good).blocks in
-    omega (arith, blocks, c.requires.few)
+pub returns-clause-places : goal.returns-clause-places
+returns-clause-places c =
+    let room = c.into_target-room.result in
+    let e = c.emptied.ensures in
+    let w = c.new-writer.ensures in
+    let places : ℕ = c.args.room.places in
+    let none : List ℕ = c.emptied.result.bytes.items in
+    let blank : c.new-writer.result.bits ≡ bits_of (placed places []) = ap (λ (v : Written). v.bits) w ∙ ap (λ n. bits_of (placed n none)) e.places ∙ ap (λ l. bits_of (placed places l)) e.none in
+    let known = ap (λ (v : Written). v.known) w ∙ ap (λ n. nat_lt n 18446744073709551615) e.errors in
+    (spell_ok _ _ c.args.plan.now c.args.audio.now c.args.number places room.places room.bytes.items c.new-writer.result c.write_next-outcome.new.writer known blank (sym c.into_target-room.ensures.sent) c.in-Ok.ensures.wrote).0
+
+pub returns-clause-frame : goal.returns-clause-frame
+returns-clause-frame c =
+    let room = c.into_target-room.result in
+    let e = c.emptied.ensures in
+    let w = c.new-writer.ensures in
+    let places : ℕ = c.args.room.places in
+    let none : List ℕ = c.emptied.result.bytes.items in
+    let blank : c.new-writer.result.bits ≡ bits_of (placed places []) = ap (λ (v : Written). v.bits) w ∙ ap (λ n. bits_of (placed n none)) e.places ∙ ap (λ l. bits_of (placed places l)) e.none in
+    let known = ap (λ (v : Written). v.known) w ∙ ap (λ n. nat_lt n 18446744073709551615) e.errors in
+    (spell_ok _ _ c.args.plan.now c.args.audio.now c.args.number places room.places room.bytes.items c.new-writer.result c.write_next-outcome.new.writer known blank (sym c.into_target-room.ensures.sent) c.in-Ok.ensures.wrote).1
