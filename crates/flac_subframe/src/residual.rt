@@ -6,8 +6,10 @@ ghost use Rattle.flac_bits.specs.Lists.{list_of};
 ghost use Rattle.flac_bits.specs.Rice.{rice_value, unfolded};
 ghost use Rattle.flac_bits.specs.Reading.{Counts, Gives, Reads};
 ghost use Rattle.flac_bits.specs.Signed.{FitsBits};
+ghost use Rattle.flac_subframe.specs.inner.Codes.{method_code};
 ghost use Rattle.flac_subframe.specs.Residual.{partition, partitions, residual_header, residual, all_values, residual_values, can_halve};
 
+use crate::coding_method::CodingMethod;
 use crate::numbers::repeat;
 use flac_bits::{BitReader, Source, Why};
 
@@ -88,21 +90,20 @@ fn read_residual_header<R: Source>(
     limit: u32,
     order: usize,
     block: usize,
-) -> Result<(u32, u32), Why>
+) -> Result<(CodingMethod, u32), Why>
     requires limit { limit ≤ 15 }
-    ensures method { IfOk result (λ h. (4 + h.0 ≡ 4) ⊎ (4 + h.0 ≡ 5)) }
     ensures times { IfOk result (λ h. h.1 ≤ 15) }
     ensures whole { IfOk result (λ h. block ≡ 2 ^ h.1 * (block / 2 ^ h.1)) }
     ensures room { IfOk result (λ h. order < block / 2 ^ h.1) }
     ensures spends { OnOk result (bits.new.most ≤ bits.old.most) }
     ensures counts { Counts bits.old bits.new result }
     ensures memory { IfErr result (λ e. e ≢ Why.Memory) }
-    ensures reads { Reads (λ h. (h.0, h.1)) (residual_header limit order block) bits.old bits.new result }
+    ensures reads { Reads (λ h. (method_code h.0, h.1)) (residual_header limit order block) bits.old bits.new result }
 {
-    let method = bits.take(2)? as u32;
-    if method > 1 {
+    let code = bits.take(2)?;
+    let Some(method) = CodingMethod::of_code(code) else {
         return Err(Why::BadPartition);
-    }
+    };
     let times = bits.take(4)? as u32;
     if times > limit {
         return Err(Why::NotSubset);
@@ -134,6 +135,7 @@ pub(crate) fn read_residual<R: Source>(
     let block = out.len() + order;
     let (method, times) = read_residual_header(bits, limit, order, block)?;
     let count = partition_count(times);
-    read_partitions(bits, 4 + method, order, block / count, count, out)?;
+    let parameter_bits = method.parameter_bits();
+    read_partitions(bits, parameter_bits, order, block / count, count, out)?;
     Ok(())
 }
