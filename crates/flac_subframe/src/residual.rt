@@ -10,7 +10,7 @@ ghost use Rattle.flac_subframe.specs.inner.Codes.{method_code};
 ghost use Rattle.flac_subframe.specs.Residual.{partition, partitions, residual_header, residual, all_values, residual_values, can_halve};
 
 use crate::coding_method::CodingMethod;
-use crate::numbers::repeat;
+use crate::numbers::{power, repeat};
 use flac_bits::{BitReader, Source, Why};
 
 /// Reads the values of one partition.
@@ -74,15 +74,6 @@ fn read_partitions<R: Source>(
     Ok(())
 }
 
-/// How many partitions a partition order gives.
-#[inline(always)]
-fn partition_count(times: u32) -> usize
-    requires { times ≤ 15 }
-    ensures { result ≡ 2 ^ times }
-{
-    1 << times
-}
-
 /// Reads the coding method and the partition order of a residual (RFC 9639, section 9.2.7).
 #[tactic(auto, unfolding(crate::specs::Residual::residual_header))]
 fn read_residual_header<R: Source>(
@@ -108,7 +99,7 @@ fn read_residual_header<R: Source>(
     if times > limit {
         return Err(Why::NotSubset);
     }
-    let count = partition_count(times);
+    let count = power(times as u8);
     if block % count != 0 || block / count <= order {
         return Err(Why::BadPartition);
     }
@@ -134,7 +125,7 @@ pub(crate) fn read_residual<R: Source>(
 {
     let block = out.len() + order;
     let (method, times) = read_residual_header(bits, limit, order, block)?;
-    let count = partition_count(times);
+    let count = power(times as u8);
     let parameter_bits = method.parameter_bits();
     read_partitions(bits, parameter_bits, order, block / count, count, out)?;
     Ok(())

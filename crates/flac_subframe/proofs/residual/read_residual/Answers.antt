@@ -28,7 +28,7 @@ returns-in_err-read_partitions g c =
       memory = c.in_err-read_partitions.ensures.memory;
       reads = λ known same.
           residual_run c.args.limit c.args.order (length c.args.out.now + c.args.order) h c.args.bits.now.cursor c.read_residual_header.new.bits.cursor (c.in_ok-method.ensures.reads known counts.1)
-          ∙ (rw (c.partition_count-count.ensures, c.parameter_bits-parameter_bits.ensures.value) at (c.in_err-read_partitions.ensures.reads (counts.0 known) (same ∙ sym counts.1)));
+          ∙ (rw (c.power-count.ensures, c.parameter_bits-parameter_bits.ensures.value) at (c.in_err-read_partitions.ensures.reads (counts.0 known) (same ∙ sym counts.1)));
     })
 
 pub returns-clause-counts : goal.returns-clause-counts
@@ -39,4 +39,4 @@ returns-clause-reads g c = λ known same.
     let counts = c.in_ok-method.ensures.counts in
     let h : ℕ × ℕ = (method_code c.in_ok-method.method, c.in_ok-method.times) in
     residual_run c.args.limit c.args.order (length c.args.out.now + c.args.order) h c.args.bits.now.cursor c.read_residual_header.new.bits.cursor (c.in_ok-method.ensures.reads known counts.1)
-    ∙ (rw (c.partition_count-count.ensures, c.parameter_bits-parameter_bits.ensures.value) at (c.in_ok-read_partitions.ensures.reads (counts.0 known) (same ∙ sym counts.1)))
+    ∙ (rw (c.power-count.ensures, c.parameter_bits-parameter_bits.ensures.value) at (c.in_ok-read_partitions.ensures.reads (counts.0 known) (same ∙ sym counts.1)))
