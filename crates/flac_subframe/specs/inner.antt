@@ -6,3 +6,4 @@ pub mod Halves
 pub mod Chosen
 pub mod Family
 pub mod Products
+pub mod Codes

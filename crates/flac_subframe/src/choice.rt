@@ -14,11 +14,12 @@ ghost use Rattle.flac_subframe.specs.Wasted.{IsWasted, times_power, shortened};
 ghost use Rattle.flac_subframe.specs.declared.linear.LinearPredictor.{LinearPredictor};
 
 use crate::folding::fold_each;
-use crate::halving::{Found, power};
+use crate::halving::Found;
 use crate::held::{Held, HeldKind, Sought};
 use crate::leaving::{take_differences, take_weighed};
 use crate::linear::LinearPredictor;
 use crate::narrowed::{narrow, peak, take_narrow};
+use crate::numbers::power;
 use crate::products::take_products;
 use crate::survey::{greatest_halvings, least_residual};
 use crate::tables::Tables;
@@ -301,11 +302,7 @@ fn begin(samples: &[i64], bits: u32) -> Held
     ensures best { (handed : List LinearPredictor) (most : ℕ) (codings : List ℕ) → IsBest handed most bits samples.now (fixed_below 0) (way_held result codings) }
     ensures none { result.found.halvings ≡ 0 }
 {
-    let found = Found {
-        parameter_bits: 4,
-        halvings: 0,
-        bits: 0,
-    };
+    let found = Found::none();
     let width = u64::from(bits);
     if all_equal(samples) {
         Held {

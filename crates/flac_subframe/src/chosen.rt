@@ -13,10 +13,11 @@ ghost use Rattle.flac_subframe.specs.Subframe.{samples_of};
 ghost use Rattle.flac_subframe.specs.declared.limits.Limits.{Limits};
 
 use crate::choice::choose_in_places;
-use crate::halving::{Found, power};
+use crate::halving::Found;
 use crate::held::{HeldKind, Sought};
 use crate::limits::Limits;
 use crate::linear::LinearPredictor;
+use crate::numbers::power;
 use crate::tables::filled;
 use crate::view::{ChosenView, CodedView, Scope};
 use arrayvec::ArrayVec;
@@ -55,7 +56,7 @@ impl Choice {
             kind: sought.held.kind,
             found,
             codings: copy,
-            bits: 8 + u64::from(sought.wasted) + sought.held.bits,
+            bits: sought.bits(),
         }
     }
 

@@ -7,7 +7,7 @@ ghost use Rattle.flac_subframe.specs.inner.Cost.{value_cost};
 ghost use Rattle.flac_subframe.specs.inner.Halves.{part, priced, entry, HasEntries};
 
 use crate::cost::rice_bits;
-use crate::halving::power;
+use crate::numbers::power;
 use crate::view::ResidualView;
 
 /// What each partition costs under a parameter, at the finest partition order.

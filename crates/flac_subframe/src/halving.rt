@@ -1,6 +1,6 @@
 //! The form of a residual.
 
-ghost use Rattle.std.specs.Prelude.{◌≡◌, ◌≤◌, ◌^◌};
+ghost use Rattle.std.specs.Prelude.{◌≡◌};
 
 /// The form of a residual without its codings, and how many bits it takes.
 #[derive(Clone, Copy, Debug, PartialEq, Eq)]
@@ -13,10 +13,16 @@ pub struct Found {
     pub bits: u64,
 }
 
-/// Two to the power of the exponent.
-pub(crate) fn power(exponent: u8) -> usize
-    requires { exponent ≤ 15 }
-    ensures { result ≡ 2 ^ exponent }
-{
-    1 << exponent
+impl Found {
+    /// That of no residual.
+    pub(crate) fn none() -> Found
+        ensures halvings { result.halvings ≡ 0 }
+        ensures bits { result.bits ≡ 0 }
+    {
+        Found {
+            parameter_bits: 4,
+            halvings: 0,
+            bits: 0,
+        }
+    }
 }

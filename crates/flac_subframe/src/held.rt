@@ -26,3 +26,16 @@ pub(crate) struct Sought {
     pub(crate) wasted: u32,
     pub(crate) held: Held,
 }
+
+impl Sought {
+    ghost use Rattle.std.specs.Prelude.{◌≡◌, ◌≤◌, ◌+◌, ◌^◌};
+
+    /// How many bits the subframe takes: eight of its header, those that say how many are wasted, and the content.
+    pub(crate) fn bits(self) -> u64
+        requires wasted { self.wasted ≤ 33 }
+        requires small { self.held.bits ≤ 2 ^ 60 }
+        ensures { result ≡ 8 + self.wasted + self.held.bits }
+    {
+        8 + u64::from(self.wasted) + self.held.bits
+    }
+}

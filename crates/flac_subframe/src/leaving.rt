@@ -74,6 +74,7 @@ pub(crate) fn take_fixed(order: usize, samples: &[i64], values: &mut [i64])
         2 => take_order(2, samples, values),
         3 => take_order(3, samples, values),
         4 => take_order(4, samples, values),
+        // No order is above 4, which has an arm of its own so that its loop has a constant order.
         _ => take_order(order, samples, values),
     }
 }

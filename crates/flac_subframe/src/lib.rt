@@ -4,6 +4,7 @@
 mod choice;
 mod chosen;
 mod coding;
+mod coding_method;
 mod cost;
 mod folding;
 mod halves;
@@ -21,6 +22,7 @@ mod pruning;
 mod residual;
 mod restoration;
 mod subframe;
+mod subframe_type;
 mod survey;
 mod tables;
 mod view;

@@ -139,6 +139,7 @@ pub(crate) fn take_narrow(order: usize, samples: &[i32], values: &mut [i32], fol
         2 => take_narrow_order(2, samples, values, folds),
         3 => take_narrow_order(3, samples, values, folds),
         4 => take_narrow_order(4, samples, values, folds),
+        // No order is above 4, which has an arm of its own so that its loop has a constant order.
         _ => take_narrow_order(order, samples, values, folds),
     }
 }

@@ -15,7 +15,16 @@ pub(crate) fn fits_bits(number: i64, bits: u32) -> bool
     number.wrapping_add(limit).cast_unsigned() <= u64::MAX >> (64 - bits)
 }
 
-/// Two to the power of the exponent.
+/// Two to the power of the exponent, as a number of places.
+#[inline(always)]
+pub(crate) fn power(exponent: u8) -> usize
+    requires { exponent ≤ 15 }
+    ensures { result ≡ 2 ^ exponent }
+{
+    1 << exponent
+}
+
+/// Two to the power of the exponent, as a factor.
 #[inline(always)]
 pub(crate) fn power_of_two(exponent: u32) -> i64
     requires { exponent ≤ 33 }

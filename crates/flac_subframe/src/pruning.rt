@@ -9,7 +9,7 @@ ghost use Rattle.flac_subframe.specs.Spelling.{folded, FitsWidth};
 ghost use Rattle.flac_subframe.specs.inner.Halves.{part, IsWidth, HasWidths};
 
 use crate::cost::quotients;
-use crate::halving::power;
+use crate::numbers::power;
 use crate::view::ResidualView;
 use crate::widths::lowest;
 
@@ -241,12 +241,7 @@ fn is_order_too_dear(
     if bound >= below {
         return true;
     }
-    let coarser = ResidualView {
-        values: residual.values,
-        folds: residual.folds,
-        order: residual.order,
-        halvings,
-    };
+    let coarser = residual.at(halvings);
     lowest(&coarser, widths, sums);
     let fields = 6 + 4 * power(halvings) as u64;
     let rest = below.saturating_sub(fields);

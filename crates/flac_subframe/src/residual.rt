@@ -6,9 +6,11 @@ ghost use Rattle.flac_bits.specs.Lists.{list_of};
 ghost use Rattle.flac_bits.specs.Rice.{rice_value, unfolded};
 ghost use Rattle.flac_bits.specs.Reading.{Counts, Gives, Reads};
 ghost use Rattle.flac_bits.specs.Signed.{FitsBits};
+ghost use Rattle.flac_subframe.specs.inner.Codes.{method_code};
 ghost use Rattle.flac_subframe.specs.Residual.{partition, partitions, residual_header, residual, all_values, residual_values, can_halve};
 
-use crate::numbers::repeat;
+use crate::coding_method::CodingMethod;
+use crate::numbers::{power, repeat};
 use flac_bits::{BitReader, Source, Why};
 
 /// Reads the values of one partition.
@@ -72,15 +74,6 @@ fn read_partitions<R: Source>(
     Ok(())
 }
 
-/// How many partitions a partition order gives.
-#[inline(always)]
-fn partition_count(times: u32) -> usize
-    requires { times ≤ 15 }
-    ensures { result ≡ 2 ^ times }
-{
-    1 << times
-}
-
 /// Reads the coding method and the partition order of a residual (RFC 9639, section 9.2.7).
 #[tactic(auto, unfolding(crate::specs::Residual::residual_header))]
 fn read_residual_header<R: Source>(
@@ -88,26 +81,25 @@ fn read_residual_header<R: Source>(
     limit: u32,
     order: usize,
     block: usize,
-) -> Result<(u32, u32), Why>
+) -> Result<(CodingMethod, u32), Why>
     requires limit { limit ≤ 15 }
-    ensures method { IfOk result (λ h. (4 + h.0 ≡ 4) ⊎ (4 + h.0 ≡ 5)) }
     ensures times { IfOk result (λ h. h.1 ≤ 15) }
     ensures whole { IfOk result (λ h. block ≡ 2 ^ h.1 * (block / 2 ^ h.1)) }
     ensures room { IfOk result (λ h. order < block / 2 ^ h.1) }
     ensures spends { OnOk result (bits.new.most ≤ bits.old.most) }
     ensures counts { Counts bits.old bits.new result }
     ensures memory { IfErr result (λ e. e ≢ Why.Memory) }
-    ensures reads { Reads (λ h. (h.0, h.1)) (residual_header limit order block) bits.old bits.new result }
+    ensures reads { Reads (λ h. (method_code h.0, h.1)) (residual_header limit order block) bits.old bits.new result }
 {
-    let method = bits.take(2)? as u32;
-    if method > 1 {
+    let code = bits.take(2)?;
+    let Some(method) = CodingMethod::of_code(code) else {
         return Err(Why::BadPartition);
-    }
+    };
     let times = bits.take(4)? as u32;
     if times > limit {
         return Err(Why::NotSubset);
     }
-    let count = partition_count(times);
+    let count = power(times as u8);
     if block % count != 0 || block / count <= order {
         return Err(Why::BadPartition);
     }
@@ -133,7 +125,8 @@ pub(crate) fn read_residual<R: Source>(
 {
     let block = out.len() + order;
     let (method, times) = read_residual_header(bits, limit, order, block)?;
-    let count = partition_count(times);
-    read_partitions(bits, 4 + method, order, block / count, count, out)?;
+    let count = power(times as u8);
+    let parameter_bits = method.parameter_bits();
+    read_partitions(bits, parameter_bits, order, block / count, count, out)?;
     Ok(())
 }

@@ -3,28 +3,23 @@
 ghost use Rattle.std.specs.Prelude.{◌≡◌, ◌≢◌, ◌≤◌, ◌<◌, ◌+◌, ◌-◌, OnOk, IfOk, IfSome, length, cond, Some, None, All, IsTrue, map, replicate, ℤ, pos, ◌*ℤ◌, ◌^◌, IfErr};
 ghost use Rattle.flac_bits.specs.Reading.{Counts, Gives, Reads, Means};
 ghost use Rattle.flac_bits.specs.Signed.{FitsBits};
-ghost use Rattle.flac_subframe.specs.Subframe.{is_reserved, predictor_order, constant, verbatim, fixed, predictor, linear, fitting, content_samples, wasted_bits, header, scaled, subframe_samples};
+ghost use Rattle.flac_subframe.specs.inner.Codes.{IsType, type_code, type_order};
+ghost use Rattle.flac_subframe.specs.Subframe.{constant, verbatim, fixed, predictor, linear, fitting, content_samples, wasted_bits, header, scaled, subframe_samples};
 ghost use Rattle.flac_bits.specs.Layout.{bind, done, zeros_at};
 
 use crate::limits::Limits;
 use crate::numbers::{power_of_two, repeat};
 use crate::residual::read_residual;
 use crate::restoration::{restore_fixed, restore_linear};
+use crate::subframe_type::SubframeType;
 use arrayvec::ArrayVec;
 use flac_bits::{BitReader, Source, Why};
 
 /// The type of a subframe, and its number of wasted bits.
 #[derive(Clone, Copy)]
 struct Header {
-    kind: u64,
+    kind: SubframeType,
     wasted: u32,
-}
-
-/// Whether a type is reserved (RFC 9639, section 9.2.1).
-fn is_reserved(kind: u64) -> bool
-    ensures { result ≡ is_reserved kind }
-{
-    (1 < kind && kind < 8) || (12 < kind && kind < 32)
 }
 
 /// How many bits are wasted (RFC 9639, section 9.2.2).
@@ -49,18 +44,6 @@ fn read_wasted<R: Source>(bits: &mut BitReader<R>, flag: u64, depth: u32) -> Res
     Ok(zeros as u32 + 1)
 }
 
-/// The order of a type's predictor (RFC 9639, section 9.2.1).
-fn predictor_order(kind: u64) -> u32
-    requires { kind < 64 }
-    ensures { result ≡ predictor_order kind }
-{
-    if kind < 32 {
-        kind.saturating_sub(8) as u32
-    } else {
-        kind as u32 - 31
-    }
-}
-
 /// Reads the header of a subframe.
 #[tactic(auto, unfolding(crate::specs::Subframe::header))]
 fn read_header<R: Source>(
@@ -70,24 +53,27 @@ fn read_header<R: Source>(
     limits: &Limits,
 ) -> Result<Header, Why>
     requires depth { (1 ≤ depth) × (depth ≤ 33) }
-    ensures kind { IfOk result (λ h. (h.kind < 64) × (1 < h.kind → 8 ≤ h.kind) × (12 < h.kind → 32 ≤ h.kind)) }
-    ensures order { IfOk result (λ h. predictor_order h.kind < block) }
+    ensures kind { IfOk result (λ h. IsType h.kind) }
+    ensures order { IfOk result (λ h. type_order h.kind < block) }
     ensures left { IfOk result (λ h. h.wasted < depth) }
     ensures spends { OnOk result (bits.new.most + 8 ≤ bits.old.most) }
     ensures counts { Counts bits.old bits.new result }
     ensures memory { IfErr result (λ e. e ≢ Why.Memory) }
-    ensures reads { Reads (λ h. record { kind = h.kind; wasted = h.wasted }) (header depth block limits.now) bits.old bits.new result }
+    ensures reads { Reads (λ h. record { kind = type_code h.kind; wasted = h.wasted }) (header depth block limits.now) bits.old bits.new result }
 {
     let zero = bits.take(1)?;
-    let kind = bits.take(6)?;
+    let code = bits.take(6)?;
     let flag = bits.take(1)?;
-    if zero == 1 || is_reserved(kind) || (flag == 1 && depth < 2) {
+    let Some(kind) = SubframeType::of_code(code) else {
+        return Err(Why::BadSubframe);
+    };
+    if zero == 1 || (flag == 1 && depth < 2) {
         return Err(Why::BadSubframe);
     }
-    if kind.saturating_sub(31) > u64::from(limits.linear) {
+    if kind.linear_order() > limits.linear {
         return Err(Why::NotSubset);
     }
-    if predictor_order(kind) >= block {
+    if kind.order() >= block {
         return Err(Why::BadPartition);
     }
     let wasted = read_wasted(bits, flag, depth)?;
@@ -239,32 +225,27 @@ fn read_linear<R: Source>(
 #[tactic(auto, unfolding(crate::specs::Subframe::content_samples, crate::specs::Subframe::content))]
 fn read_content<R: Source>(
     bits: &mut BitReader<R>,
-    kind: u64,
+    kind: SubframeType,
     depth: u32,
     limit: u32,
     samples: &mut [i64],
 ) -> Result<bool, Why>
     requires depth { (1 ≤ depth) × (depth ≤ 33) }
     requires limit { limit ≤ 15 }
-    requires kind { (kind < 64) × (1 < kind → 8 ≤ kind) × (12 < kind → 32 ≤ kind) }
-    requires places { (predictor_order kind < length samples.old) × (length samples.old ≤ 65535) }
+    requires kind { IsType kind }
+    requires places { (type_order kind < length samples.old) × (length samples.old ≤ 65535) }
     ensures fits { IfOk result (λ fits. IsTrue fits → All (FitsBits depth) samples.new) }
     ensures spends { OnOk result (bits.new.most ≤ bits.old.most) }
     ensures counts { Counts bits.old bits.new result }
     ensures memory { IfErr result (λ e. e ≢ Why.Memory) }
-    ensures reads { Reads (λ fits. cond fits (Some samples.new) None) (content_samples kind depth (length samples.old) limit) bits.old bits.new result }
+    ensures reads { Reads (λ fits. cond fits (Some samples.new) None) (content_samples (type_code kind) depth (length samples.old) limit) bits.old bits.new result }
 {
-    if kind == 0 {
-        return read_constant(bits, depth, samples);
+    match kind {
+        SubframeType::Constant => read_constant(bits, depth, samples),
+        SubframeType::Verbatim => read_verbatim(bits, depth, samples),
+        SubframeType::Fixed(order) => read_fixed(bits, depth, limit, order, samples),
+        SubframeType::Linear(order) => read_linear(bits, depth, limit, order, samples),
     }
-    if kind == 1 {
-        return read_verbatim(bits, depth, samples);
-    }
-    let order = predictor_order(kind);
-    if kind < 32 {
-        return read_fixed(bits, depth, limit, order, samples);
-    }
-    read_linear(bits, depth, limit, order, samples)
 }
 
 /// Puts the wasted bits back.

@@ -12,7 +12,8 @@ ghost use Rattle.flac_subframe.specs.inner.Halves.{Halves, HasEntries, HasPlaces
 use crate::coding::Coding;
 use crate::cost::Priced;
 use crate::halves::{clear, compare, compare_down, copy};
-use crate::halving::{Found, power};
+use crate::halving::Found;
+use crate::numbers::power;
 use crate::pruning::{COARSE, finest_in_doubt, is_too_dear};
 use crate::tables::Tables;
 use crate::view::ResidualView;
@@ -349,13 +350,7 @@ fn least_up_to(
     ensures places { (most : ℕ) → HasPlaces most tables.old → HasPlaces most tables.new }
     ensures same { tables.new.codings.ghost_name ≡ tables.old.codings.ghost_name }
 {
-    let coarser = ResidualView {
-        values: residual.values,
-        folds: residual.folds,
-        order: residual.order,
-        halvings,
-    };
-    least_at_once(&coarser, tables, below)
+    least_at_once(&residual.at(halvings), tables, below)
 }
 
 /// The same for the finer partition orders: none if each form of these takes `below` bits or more, which bounds mostly show before

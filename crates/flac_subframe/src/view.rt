@@ -36,6 +36,24 @@ pub(crate) struct ResidualView<'a> {
     ghost halves: { Halves order values.now halvings },
 }
 
+impl ResidualView<'_> {
+    /// The same at a coarser partition order.
+    pub(crate) fn at(&self, halvings: u8) -> ResidualView<'_>
+        requires { halvings ≤ self.now.halvings }
+        ensures values { result.values.now ≡ self.now.values.now }
+        ensures folds { result.folds.now ≡ self.now.folds.now }
+        ensures order { result.order ≡ self.now.order }
+        ensures halvings { result.halvings ≡ halvings }
+    {
+        ResidualView {
+            values: self.values,
+            folds: self.folds,
+            order: self.order,
+            halvings,
+        }
+    }
+}
+
 /// The samples of a subframe without its wasted bits: how many bits each has, the greatest partition order and the linear predictors
 /// that are tried, and whether each sample has so few bits that what a fixed predictor leaves is in the range of a residual; if so, also
 /// the samples in 32 bits each, and how far from 0 they are at most.

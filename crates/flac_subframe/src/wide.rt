@@ -15,10 +15,11 @@ ghost use Rattle.flac_subframe.specs.declared.limits.Limits.{Limits};
 ghost use Rattle.flac_subframe.specs.declared.linear.LinearPredictor.{LinearPredictor};
 
 use crate::choice::choose_in_places;
-use crate::halving::{Found, power};
+use crate::halving::Found;
 use crate::held::HeldKind;
 use crate::limits::Limits;
 use crate::linear::LinearPredictor;
+use crate::numbers::power;
 use crate::view::{ChosenView, CodedView, Scope};
 use crate::workspace::Workspace;
 use crate::writing::write_chosen;
@@ -54,11 +55,7 @@ impl WideChoice {
         Ok(WideChoice {
             wasted: 0,
             kind: HeldKind::AsConstant,
-            found: Found {
-                parameter_bits: 4,
-                halvings: 0,
-                bits: 0,
-            },
+            found: Found::none(),
             codings,
             bits: 9,
         })
@@ -178,42 +175,16 @@ pub fn choose_in(
     choice.wasted = sought.wasted;
     choice.kind = sought.held.kind;
     choice.found = sought.held.found;
-    choice.bits = 8 + u64::from(sought.wasted) + sought.held.bits;
-}
-
-/// Writes a subframe as it was chosen, with places for the samples and for the residual in one array, which is overwritten.
-fn write_in_places<W: Target>(
-    choice: &WideChoice,
-    predictors: &[LinearPredictor],
-    samples: &[i64],
-    depth: u32,
-    longs: &mut [i64],
-    writer: &mut BitWriter<W>,
-) -> Result<(), Why>
-    requires some { 0 < length samples.now }
-    requires few { length samples.now ≤ 65535 }
-    requires depth { (1 ≤ depth) × (depth ≤ 33) }
-    requires fits { All (FitsBits depth) samples.now }
-    requires places { 2 * length samples.now ≤ length longs.old }
-    requires made { IsMadeIn predictors.now choice.now samples.now }
-    ensures { Writes (subframe_spelling depth (form_in predictors.now choice.now samples.now)) writer.old writer.new result }
-{
-    let (shortened, values) = longs.split_at_mut(samples.len());
-    write_chosen(
-        &choice.lent(),
-        predictors,
-        samples,
-        depth,
-        shortened,
-        values,
-        writer,
-    )
+    choice.bits = sought.bits();
 }
 
 /// Writes the subframe that [`choose_in`] chose for samples of a depth (RFC 9639, section 9.2).
 ///
 /// The choice is one that was made of these samples at this depth with just these predictors, and the workspace was made for blocks of
-/// as many samples or more. It takes no memory. Errors: `Write`.
+/// as many samples or more. It takes no memory.
+///
+/// # Errors
+/// [`Why::Write`] if the target fails.
 pub fn write_subframe_in<W: Target>(
     choice: &WideChoice,
     predictors: &[LinearPredictor],
@@ -230,8 +201,8 @@ pub fn write_subframe_in<W: Target>(
     ensures text { Writes (subframe_spelling depth (form_in predictors.now choice.now samples.now)) writer.old writer.new result }
     ensures room { workspace.new ≡ workspace.old }
 {
-    write_in_places(
-        choice,
+    write_chosen(
+        &choice.lent(),
         predictors,
         samples,
         depth,

@@ -6,7 +6,7 @@ ghost use Rattle.flac_subframe.specs.inner.Cost.{value_cost};
 ghost use Rattle.flac_subframe.specs.inner.Halves.{part, IsWidth, HasWidths};
 
 use crate::cost::{rice_bits, width};
-use crate::halving::power;
+use crate::numbers::power;
 use crate::view::ResidualView;
 
 /// The width of each partition at the finest partition order, and its bits under parameter 0.

@@ -3,8 +3,8 @@
 ghost use Rattle.std.specs.Prelude.{◌≡◌, ◌≤◌, IfOk, IfErr};
 ghost use Rattle.flac_bits.specs.declared.why.Why.{Why};
 
-use crate::halving::power;
 use crate::limits::Limits;
+use crate::numbers::power;
 use flac_bits::Why;
 use std::alloc::Global;
 use std::marker::Model;

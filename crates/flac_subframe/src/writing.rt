@@ -16,10 +16,10 @@ ghost use Rattle.flac_subframe.specs.Spelling.{value_spelling, coding_spelling, 
 use crate::chosen::{Choice, MOST_SAMPLES};
 use crate::coding::Coding;
 use crate::folding::fold;
-use crate::halving::power;
 use crate::held::HeldKind;
 use crate::leaving::{take_fixed, take_linear};
 use crate::linear::LinearPredictor;
+use crate::numbers::power;
 use crate::predictors::fixed_coefficients;
 use crate::tables::filled;
 use crate::view::{ChosenView, CodedView};
@@ -296,35 +296,43 @@ fn type_of_kind(kind: HeldKind, predictors: &[LinearPredictor]) -> u64
     }
 }
 
-/// Writes a subframe as it was chosen, with places for the samples and for the residual, which are overwritten.
+/// Writes a subframe as it was chosen, with places for the samples and for the residual one after another, which are overwritten.
 pub(crate) fn write_chosen<W: Target>(
     chosen: &ChosenView<'_>,
     predictors: &[LinearPredictor],
     samples: &[i64],
     depth: u32,
-    shortened: &mut [i64],
-    values: &mut [i64],
+    places: &mut [i64],
     writer: &mut BitWriter<W>,
 ) -> Result<(), Why>
     requires some { 0 < length samples.now }
     requires few { length samples.now ≤ 65535 }
     requires depth { (1 ≤ depth) × (depth ≤ 33) }
     requires fits { All (FitsBits depth) samples.now }
-    requires places { length samples.now ≤ length shortened.old }
-    requires values { length samples.now ≤ length values.old }
+    requires places { 2 * length samples.now ≤ length places.old }
     requires made { IsMadeAs 15 predictors.now chosen.now.wasted chosen.now.kind (codings_lent chosen.now.residual) samples.now }
     ensures { Writes (subframe_spelling depth (form_as predictors.now chosen.now.wasted chosen.now.kind (codings_lent chosen.now.residual) samples.now)) writer.old writer.new result }
 {
-    let places = &mut shortened[..samples.len()];
-    let wasted = drop_wasted(samples, depth, places);
+    let (shortened, values) = places.split_at_mut(samples.len());
+    let wasted = drop_wasted(samples, depth, shortened);
     write_header(writer, type_of_kind(chosen.kind, predictors), wasted)?;
-    write_content(writer, chosen, predictors, depth - wasted, places, values)
+    write_content(
+        writer,
+        chosen,
+        predictors,
+        depth - wasted,
+        shortened,
+        values,
+    )
 }
 
 /// Writes the subframe that was chosen for samples of a depth (RFC 9639, section 9.2).
 ///
 /// The choice is one that was made of these samples at this depth. The work is done in arrays of 1 MB on the stack; for many blocks
-/// [`crate::write_subframe_in`] takes arrays that are used again. Errors: `Write`.
+/// [`crate::write_subframe_in`] takes arrays that are used again.
+///
+/// # Errors
+/// [`Why::Write`] if the target fails.
 pub fn write_subframe<W: Target>(
     choice: &Choice,
     samples: &[i64],
@@ -344,7 +352,10 @@ pub fn write_subframe<W: Target>(
 /// Writes the subframe that was chosen for samples of a depth with linear predictors beside the fixed ones (RFC 9639, section 9.2).
 ///
 /// The choice is one that was made of these samples at this depth with just these predictors. The work is done in arrays of 1 MB on the
-/// stack; for many blocks [`crate::write_subframe_in`] takes arrays that are used again. Errors: `Write`.
+/// stack; for many blocks [`crate::write_subframe_in`] takes arrays that are used again.
+///
+/// # Errors
+/// [`Why::Write`] if the target fails.
 pub fn write_subframe_with<W: Target>(
     choice: &Choice,
     predictors: &[LinearPredictor],
@@ -359,15 +370,13 @@ pub fn write_subframe_with<W: Target>(
     requires made { IsMadeWith predictors.now choice.now samples.now }
     ensures { Writes (subframe_spelling depth (form_with predictors.now choice.now samples.now)) bits.old bits.new result }
 {
-    let mut places: [i64; MOST_SAMPLES] = filled(0);
-    let mut values: [i64; MOST_SAMPLES] = filled(0);
+    let mut places: [i64; 2 * MOST_SAMPLES] = filled(0);
     write_chosen(
         &choice.lent(),
         predictors,
         samples,
         depth,
         &mut places,
-        &mut values,
         bits,
     )
 }

@@ -1,6 +1,7 @@
 use Rattle.std.proofs.Common.{sym, ◌∙◌, ◌+◌, length, ℕ}
 use Rattle.std.proofs.lemmas.Result.{err_from_is_err_and}
 use Rattle.flac_bits.proofs.Counting.{answered_then, failed_then}
+use Rattle.flac_subframe.specs.inner.Codes.{method_code}
 use Rattle.flac_subframe.proofs.Predicted.{residual_run, residual_fails}
 use Rattle.flac_subframe.proofs.residual.read_residual.Goals as goal
 
@@ -18,7 +19,7 @@ returns-in_err-method g c =
 pub returns-in_err-read_partitions : goal.returns-in_err-read_partitions
 returns-in_err-read_partitions g c =
     let counts = c.in_ok-method.ensures.counts in
-    let h : ℕ × ℕ = (c.in_ok-method.method, c.in_ok-method.times) in
+    let h : ℕ × ℕ = (method_code c.in_ok-method.method, c.in_ok-method.times) in
     let p = err_from_is_err_and c.from_residual-in_err-read_partitions.result c.from_residual-in_err-read_partitions.ensures.1 in
     rw (p.1, p.2) (record {
       fits = tt;
@@ -27,7 +28,7 @@ returns-in_err-read_partitions g c =
       memory = c.in_err-read_partitions.ensures.memory;
       reads = λ known same.
           residual_run c.args.limit c.args.order (length c.args.out.now + c.args.order) h c.args.bits.now.cursor c.read_residual_header.new.bits.cursor (c.in_ok-method.ensures.reads known counts.1)
-          ∙ (rw c.partition_count-count.ensures at (c.in_err-read_partitions.ensures.reads (counts.0 known) (same ∙ sym counts.1)));
+          ∙ (rw (c.power-count.ensures, c.parameter_bits-parameter_bits.ensures.value) at (c.in_err-read_partitions.ensures.reads (counts.0 known) (same ∙ sym counts.1)));
     })
 
 pub returns-clause-counts : goal.returns-clause-counts
@@ -36,6 +37,6 @@ returns-clause-counts g c = answered_then c.args.bits.now c.read_residual_header
 pub returns-clause-reads : goal.returns-clause-reads
 returns-clause-reads g c = λ known same.
     let counts = c.in_ok-method.ensures.counts in
-    let h : ℕ × ℕ = (c.in_ok-method.method, c.in_ok-method.times) in
+    let h : ℕ × ℕ = (method_code c.in_ok-method.method, c.in_ok-method.times) in
     residual_run c.args.limit c.args.order (length c.args.out.now + c.args.order) h c.args.bits.now.cursor c.read_residual_header.new.bits.cursor (c.in_ok-method.ensures.reads known counts.1)
-    ∙ (rw c.partition_count-count.ensures at (c.in_ok-read_partitions.ensures.reads (counts.0 known) (same ∙ sym counts.1)))
+    ∙ (rw (c.power-count.ensures, c.parameter_bits-parameter_bits.ensures.value) at (c.in_ok-read_partitions.ensures.reads (counts.0 known) (same ∙ sym counts.1)))

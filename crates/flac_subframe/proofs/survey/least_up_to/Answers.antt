@@ -1,12 +1,18 @@
 use Rattle.std.proofs.Common.{arith}
 use Rattle.flac_subframe.proofs.Places.{fewer_places}
-use Rattle.flac_subframe.proofs.Splits.{halves_at}
 use Rattle.flac_subframe.proofs.survey.least_up_to.Goals as goal
 
-pub invariant_of-coarser : goal.invariant_of-coarser
-invariant_of-coarser c =
-    let r = c.args.residual.now in
-    record { few = r.few; range = r.range; unsigned = r.unsigned; small = r.small; long = r.long; most = omega (arith, r.most, c.requires.within); halves = halves_at r.order r.values.now r.halvings c.args.halvings c.requires.within r.halves }
-
 pub least_at_once-requires : goal.least_at_once-requires
-least_at_once-requires c = record { places = fewer_places c.args.halvings c.args.residual.now.halvings c.args.tables.now c.requires.within c.requires.places }
+least_at_once-requires c = record { places = rw c.at.ensures.halvings (fewer_places c.args.halvings c.args.residual.now.halvings c.args.tables.now c.requires.within c.requires.places) }
+
+pub returns-clause-least : goal.returns-clause-least
+returns-clause-least c = let e = c.at.ensures in rw (e.values, e.order, e.halvings) at c.least_at_once.ensures.least
+
+pub returns-clause-bits : goal.returns-clause-bits
+returns-clause-bits c = let e = c.at.ensures in rw (e.values, e.order) at c.least_at_once.ensures.bits
+
+pub returns-clause-within : goal.returns-clause-within
+returns-clause-within c = rw c.at.ensures.halvings at c.least_at_once.ensures.within
+
+pub returns-clause-none : goal.returns-clause-none
+returns-clause-none c = let e = c.at.ensures in rw (e.values, e.order, e.halvings) at c.least_at_once.ensures.none

@@ -14,6 +14,9 @@ pub choose_in_places-sought-requires-clause-widths : goal.choose_in_places-sough
 choose_in_places-sought-requires-clause-widths c =
     omega (arith, power_le c.args.limits.now.partition c.workspace.inside.most (rw (← c.workspace.view_is) at c.requires.partition), c.workspace.invariant.widths, c.deref_mut-5.ensures.len)
 
+pub bits-choice-requires-clause-small : goal.bits-choice-requires-clause-small
+bits-choice-requires-clause-small c = c.choose_in_places-sought.ensures.best.small
+
 pub returns-clause-least : goal.returns-clause-least
 returns-clause-least c =
     let found = c.choose_in_places-sought in
@@ -28,7 +31,7 @@ returns-clause-bits c =
     let so = found.ensures in
     let back : (with_items c.args.choice.now.codings found.new.codings).items ≡ found.new.codings = with_items_is c.args.choice.now.codings found.new.codings (found.auto.codings ∙ ap length c.deref_mut-6.ensures.value ∙ sym c.args.choice.now.codings.ok.0) in
     let way : Way = way_held found.result.held found.new.codings in
-    rw (back, c.from.ensures) (way_bits c.args.limits.now.partition c.args.depth found.result.wasted c.args.predictors.now c.args.samples.now way so.wasted so.some so.times so.best)
+    rw (back, c.bits-choice.ensures) (way_bits c.args.limits.now.partition c.args.depth found.result.wasted c.args.predictors.now c.args.samples.now way so.wasted so.some so.times so.best)
 
 pub returns-clause-made : goal.returns-clause-made
 returns-clause-made c =

@@ -6,9 +6,6 @@ use Rattle.flac_subframe.proofs.writing.write_subframe_with.Goals as goal
 pub write_chosen-requires-clause-places : goal.write_chosen-requires-clause-places
 write_chosen-requires-clause-places g c = omega (arith, c.requires.few)
 
-pub write_chosen-requires-clause-values : goal.write_chosen-requires-clause-values
-write_chosen-requires-clause-values g c = omega (arith, c.requires.few)
-
 pub write_chosen-requires-clause-made : goal.write_chosen-requires-clause-made
 write_chosen-requires-clause-made g c =
     let lent = c.lent.ensures in
