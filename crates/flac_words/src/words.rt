@@ -49,8 +49,8 @@ stream.
 The encoder tries constant, verbatim and fixed predictors, and those of the list that
 --predictors names. A line of the list is one linear predictor: PRECISION SHIFT C1 C2 ..,
 C1 for the nearest sample, # before a comment. Of equally short forms the first is
-written. A list has at most 64 predictors; at rates up to 48000 Hz their orders are at
-most 12, with --lax at most 32.
+written. A list has at most 64 predictors. Their orders are at most 12 at rates up to
+48000 Hz, and at most 32 at higher rates and with --lax.
 
 With --lax streams outside the streamable subset are written: rates up to 1048575 Hz, 4
 to 32 bits, blocks of up to 65535 samples, partition orders up to 15. Other players may
@@ -62,6 +62,9 @@ it stays as it was, and what was written is in OUT.part beside it.";
 
 const RETAG_EXAMPLE: &str = "Example:
   $ flac retag song.flac other.flac TITLE=Song ARTIST=Someone
+
+The comments take the place of all that IN has: without a COMMENT, OUT has none. The
+vendor, which names the program that wrote the stream, becomes \"flac profile 1\".
 
 STREAMINFO, the other blocks and the frames stay as they are, but padding is written as
 zeros. The frames are not read. If the metadata is refused, nothing is written.
