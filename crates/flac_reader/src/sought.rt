@@ -46,7 +46,8 @@ impl<C: Container + Drop> Reader<C> {
     /// it counts as many samples as the largest block size of STREAMINFO (section 9.1.5).
     ///
     /// ```
-    /// let mut reader = reader.seek(rt.alloc(), &stream[first_frame..], Profile::Subset, 44100)?;
+    /// let start = reader.frames_start() as usize;
+    /// let mut reader = reader.seek(rt.alloc(), &stream[start..], Profile::Subset, 44100)?;
     /// ```
     ///
     /// # Errors
