@@ -7,7 +7,7 @@
 //! | open a native stream, or an Ogg stream | [`open_native`], [`open_ogg`] |
 //! | read stream information and comments | [`Reader::info`], [`Reader::comments`] |
 //! | read frame by frame, or sample by sample | [`Reader::next`], [`Reader::into_samples`] |
-//! | go to the frame that holds a sample | [`Reader::seek_in`], [`Reader::seek_file`] |
+//! | go to the frame of a native stream that holds a sample | [`Reader::seek_in`], [`Reader::seek_file`] |
 //!
 //! It re-exports what its users need from the crates below: with its names alone a program can keep a reader in a
 //! struct, as `Reader<BitReader<Counted<File>>>` or `Reader<OggPackets<Counted<File>>>`.
