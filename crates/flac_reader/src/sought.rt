@@ -158,6 +158,7 @@ impl<R: Source + Drop> Reader<BitReader<R>> {
                 Ok(Reader::before_frame(decoder, head, blocks, first))
             }
             Err(fault) => {
+                // Given back only for the proof: the clause names its counts of errors.
                 let _source = decoder.into_source();
                 Err(fault)
             }
