@@ -12,7 +12,7 @@ ghost use Rattle.flac_c.specs.inner.Sampled.{numbers_in};
 
 use crate::failures::Failures;
 use crate::fault::{FlacProvedFault, in_c};
-use crate::texts::copy_numbers;
+use crate::texts::copy;
 use flac_bits::{Memory, Why};
 use flac_frame::FrameView;
 use flac_meta::Block;
@@ -126,6 +126,6 @@ pub extern "C" fn flac_proved_samples(
         return fault.number;
     }
     *fault = in_c(Ok(()));
-    *len = copy_numbers(sink.list.as_slice(), out);
+    *len = copy(sink.list.as_slice(), out);
     0
 }
