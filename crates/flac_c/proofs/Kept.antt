@@ -1,12 +1,15 @@
 -- What a sink has kept that keeps STREAMINFO and the comments.
-use Rattle.std.proofs.Common.{◌≡◌, ◌≢◌, ℕ, Bool, List, [], ◌∷◌, nat_lt, true, false, is_some, None, Some, Option, Result, Ok, Err, OnOk, IfErr, ap, sym, refl, subst, ◌∙◌}
+use Rattle.std.proofs.Common.{◌≡◌, ◌≢◌, ℕ, Bool, List, [], ◌∷◌, nat_lt, true, false, is_some, None, Some, Option, Result, Ok, Err, OnOk, IfErr, ap, sym, refl, subst, ◌∙◌, inl, inr, arith}
+use Rattle.std.proofs.lemmas.Bool.{cases_lt}
 use Rattle.flac_bits.specs.declared.why.Why.{Why}
-use Rattle.flac_bits.specs.declared.why.Why.TheVariants.{Memory}
+use Rattle.flac_bits.specs.declared.why.Why.TheVariants.{Memory, Sink}
 use Rattle.flac_native.specs.declared.fault.Place.{Place}
 use Rattle.flac_native.specs.declared.fault.Fault.{Fault}
 use Rattle.flac_meta.specs.Info.{Info}
 use Rattle.flac_meta.specs.declared.comments.Comments.{Comments}
-use Rattle.flac_bits.specs.Handing.{TakesAll, outcome_of}
+use Rattle.flac_bits.specs.Handing.{TakesAll, Hands, outcome_of}
+use Rattle.flac_header.specs.declared.subset.Profile.TheVariants.{Subset}
+use Rattle.flac_ogg.specs.Verifying.{Verifies, bytes_reading}
 use Rattle.flac_native.specs.Stream.{Piece, marked, block, framed}
 use Rattle.flac_native.specs.Item.{Item, told}
 use Rattle.flac_native.specs.Decoding.{taken}
@@ -30,6 +33,25 @@ at_ok (Err e) h = tt
 pub at_err : {A : Type 0} (X : Place → Why → Type 0) (r : Result A Fault) → ((at : Place) (why : Why) → outcome_of told r ≡ Some (at, why) → why ≢ Memory → X at why) → IfErr r (λ f. f.why ≢ Memory → X f.at f.why)
 at_err X (Ok a) h = tt
 at_err X (Err e) h = λ other. h e.at e.why refl other
+
+abbrev why_in : Option (Place × Why) → Why
+why_in None = Memory
+why_in (Some p) = p.1
+
+-- Why bytes are refused whose receiver fails only if an allocation fails: that is told as such.
+pub refused_in_memory : {K : Type 0} (bytes : List ℕ) (takes : K → Piece → K → Type 0) (errors : K → ℕ) (calm : Type 0) (old new : K) (f : Fault) (w : Why)
+    → Hands (bytes_reading Subset bytes) takes errors calm old new (Some (told f)) → calm → errors old ≡ 0
+    → (f.why ≡ Sink → w ≡ Memory) → (f.why ≢ Sink → w ≡ f.why)
+    → Verifies Subset bytes (Some (f.at, w))
+refused_in_memory bytes takes errors calm old new f w h quiet none sink others = λ other.
+    let apart : f.why ≢ Sink = λ s. other (sink s) in
+    let same : w ≡ f.why = others apart in
+    elim (cases_lt 0 (errors new)) [
+      | inl rose ↦ absurd (apart (ap why_in (h.failed (omega (arith, none, rose))).1))
+      | inr few ↦
+          let d = h.refused quiet f.at f.why refl (λ m. other (same ∙ m)) (omega (arith, none, few)) in
+          (d.0, subst (λ v. (bytes_reading Subset bytes).refused d.0 f.at v) (sym same) d.1)
+    ]
 
 -- What holds of a STREAMINFO that is there.
 pub found_one : (P : Option Info → Type 0) (o : Option Info) → is_some o ≡ true → P o → (i : Info) × P (Some i)

@@ -50,6 +50,7 @@ pub(crate) fn info_of(info: &FlacProvedInfo) -> Result<StreamInfo, Why>
         0,
         [0; 16],
     )?;
+    // Read only for the proof, which then knows what the model of a `StreamInfo` keeps to.
     let _rules = found.rate();
     Ok(found)
 }

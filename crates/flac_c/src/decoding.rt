@@ -1,6 +1,8 @@
 //! Decodes a stream to bytes.
 
-ghost use Rattle.std.specs.Prelude.{◌≡◌, ◌≢◌, ◌≤◌, ◌++◌, [], nat_lt, length, min, List, OnOk, IfErr, Some, None};
+ghost use Rattle.std.specs.Prelude.{◌≡◌, ◌≢◌, ◌≤◌, ◌++◌, [], nat_lt, length, min, true, List, OnOk, IfErr, Some, None};
+ghost use Rattle.flac_bits.specs.Handing.{TakesAll};
+ghost use Rattle.flac_native.specs.Decoding.{taken};
 ghost use Rattle.flac_native.specs.Item.{told};
 ghost use Rattle.flac_native.specs.Message.{rows_bytes};
 ghost use Rattle.flac_native.specs.Stream.{Piece};
@@ -16,7 +18,7 @@ use crate::texts::copy;
 use flac_bits::{Memory, Why};
 use flac_frame::FrameView;
 use flac_meta::Block;
-use flac_native::{Fault, Place, Profile, Sink, SinkFault, put_rows};
+use flac_native::{Fault, Profile, Sink, SinkFault, put_rows};
 use flac_ogg::decode_any;
 use std::alloc::{AllocError, Global};
 
@@ -88,32 +90,30 @@ impl Sink for Samples {
     }
 }
 
-/// Decodes a stream, and collects its samples.
-fn collect(alloc: Global, bytes: &[u8], sink: &mut Samples) -> Result<(), Fault>
-    requires bytes { sink.old.bytes.items ≡ [] }
-    requires depth { sink.old.depth ≡ 0 }
-    requires failures { sink.old.failures.count ≡ 0 }
-    ensures done { OnOk result ((items : List Piece) × (bytes_reading Profile.Subset bytes.now).whole items × (sink.new.bytes.items ≡ samples_from sink.old.asked 0 items)) }
-    ensures refused { sink.new.failures.count ≡ 0 → IfErr result (λ f. Verifies Profile.Subset bytes.now (Some (told f))) }
+/// The reason for which a decoding is refused whose sink fails only if an allocation fails.
+fn of_memory(why: Why) -> Why
+    ensures sink { why ≡ Why.Sink → result ≡ Why.Memory }
+    ensures others { why ≢ Why.Sink → result ≡ why }
 {
-    let mut source = Memory::new(bytes);
-    decode_any(alloc, &mut source, Profile::Subset, sink)
+    match why {
+        Why::Sink => Why::Memory,
+        other => other,
+    }
 }
 
-/// Decodes a stream, and collects its samples. A failed allocation is its error.
-fn collect_all(alloc: Global, bytes: &[u8], sink: &mut Samples) -> Result<(), Fault>
-    requires bytes { sink.old.bytes.items ≡ [] }
-    requires depth { sink.old.depth ≡ 0 }
-    requires failures { sink.old.failures.count ≡ 0 }
-    ensures done { OnOk result ((items : List Piece) × (bytes_reading Profile.Subset bytes.now).whole items × (sink.new.bytes.items ≡ samples_from sink.old.asked 0 items)) }
+/// Decodes a stream into a sink that fails only if an allocation fails. That is the error then.
+pub(crate) fn collect<S: Sink>(alloc: Global, bytes: &[u8], sink: &mut S) -> Result<(), Fault>
+    requires known { S.known sink.old ≡ true }
+    requires none { S.errors sink.old ≡ 0 }
+    ensures done { OnOk result ((items : List Piece) × (bytes_reading Profile.Subset bytes.now).whole items × TakesAll (taken S.takes) sink.old items sink.new) }
     ensures refused { IfErr result (λ f. Verifies Profile.Subset bytes.now (Some (told f))) }
 {
-    match collect(alloc, bytes, sink) {
+    let mut source = Memory::new(bytes);
+    match decode_any(alloc, &mut source, Profile::Subset, sink) {
         Ok(()) => Ok(()),
-        Err(fault) if sink.failures.count == 0 => Err(fault),
         Err(fault) => Err(Fault {
             at: fault.at,
-            why: Why::Memory,
+            why: of_memory(fault.why),
         }),
     }
 }
@@ -146,7 +146,7 @@ pub extern "C" fn flac_proved_decode(
         depth: 0,
         failures: Failures { count: 0 },
     };
-    if let Err(told) = collect_all(alloc, bytes, &mut sink) {
+    if let Err(told) = collect(alloc, bytes, &mut sink) {
         *fault = in_c(Err(told));
         return fault.number;
     }

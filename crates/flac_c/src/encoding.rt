@@ -69,6 +69,7 @@ fn audio_of(alloc: Global, settings: &FlacProvedSettings, samples: &[i32]) -> Re
     };
     match Audio::new(settings.rate, settings.bits, channels) {
         Ok(audio) => {
+            // Read only for the proof, which then knows what the model of an `Audio` keeps to.
             let _sound = audio.channels();
             Ok(audio)
         }
@@ -96,6 +97,7 @@ fn stream_of(
         Ok(plan) => plan,
         Err(fault) => return Err(u32::from(fault.number())),
     };
+    // Read only for the proof, which then knows what the model of a `Plan` keeps to.
     let _good = plan.block_size();
     let list = match blocks_of(alloc, tags) {
         Ok(list) => list,

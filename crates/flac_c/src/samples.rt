@@ -1,7 +1,6 @@
 //! Decodes a stream to numbers.
 
-ghost use Rattle.std.specs.Prelude.{◌≡◌, ◌≢◌, ◌<◌, ◌++◌, [], nat_lt, List, OnOk, IfErr, Some, None};
-ghost use Rattle.flac_native.specs.Item.{told};
+ghost use Rattle.std.specs.Prelude.{◌≡◌, ◌≢◌, ◌<◌, ◌++◌, [], nat_lt, List, OnOk, None};
 ghost use Rattle.flac_native.specs.Stream.{Piece};
 ghost use Rattle.flac_frame.specs.Lent.{frame_of};
 ghost use Rattle.flac_frame.specs.Interleaved.{interleaved, row};
@@ -10,14 +9,13 @@ ghost use Rattle.flac_c.specs.Answers.{IsAnswered, IsCopied, in_c};
 ghost use Rattle.flac_c.specs.Sampled.{numbers_from};
 ghost use Rattle.flac_c.specs.inner.Sampled.{numbers_in};
 
+use crate::decoding::collect;
 use crate::failures::Failures;
 use crate::fault::{FlacProvedFault, in_c};
-use crate::texts::copy_numbers;
-use flac_bits::{Memory, Why};
+use crate::texts::copy;
 use flac_frame::FrameView;
 use flac_meta::Block;
-use flac_native::{Fault, Profile, Sink, SinkFault};
-use flac_ogg::decode_any;
+use flac_native::{Profile, Sink, SinkFault};
 use std::alloc::{AllocError, Global};
 
 /// Collects the samples of each frame.
@@ -69,34 +67,6 @@ impl Sink for Numbers {
     }
 }
 
-/// Decodes a stream, and collects its samples.
-fn collect(alloc: Global, bytes: &[u8], sink: &mut Numbers) -> Result<(), Fault>
-    requires list { sink.old.list.items ≡ [] }
-    requires failures { sink.old.failures.count ≡ 0 }
-    ensures done { OnOk result ((items : List Piece) × (bytes_reading Profile.Subset bytes.now).whole items × (sink.new.list.items ≡ numbers_from items)) }
-    ensures refused { sink.new.failures.count ≡ 0 → IfErr result (λ f. Verifies Profile.Subset bytes.now (Some (told f))) }
-{
-    let mut source = Memory::new(bytes);
-    decode_any(alloc, &mut source, Profile::Subset, sink)
-}
-
-/// Decodes a stream, and collects its samples. A failed allocation is its error.
-fn collect_all(alloc: Global, bytes: &[u8], sink: &mut Numbers) -> Result<(), Fault>
-    requires list { sink.old.list.items ≡ [] }
-    requires failures { sink.old.failures.count ≡ 0 }
-    ensures done { OnOk result ((items : List Piece) × (bytes_reading Profile.Subset bytes.now).whole items × (sink.new.list.items ≡ numbers_from items)) }
-    ensures refused { IfErr result (λ f. Verifies Profile.Subset bytes.now (Some (told f))) }
-{
-    match collect(alloc, bytes, sink) {
-        Ok(()) => Ok(()),
-        Err(fault) if sink.failures.count == 0 => Err(fault),
-        Err(fault) => Err(Fault {
-            at: fault.at,
-            why: Why::Memory,
-        }),
-    }
-}
-
 /// Decodes a stream, native or Ogg (RFC 9639, sections 6 and 10.1), and writes its samples to the front of `out`, as
 /// far as there is room: those of all channels at the first index, channel by channel, then those at the next. `len`
 /// becomes the number of all samples.
@@ -121,11 +91,11 @@ pub extern "C" fn flac_proved_samples(
         list: Vec::new(alloc),
         failures: Failures { count: 0 },
     };
-    if let Err(told) = collect_all(alloc, bytes, &mut sink) {
+    if let Err(told) = collect(alloc, bytes, &mut sink) {
         *fault = in_c(Err(told));
         return fault.number;
     }
     *fault = in_c(Ok(()));
-    *len = copy_numbers(sink.list.as_slice(), out);
+    *len = copy(sink.list.as_slice(), out);
     0
 }

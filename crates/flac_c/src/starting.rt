@@ -30,10 +30,12 @@ fn read_front(alloc: Global, bytes: &[u8], found: &mut Metadata) -> Result<u64, 
     ensures read { IfOk result (λ n. (parts : List Piece) × IsHead bytes.now n parts × IsFound found.old.sample parts found.new) }
     ensures refused { IfErr result (λ f. RefusesHead bytes.now (Some (told f))) }
 {
+    // Read only for the proof, which then knows that a slice is shorter than 2^64 bytes.
     let _len = bytes.len();
     let mut bits = BitReader::new(Memory::new(bytes));
     let outcome = read_parts(alloc, &mut bits, found);
     let taken = bits.bytes_taken();
+    // Given back only for the proof, which then knows that a source in memory returns no error.
     let _source = bits.into_source();
     match outcome {
         Ok(()) => Ok(taken),

@@ -26,12 +26,14 @@ fn fill_frame(bytes: &[u8], info: &StreamInfo, buffers: &mut FrameBuffers) -> Re
     ensures fault { IfErr result (λ why. NoFrameAt info.now bytes.now why) }
     ensures only { (f : Frame) → (n : ℕ) → IsFrameAt info.now bytes.now f n → IsOkAnd result (λ m. (buffers.new.held ≡ f) × (m ≡ n)) }
 {
+    // Read only for the proof, which then knows that a slice is shorter than 2^64 bytes.
     let _len = bytes.len();
     let mut bits = BitReader::new(Memory::new(bytes));
     bits.fence(LONGEST_FRAME);
     let outcome = buffers.fill(&mut bits, info, Profile::Subset);
     bits.lift();
     let taken = bits.bytes_taken();
+    // Given back only for the proof, which then knows that a source in memory returns no error.
     let _source = bits.into_source();
     match outcome {
         Ok(()) => Ok(taken),

@@ -8,22 +8,13 @@ ghost use Rattle.flac_c.specs.Answers.{copied, place_text, IsCopied};
 use flac_bits::Why;
 use flac_frame::SetupFault;
 
-/// Copies a text to the front of a buffer, as far as there is room, and returns its length.
-pub(crate) fn copy(text: &[u8], out: &mut [u8]) -> usize
-    ensures { IsCopied text.now out.old out.new result }
+/// Copies bytes or samples to the front of a buffer, as far as there is room, and returns how many there are.
+pub(crate) fn copy<T: Copy>(items: &[T], out: &mut [T]) -> usize
+    ensures { IsCopied items.now out.old out.new result }
 {
-    let n = text.len().min(out.len());
-    out[..n].copy_from_slice(&text[..n]);
-    text.len()
-}
-
-/// Copies numbers to the front of a buffer, as far as there is room, and returns how many there are.
-pub(crate) fn copy_numbers(numbers: &[i32], out: &mut [i32]) -> usize
-    ensures { IsCopied numbers.now out.old out.new result }
-{
-    let n = numbers.len().min(out.len());
-    out[..n].copy_from_slice(&numbers[..n]);
-    numbers.len()
+    let n = items.len().min(out.len());
+    out[..n].copy_from_slice(&items[..n]);
+    items.len()
 }
 
 /// The reason with this number, 1 to 39.

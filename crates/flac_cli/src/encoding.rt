@@ -163,6 +163,7 @@ fn audio_of<R: Source>(
         return Err(Refusal::RawLength);
     };
     let audio = Audio::new_in(profile, format.rate, format.bits, lists)?;
+    // Read only for the proof, which then knows what the model of an `Audio` keeps to.
     let _channels = audio.channels();
     Ok(audio)
 }
@@ -180,6 +181,7 @@ fn plan_of(
     ensures fits { IfOk result (λ p. fits_plan p audio.now ≡ true) }
     ensures good { IfOk result (λ p. plan_fault p ≡ None) }
 {
+    // The block sizes are read only for the proof, which then knows what the model of a `Plan` keeps to.
     let plan = Plan::new(format.block, audio, format.seek_every)?;
     let _size = plan.block_size();
     let tried = plan.with_predictors(predictors)?;

@@ -67,49 +67,56 @@ fn put_samples(piece: &[u8], row: usize, start: usize, width: usize, places: &mu
     }
 }
 
-/// What [`push_samples`] does, for a width that its caller fixes: it is compiled anew for each width.
+/// Where the samples of one channel are in a piece of `rows` inter-channel samples of `row` bytes each: in each of these
+/// the channel's sample begins at byte `start`, and has `width` bytes.
+#[derive(Clone, Copy)]
+struct Column {
+    rows: usize,
+    row: usize,
+    start: usize,
+    width: usize,
+}
+
+/// What [`push_samples`] does. `width` is the width of the column, which its caller fixes: it is compiled anew for each
+/// width.
 #[inline(always)]
 fn push_samples_of(
     piece: &[u8],
-    rows: usize,
-    row: usize,
-    start: usize,
+    column: Column,
     width: usize,
     samples: &mut Vec<i32>,
 ) -> Result<(), Why>
-    requires whole { length piece.now ≡ rows * row }
+    requires whole { length piece.now ≡ column.rows * column.row }
     requires width { (1 ≤ width) × (width ≤ 4) }
-    requires within { start + width ≤ row }
-    ensures more { OnOk result (IsMore (IsPart row start width) piece.now row rows samples.old.items samples.new.items) }
+    requires within { column.start + width ≤ column.row }
+    ensures more { OnOk result (IsMore (IsPart column.row column.start width) piece.now column.row column.rows samples.old.items samples.new.items) }
     ensures memory { IfErr result (λ e. e ≡ Why.Memory) }
 {
     let front = samples.len();
-    samples.resize(front + rows, 0)?;
-    put_samples(piece, row, start, width, &mut samples[front..]);
+    samples.resize(front + column.rows, 0)?;
+    put_samples(
+        piece,
+        column.row,
+        column.start,
+        width,
+        &mut samples[front..],
+    );
     Ok(())
 }
 
-/// Adds the samples of one channel to `samples`. The piece has `rows` inter-channel samples of `row` bytes each, in
-/// which the channel's sample begins at byte `start` and has `width` bytes.
-fn push_samples(
-    piece: &[u8],
-    rows: usize,
-    row: usize,
-    start: usize,
-    width: usize,
-    samples: &mut Vec<i32>,
-) -> Result<(), Why>
-    requires whole { length piece.now ≡ rows * row }
-    requires width { (1 ≤ width) × (width ≤ 4) }
-    requires within { start + width ≤ row }
-    ensures more { OnOk result (IsMore (IsPart row start width) piece.now row rows samples.old.items samples.new.items) }
+/// Adds the samples of one channel of a piece to `samples`.
+fn push_samples(piece: &[u8], column: Column, samples: &mut Vec<i32>) -> Result<(), Why>
+    requires whole { length piece.now ≡ column.rows * column.row }
+    requires width { (1 ≤ column.width) × (column.width ≤ 4) }
+    requires within { column.start + column.width ≤ column.row }
+    ensures more { OnOk result (IsMore (IsPart column.row column.start column.width) piece.now column.row column.rows samples.old.items samples.new.items) }
     ensures memory { IfErr result (λ e. e ≡ Why.Memory) }
 {
-    match width {
-        1 => push_samples_of(piece, rows, row, start, 1, samples),
-        2 => push_samples_of(piece, rows, row, start, 2, samples),
-        3 => push_samples_of(piece, rows, row, start, 3, samples),
-        _ => push_samples_of(piece, rows, row, start, 4, samples),
+    match column.width {
+        1 => push_samples_of(piece, column, 1, samples),
+        2 => push_samples_of(piece, column, 2, samples),
+        3 => push_samples_of(piece, column, 3, samples),
+        _ => push_samples_of(piece, column, 4, samples),
     }
 }
 
@@ -124,14 +131,13 @@ fn push_rows(piece: &[u8], rows: usize, width: usize, lists: &mut [Vec<i32>]) ->
     let channels = lists.len();
     let row = channels * width;
     for channel in 0..channels {
-        push_samples(
-            piece,
+        let column = Column {
             rows,
             row,
-            channel * width,
+            start: channel * width,
             width,
-            &mut lists[channel],
-        )?;
+        };
+        push_samples(piece, column, &mut lists[channel])?;
     }
     Ok(())
 }
@@ -144,6 +150,7 @@ fn no_samples(alloc: Global, channels: usize) -> Result<Vec<Vec<i32>>, Why>
 {
     let mut lists = Vec::with_capacity(alloc, channels)?;
     for channel in 0..channels {
+        // Read only for the proof, whose invariant names it.
         let _channel = channel;
         lists.push(Vec::new(alloc))?;
     }

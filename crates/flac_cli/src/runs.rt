@@ -47,6 +47,7 @@ fn decode_into<R: Source, W: Target>(
     ensures names { W.names sink.new.target ≡ W.names sink.old.target }
 {
     let outcome = decode_stream(alloc, source, profile, sink);
+    // Read only for the proof, which then knows what the model of a `SampleWriter` keeps to.
     let _failures = sink.failures.count;
     outcome
 }
@@ -66,6 +67,7 @@ fn decode_samples<R: Source, W: Target>(
 {
     let mut sink = SampleWriter::new(target);
     let outcome = decode_into(alloc, source, profile, &mut sink);
+    // Given back only for the proof: the clauses are about the target.
     let _target = sink.into_target();
     outcome
 }

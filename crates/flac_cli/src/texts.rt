@@ -28,7 +28,9 @@ impl fmt::Display for Digits<'_> {
     fn fmt<W: fmt::Write>(&self, f: &mut fmt::Formatter<W>) -> fmt::Result {
         for byte in self.0 {
             let mut digits = [0; 2];
-            encode_to_slice([*byte], &mut digits).map_err(|_| fmt::Error)?;
+            let Ok(()) = encode_to_slice([*byte], &mut digits) else {
+                unreachable!()
+            };
             f.write_char(char::from(digits[0]))?;
             f.write_char(char::from(digits[1]))?;
         }

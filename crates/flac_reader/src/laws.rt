@@ -13,8 +13,9 @@ pub fn streams_are_cut()
     ensures read { CutsAreRead }
 {}
 
-/// A stream that [`flac_native::encode`] wrote, with nothing before it, is cut at each of its frames: as many bytes behind its first frame's first as the frames
-/// before have. So it is at the offset of each point of the seek table that the plan asked for (RFC 9639, section 8.5.1).
+/// A stream that [`flac_native::encode`] wrote, with nothing before it, is cut at each of its frames: a frame begins as
+/// many bytes after the first one begins as the frames before it have. So it is cut at the offset of each point of the
+/// seek table that the plan asked for (RFC 9639, section 8.5.1).
 pub fn encoded_are_cut()
     ensures frames { FramesAreCut }
     ensures points { PointsAreCut }
@@ -23,8 +24,8 @@ pub fn encoded_are_cut()
 /// A reader that opened such a stream in the plan's profile seeks a sample from a cut on: that of the last point at or
 /// before the sample, or of the first frame. [`crate::Reader::seek_in`] over the bytes of the stream, with the same
 /// profile, gives just the frame that holds the sample, all later frames and the end, or nothing but the end if the
-/// stream has fewer samples, unless memory runs out (RFC 9639, sections 8.5 and 9.1.5). No seek table was among the given
-/// blocks; the reader may keep any.
+/// stream has fewer samples, unless memory runs out (RFC 9639, sections 8.5 and 9.1.5). No seek table was among the
+/// given blocks; the reader may keep any.
 pub fn encoded_are_sought<C: Container, D: Container>()
     ensures cut { SearchesAreCut C.Container }
     ensures found { SamplesAreFound C.Container D.Container }

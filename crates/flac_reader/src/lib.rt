@@ -7,9 +7,10 @@
 //! | open a native stream, or an Ogg stream | [`open_native`], [`open_ogg`] |
 //! | read stream information and comments | [`Reader::info`], [`Reader::comments`] |
 //! | read frame by frame, or sample by sample | [`Reader::next`], [`Reader::into_samples`] |
-//! | go to the frame that holds a sample | [`Reader::seek_in`], [`Reader::seek_file`] |
+//! | go to the frame of a native stream that holds a sample | [`Reader::seek_in`], [`Reader::seek_file`] |
 //!
-//! It re-exports what its users need from the crates below.
+//! It re-exports what its users need from the crates below: with its names alone a program can keep a reader in a
+//! struct, as `Reader<BitReader<Counted<File>>>` or `Reader<OggPackets<Counted<File>>>`.
 #![tactic(auto)]
 
 mod either;
@@ -27,10 +28,10 @@ mod time;
 
 pub use either::{Opened, open};
 pub use flac_native::{
-    Block, Comments, Container, Counted, Decoder, Fault, FrameView, Memory, Place, Profile, Source,
-    StreamInfo, Why,
+    BitReader, Block, Comments, Container, Counted, Decoder, Fault, FrameView, Item, Memory, Place,
+    Profile, SeekPoint, Source, StreamInfo, Why,
 };
-pub use flac_ogg::Fronted;
+pub use flac_ogg::{Fronted, OggPackets};
 pub use head::read_blocks;
 pub use keep::Keep;
 pub use laws::{encoded_are_cut, encoded_are_sought, streams_are_cut};

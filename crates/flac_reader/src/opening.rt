@@ -42,6 +42,7 @@ pub fn open_native<R: Source + Drop>(
         Ok(reader) => Ok(reader),
         Err(refused) => {
             let fault = refused.fault;
+            // Given back only for the proof: the clause names its counts of errors.
             let _source = refused.into_decoder().into_source();
             Err(fault)
         }
@@ -77,6 +78,7 @@ pub fn open_ogg<R: Source + Drop>(
         Ok(reader) => Ok(reader),
         Err(refused) => {
             let fault = refused.fault;
+            // Given back only for the proof: the clause names its counts of errors.
             let _source = refused.into_decoder().into_container().into_source();
             Err(fault)
         }

@@ -187,18 +187,6 @@ impl<C: Container> Reader<C> {
         &[]
     }
 
-    /// How many bytes a native stream has before its first frame: those of the marker and of the metadata blocks (RFC
-    /// 9639, section 6). The offsets of a seek table count from there.
-    ///
-    /// ```
-    /// let frames = &stream[reader.frames_start() as usize..];
-    /// ```
-    pub fn frames_start(&self) -> u64
-        ensures { result ≡ self.now.start }
-    {
-        self.start
-    }
-
     /// The number of the first sample of the frame that was lent last, counted from 0 in each channel. At the end of
     /// the stream it is the number of samples of each channel. It stops at 2^64 - 1.
     pub fn first_sample(&self) -> u64

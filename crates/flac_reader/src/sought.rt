@@ -1,4 +1,4 @@
-//! Readers at the frame that holds a sample.
+//! Readers of native streams at the frame that holds a sample. The frames of an Ogg stream are not sought.
 
 ghost use Rattle.std.specs.Prelude.{◌≡◌, ◌≢◌, ◌⊎◌, IfOk, IfErr, drop, true, is_some, List};
 ghost use Rattle.flac_bits.specs.Bits.{bits_of};
@@ -18,11 +18,23 @@ use crate::head::Head;
 use crate::reader::Reader;
 use crate::seeking::{bytes_from, find_frame, offset_before};
 use flac_bits::BitReader;
-use flac_native::{Container, Counted, Decoder, Fault, Memory, Place, Profile, Source, Why};
+use flac_native::{Counted, Decoder, Fault, Memory, Place, Profile, Source, Why};
 use std::alloc::Global;
 use std::io::{Read, Seek, SeekFrom};
 
-impl<C: Container + Drop> Reader<C> {
+impl<R: Source> Reader<BitReader<R>> {
+    /// How many bytes a native stream has before its first frame: those of the marker and of the metadata blocks (RFC
+    /// 9639, section 6). The offsets of a seek table count from there.
+    ///
+    /// ```
+    /// let frames = &stream[reader.frames_start() as usize..];
+    /// ```
+    pub fn frames_start(&self) -> u64
+        ensures { result ≡ self.now.start }
+    {
+        self.start
+    }
+
     /// Where the search for a sample begins in a native stream, in bytes from its first byte: at the last seek point at
     /// or before the sample, or at the first frame if there is none (RFC 9639, section 8.5). It stops at 2^64 - 1.
     ///
@@ -35,7 +47,9 @@ impl<C: Container + Drop> Reader<C> {
         let offset = offset_before(self.seek_points(), sample);
         self.start.saturating_add(offset)
     }
+}
 
+impl<R: Source + Drop> Reader<BitReader<R>> {
     /// Makes a reader of the same stream whose next frame holds this sample, counted from 0; if no frame holds it, the
     /// reader is at the end. `frames` are the bytes of a native stream from its first frame on
     /// ([`Reader::frames_start`]).
@@ -46,7 +60,8 @@ impl<C: Container + Drop> Reader<C> {
     /// it counts as many samples as the largest block size of STREAMINFO (section 9.1.5).
     ///
     /// ```
-    /// let mut reader = reader.seek(rt.alloc(), &stream[first_frame..], Profile::Subset, 44100)?;
+    /// let start = reader.frames_start() as usize;
+    /// let mut reader = reader.seek(rt.alloc(), &stream[start..], Profile::Subset, 44100)?;
     /// ```
     ///
     /// # Errors
@@ -143,6 +158,7 @@ impl<C: Container + Drop> Reader<C> {
                 Ok(Reader::before_frame(decoder, head, blocks, first))
             }
             Err(fault) => {
+                // Given back only for the proof: the clause names its counts of errors.
                 let _source = decoder.into_source();
                 Err(fault)
             }

@@ -49,8 +49,8 @@ stream.
 The encoder tries constant, verbatim and fixed predictors, and those of the list that
 --predictors names. A line of the list is one linear predictor: PRECISION SHIFT C1 C2 ..,
 C1 for the nearest sample, # before a comment. Of equally short forms the first is
-written. A list has at most 64 predictors; at rates up to 48000 Hz their orders are at
-most 12, with --lax at most 32.
+written. A list has at most 64 predictors. Their orders are at most 12 at rates up to
+48000 Hz, and at most 32 at higher rates and with --lax.
 
 With --lax streams outside the streamable subset are written: rates up to 1048575 Hz, 4
 to 32 bits, blocks of up to 65535 samples, partition orders up to 15. Other players may
@@ -62,6 +62,9 @@ it stays as it was, and what was written is in OUT.part beside it.";
 
 const RETAG_EXAMPLE: &str = "Example:
   $ flac retag song.flac other.flac TITLE=Song ARTIST=Someone
+
+The comments take the place of all that IN has: without a COMMENT, OUT has none. The
+vendor, which names the program that wrote the stream, becomes \"flac profile 1\".
 
 STREAMINFO, the other blocks and the frames stay as they are, but padding is written as
 zeros. The frames are not read. If the metadata is refused, nothing is written.
@@ -154,49 +157,86 @@ fn job_of<'a>(
     name: &str,
     given: &ArgMatches<'a>,
 ) -> Result<Option<Job<'a>>, clap::Error> {
-    let Some(input) = given.get_str("IN") else {
-        return Ok(None);
-    };
     if name == "test" {
-        let lax = given.get_flag("lax");
-        return Ok(Some(Job::Test { input, lax }));
+        return Ok(test_job(given));
+    }
+    if name == "decode" {
+        return Ok(decode_job(given));
     }
     if name == "list" {
-        let lax = given.get_flag("lax");
-        return Ok(Some(Job::List { input, lax }));
-    }
-    let Some(output) = given.get_str("OUT") else {
-        return Ok(None);
-    };
-    if name == "decode" {
-        let lax = given.get_flag("lax");
-        return Ok(Some(Job::Decode { input, output, lax }));
-    }
-    let mut comments = Vec::new(alloc);
-    if let Some(words) = given.get_strs("COMMENT") {
-        comments.extend_from_slice(words)?;
+        return Ok(list_job(given));
     }
     if name == "retag" {
-        return Ok(Some(Job::Retag {
-            input,
-            output,
-            comments,
-        }));
+        return retag_job(alloc, given);
     }
+    encode_job(alloc, given)
+}
+
+/// The job of `test`.
+fn test_job<'a>(given: &ArgMatches<'a>) -> Option<Job<'a>> {
+    Some(Job::Test {
+        input: given.get_str("IN")?,
+        lax: given.get_flag("lax"),
+    })
+}
+
+/// The job of `decode`.
+fn decode_job<'a>(given: &ArgMatches<'a>) -> Option<Job<'a>> {
+    Some(Job::Decode {
+        input: given.get_str("IN")?,
+        output: given.get_str("OUT")?,
+        lax: given.get_flag("lax"),
+    })
+}
+
+/// The job of `list`.
+fn list_job<'a>(given: &ArgMatches<'a>) -> Option<Job<'a>> {
+    Some(Job::List {
+        input: given.get_str("IN")?,
+        lax: given.get_flag("lax"),
+    })
+}
+
+/// The job of `encode`.
+fn encode_job<'a>(alloc: Global, given: &ArgMatches<'a>) -> Result<Option<Job<'a>>, clap::Error> {
+    let (Some(input), Some(output)) = (given.get_str("IN"), given.get_str("OUT")) else {
+        return Ok(None);
+    };
     let (Some(format), Some(container)) = (format_of(given), container_of(given)) else {
         return Ok(None);
     };
-    let lax = given.get_flag("lax");
-    let predictors = given.get_str("predictors");
+    let comments = comments_of(alloc, given)?;
     Ok(Some(Job::Encode {
         input,
         output,
         format,
         container,
         comments,
-        lax,
-        predictors,
+        lax: given.get_flag("lax"),
+        predictors: given.get_str("predictors"),
     }))
+}
+
+/// The job of `retag`.
+fn retag_job<'a>(alloc: Global, given: &ArgMatches<'a>) -> Result<Option<Job<'a>>, clap::Error> {
+    let (Some(input), Some(output)) = (given.get_str("IN"), given.get_str("OUT")) else {
+        return Ok(None);
+    };
+    let comments = comments_of(alloc, given)?;
+    Ok(Some(Job::Retag {
+        input,
+        output,
+        comments,
+    }))
+}
+
+/// The comments that are given.
+fn comments_of<'a>(alloc: Global, given: &ArgMatches<'a>) -> Result<Vec<&'a str>, clap::Error> {
+    let mut comments = Vec::new(alloc);
+    if let Some(words) = given.get_strs("COMMENT") {
+        comments.extend_from_slice(words)?;
+    }
+    Ok(comments)
 }
 
 /// The format of raw samples that the options give.

@@ -4,7 +4,7 @@ use Rattle.flac_reader.specs.Kept.{first_points}
 use Rattle.flac_reader.specs.Seeking.{search_start}
 use Rattle.flac_reader.specs.Moved.{IsMoved}
 use Rattle.flac_reader.proofs.Moved.{there, moved_found, moved_refused}
-use Rattle.flac_reader.proofs.reader.Reader.seek_file.Goals as goal
+use Rattle.flac_reader.proofs.sought.Reader+BitReader+R.seek_file.Goals as goal
 
 pub returns-in-Ok-clause-found : goal.returns-in-Ok-clause-found
 returns-in-Ok-clause-found g c =

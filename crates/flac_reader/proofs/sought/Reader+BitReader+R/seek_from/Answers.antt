@@ -8,7 +8,7 @@ use Rattle.flac_native.specs.Decoding.{beginning}
 use Rattle.flac_native.specs.Resuming.{resumed}
 use Rattle.flac_native.specs.Giving.{stage_of}
 use Rattle.flac_reader.proofs.Searches.{seek_finds, seek_refuses, finds_at}
-use Rattle.flac_reader.proofs.reader.Reader.seek_from.Goals as goal
+use Rattle.flac_reader.proofs.sought.Reader+BitReader+R.seek_from.Goals as goal
 
 pub returns-in-Ok-find_frame-clause-found : goal.returns-in-Ok-find_frame-clause-found
 returns-in-Ok-find_frame-clause-found g c = λ known frames end is.

@@ -1,5 +1,5 @@
 use Rattle.std.proofs.Common.{rules}
-use Rattle.flac_reader.proofs.reader.Reader.seek_offset.Goals as goal
+use Rattle.flac_reader.proofs.sought.Reader+BitReader+R.frames_start.Goals as goal
 
 pub returns : goal.returns
 returns g c = search rules

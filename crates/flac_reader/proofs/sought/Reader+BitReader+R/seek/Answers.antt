@@ -8,7 +8,7 @@ use Rattle.flac_native.specs.Resuming.{resumed}
 use Rattle.flac_reader.specs.Kept.{first_points}
 use Rattle.flac_reader.specs.Seeking.{offset_before, SeeksTo}
 use Rattle.flac_reader.proofs.Searches.{seeks_memory}
-use Rattle.flac_reader.proofs.reader.Reader.seek.Goals as goal
+use Rattle.flac_reader.proofs.sought.Reader+BitReader+R.seek.Goals as goal
 
 pub returns-clause-found : goal.returns-clause-found
 returns-clause-found g c =

@@ -9,7 +9,7 @@ use Rattle.flac_reader.specs.Kept.{first_points}
 use Rattle.flac_reader.specs.Seeking.{search_start, SeeksTo}
 use Rattle.flac_reader.proofs.Searches.{seeks_memory}
 use Rattle.flac_reader.proofs.Cuts.{cut_found}
-use Rattle.flac_reader.proofs.reader.Reader.seek_in.Goals as goal
+use Rattle.flac_reader.proofs.sought.Reader+BitReader+R.seek_in.Goals as goal
 
 pub returns-clause-found : goal.returns-clause-found
 returns-clause-found g c =
