@@ -1,6 +1,6 @@
-//! What linear predictors leave of narrow samples where the sums of products need 64 bits, as of 24-bit samples: made for
-//! all samples at once, a few coefficients at a time. The loops are those of `products.rt` written out for another width:
-//! there each lane has 32 bits, so that the processor works out twice as many sums at once.
+//! What linear predictors leave of narrow samples where the sums of products need 64 bits, as of 24-bit samples: made
+//! for all samples at once, a few coefficients at a time. The loops are those of `products.rt` written out for another
+//! width: there each lane has 32 bits, so that the processor works out twice as many sums at once.
 
 ghost use Rattle.std.specs.Prelude.{ℕ, ◌≡◌, ◌<◌, ◌≤◌, ◌^◌, ◌+◌, ◌+ℤ◌, ◌-ℤ◌, ◌*ℤ◌, pos, IsTrue, ◌↔◌, length, All};
 ghost use Rattle.std.specs.Int.{int_shr};

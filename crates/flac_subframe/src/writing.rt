@@ -296,7 +296,8 @@ fn type_of_kind(kind: HeldKind, predictors: &[LinearPredictor]) -> u64
     }
 }
 
-/// Writes a subframe as it was chosen, with places for the samples and for the residual one after another, which are overwritten.
+/// Writes a subframe as it was chosen, with places for the samples and for the residual one after another, which are
+/// overwritten.
 pub(crate) fn write_chosen<W: Target>(
     chosen: &ChosenView<'_>,
     predictors: &[LinearPredictor],

@@ -1,4 +1,3 @@
-use Rattle.std.proofs.Common.{arith}
 use Rattle.flac_subframe.proofs.Places.{fewer_places}
 use Rattle.flac_subframe.proofs.survey.least_up_to.Goals as goal
 
