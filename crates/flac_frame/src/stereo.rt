@@ -92,7 +92,36 @@ pub(crate) fn join_channels(
     if assignment.is_decorrelated() {
         let (first, second) = samples.split_at(block);
         let (left, right) = out.split_at_mut(block);
-        return join_two(assignment, depth, first, second, left, right);
+        // a loop for each assignment, so that the compiler takes several samples at once
+        return match assignment {
+            ChannelAssignment::Independent(_) => {
+                join_two(assignment, depth, first, second, left, right)
+            }
+            ChannelAssignment::LeftSide => join_two(
+                ChannelAssignment::LeftSide,
+                depth,
+                first,
+                second,
+                left,
+                right,
+            ),
+            ChannelAssignment::SideRight => join_two(
+                ChannelAssignment::SideRight,
+                depth,
+                first,
+                second,
+                left,
+                right,
+            ),
+            ChannelAssignment::MidSide => join_two(
+                ChannelAssignment::MidSide,
+                depth,
+                first,
+                second,
+                left,
+                right,
+            ),
+        };
     }
     narrow(samples, depth, out)
 }
