@@ -1,6 +1,5 @@
 use Rattle.std.proofs.Common.{◌≤◌, ◌++◌, map, sym, ap, subst, ◌∙◌, arith}
 use Rattle.flac_subframe.specs.Room.{Room}
-use Rattle.flac_frame.specs.Audio.{samples_each}
 use Rattle.flac_bits.specs.Bits.{bits_of}
 use Rattle.flac_native.specs.Writing.{SpellsLeast}
 use Rattle.flac_native.specs.Pushing.{Pushed, shape_of, sound_of, frame_with, behind_block, spent_with}
