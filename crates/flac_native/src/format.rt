@@ -1,35 +1,17 @@
-//! Limits of the profiles; STREAMINFO, and the buffers for its frames.
+//! STREAMINFO, and the buffers for its frames.
 
 ghost use Rattle.std.specs.Prelude.{◌≡◌, ◌≢◌, ◌≤◌, ◌+◌, OnOk, OnErr, IfOk, IfErr, Some, None, min};
 ghost use Rattle.flac_bits.specs.Reading.{Counts, Reads};
 ghost use Rattle.flac_bits.specs.State.{started};
 ghost use Rattle.flac_frame.specs.Frame.{frame, after};
 ghost use Rattle.flac_frame.specs.Kept.{nothing};
-ghost use Rattle.flac_header.specs.Header.{greatest_block, greatest_in};
+ghost use Rattle.flac_header.specs.Header.{greatest_in};
 
 use flac_bits::{BitReader, Source, Why};
 use flac_frame::{FrameBuffers, FrameView};
 use flac_header::Profile;
 use flac_meta::StreamInfo;
 use std::alloc::Global;
-
-/// The largest block size in samples that the streamable subset allows at a rate (RFC 9639, section 7).
-pub(crate) fn greatest_block(rate: u32) -> u32
-    ensures { result ≡ greatest_block rate }
-{
-    if rate <= 48000 { 4608 } else { 16384 }
-}
-
-/// The largest block size in samples that a profile allows at a rate; without the subset's rules it is the largest that
-/// a frame header can state (RFC 9639, section 9.1.6).
-pub(crate) fn greatest_in(profile: Profile, rate: u32) -> u32
-    ensures { result ≡ greatest_in profile rate }
-{
-    match profile {
-        Profile::Subset => greatest_block(rate),
-        Profile::Lax => 65535,
-    }
-}
 
 /// The most bytes that a frame can have: STREAMINFO states the sizes of frames in 24 bits (RFC 9639, section 8.2).
 pub const LONGEST_FRAME: u64 = 16777215;
@@ -74,7 +56,7 @@ impl Format {
         ensures ok { IfOk result (λ f. (f.profile ≡ profile) × (f.info ≡ info) × (f.buffers.before ≡ None)) }
         ensures err { IfErr result (λ e. e ≡ Why.Memory) }
     {
-        let block = u32::from(info.greatest_block()).min(greatest_in(profile, info.rate()));
+        let block = u32::from(info.greatest_block()).min(profile.greatest_block(info.rate()));
         let buffers = FrameBuffers::new(alloc, u32::from(info.channels()), block)?;
         Ok(Format {
             profile,

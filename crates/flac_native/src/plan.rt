@@ -6,7 +6,6 @@ ghost use Rattle.flac_native.specs.Seeking.{point_at};
 ghost use Rattle.flac_native.specs.inner.Writing.{IsRange};
 ghost use Rattle.flac_frame.specs.Audio.{samples_each};
 
-use crate::format::greatest_in;
 use flac_bits::Why;
 use flac_frame::{Audio, SetupFault, greatest_order};
 use flac_header::{Profile, depth_code_in, rate_code_in};
@@ -122,7 +121,7 @@ fn fault_of(asked: &Asked) -> Option<SetupFault>
     if asked.channels < 1 || asked.channels > 8 {
         return Some(SetupFault::BadChannels);
     }
-    if asked.block_size < 16 || asked.block_size > greatest_in(asked.profile, asked.rate) {
+    if asked.block_size < 16 || asked.block_size > asked.profile.greatest_block(asked.rate) {
         return Some(SetupFault::BadBlockSize);
     }
     let size = asked.block_size as u64;

@@ -18,7 +18,6 @@ ghost use Rattle.flac_native.specs.Whole.{head_parts};
 
 use crate::encoding::send_head;
 use crate::fault::EncodeFault;
-use crate::format::greatest_in;
 use crate::plan::predictors_fault;
 use flac_bits::{BitWriter, Collected, Target, Why, send_all};
 use flac_frame::{Audio, EncodeBuffers, SetupFault, encode_frame_with};
@@ -61,7 +60,7 @@ impl StreamFormat {
         if self.channels < 1 || self.channels > 8 {
             return Some(SetupFault::BadChannels);
         }
-        if self.block_size < 16 || self.block_size > greatest_in(self.profile, self.rate) {
+        if self.block_size < 16 || self.block_size > self.profile.greatest_block(self.rate) {
             return Some(SetupFault::BadBlockSize);
         }
         None
