@@ -2,12 +2,10 @@
 //! of RFC 9639, appendix D.1, with the comment TITLE=x, its digest unknown, and the same samples in pages; and the samples 0, 1, .., 9999 in three frames of 4096, 4096
 //! and 1808 samples with seek points, of which the first frame begins at byte 100 and the second 15 bytes behind it.
 
-use flac_bits::BitReader;
-use flac_native::{Item, StreamInfo};
 use flac_ogg::ogg_decoder;
 use flac_reader::{
-    Container, Counted, Decoder, Fault, Keep, Memory, Place, Profile, Reader, Source, Why,
-    open_native, open_ogg,
+    BitReader, Container, Counted, Decoder, Fault, Item, Keep, Memory, OggPackets, Place, Profile,
+    Reader, Source, StreamInfo, Why, open_native, open_ogg,
 };
 use flac_vectors::{EXAMPLE_TAGGED, PAGES, TEN_THOUSAND};
 use std::alloc::Global;
@@ -93,9 +91,14 @@ fn resumed_past_metadata(rt: HostRuntime) -> Result<(), Fail> {
     Ok(())
 }
 
+/// A reader of an Ogg stream in memory.
+fn opened_ogg<'a>(alloc: Global, pages: &'a [u8]) -> Result<Reader<OggPackets<Memory<'a>>>, Fault> {
+    open_ogg(alloc, Memory::new(pages), Profile::Subset, Keep::Tags)
+}
+
 /// The fault at which an Ogg stream in memory is refused, if it is not opened.
 fn refusal(alloc: Global, pages: &[u8]) -> Option<Fault> {
-    match open_ogg(alloc, Memory::new(pages), Profile::Subset, Keep::Tags) {
+    match opened_ogg(alloc, pages) {
         Ok(_) => None,
         Err(fault) => Some(fault),
     }

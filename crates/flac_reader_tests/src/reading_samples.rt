@@ -1,10 +1,9 @@
 //! Samples one by one, frames that are sought, and times. The streams are the example of RFC 9639, appendix D.1, with the comment TITLE=x, and the samples 0, 1, ..,
 //! 9999 in three frames of 4096, 4096 and 1808 samples with seek points, of which the first frame begins at byte 100.
 
-use flac_bits::BitReader;
 use flac_frame::Audio;
 use flac_reader::{
-    Container, Fault, Keep, Memory, Opened, Place, Profile, Reader, Samples, Why, open,
+    BitReader, Container, Fault, Keep, Memory, Opened, Place, Profile, Reader, Samples, Why, open,
     open_native, stereo_samples,
 };
 use flac_testing::encoded;
@@ -238,6 +237,24 @@ fn samples_behind(alloc: Global, stream: &[u8]) -> Result<i32, Fault> {
 fn samples_of_frames_sought(rt: HostRuntime) -> Result<(), Fail> {
     let stream = hex::decode(rt.alloc(), TEN_THOUSAND)?;
     assert!(rt; samples_behind(rt.alloc(), &stream) == Ok(5904));
+    Ok(())
+}
+
+/// What is seen of the frame that a reader lends after a sample was taken of its first one.
+fn behind_a_sample(alloc: Global, stream: &[u8]) -> Result<Sought, Fault> {
+    let mut samples = opened(alloc, stream, Keep::Tags)?.into_samples();
+    let _first = samples.next();
+    let mut reader = samples.into_reader();
+    let outcome = first_of(&mut reader);
+    drop(reader);
+    outcome
+}
+
+#[test]
+fn reader_of_samples(rt: HostRuntime) -> Result<(), Fail> {
+    let stream = hex::decode(rt.alloc(), TEN_THOUSAND)?;
+    let second = Some((4096, 4096, Duration::from_nanos(92_879_818)));
+    assert!(rt; behind_a_sample(rt.alloc(), &stream) == Ok(second));
     Ok(())
 }
 
