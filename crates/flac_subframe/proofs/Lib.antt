@@ -3,6 +3,7 @@ pub mod Restoring
 pub mod FixedSums
 pub mod Nearest
 pub mod Weighing
+pub mod Summing
 pub mod Scaling
 pub mod Steps
 pub mod Judged

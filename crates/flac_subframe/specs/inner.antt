@@ -7,3 +7,4 @@ pub mod Chosen
 pub mod Family
 pub mod Products
 pub mod Codes
+pub mod Summing

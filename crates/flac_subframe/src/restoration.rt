@@ -1,12 +1,14 @@
 //! Restores samples in the places of the residual.
 
-ghost use Rattle.std.specs.Prelude.{◌≡◌, ◌∷◌, [], ◌+◌, ◌-◌, ◌<◌, ◌≤◌, ◌^◌, ◌+ℤ◌, ◌-ℤ◌, ℤ, List, length, All, IsTrue};
+ghost use Rattle.std.specs.Prelude.{◌≡◌, ◌∷◌, [], ◌+◌, ◌-◌, ◌<◌, ◌≤◌, ◌^◌, ◌+ℤ◌, ◌-ℤ◌, ◌*ℤ◌, ℤ, List, length, All, IsTrue};
 ghost use Rattle.std.specs.List.{AllWithin};
 ghost use Rattle.std.specs.Int.RustNames.{unsigned_abs};
 ghost use Rattle.flac_bits.specs.Signed.{FitsBits};
 ghost use Rattle.flac_subframe.specs.Numbers.{sample_at};
 ghost use Rattle.flac_subframe.specs.Prediction.{fixed_coefficients, prediction, Restored};
+ghost use Rattle.std.specs.Int.{int_shr};
 ghost use Rattle.flac_subframe.specs.inner.Sums.{second_of, third_of, fourth_of};
+ghost use Rattle.flac_subframe.specs.inner.Summing.{AreBelow, Added};
 
 use crate::numbers::fits_bits;
 
@@ -204,6 +206,87 @@ fn restore_by(
     true
 }
 
+/// A sum and one product more.
+#[inline(always)]
+fn plus(sum: i64, coefficient: i64, sample: i64) -> i64
+    requires sum { unsigned_abs sum ≤ 2 ^ 51 }
+    requires coefficient { FitsBits 15 coefficient }
+    requires sample { FitsBits 33 sample }
+    ensures { result ≡ sum +ℤ (coefficient *ℤ sample) }
+{
+    sum + coefficient * sample
+}
+
+/// Adds the products of one more sample to the sums for the samples to come, each of which moves one place forward.
+#[inline(always)]
+fn add_sample(order: usize, coefficients: &[i64], sample: i64, sums: &mut [i64])
+    requires few { order ≤ 12 }
+    requires order { length coefficients.now ≡ order }
+    requires places { order < length sums.old }
+    requires small { All (FitsBits 15) coefficients.now }
+    requires fits { FitsBits 33 sample }
+    requires before { AreBelow order sums.old }
+    ensures added { Added coefficients.now sample sums.old sums.new }
+    ensures below { AreBelow order sums.new }
+    ensures long { length sums.new ≡ length sums.old }
+{
+    for k in 0..order {
+        sums[k] = plus(sums[k + 1], coefficients[k], sample);
+    }
+}
+
+/// The sample of this residual value, from the sum of products.
+#[inline(always)]
+fn sample_of(sum: i64, shift: u32, residual: i64) -> i64
+    requires sum { unsigned_abs sum ≤ 2 ^ 51 }
+    requires shift { shift < 16 }
+    requires residual { FitsBits 32 residual }
+    ensures { result ≡ int_shr sum shift +ℤ residual }
+{
+    (sum >> shift) + residual
+}
+
+/// Restores by a linear predictor of an order. The sums of products for the next samples are held beside the slice: each
+/// sample is multiplied by all coefficients once it is known, and is not read again. For orders of 9 to 12 this is
+/// faster than [`restore_by`], whose loop reads the last samples again, and on processors with AVX2 by far: there the
+/// compiler makes lanes of that loop, which wait for the samples that were just stored.
+#[inline(always)]
+fn restore_summed(
+    order: usize,
+    coefficients: &[i64],
+    shift: u32,
+    bits: u32,
+    samples: &mut [i64],
+) -> bool
+    requires some { 1 ≤ order }
+    requires few { order ≤ 12 }
+    requires order { length coefficients.now ≡ order }
+    requires small { All (FitsBits 15) coefficients.now }
+    requires shift { shift < 16 }
+    requires enough { order ≤ length samples.old }
+    requires positive { 1 ≤ bits }
+    requires bits { bits ≤ 33 }
+    requires warm_up { AllWithin (FitsBits bits) samples.old 0 order }
+    requires residual { AllWithin (FitsBits 32) samples.old order (length samples.old) }
+    ensures restored { IsTrue result → Restored coefficients.now shift samples.old samples.new }
+    ensures fits { IsTrue result → All (FitsBits bits) samples.new }
+    ensures only { (s : List ℤ) → Restored coefficients.now shift samples.old s → All (FitsBits bits) s → IsTrue result }
+{
+    let mut sums = [0i64; 13];
+    for i in 0..order {
+        add_sample(order, coefficients, samples[i], &mut sums);
+    }
+    for i in order..samples.len() {
+        let sample = sample_of(sums[0], shift, samples[i]);
+        if !fits_bits(sample, bits) {
+            return false;
+        }
+        samples[i] = sample;
+        add_sample(order, coefficients, sample, &mut sums);
+    }
+    true
+}
+
 /// Turns warm-up samples and the residual of a linear predictor into samples, from the front (RFC 9639, section 9.2.6).
 /// It stops with `false` at a sample that does not fit.
 #[inline(never)]
@@ -235,10 +318,10 @@ pub(crate) fn restore_linear(
         6 => restore_by(6, coefficients, shift, bits, samples),
         7 => restore_by(7, coefficients, shift, bits, samples),
         8 => restore_by(8, coefficients, shift, bits, samples),
-        9 => restore_by(9, coefficients, shift, bits, samples),
-        10 => restore_by(10, coefficients, shift, bits, samples),
-        11 => restore_by(11, coefficients, shift, bits, samples),
-        12 => restore_by(12, coefficients, shift, bits, samples),
+        9 => restore_summed(9, coefficients, shift, bits, samples),
+        10 => restore_summed(10, coefficients, shift, bits, samples),
+        11 => restore_summed(11, coefficients, shift, bits, samples),
+        12 => restore_summed(12, coefficients, shift, bits, samples),
         order => restore_by(order, coefficients, shift, bits, samples),
     }
 }

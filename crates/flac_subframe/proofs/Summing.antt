@@ -1,0 +1,102 @@
+-- The sums of products for the samples to come.
+use Rattle.std.proofs.Common.{◌≡◌, ◌∙◌, ℕ, zero, suc, ◌+◌, ◌-◌, ◌≤◌, ◌<◌, refl, sym, arith, ℤ, pos, ◌+ℤ◌, ◌*ℤ◌, List, [], ◌∷◌, length, drop, inl, inr, to_z, of_z, w64}
+use Rattle.std.proofs.Math.IntN.{+ℤ_comm}
+use Rattle.std.proofs.lemmas.List.{drop_more, drop_all}
+use Rattle.std.proofs.lemmas.Bool.{cases_lt}
+use Rattle.flac_subframe.specs.Numbers.{sample_at}
+use Rattle.flac_subframe.specs.Prediction.{prediction, weighted}
+use Rattle.std.specs.Int.{int_shr}
+use Rattle.std.proofs.lemmas.Int.{ints}
+use Rattle.std.specs.Prelude.{All, ⊤}
+use Rattle.flac_bits.specs.Signed.{FitsBits}
+use Rattle.flac_subframe.specs.inner.Summing.{known, AreSums, AreBelow, Added}
+use Rattle.flac_subframe.proofs.Bounds.{back, back_15, term_small}
+
+-- a sum reads only the samples before its index
+known_agrees : (cs s t : List ℤ) (i : ℕ) → ((j : ℕ) → j < i → sample_at s j ≡ sample_at t j) → known cs s i ≡ known cs t i
+unfolding known
+known_agrees [] s t i same = refl
+known_agrees (c ∷ cs) s t zero same = refl
+known_agrees (c ∷ cs) s t (suc i) same =
+    let here : sample_at s i ≡ sample_at t i = same i (omega arith) in
+    let rest : known cs s i ≡ known cs t i = known_agrees cs s t i (λ j h. same j (omega arith)) in
+    rw (here, rest) refl
+
+-- where all samples are there, it is the sum of all products
+pub known_is : (cs s : List ℤ) (i : ℕ) → length cs ≤ i → known cs s i ≡ weighted cs s i
+unfolding known weighted
+known_is [] s i long = refl
+known_is (c ∷ cs) s zero long = absurd (omega arith)
+known_is (c ∷ cs) s (suc i) long =
+    let e : suc i - 1 ≡ i = omega arith in
+    rw (e, known_is cs s i (omega arith)) refl
+
+pub known_none : (cs s : List ℤ) → known cs s 0 ≡ pos 0
+unfolding known
+known_none [] s = refl
+known_none (c ∷ cs) s = refl
+
+known_nothing : (s : List ℤ) (i : ℕ) → known [] s i ≡ pos 0
+unfolding known
+known_nothing s i = refl
+
+known_more : (c : ℤ) (cs s : List ℤ) (i : ℕ) → known (c ∷ cs) s (i + 1) ≡ (c *ℤ sample_at s i) +ℤ known cs s i
+unfolding known
+known_more c cs s i = let e : i + 1 ≡ suc i = omega arith in rw e refl
+
+-- after one sample more
+pub sums_more : (cs s t old new : List ℤ) (i : ℕ) (x : ℤ) → AreSums cs s old i → Added cs x old new → sample_at t i ≡ x → ((j : ℕ) → j < i → sample_at s j ≡ sample_at t j) → AreSums cs t new (i + 1)
+sums_more cs s t old new i x so added here same k le = elim (cases_lt k (length cs)) [
+  | inl lt ↦
+      let next : sample_at old (k + 1) ≡ known (drop (k + 1) cs) t i = so (k + 1) (omega arith) ∙ known_agrees (drop (k + 1) cs) s t i same in
+      added.each k lt ∙ rw (drop_more cs k (pos 0) lt, known_more (sample_at cs k) (drop (k + 1) cs) t i, here, next) (+ℤ_comm (known (drop (k + 1) cs) t i) (sample_at cs k *ℤ x))
+  | inr over ↦
+      let end : k ≡ length cs = omega (arith, le, over) in
+      let none : drop (length cs) cs ≡ [] = drop_all (length cs) cs (omega arith) in
+      let was : sample_at old (length cs) ≡ pos 0 = rw (none, known_nothing s i) at (so (length cs) (omega arith)) in
+      rw (end, none, known_nothing t (i + 1)) (added.last ∙ was)
+]
+
+-- sums of fewer products are smaller
+pub below_more : (order : ℕ) (cs old new : List ℤ) (x : ℤ) → length cs ≡ order → All (FitsBits 15) cs → FitsBits 33 x → AreBelow order old → Added cs x old new → AreBelow order new
+below_more order cs old new x long small fit below added k le = elim (cases_lt k order) [
+  | inl lt ↦
+      let was = below (k + 1) (omega (arith, lt)) in
+      let term = term_small (sample_at cs k) x (small k (pos 0) (omega (arith, lt, long))) fit in
+      rw (added.each k (omega (arith, lt, long))) (omega (arith, ints, was, term, lt))
+  | inr over ↦
+      let end : k ≡ length cs = omega (arith, le, over, long) in
+      let was = below (length cs) (omega (arith, long)) in
+      rw (end, added.last) was
+]
+
+-- a sum as the code makes it
+pub added_is : (order : ℕ) (cs old : List ℤ) (x v : ℤ) (k : ℕ) → v ≡ to_z w64 (of_z w64 (sample_at old (k + 1))) +ℤ (to_z w64 (of_z w64 (sample_at cs k)) *ℤ x) → order ≤ 12 → AreBelow order old → k < order → FitsBits 15 (sample_at cs k)
+    → v ≡ sample_at old (k + 1) +ℤ (sample_at cs k *ℤ x)
+added_is order cs old x v k is few below lt small =
+    let sum : to_z w64 (of_z w64 (sample_at old (k + 1))) ≡ sample_at old (k + 1) = back (sample_at old (k + 1)) (omega (arith, few, lt, below (k + 1) (omega (arith, lt)))) in
+    rw (sum, back_15 (sample_at cs k) small) at is
+
+abbrev pub AllZero : List ℤ → Type 0
+AllZero [] = ⊤
+AllZero (z ∷ zs) = (z ≡ pos 0) × AllZero zs
+
+pub zeros_at : (zs : List ℤ) → AllZero zs → (k : ℕ) → sample_at zs k ≡ pos 0
+zeros_at [] zeros k = refl
+zeros_at (z ∷ zs) zeros zero = zeros.0
+zeros_at (z ∷ zs) zeros (suc k) = zeros_at zs zeros.1 k
+
+-- before the first sample
+pub sums_none : (cs s sums : List ℤ) → ((k : ℕ) → sample_at sums k ≡ pos 0) → AreSums cs s sums 0
+sums_none cs s sums zeros k le = zeros k ∙ sym (known_none (drop k cs) s)
+
+pub below_none : (order : ℕ) (sums : List ℤ) → ((k : ℕ) → sample_at sums k ≡ pos 0) → AreBelow order sums
+below_none order sums zeros k le = rw (zeros k) (omega arith)
+
+-- the first sum gives the next sample
+pub next_is : (order : ℕ) (cs s r sums : List ℤ) (shift i : ℕ) (v : ℤ) → v ≡ int_shr (to_z w64 (of_z w64 (sample_at sums 0))) shift +ℤ to_z w64 (of_z w64 (sample_at s i)) → order ≤ 12 → AreBelow order sums → AreSums cs s sums i → length cs ≤ i
+    → sample_at s i ≡ sample_at r i → FitsBits 32 (sample_at r i) → v ≡ prediction cs shift s i +ℤ sample_at r i
+next_is order cs s r sums shift i v is few below so long same fit =
+    let sum : to_z w64 (of_z w64 (sample_at sums 0)) ≡ sample_at sums 0 = back (sample_at sums 0) (omega (arith, few, below 0 (omega arith))) in
+    let residual : to_z w64 (of_z w64 (sample_at r i)) ≡ sample_at r i = omega (arith, ints, fit.low, fit.high) in
+    rw (sum, so 0 (omega arith), known_is cs s i long, same, residual) at is

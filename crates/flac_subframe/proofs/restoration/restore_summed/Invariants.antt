@@ -1,0 +1,16 @@
+use Rattle.flac_subframe.specs.inner.Summing.{AreSums, AreBelow}
+use Rattle.flac_subframe.proofs.Restoring.{RestoredTo}
+use Rattle.flac_subframe.proofs.restoration.restore_summed.Given as goal
+
+abbrev pub invariant-loop-i : goal.invariant-loop-i
+invariant-loop-i l = record {
+  sums : AreSums l.coefficients l.samples l.sums l.i;
+  below : AreBelow l.order l.sums;
+}
+
+abbrev pub invariant-loop-i-2 : goal.invariant-loop-i-2
+invariant-loop-i-2 l = record {
+  so : RestoredTo l.coefficients l.shift l.bits l.fn.samples l.samples l.i;
+  sums : AreSums l.coefficients l.samples l.sums l.i;
+  below : AreBelow l.order l.sums;
+}
