@@ -5,10 +5,13 @@ An edit counts as refused if the prover has an error of its own in a function th
 function from its body and the contracts of what it calls, and no edit of a batch changes anything but bodies, so no other edit can
 have caused that error. Whatever else comes of a batch decides nothing: its edits are left to be tried alone, as the kit does it.
 """
+import contextlib
+import copy
 import functools
 import importlib.machinery
 import os
 import re
+import shutil
 import subprocess
 import tempfile
 import types
@@ -16,6 +19,8 @@ from dataclasses import dataclass, field
 
 # More make a batch so long that nothing is left to run beside its end.
 MOST = 32
+# the files of a function's proof
+PROOFS = {"Answers.antt", "Invariants.antt", "Proof.antt"}
 ITEMS = {"fn", "impl", "trait", "struct", "enum", "union", "mod", "static", "const", "macro_rules"}
 NOTE = re.compile(r"note: (?:\./)?(src/\S+?):(\d+):\d+: .* \(`[^`]+`\)")
 ERROR = re.compile(r"(?:\./)?proofs/(\S+)/(?:Answers|Invariants|Proof)\.antt:\d+:\d+: error: ")
@@ -222,14 +227,35 @@ def at_fault(sources, edits, lines):
     return found
 
 
+@contextlib.contextmanager
+def without_proofs(rt, crate, sources, edits):
+    """A copy of the crate in which the functions that no edit changes have no proof, so that a check from nothing does not spend its time
+    on them. It says nothing of them, and of the others what it says with these proofs: they are proved from contracts alone."""
+    changed = {it for edit in edits for it in edit.functions}
+    with tempfile.TemporaryDirectory(prefix="flac-bare-") as room:
+        for part in rt.rtlib.PARTS:
+            if os.path.isdir(f"{crate.folder}/{part}"):
+                shutil.copytree(f"{crate.folder}/{part}", f"{room}/{part}")
+        for folder, _, names in [*os.walk(f"{room}/proofs")]:
+            symbol = "::".join([crate.name, *os.path.relpath(folder, f"{room}/proofs").split(os.sep)])
+            if not PROOFS.isdisjoint(names) and "+" not in symbol and not any(sources.may_be(it, crate.name, symbol) for it in changed):
+                for name in PROOFS.intersection(names):
+                    os.remove(f"{folder}/{name}")
+                with open(f"{folder}/Proof.antt", "w", encoding="utf-8") as it:
+                    it.write("-- not asked for here\n")
+        bare = copy.copy(crate)
+        bare.folder = room
+        yield bare
+
+
 def refused(rt, crate, sources, edits, flags, kept):
     """Tries these edits at once, and returns what is to be said of each that the prover refuses, by its file. kept() gives a new copy of
-    the crate's kept work, for one check."""
+    the crate's kept work, for one check, or None."""
     if len(edits) < 2:
         return {}
     texts = applied(sources, edits)
-    with kept() as folder:
-        ran = rt.checked(crate, texts, flags, folder)
+    with kept() as folder, contextlib.nullcontext(crate) if folder else without_proofs(rt, crate, sources, edits) as copied:
+        ran = rt.checked(copied, texts, flags, folder)
     lines = ran.stdout.rstrip("\n").split("\n")
     unread = [it for it in lines if rt.unread(it, texts)]
     if ran.returncode == 0:
