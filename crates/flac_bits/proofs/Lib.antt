@@ -39,3 +39,4 @@ pub mod Counting
 pub mod Telling
 pub mod LittleNumbers
 pub mod Unchecked
+pub mod Pulled

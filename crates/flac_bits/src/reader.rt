@@ -1,13 +1,13 @@
 //! Reading of bits from a source of bytes.
 
-ghost use Rattle.std.specs.Prelude.{◌≡◌, ◌≢◌, ◌<◌, ◌≤◌, ◌+◌, ◌^◌, ◌-◌, ◌++◌, ◌∷◌, [], ℕ, true, IfOk, IfErr, OnOk, OnErr, ◌*◌, length, take, IfSome, None, Some, Ok, ◌↔◌, false, is_some, get_or, pos};
+ghost use Rattle.std.specs.Prelude.{◌≡◌, ◌≢◌, ◌<◌, ◌≤◌, ◌+◌, ◌^◌, ◌-◌, [], ℕ, true, IfOk, IfErr, OnOk, ◌*◌, length, take, IfSome, None, Some, Ok, false, get_or, pos};
 ghost use Rattle.flac_bits.specs.declared.why.Why.TheVariants.{Truncated};
 ghost use Rattle.flac_bits.specs.Bits.{is_nil};
-ghost use Rattle.flac_bits.specs.Bits.{unsigned, bits_of, bit_value};
-ghost use Rattle.flac_bits.specs.State.{State, Cursor, short_of, with_short, Rises, started, Consumes, without_fence};
+ghost use Rattle.flac_bits.specs.Bits.{unsigned, bits_of};
+ghost use Rattle.flac_bits.specs.State.{State, short_of, started, Consumes, without_fence};
 ghost use Rattle.flac_bits.specs.Fencing.{fence_at, lifted};
-ghost use Rattle.flac_bits.specs.Store.{state_of, left_of, fenced_of, most_of, reason_of, reached};
-ghost use Rattle.flac_bits.specs.inner.Store.{SameBits};
+ghost use Rattle.flac_bits.specs.Store.{state_of};
+ghost use Rattle.flac_bits.specs.inner.Pulling.{Pulls};
 ghost use Rattle.flac_bits.specs.Layout.{next_bit, number_at, zeros_at, align as to_byte, run, and_then};
 ghost use Rattle.std.specs.Prelude.{All};
 ghost use Rattle.flac_bits.specs.Lists.{list_of, behind};
@@ -43,22 +43,8 @@ impl<R: Source> Model for BitReader<R> {
 
 /// Makes sure that the word has at least one bit; false if none is left.
 fn fill<R: Source>(held: &mut Held, source: &mut R) -> Result<bool, Why>
-    ensures names { R.names source.new ≡ R.names source.old }
-    ensures mark { held.new.mark ≡ held.old.mark }
-    ensures ok { IfOk result (λ _. (R.known source.old ≡ true → R.known source.new ≡ true) × (R.errors source.new ≡ R.errors source.old) × (R.raised source.new ≡ R.raised source.old)
-        × (8 * R.most source.new + most_of held.new ≤ 8 * R.most source.old + most_of held.old)
-        × (R.known source.old ≡ true → SameBits held.old (R.coming source.old) held.new (R.coming source.new))) }
+    ensures pulls { Pulls R.Source held.old held.new source.old source.new result }
     ensures more { result ≡ Ok true → 1 ≤ length held.new.word }
-    ensures over { result ≡ Ok false → R.known source.old ≡ true
-        → (left_of held.old (R.coming source.old) ≡ []) × (reason_of (reached held.old.fence.room (R.coming source.old)) (R.behind source.old) ≡ Why.Read → ⊥) }
-    ensures kept { R.errors source.old ≤ R.errors source.new }
-    ensures foretold { R.known source.old ≡ true → R.errors source.new ≡ R.errors source.old → R.behind source.new ≡ R.behind source.old }
-    ensures risen { OnErr result (Rises (R.raised source.old) (R.raised source.new)) }
-    ensures err { IfErr result (λ e. (e ≡ Why.Read)
-        × (R.known source.old ≡ true → R.errors source.new ≡ R.errors source.old
-        → (left_of held.old (R.coming source.old) ≡ []) × (reason_of (reached held.old.fence.room (R.coming source.old)) (R.behind source.old) ≡ Why.Read)
-        × (fenced_of held.new (R.coming source.new) ≡ fenced_of held.old (R.coming source.old)))
-        × (R.known source.old ≡ true → R.raised source.old < R.raised source.new)) }
 {
     if held.ready() > 0 {
         return Ok(true);
@@ -79,23 +65,9 @@ fn fill<R: Source>(held: &mut Held, source: &mut R) -> Result<bool, Why>
 /// whole byte.
 fn refill<R: Source>(held: &mut Held, source: &mut R) -> Result<bool, Why>
     requires { held.old.mark.unread ≡ 0 }
-    ensures names { R.names source.new ≡ R.names source.old }
-    ensures mark { held.new.mark ≡ held.old.mark }
-    ensures ok { IfOk result (λ _. (R.known source.old ≡ true → R.known source.new ≡ true) × (R.errors source.new ≡ R.errors source.old) × (R.raised source.new ≡ R.raised source.old)
-        × (8 * R.most source.new + most_of held.new ≤ 8 * R.most source.old + most_of held.old)
-        × (R.known source.old ≡ true → SameBits held.old (R.coming source.old) held.new (R.coming source.new))) }
+    ensures pulls { Pulls R.Source held.old held.new source.old source.new result }
     ensures more { result ≡ Ok true → 0 < length held.new.bytes }
     ensures word { held.new.word ≡ [] }
-    ensures over { result ≡ Ok false → R.known source.old ≡ true
-        → (left_of held.old (R.coming source.old) ≡ []) × (reason_of (reached held.old.fence.room (R.coming source.old)) (R.behind source.old) ≡ Why.Read → ⊥) }
-    ensures kept { R.errors source.old ≤ R.errors source.new }
-    ensures foretold { R.known source.old ≡ true → R.errors source.new ≡ R.errors source.old → R.behind source.new ≡ R.behind source.old }
-    ensures risen { OnErr result (Rises (R.raised source.old) (R.raised source.new)) }
-    ensures err { IfErr result (λ e. (e ≡ Why.Read)
-        × (R.known source.old ≡ true → R.errors source.new ≡ R.errors source.old
-        → (left_of held.old (R.coming source.old) ≡ []) × (reason_of (reached held.old.fence.room (R.coming source.old)) (R.behind source.old) ≡ Why.Read)
-        × (fenced_of held.new (R.coming source.new) ≡ fenced_of held.old (R.coming source.old)))
-        × (R.known source.old ≡ true → R.raised source.old < R.raised source.new)) }
 {
     held.put_back();
     if !held.is_drained() {

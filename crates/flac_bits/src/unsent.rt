@@ -1,6 +1,6 @@
 //! Bits that were written and not sent yet.
 
-ghost use Rattle.std.specs.Prelude.{◌≡◌, ◌<◌, ◌≤◌, ◌+◌, ◌-◌, ◌*◌, ◌%◌, ◌^◌, ◌++◌, [], ℕ, List, Bool, true, false, length, take, drop, min, IfErr};
+ghost use Rattle.std.specs.Prelude.{◌≡◌, ◌<◌, ◌≤◌, ◌+◌, ◌-◌, ◌%◌, ◌^◌, ◌++◌, [], true, false, length, take, drop, min, IfErr};
 ghost use Rattle.std.specs.Int.{bytes_high_first};
 ghost use Rattle.flac_bits.specs.declared.why.Why.TheVariants.{Truncated};
 ghost use Rattle.flac_bits.specs.Bits.{unsigned, bits_of};
