@@ -30,8 +30,7 @@ pub mod Coming
 pub mod Standing
 pub mod Fencing
 pub mod Slicing
-pub mod Entries8
-pub mod Entries16
+pub mod Entries
 pub mod Entries32
 pub mod Eights
 pub mod Stretches

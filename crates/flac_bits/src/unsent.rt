@@ -10,7 +10,7 @@ ghost use Rattle.flac_bits.specs.Sending.{Sends};
 
 use crate::rest::Rest;
 use crate::send::send_all;
-use crate::sums::{checked8, checked16};
+use crate::sums::{both_checked, checked8, checked16};
 use crate::target::Target;
 use crate::why::Why;
 use std::marker::Model;
@@ -192,8 +192,13 @@ impl Unsent {
         ensures write { IfErr result (λ e. e ≡ Why.Write) }
     {
         send_all(target, &self.bytes[..self.end])?;
-        self.check8 = checked8(self.check8, &self.bytes[self.from..self.end]);
-        self.check16 = checked16(self.check16, &self.bytes[self.from..self.end]);
+        let (check8, check16) = both_checked(
+            self.check8,
+            self.check16,
+            &self.bytes[self.from..self.end],
+        );
+        self.check8 = check8;
+        self.check16 = check16;
         self.before = self.before.saturating_add(self.end as u64);
         self.from = 0;
         self.end = 0;
