@@ -17,6 +17,7 @@ pub mod Rices
 pub mod Partly
 pub mod Ties
 pub mod CodedTie
+pub mod CodedLength
 pub mod Fences
 pub mod Items
 pub mod Appending

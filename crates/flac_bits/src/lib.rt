@@ -26,7 +26,7 @@ mod word;
 mod writer;
 
 pub use bytes::{read_bytes, read_unchecked};
-pub use coded::write_number;
+pub use coded::{number_len, write_number};
 pub use counted::Counted;
 pub use failing::FailAt;
 pub use little::{put_little_32, read_little_32, read_little_64};
