@@ -7,3 +7,4 @@ pub mod Items
 pub mod Handing
 pub mod Stretches
 pub mod Pulling
+pub mod Unchecked

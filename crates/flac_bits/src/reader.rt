@@ -14,7 +14,7 @@ ghost use Rattle.flac_bits.specs.Lists.{list_of, behind};
 ghost use Rattle.flac_bits.specs.Rice.{rice, rice_value, IsResidual};
 ghost use Rattle.flac_bits.specs.Signed.{signed_field, FitsBits};
 ghost use Rattle.flac_bits.specs.Reading.{Counts, Gives, Reads};
-ghost use Rattle.flac_bits.specs.Unchecked.{Passes};
+ghost use Rattle.flac_bits.specs.inner.Unchecked.{Fills, started_unless};
 
 use crate::held::Held;
 use crate::signed::{MOST_FOLDED, to_signed, unfolded};
@@ -464,6 +464,22 @@ impl<R: Source> BitReader<R> {
         ensures over { IfOk result (λ n. n < length out.new → self.old.known ≡ true → (self.new.cursor.left ≡ []) × (self.new.cursor.mark.short ≡ Why.Read → ⊥)) }
         ensures cut { IfErr result (λ e. (e ≡ Why.Read) × (self.old.known ≡ true → self.new.errors ≡ self.old.errors → (length self.old.cursor.left < 8 * length out.new) × (self.old.cursor.mark.short ≡ Why.Read))) }
     {
+        self.take_pieces(out, true)
+    }
+
+    /// What [`BitReader::take_bytes`] does, if the checks go on over these bytes (`checked`). If not, the checks restart
+    /// after each piece, so that none is computed of these bytes.
+    pub(crate) fn take_pieces(&mut self, out: &mut [u8], checked: bool) -> Result<usize, Why>
+        requires { self.old.cursor.mark.unread ≡ 0 }
+        ensures bound { IfOk result (λ n. n ≤ length out.new) }
+        ensures spends { IfOk result (λ n. self.new.most + 8 * n ≤ self.old.most) }
+        ensures whole { OnOk result (self.new.cursor.mark.unread ≡ 0) }
+        ensures counts { Counts self.old self.new result }
+        ensures taken { IfOk result (λ n. self.old.known ≡ true → Fills checked (bits_of (take n out.new)) self.old.cursor self.new.cursor) }
+        ensures over { IfOk result (λ n. n < length out.new → self.old.known ≡ true → (self.new.cursor.left ≡ []) × (self.new.cursor.mark.short ≡ Why.Read → ⊥)) }
+        ensures cut { IfErr result (λ e. (e ≡ Why.Read) × (self.old.known ≡ true → self.new.errors ≡ self.old.errors → (length self.old.cursor.left < 8 * length out.new) × (self.old.cursor.mark.short ≡ Why.Read))) }
+    {
+        self.start_unless(checked);
         let mut done = 0;
         while done < out.len() {
             match self.some_bytes(&mut out[done..]) {
@@ -471,33 +487,18 @@ impl<R: Source> BitReader<R> {
                 Ok(n) => done += n,
                 Err(why) => return Err(why),
             }
+            self.start_unless(checked);
         }
         Ok(done)
     }
 
-    /// What [`BitReader::take_bytes`] does, but the checks restart after each piece, so that none is computed of these
-    /// bytes.
-    pub(crate) fn take_unchecked(&mut self, out: &mut [u8]) -> Result<usize, Why>
-        requires { self.old.cursor.mark.unread ≡ 0 }
-        ensures bound { IfOk result (λ n. n ≤ length out.new) }
-        ensures spends { IfOk result (λ n. self.new.most + 8 * n ≤ self.old.most) }
-        ensures whole { OnOk result (self.new.cursor.mark.unread ≡ 0) }
-        ensures counts { Counts self.old self.new result }
-        ensures taken { IfOk result (λ n. self.old.known ≡ true → Passes (bits_of (take n out.new)) self.old.cursor self.new.cursor) }
-        ensures over { IfOk result (λ n. n < length out.new → self.old.known ≡ true → (self.new.cursor.left ≡ []) × (self.new.cursor.mark.short ≡ Why.Read → ⊥)) }
-        ensures cut { IfErr result (λ e. (e ≡ Why.Read) × (self.old.known ≡ true → self.new.errors ≡ self.old.errors → (length self.old.cursor.left < 8 * length out.new) × (self.old.cursor.mark.short ≡ Why.Read))) }
+    /// Restarts both checks, unless they are to go on.
+    fn start_unless(&mut self, checked: bool)
+        ensures { self.new ≡ started_unless checked self.old }
     {
-        self.start_checks();
-        let mut filled = 0;
-        while filled < out.len() {
-            match self.some_bytes(&mut out[filled..]) {
-                Ok(0) => return Ok(filled),
-                Ok(n) => filled += n,
-                Err(why) => return Err(why),
-            }
+        if !checked {
             self.start_checks();
         }
-        Ok(filled)
     }
 
     /// The error for a field that needs more bits than are left, if the source did not fail: [`Why::FrameTooLong`] at a
