@@ -11,15 +11,13 @@ ghost use Rattle.flac_bits.specs.Store.{Store, passed, allowed, forbidden, hides
 ghost use Rattle.flac_bits.specs.inner.Store.{Takes, Passes, HoldsSame, seen as seen_bytes, room_behind as room_behind_bytes};
 ghost use Rattle.flac_bits.specs.inner.Pulling.{Pulls};
 
+use crate::HOLD;
 use crate::source::Source;
 use crate::stretch::{four_bytes, values_by};
 use crate::sums::{bits_checked8, bits_checked16, both_checked, checked8, checked16};
 use crate::why::Why;
 use crate::word::Word;
 use std::marker::Model;
-
-/// How many bytes are pulled at once, at most.
-pub const HOLD: usize = 4096;
 
 /// An array of bytes, of which some are taken, and a word with the bits that come first. Bytes from `end` to `filled`
 /// are past a fence; `room` is how many more may be pulled up to it, `None` if there is no fence.

@@ -39,3 +39,6 @@ pub use sums::{checks_are_remainders, crc8, crc16, crc32_sum, page_sum};
 pub use target::{Collected, Target};
 pub use why::Why;
 pub use writer::BitWriter;
+
+/// How many bytes a reader or a writer holds at most: what a reader pulls at once, and what a writer sends at once.
+pub(crate) const HOLD: usize = 4096;

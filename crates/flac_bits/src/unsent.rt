@@ -8,15 +8,13 @@ ghost use Rattle.flac_bits.specs.State.{past};
 ghost use Rattle.flac_bits.specs.Unsent.{Unsent, Puts, KeepsBits};
 ghost use Rattle.flac_bits.specs.Sending.{Sends};
 
+use crate::HOLD;
 use crate::rest::Rest;
 use crate::send::send_all;
 use crate::sums::{both_checked, checked8, checked16};
 use crate::target::Target;
 use crate::why::Why;
 use std::marker::Model;
-
-/// How many bytes are held at most.
-const HOLD: usize = 4096;
 
 /// An array of whole bytes, and the bits after them.
 #[derive(Drop)]
