@@ -1,4 +1,4 @@
-use flac_bits::{BitWriter, Collected, Counted, FailAt, Target, Why, put_little_32, write_number};
+use flac_bits::{BitWriter, Collected, Counted, FailAt, Target, Why, number_len, put_little_32, write_number};
 use flac_vectors::bytes_of;
 use std::alloc::Global;
 use std::io;
@@ -245,4 +245,15 @@ fn a_target_that_fails_once(rt: HostRuntime) {
 fn errors_in_memory(rt: HostRuntime) {
     assert!(rt; Why::Write.in_memory() == Why::Memory);
     assert!(rt; Why::Spent.in_memory() == Why::Spent);
+}
+
+/// The largest number of each length (RFC 9639, section 9.1.5), and the number after it.
+#[test]
+fn lengths_of_numbers(rt: HostRuntime) {
+    assert!(rt; number_len(0x7F) == 1 && number_len(0x80) == 2);
+    assert!(rt; number_len(0x7FF) == 2 && number_len(0x800) == 3);
+    assert!(rt; number_len(0xFFFF) == 3 && number_len(0x1_0000) == 4);
+    assert!(rt; number_len(0x1F_FFFF) == 4 && number_len(0x20_0000) == 5);
+    assert!(rt; number_len(0x3FF_FFFF) == 5 && number_len(0x400_0000) == 6);
+    assert!(rt; number_len(0x7FFF_FFFF) == 6 && number_len(0x8000_0000) == 7);
 }

@@ -1,18 +1,20 @@
 -- What several calls one after another count.
-use Rattle.std.proofs.Common.{◌≡◌, ℕ, ◌<◌, ◌≤◌, Bool, true, false, Result, refl, sym, ap, ◌∙◌, arith}
+use Rattle.std.proofs.Common.{◌≡◌, ℕ, ◌<◌, ◌≤◌, Bool, true, false, Result, Ok, Err, refl, sym, ap, ◌∙◌, arith}
+use Rattle.std.specs.Prelude.{⊤}
 use Rattle.flac_bits.specs.State.{State, Rises}
 use Rattle.flac_bits.specs.Layout.{Reason}
+use Rattle.flac_bits.specs.Reading.{Counts}
 use Rattle.flac_bits.specs.inner.Reading.{Goes}
 use Rattle.flac_bits.specs.declared.why.Why.{Why}
 use Rattle.flac_bits.specs.declared.why.Why.TheVariants.{Read, Sink}
 
 -- the clause Counts of a call that answered a value
 abbrev pub Answered : State → State → Type 0
-Answered old new = (old.known ≡ true → new.known ≡ true) × (new.errors ≡ old.errors) × (new.raised ≡ old.raised) × (old.known ≡ true → new.behind ≡ old.behind) × (new.names ≡ old.names)
+Answered old new = Counts {X = ⊤} old new (Ok tt)
 
 -- and of one that answered a reason
 abbrev pub Failed : Why → State → State → Type 0
-Failed e old new = (old.errors ≤ new.errors) × (old.known ≡ true → new.errors ≡ old.errors → new.behind ≡ old.behind) × (old.known ≡ true → e ≡ Read → old.raised < new.raised) × (new.names ≡ old.names) × (e ≡ Read → Rises old.raised new.raised) × (e ≡ Sink → ⊥)
+Failed e old new = Counts {X = ⊤} old new (Err e)
 
 -- behind calls that kept a count
 pub rises_then : (old mid new : ℕ) → mid ≡ old → Rises mid new → Rises old new

@@ -17,6 +17,7 @@ pub mod Rices
 pub mod Partly
 pub mod Ties
 pub mod CodedTie
+pub mod CodedLength
 pub mod Fences
 pub mod Items
 pub mod Appending
@@ -30,8 +31,7 @@ pub mod Coming
 pub mod Standing
 pub mod Fencing
 pub mod Slicing
-pub mod Entries8
-pub mod Entries16
+pub mod Entries
 pub mod Entries32
 pub mod Eights
 pub mod Stretches
@@ -39,3 +39,4 @@ pub mod Counting
 pub mod Telling
 pub mod LittleNumbers
 pub mod Unchecked
+pub mod Pulled

@@ -1,5 +1,5 @@
 -- The check of bytes by tables: a register of the check is fed as the first of the bytes are.
-use Rattle.std.proofs.Common.{◌≡◌, ℕ, zero, suc, ◌+◌, ◌-◌, ◌*◌, ◌/◌, ◌%◌, ◌^◌, ◌<◌, ◌≤◌, Bool, true, false, cond, nat_eq, List, [], ◌∷◌, ◌++◌, length, get_or, bit_and, bit_xor, refl, sym, ap, ◌∙◌, arith}
+use Rattle.std.proofs.Common.{◌≡◌, ℕ, zero, suc, ◌+◌, ◌-◌, ◌*◌, ◌/◌, ◌%◌, ◌^◌, ◌<◌, ◌≤◌, Bool, true, false, cond, nat_eq, List, [], ◌∷◌, ◌++◌, length, map, get_or, bit_and, bit_xor, refl, sym, ap, ◌∙◌, arith}
 use Rattle.std.specs.Int.{bit_at}
 use Rattle.std.specs.Int.Bits.{xor_assoc, xor_self, xor_zero_l, xor_zero_r}
 use Rattle.std.proofs.lemmas.Nat.{xor_comm, xor_block, shr_split, pow-add, pow_pos, pow_below, shr_below}
@@ -160,6 +160,13 @@ pub table_next : (w g j : ℕ) (t u : List ℕ) → u ≡ moved w g t → ((i : 
 table_next w g j t u e is long i lt =
     let k : 8 * (j + 1) ≡ 8 * j + 8 = omega arith in
     ap (λ xs. get_or xs i 0) e ∙ moved_at w g t i (omega (arith, lt, long)) ∙ ap (times w g 8) (is i lt) ∙ sym (times-times w g (8 * j) 8 (remainder w g (unsigned 8 i))) ∙ ap (λ n. times w g n (remainder w g (unsigned 8 i))) (sym k)
+
+-- a part of each entry
+pub map_at : (f : ℕ → ℕ) (xs : List ℕ) (i : ℕ) → f 0 ≡ 0 → f (get_or xs i 0) ≡ get_or (map f xs) i 0
+map_at f [] zero e = e
+map_at f [] (suc i) e = e
+map_at f (x ∷ xs) zero e = refl
+map_at f (x ∷ xs) (suc i) e = map_at f xs i e
 
 -- ---- bytes
 

@@ -13,7 +13,7 @@ use Rattle.flac_bits.specs.inner.Stretches.{IsRead}
 use Rattle.flac_bits.proofs.Stretches.{stretch_read}
 use Rattle.flac_bits.specs.Meaning.{unary_bits}
 use Rattle.flac_bits.specs.Rice.{rice, rice_value}
-use Rattle.flac_bits.specs.Store.{Store, Fence, allowed, forbidden, reached, most_of, reason_of, state_of}
+use Rattle.flac_bits.specs.Store.{Store, Fence, allowed, forbidden, reached, left_of, most_of, reason_of, state_of}
 use Rattle.flac_bits.specs.inner.Store.{Takes, HoldsSame, Passes, Came, SameBits}
 use Rattle.flac_bits.specs.declared.why.Why.{Why}
 use Rattle.flac_bits.specs.declared.why.Why.TheVariants.{Read, Truncated, FrameTooLong}
@@ -106,3 +106,7 @@ fenced_same a b coming e = rw e refl
 
 pub same_reason : (old new : Store) (xs ys : List ℕ) (b b' : Behind) → SameBits old xs new ys → b' ≡ b → reason_of (reached new.fence.room ys) b' ≡ reason_of (reached old.fence.room xs) b
 same_reason old new xs ys b b' same e = rw (same.reached, e) refl
+
+-- nothing is held, and nothing may come
+pub none_left : (s : Store) (coming : List ℕ) → s.word ≡ [] → s.bytes ≡ [] → allowed s.fence.room coming ≡ [] → left_of s coming ≡ []
+none_left s coming word bytes none = rw (word, bytes, none) refl

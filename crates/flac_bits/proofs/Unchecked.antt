@@ -6,6 +6,7 @@ use Rattle.flac_bits.specs.State.{Mark, Cursor, step, past, fresh, Consumes}
 use Rattle.flac_bits.specs.Layout.{bits, run, because, Reason}
 use Rattle.flac_bits.specs.Lists.{list_of}
 use Rattle.flac_bits.specs.Unchecked.{Passes, begun_anew}
+use Rattle.flac_bits.specs.inner.Unchecked.{marked, Fills}
 use Rattle.flac_bits.specs.declared.why.Why.{Why}
 use Rattle.flac_bits.proofs.Laws.{at_}
 use Rattle.flac_bits.proofs.Copied.{consumes_more, exact, missing, bits_cut}
@@ -46,12 +47,8 @@ passed_left : (xs : List ℕ) (old new : Cursor) → Passes (bits_of xs) old new
 unfolding behind_bytes
 passed_left xs old new p = (p.0, refl)
 
--- none yet
-pub passes_none : (old new : Cursor) → new.left ≡ old.left → new.mark ≡ fresh old.mark → Passes (bits_of []) old new
-passes_none old new left mark = (sym left, mark)
-
 -- more of them, and the checks begin anew
-pub passes_more : (xs ys zs : List ℕ) (old now mid new : Cursor) → zs ≡ xs ++ ys → Passes (bits_of xs) old now → Consumes (bits_of ys) now mid → mid.mark.unread ≡ 0 → new.left ≡ mid.left → new.mark ≡ fresh mid.mark
+passes_more : (xs ys zs : List ℕ) (old now mid new : Cursor) → zs ≡ xs ++ ys → Passes (bits_of xs) old now → Consumes (bits_of ys) now mid → mid.mark.unread ≡ 0 → new.left ≡ mid.left → new.mark ≡ fresh mid.mark
     → Passes (bits_of zs) old new
 unfolding behind_bytes
 passes_more xs ys zs old now mid new e a b z left mark =
@@ -82,26 +79,27 @@ missing_anew xs n why old new lt none is p =
 pub cut_anew : (n : ℕ) (why : Why) (old : Cursor) → length old.left < 8 * n → why ≡ old.mark.short → begun_anew (run (list_of n (bits 8)) old) ≡ Err (because why)
 cut_anew n why old few is = ap begun_anew (bits_cut n old.left old.mark few) ∙ ap (λ (w : Why). Err (because w)) (sym is)
 
--- the reason why bits run short stays
-pub passes_short : (text : List Bool) (old new : Cursor) → Passes text old new → new.mark.short ≡ old.mark.short
-passes_short text old new p = ap (λ (k : Mark). k.short) (p.1) ∙ ap (λ (k : Mark). k.short) (strip_fresh (past text old.mark)) ∙ past-short text old.mark
+-- ---- and with the checks, if they go on
 
--- where the checks began anew before the first of them
-pub passes_from : (text : List Bool) (old now new : Cursor) → now.left ≡ old.left → now.mark ≡ fresh old.mark → new.mark.unread ≡ 0 → Passes text now new → Passes text old new
-passes_from text old now new left mark z p =
-    let k = past text now.mark in
-    let same : strip k ≡ strip (past text old.mark) = strip_past text now.mark old.mark (ap strip mark ∙ strip_fresh old.mark) in
-    let whole : k.unread ≡ 0 = sym (ap (λ (n : Mark). n.unread) (strip_fresh k)) ∙ ap (λ (n : Mark). n.unread) (sym (p.1)) ∙ z in
-    (sym left ∙ p.0, p.1 ∙ fresh_same k (past text old.mark) same whole)
+pub fills_zero : (checked : Bool) (m k : Mark) → m.unread ≡ 0 → k ≡ marked checked m → k.unread ≡ 0
+fills_zero true m k z e = ap (λ (n : Mark). n.unread) e ∙ z
+fills_zero false m k z e = ap (λ (n : Mark). n.unread) e ∙ ap (λ (n : Mark). n.unread) (strip_fresh m) ∙ z
 
--- the checks begin anew at a whole byte
-pub passes_zero : (m k : Mark) → m.unread ≡ 0 → k ≡ fresh m → k.unread ≡ 0
-passes_zero m k z e = ap (λ (n : Mark). n.unread) e ∙ ap (λ (n : Mark). n.unread) (strip_fresh m) ∙ z
+pub fills_more : (checked : Bool) (xs ys zs : List ℕ) (old now mid new : Cursor) → zs ≡ xs ++ ys → Fills checked (bits_of xs) old now → Consumes (bits_of ys) now mid → mid.mark.unread ≡ 0 → new.left ≡ mid.left
+    → new.mark ≡ marked checked mid.mark → Fills checked (bits_of zs) old new
+fills_more true xs ys zs old now mid new e a b z left mark =
+    let all = consumes_more xs ys zs old now mid e a b in
+    (all.0 ∙ ap (λ bs. bits_of zs ++ bs) (sym left), mark ∙ all.1)
+fills_more false xs ys zs old now mid new e a b z left mark = passes_more xs ys zs old now mid new e a b z left mark
+
+pub fills_short : (checked : Bool) (text : List Bool) (old new : Cursor) → Fills checked text old new → new.mark.short ≡ old.mark.short
+fills_short true text old new p = ap (λ (k : Mark). k.short) (p.1) ∙ past-short text old.mark
+fills_short false text old new p = ap (λ (k : Mark). k.short) (p.1) ∙ ap (λ (k : Mark). k.short) (strip_fresh (past text old.mark)) ∙ past-short text old.mark
 
 -- none more
-pub passes_still : (n : ℕ) (xs ys zs : List ℕ) (old now new : Cursor) → n ≡ 0 → zs ≡ xs ++ take n ys → Passes (bits_of xs) old now → Consumes (bits_of (take n ys)) now new → Passes (bits_of zs) old new
-passes_still zero xs ys zs old now new z e p c =
+pub fills_still : (checked : Bool) (n : ℕ) (xs ys zs : List ℕ) (old now new : Cursor) → n ≡ 0 → zs ≡ xs ++ take n ys → Fills checked (bits_of xs) old now → Consumes (bits_of (take n ys)) now new → Fills checked (bits_of zs) old new
+fills_still checked zero xs ys zs old now new z e p c =
     let same : zs ≡ xs = e ∙ append-nil xs in
-    let here : Passes (bits_of xs) old new = (p.0 ∙ ap (λ bs. bits_of xs ++ bs) (c.0), c.1 ∙ p.1) in
+    let here : Fills checked (bits_of xs) old new = (p.0 ∙ ap (λ bs. bits_of xs ++ bs) (c.0), c.1 ∙ p.1) in
     rw same here
-passes_still (suc n) xs ys zs old now new z e p c = absurd (omega (arith, z))
+fills_still checked (suc n) xs ys zs old now new z e p c = absurd (omega (arith, z))

@@ -6,3 +6,5 @@ pub mod Forms
 pub mod Items
 pub mod Handing
 pub mod Stretches
+pub mod Pulling
+pub mod Unchecked

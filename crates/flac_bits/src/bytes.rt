@@ -66,7 +66,7 @@ pub fn read_unchecked<R: Source>(bits: &mut BitReader<R>, out: &mut [u8]) -> Res
         bits.start_checks();
         return Ok(());
     }
-    let count = bits.take_unchecked(out)?;
+    let count = bits.take_pieces(out, false)?;
     if count < out.len() {
         Err(bits.short())
     } else {

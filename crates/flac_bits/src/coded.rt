@@ -1,34 +1,46 @@
-//! Writing of coded numbers.
+//! Writing of coded numbers, and their length.
 
-ghost use Rattle.std.specs.Prelude.{◌≡◌, ◌≤◌, ◌<◌, ◌+◌, ◌/◌, ◌^◌};
-ghost use Rattle.flac_bits.specs.Coded.{number_spelling, in_bytes, six_bits};
+ghost use Rattle.std.specs.Prelude.{◌≡◌, ◌≤◌, ◌<◌, ◌-◌, ◌*◌, ◌/◌, ◌^◌, cond, nat_eq, length};
+ghost use Rattle.flac_bits.specs.Coded.{number_spelling, six_bits};
 ghost use Rattle.flac_bits.specs.Written.{Writes};
 
 use crate::target::Target;
 use crate::why::Why;
 use crate::writer::BitWriter;
 
-/// The lead byte without the number's own bits, and how many bytes follow it.
-fn form_of(value: u64) -> (u64, u32)
-    requires large { 128 ≤ value }
-    requires small { value < 2 ^ 36 }
-    ensures form { number_spelling value ≡ in_bytes result.0 result.1 value }
-    ensures fits { result.0 + value / 64 ^ result.1 < 256 }
-    ensures few { result.1 ≤ 6 }
+/// How many bytes a number takes as a coded number (RFC 9639, section 9.1.5): 1 to 7.
+///
+/// ```
+/// number_len(127); // 1
+/// number_len(128); // 2
+/// ```
+pub fn number_len(value: u64) -> u32
+    ensures long { length (number_spelling value) ≡ 8 * result }
+    ensures few { (1 ≤ result) × (result ≤ 7) }
 {
-    if value < 1 << 11 {
-        (0xC0, 1)
-    } else if value < 1 << 16 {
-        (0xE0, 2)
-    } else if value < 1 << 21 {
-        (0xF0, 3)
-    } else if value < 1 << 26 {
-        (0xF8, 4)
-    } else if value < 1 << 31 {
-        (0xFC, 5)
+    if value < 0x80 {
+        1
+    } else if value < 0x800 {
+        2
+    } else if value < 0x1_0000 {
+        3
+    } else if value < 0x20_0000 {
+        4
+    } else if value < 0x400_0000 {
+        5
+    } else if value < 0x8000_0000 {
+        6
     } else {
-        (0xFE, 6)
+        7
     }
+}
+
+/// The bits of a lead byte that say how many bytes follow it.
+fn lead_bits(count: u32) -> u64
+    requires { count ≤ 6 }
+    ensures { result ≡ cond (nat_eq count 0) 0 (256 - 128 / 2 ^ count) }
+{
+    if count == 0 { 0 } else { 256 - (128 >> count) }
 }
 
 /// The number without its lowest `groups` groups of six bits.
@@ -70,11 +82,8 @@ pub fn write_number<W: Target>(value: u64, writer: &mut BitWriter<W>) -> Result<
     requires { value < 2 ^ 36 }
     ensures { Writes (number_spelling value) writer.old writer.new result }
 {
-    if value < 128 {
-        return writer.put(8, value);
-    }
-    let (lead, count) = form_of(value);
+    let count = number_len(value) - 1;
     let high = without_groups(value, count);
-    writer.put(8, lead + high)?;
+    writer.put(8, lead_bits(count) + high)?;
     put_groups(writer, count, value)
 }

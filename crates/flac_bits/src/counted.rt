@@ -1,6 +1,6 @@
 //! A source over any reader, and a target over any writer.
 
-ghost use Rattle.std.specs.Prelude.{◌≡◌, ◌<◌, ◌≤◌, ◌+◌, ◌-◌, ℕ, Bool, true, List, [], ◌++◌, length, take, IfOk, OnOk, OnErr, MatchResult, Some, is_some, option_copied, unwrap_or, min, ◌&&◌, nat_lt, ◌^◌};
+ghost use Rattle.std.specs.Prelude.{◌≡◌, ◌<◌, ◌≤◌, ◌+◌, ◌-◌, true, [], ◌++◌, length, take, IfOk, OnOk, OnErr, MatchResult, Some, is_some, option_copied, unwrap_or, min, ◌&&◌, nat_lt, ◌^◌};
 ghost use Rattle.flac_bits.specs.State.{Rises, the_end};
 ghost use Rattle.std.specs.Io.{ReadsAtMost};
 

@@ -1,6 +1,6 @@
 //! A source or a target that fails once, for tests.
 
-ghost use Rattle.std.specs.Prelude.{◌≡◌, ◌<◌, ◌≤◌, ◌+◌, ◌-◌, ◌^◌, ℕ, Bool, true, List, [], ◌++◌, length, take, min, nat_lt, nat_eq, ◌&&◌, cond, IfOk, OnOk, OnErr, IsErr, is_some, None};
+ghost use Rattle.std.specs.Prelude.{◌≡◌, ◌<◌, ◌≤◌, ◌+◌, ◌-◌, ◌^◌, true, [], ◌++◌, length, take, min, nat_lt, nat_eq, ◌&&◌, cond, IfOk, OnOk, OnErr, IsErr, is_some, None};
 ghost use Rattle.flac_bits.specs.State.{Rises};
 ghost use Rattle.flac_bits.specs.Failing.{failed};
 ghost use Rattle.std.specs.Io.{ReadsAtMost};

@@ -1,24 +1,23 @@
 //! The bytes that were pulled from a source, and the word that holds the first bits of them.
 
-ghost use Rattle.std.specs.Prelude.{◌≡◌, ◌≢◌, ◌<◌, ◌≤◌, ◌+◌, ◌-◌, ◌*◌, ◌/◌, ◌%◌, ◌^◌, ◌++◌, ◌∷◌, [], ℕ, List, Bool, true, false, length, take, drop, replicate, min, IfSome, IfOk, IfErr, OnOk, OnErr, Some, None, Ok, is_some, IsTrue, ◌↔◌, get_or, pos};
+ghost use Rattle.std.specs.Prelude.{◌≡◌, ◌≢◌, ◌<◌, ◌≤◌, ◌+◌, ◌-◌, ◌*◌, ◌/◌, ◌%◌, ◌^◌, ◌++◌, [], ℕ, List, Bool, true, false, length, take, drop, min, IfSome, Some, None, Ok, IsTrue, ◌↔◌, get_or, pos};
 ghost use Rattle.flac_bits.specs.declared.why.Why.TheVariants.{Truncated};
 ghost use Rattle.flac_bits.specs.Bits.{unsigned, bits_of};
 ghost use Rattle.flac_bits.specs.Meaning.{unary_bits};
-ghost use Rattle.flac_bits.specs.State.{past, Rises};
+ghost use Rattle.flac_bits.specs.State.{past};
 ghost use Rattle.flac_bits.specs.Rice.{IsResidual};
 ghost use Rattle.flac_bits.specs.inner.Stretches.{IsRead};
-ghost use Rattle.flac_bits.specs.Store.{Store, passed, allowed, forbidden, reached, hides_late, reason_of};
-ghost use Rattle.flac_bits.specs.inner.Store.{Takes, Passes, HoldsSame, four_at, seen as seen_bytes, room_behind as room_behind_bytes, Came};
+ghost use Rattle.flac_bits.specs.Store.{Store, passed, allowed, forbidden, hides_late};
+ghost use Rattle.flac_bits.specs.inner.Store.{Takes, Passes, HoldsSame, seen as seen_bytes, room_behind as room_behind_bytes};
+ghost use Rattle.flac_bits.specs.inner.Pulling.{Pulls};
 
+use crate::HOLD;
 use crate::source::Source;
 use crate::stretch::{four_bytes, values_by};
 use crate::sums::{bits_checked8, bits_checked16, both_checked, checked8, checked16};
 use crate::why::Why;
 use crate::word::Word;
 use std::marker::Model;
-
-/// How many bytes are pulled at once, at most.
-pub const HOLD: usize = 4096;
 
 /// An array of bytes, of which some are taken, and a word with the bits that come first. Bytes from `end` to `filled`
 /// are past a fence; `room` is how many more may be pulled up to it, `None` if there is no fence.
@@ -234,23 +233,9 @@ impl Held {
     #[inline(never)]
     pub(crate) fn pull<R: Source>(&mut self, source: &mut R) -> Result<bool, Why>
         requires { (self.old.word ≡ []) × (self.old.bytes ≡ []) }
-        ensures names { R.names source.new ≡ R.names source.old }
-        ensures mark { self.new.mark ≡ self.old.mark }
-        ensures word { self.new.word ≡ [] }
-        ensures ok { IfOk result (λ _. (R.known source.old ≡ true → R.known source.new ≡ true) × (R.errors source.new ≡ R.errors source.old) × (R.raised source.new ≡ R.raised source.old)
-            × (R.most source.new + length self.new.bytes + length self.new.fence.hidden ≤ R.most source.old + length self.old.fence.hidden)
-            × (R.known source.old ≡ true → Came self.old.fence (R.coming source.old) self.new.bytes self.new.fence (R.coming source.new))) }
+        ensures pulls { Pulls R.Source self.old self.new source.old source.new result }
         ensures more { result ≡ Ok true → 0 < length self.new.bytes }
-        ensures over { result ≡ Ok false → R.known source.old ≡ true
-            → (allowed self.old.fence.room (R.coming source.old) ≡ []) × (reason_of (reached self.old.fence.room (R.coming source.old)) (R.behind source.old) ≡ Why.Read → ⊥) }
-        ensures kept { R.errors source.old ≤ R.errors source.new }
-        ensures foretold { R.known source.old ≡ true → R.errors source.new ≡ R.errors source.old → R.behind source.new ≡ R.behind source.old }
-        ensures risen { OnErr result (Rises (R.raised source.old) (R.raised source.new)) }
-        ensures err { IfErr result (λ e. (e ≡ Why.Read)
-            × (R.known source.old ≡ true → R.errors source.new ≡ R.errors source.old
-            → (allowed self.old.fence.room (R.coming source.old) ≡ []) × (reason_of (reached self.old.fence.room (R.coming source.old)) (R.behind source.old) ≡ Why.Read)
-            × (self.new.fence.hidden ++ forbidden self.new.fence.room (R.coming source.new) ≡ self.old.fence.hidden ++ forbidden self.old.fence.room (R.coming source.old)))
-            × (R.known source.old ≡ true → R.raised source.old < R.raised source.new)) }
+        ensures word { self.new.word ≡ [] }
     {
         match self.room {
             Some(0) => Ok(false),
@@ -262,23 +247,9 @@ impl Held {
     fn pull_more<R: Source>(&mut self, source: &mut R) -> Result<bool, Why>
         requires taken { (self.old.word ≡ []) × (self.old.bytes ≡ []) }
         requires room { self.old.fence.room ≡ Some 0 → ⊥ }
-        ensures names { R.names source.new ≡ R.names source.old }
-        ensures mark { self.new.mark ≡ self.old.mark }
-        ensures word { self.new.word ≡ [] }
-        ensures ok { IfOk result (λ _. (R.known source.old ≡ true → R.known source.new ≡ true) × (R.errors source.new ≡ R.errors source.old) × (R.raised source.new ≡ R.raised source.old)
-            × (R.most source.new + length self.new.bytes + length self.new.fence.hidden ≤ R.most source.old + length self.old.fence.hidden)
-            × (R.known source.old ≡ true → Came self.old.fence (R.coming source.old) self.new.bytes self.new.fence (R.coming source.new))) }
+        ensures pulls { Pulls R.Source self.old self.new source.old source.new result }
         ensures more { result ≡ Ok true → 0 < length self.new.bytes }
-        ensures over { result ≡ Ok false → R.known source.old ≡ true
-            → (allowed self.old.fence.room (R.coming source.old) ≡ []) × (reason_of (reached self.old.fence.room (R.coming source.old)) (R.behind source.old) ≡ Why.Read → ⊥) }
-        ensures kept { R.errors source.old ≤ R.errors source.new }
-        ensures foretold { R.known source.old ≡ true → R.errors source.new ≡ R.errors source.old → R.behind source.new ≡ R.behind source.old }
-        ensures risen { OnErr result (Rises (R.raised source.old) (R.raised source.new)) }
-        ensures err { IfErr result (λ e. (e ≡ Why.Read)
-            × (R.known source.old ≡ true → R.errors source.new ≡ R.errors source.old
-            → (allowed self.old.fence.room (R.coming source.old) ≡ []) × (reason_of (reached self.old.fence.room (R.coming source.old)) (R.behind source.old) ≡ Why.Read)
-            × (self.new.fence.hidden ++ forbidden self.new.fence.room (R.coming source.new) ≡ self.old.fence.hidden ++ forbidden self.old.fence.room (R.coming source.old)))
-            × (R.known source.old ≡ true → R.raised source.old < R.raised source.new)) }
+        ensures word { self.new.word ≡ [] }
     {
         let (check8, check16) = both_checked(
             self.check8,

@@ -11,9 +11,8 @@ mod little;
 mod number;
 mod promises;
 mod reader;
-mod remainders16;
+mod remainders;
 mod remainders32;
-mod remainders8;
 mod rest;
 mod send;
 mod signed;
@@ -27,7 +26,7 @@ mod word;
 mod writer;
 
 pub use bytes::{read_bytes, read_unchecked};
-pub use coded::write_number;
+pub use coded::{number_len, write_number};
 pub use counted::Counted;
 pub use failing::FailAt;
 pub use little::{put_little_32, read_little_32, read_little_64};
@@ -40,3 +39,6 @@ pub use sums::{checks_are_remainders, crc8, crc16, crc32_sum, page_sum};
 pub use target::{Collected, Target};
 pub use why::Why;
 pub use writer::BitWriter;
+
+/// How many bytes a reader or a writer holds at most: what a reader pulls at once, and what a writer sends at once.
+pub(crate) const HOLD: usize = 4096;

@@ -51,7 +51,8 @@ fn continued<R: Source>(bits: &mut BitReader<R>, count: u32, high: u64) -> Resul
 }
 
 /// Reads a coded number of 1 to 7 bytes, as the frame and sample numbers of frame headers are (RFC 9639, section
-/// 9.1.5). The number is below 2^36 if `max_bits` is above 31, and else below 2^31.
+/// 9.1.5). `max_bits` is 31 for a frame number, which is below 2^31, and 36 for a sample number, which is below 2^36.
+/// Above 31 it allows any number that has a form, and up to 31 those below 2^31.
 ///
 /// ```
 /// let mut bits = BitReader::new(Memory::new(&[0xC2, 0x80]));

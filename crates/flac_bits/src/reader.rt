@@ -1,20 +1,20 @@
 //! Reading of bits from a source of bytes.
 
-ghost use Rattle.std.specs.Prelude.{◌≡◌, ◌≢◌, ◌<◌, ◌≤◌, ◌+◌, ◌^◌, ◌-◌, ◌++◌, ◌∷◌, [], ℕ, true, IfOk, IfErr, OnOk, OnErr, ◌*◌, length, take, IfSome, None, Some, Ok, ◌↔◌, false, is_some, get_or, pos};
+ghost use Rattle.std.specs.Prelude.{◌≡◌, ◌≢◌, ◌<◌, ◌≤◌, ◌+◌, ◌^◌, ◌-◌, [], ℕ, true, IfOk, IfErr, OnOk, ◌*◌, length, take, IfSome, None, Some, Ok, false, get_or, pos};
 ghost use Rattle.flac_bits.specs.declared.why.Why.TheVariants.{Truncated};
 ghost use Rattle.flac_bits.specs.Bits.{is_nil};
-ghost use Rattle.flac_bits.specs.Bits.{unsigned, bits_of, bit_value};
-ghost use Rattle.flac_bits.specs.State.{State, Cursor, short_of, with_short, Rises, started, Consumes, without_fence};
+ghost use Rattle.flac_bits.specs.Bits.{unsigned, bits_of};
+ghost use Rattle.flac_bits.specs.State.{State, short_of, started, Consumes, without_fence};
 ghost use Rattle.flac_bits.specs.Fencing.{fence_at, lifted};
-ghost use Rattle.flac_bits.specs.Store.{state_of, left_of, fenced_of, most_of, reason_of, reached};
-ghost use Rattle.flac_bits.specs.inner.Store.{SameBits};
+ghost use Rattle.flac_bits.specs.Store.{state_of};
+ghost use Rattle.flac_bits.specs.inner.Pulling.{Pulls};
 ghost use Rattle.flac_bits.specs.Layout.{next_bit, number_at, zeros_at, align as to_byte, run, and_then};
 ghost use Rattle.std.specs.Prelude.{All};
 ghost use Rattle.flac_bits.specs.Lists.{list_of, behind};
 ghost use Rattle.flac_bits.specs.Rice.{rice, rice_value, IsResidual};
 ghost use Rattle.flac_bits.specs.Signed.{signed_field, FitsBits};
 ghost use Rattle.flac_bits.specs.Reading.{Counts, Gives, Reads};
-ghost use Rattle.flac_bits.specs.Unchecked.{Passes};
+ghost use Rattle.flac_bits.specs.inner.Unchecked.{Fills, started_unless};
 
 use crate::held::Held;
 use crate::signed::{MOST_FOLDED, to_signed, unfolded};
@@ -43,22 +43,8 @@ impl<R: Source> Model for BitReader<R> {
 
 /// Makes sure that the word has at least one bit; false if none is left.
 fn fill<R: Source>(held: &mut Held, source: &mut R) -> Result<bool, Why>
-    ensures names { R.names source.new ≡ R.names source.old }
-    ensures mark { held.new.mark ≡ held.old.mark }
-    ensures ok { IfOk result (λ _. (R.known source.old ≡ true → R.known source.new ≡ true) × (R.errors source.new ≡ R.errors source.old) × (R.raised source.new ≡ R.raised source.old)
-        × (8 * R.most source.new + most_of held.new ≤ 8 * R.most source.old + most_of held.old)
-        × (R.known source.old ≡ true → SameBits held.old (R.coming source.old) held.new (R.coming source.new))) }
+    ensures pulls { Pulls R.Source held.old held.new source.old source.new result }
     ensures more { result ≡ Ok true → 1 ≤ length held.new.word }
-    ensures over { result ≡ Ok false → R.known source.old ≡ true
-        → (left_of held.old (R.coming source.old) ≡ []) × (reason_of (reached held.old.fence.room (R.coming source.old)) (R.behind source.old) ≡ Why.Read → ⊥) }
-    ensures kept { R.errors source.old ≤ R.errors source.new }
-    ensures foretold { R.known source.old ≡ true → R.errors source.new ≡ R.errors source.old → R.behind source.new ≡ R.behind source.old }
-    ensures risen { OnErr result (Rises (R.raised source.old) (R.raised source.new)) }
-    ensures err { IfErr result (λ e. (e ≡ Why.Read)
-        × (R.known source.old ≡ true → R.errors source.new ≡ R.errors source.old
-        → (left_of held.old (R.coming source.old) ≡ []) × (reason_of (reached held.old.fence.room (R.coming source.old)) (R.behind source.old) ≡ Why.Read)
-        × (fenced_of held.new (R.coming source.new) ≡ fenced_of held.old (R.coming source.old)))
-        × (R.known source.old ≡ true → R.raised source.old < R.raised source.new)) }
 {
     if held.ready() > 0 {
         return Ok(true);
@@ -79,23 +65,9 @@ fn fill<R: Source>(held: &mut Held, source: &mut R) -> Result<bool, Why>
 /// whole byte.
 fn refill<R: Source>(held: &mut Held, source: &mut R) -> Result<bool, Why>
     requires { held.old.mark.unread ≡ 0 }
-    ensures names { R.names source.new ≡ R.names source.old }
-    ensures mark { held.new.mark ≡ held.old.mark }
-    ensures ok { IfOk result (λ _. (R.known source.old ≡ true → R.known source.new ≡ true) × (R.errors source.new ≡ R.errors source.old) × (R.raised source.new ≡ R.raised source.old)
-        × (8 * R.most source.new + most_of held.new ≤ 8 * R.most source.old + most_of held.old)
-        × (R.known source.old ≡ true → SameBits held.old (R.coming source.old) held.new (R.coming source.new))) }
+    ensures pulls { Pulls R.Source held.old held.new source.old source.new result }
     ensures more { result ≡ Ok true → 0 < length held.new.bytes }
     ensures word { held.new.word ≡ [] }
-    ensures over { result ≡ Ok false → R.known source.old ≡ true
-        → (left_of held.old (R.coming source.old) ≡ []) × (reason_of (reached held.old.fence.room (R.coming source.old)) (R.behind source.old) ≡ Why.Read → ⊥) }
-    ensures kept { R.errors source.old ≤ R.errors source.new }
-    ensures foretold { R.known source.old ≡ true → R.errors source.new ≡ R.errors source.old → R.behind source.new ≡ R.behind source.old }
-    ensures risen { OnErr result (Rises (R.raised source.old) (R.raised source.new)) }
-    ensures err { IfErr result (λ e. (e ≡ Why.Read)
-        × (R.known source.old ≡ true → R.errors source.new ≡ R.errors source.old
-        → (left_of held.old (R.coming source.old) ≡ []) × (reason_of (reached held.old.fence.room (R.coming source.old)) (R.behind source.old) ≡ Why.Read)
-        × (fenced_of held.new (R.coming source.new) ≡ fenced_of held.old (R.coming source.old)))
-        × (R.known source.old ≡ true → R.raised source.old < R.raised source.new)) }
 {
     held.put_back();
     if !held.is_drained() {
@@ -492,6 +464,22 @@ impl<R: Source> BitReader<R> {
         ensures over { IfOk result (λ n. n < length out.new → self.old.known ≡ true → (self.new.cursor.left ≡ []) × (self.new.cursor.mark.short ≡ Why.Read → ⊥)) }
         ensures cut { IfErr result (λ e. (e ≡ Why.Read) × (self.old.known ≡ true → self.new.errors ≡ self.old.errors → (length self.old.cursor.left < 8 * length out.new) × (self.old.cursor.mark.short ≡ Why.Read))) }
     {
+        self.take_pieces(out, true)
+    }
+
+    /// What [`BitReader::take_bytes`] does, if the checks go on over these bytes (`checked`). If not, the checks restart
+    /// after each piece, so that none is computed of these bytes.
+    pub(crate) fn take_pieces(&mut self, out: &mut [u8], checked: bool) -> Result<usize, Why>
+        requires { self.old.cursor.mark.unread ≡ 0 }
+        ensures bound { IfOk result (λ n. n ≤ length out.new) }
+        ensures spends { IfOk result (λ n. self.new.most + 8 * n ≤ self.old.most) }
+        ensures whole { OnOk result (self.new.cursor.mark.unread ≡ 0) }
+        ensures counts { Counts self.old self.new result }
+        ensures taken { IfOk result (λ n. self.old.known ≡ true → Fills checked (bits_of (take n out.new)) self.old.cursor self.new.cursor) }
+        ensures over { IfOk result (λ n. n < length out.new → self.old.known ≡ true → (self.new.cursor.left ≡ []) × (self.new.cursor.mark.short ≡ Why.Read → ⊥)) }
+        ensures cut { IfErr result (λ e. (e ≡ Why.Read) × (self.old.known ≡ true → self.new.errors ≡ self.old.errors → (length self.old.cursor.left < 8 * length out.new) × (self.old.cursor.mark.short ≡ Why.Read))) }
+    {
+        self.start_unless(checked);
         let mut done = 0;
         while done < out.len() {
             match self.some_bytes(&mut out[done..]) {
@@ -499,33 +487,18 @@ impl<R: Source> BitReader<R> {
                 Ok(n) => done += n,
                 Err(why) => return Err(why),
             }
+            self.start_unless(checked);
         }
         Ok(done)
     }
 
-    /// What [`BitReader::take_bytes`] does, but the checks restart after each piece, so that none is computed of these
-    /// bytes.
-    pub(crate) fn take_unchecked(&mut self, out: &mut [u8]) -> Result<usize, Why>
-        requires { self.old.cursor.mark.unread ≡ 0 }
-        ensures bound { IfOk result (λ n. n ≤ length out.new) }
-        ensures spends { IfOk result (λ n. self.new.most + 8 * n ≤ self.old.most) }
-        ensures whole { OnOk result (self.new.cursor.mark.unread ≡ 0) }
-        ensures counts { Counts self.old self.new result }
-        ensures taken { IfOk result (λ n. self.old.known ≡ true → Passes (bits_of (take n out.new)) self.old.cursor self.new.cursor) }
-        ensures over { IfOk result (λ n. n < length out.new → self.old.known ≡ true → (self.new.cursor.left ≡ []) × (self.new.cursor.mark.short ≡ Why.Read → ⊥)) }
-        ensures cut { IfErr result (λ e. (e ≡ Why.Read) × (self.old.known ≡ true → self.new.errors ≡ self.old.errors → (length self.old.cursor.left < 8 * length out.new) × (self.old.cursor.mark.short ≡ Why.Read))) }
+    /// Restarts both checks, unless they are to go on.
+    fn start_unless(&mut self, checked: bool)
+        ensures { self.new ≡ started_unless checked self.old }
     {
-        self.start_checks();
-        let mut filled = 0;
-        while filled < out.len() {
-            match self.some_bytes(&mut out[filled..]) {
-                Ok(0) => return Ok(filled),
-                Ok(n) => filled += n,
-                Err(why) => return Err(why),
-            }
+        if !checked {
             self.start_checks();
         }
-        Ok(filled)
     }
 
     /// The error for a field that needs more bits than are left, if the source did not fail: [`Why::FrameTooLong`] at a

@@ -1,6 +1,6 @@
 //! Signed numbers made of unsigned ones.
 
-ghost use Rattle.std.specs.Prelude.{◌≡◌, ◌<◌, ◌≤◌, ◌^◌, ◌-◌, ◌+◌, ◌*◌, ◌/◌};
+ghost use Rattle.std.specs.Prelude.{◌≡◌, ◌<◌, ◌≤◌, ◌^◌, ◌-◌, ◌+◌, ◌/◌};
 ghost use Rattle.flac_bits.specs.Rice.{unfolded as unfolded_value, IsResidual};
 ghost use Rattle.flac_bits.specs.Signed.{to_signed as signed_value, FitsBits};
 

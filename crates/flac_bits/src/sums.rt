@@ -1,11 +1,11 @@
 //! Checksums of bytes.
 
-ghost use Rattle.std.specs.Prelude.{◌≡◌, ◌<◌, ◌≤◌, ◌/◌, ◌^◌, length};
+ghost use Rattle.std.specs.Prelude.{◌≡◌, ◌<◌, ◌≤◌, ◌/◌, ◌%◌, ◌^◌, length};
 ghost use Rattle.flac_bits.specs.Bits.{unsigned, bits_of};
 ghost use Rattle.flac_bits.specs.State.{feed};
 ghost use Rattle.flac_bits.specs.Check.{fed, remainder, ChecksAreRemainders};
 
-use crate::{remainders8, remainders16, remainders32};
+use crate::{remainders, remainders32};
 
 /// The CRC-8 after one more bit.
 fn fed8(check: u8, bit: bool) -> u8
@@ -57,121 +57,96 @@ pub(crate) fn bits_checked16(check: u16, value: u8, n: u32) -> u16
     check
 }
 
-/// The CRC-8 after one more byte.
+/// The CRC-8 of an entry of the tables of both.
 #[inline(always)]
-fn byte_checked8(check: u8, byte: u8) -> u8
-    ensures { result ≡ fed 8 7 check (unsigned 8 byte) }
+fn crc8_of(entry: u32) -> u8
+    ensures { result ≡ entry % 256 }
 {
-    remainders8::BEHIND_0[(check ^ byte) as usize]
+    (entry % 256) as u8
 }
 
-/// The CRC-8 after eight more bytes, by a table for each place.
+/// The CRC-16 of such an entry.
 #[inline(always)]
-fn eight_checked8(check: u8, bytes: &[u8]) -> u8
+fn crc16_of(entry: u32) -> u16
+    ensures { result ≡ entry / 65536 }
+{
+    (entry >> 16) as u16
+}
+
+/// Both checks after one more byte.
+#[inline(always)]
+fn byte_checked(checks: (u8, u16), byte: u8) -> (u8, u16)
+    ensures eight { result.0 ≡ fed 8 7 checks.0 (unsigned 8 byte) }
+    ensures sixteen { result.1 ≡ fed 16 32773 checks.1 (unsigned 8 byte) }
+{
+    let (check8, check16) = checks;
+    let narrow = remainders::BEHIND_0[(check8 ^ byte) as usize];
+    let wide = remainders::BEHIND_0[((check16 >> 8) as u8 ^ byte) as usize];
+    (crc8_of(narrow), (check16 << 8) ^ crc16_of(wide))
+}
+
+/// Both checks after eight more bytes, by a table for each place. Their registers meet the first bytes alone, so one
+/// look-up for both is enough for each byte from the third on.
+#[inline(always)]
+fn eight_checked(checks: (u8, u16), bytes: &[u8]) -> (u8, u16)
     requires { length bytes.now ≡ 8 }
-    ensures { result ≡ fed 8 7 check (bits_of bytes.now) }
+    ensures eight { result.0 ≡ fed 8 7 checks.0 (bits_of bytes.now) }
+    ensures sixteen { result.1 ≡ fed 16 32773 checks.1 (bits_of bytes.now) }
 {
-    remainders8::BEHIND_7[(check ^ bytes[0]) as usize]
-        ^ (remainders8::BEHIND_6[bytes[1] as usize]
-            ^ (remainders8::BEHIND_5[bytes[2] as usize]
-                ^ (remainders8::BEHIND_4[bytes[3] as usize]
-                    ^ (remainders8::BEHIND_3[bytes[4] as usize]
-                        ^ (remainders8::BEHIND_2[bytes[5] as usize]
-                            ^ (remainders8::BEHIND_1[bytes[6] as usize]
-                                ^ remainders8::BEHIND_0[bytes[7] as usize]))))))
+    let (check8, check16) = checks;
+    let rest = remainders::BEHIND_5[bytes[2] as usize]
+        ^ (remainders::BEHIND_4[bytes[3] as usize]
+            ^ (remainders::BEHIND_3[bytes[4] as usize]
+                ^ (remainders::BEHIND_2[bytes[5] as usize]
+                    ^ (remainders::BEHIND_1[bytes[6] as usize]
+                        ^ remainders::BEHIND_0[bytes[7] as usize]))));
+    let narrow = remainders::BEHIND_7[(check8 ^ bytes[0]) as usize]
+        ^ (remainders::BEHIND_6[bytes[1] as usize] ^ rest);
+    let wide = remainders::BEHIND_7[((check16 >> 8) as u8 ^ bytes[0]) as usize]
+        ^ (remainders::BEHIND_6[((check16 % 256) as u8 ^ bytes[1]) as usize] ^ rest);
+    (crc8_of(narrow), crc16_of(wide))
 }
 
-/// The CRC-8 after more bytes, byte by byte.
+/// Both checks after more bytes, byte by byte.
 #[tactic(auto, unfolding(crate::specs::Check::fed))]
-fn each_checked8(check: u8, bytes: &[u8]) -> u8
-    ensures { result ≡ fed 8 7 check (bits_of bytes.now) }
+fn each_checked(checks: (u8, u16), bytes: &[u8]) -> (u8, u16)
+    ensures eight { result.0 ≡ fed 8 7 checks.0 (bits_of bytes.now) }
+    ensures sixteen { result.1 ≡ fed 16 32773 checks.1 (bits_of bytes.now) }
 {
-    let mut check = check;
+    let mut checks = checks;
     for i in 0..bytes.len() {
-        check = byte_checked8(check, bytes[i]);
+        checks = byte_checked(checks, bytes[i]);
     }
-    check
+    checks
 }
 
-/// The CRC-8 after more bytes: generator x^8 + x^2 + x + 1.
-#[tactic(auto, unfolding(crate::specs::Check::fed))]
-pub(crate) fn checked8(check: u8, bytes: &[u8]) -> u8
-    ensures { result ≡ fed 8 7 check (bits_of bytes.now) }
-{
-    let eights = bytes.len() / 8;
-    let mut check = check;
-    for i in 0..eights {
-        check = eight_checked8(check, &bytes[8 * i..8 * i + 8]);
-    }
-    each_checked8(check, &bytes[8 * eights..])
-}
-
-/// The CRC-16 after one more byte.
-#[inline(always)]
-fn byte_checked16(check: u16, byte: u8) -> u16
-    ensures { result ≡ fed 16 32773 check (unsigned 8 byte) }
-{
-    (check << 8) ^ remainders16::BEHIND_0[((check >> 8) as u8 ^ byte) as usize]
-}
-
-/// The CRC-16 after eight more bytes, by a table for each place.
-#[inline(always)]
-fn eight_checked16(check: u16, bytes: &[u8]) -> u16
-    requires { length bytes.now ≡ 8 }
-    ensures { result ≡ fed 16 32773 check (bits_of bytes.now) }
-{
-    remainders16::BEHIND_7[((check >> 8) as u8 ^ bytes[0]) as usize]
-        ^ (remainders16::BEHIND_6[((check % 256) as u8 ^ bytes[1]) as usize]
-            ^ (remainders16::BEHIND_5[bytes[2] as usize]
-                ^ (remainders16::BEHIND_4[bytes[3] as usize]
-                    ^ (remainders16::BEHIND_3[bytes[4] as usize]
-                        ^ (remainders16::BEHIND_2[bytes[5] as usize]
-                            ^ (remainders16::BEHIND_1[bytes[6] as usize]
-                                ^ remainders16::BEHIND_0[bytes[7] as usize]))))))
-}
-
-/// The CRC-16 after more bytes, byte by byte.
-#[tactic(auto, unfolding(crate::specs::Check::fed))]
-fn each_checked16(check: u16, bytes: &[u8]) -> u16
-    ensures { result ≡ fed 16 32773 check (bits_of bytes.now) }
-{
-    let mut check = check;
-    for i in 0..bytes.len() {
-        check = byte_checked16(check, bytes[i]);
-    }
-    check
-}
-
-/// The CRC-16 after more bytes: generator x^16 + x^15 + x^2 + 1.
-#[tactic(auto, unfolding(crate::specs::Check::fed))]
-pub(crate) fn checked16(check: u16, bytes: &[u8]) -> u16
-    ensures { result ≡ fed 16 32773 check (bits_of bytes.now) }
-{
-    let eights = bytes.len() / 8;
-    let mut check = check;
-    for i in 0..eights {
-        check = eight_checked16(check, &bytes[8 * i..8 * i + 8]);
-    }
-    each_checked16(check, &bytes[8 * eights..])
-}
-
-/// Both checks after more bytes, in one pass over them.
+/// The CRC-8 (generator x^8 + x^2 + x + 1) and the CRC-16 (x^16 + x^15 + x^2 + 1) after more bytes, in one pass over
+/// them.
 #[tactic(auto, unfolding(crate::specs::Check::fed))]
 pub(crate) fn both_checked(check8: u8, check16: u16, bytes: &[u8]) -> (u8, u16)
     ensures eight { result.0 ≡ fed 8 7 check8 (bits_of bytes.now) }
     ensures sixteen { result.1 ≡ fed 16 32773 check16 (bits_of bytes.now) }
 {
     let eights = bytes.len() / 8;
-    let mut narrow = check8;
-    let mut wide = check16;
+    let mut checks = (check8, check16);
     for i in 0..eights {
-        narrow = eight_checked8(narrow, &bytes[8 * i..8 * i + 8]);
-        wide = eight_checked16(wide, &bytes[8 * i..8 * i + 8]);
+        checks = eight_checked(checks, &bytes[8 * i..8 * i + 8]);
     }
-    (
-        each_checked8(narrow, &bytes[8 * eights..]),
-        each_checked16(wide, &bytes[8 * eights..]),
-    )
+    each_checked(checks, &bytes[8 * eights..])
+}
+
+/// The CRC-8 after more bytes.
+pub(crate) fn checked8(check: u8, bytes: &[u8]) -> u8
+    ensures { result ≡ fed 8 7 check (bits_of bytes.now) }
+{
+    both_checked(check, 0, bytes).0
+}
+
+/// The CRC-16 after more bytes.
+pub(crate) fn checked16(check: u16, bytes: &[u8]) -> u16
+    ensures { result ≡ fed 16 32773 check (bits_of bytes.now) }
+{
+    both_checked(0, check, bytes).1
 }
 
 /// The page checksum after one more byte.
@@ -211,7 +186,8 @@ fn each_checked32(check: u32, bytes: &[u8]) -> u32
 }
 
 /// Continues the checksum of an Ogg page, `check` so far, over more bytes (RFC 3533, section 6): generator 04C11DB7, no
-/// reflection. It starts from 0.
+/// reflection. It starts from 0. It is for a page whose parts are in several places; [`page_sum`] takes one in one
+/// place.
 #[tactic(auto, unfolding(crate::specs::Check::fed))]
 pub fn crc32_sum(check: u32, bytes: &[u8]) -> u32
     ensures { result ≡ fed 32 79764919 check (bits_of bytes.now) }
@@ -224,7 +200,8 @@ pub fn crc32_sum(check: u32, bytes: &[u8]) -> u32
     each_checked32(check, &bytes[8 * eights..])
 }
 
-/// The CRC-8 of bytes, as a frame header has it (RFC 9639, section 9.1.8): generator x^8 + x^2 + x + 1, from 0.
+/// The CRC-8 of bytes, as a frame header has it (RFC 9639, section 9.1.8): generator x^8 + x^2 + x + 1, from 0. It is
+/// for bytes that are in memory: a reader and a writer report that of the bits that went through them.
 #[tactic(auto, using(crate::proofs::Check::fed_from_zero))]
 pub fn crc8(bytes: &[u8]) -> u8
     ensures { result ≡ remainder 8 7 (bits_of bytes.now) }
@@ -232,7 +209,8 @@ pub fn crc8(bytes: &[u8]) -> u8
     checked8(0, bytes)
 }
 
-/// The CRC-16 of bytes, as a frame has it (RFC 9639, section 9.3): generator x^16 + x^15 + x^2 + 1, from 0.
+/// The CRC-16 of bytes, as a frame has it (RFC 9639, section 9.3): generator x^16 + x^15 + x^2 + 1, from 0. It is for
+/// bytes that are in memory, as [`crc8`] is.
 #[tactic(auto, using(crate::proofs::Check::fed_from_zero))]
 pub fn crc16(bytes: &[u8]) -> u16
     ensures { result ≡ remainder 16 32773 (bits_of bytes.now) }

@@ -1,6 +1,6 @@
 //! Bits that were written and not sent yet.
 
-ghost use Rattle.std.specs.Prelude.{◌≡◌, ◌<◌, ◌≤◌, ◌+◌, ◌-◌, ◌*◌, ◌%◌, ◌^◌, ◌++◌, [], ℕ, List, Bool, true, false, length, take, drop, min, IfErr};
+ghost use Rattle.std.specs.Prelude.{◌≡◌, ◌<◌, ◌≤◌, ◌+◌, ◌-◌, ◌%◌, ◌^◌, ◌++◌, [], true, false, length, take, drop, min, IfErr};
 ghost use Rattle.std.specs.Int.{bytes_high_first};
 ghost use Rattle.flac_bits.specs.declared.why.Why.TheVariants.{Truncated};
 ghost use Rattle.flac_bits.specs.Bits.{unsigned, bits_of};
@@ -8,15 +8,13 @@ ghost use Rattle.flac_bits.specs.State.{past};
 ghost use Rattle.flac_bits.specs.Unsent.{Unsent, Puts, KeepsBits};
 ghost use Rattle.flac_bits.specs.Sending.{Sends};
 
+use crate::HOLD;
 use crate::rest::Rest;
 use crate::send::send_all;
-use crate::sums::{checked8, checked16};
+use crate::sums::{both_checked, checked8, checked16};
 use crate::target::Target;
 use crate::why::Why;
 use std::marker::Model;
-
-/// How many bytes are held at most.
-const HOLD: usize = 4096;
 
 /// An array of whole bytes, and the bits after them.
 #[derive(Drop)]
@@ -192,8 +190,13 @@ impl Unsent {
         ensures write { IfErr result (λ e. e ≡ Why.Write) }
     {
         send_all(target, &self.bytes[..self.end])?;
-        self.check8 = checked8(self.check8, &self.bytes[self.from..self.end]);
-        self.check16 = checked16(self.check16, &self.bytes[self.from..self.end]);
+        let (check8, check16) = both_checked(
+            self.check8,
+            self.check16,
+            &self.bytes[self.from..self.end],
+        );
+        self.check8 = check8;
+        self.check16 = check16;
         self.before = self.before.saturating_add(self.end as u64);
         self.from = 0;
         self.end = 0;

@@ -12,16 +12,16 @@ returns-then-count-out-clause-reads g c = λ known same.
     let got = c.in_ok-count.ensures in
     let n = c.in_ok-count.count in
     let lt = c.if-count-out.true in
-    let over = got.over (omega (arith, lt, c.take_unchecked.auto.out)) known in
-    missing_anew (take n c.take_unchecked.new.out) (length c.args.out.now) c.short.result c.args.bits.now.cursor c.take_unchecked.new.self.cursor (omega (arith, lt, length-take {A = ℕ} n c.take_unchecked.new.out, c.take_unchecked.auto.out))
+    let over = got.over (omega (arith, lt, c.take_pieces.auto.out)) known in
+    missing_anew (take n c.take_pieces.new.out) (length c.args.out.now) c.short.result c.args.bits.now.cursor c.take_pieces.new.self.cursor (omega (arith, lt, length-take {A = ℕ} n c.take_pieces.new.out, c.take_pieces.auto.out))
     over.0 (c.short.ensures.short (got.counts.0 known) over.0 over.1) (got.taken known)
 
 pub returns-else-count-out-clause-reads : goal.returns-else-count-out-clause-reads
 returns-else-count-out-clause-reads g c = λ known same.
     let got = c.in_ok-count.ensures in
-    let xs = c.take_unchecked.new.out in
-    let all : take c.in_ok-count.count xs ≡ xs = take_all c.in_ok-count.count xs (omega (arith, c.if-count-out.false, c.take_unchecked.auto.out)) in
-    exact_anew xs (length c.args.out.now) c.args.bits.now.cursor c.take_unchecked.new.self.cursor c.take_unchecked.auto.out (λ k lt. let f : Fits w8 (get_or xs k 0) = c.type_inv.out k in Fits-lt-pow f) (let P : List ℕ → Type 0 = λ ys. Passes (bits_of ys) c.args.bits.now.cursor c.take_unchecked.new.self.cursor in subst P all (got.taken known))
+    let xs = c.take_pieces.new.out in
+    let all : take c.in_ok-count.count xs ≡ xs = take_all c.in_ok-count.count xs (omega (arith, c.if-count-out.false, c.take_pieces.auto.out)) in
+    exact_anew xs (length c.args.out.now) c.args.bits.now.cursor c.take_pieces.new.self.cursor c.take_pieces.auto.out (λ k lt. let f : Fits w8 (get_or xs k 0) = c.type_inv.out k in Fits-lt-pow f) (let P : List ℕ → Type 0 = λ ys. Passes (bits_of ys) c.args.bits.now.cursor c.take_pieces.new.self.cursor in subst P all (got.taken known))
 
 pub returns-in_err-count-clause-reads : goal.returns-in_err-count-clause-reads
 returns-in_err-count-clause-reads g c =
@@ -29,4 +29,4 @@ returns-in_err-count-clause-reads g c =
     let cut = c.in_err-count.ensures.cut in
     rw (p.1, p.2) (λ known same.
     let few = cut.1 known same in
-    cut_anew (length c.args.out.now) _ c.args.bits.now.cursor (omega (arith, few.0, c.take_unchecked.auto.out)) (cut.0 ∙ sym few.1))
+    cut_anew (length c.args.out.now) _ c.args.bits.now.cursor (omega (arith, few.0, c.take_pieces.auto.out)) (cut.0 ∙ sym few.1))

@@ -10,16 +10,16 @@ loop-i-preserved c =
     let i = c.loop-i.i in
     let bytes = c.args.bytes.now in
     record {
-      eight = c.eight_checked8-narrow.ensures ∙ ap (λ k. fed 8 7 k (bits_of (slice_range bytes (8 * i) (8 * i + 8)))) c.loop-i.invariant.eight ∙ sym (fed_eight 8 7 c.args.check8 i bytes (omega (arith, c.loop-i-test.true)));
-      sixteen = c.eight_checked16-wide.ensures ∙ ap (λ k. fed 16 32773 k (bits_of (slice_range bytes (8 * i) (8 * i + 8)))) c.loop-i.invariant.sixteen ∙ sym (fed_eight 16 32773 c.args.check16 i bytes (omega (arith, c.loop-i-test.true)));
+      eight = c.eight_checked-checks.ensures.eight ∙ ap (λ k. fed 8 7 k (bits_of (slice_range bytes (8 * i) (8 * i + 8)))) c.loop-i.invariant.eight ∙ sym (fed_eight 8 7 c.args.check8 i bytes (omega (arith, c.loop-i-test.true)));
+      sixteen = c.eight_checked-checks.ensures.sixteen ∙ ap (λ k. fed 16 32773 k (bits_of (slice_range bytes (8 * i) (8 * i + 8)))) c.loop-i.invariant.sixteen ∙ sym (fed_eight 16 32773 c.args.check16 i bytes (omega (arith, c.loop-i-test.true)));
     }
 
 pub returns-clause-eight : goal.returns-clause-eight
 returns-clause-eight c =
     let bytes = c.args.bytes.now in
-    c.each_checked8.ensures ∙ ap (λ k. fed 8 7 k (bits_of (slice_range bytes (8 * (length bytes / 8)) (length bytes)))) c.loop-i.invariant.eight ∙ fed_rest 8 7 c.args.check8 c.loop-i.i bytes (omega (arith, c.loop-i-test.false, c.loop-i.auto.i-end))
+    c.each_checked.ensures.eight ∙ ap (λ k. fed 8 7 k (bits_of (slice_range bytes (8 * (length bytes / 8)) (length bytes)))) c.loop-i.invariant.eight ∙ fed_rest 8 7 c.args.check8 c.loop-i.i bytes (omega (arith, c.loop-i-test.false, c.loop-i.auto.i-end))
 
 pub returns-clause-sixteen : goal.returns-clause-sixteen
 returns-clause-sixteen c =
     let bytes = c.args.bytes.now in
-    c.each_checked16.ensures ∙ ap (λ k. fed 16 32773 k (bits_of (slice_range bytes (8 * (length bytes / 8)) (length bytes)))) c.loop-i.invariant.sixteen ∙ fed_rest 16 32773 c.args.check16 c.loop-i.i bytes (omega (arith, c.loop-i-test.false, c.loop-i.auto.i-end))
+    c.each_checked.ensures.sixteen ∙ ap (λ k. fed 16 32773 k (bits_of (slice_range bytes (8 * (length bytes / 8)) (length bytes)))) c.loop-i.invariant.sixteen ∙ fed_rest 16 32773 c.args.check16 c.loop-i.i bytes (omega (arith, c.loop-i-test.false, c.loop-i.auto.i-end))

@@ -1,90 +1,110 @@
-use Rattle.std.proofs.Common.{◌≡◌, take, refl, sym, ap, ◌∙◌, arith}
+use Rattle.std.proofs.Common.{◌≡◌, [], take, drop, refl, sym, ap, ◌∙◌, arith}
+use Rattle.flac_bits.specs.Bits.{bits_of}
 use Rattle.flac_bits.specs.Store.{Store}
 use Rattle.flac_bits.specs.inner.Store.{seen}
 use Rattle.flac_bits.proofs.Marks.{pulled_mark}
+use Rattle.flac_bits.proofs.Standing.{came_bits, came_most, none_left}
 use Rattle.std.proofs.lemmas.List.{length-take, length-drop}
 use Rattle.flac_bits.proofs.Coming.{came_is, came_none, hides_none, none_allowed, none_forbidden, ends_short, foretold, not_foretold, seen_fits}
 use Rattle.flac_bits.proofs.held.Held.pull_more.Goals as goal
 
-pub returns-in-Ok-eq0-clause-mark : goal.returns-in-Ok-eq0-clause-mark
-returns-in-Ok-eq0-clause-mark g c =
+pub returns-in-Ok-eq0-clause-pulls : goal.returns-in-Ok-eq0-clause-pulls
+returns-in-Ok-eq0-clause-pulls g c =
     let inv = c.self.invariant in
+    let got = c.in-Ok-eq0.ensures in
+    let zero : c.in-Ok-eq0.field-0 ≡ 0 = c.in-Ok-eq0.field-0-test in
+    let room = c.self.inside.room in
+    let old = c.args.self.now in
+    let coming = g.R.Source.coming c.args.source.now in
+    let behind = g.R.Source.behind c.args.source.now in
     let none = ap (λ (s : Store). s.word) c.self.view_is ∙ c.requires.taken.0 in
     let out = ap (λ (s : Store). s.bytes) c.self.view_is ∙ c.requires.taken.1 in
-    pulled_mark c.self.inside.bytes c.self.inside.from c.self.inside.place c.self.inside.end c.self.inside.before c.self.inside.check8 c.self.inside.check16 _ _ _ c.self.inside.word _ inv.0 inv.1 (omega (arith, inv.2, c.self.told)) none out c.both_checked-check8.ensures.eight c.both_checked-check8.ensures.sixteen c.saturating_add-self-inside.ensures (ap (λ (s : Store). s.mark) c.self.view_is)
+    let open_fence = hides_none room c.self.inside.end c.self.inside.filled c.self.inside.bytes old.fence (ap (λ (s : Store). s.fence) c.self.view_is) c.requires.room inv.7 (omega (arith, inv.6, inv.4)) in
+    let new : Store = record { word = c.self.inside.word; bytes = []; mark = old.mark; fence = record { room = room; hidden = [] } } in
+    record {
+      names = got.names;
+      mark = pulled_mark c.self.inside.bytes c.self.inside.from c.self.inside.place c.self.inside.end c.self.inside.before c.self.inside.check8 c.self.inside.check16 _ _ _ c.self.inside.word _ inv.0 inv.1 (omega (arith, inv.2, c.self.told)) none out c.both_checked-check8.ensures.eight c.both_checked-check8.ensures.sixteen c.saturating_add-self-inside.ensures (ap (λ (s : Store). s.mark) c.self.view_is);
+      moved = record {
+        known = got.known;
+        errors = got.counted.0;
+        raised = got.counted.1;
+        most = came_most old new _ _ c.requires.taken.0 c.requires.taken.1 none (omega (arith, got.most, zero));
+        same = λ known. came_bits old _ coming _ c.requires.taken.0 c.requires.taken.1 none (rw (← open_fence) (came_none room (g.R.Source.coming c.pull.new.self) coming (rw zero at got.bytes known)));
+      };
+      over = λ is known.
+          let over = got.end zero (omega (arith, c.pull.auto.buf, inv.4)) known in (
+            none_left old coming c.requires.taken.0 c.requires.taken.1 (none_allowed old.fence.room coming over.0),
+            λ read. not_foretold behind.fails over.1 (sym (ends_short old.fence.room coming behind c.requires.room over.0) ∙ read),
+          );
+      kept = got.kept;
+      foretold = got.foretold;
+      read = tt;
+      ended = tt;
+      rises = tt;
+      risen = tt;
+    }
 
-pub returns-in-Ok-clause-mark : goal.returns-in-Ok-clause-mark
-returns-in-Ok-clause-mark g c =
-    let inv = c.self.invariant in
-    let none = ap (λ (s : Store). s.word) c.self.view_is ∙ c.requires.taken.0 in
-    let out = ap (λ (s : Store). s.bytes) c.self.view_is ∙ c.requires.taken.1 in
-    pulled_mark c.self.inside.bytes c.self.inside.from c.self.inside.place c.self.inside.end c.self.inside.before c.self.inside.check8 c.self.inside.check16 _ _ _ c.self.inside.word _ inv.0 inv.1 (omega (arith, inv.2, c.self.told)) none out c.both_checked-check8.ensures.eight c.both_checked-check8.ensures.sixteen c.saturating_add-self-inside.ensures (ap (λ (s : Store). s.mark) c.self.view_is)
-
-pub returns-in-Err-clause-mark : goal.returns-in-Err-clause-mark
-returns-in-Err-clause-mark g c =
-    let inv = c.self.invariant in
-    let none = ap (λ (s : Store). s.word) c.self.view_is ∙ c.requires.taken.0 in
-    let out = ap (λ (s : Store). s.bytes) c.self.view_is ∙ c.requires.taken.1 in
-    pulled_mark c.self.inside.bytes c.self.inside.from c.self.inside.place c.self.inside.end c.self.inside.before c.self.inside.check8 c.self.inside.check16 _ _ _ c.self.inside.word _ inv.0 inv.1 (omega (arith, inv.2, c.self.told)) none out c.both_checked-check8.ensures.eight c.both_checked-check8.ensures.sixteen c.saturating_add-self-inside.ensures (ap (λ (s : Store). s.mark) c.self.view_is)
-
-pub returns-in-Ok-clause-ok : goal.returns-in-Ok-clause-ok
-returns-in-Ok-clause-ok g c =
+pub returns-in-Ok-clause-pulls : goal.returns-in-Ok-clause-pulls
+returns-in-Ok-clause-pulls g c =
     let inv = c.self.invariant in
     let got = c.in-Ok.ensures in
     let n = c.in-Ok.n in
     let buf = c.pull.new.buf in
     let room = c.self.inside.room in
-    let open_fence = hides_none room c.self.inside.end c.self.inside.filled c.self.inside.bytes c.args.self.now.fence (ap (λ (s : Store). s.fence) c.self.view_is) c.requires.room inv.7 (omega (arith, inv.6, inv.4)) in
-    let seen_is = c.seen-self-inside.ensures in
-    let few = seen_fits room n in (
-      got.known,
-      got.counted.0,
-      got.counted.1,
-      rw (← open_fence, seen_is) (omega (arith, got.most, length-take (seen room n) buf, length-drop (seen room n) (take n buf), length-take n buf, few, got.bound.0)),
-      λ known. rw (← open_fence, c.room_behind-self-inside.ensures, seen_is) (came_is room n buf (g.R.Source.coming c.pull.new.self) (g.R.Source.coming c.args.source.now) got.bound.0 (got.bytes known)),
-    )
-
-pub returns-in-Ok-eq0-clause-ok : goal.returns-in-Ok-eq0-clause-ok
-returns-in-Ok-eq0-clause-ok g c =
-    let inv = c.self.invariant in
-    let got = c.in-Ok-eq0.ensures in
-    let zero : c.in-Ok-eq0.field-0 ≡ 0 = c.in-Ok-eq0.field-0-test in
-    let room = c.self.inside.room in
-    let open_fence = hides_none room c.self.inside.end c.self.inside.filled c.self.inside.bytes c.args.self.now.fence (ap (λ (s : Store). s.fence) c.self.view_is) c.requires.room inv.7 (omega (arith, inv.6, inv.4)) in (
-      got.known,
-      got.counted.0,
-      got.counted.1,
-      omega (arith, got.most, zero),
-      λ known. rw (← open_fence) (came_none room (g.R.Source.coming c.pull.new.self) (g.R.Source.coming c.args.source.now) (rw zero at got.bytes known)),
-    )
-
-pub returns-in-Ok-eq0-clause-over : goal.returns-in-Ok-eq0-clause-over
-returns-in-Ok-eq0-clause-over g c = λ is known.
-    let inv = c.self.invariant in
-    let over = c.in-Ok-eq0.ensures.end c.in-Ok-eq0.field-0-test (omega (arith, c.pull.auto.buf, inv.4)) known in
-    let room = c.args.self.now.fence.room in
+    let old = c.args.self.now in
     let coming = g.R.Source.coming c.args.source.now in
-    let behind = g.R.Source.behind c.args.source.now in (
-      none_allowed room coming over.0,
-      λ read. not_foretold behind.fails over.1 (sym (ends_short room coming behind c.requires.room over.0) ∙ read),
-    )
+    let none = ap (λ (s : Store). s.word) c.self.view_is ∙ c.requires.taken.0 in
+    let out = ap (λ (s : Store). s.bytes) c.self.view_is ∙ c.requires.taken.1 in
+    let open_fence = hides_none room c.self.inside.end c.self.inside.filled c.self.inside.bytes old.fence (ap (λ (s : Store). s.fence) c.self.view_is) c.requires.room inv.7 (omega (arith, inv.6, inv.4)) in
+    let seen_is = c.seen-self-inside.ensures in
+    let few = seen_fits room n in
+    let end = c.seen-self-inside.result in
+    let new : Store = record { word = c.self.inside.word; bytes = take end buf; mark = old.mark; fence = record { room = c.room_behind-self-inside.result; hidden = drop end (take n buf) } } in
+    record {
+      names = got.names;
+      mark = pulled_mark c.self.inside.bytes c.self.inside.from c.self.inside.place c.self.inside.end c.self.inside.before c.self.inside.check8 c.self.inside.check16 _ _ _ c.self.inside.word _ inv.0 inv.1 (omega (arith, inv.2, c.self.told)) none out c.both_checked-check8.ensures.eight c.both_checked-check8.ensures.sixteen c.saturating_add-self-inside.ensures (ap (λ (s : Store). s.mark) c.self.view_is);
+      moved = record {
+        known = got.known;
+        errors = got.counted.0;
+        raised = got.counted.1;
+        most = came_most old new _ _ c.requires.taken.0 c.requires.taken.1 none (rw (← open_fence, seen_is) (omega (arith, got.most, length-take (seen room n) buf, length-drop (seen room n) (take n buf), length-take n buf, few, got.bound.0)));
+        same = λ known. came_bits old _ coming _ c.requires.taken.0 c.requires.taken.1 none (rw (← open_fence, c.room_behind-self-inside.ensures, seen_is) (came_is room n buf (g.R.Source.coming c.pull.new.self) coming got.bound.0 (got.bytes known)));
+      };
+      over = λ is. absurd cc;
+      kept = got.kept;
+      foretold = got.foretold;
+      read = tt;
+      ended = tt;
+      rises = tt;
+      risen = tt;
+    }
 
-pub returns-in-Err-clause-err : goal.returns-in-Err-clause-err
-returns-in-Err-clause-err g c =
+pub returns-in-Err-clause-pulls : goal.returns-in-Err-clause-pulls
+returns-in-Err-clause-pulls g c =
     let inv = c.self.invariant in
+    let failed = c.in-Err.ensures in
     let room = c.self.inside.room in
+    let old = c.args.self.now in
     let coming = g.R.Source.coming c.args.source.now in
     let behind = g.R.Source.behind c.args.source.now in
-    let open_fence = hides_none room c.self.inside.end c.self.inside.filled c.self.inside.bytes c.args.self.now.fence (ap (λ (s : Store). s.fence) c.self.view_is) c.requires.room inv.7 (omega (arith, inv.6, inv.4)) in (
-      refl,
-      λ known same.
-          let end = c.in-Err.ensures.failed known same in (
-            none_allowed c.args.self.now.fence.room coming end.0,
-            ends_short c.args.self.now.fence.room coming behind c.requires.room end.0 ∙ foretold behind.fails end.1,
-            rw (← open_fence) (sym (none_forbidden room coming end.0)),
-          ),
-      c.in-Err.ensures.rises,
-    )
-
-pub returns-in-Err-clause-risen : goal.returns-in-Err-clause-risen
-returns-in-Err-clause-risen g c = c.in-Err.ensures.risen
+    let none = ap (λ (s : Store). s.word) c.self.view_is ∙ c.requires.taken.0 in
+    let out = ap (λ (s : Store). s.bytes) c.self.view_is ∙ c.requires.taken.1 in
+    let open_fence = hides_none room c.self.inside.end c.self.inside.filled c.self.inside.bytes old.fence (ap (λ (s : Store). s.fence) c.self.view_is) c.requires.room inv.7 (omega (arith, inv.6, inv.4)) in
+    record {
+      names = failed.names;
+      mark = pulled_mark c.self.inside.bytes c.self.inside.from c.self.inside.place c.self.inside.end c.self.inside.before c.self.inside.check8 c.self.inside.check16 _ _ _ c.self.inside.word _ inv.0 inv.1 (omega (arith, inv.2, c.self.told)) none out c.both_checked-check8.ensures.eight c.both_checked-check8.ensures.sixteen c.saturating_add-self-inside.ensures (ap (λ (s : Store). s.mark) c.self.view_is);
+      moved = tt;
+      over = λ is. absurd cc;
+      kept = failed.kept;
+      foretold = failed.foretold;
+      read = refl;
+      ended = λ known same.
+          let end = failed.failed known same in
+          record {
+            left = none_left old coming c.requires.taken.0 c.requires.taken.1 (none_allowed old.fence.room coming end.0);
+            reason = ends_short old.fence.room coming behind c.requires.room end.0 ∙ foretold behind.fails end.1;
+            fenced = rw (← open_fence) (ap bits_of (sym (none_forbidden room coming end.0)));
+          };
+      rises = failed.rises;
+      risen = failed.risen;
+    }

@@ -16,13 +16,13 @@ returns-clause-over g c = elim c.match-fill.branch [
   | in-Ok w ↦ rw w.result-is (λ known.
       let told = ap (λ (s : State). s.known) c.self.view_is ∙ known in
       let cursor_is = ap (λ (s : State). s.cursor) c.self.view_is in
-      let ok = w.in-Ok.ensures.ok in
-      let bits = ok.4 told in
+      let pulls = w.in-Ok.ensures.pulls in
+      let bits = pulls.moved.same told in
       let ys = g.R.Source.coming c.fill.new.source in
-      let reason = same_reason c.self.inside.held c.fill.new.held (g.R.Source.coming c.self.inside.source) ys _ _ bits (c.fill.ensures.foretold told ok.1) in (
-        rw (bits.left, c.fill.ensures.mark, reason) cursor_is,
+      let reason = same_reason c.self.inside.held c.fill.new.held (g.R.Source.coming c.self.inside.source) ys _ _ bits (pulls.foretold told pulls.moved.errors) in (
+        rw (bits.left, pulls.mark, reason) cursor_is,
         over_is w.in-Ok.more c.fill.new.held.word (bits_of c.fill.new.held.bytes) (bits_of (allowed c.fill.new.held.fence.room ys)) c.args.self.now.cursor.left
-            (λ e. w.in-Ok.ensures.more (ap Ok e)) (λ e. ap (λ (s : Cursor). s.left) (sym cursor_is) ∙ (w.in-Ok.ensures.over (ap Ok e) told).0) (bits.left ∙ ap (λ (s : Cursor). s.left) cursor_is),
+            (λ e. w.in-Ok.ensures.more (ap Ok e)) (λ e. ap (λ (s : Cursor). s.left) (sym cursor_is) ∙ (pulls.over (ap Ok e) told).0) (bits.left ∙ ap (λ (s : Cursor). s.left) cursor_is),
       ))
   | in-Err w ↦ rw w.result-is tt
 ]

@@ -17,27 +17,27 @@ spent n xs old new le passes =
 
 pub returns-in-Ok-true-clause-spends : goal.returns-in-Ok-true-clause-spends
 returns-in-Ok-true-clause-spends g c =
-    omega (arith, spent c.copy.result c.copy.new.out c.refill.new.held c.copy.new.self c.copy.ensures.bound c.copy.ensures.taken, c.in-Ok-true.ensures.ok.3, ap (λ (s : State). s.most) c.self.view_is)
+    omega (arith, spent c.copy.result c.copy.new.out c.refill.new.held c.copy.new.self c.copy.ensures.bound c.copy.ensures.taken, c.in-Ok-true.ensures.pulls.moved.most, ap (λ (s : State). s.most) c.self.view_is)
 
 pub returns-in-Ok-true-clause-whole : goal.returns-in-Ok-true-clause-whole
 returns-in-Ok-true-clause-whole g c =
     let xs = take c.copy.result c.copy.new.out in
-    let z : c.refill.new.held.mark.unread ≡ 0 = ap (λ (m : Mark). m.unread) c.in-Ok-true.ensures.mark ∙ ap (λ (s : State). s.cursor.mark.unread) c.self.view_is ∙ c.requires in
+    let z : c.refill.new.held.mark.unread ≡ 0 = ap (λ (m : Mark). m.unread) c.in-Ok-true.ensures.pulls.mark ∙ ap (λ (s : State). s.cursor.mark.unread) c.self.view_is ∙ c.requires in
     ap (λ (m : Mark). m.unread) (c.copy.ensures.taken.1) ∙ past-unread (bits_of xs) 0 c.refill.new.held.mark z (omega arith) ∙ omega (arith, length-bits_of xs)
 
 pub returns-in-Ok-true-clause-taken : goal.returns-in-Ok-true-clause-taken
 returns-in-Ok-true-clause-taken g c = λ known.
     let told = ap (λ (s : State). s.known) c.self.view_is ∙ known in
-    let ok = c.in-Ok-true.ensures.ok in
-    let bits = ok.4 told in
+    let pulls = c.in-Ok-true.ensures.pulls in
+    let bits = pulls.moved.same told in
     let ys = g.R.Source.coming c.refill.new.source in
     let text = bits_of (take c.copy.result c.copy.new.out) in
     let rest = bits_of (allowed c.refill.new.held.fence.room ys) in
     let why = reason_of (reached c.refill.new.held.fence.room ys) (g.R.Source.behind c.refill.new.source) in
-    let reason = same_reason c.self.inside.held c.refill.new.held (g.R.Source.coming c.self.inside.source) ys _ _ bits (c.in-Ok-true.ensures.foretold told ok.1) in
+    let reason = same_reason c.self.inside.held c.refill.new.held (g.R.Source.coming c.self.inside.source) ys _ _ bits (pulls.foretold told pulls.moved.errors) in
     let left = bits.left ∙ ap (λ (s : State). s.cursor.left) c.self.view_is in
     let marked : with_short why c.refill.new.held.mark ≡ c.args.self.now.cursor.mark =
-    ap (λ w. with_short w c.refill.new.held.mark) reason ∙ ap (with_short _) c.in-Ok-true.ensures.mark ∙ ap (λ (s : State). s.cursor.mark) c.self.view_is in
+    ap (λ w. with_short w c.refill.new.held.mark) reason ∙ ap (with_short _) pulls.mark ∙ ap (λ (s : State). s.cursor.mark) c.self.view_is in
     rw c.copy.ensures.taken.2 (
       sym left ∙ ap (λ bs. bs ++ rest) (c.copy.ensures.taken.0) ∙ append_assoc text (c.copy.new.self.word ++ bits_of c.copy.new.self.bytes) rest,
       ap (with_short why) (c.copy.ensures.taken.1) ∙ sym (past-with_short text why c.refill.new.held.mark) ∙ ap (past text) marked,
