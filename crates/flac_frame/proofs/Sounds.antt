@@ -4,6 +4,8 @@ use Rattle.std.specs.List.{list_all}
 use Rattle.std.proofs.lemmas.List.{length-map}
 use Rattle.std.proofs.lemmas.List.Folds.{list_all-map}
 use Rattle.flac_subframe.specs.Numbers.{fits}
+use Rattle.std.specs.Option.{option_or}
+use Rattle.flac_frame.specs.Setup.{format_fault}
 use Rattle.flac_frame.specs.Audio.{samples_each, as_long, each_small, channels_fault, audio_fault, IsSound}
 use Rattle.flac_frame.specs.declared.setup.SetupFault.{SetupFault}
 use Rattle.flac_frame.specs.declared.setup.SetupFault.TheVariants.{BadRate, BadDepth, BadChannels, LengthsDiffer, SampleTooLarge, TooLong}
@@ -53,6 +55,20 @@ too_long n h = let e : nat_le (2 ^ 36) n ≡ true = grind (arith, nat_tests) in 
 
 pub not_long : (n : ℕ) → n < 2 ^ 36 → cond (nat_le (2 ^ 36) n) (Some TooLong) None ≡ None
 not_long n h = let e : nat_le (2 ^ 36) n ≡ false = grind (arith, nat_tests) in rw e refl
+
+-- the faults of the format come first
+first_faults : (a b d : Bool) (x y z : SetupFault) (rest : Option SetupFault)
+    → cond a (Some x) (cond b (Some y) (cond d (Some z) rest)) ≡ option_or (cond a (Some x) (cond b (Some y) (cond d (Some z) None))) (cond d (Some z) rest)
+first_faults true b d x y z rest = refl
+first_faults false true d x y z rest = refl
+first_faults false false true x y z rest = refl
+first_faults false false false x y z rest = refl
+
+pub by_format : (profile : Profile) (rate bits count : ℕ) (channels : List (List ℤ)) → count ≡ length channels
+    → audio_fault profile rate bits channels ≡ option_or (format_fault profile rate bits count) (channels_fault bits channels)
+unfolding audio_fault channels_fault format_fault
+by_format profile rate bits count channels is =
+    rw is (first_faults (is_none (rate_choice_in profile rate)) (is_none (depth_choice_in profile bits)) (nat_eq (length channels) 0 || nat_lt 8 (length channels)) BadRate BadDepth BadChannels _)
 
 -- a depth that has a code
 subset_small : (d : ℕ) → is_some (depth_choice d) ≡ true → (1 ≤ d) × (d ≤ 32)

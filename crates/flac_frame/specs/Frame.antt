@@ -1,5 +1,5 @@
 -- A frame: its header, a subframe for each channel, and its check (RFC 9639, section 9).
-use Rattle.std.specs.Prelude.{ℕ, zero, suc, ◌+◌, Bool, true, false, not, cond, ◌&&◌, ◌||◌, nat_eq, nat_lt, nat_le, ℤ, List, [], ◌∷◌, ◌++◌, Option, Some, None, ⊤}
+use Rattle.std.specs.Prelude.{ℕ, zero, suc, ◌+◌, ◌*◌, Bool, true, false, not, cond, ◌&&◌, ◌||◌, nat_eq, nat_lt, nat_le, ℤ, List, [], ◌∷◌, ◌++◌, Option, Some, None, ⊤}
 use Rattle.flac_bits.specs.Layout.{Layout, Rule, done, bits, judge, refuse, mark, align, ◌>>=◌}
 use Rattle.flac_bits.specs.declared.why.Why.{Why}
 use Rattle.flac_bits.specs.declared.why.Why.TheVariants.{NotSubset, HeaderMismatch, Sequence, BlockSize, NonzeroPadding, FrameCheck, SampleRange}
@@ -19,6 +19,10 @@ pub record Frame : Type 0 where
   pub number : ℕ
   pub size : ℕ
   pub channels : List (List ℤ)
+
+-- the number of a frame's first sample, by its header: coded there, or as many blocks before it as the number of the frame (section 9.1.5)
+abbrev pub first_sample : (block_size : ℕ) → Frame → ℕ
+first_sample block_size f = cond f.variable f.number (f.number * block_size)
 
 -- what a frame leaves for those behind it: frames are counted, or numbered by their first samples (section 9.1.5)
 abbrev pub left_by : Option Before → (variable : Bool) → (number size : ℕ) → Before

@@ -1,13 +1,13 @@
 //! Samples to be encoded.
 
-ghost use Rattle.std.specs.Prelude.{◌≡◌, ◌≤◌, ◌<◌, ◌^◌, map, length, nat_eq, MatchResult, Some, None};
+ghost use Rattle.std.specs.Prelude.{◌≡◌, ◌≤◌, ◌<◌, ◌+◌, ◌^◌, [], map, length, take, drop, slice_index_or, nat_eq, MatchResult, Some, None};
 ghost use Rattle.std.specs.List.{list_all};
 ghost use Rattle.flac_subframe.specs.Numbers.{fits};
 ghost use Rattle.flac_frame.specs.Audio.{samples_each, channels_fault, audio_fault, IsSound};
 
-use crate::samples::excess;
-use crate::setup::SetupFault;
-use flac_header::{Profile, depth_code_in, rate_code_in};
+use crate::samples::samples_fit;
+use crate::setup::{SetupFault, format_fault};
+use flac_header::Profile;
 use std::marker::Model;
 
 /// Samples to be encoded: the profile of the streams that they may be in, their rate in Hz, the bits per sample, and
@@ -53,37 +53,22 @@ fn are_long(channels: &[Vec<i32>], len: usize) -> bool
     channels.iter().all(|c| c.len() == len)
 }
 
-/// Whether each sample fits into `bits` bits.
-fn small(samples: &[i32], bits: u32) -> bool
-    requires depth { (1 ≤ bits) × (bits ≤ 32) }
-    ensures { result ≡ list_all (fits bits) samples.now }
-{
-    // no exit inside, so that the compiler takes several samples at once
-    let mut wrong = 0;
-    for i in 0..samples.len() {
-        wrong |= excess(samples[i] as i64, bits);
-    }
-    wrong == 0
-}
-
 /// Whether each sample of each channel fits into `bits` bits.
 fn each_small(channels: &[Vec<i32>], bits: u32) -> bool
     requires { (1 ≤ bits) × (bits ≤ 32) }
     ensures { result ≡ list_all (λ c. list_all (fits bits) c.items) channels.now }
 {
-    channels.iter().all(|c| small(c, bits))
+    channels.iter().all(|c| samples_fit(c, bits))
 }
 
-/// Why channels cannot be encoded, or `None` if they can.
+/// Why 1 to 8 channels cannot be encoded, or `None` if they can.
 #[tactic(auto, unfolding(crate::specs::Audio::channels_fault))]
 fn channels_fault(channels: &[Vec<i32>], bits: u32) -> Option<SetupFault>
-    requires { (1 ≤ bits) × (bits ≤ 32) }
+    requires bits { (1 ≤ bits) × (bits ≤ 32) }
+    requires some { 1 ≤ length channels.now }
+    requires few { length channels.now ≤ 8 }
     ensures { result ≡ channels_fault bits (map (λ c. c.items) channels.now) }
 {
-    let count = channels.len();
-    if count < 1 || count > 8 {
-        return Some(SetupFault::BadChannels);
-    }
     let len = samples_each(channels);
     if !are_long(channels, len) {
         return Some(SetupFault::LengthsDiffer);
@@ -98,15 +83,11 @@ fn channels_fault(channels: &[Vec<i32>], bits: u32) -> Option<SetupFault>
 }
 
 /// Why samples cannot be encoded, or `None` if they can.
-#[tactic(auto, unfolding(crate::specs::Audio::audio_fault), using(crate::proofs::Sounds::depth_small))]
 fn fault_of(profile: Profile, rate: u32, bits: u32, channels: &[Vec<i32>]) -> Option<SetupFault>
     ensures { result ≡ audio_fault profile rate bits (map (λ c. c.items) channels.now) }
 {
-    if rate_code_in(profile, rate).is_none() {
-        return Some(SetupFault::BadRate);
-    }
-    if depth_code_in(profile, bits).is_none() {
-        return Some(SetupFault::BadDepth);
+    if let Some(fault) = format_fault(profile, rate, bits, channels.len()) {
+        return Some(fault);
     }
     channels_fault(channels, bits)
 }
@@ -186,6 +167,23 @@ impl Audio {
         ensures sound { IsSound self.now }
     {
         self.channels.as_slice()
+    }
+
+    /// The `size` samples of a channel from index `start` on. Both are counted from 0: the channel is below the number of
+    /// channels, and `start + size` is at most [`Audio::len`].
+    ///
+    /// ```
+    /// let block = audio.part(0, 4096, 4096); // samples 4096 to 8191 of the first channel
+    /// ```
+    pub fn part(&self, channel: usize, start: usize, size: usize) -> &[i32]
+        requires channel { channel < length self.now.channels }
+        requires within { start + size ≤ samples_each self.now.channels }
+        ensures part { result.now ≡ take size (drop start (slice_index_or self.now.channels channel [])) }
+        ensures long { length result.now ≡ size }
+    {
+        let channels = self.channels();
+        let samples = channels[channel].as_slice();
+        &samples[start..start + size]
     }
 
     /// How many samples each channel has, below 2^36.

@@ -2,16 +2,26 @@
 
 ghost use Rattle.std.specs.Prelude.{◌≡◌};
 
-use flac_header::FrameHeader;
+use flac_header::{BlockingStrategy, FrameHeader};
+use std::marker::Model;
 
 /// What the next frame of a stream depends on: the first block size, the blocking strategy, the number that the next
 /// frame must have, and the size of the last block (RFC 9639, sections 9.1.1 and 9.1.5).
-#[derive(Clone, Copy, Debug)]
+#[derive(Drop)]
 pub(crate) struct Before {
     pub(crate) first_size: u32,
-    pub(crate) variable: bool,
+    pub(crate) strategy: BlockingStrategy,
     pub(crate) next: u64,
     pub(crate) size: u32,
+}
+
+impl Model for Before {
+    ghost use Rattle.flac_header.specs.Strategy.{is_variable};
+    ghost use Rattle.flac_frame.specs.Left.{Left};
+
+    ghost Value = { Left };
+
+    ghost view = { λ b. record { first_size = b.first_size; variable = is_variable b.strategy; next = b.next; size = b.size } };
 }
 
 impl Before {
@@ -28,7 +38,7 @@ impl Before {
                 None => size,
                 Some(before) => before.first_size,
             },
-            variable: header.variable(),
+            strategy: header.blocking_strategy(),
             next: header.number() + step,
             size,
         }

@@ -15,7 +15,7 @@ use crate::before::Before;
 use crate::fill::read_into;
 use crate::view::FrameView;
 use flac_bits::{BitReader, Source, Why};
-use flac_header::Profile;
+use flac_header::{BlockingStrategy, Profile};
 use flac_meta::StreamInfo;
 use std::alloc::Global;
 use std::marker::Model;
@@ -34,14 +34,15 @@ pub struct FrameBuffers {
     channels: usize,
     max_block: usize,
     before: Option<Before>,
-    variable: bool,
+    strategy: BlockingStrategy,
     number: u64,
     block: usize,
     used: usize,
 }
 
 impl Model for FrameBuffers {
-    ghost use Rattle.std.specs.Prelude.{◌≡◌, ◌*◌, ◌≤◌, vec_len, take};
+    ghost use Rattle.std.specs.Prelude.{◌≡◌, ◌*◌, ◌≤◌, ◌<◌, ◌^◌, vec_len, take};
+    ghost use Rattle.flac_header.specs.Strategy.{is_variable};
     ghost use Rattle.flac_frame.specs.Kept.{Kept};
     ghost use Rattle.flac_frame.specs.View.{chunks};
 
@@ -51,7 +52,7 @@ impl Model for FrameBuffers {
       channels = b.channels;
       max_block = b.max_block;
       before = b.before;
-      held = record { variable = b.variable; number = b.number; size = b.block; channels = chunks b.used b.block (take (b.used * b.block) b.narrow.items) };
+      held = record { variable = is_variable b.strategy; number = b.number; size = b.block; channels = chunks b.used b.block (take (b.used * b.block) b.narrow.items) };
     } };
 
     ghost invariant = { λ b. record {
@@ -61,6 +62,7 @@ impl Model for FrameBuffers {
       max_block : b.max_block ≤ 65535;
       used : b.used ≤ b.channels;
       block : b.block ≤ b.max_block;
+      number : b.number < 2 ^ 36;
     } };
 }
 
@@ -87,7 +89,7 @@ impl FrameBuffers {
             channels,
             max_block,
             before: None,
-            variable: false,
+            strategy: BlockingStrategy::Fixed,
             number: 0,
             block: 0,
             used: 0,
@@ -151,7 +153,7 @@ impl FrameBuffers {
         ensures memory { IfErr result (λ e. e ≢ Why.Memory) }
         ensures reads { Reads (λ _. self.new.held) (frame profile info.now self.old.before) (started bits.old) bits.new result }
     {
-        self.variable = false;
+        self.strategy = BlockingStrategy::Fixed;
         self.number = 0;
         self.block = 0;
         self.used = 0;
@@ -164,7 +166,7 @@ impl FrameBuffers {
             &mut self.narrow,
         )?;
         self.before = Some(Before::after(&self.before, &header));
-        self.variable = header.variable();
+        self.strategy = header.blocking_strategy();
         self.number = header.number();
         self.block = header.size() as usize;
         self.used = info.channels() as usize;
@@ -180,7 +182,7 @@ impl FrameBuffers {
             samples: &self.narrow[..places],
             channels: self.used,
             block: self.block,
-            variable: self.variable,
+            strategy: self.strategy,
             number: self.number,
         }
     }

@@ -2,6 +2,7 @@
 
 ghost use Rattle.std.specs.Prelude.{◌≡◌, ◌≤◌, length, true, FitsSigned};
 ghost use Rattle.std.specs.Int.{w32};
+ghost use Rattle.std.specs.List.{list_all};
 ghost use Rattle.flac_subframe.specs.Numbers.{fits, all_fit};
 
 /// A number that is 0 exactly if a sample fits the depth.
@@ -20,6 +21,23 @@ pub(crate) fn lowest(sample: i64) -> i32
     ensures { FitsSigned w32 sample → result ≡ sample }
 {
     ((sample.cast_unsigned() & 0xFFFF_FFFF) as u32).cast_signed()
+}
+
+/// Whether each sample fits into `bits` bits, 1 to 32: it is at least -2^(bits - 1), and below 2^(bits - 1).
+///
+/// ```
+/// let fit = samples_fit(&[-32768, 32767], 16); // true
+/// ```
+pub fn samples_fit(samples: &[i32], bits: u32) -> bool
+    requires { (1 ≤ bits) × (bits ≤ 32) }
+    ensures { result ≡ list_all (fits bits) samples.now }
+{
+    // no exit inside, so that the compiler takes several samples at once
+    let mut wrong = 0;
+    for i in 0..samples.len() {
+        wrong |= excess(samples[i] as i64, bits);
+    }
+    wrong == 0
 }
 
 /// Writes the samples to places of 32 bits, and returns whether each fits the depth.

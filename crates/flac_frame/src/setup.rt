@@ -1,8 +1,9 @@
 //! Why samples cannot be encoded.
 
-ghost use Rattle.std.specs.Prelude.{◌≡◌, Some};
-ghost use Rattle.flac_frame.specs.Setup.{number_of, text_of};
+ghost use Rattle.std.specs.Prelude.{◌≡◌, ◌≤◌, Some, None};
+ghost use Rattle.flac_frame.specs.Setup.{number_of, text_of, format_fault};
 
+use flac_header::{Profile, depth_code_in, rate_code_in};
 use std::fmt;
 use thiserror::Error;
 
@@ -82,4 +83,28 @@ impl fmt::Display for SetupFault {
     fn fmt<W: fmt::Write>(&self, f: &mut fmt::Formatter<W>) -> fmt::Result {
         f.write_str(self.as_str())
     }
+}
+
+/// Why no samples can be encoded that have this rate in Hz, bits per sample and number of channels, or `None` if some can:
+/// `BadRate`, `BadDepth` or `BadChannels`, the first that applies (RFC 9639, sections 7 and 9.1.2 to 9.1.4).
+///
+/// ```
+/// let fault = format_fault(Profile::Subset, 44100, 16, 2); // None
+/// ```
+#[tactic(auto, unfolding(crate::specs::Setup::format_fault))]
+pub fn format_fault(profile: Profile, rate: u32, bits: u32, channels: usize) -> Option<SetupFault>
+    ensures fault { result ≡ format_fault profile rate bits channels }
+    ensures bits { result ≡ None → (1 ≤ bits) × (bits ≤ 32) }
+    ensures channels { result ≡ None → (1 ≤ channels) × (channels ≤ 8) }
+{
+    if rate_code_in(profile, rate).is_none() {
+        return Some(SetupFault::BadRate);
+    }
+    if depth_code_in(profile, bits).is_none() {
+        return Some(SetupFault::BadDepth);
+    }
+    if channels < 1 || channels > 8 {
+        return Some(SetupFault::BadChannels);
+    }
+    None
 }

@@ -59,7 +59,9 @@ fn breaks_sequence(before: &Option<Before>, header: &FrameHeader) -> bool
 {
     match before {
         None => false,
-        Some(before) => { header.variable() != before.variable || header.number() != before.next }
+        Some(before) => {
+            header.variable() != before.strategy.is_variable() || header.number() != before.next
+        }
     }
 }
 

@@ -1,6 +1,8 @@
 //! A frame that its buffers lend.
 
-ghost use Rattle.std.specs.Prelude.{◌≡◌, ◌<◌, ◌≤◌, ◌+◌, ◌*◌, ◌/◌, ◌++◌, min, length, take, drop, slice_index_or, [], nat_eq, pos};
+ghost use Rattle.std.specs.Prelude.{◌≡◌, ◌<◌, ◌≤◌, ◌+◌, ◌*◌, ◌/◌, ◌^◌, ◌++◌, min, length, take, drop, slice_index_or, [], nat_eq, pos};
+
+use flac_header::BlockingStrategy;
 
 /// A frame, lent by the buffers that it was read into (RFC 9639, section 9).
 ///
@@ -16,14 +18,17 @@ pub struct FrameView<'a> {
     pub(crate) samples: &'a [i32],
     pub(crate) channels: usize,
     pub(crate) block: usize,
-    pub(crate) variable: bool,
+    pub(crate) strategy: BlockingStrategy,
     pub(crate) number: u64,
     ghost whole: { length samples.now ≡ channels * block },
     ghost few: { channels ≤ 8 },
     ghost short: { block ≤ 65535 },
+    ghost numbered: { number < 2 ^ 36 },
 }
 
 impl<'a> FrameView<'a> {
+    ghost use Rattle.flac_header.specs.Strategy.{is_variable, strategy_of};
+    ghost use Rattle.flac_frame.specs.Frame.{first_sample};
     ghost use Rattle.flac_frame.specs.Lent.{frame_of};
     ghost use Rattle.flac_frame.specs.Interleaved.{row, rows};
 
@@ -48,19 +53,41 @@ impl<'a> FrameView<'a> {
         self.channels
     }
 
-    /// The blocking strategy (section 9.1): true if [`FrameView::number`] is that of the first sample, false if it is
-    /// that of the frame.
+    /// The blocking strategy (section 9.1): whether blocks may differ in size, and what [`FrameView::number`] is.
+    pub fn blocking_strategy(&self) -> BlockingStrategy
+        ensures strategy { result ≡ strategy_of (frame_of self.now).variable }
+        ensures variable { is_variable result ≡ (frame_of self.now).variable }
+    {
+        self.strategy
+    }
+
+    /// Whether the blocking strategy is [`BlockingStrategy::Variable`].
     pub fn variable(&self) -> bool
         ensures { result ≡ (frame_of self.now).variable }
     {
-        self.variable
+        let strategy = self.blocking_strategy();
+        strategy.is_variable()
     }
 
-    /// The number of the frame or of its first sample, counted from 0 (section 9.1.5): see [`FrameView::variable`].
+    /// The number of the frame or of its first sample, by [`FrameView::blocking_strategy`], counted from 0. It is below 2^36
+    /// (section 9.1.5).
     pub fn number(&self) -> u64
         ensures { result ≡ (frame_of self.now).number }
     {
         self.number
+    }
+
+    /// The number of the frame's first sample, counted from 0 in each channel (section 9.1.5). If the blocking strategy is
+    /// fixed, that is [`FrameView::number`] times the block size of the stream, the largest one of STREAMINFO.
+    pub fn first_sample(&self, block_size: u16) -> u64
+        ensures first { result ≡ first_sample block_size (frame_of self.now) }
+        ensures small { result < 2 ^ 52 }
+    {
+        let number = self.number();
+        match self.strategy {
+            BlockingStrategy::Fixed => number * u64::from(block_size),
+            BlockingStrategy::Variable => number,
+        }
     }
 
     /// The samples of channel `i`, counted from 0 and below [`FrameView::channels`]: [`FrameView::len`] of them.

@@ -5,6 +5,7 @@ ghost use Rattle.flac_header.specs.Header.{IsSize, IsRate, IsHeader};
 ghost use Rattle.flac_header.specs.Choice.{size_choice, rate_choice, depth_choice, rate_choice_in, depth_choice_in, stated_rate, chosen_header};
 ghost use Rattle.flac_header.specs.declared.subset.Profile.TheVariants.{Subset};
 
+use crate::blocking_strategy::BlockingStrategy;
 use crate::frame_header::FrameHeader;
 use crate::subset::Profile;
 
@@ -178,7 +179,7 @@ impl FrameHeader {
         let rate_code = rate_code_in(profile, rate)?;
         let depth_code = depth_code_in(profile, depth)?;
         Some(FrameHeader {
-            variable: false,
+            strategy: BlockingStrategy::Fixed,
             size_code,
             size,
             rate_code,

@@ -3,7 +3,9 @@
 ghost use Rattle.std.specs.Prelude.{◌≡◌, ◌≤◌, ◌<◌, ◌^◌, not, nat_eq};
 ghost use Rattle.flac_header.specs.Assignment.{assignment_of, code_of, IsAssignment};
 ghost use Rattle.flac_header.specs.Header.{channels_of, depth_of};
+ghost use Rattle.flac_header.specs.Strategy.{is_variable, strategy_of};
 
+use crate::blocking_strategy::BlockingStrategy;
 use crate::channel_assignment::{ChannelAssignment, assignment_of};
 use std::marker::Model;
 
@@ -11,7 +13,7 @@ use std::marker::Model;
 /// size, rate and number are always such as their codes can state. Sections are those of RFC 9639.
 #[derive(Clone, Copy, Debug, PartialEq, Eq)]
 pub struct FrameHeader {
-    pub(crate) variable: bool,
+    pub(crate) strategy: BlockingStrategy,
     pub(crate) size_code: u8,
     pub(crate) size: u32,
     pub(crate) rate_code: u8,
@@ -22,24 +24,35 @@ pub struct FrameHeader {
 }
 
 impl Model for FrameHeader {
+    ghost use Rattle.std.proofs.Common.{ap};
     ghost use Rattle.flac_header.specs.Header.{Header, IsHeader};
+    ghost use Rattle.flac_header.specs.Strategy.{is_variable, strategy_of, same_strategy};
 
     ghost Value = { Header };
 
-    ghost view = { λ h. record { variable = h.variable; size_code = h.size_code; size = h.size; rate_code = h.rate_code; rate = h.rate; channel_code = h.channel_code; depth_code = h.depth_code; number = h.number } };
+    ghost view = { λ h. record { variable = is_variable h.strategy; size_code = h.size_code; size = h.size; rate_code = h.rate_code; rate = h.rate; channel_code = h.channel_code; depth_code = h.depth_code; number = h.number } };
 
-    ghost invariant = { λ h. IsHeader (record { variable = h.variable; size_code = h.size_code; size = h.size; rate_code = h.rate_code; rate = h.rate; channel_code = h.channel_code; depth_code = h.depth_code; number = h.number }) };
+    ghost invariant = { λ h. IsHeader (record { variable = is_variable h.strategy; size_code = h.size_code; size = h.size; rate_code = h.rate_code; rate = h.rate; channel_code = h.channel_code; depth_code = h.depth_code; number = h.number }) };
 
-    ghost inverse = { λ h. record { variable = h.variable; size_code = h.size_code; size = h.size; rate_code = h.rate_code; rate = h.rate; channel_code = h.channel_code; depth_code = h.depth_code; number = h.number } };
+    ghost inverse = { λ h. record { strategy = strategy_of h.variable; size_code = h.size_code; size = h.size; rate_code = h.rate_code; rate = h.rate; channel_code = h.channel_code; depth_code = h.depth_code; number = h.number } };
+
+    ghost inverse_ok = { λ h _. ap (λ s. record h { strategy = s }) (same_strategy h.strategy) };
 }
 
 impl FrameHeader {
-    /// The blocking strategy (section 9.1): true if the header has the number of the first sample, false if it has the
-    /// number of the frame.
+    /// The blocking strategy (section 9.1): whether blocks may differ in size, and what [`FrameHeader::number`] is.
+    pub fn blocking_strategy(&self) -> BlockingStrategy
+        ensures strategy { result ≡ strategy_of self.now.variable }
+        ensures variable { is_variable result ≡ self.now.variable }
+    {
+        self.strategy
+    }
+
+    /// Whether the blocking strategy is [`BlockingStrategy::Variable`].
     pub fn variable(&self) -> bool
         ensures { result ≡ self.now.variable }
     {
-        self.variable
+        self.blocking_strategy().is_variable()
     }
 
     /// The block size: how many samples of each channel the frame has, 1 to 65535 (section 9.1.1).
@@ -123,7 +136,8 @@ impl FrameHeader {
         code > 0
     }
 
-    /// The number of the frame or of its first sample, below 2^36 (section 9.1.5): see [`FrameHeader::variable`].
+    /// The number of the frame or of its first sample, by [`FrameHeader::blocking_strategy`]. It is below 2^36 (section
+    /// 9.1.5).
     pub fn number(&self) -> u64
         ensures number { result ≡ self.now.number }
         ensures small { result < 2 ^ 36 }

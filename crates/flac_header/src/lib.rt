@@ -2,6 +2,7 @@
 //! 9.1).
 #![tactic(auto)]
 
+mod blocking_strategy;
 mod channel_assignment;
 mod choice;
 mod frame_header;
@@ -10,6 +11,7 @@ mod read;
 mod subset;
 mod write;
 
+pub use blocking_strategy::BlockingStrategy;
 pub use channel_assignment::ChannelAssignment;
 pub use choice::{depth_code_in, rate_code_in};
 pub use frame_header::FrameHeader;

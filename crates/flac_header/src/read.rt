@@ -7,6 +7,7 @@ ghost use Rattle.flac_bits.specs.Number.{number};
 ghost use Rattle.flac_bits.specs.Coded.{IsNumber};
 ghost use Rattle.flac_header.specs.Header.{size_field, rate_field, rate_of_code, header, IsSize, IsRate};
 
+use crate::blocking_strategy::BlockingStrategy;
 use crate::frame_header::FrameHeader;
 use flac_bits::{BitReader, Source, Why, read_number};
 
@@ -100,7 +101,8 @@ fn read_fields<R: Source>(bits: &mut BitReader<R>) -> Result<FrameHeader, Why>
     if bits.take(15)? != 0x7FFC {
         return Err(Why::BadSync);
     }
-    let variable = bits.take(1)? == 1;
+    let bit = bits.take(1)?;
+    let strategy = BlockingStrategy::from_bit(bit);
     let size_code = bits.take(4)? as u8;
     if size_code == 0 {
         return Err(Why::ReservedCode);
@@ -120,7 +122,7 @@ fn read_fields<R: Source>(bits: &mut BitReader<R>) -> Result<FrameHeader, Why>
     if bits.take(1)? != 0 {
         return Err(Why::ReservedCode);
     }
-    let number = number_here(bits, if variable { 36 } else { 31 })?;
+    let number = number_here(bits, strategy.number_bits())?;
     let size = read_size(bits, size_code)?;
     let rate = read_rate(bits, rate_code)?;
     let check = bits.check8();
@@ -128,7 +130,7 @@ fn read_fields<R: Source>(bits: &mut BitReader<R>) -> Result<FrameHeader, Why>
         return Err(Why::HeaderCheck);
     }
     Ok(FrameHeader {
-        variable,
+        strategy,
         size_code,
         size,
         rate_code,

@@ -41,7 +41,7 @@ fn put_rate<W: Target>(writer: &mut BitWriter<W>, code: u8, rate: u32) -> Result
 fn put_codes<W: Target>(writer: &mut BitWriter<W>, header: &FrameHeader) -> Result<(), Why>
     ensures { WritesParts (code_parts header.now) writer.old writer.new result }
 {
-    let strategy = u64::from(header.variable);
+    let strategy = header.strategy.bit();
     writer.put(15, 0x7FFC)?;
     writer.put(1, strategy)?;
     writer.put(4, header.size_code as u64)?;

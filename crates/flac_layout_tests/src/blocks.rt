@@ -184,6 +184,16 @@ fn stream_info(rt: HostRuntime) -> Result<(), Fail> {
     Ok(())
 }
 
+#[test]
+fn unknown_parts_of_stream_info(rt: HostRuntime) -> Result<(), Fail> {
+    let part = info()?.without_totals();
+    let digest = [0; 16];
+    assert!(rt; StreamInfo::new(4096, 4096, 14, 15, 44100, 2, 16, 0, digest) == Ok(part));
+    let of_format = StreamInfo::of_format(4096, 44100, 2, 16);
+    assert!(rt; StreamInfo::new(4096, 4096, 0, 0, 44100, 2, 16, 0, digest) == Ok(of_format));
+    Ok(())
+}
+
 /// The most memory in KiB that this process ever had, as the system counts it; 0 where it does not say.
 fn peak(rt: &HostRuntime) -> io::Result<u64> {
     let status = fs::read_to_string(rt, "/proc/self/status")?;
@@ -374,6 +384,29 @@ fn lists(rt: HostRuntime) -> Result<(), Fail> {
     Ok(())
 }
 
+/// The list of these comments alone.
+fn comments_alone(alloc: Global) -> Result<BlockList, Why> {
+    let mut comments = Comments::new(alloc, b"vendor")?;
+    comments.push(alloc, b"TITLE", b"A song")?;
+    BlockList::of_comments(alloc, comments)
+}
+
+/// Whether a list has this one block.
+fn has_just(list: &BlockList, block: &Block) -> bool {
+    match list.blocks() {
+        [only] => *only == *block,
+        _ => false,
+    }
+}
+
+#[test]
+fn list_of_comments(rt: HostRuntime) -> Result<(), Fail> {
+    let words = "0400001e 06000000 76656e646f72 01000000 0c000000 5449544c453d4120736f6e67";
+    let block = block_of(rt.alloc(), words)?;
+    assert!(rt; has_just(&comments_alone(rt.alloc())?, &block));
+    Ok(())
+}
+
 /// Bytes under the type of pictures.
 fn other_picture(alloc: Global) -> Block {
     Block::Other {
@@ -451,6 +484,27 @@ fn placeholders_may_repeat(rt: HostRuntime) -> Result<(), Fail> {
     assert!(rt; !POINT.is_placeholder());
     let refused = twice_fault(rt.alloc(), PLACEHOLDER)?;
     assert!(rt; refused == None);
+    Ok(())
+}
+
+/// The sample number of the last point at or before a sample, in a table of points at 1 and 4096 and a placeholder.
+fn point_before(alloc: Global, sample: u64) -> Result<Option<u64>, Fail> {
+    let points = [OTHER_POINT, POINT, PLACEHOLDER];
+    let table = SeekTable::from_vec(Vec::from_slice(alloc, &points)?);
+    match table.before(sample) {
+        Some(point) => Ok(Some(point.sample)),
+        None => Ok(None),
+    }
+}
+
+#[test]
+fn points_before_samples(rt: HostRuntime) -> Result<(), Fail> {
+    let samples = [0, 1, 4095, 4096, u64::MAX];
+    let points = [None, Some(1), Some(1), Some(4096), Some(4096)];
+    for i in 0..5 {
+        let found = point_before(rt.alloc(), samples[i])?;
+        assert!(rt; found == points[i]);
+    }
     Ok(())
 }
 

@@ -2,8 +2,8 @@
 
 use flac_bits::{BitReader, BitWriter, Collected, Memory, Why};
 use flac_header::{
-    ChannelAssignment, FrameHeader, Profile, depth_code_in, headers_are_spelled, rate_code_in,
-    read_header, subset_allows, write_header,
+    BlockingStrategy, ChannelAssignment, FrameHeader, Profile, depth_code_in, headers_are_spelled,
+    rate_code_in, read_header, subset_allows, write_header,
 };
 use flac_vectors::bytes_of;
 use std::alloc::Global;
@@ -41,6 +41,7 @@ fn written(alloc: Global, header: &FrameHeader) -> Result<Vec<u8>, Why> {
 /// Whether a header is that of 4096 samples from number 4608 on, of one channel of 16 bits at 44100 Hz.
 fn is_variable(header: &FrameHeader) -> bool {
     header.variable()
+        && header.blocking_strategy() == BlockingStrategy::Variable
         && subset_allows(header)
         && (header.size(), header.rate(), header.channels()) == (4096, 44100, 1)
         && (header.channel_code(), header.depth(), header.number()) == (0, 16, 4608)

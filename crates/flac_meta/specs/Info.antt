@@ -1,5 +1,5 @@
 -- STREAMINFO: what a stream says of itself (RFC 9639, section 8.2).
-use Rattle.std.specs.Prelude.{ℕ, ◌+◌, ◌<◌, ◌≤◌, ◌^◌, Bool, ◌||◌, List, [], ◌∷◌, nat_eq, nat_lt}
+use Rattle.std.specs.Prelude.{ℕ, ◌+◌, ◌<◌, ◌≤◌, ◌^◌, Bool, ◌||◌, List, [], ◌∷◌, nat_eq, nat_lt, replicate}
 use Rattle.flac_bits.specs.Layout.{Layout, done, judge, ◌>>=◌, bits}
 use Rattle.flac_bits.specs.Lists.{list_of}
 use Rattle.flac_bits.specs.declared.why.Why.TheVariants.{BadStreamInfo}
@@ -31,6 +31,24 @@ pub record KeepsRules (i : Info) : Type 0 where
   pub least_depth : 4 ≤ i.depth
   pub depth : i.depth ≤ 32
   pub total : i.total < 2 ^ 36
+
+-- STREAMINFO of a format, in blocks of one size: the sizes of the frames, the number of samples and their MD5 are unknown
+abbrev pub info_of_format : (block_size rate channels depth : ℕ) → Info
+info_of_format block_size rate channels depth = record {
+  least_block = block_size;
+  greatest_block = block_size;
+  least_frame = 0;
+  greatest_frame = 0;
+  rate = rate;
+  channels = channels;
+  depth = depth;
+  total = 0;
+  digest = replicate 16 0;
+}
+
+-- the same STREAMINFO, but the number of samples and their MD5 are unknown
+abbrev pub without_totals : Info → Info
+without_totals i = record i { total = 0; digest = replicate 16 0 }
 
 -- a value that is out of its range, though it fits its field
 abbrev pub is_bad : Info → Bool

@@ -1,5 +1,6 @@
 -- The seek table (RFC 9639, section 8.5).
-use Rattle.std.specs.Prelude.{ℕ, Bool, true, not, ◌&&◌, ◌||◌, List, [], ◌∷◌, nat_eq, nat_lt, Option, Some, None}
+use Rattle.std.specs.Prelude.{ℕ, Bool, true, not, ◌&&◌, ◌||◌, cond, List, [], ◌∷◌, nat_eq, nat_lt, nat_le, Option, Some, None}
+use Rattle.std.specs.List.{fold}
 use Rattle.flac_bits.specs.Layout.{Layout, done, judge, ◌>>=◌, bits}
 use Rattle.flac_meta.specs.Fields.{in_turn}
 use Rattle.flac_bits.specs.declared.why.Why.TheVariants.{SeekOrder}
@@ -31,3 +32,11 @@ seek_point before = do
 -- so many points, behind a point of this sample number
 unfoldable pub seek_points : ℕ → Option ℕ → Layout (List SeekPoint)
 seek_points = in_turn seek_point (λ before point. Some point.sample) (λ before. done tt)
+
+-- the point names a frame whose first sample is at or before the one of this number (section 8.5.1)
+abbrev pub is_before : ℕ → SeekPoint → Bool
+is_before sample point = nat_le point.sample sample && not (nat_eq point.sample placeholder)
+
+-- the last point that names a frame at or before a sample
+abbrev pub last_before : ℕ → List SeekPoint → Option SeekPoint
+last_before sample points = fold (λ found point. cond (is_before sample point) (Some point) found) None points

@@ -2,7 +2,7 @@
 
 ghost use Rattle.flac_bits.specs.Forms.{AreBytes};
 ghost use Rattle.flac_meta.specs.Valid.{AllAre, FitsFields, IsInfo, IsPoint, IsComments, IsIndex, IsTrack, IsSheet, IsPicture};
-ghost use Rattle.std.specs.Prelude.{◌≡◌, MatchResult, OnOk, None, Some};
+ghost use Rattle.std.specs.Prelude.{◌≡◌, ◌⊎◌, ◌∷◌, [], MatchResult, IfOk, IfErr, OnOk, None, Some};
 ghost use Rattle.std.specs.Cmp.{partial_equiv_from_equiv};
 ghost use Rattle.std.specs.Cmp.Lexicographic.{pointwise, lists_equiv};
 ghost use Rattle.flac_meta.specs.Listed.{fault_behind, list_fault, info_seen};
@@ -15,7 +15,7 @@ use crate::picture::Picture;
 use crate::seek_table::SeekPoint;
 use crate::stream_info::StreamInfo;
 use flac_bits::Why;
-use std::alloc::AllocError;
+use std::alloc::{AllocError, Global};
 use std::marker::Model;
 
 /// Each byte is below 256.
@@ -256,6 +256,25 @@ impl BlockList {
                 Ok(BlockList { blocks })
             }
         }
+    }
+
+    /// Makes a list of the tags alone: of one Vorbis comment (RFC 9639, section 8.6).
+    ///
+    /// ```
+    /// let comments = Comments::new(rt.alloc(), b"my program 1.0")?;
+    /// let list = BlockList::of_comments(rt.alloc(), comments)?;
+    /// ```
+    ///
+    /// # Errors
+    /// [`Why::BlockLength`] if the comments have more bytes than a block may have; [`Why::Memory`] if an allocation fails.
+    pub fn of_comments(alloc: Global, comments: Comments) -> Result<BlockList, Why>
+        ensures list { IfOk result (λ list. list ≡ Block.VorbisComment comments ∷ []) }
+        ensures good { OnOk result (list_fault info_seen (Block.VorbisComment comments ∷ []) ≡ None) }
+        ensures refused { IfErr result (λ e. (e ≡ Why.Memory) ⊎ (list_fault info_seen (Block.VorbisComment comments ∷ []) ≡ Some e)) }
+    {
+        let mut blocks = Vec::with_capacity(alloc, 1)?;
+        blocks.push(Block::VorbisComment(comments))?;
+        BlockList::new(blocks)
     }
 
     /// Returns the blocks as a vector.

@@ -9,6 +9,8 @@
 //! | look a tag up by its name | [`Comments::find`] |
 //! | make a STREAMINFO | [`StreamInfo::new`] |
 //! | list the blocks after STREAMINFO for an encoder | [`BlockList::new`] |
+//! | list tags alone for an encoder | [`BlockList::of_comments`] |
+//! | find where to begin a search for a sample | [`SeekTable::before`] |
 //!
 //! The content of a block has at most [`MOST_BYTES`] bytes.
 #![tactic(auto)]

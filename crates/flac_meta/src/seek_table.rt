@@ -4,7 +4,7 @@ ghost use Rattle.std.specs.Prelude.{◌≡◌, OnOk, ◌<◌, ◌≤◌, length,
 ghost use Rattle.std.specs.Cmp.{partial_equiv_from_equiv};
 ghost use Rattle.std.specs.Cmp.Lexicographic.{pointwise, lists_equiv};
 ghost use Rattle.flac_bits.specs.Reading.{Counts, Reads, ReadsInRoom};
-ghost use Rattle.flac_meta.specs.SeekTable.{placeholder, follows, seek_point, seek_points, in_order};
+ghost use Rattle.flac_meta.specs.SeekTable.{placeholder, follows, seek_point, seek_points, in_order, last_before};
 ghost use Rattle.flac_bits.specs.Written.{Writes};
 ghost use Rattle.flac_meta.specs.Spelling.{each_spelled, point_spelling};
 
@@ -98,6 +98,28 @@ impl SeekTable {
         ensures { result.now ≡ self.now }
     {
         self.points.as_slice()
+    }
+
+    /// The last point whose frame begins at or before a sample: where to begin a search for it. `None` if there is no such
+    /// point. Placeholders name no frame (RFC 9639, section 8.5.1).
+    ///
+    /// ```
+    /// let offset = match table.before(sample) {
+    ///     Some(point) => point.offset,
+    ///     None => 0,
+    /// };
+    /// ```
+    pub fn before(&self, sample: u64) -> Option<SeekPoint>
+        ensures { result ≡ last_before sample self.now }
+    {
+        let points = self.points();
+        let mut found = None;
+        for point in points {
+            if point.sample <= sample && !point.is_placeholder() {
+                found = Some(*point);
+            }
+        }
+        found
     }
 }
 

@@ -1,7 +1,7 @@
 //! STREAMINFO (RFC 9639, section 8.2).
 
 ghost use Rattle.std.specs.Prelude.{◌≡◌, IfOk, IfErr, OnOk, ◌<◌, ◌≤◌, ◌^◌};
-ghost use Rattle.flac_meta.specs.Info.{Info, KeepsRules, info_sizes, info_format, stream_info};
+ghost use Rattle.flac_meta.specs.Info.{Info, KeepsRules, info_of_format, without_totals, info_sizes, info_format, stream_info};
 ghost use Rattle.flac_bits.specs.Reading.{Counts, Reads};
 ghost use Rattle.flac_bits.specs.Written.{Writes};
 ghost use Rattle.flac_meta.specs.Spelling.{info_spelling};
@@ -138,6 +138,44 @@ impl StreamInfo {
             total,
             digest,
         })
+    }
+
+    /// The STREAMINFO of a format before the samples are known: all blocks have one size, and the sizes of the frames, the
+    /// number of samples and their MD5 are unknown. The ranges are those of [`StreamInfo::new`].
+    ///
+    /// ```
+    /// // blocks of 4096 samples, 44100 Hz, 2 channels, 16 bits
+    /// let info = StreamInfo::of_format(4096, 44100, 2, 16);
+    /// ```
+    pub fn of_format(block_size: u16, rate: u32, channels: u8, depth: u8) -> StreamInfo
+        requires block_size { 16 ≤ block_size }
+        requires rate { (1 ≤ rate) × (rate < 2 ^ 20) }
+        requires channels { (1 ≤ channels) × (channels ≤ 8) }
+        requires depth { (4 ≤ depth) × (depth ≤ 32) }
+        ensures { result ≡ info_of_format block_size rate channels depth }
+    {
+        StreamInfo {
+            least_block: block_size,
+            greatest_block: block_size,
+            least_frame: 0,
+            greatest_frame: 0,
+            rate,
+            channels,
+            depth,
+            total: 0,
+            digest: [0; 16],
+        }
+    }
+
+    /// The same STREAMINFO, but the number of samples and their MD5 are unknown, as for a part of the stream.
+    pub fn without_totals(&self) -> StreamInfo
+        ensures { result ≡ without_totals self.now }
+    {
+        StreamInfo {
+            total: 0,
+            digest: [0; 16],
+            ..*self
+        }
     }
 
     /// The smallest block size in samples, 16 to 65535. The last block may be smaller.

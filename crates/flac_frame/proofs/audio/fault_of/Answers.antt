@@ -1,9 +1,19 @@
-use Rattle.std.proofs.Common.{◌≡◌, sym, ap, ◌∙◌, is_some, true}
-use Rattle.flac_header.specs.Choice.{depth_choice_in}
-use Rattle.flac_frame.proofs.Sounds.{depth_small}
+use Rattle.std.proofs.Common.{◌≡◌, sym, ap, ◌∙◌, length, map, ℤ, List, Option, Some, None}
+use Rattle.std.specs.Option.{option_or}
+use Rattle.std.proofs.lemmas.List.{length-map}
+use Rattle.flac_frame.specs.Audio.{channels_fault}
+use Rattle.flac_frame.specs.declared.setup.SetupFault.{SetupFault}
+use Rattle.flac_frame.proofs.Sounds.{by_format}
 use Rattle.flac_frame.proofs.audio.fault_of.Goals as goal
 
-pub channels_fault-requires : goal.channels_fault-requires
-channels_fault-requires c =
-    let e : is_some (depth_choice_in c.args.profile c.args.bits) ≡ true = ap is_some (sym c.depth_code_in.ensures.code) ∙ c.if-is_none-2.ensures in
-    depth_small c.args.profile c.args.bits e
+pub returns-in-Some : goal.returns-in-Some
+returns-in-Some c =
+    let items : List (List ℤ) = map (λ v. v.items) c.args.channels.now in
+    let is = by_format c.args.profile c.args.rate c.args.bits (length c.args.channels.now) items (sym (length-map c.args.channels.now (λ v. v.items))) in
+    ap (λ o. option_or o (channels_fault c.args.bits items)) c.in-Some.ensures.fault ∙ sym is
+
+pub returns : goal.returns
+returns c =
+    let items : List (List ℤ) = map (λ v. v.items) c.args.channels.now in
+    let is = by_format c.args.profile c.args.rate c.args.bits (length c.args.channels.now) items (sym (length-map c.args.channels.now (λ v. v.items))) in
+    c.channels_fault.ensures ∙ ap (λ o. option_or o (channels_fault c.args.bits items)) c.in_default.ensures.fault ∙ sym is

@@ -1,4 +1,4 @@
-use Rattle.std.proofs.Common.{rules, arith, refl, ◌≡◌, ◌≤◌, ℕ, false, Bool, nat_eq, nat_lt, not, ◌∷◌, [], Result, Ok}
+use Rattle.std.proofs.Common.{rules, arith, refl, ap, ◌∙◌, ◌≡◌, ◌≤◌, ℕ, false, Bool, nat_eq, nat_lt, not, ◌∷◌, [], Result, Ok}
 use Rattle.std.proofs.lemmas.Bool.{ne_eqb}
 use Rattle.std.proofs.lemmas.Bool.Decides.{nat_tests}
 use Rattle.std.proofs.lemmas.Result.{err_from_is_err_and}
@@ -11,7 +11,6 @@ use Rattle.flac_bits.proofs.Telling.{told_then, told_fault}
 use Rattle.flac_header.specs.Header.{header, number_bits}
 use Rattle.flac_header.proofs.Judged.{told_past, told_broken}
 use Rattle.flac_header.proofs.read.read_fields.Goals as goal
-use Rattle.flac_header.proofs.read.read_fields.Goals.{then-variable, else-variable}
 
 -- one rule at the end of a field
 abbrev judged : Bool → Why → Cursor → Result (Unit {0} × Cursor) Reason
@@ -50,15 +49,15 @@ returns-then-branch-ne32764 g c =
       reads = told_then c.args.bits.now c.take.new.self c.take.new.self _ c.in_ok-take.ensures.counts c.in_ok-take.ensures.reads (told_broken {read = judged (not (nat_eq c.in_ok-take.field-0 0x7FFC)) BadSync c.take.new.self.cursor} c.take.new.self c.take.new.self _ (rw (ne_eqb c.in_ok-take.field-0 0x7FFC c.if-branch-ne32764.true) refl));
     }
 
-pub returns-in_err-variable : goal.returns-in_err-variable
+pub returns-in_err-bit : goal.returns-in_err-bit
 unfolding header
-returns-in_err-variable g c =
-    let p = err_from_is_err_and c.from_residual-in_err-variable.result c.from_residual-in_err-variable.ensures.1 in
+returns-in_err-bit g c =
+    let p = err_from_is_err_and c.from_residual-in_err-bit.result c.from_residual-in_err-bit.ensures.1 in
     rw (p.1, p.2) (record {
       spends = tt;
-      counts = failed_then c.args.bits.now c.take.new.self c.take-2.new.self c.in_ok-take.ensures.counts c.in_err-variable.ensures.counts;
-      memory = c.in_err-variable.ensures.memory;
-      reads = told_then c.args.bits.now c.take.new.self c.take-2.new.self _ c.in_ok-take.ensures.counts c.in_ok-take.ensures.reads (told_past {read = judged (not (nat_eq c.in_ok-take.field-0 0x7FFC)) BadSync c.take.new.self.cursor} c.take.new.self c.take-2.new.self c.take.new.self.cursor _ (rw c.if-branch-ne32764.false refl) (told_fault c.take.new.self c.take-2.new.self _ c.in_err-variable.ensures.reads));
+      counts = failed_then c.args.bits.now c.take.new.self c.take-2.new.self c.in_ok-take.ensures.counts c.in_err-bit.ensures.counts;
+      memory = c.in_err-bit.ensures.memory;
+      reads = told_then c.args.bits.now c.take.new.self c.take-2.new.self _ c.in_ok-take.ensures.counts c.in_ok-take.ensures.reads (told_past {read = judged (not (nat_eq c.in_ok-take.field-0 0x7FFC)) BadSync c.take.new.self.cursor} c.take.new.self c.take-2.new.self c.take.new.self.cursor _ (rw c.if-branch-ne32764.false refl) (told_fault c.take.new.self c.take-2.new.self _ c.in_err-bit.ensures.reads));
     })
 
 pub returns-in_err-size_code : goal.returns-in_err-size_code
@@ -67,9 +66,9 @@ returns-in_err-size_code g c =
     let p = err_from_is_err_and c.from_residual-in_err-size_code.result c.from_residual-in_err-size_code.ensures.1 in
     rw (p.1, p.2) (record {
       spends = tt;
-      counts = failed_then c.args.bits.now c.take.new.self c.take-3.new.self c.in_ok-take.ensures.counts (failed_then c.take.new.self c.take-2.new.self c.take-3.new.self c.in_ok-variable.ensures.counts c.in_err-size_code.ensures.counts);
+      counts = failed_then c.args.bits.now c.take.new.self c.take-3.new.self c.in_ok-take.ensures.counts (failed_then c.take.new.self c.take-2.new.self c.take-3.new.self c.in_ok-bit.ensures.counts c.in_err-size_code.ensures.counts);
       memory = c.in_err-size_code.ensures.memory;
-      reads = told_then c.args.bits.now c.take.new.self c.take-3.new.self _ c.in_ok-take.ensures.counts c.in_ok-take.ensures.reads (told_past {read = judged (not (nat_eq c.in_ok-take.field-0 0x7FFC)) BadSync c.take.new.self.cursor} c.take.new.self c.take-3.new.self c.take.new.self.cursor _ (rw c.if-branch-ne32764.false refl) (told_then c.take.new.self c.take-2.new.self c.take-3.new.self _ c.in_ok-variable.ensures.counts c.in_ok-variable.ensures.reads (told_fault c.take-2.new.self c.take-3.new.self _ c.in_err-size_code.ensures.reads)));
+      reads = told_then c.args.bits.now c.take.new.self c.take-3.new.self _ c.in_ok-take.ensures.counts c.in_ok-take.ensures.reads (told_past {read = judged (not (nat_eq c.in_ok-take.field-0 0x7FFC)) BadSync c.take.new.self.cursor} c.take.new.self c.take-3.new.self c.take.new.self.cursor _ (rw c.if-branch-ne32764.false refl) (told_then c.take.new.self c.take-2.new.self c.take-3.new.self _ c.in_ok-bit.ensures.counts c.in_ok-bit.ensures.reads (told_fault c.take-2.new.self c.take-3.new.self _ c.in_err-size_code.ensures.reads)));
     })
 
 pub returns-then-size_code-eq0 : goal.returns-then-size_code-eq0
@@ -77,9 +76,9 @@ unfolding header
 returns-then-size_code-eq0 g c =
     record {
       spends = tt;
-      counts = refused_then c.args.bits.now c.take-3.new.self (answered_then c.args.bits.now c.take.new.self c.take-3.new.self c.in_ok-take.ensures.counts (answered_then c.take.new.self c.take-2.new.self c.take-3.new.self c.in_ok-variable.ensures.counts c.in_ok-size_code.ensures.counts)) refl;
+      counts = refused_then c.args.bits.now c.take-3.new.self (answered_then c.args.bits.now c.take.new.self c.take-3.new.self c.in_ok-take.ensures.counts (answered_then c.take.new.self c.take-2.new.self c.take-3.new.self c.in_ok-bit.ensures.counts c.in_ok-size_code.ensures.counts)) refl;
       memory = code_no_memory;
-      reads = told_then c.args.bits.now c.take.new.self c.take-3.new.self _ c.in_ok-take.ensures.counts c.in_ok-take.ensures.reads (told_past {read = judged (not (nat_eq c.in_ok-take.field-0 0x7FFC)) BadSync c.take.new.self.cursor} c.take.new.self c.take-3.new.self c.take.new.self.cursor _ (rw c.if-branch-ne32764.false refl) (told_then c.take.new.self c.take-2.new.self c.take-3.new.self _ c.in_ok-variable.ensures.counts c.in_ok-variable.ensures.reads (told_then c.take-2.new.self c.take-3.new.self c.take-3.new.self _ c.in_ok-size_code.ensures.counts c.in_ok-size_code.ensures.reads (told_broken {read = judged (nat_eq c.in_ok-size_code.field-0 0) ReservedCode c.take-3.new.self.cursor} c.take-3.new.self c.take-3.new.self _ (rw c.if-size_code-eq0.true refl)))));
+      reads = told_then c.args.bits.now c.take.new.self c.take-3.new.self _ c.in_ok-take.ensures.counts c.in_ok-take.ensures.reads (told_past {read = judged (not (nat_eq c.in_ok-take.field-0 0x7FFC)) BadSync c.take.new.self.cursor} c.take.new.self c.take-3.new.self c.take.new.self.cursor _ (rw c.if-branch-ne32764.false refl) (told_then c.take.new.self c.take-2.new.self c.take-3.new.self _ c.in_ok-bit.ensures.counts c.in_ok-bit.ensures.reads (told_then c.take-2.new.self c.take-3.new.self c.take-3.new.self _ c.in_ok-size_code.ensures.counts c.in_ok-size_code.ensures.reads (told_broken {read = judged (nat_eq c.in_ok-size_code.field-0 0) ReservedCode c.take-3.new.self.cursor} c.take-3.new.self c.take-3.new.self _ (rw c.if-size_code-eq0.true refl)))));
     }
 
 pub returns-in_err-rate_code : goal.returns-in_err-rate_code
@@ -88,9 +87,9 @@ returns-in_err-rate_code g c =
     let p = err_from_is_err_and c.from_residual-in_err-rate_code.result c.from_residual-in_err-rate_code.ensures.1 in
     rw (p.1, p.2) (record {
       spends = tt;
-      counts = failed_then c.args.bits.now c.take.new.self c.take-4.new.self c.in_ok-take.ensures.counts (failed_then c.take.new.self c.take-2.new.self c.take-4.new.self c.in_ok-variable.ensures.counts (failed_then c.take-2.new.self c.take-3.new.self c.take-4.new.self c.in_ok-size_code.ensures.counts c.in_err-rate_code.ensures.counts));
+      counts = failed_then c.args.bits.now c.take.new.self c.take-4.new.self c.in_ok-take.ensures.counts (failed_then c.take.new.self c.take-2.new.self c.take-4.new.self c.in_ok-bit.ensures.counts (failed_then c.take-2.new.self c.take-3.new.self c.take-4.new.self c.in_ok-size_code.ensures.counts c.in_err-rate_code.ensures.counts));
       memory = c.in_err-rate_code.ensures.memory;
-      reads = told_then c.args.bits.now c.take.new.self c.take-4.new.self _ c.in_ok-take.ensures.counts c.in_ok-take.ensures.reads (told_past {read = judged (not (nat_eq c.in_ok-take.field-0 0x7FFC)) BadSync c.take.new.self.cursor} c.take.new.self c.take-4.new.self c.take.new.self.cursor _ (rw c.if-branch-ne32764.false refl) (told_then c.take.new.self c.take-2.new.self c.take-4.new.self _ c.in_ok-variable.ensures.counts c.in_ok-variable.ensures.reads (told_then c.take-2.new.self c.take-3.new.self c.take-4.new.self _ c.in_ok-size_code.ensures.counts c.in_ok-size_code.ensures.reads (told_past {read = judged (nat_eq c.in_ok-size_code.field-0 0) ReservedCode c.take-3.new.self.cursor} c.take-3.new.self c.take-4.new.self c.take-3.new.self.cursor _ (rw (ne_eqb c.in_ok-size_code.field-0 0 c.if-size_code-eq0.false) refl) (told_fault c.take-3.new.self c.take-4.new.self _ c.in_err-rate_code.ensures.reads)))));
+      reads = told_then c.args.bits.now c.take.new.self c.take-4.new.self _ c.in_ok-take.ensures.counts c.in_ok-take.ensures.reads (told_past {read = judged (not (nat_eq c.in_ok-take.field-0 0x7FFC)) BadSync c.take.new.self.cursor} c.take.new.self c.take-4.new.self c.take.new.self.cursor _ (rw c.if-branch-ne32764.false refl) (told_then c.take.new.self c.take-2.new.self c.take-4.new.self _ c.in_ok-bit.ensures.counts c.in_ok-bit.ensures.reads (told_then c.take-2.new.self c.take-3.new.self c.take-4.new.self _ c.in_ok-size_code.ensures.counts c.in_ok-size_code.ensures.reads (told_past {read = judged (nat_eq c.in_ok-size_code.field-0 0) ReservedCode c.take-3.new.self.cursor} c.take-3.new.self c.take-4.new.self c.take-3.new.self.cursor _ (rw (ne_eqb c.in_ok-size_code.field-0 0 c.if-size_code-eq0.false) refl) (told_fault c.take-3.new.self c.take-4.new.self _ c.in_err-rate_code.ensures.reads)))));
     })
 
 pub returns-then-rate_code-eq15 : goal.returns-then-rate_code-eq15
@@ -98,9 +97,9 @@ unfolding header
 returns-then-rate_code-eq15 g c =
     record {
       spends = tt;
-      counts = refused_then c.args.bits.now c.take-4.new.self (answered_then c.args.bits.now c.take.new.self c.take-4.new.self c.in_ok-take.ensures.counts (answered_then c.take.new.self c.take-2.new.self c.take-4.new.self c.in_ok-variable.ensures.counts (answered_then c.take-2.new.self c.take-3.new.self c.take-4.new.self c.in_ok-size_code.ensures.counts c.in_ok-rate_code.ensures.counts))) refl;
+      counts = refused_then c.args.bits.now c.take-4.new.self (answered_then c.args.bits.now c.take.new.self c.take-4.new.self c.in_ok-take.ensures.counts (answered_then c.take.new.self c.take-2.new.self c.take-4.new.self c.in_ok-bit.ensures.counts (answered_then c.take-2.new.self c.take-3.new.self c.take-4.new.self c.in_ok-size_code.ensures.counts c.in_ok-rate_code.ensures.counts))) refl;
       memory = code_no_memory;
-      reads = told_then c.args.bits.now c.take.new.self c.take-4.new.self _ c.in_ok-take.ensures.counts c.in_ok-take.ensures.reads (told_past {read = judged (not (nat_eq c.in_ok-take.field-0 0x7FFC)) BadSync c.take.new.self.cursor} c.take.new.self c.take-4.new.self c.take.new.self.cursor _ (rw c.if-branch-ne32764.false refl) (told_then c.take.new.self c.take-2.new.self c.take-4.new.self _ c.in_ok-variable.ensures.counts c.in_ok-variable.ensures.reads (told_then c.take-2.new.self c.take-3.new.self c.take-4.new.self _ c.in_ok-size_code.ensures.counts c.in_ok-size_code.ensures.reads (told_past {read = judged (nat_eq c.in_ok-size_code.field-0 0) ReservedCode c.take-3.new.self.cursor} c.take-3.new.self c.take-4.new.self c.take-3.new.self.cursor _ (rw (ne_eqb c.in_ok-size_code.field-0 0 c.if-size_code-eq0.false) refl) (told_then c.take-3.new.self c.take-4.new.self c.take-4.new.self _ c.in_ok-rate_code.ensures.counts c.in_ok-rate_code.ensures.reads (told_broken {read = judged (nat_eq c.in_ok-rate_code.field-0 15) ReservedCode c.take-4.new.self.cursor} c.take-4.new.self c.take-4.new.self _ (rw c.if-rate_code-eq15.true refl)))))));
+      reads = told_then c.args.bits.now c.take.new.self c.take-4.new.self _ c.in_ok-take.ensures.counts c.in_ok-take.ensures.reads (told_past {read = judged (not (nat_eq c.in_ok-take.field-0 0x7FFC)) BadSync c.take.new.self.cursor} c.take.new.self c.take-4.new.self c.take.new.self.cursor _ (rw c.if-branch-ne32764.false refl) (told_then c.take.new.self c.take-2.new.self c.take-4.new.self _ c.in_ok-bit.ensures.counts c.in_ok-bit.ensures.reads (told_then c.take-2.new.self c.take-3.new.self c.take-4.new.self _ c.in_ok-size_code.ensures.counts c.in_ok-size_code.ensures.reads (told_past {read = judged (nat_eq c.in_ok-size_code.field-0 0) ReservedCode c.take-3.new.self.cursor} c.take-3.new.self c.take-4.new.self c.take-3.new.self.cursor _ (rw (ne_eqb c.in_ok-size_code.field-0 0 c.if-size_code-eq0.false) refl) (told_then c.take-3.new.self c.take-4.new.self c.take-4.new.self _ c.in_ok-rate_code.ensures.counts c.in_ok-rate_code.ensures.reads (told_broken {read = judged (nat_eq c.in_ok-rate_code.field-0 15) ReservedCode c.take-4.new.self.cursor} c.take-4.new.self c.take-4.new.self _ (rw c.if-rate_code-eq15.true refl)))))));
     }
 
 pub returns-in_err-channel_code : goal.returns-in_err-channel_code
@@ -109,9 +108,9 @@ returns-in_err-channel_code g c =
     let p = err_from_is_err_and c.from_residual-in_err-channel_code.result c.from_residual-in_err-channel_code.ensures.1 in
     rw (p.1, p.2) (record {
       spends = tt;
-      counts = failed_then c.args.bits.now c.take.new.self c.take-5.new.self c.in_ok-take.ensures.counts (failed_then c.take.new.self c.take-2.new.self c.take-5.new.self c.in_ok-variable.ensures.counts (failed_then c.take-2.new.self c.take-3.new.self c.take-5.new.self c.in_ok-size_code.ensures.counts (failed_then c.take-3.new.self c.take-4.new.self c.take-5.new.self c.in_ok-rate_code.ensures.counts c.in_err-channel_code.ensures.counts)));
+      counts = failed_then c.args.bits.now c.take.new.self c.take-5.new.self c.in_ok-take.ensures.counts (failed_then c.take.new.self c.take-2.new.self c.take-5.new.self c.in_ok-bit.ensures.counts (failed_then c.take-2.new.self c.take-3.new.self c.take-5.new.self c.in_ok-size_code.ensures.counts (failed_then c.take-3.new.self c.take-4.new.self c.take-5.new.self c.in_ok-rate_code.ensures.counts c.in_err-channel_code.ensures.counts)));
       memory = c.in_err-channel_code.ensures.memory;
-      reads = told_then c.args.bits.now c.take.new.self c.take-5.new.self _ c.in_ok-take.ensures.counts c.in_ok-take.ensures.reads (told_past {read = judged (not (nat_eq c.in_ok-take.field-0 0x7FFC)) BadSync c.take.new.self.cursor} c.take.new.self c.take-5.new.self c.take.new.self.cursor _ (rw c.if-branch-ne32764.false refl) (told_then c.take.new.self c.take-2.new.self c.take-5.new.self _ c.in_ok-variable.ensures.counts c.in_ok-variable.ensures.reads (told_then c.take-2.new.self c.take-3.new.self c.take-5.new.self _ c.in_ok-size_code.ensures.counts c.in_ok-size_code.ensures.reads (told_past {read = judged (nat_eq c.in_ok-size_code.field-0 0) ReservedCode c.take-3.new.self.cursor} c.take-3.new.self c.take-5.new.self c.take-3.new.self.cursor _ (rw (ne_eqb c.in_ok-size_code.field-0 0 c.if-size_code-eq0.false) refl) (told_then c.take-3.new.self c.take-4.new.self c.take-5.new.self _ c.in_ok-rate_code.ensures.counts c.in_ok-rate_code.ensures.reads (told_past {read = judged (nat_eq c.in_ok-rate_code.field-0 15) ReservedCode c.take-4.new.self.cursor} c.take-4.new.self c.take-5.new.self c.take-4.new.self.cursor _ (rw (ne_eqb c.in_ok-rate_code.field-0 15 c.if-rate_code-eq15.false) refl) (told_fault c.take-4.new.self c.take-5.new.self _ c.in_err-channel_code.ensures.reads)))))));
+      reads = told_then c.args.bits.now c.take.new.self c.take-5.new.self _ c.in_ok-take.ensures.counts c.in_ok-take.ensures.reads (told_past {read = judged (not (nat_eq c.in_ok-take.field-0 0x7FFC)) BadSync c.take.new.self.cursor} c.take.new.self c.take-5.new.self c.take.new.self.cursor _ (rw c.if-branch-ne32764.false refl) (told_then c.take.new.self c.take-2.new.self c.take-5.new.self _ c.in_ok-bit.ensures.counts c.in_ok-bit.ensures.reads (told_then c.take-2.new.self c.take-3.new.self c.take-5.new.self _ c.in_ok-size_code.ensures.counts c.in_ok-size_code.ensures.reads (told_past {read = judged (nat_eq c.in_ok-size_code.field-0 0) ReservedCode c.take-3.new.self.cursor} c.take-3.new.self c.take-5.new.self c.take-3.new.self.cursor _ (rw (ne_eqb c.in_ok-size_code.field-0 0 c.if-size_code-eq0.false) refl) (told_then c.take-3.new.self c.take-4.new.self c.take-5.new.self _ c.in_ok-rate_code.ensures.counts c.in_ok-rate_code.ensures.reads (told_past {read = judged (nat_eq c.in_ok-rate_code.field-0 15) ReservedCode c.take-4.new.self.cursor} c.take-4.new.self c.take-5.new.self c.take-4.new.self.cursor _ (rw (ne_eqb c.in_ok-rate_code.field-0 15 c.if-rate_code-eq15.false) refl) (told_fault c.take-4.new.self c.take-5.new.self _ c.in_err-channel_code.ensures.reads)))))));
     })
 
 pub returns-then-channel_code-gt10 : goal.returns-then-channel_code-gt10
@@ -119,9 +118,9 @@ unfolding header
 returns-then-channel_code-gt10 g c =
     record {
       spends = tt;
-      counts = refused_then c.args.bits.now c.take-5.new.self (answered_then c.args.bits.now c.take.new.self c.take-5.new.self c.in_ok-take.ensures.counts (answered_then c.take.new.self c.take-2.new.self c.take-5.new.self c.in_ok-variable.ensures.counts (answered_then c.take-2.new.self c.take-3.new.self c.take-5.new.self c.in_ok-size_code.ensures.counts (answered_then c.take-3.new.self c.take-4.new.self c.take-5.new.self c.in_ok-rate_code.ensures.counts c.in_ok-channel_code.ensures.counts)))) refl;
+      counts = refused_then c.args.bits.now c.take-5.new.self (answered_then c.args.bits.now c.take.new.self c.take-5.new.self c.in_ok-take.ensures.counts (answered_then c.take.new.self c.take-2.new.self c.take-5.new.self c.in_ok-bit.ensures.counts (answered_then c.take-2.new.self c.take-3.new.self c.take-5.new.self c.in_ok-size_code.ensures.counts (answered_then c.take-3.new.self c.take-4.new.self c.take-5.new.self c.in_ok-rate_code.ensures.counts c.in_ok-channel_code.ensures.counts)))) refl;
       memory = code_no_memory;
-      reads = told_then c.args.bits.now c.take.new.self c.take-5.new.self _ c.in_ok-take.ensures.counts c.in_ok-take.ensures.reads (told_past {read = judged (not (nat_eq c.in_ok-take.field-0 0x7FFC)) BadSync c.take.new.self.cursor} c.take.new.self c.take-5.new.self c.take.new.self.cursor _ (rw c.if-branch-ne32764.false refl) (told_then c.take.new.self c.take-2.new.self c.take-5.new.self _ c.in_ok-variable.ensures.counts c.in_ok-variable.ensures.reads (told_then c.take-2.new.self c.take-3.new.self c.take-5.new.self _ c.in_ok-size_code.ensures.counts c.in_ok-size_code.ensures.reads (told_past {read = judged (nat_eq c.in_ok-size_code.field-0 0) ReservedCode c.take-3.new.self.cursor} c.take-3.new.self c.take-5.new.self c.take-3.new.self.cursor _ (rw (ne_eqb c.in_ok-size_code.field-0 0 c.if-size_code-eq0.false) refl) (told_then c.take-3.new.self c.take-4.new.self c.take-5.new.self _ c.in_ok-rate_code.ensures.counts c.in_ok-rate_code.ensures.reads (told_past {read = judged (nat_eq c.in_ok-rate_code.field-0 15) ReservedCode c.take-4.new.self.cursor} c.take-4.new.self c.take-5.new.self c.take-4.new.self.cursor _ (rw (ne_eqb c.in_ok-rate_code.field-0 15 c.if-rate_code-eq15.false) refl) (told_then c.take-4.new.self c.take-5.new.self c.take-5.new.self _ c.in_ok-channel_code.ensures.counts c.in_ok-channel_code.ensures.reads (told_broken {read = judged (nat_lt 10 c.in_ok-channel_code.field-0) ReservedCode c.take-5.new.self.cursor} c.take-5.new.self c.take-5.new.self _ (search rules)))))))));
+      reads = told_then c.args.bits.now c.take.new.self c.take-5.new.self _ c.in_ok-take.ensures.counts c.in_ok-take.ensures.reads (told_past {read = judged (not (nat_eq c.in_ok-take.field-0 0x7FFC)) BadSync c.take.new.self.cursor} c.take.new.self c.take-5.new.self c.take.new.self.cursor _ (rw c.if-branch-ne32764.false refl) (told_then c.take.new.self c.take-2.new.self c.take-5.new.self _ c.in_ok-bit.ensures.counts c.in_ok-bit.ensures.reads (told_then c.take-2.new.self c.take-3.new.self c.take-5.new.self _ c.in_ok-size_code.ensures.counts c.in_ok-size_code.ensures.reads (told_past {read = judged (nat_eq c.in_ok-size_code.field-0 0) ReservedCode c.take-3.new.self.cursor} c.take-3.new.self c.take-5.new.self c.take-3.new.self.cursor _ (rw (ne_eqb c.in_ok-size_code.field-0 0 c.if-size_code-eq0.false) refl) (told_then c.take-3.new.self c.take-4.new.self c.take-5.new.self _ c.in_ok-rate_code.ensures.counts c.in_ok-rate_code.ensures.reads (told_past {read = judged (nat_eq c.in_ok-rate_code.field-0 15) ReservedCode c.take-4.new.self.cursor} c.take-4.new.self c.take-5.new.self c.take-4.new.self.cursor _ (rw (ne_eqb c.in_ok-rate_code.field-0 15 c.if-rate_code-eq15.false) refl) (told_then c.take-4.new.self c.take-5.new.self c.take-5.new.self _ c.in_ok-channel_code.ensures.counts c.in_ok-channel_code.ensures.reads (told_broken {read = judged (nat_lt 10 c.in_ok-channel_code.field-0) ReservedCode c.take-5.new.self.cursor} c.take-5.new.self c.take-5.new.self _ (search rules)))))))));
     }
 
 pub returns-in_err-depth_code : goal.returns-in_err-depth_code
@@ -130,9 +129,9 @@ returns-in_err-depth_code g c =
     let p = err_from_is_err_and c.from_residual-in_err-depth_code.result c.from_residual-in_err-depth_code.ensures.1 in
     rw (p.1, p.2) (record {
       spends = tt;
-      counts = failed_then c.args.bits.now c.take.new.self c.take-6.new.self c.in_ok-take.ensures.counts (failed_then c.take.new.self c.take-2.new.self c.take-6.new.self c.in_ok-variable.ensures.counts (failed_then c.take-2.new.self c.take-3.new.self c.take-6.new.self c.in_ok-size_code.ensures.counts (failed_then c.take-3.new.self c.take-4.new.self c.take-6.new.self c.in_ok-rate_code.ensures.counts (failed_then c.take-4.new.self c.take-5.new.self c.take-6.new.self c.in_ok-channel_code.ensures.counts c.in_err-depth_code.ensures.counts))));
+      counts = failed_then c.args.bits.now c.take.new.self c.take-6.new.self c.in_ok-take.ensures.counts (failed_then c.take.new.self c.take-2.new.self c.take-6.new.self c.in_ok-bit.ensures.counts (failed_then c.take-2.new.self c.take-3.new.self c.take-6.new.self c.in_ok-size_code.ensures.counts (failed_then c.take-3.new.self c.take-4.new.self c.take-6.new.self c.in_ok-rate_code.ensures.counts (failed_then c.take-4.new.self c.take-5.new.self c.take-6.new.self c.in_ok-channel_code.ensures.counts c.in_err-depth_code.ensures.counts))));
       memory = c.in_err-depth_code.ensures.memory;
-      reads = told_then c.args.bits.now c.take.new.self c.take-6.new.self _ c.in_ok-take.ensures.counts c.in_ok-take.ensures.reads (told_past {read = judged (not (nat_eq c.in_ok-take.field-0 0x7FFC)) BadSync c.take.new.self.cursor} c.take.new.self c.take-6.new.self c.take.new.self.cursor _ (rw c.if-branch-ne32764.false refl) (told_then c.take.new.self c.take-2.new.self c.take-6.new.self _ c.in_ok-variable.ensures.counts c.in_ok-variable.ensures.reads (told_then c.take-2.new.self c.take-3.new.self c.take-6.new.self _ c.in_ok-size_code.ensures.counts c.in_ok-size_code.ensures.reads (told_past {read = judged (nat_eq c.in_ok-size_code.field-0 0) ReservedCode c.take-3.new.self.cursor} c.take-3.new.self c.take-6.new.self c.take-3.new.self.cursor _ (rw (ne_eqb c.in_ok-size_code.field-0 0 c.if-size_code-eq0.false) refl) (told_then c.take-3.new.self c.take-4.new.self c.take-6.new.self _ c.in_ok-rate_code.ensures.counts c.in_ok-rate_code.ensures.reads (told_past {read = judged (nat_eq c.in_ok-rate_code.field-0 15) ReservedCode c.take-4.new.self.cursor} c.take-4.new.self c.take-6.new.self c.take-4.new.self.cursor _ (rw (ne_eqb c.in_ok-rate_code.field-0 15 c.if-rate_code-eq15.false) refl) (told_then c.take-4.new.self c.take-5.new.self c.take-6.new.self _ c.in_ok-channel_code.ensures.counts c.in_ok-channel_code.ensures.reads (told_past {read = judged (nat_lt 10 c.in_ok-channel_code.field-0) ReservedCode c.take-5.new.self.cursor} c.take-5.new.self c.take-6.new.self c.take-5.new.self.cursor _ (rw (at_most_10 c.in_ok-channel_code.field-0 c.if-channel_code-gt10.false) refl) (told_fault c.take-5.new.self c.take-6.new.self _ c.in_err-depth_code.ensures.reads)))))))));
+      reads = told_then c.args.bits.now c.take.new.self c.take-6.new.self _ c.in_ok-take.ensures.counts c.in_ok-take.ensures.reads (told_past {read = judged (not (nat_eq c.in_ok-take.field-0 0x7FFC)) BadSync c.take.new.self.cursor} c.take.new.self c.take-6.new.self c.take.new.self.cursor _ (rw c.if-branch-ne32764.false refl) (told_then c.take.new.self c.take-2.new.self c.take-6.new.self _ c.in_ok-bit.ensures.counts c.in_ok-bit.ensures.reads (told_then c.take-2.new.self c.take-3.new.self c.take-6.new.self _ c.in_ok-size_code.ensures.counts c.in_ok-size_code.ensures.reads (told_past {read = judged (nat_eq c.in_ok-size_code.field-0 0) ReservedCode c.take-3.new.self.cursor} c.take-3.new.self c.take-6.new.self c.take-3.new.self.cursor _ (rw (ne_eqb c.in_ok-size_code.field-0 0 c.if-size_code-eq0.false) refl) (told_then c.take-3.new.self c.take-4.new.self c.take-6.new.self _ c.in_ok-rate_code.ensures.counts c.in_ok-rate_code.ensures.reads (told_past {read = judged (nat_eq c.in_ok-rate_code.field-0 15) ReservedCode c.take-4.new.self.cursor} c.take-4.new.self c.take-6.new.self c.take-4.new.self.cursor _ (rw (ne_eqb c.in_ok-rate_code.field-0 15 c.if-rate_code-eq15.false) refl) (told_then c.take-4.new.self c.take-5.new.self c.take-6.new.self _ c.in_ok-channel_code.ensures.counts c.in_ok-channel_code.ensures.reads (told_past {read = judged (nat_lt 10 c.in_ok-channel_code.field-0) ReservedCode c.take-5.new.self.cursor} c.take-5.new.self c.take-6.new.self c.take-5.new.self.cursor _ (rw (at_most_10 c.in_ok-channel_code.field-0 c.if-channel_code-gt10.false) refl) (told_fault c.take-5.new.self c.take-6.new.self _ c.in_err-depth_code.ensures.reads)))))))));
     })
 
 pub returns-then-depth_code-eq3 : goal.returns-then-depth_code-eq3
@@ -140,9 +139,9 @@ unfolding header
 returns-then-depth_code-eq3 g c =
     record {
       spends = tt;
-      counts = refused_then c.args.bits.now c.take-6.new.self (answered_then c.args.bits.now c.take.new.self c.take-6.new.self c.in_ok-take.ensures.counts (answered_then c.take.new.self c.take-2.new.self c.take-6.new.self c.in_ok-variable.ensures.counts (answered_then c.take-2.new.self c.take-3.new.self c.take-6.new.self c.in_ok-size_code.ensures.counts (answered_then c.take-3.new.self c.take-4.new.self c.take-6.new.self c.in_ok-rate_code.ensures.counts (answered_then c.take-4.new.self c.take-5.new.self c.take-6.new.self c.in_ok-channel_code.ensures.counts c.in_ok-depth_code.ensures.counts))))) refl;
+      counts = refused_then c.args.bits.now c.take-6.new.self (answered_then c.args.bits.now c.take.new.self c.take-6.new.self c.in_ok-take.ensures.counts (answered_then c.take.new.self c.take-2.new.self c.take-6.new.self c.in_ok-bit.ensures.counts (answered_then c.take-2.new.self c.take-3.new.self c.take-6.new.self c.in_ok-size_code.ensures.counts (answered_then c.take-3.new.self c.take-4.new.self c.take-6.new.self c.in_ok-rate_code.ensures.counts (answered_then c.take-4.new.self c.take-5.new.self c.take-6.new.self c.in_ok-channel_code.ensures.counts c.in_ok-depth_code.ensures.counts))))) refl;
       memory = code_no_memory;
-      reads = told_then c.args.bits.now c.take.new.self c.take-6.new.self _ c.in_ok-take.ensures.counts c.in_ok-take.ensures.reads (told_past {read = judged (not (nat_eq c.in_ok-take.field-0 0x7FFC)) BadSync c.take.new.self.cursor} c.take.new.self c.take-6.new.self c.take.new.self.cursor _ (rw c.if-branch-ne32764.false refl) (told_then c.take.new.self c.take-2.new.self c.take-6.new.self _ c.in_ok-variable.ensures.counts c.in_ok-variable.ensures.reads (told_then c.take-2.new.self c.take-3.new.self c.take-6.new.self _ c.in_ok-size_code.ensures.counts c.in_ok-size_code.ensures.reads (told_past {read = judged (nat_eq c.in_ok-size_code.field-0 0) ReservedCode c.take-3.new.self.cursor} c.take-3.new.self c.take-6.new.self c.take-3.new.self.cursor _ (rw (ne_eqb c.in_ok-size_code.field-0 0 c.if-size_code-eq0.false) refl) (told_then c.take-3.new.self c.take-4.new.self c.take-6.new.self _ c.in_ok-rate_code.ensures.counts c.in_ok-rate_code.ensures.reads (told_past {read = judged (nat_eq c.in_ok-rate_code.field-0 15) ReservedCode c.take-4.new.self.cursor} c.take-4.new.self c.take-6.new.self c.take-4.new.self.cursor _ (rw (ne_eqb c.in_ok-rate_code.field-0 15 c.if-rate_code-eq15.false) refl) (told_then c.take-4.new.self c.take-5.new.self c.take-6.new.self _ c.in_ok-channel_code.ensures.counts c.in_ok-channel_code.ensures.reads (told_past {read = judged (nat_lt 10 c.in_ok-channel_code.field-0) ReservedCode c.take-5.new.self.cursor} c.take-5.new.self c.take-6.new.self c.take-5.new.self.cursor _ (rw (at_most_10 c.in_ok-channel_code.field-0 c.if-channel_code-gt10.false) refl) (told_then c.take-5.new.self c.take-6.new.self c.take-6.new.self _ c.in_ok-depth_code.ensures.counts c.in_ok-depth_code.ensures.reads (told_broken {read = judged (nat_eq c.in_ok-depth_code.field-0 3) ReservedCode c.take-6.new.self.cursor} c.take-6.new.self c.take-6.new.self _ (rw c.if-depth_code-eq3.true refl)))))))))));
+      reads = told_then c.args.bits.now c.take.new.self c.take-6.new.self _ c.in_ok-take.ensures.counts c.in_ok-take.ensures.reads (told_past {read = judged (not (nat_eq c.in_ok-take.field-0 0x7FFC)) BadSync c.take.new.self.cursor} c.take.new.self c.take-6.new.self c.take.new.self.cursor _ (rw c.if-branch-ne32764.false refl) (told_then c.take.new.self c.take-2.new.self c.take-6.new.self _ c.in_ok-bit.ensures.counts c.in_ok-bit.ensures.reads (told_then c.take-2.new.self c.take-3.new.self c.take-6.new.self _ c.in_ok-size_code.ensures.counts c.in_ok-size_code.ensures.reads (told_past {read = judged (nat_eq c.in_ok-size_code.field-0 0) ReservedCode c.take-3.new.self.cursor} c.take-3.new.self c.take-6.new.self c.take-3.new.self.cursor _ (rw (ne_eqb c.in_ok-size_code.field-0 0 c.if-size_code-eq0.false) refl) (told_then c.take-3.new.self c.take-4.new.self c.take-6.new.self _ c.in_ok-rate_code.ensures.counts c.in_ok-rate_code.ensures.reads (told_past {read = judged (nat_eq c.in_ok-rate_code.field-0 15) ReservedCode c.take-4.new.self.cursor} c.take-4.new.self c.take-6.new.self c.take-4.new.self.cursor _ (rw (ne_eqb c.in_ok-rate_code.field-0 15 c.if-rate_code-eq15.false) refl) (told_then c.take-4.new.self c.take-5.new.self c.take-6.new.self _ c.in_ok-channel_code.ensures.counts c.in_ok-channel_code.ensures.reads (told_past {read = judged (nat_lt 10 c.in_ok-channel_code.field-0) ReservedCode c.take-5.new.self.cursor} c.take-5.new.self c.take-6.new.self c.take-5.new.self.cursor _ (rw (at_most_10 c.in_ok-channel_code.field-0 c.if-channel_code-gt10.false) refl) (told_then c.take-5.new.self c.take-6.new.self c.take-6.new.self _ c.in_ok-depth_code.ensures.counts c.in_ok-depth_code.ensures.reads (told_broken {read = judged (nat_eq c.in_ok-depth_code.field-0 3) ReservedCode c.take-6.new.self.cursor} c.take-6.new.self c.take-6.new.self _ (rw c.if-depth_code-eq3.true refl)))))))))));
     }
 
 pub returns-in_err-take-2 : goal.returns-in_err-take-2
@@ -151,9 +150,9 @@ returns-in_err-take-2 g c =
     let p = err_from_is_err_and c.from_residual-in_err-take-2.result c.from_residual-in_err-take-2.ensures.1 in
     rw (p.1, p.2) (record {
       spends = tt;
-      counts = failed_then c.args.bits.now c.take.new.self c.take-7.new.self c.in_ok-take.ensures.counts (failed_then c.take.new.self c.take-2.new.self c.take-7.new.self c.in_ok-variable.ensures.counts (failed_then c.take-2.new.self c.take-3.new.self c.take-7.new.self c.in_ok-size_code.ensures.counts (failed_then c.take-3.new.self c.take-4.new.self c.take-7.new.self c.in_ok-rate_code.ensures.counts (failed_then c.take-4.new.self c.take-5.new.self c.take-7.new.self c.in_ok-channel_code.ensures.counts (failed_then c.take-5.new.self c.take-6.new.self c.take-7.new.self c.in_ok-depth_code.ensures.counts c.in_err-take-2.ensures.counts)))));
+      counts = failed_then c.args.bits.now c.take.new.self c.take-7.new.self c.in_ok-take.ensures.counts (failed_then c.take.new.self c.take-2.new.self c.take-7.new.self c.in_ok-bit.ensures.counts (failed_then c.take-2.new.self c.take-3.new.self c.take-7.new.self c.in_ok-size_code.ensures.counts (failed_then c.take-3.new.self c.take-4.new.self c.take-7.new.self c.in_ok-rate_code.ensures.counts (failed_then c.take-4.new.self c.take-5.new.self c.take-7.new.self c.in_ok-channel_code.ensures.counts (failed_then c.take-5.new.self c.take-6.new.self c.take-7.new.self c.in_ok-depth_code.ensures.counts c.in_err-take-2.ensures.counts)))));
       memory = c.in_err-take-2.ensures.memory;
-      reads = told_then c.args.bits.now c.take.new.self c.take-7.new.self _ c.in_ok-take.ensures.counts c.in_ok-take.ensures.reads (told_past {read = judged (not (nat_eq c.in_ok-take.field-0 0x7FFC)) BadSync c.take.new.self.cursor} c.take.new.self c.take-7.new.self c.take.new.self.cursor _ (rw c.if-branch-ne32764.false refl) (told_then c.take.new.self c.take-2.new.self c.take-7.new.self _ c.in_ok-variable.ensures.counts c.in_ok-variable.ensures.reads (told_then c.take-2.new.self c.take-3.new.self c.take-7.new.self _ c.in_ok-size_code.ensures.counts c.in_ok-size_code.ensures.reads (told_past {read = judged (nat_eq c.in_ok-size_code.field-0 0) ReservedCode c.take-3.new.self.cursor} c.take-3.new.self c.take-7.new.self c.take-3.new.self.cursor _ (rw (ne_eqb c.in_ok-size_code.field-0 0 c.if-size_code-eq0.false) refl) (told_then c.take-3.new.self c.take-4.new.self c.take-7.new.self _ c.in_ok-rate_code.ensures.counts c.in_ok-rate_code.ensures.reads (told_past {read = judged (nat_eq c.in_ok-rate_code.field-0 15) ReservedCode c.take-4.new.self.cursor} c.take-4.new.self c.take-7.new.self c.take-4.new.self.cursor _ (rw (ne_eqb c.in_ok-rate_code.field-0 15 c.if-rate_code-eq15.false) refl) (told_then c.take-4.new.self c.take-5.new.self c.take-7.new.self _ c.in_ok-channel_code.ensures.counts c.in_ok-channel_code.ensures.reads (told_past {read = judged (nat_lt 10 c.in_ok-channel_code.field-0) ReservedCode c.take-5.new.self.cursor} c.take-5.new.self c.take-7.new.self c.take-5.new.self.cursor _ (rw (at_most_10 c.in_ok-channel_code.field-0 c.if-channel_code-gt10.false) refl) (told_then c.take-5.new.self c.take-6.new.self c.take-7.new.self _ c.in_ok-depth_code.ensures.counts c.in_ok-depth_code.ensures.reads (told_past {read = judged (nat_eq c.in_ok-depth_code.field-0 3) ReservedCode c.take-6.new.self.cursor} c.take-6.new.self c.take-7.new.self c.take-6.new.self.cursor _ (rw (ne_eqb c.in_ok-depth_code.field-0 3 c.if-depth_code-eq3.false) refl) (told_fault c.take-6.new.self c.take-7.new.self _ c.in_err-take-2.ensures.reads)))))))))));
+      reads = told_then c.args.bits.now c.take.new.self c.take-7.new.self _ c.in_ok-take.ensures.counts c.in_ok-take.ensures.reads (told_past {read = judged (not (nat_eq c.in_ok-take.field-0 0x7FFC)) BadSync c.take.new.self.cursor} c.take.new.self c.take-7.new.self c.take.new.self.cursor _ (rw c.if-branch-ne32764.false refl) (told_then c.take.new.self c.take-2.new.self c.take-7.new.self _ c.in_ok-bit.ensures.counts c.in_ok-bit.ensures.reads (told_then c.take-2.new.self c.take-3.new.self c.take-7.new.self _ c.in_ok-size_code.ensures.counts c.in_ok-size_code.ensures.reads (told_past {read = judged (nat_eq c.in_ok-size_code.field-0 0) ReservedCode c.take-3.new.self.cursor} c.take-3.new.self c.take-7.new.self c.take-3.new.self.cursor _ (rw (ne_eqb c.in_ok-size_code.field-0 0 c.if-size_code-eq0.false) refl) (told_then c.take-3.new.self c.take-4.new.self c.take-7.new.self _ c.in_ok-rate_code.ensures.counts c.in_ok-rate_code.ensures.reads (told_past {read = judged (nat_eq c.in_ok-rate_code.field-0 15) ReservedCode c.take-4.new.self.cursor} c.take-4.new.self c.take-7.new.self c.take-4.new.self.cursor _ (rw (ne_eqb c.in_ok-rate_code.field-0 15 c.if-rate_code-eq15.false) refl) (told_then c.take-4.new.self c.take-5.new.self c.take-7.new.self _ c.in_ok-channel_code.ensures.counts c.in_ok-channel_code.ensures.reads (told_past {read = judged (nat_lt 10 c.in_ok-channel_code.field-0) ReservedCode c.take-5.new.self.cursor} c.take-5.new.self c.take-7.new.self c.take-5.new.self.cursor _ (rw (at_most_10 c.in_ok-channel_code.field-0 c.if-channel_code-gt10.false) refl) (told_then c.take-5.new.self c.take-6.new.self c.take-7.new.self _ c.in_ok-depth_code.ensures.counts c.in_ok-depth_code.ensures.reads (told_past {read = judged (nat_eq c.in_ok-depth_code.field-0 3) ReservedCode c.take-6.new.self.cursor} c.take-6.new.self c.take-7.new.self c.take-6.new.self.cursor _ (rw (ne_eqb c.in_ok-depth_code.field-0 3 c.if-depth_code-eq3.false) refl) (told_fault c.take-6.new.self c.take-7.new.self _ c.in_err-take-2.ensures.reads)))))))))));
     })
 
 pub returns-then-branch-ne0 : goal.returns-then-branch-ne0
@@ -161,75 +160,75 @@ unfolding header
 returns-then-branch-ne0 g c =
     record {
       spends = tt;
-      counts = refused_then c.args.bits.now c.take-7.new.self (answered_then c.args.bits.now c.take.new.self c.take-7.new.self c.in_ok-take.ensures.counts (answered_then c.take.new.self c.take-2.new.self c.take-7.new.self c.in_ok-variable.ensures.counts (answered_then c.take-2.new.self c.take-3.new.self c.take-7.new.self c.in_ok-size_code.ensures.counts (answered_then c.take-3.new.self c.take-4.new.self c.take-7.new.self c.in_ok-rate_code.ensures.counts (answered_then c.take-4.new.self c.take-5.new.self c.take-7.new.self c.in_ok-channel_code.ensures.counts (answered_then c.take-5.new.self c.take-6.new.self c.take-7.new.self c.in_ok-depth_code.ensures.counts c.in_ok-take-2.ensures.counts)))))) refl;
+      counts = refused_then c.args.bits.now c.take-7.new.self (answered_then c.args.bits.now c.take.new.self c.take-7.new.self c.in_ok-take.ensures.counts (answered_then c.take.new.self c.take-2.new.self c.take-7.new.self c.in_ok-bit.ensures.counts (answered_then c.take-2.new.self c.take-3.new.self c.take-7.new.self c.in_ok-size_code.ensures.counts (answered_then c.take-3.new.self c.take-4.new.self c.take-7.new.self c.in_ok-rate_code.ensures.counts (answered_then c.take-4.new.self c.take-5.new.self c.take-7.new.self c.in_ok-channel_code.ensures.counts (answered_then c.take-5.new.self c.take-6.new.self c.take-7.new.self c.in_ok-depth_code.ensures.counts c.in_ok-take-2.ensures.counts)))))) refl;
       memory = code_no_memory;
-      reads = told_then c.args.bits.now c.take.new.self c.take-7.new.self _ c.in_ok-take.ensures.counts c.in_ok-take.ensures.reads (told_past {read = judged (not (nat_eq c.in_ok-take.field-0 0x7FFC)) BadSync c.take.new.self.cursor} c.take.new.self c.take-7.new.self c.take.new.self.cursor _ (rw c.if-branch-ne32764.false refl) (told_then c.take.new.self c.take-2.new.self c.take-7.new.self _ c.in_ok-variable.ensures.counts c.in_ok-variable.ensures.reads (told_then c.take-2.new.self c.take-3.new.self c.take-7.new.self _ c.in_ok-size_code.ensures.counts c.in_ok-size_code.ensures.reads (told_past {read = judged (nat_eq c.in_ok-size_code.field-0 0) ReservedCode c.take-3.new.self.cursor} c.take-3.new.self c.take-7.new.self c.take-3.new.self.cursor _ (rw (ne_eqb c.in_ok-size_code.field-0 0 c.if-size_code-eq0.false) refl) (told_then c.take-3.new.self c.take-4.new.self c.take-7.new.self _ c.in_ok-rate_code.ensures.counts c.in_ok-rate_code.ensures.reads (told_past {read = judged (nat_eq c.in_ok-rate_code.field-0 15) ReservedCode c.take-4.new.self.cursor} c.take-4.new.self c.take-7.new.self c.take-4.new.self.cursor _ (rw (ne_eqb c.in_ok-rate_code.field-0 15 c.if-rate_code-eq15.false) refl) (told_then c.take-4.new.self c.take-5.new.self c.take-7.new.self _ c.in_ok-channel_code.ensures.counts c.in_ok-channel_code.ensures.reads (told_past {read = judged (nat_lt 10 c.in_ok-channel_code.field-0) ReservedCode c.take-5.new.self.cursor} c.take-5.new.self c.take-7.new.self c.take-5.new.self.cursor _ (rw (at_most_10 c.in_ok-channel_code.field-0 c.if-channel_code-gt10.false) refl) (told_then c.take-5.new.self c.take-6.new.self c.take-7.new.self _ c.in_ok-depth_code.ensures.counts c.in_ok-depth_code.ensures.reads (told_past {read = judged (nat_eq c.in_ok-depth_code.field-0 3) ReservedCode c.take-6.new.self.cursor} c.take-6.new.self c.take-7.new.self c.take-6.new.self.cursor _ (rw (ne_eqb c.in_ok-depth_code.field-0 3 c.if-depth_code-eq3.false) refl) (told_then c.take-6.new.self c.take-7.new.self c.take-7.new.self _ c.in_ok-take-2.ensures.counts c.in_ok-take-2.ensures.reads (told_broken {read = judged (not (nat_eq c.in_ok-take-2.field-0 0)) ReservedCode c.take-7.new.self.cursor} c.take-7.new.self c.take-7.new.self _ (rw (ne_eqb c.in_ok-take-2.field-0 0 c.if-branch-ne0.true) refl)))))))))))));
+      reads = told_then c.args.bits.now c.take.new.self c.take-7.new.self _ c.in_ok-take.ensures.counts c.in_ok-take.ensures.reads (told_past {read = judged (not (nat_eq c.in_ok-take.field-0 0x7FFC)) BadSync c.take.new.self.cursor} c.take.new.self c.take-7.new.self c.take.new.self.cursor _ (rw c.if-branch-ne32764.false refl) (told_then c.take.new.self c.take-2.new.self c.take-7.new.self _ c.in_ok-bit.ensures.counts c.in_ok-bit.ensures.reads (told_then c.take-2.new.self c.take-3.new.self c.take-7.new.self _ c.in_ok-size_code.ensures.counts c.in_ok-size_code.ensures.reads (told_past {read = judged (nat_eq c.in_ok-size_code.field-0 0) ReservedCode c.take-3.new.self.cursor} c.take-3.new.self c.take-7.new.self c.take-3.new.self.cursor _ (rw (ne_eqb c.in_ok-size_code.field-0 0 c.if-size_code-eq0.false) refl) (told_then c.take-3.new.self c.take-4.new.self c.take-7.new.self _ c.in_ok-rate_code.ensures.counts c.in_ok-rate_code.ensures.reads (told_past {read = judged (nat_eq c.in_ok-rate_code.field-0 15) ReservedCode c.take-4.new.self.cursor} c.take-4.new.self c.take-7.new.self c.take-4.new.self.cursor _ (rw (ne_eqb c.in_ok-rate_code.field-0 15 c.if-rate_code-eq15.false) refl) (told_then c.take-4.new.self c.take-5.new.self c.take-7.new.self _ c.in_ok-channel_code.ensures.counts c.in_ok-channel_code.ensures.reads (told_past {read = judged (nat_lt 10 c.in_ok-channel_code.field-0) ReservedCode c.take-5.new.self.cursor} c.take-5.new.self c.take-7.new.self c.take-5.new.self.cursor _ (rw (at_most_10 c.in_ok-channel_code.field-0 c.if-channel_code-gt10.false) refl) (told_then c.take-5.new.self c.take-6.new.self c.take-7.new.self _ c.in_ok-depth_code.ensures.counts c.in_ok-depth_code.ensures.reads (told_past {read = judged (nat_eq c.in_ok-depth_code.field-0 3) ReservedCode c.take-6.new.self.cursor} c.take-6.new.self c.take-7.new.self c.take-6.new.self.cursor _ (rw (ne_eqb c.in_ok-depth_code.field-0 3 c.if-depth_code-eq3.false) refl) (told_then c.take-6.new.self c.take-7.new.self c.take-7.new.self _ c.in_ok-take-2.ensures.counts c.in_ok-take-2.ensures.reads (told_broken {read = judged (not (nat_eq c.in_ok-take-2.field-0 0)) ReservedCode c.take-7.new.self.cursor} c.take-7.new.self c.take-7.new.self _ (rw (ne_eqb c.in_ok-take-2.field-0 0 c.if-branch-ne0.true) refl)))))))))))));
     }
 
 pub returns-in_err-number : goal.returns-in_err-number
 unfolding header
 returns-in_err-number g c =
-    let most : c.if-variable.number_here ≡ number_bits (nat_eq c.in_ok-variable.field-0 1) = elim c.if-variable.branch [ then-variable w ↦ rw (w.number_here-is, w.if-variable.true) refl | else-variable w ↦ rw (w.number_here-is, ne_eqb c.in_ok-variable.field-0 1 w.if-variable.false) refl ] in
+    let most = c.number_bits.ensures ∙ ap number_bits c.from_bit-strategy.ensures in
     let p = err_from_is_err_and c.from_residual-in_err-number.result c.from_residual-in_err-number.ensures.1 in
     rw (p.1, p.2) (record {
       spends = tt;
-      counts = failed_then c.args.bits.now c.take.new.self c.number_here.new.bits c.in_ok-take.ensures.counts (failed_then c.take.new.self c.take-2.new.self c.number_here.new.bits c.in_ok-variable.ensures.counts (failed_then c.take-2.new.self c.take-3.new.self c.number_here.new.bits c.in_ok-size_code.ensures.counts (failed_then c.take-3.new.self c.take-4.new.self c.number_here.new.bits c.in_ok-rate_code.ensures.counts (failed_then c.take-4.new.self c.take-5.new.self c.number_here.new.bits c.in_ok-channel_code.ensures.counts (failed_then c.take-5.new.self c.take-6.new.self c.number_here.new.bits c.in_ok-depth_code.ensures.counts (failed_then c.take-6.new.self c.take-7.new.self c.number_here.new.bits c.in_ok-take-2.ensures.counts c.in_err-number.ensures.counts))))));
+      counts = failed_then c.args.bits.now c.take.new.self c.number_here.new.bits c.in_ok-take.ensures.counts (failed_then c.take.new.self c.take-2.new.self c.number_here.new.bits c.in_ok-bit.ensures.counts (failed_then c.take-2.new.self c.take-3.new.self c.number_here.new.bits c.in_ok-size_code.ensures.counts (failed_then c.take-3.new.self c.take-4.new.self c.number_here.new.bits c.in_ok-rate_code.ensures.counts (failed_then c.take-4.new.self c.take-5.new.self c.number_here.new.bits c.in_ok-channel_code.ensures.counts (failed_then c.take-5.new.self c.take-6.new.self c.number_here.new.bits c.in_ok-depth_code.ensures.counts (failed_then c.take-6.new.self c.take-7.new.self c.number_here.new.bits c.in_ok-take-2.ensures.counts c.in_err-number.ensures.counts))))));
       memory = c.in_err-number.ensures.memory;
-      reads = told_then c.args.bits.now c.take.new.self c.number_here.new.bits _ c.in_ok-take.ensures.counts c.in_ok-take.ensures.reads (told_past {read = judged (not (nat_eq c.in_ok-take.field-0 0x7FFC)) BadSync c.take.new.self.cursor} c.take.new.self c.number_here.new.bits c.take.new.self.cursor _ (rw c.if-branch-ne32764.false refl) (told_then c.take.new.self c.take-2.new.self c.number_here.new.bits _ c.in_ok-variable.ensures.counts c.in_ok-variable.ensures.reads (told_then c.take-2.new.self c.take-3.new.self c.number_here.new.bits _ c.in_ok-size_code.ensures.counts c.in_ok-size_code.ensures.reads (told_past {read = judged (nat_eq c.in_ok-size_code.field-0 0) ReservedCode c.take-3.new.self.cursor} c.take-3.new.self c.number_here.new.bits c.take-3.new.self.cursor _ (rw (ne_eqb c.in_ok-size_code.field-0 0 c.if-size_code-eq0.false) refl) (told_then c.take-3.new.self c.take-4.new.self c.number_here.new.bits _ c.in_ok-rate_code.ensures.counts c.in_ok-rate_code.ensures.reads (told_past {read = judged (nat_eq c.in_ok-rate_code.field-0 15) ReservedCode c.take-4.new.self.cursor} c.take-4.new.self c.number_here.new.bits c.take-4.new.self.cursor _ (rw (ne_eqb c.in_ok-rate_code.field-0 15 c.if-rate_code-eq15.false) refl) (told_then c.take-4.new.self c.take-5.new.self c.number_here.new.bits _ c.in_ok-channel_code.ensures.counts c.in_ok-channel_code.ensures.reads (told_past {read = judged (nat_lt 10 c.in_ok-channel_code.field-0) ReservedCode c.take-5.new.self.cursor} c.take-5.new.self c.number_here.new.bits c.take-5.new.self.cursor _ (rw (at_most_10 c.in_ok-channel_code.field-0 c.if-channel_code-gt10.false) refl) (told_then c.take-5.new.self c.take-6.new.self c.number_here.new.bits _ c.in_ok-depth_code.ensures.counts c.in_ok-depth_code.ensures.reads (told_past {read = judged (nat_eq c.in_ok-depth_code.field-0 3) ReservedCode c.take-6.new.self.cursor} c.take-6.new.self c.number_here.new.bits c.take-6.new.self.cursor _ (rw (ne_eqb c.in_ok-depth_code.field-0 3 c.if-depth_code-eq3.false) refl) (told_then c.take-6.new.self c.take-7.new.self c.number_here.new.bits _ c.in_ok-take-2.ensures.counts c.in_ok-take-2.ensures.reads (told_past {read = judged (not (nat_eq c.in_ok-take-2.field-0 0)) ReservedCode c.take-7.new.self.cursor} c.take-7.new.self c.number_here.new.bits c.take-7.new.self.cursor _ (rw c.if-branch-ne0.false refl) (told_fault c.take-7.new.self c.number_here.new.bits _ (rw most at c.in_err-number.ensures.reads))))))))))))));
+      reads = told_then c.args.bits.now c.take.new.self c.number_here.new.bits _ c.in_ok-take.ensures.counts c.in_ok-take.ensures.reads (told_past {read = judged (not (nat_eq c.in_ok-take.field-0 0x7FFC)) BadSync c.take.new.self.cursor} c.take.new.self c.number_here.new.bits c.take.new.self.cursor _ (rw c.if-branch-ne32764.false refl) (told_then c.take.new.self c.take-2.new.self c.number_here.new.bits _ c.in_ok-bit.ensures.counts c.in_ok-bit.ensures.reads (told_then c.take-2.new.self c.take-3.new.self c.number_here.new.bits _ c.in_ok-size_code.ensures.counts c.in_ok-size_code.ensures.reads (told_past {read = judged (nat_eq c.in_ok-size_code.field-0 0) ReservedCode c.take-3.new.self.cursor} c.take-3.new.self c.number_here.new.bits c.take-3.new.self.cursor _ (rw (ne_eqb c.in_ok-size_code.field-0 0 c.if-size_code-eq0.false) refl) (told_then c.take-3.new.self c.take-4.new.self c.number_here.new.bits _ c.in_ok-rate_code.ensures.counts c.in_ok-rate_code.ensures.reads (told_past {read = judged (nat_eq c.in_ok-rate_code.field-0 15) ReservedCode c.take-4.new.self.cursor} c.take-4.new.self c.number_here.new.bits c.take-4.new.self.cursor _ (rw (ne_eqb c.in_ok-rate_code.field-0 15 c.if-rate_code-eq15.false) refl) (told_then c.take-4.new.self c.take-5.new.self c.number_here.new.bits _ c.in_ok-channel_code.ensures.counts c.in_ok-channel_code.ensures.reads (told_past {read = judged (nat_lt 10 c.in_ok-channel_code.field-0) ReservedCode c.take-5.new.self.cursor} c.take-5.new.self c.number_here.new.bits c.take-5.new.self.cursor _ (rw (at_most_10 c.in_ok-channel_code.field-0 c.if-channel_code-gt10.false) refl) (told_then c.take-5.new.self c.take-6.new.self c.number_here.new.bits _ c.in_ok-depth_code.ensures.counts c.in_ok-depth_code.ensures.reads (told_past {read = judged (nat_eq c.in_ok-depth_code.field-0 3) ReservedCode c.take-6.new.self.cursor} c.take-6.new.self c.number_here.new.bits c.take-6.new.self.cursor _ (rw (ne_eqb c.in_ok-depth_code.field-0 3 c.if-depth_code-eq3.false) refl) (told_then c.take-6.new.self c.take-7.new.self c.number_here.new.bits _ c.in_ok-take-2.ensures.counts c.in_ok-take-2.ensures.reads (told_past {read = judged (not (nat_eq c.in_ok-take-2.field-0 0)) ReservedCode c.take-7.new.self.cursor} c.take-7.new.self c.number_here.new.bits c.take-7.new.self.cursor _ (rw c.if-branch-ne0.false refl) (told_fault c.take-7.new.self c.number_here.new.bits _ (rw most at c.in_err-number.ensures.reads))))))))))))));
     })
 
 pub returns-in_err-size : goal.returns-in_err-size
 unfolding header
 returns-in_err-size g c =
-    let most : c.if-variable.number_here ≡ number_bits (nat_eq c.in_ok-variable.field-0 1) = elim c.if-variable.branch [ then-variable w ↦ rw (w.number_here-is, w.if-variable.true) refl | else-variable w ↦ rw (w.number_here-is, ne_eqb c.in_ok-variable.field-0 1 w.if-variable.false) refl ] in
+    let most = c.number_bits.ensures ∙ ap number_bits c.from_bit-strategy.ensures in
     let p = err_from_is_err_and c.from_residual-in_err-size.result c.from_residual-in_err-size.ensures.1 in
     rw (p.1, p.2) (record {
       spends = tt;
-      counts = failed_then c.args.bits.now c.take.new.self c.read_size.new.bits c.in_ok-take.ensures.counts (failed_then c.take.new.self c.take-2.new.self c.read_size.new.bits c.in_ok-variable.ensures.counts (failed_then c.take-2.new.self c.take-3.new.self c.read_size.new.bits c.in_ok-size_code.ensures.counts (failed_then c.take-3.new.self c.take-4.new.self c.read_size.new.bits c.in_ok-rate_code.ensures.counts (failed_then c.take-4.new.self c.take-5.new.self c.read_size.new.bits c.in_ok-channel_code.ensures.counts (failed_then c.take-5.new.self c.take-6.new.self c.read_size.new.bits c.in_ok-depth_code.ensures.counts (failed_then c.take-6.new.self c.take-7.new.self c.read_size.new.bits c.in_ok-take-2.ensures.counts (failed_then c.take-7.new.self c.number_here.new.bits c.read_size.new.bits c.in_ok-number.ensures.counts c.in_err-size.ensures.counts)))))));
+      counts = failed_then c.args.bits.now c.take.new.self c.read_size.new.bits c.in_ok-take.ensures.counts (failed_then c.take.new.self c.take-2.new.self c.read_size.new.bits c.in_ok-bit.ensures.counts (failed_then c.take-2.new.self c.take-3.new.self c.read_size.new.bits c.in_ok-size_code.ensures.counts (failed_then c.take-3.new.self c.take-4.new.self c.read_size.new.bits c.in_ok-rate_code.ensures.counts (failed_then c.take-4.new.self c.take-5.new.self c.read_size.new.bits c.in_ok-channel_code.ensures.counts (failed_then c.take-5.new.self c.take-6.new.self c.read_size.new.bits c.in_ok-depth_code.ensures.counts (failed_then c.take-6.new.self c.take-7.new.self c.read_size.new.bits c.in_ok-take-2.ensures.counts (failed_then c.take-7.new.self c.number_here.new.bits c.read_size.new.bits c.in_ok-number.ensures.counts c.in_err-size.ensures.counts)))))));
       memory = c.in_err-size.ensures.memory;
-      reads = told_then c.args.bits.now c.take.new.self c.read_size.new.bits _ c.in_ok-take.ensures.counts c.in_ok-take.ensures.reads (told_past {read = judged (not (nat_eq c.in_ok-take.field-0 0x7FFC)) BadSync c.take.new.self.cursor} c.take.new.self c.read_size.new.bits c.take.new.self.cursor _ (rw c.if-branch-ne32764.false refl) (told_then c.take.new.self c.take-2.new.self c.read_size.new.bits _ c.in_ok-variable.ensures.counts c.in_ok-variable.ensures.reads (told_then c.take-2.new.self c.take-3.new.self c.read_size.new.bits _ c.in_ok-size_code.ensures.counts c.in_ok-size_code.ensures.reads (told_past {read = judged (nat_eq c.in_ok-size_code.field-0 0) ReservedCode c.take-3.new.self.cursor} c.take-3.new.self c.read_size.new.bits c.take-3.new.self.cursor _ (rw (ne_eqb c.in_ok-size_code.field-0 0 c.if-size_code-eq0.false) refl) (told_then c.take-3.new.self c.take-4.new.self c.read_size.new.bits _ c.in_ok-rate_code.ensures.counts c.in_ok-rate_code.ensures.reads (told_past {read = judged (nat_eq c.in_ok-rate_code.field-0 15) ReservedCode c.take-4.new.self.cursor} c.take-4.new.self c.read_size.new.bits c.take-4.new.self.cursor _ (rw (ne_eqb c.in_ok-rate_code.field-0 15 c.if-rate_code-eq15.false) refl) (told_then c.take-4.new.self c.take-5.new.self c.read_size.new.bits _ c.in_ok-channel_code.ensures.counts c.in_ok-channel_code.ensures.reads (told_past {read = judged (nat_lt 10 c.in_ok-channel_code.field-0) ReservedCode c.take-5.new.self.cursor} c.take-5.new.self c.read_size.new.bits c.take-5.new.self.cursor _ (rw (at_most_10 c.in_ok-channel_code.field-0 c.if-channel_code-gt10.false) refl) (told_then c.take-5.new.self c.take-6.new.self c.read_size.new.bits _ c.in_ok-depth_code.ensures.counts c.in_ok-depth_code.ensures.reads (told_past {read = judged (nat_eq c.in_ok-depth_code.field-0 3) ReservedCode c.take-6.new.self.cursor} c.take-6.new.self c.read_size.new.bits c.take-6.new.self.cursor _ (rw (ne_eqb c.in_ok-depth_code.field-0 3 c.if-depth_code-eq3.false) refl) (told_then c.take-6.new.self c.take-7.new.self c.read_size.new.bits _ c.in_ok-take-2.ensures.counts c.in_ok-take-2.ensures.reads (told_past {read = judged (not (nat_eq c.in_ok-take-2.field-0 0)) ReservedCode c.take-7.new.self.cursor} c.take-7.new.self c.read_size.new.bits c.take-7.new.self.cursor _ (rw c.if-branch-ne0.false refl) (told_then c.take-7.new.self c.number_here.new.bits c.read_size.new.bits _ c.in_ok-number.ensures.counts (rw most at c.in_ok-number.ensures.reads) (told_fault c.number_here.new.bits c.read_size.new.bits _ c.in_err-size.ensures.reads))))))))))))));
+      reads = told_then c.args.bits.now c.take.new.self c.read_size.new.bits _ c.in_ok-take.ensures.counts c.in_ok-take.ensures.reads (told_past {read = judged (not (nat_eq c.in_ok-take.field-0 0x7FFC)) BadSync c.take.new.self.cursor} c.take.new.self c.read_size.new.bits c.take.new.self.cursor _ (rw c.if-branch-ne32764.false refl) (told_then c.take.new.self c.take-2.new.self c.read_size.new.bits _ c.in_ok-bit.ensures.counts c.in_ok-bit.ensures.reads (told_then c.take-2.new.self c.take-3.new.self c.read_size.new.bits _ c.in_ok-size_code.ensures.counts c.in_ok-size_code.ensures.reads (told_past {read = judged (nat_eq c.in_ok-size_code.field-0 0) ReservedCode c.take-3.new.self.cursor} c.take-3.new.self c.read_size.new.bits c.take-3.new.self.cursor _ (rw (ne_eqb c.in_ok-size_code.field-0 0 c.if-size_code-eq0.false) refl) (told_then c.take-3.new.self c.take-4.new.self c.read_size.new.bits _ c.in_ok-rate_code.ensures.counts c.in_ok-rate_code.ensures.reads (told_past {read = judged (nat_eq c.in_ok-rate_code.field-0 15) ReservedCode c.take-4.new.self.cursor} c.take-4.new.self c.read_size.new.bits c.take-4.new.self.cursor _ (rw (ne_eqb c.in_ok-rate_code.field-0 15 c.if-rate_code-eq15.false) refl) (told_then c.take-4.new.self c.take-5.new.self c.read_size.new.bits _ c.in_ok-channel_code.ensures.counts c.in_ok-channel_code.ensures.reads (told_past {read = judged (nat_lt 10 c.in_ok-channel_code.field-0) ReservedCode c.take-5.new.self.cursor} c.take-5.new.self c.read_size.new.bits c.take-5.new.self.cursor _ (rw (at_most_10 c.in_ok-channel_code.field-0 c.if-channel_code-gt10.false) refl) (told_then c.take-5.new.self c.take-6.new.self c.read_size.new.bits _ c.in_ok-depth_code.ensures.counts c.in_ok-depth_code.ensures.reads (told_past {read = judged (nat_eq c.in_ok-depth_code.field-0 3) ReservedCode c.take-6.new.self.cursor} c.take-6.new.self c.read_size.new.bits c.take-6.new.self.cursor _ (rw (ne_eqb c.in_ok-depth_code.field-0 3 c.if-depth_code-eq3.false) refl) (told_then c.take-6.new.self c.take-7.new.self c.read_size.new.bits _ c.in_ok-take-2.ensures.counts c.in_ok-take-2.ensures.reads (told_past {read = judged (not (nat_eq c.in_ok-take-2.field-0 0)) ReservedCode c.take-7.new.self.cursor} c.take-7.new.self c.read_size.new.bits c.take-7.new.self.cursor _ (rw c.if-branch-ne0.false refl) (told_then c.take-7.new.self c.number_here.new.bits c.read_size.new.bits _ c.in_ok-number.ensures.counts (rw most at c.in_ok-number.ensures.reads) (told_fault c.number_here.new.bits c.read_size.new.bits _ c.in_err-size.ensures.reads))))))))))))));
     })
 
 pub returns-in_err-rate : goal.returns-in_err-rate
 unfolding header
 returns-in_err-rate g c =
-    let most : c.if-variable.number_here ≡ number_bits (nat_eq c.in_ok-variable.field-0 1) = elim c.if-variable.branch [ then-variable w ↦ rw (w.number_here-is, w.if-variable.true) refl | else-variable w ↦ rw (w.number_here-is, ne_eqb c.in_ok-variable.field-0 1 w.if-variable.false) refl ] in
+    let most = c.number_bits.ensures ∙ ap number_bits c.from_bit-strategy.ensures in
     let p = err_from_is_err_and c.from_residual-in_err-rate.result c.from_residual-in_err-rate.ensures.1 in
     rw (p.1, p.2) (record {
       spends = tt;
-      counts = failed_then c.args.bits.now c.take.new.self c.read_rate.new.bits c.in_ok-take.ensures.counts (failed_then c.take.new.self c.take-2.new.self c.read_rate.new.bits c.in_ok-variable.ensures.counts (failed_then c.take-2.new.self c.take-3.new.self c.read_rate.new.bits c.in_ok-size_code.ensures.counts (failed_then c.take-3.new.self c.take-4.new.self c.read_rate.new.bits c.in_ok-rate_code.ensures.counts (failed_then c.take-4.new.self c.take-5.new.self c.read_rate.new.bits c.in_ok-channel_code.ensures.counts (failed_then c.take-5.new.self c.take-6.new.self c.read_rate.new.bits c.in_ok-depth_code.ensures.counts (failed_then c.take-6.new.self c.take-7.new.self c.read_rate.new.bits c.in_ok-take-2.ensures.counts (failed_then c.take-7.new.self c.number_here.new.bits c.read_rate.new.bits c.in_ok-number.ensures.counts (failed_then c.number_here.new.bits c.read_size.new.bits c.read_rate.new.bits c.in_ok-size.ensures.counts c.in_err-rate.ensures.counts))))))));
+      counts = failed_then c.args.bits.now c.take.new.self c.read_rate.new.bits c.in_ok-take.ensures.counts (failed_then c.take.new.self c.take-2.new.self c.read_rate.new.bits c.in_ok-bit.ensures.counts (failed_then c.take-2.new.self c.take-3.new.self c.read_rate.new.bits c.in_ok-size_code.ensures.counts (failed_then c.take-3.new.self c.take-4.new.self c.read_rate.new.bits c.in_ok-rate_code.ensures.counts (failed_then c.take-4.new.self c.take-5.new.self c.read_rate.new.bits c.in_ok-channel_code.ensures.counts (failed_then c.take-5.new.self c.take-6.new.self c.read_rate.new.bits c.in_ok-depth_code.ensures.counts (failed_then c.take-6.new.self c.take-7.new.self c.read_rate.new.bits c.in_ok-take-2.ensures.counts (failed_then c.take-7.new.self c.number_here.new.bits c.read_rate.new.bits c.in_ok-number.ensures.counts (failed_then c.number_here.new.bits c.read_size.new.bits c.read_rate.new.bits c.in_ok-size.ensures.counts c.in_err-rate.ensures.counts))))))));
       memory = c.in_err-rate.ensures.memory;
-      reads = told_then c.args.bits.now c.take.new.self c.read_rate.new.bits _ c.in_ok-take.ensures.counts c.in_ok-take.ensures.reads (told_past {read = judged (not (nat_eq c.in_ok-take.field-0 0x7FFC)) BadSync c.take.new.self.cursor} c.take.new.self c.read_rate.new.bits c.take.new.self.cursor _ (rw c.if-branch-ne32764.false refl) (told_then c.take.new.self c.take-2.new.self c.read_rate.new.bits _ c.in_ok-variable.ensures.counts c.in_ok-variable.ensures.reads (told_then c.take-2.new.self c.take-3.new.self c.read_rate.new.bits _ c.in_ok-size_code.ensures.counts c.in_ok-size_code.ensures.reads (told_past {read = judged (nat_eq c.in_ok-size_code.field-0 0) ReservedCode c.take-3.new.self.cursor} c.take-3.new.self c.read_rate.new.bits c.take-3.new.self.cursor _ (rw (ne_eqb c.in_ok-size_code.field-0 0 c.if-size_code-eq0.false) refl) (told_then c.take-3.new.self c.take-4.new.self c.read_rate.new.bits _ c.in_ok-rate_code.ensures.counts c.in_ok-rate_code.ensures.reads (told_past {read = judged (nat_eq c.in_ok-rate_code.field-0 15) ReservedCode c.take-4.new.self.cursor} c.take-4.new.self c.read_rate.new.bits c.take-4.new.self.cursor _ (rw (ne_eqb c.in_ok-rate_code.field-0 15 c.if-rate_code-eq15.false) refl) (told_then c.take-4.new.self c.take-5.new.self c.read_rate.new.bits _ c.in_ok-channel_code.ensures.counts c.in_ok-channel_code.ensures.reads (told_past {read = judged (nat_lt 10 c.in_ok-channel_code.field-0) ReservedCode c.take-5.new.self.cursor} c.take-5.new.self c.read_rate.new.bits c.take-5.new.self.cursor _ (rw (at_most_10 c.in_ok-channel_code.field-0 c.if-channel_code-gt10.false) refl) (told_then c.take-5.new.self c.take-6.new.self c.read_rate.new.bits _ c.in_ok-depth_code.ensures.counts c.in_ok-depth_code.ensures.reads (told_past {read = judged (nat_eq c.in_ok-depth_code.field-0 3) ReservedCode c.take-6.new.self.cursor} c.take-6.new.self c.read_rate.new.bits c.take-6.new.self.cursor _ (rw (ne_eqb c.in_ok-depth_code.field-0 3 c.if-depth_code-eq3.false) refl) (told_then c.take-6.new.self c.take-7.new.self c.read_rate.new.bits _ c.in_ok-take-2.ensures.counts c.in_ok-take-2.ensures.reads (told_past {read = judged (not (nat_eq c.in_ok-take-2.field-0 0)) ReservedCode c.take-7.new.self.cursor} c.take-7.new.self c.read_rate.new.bits c.take-7.new.self.cursor _ (rw c.if-branch-ne0.false refl) (told_then c.take-7.new.self c.number_here.new.bits c.read_rate.new.bits _ c.in_ok-number.ensures.counts (rw most at c.in_ok-number.ensures.reads) (told_then c.number_here.new.bits c.read_size.new.bits c.read_rate.new.bits _ c.in_ok-size.ensures.counts c.in_ok-size.ensures.reads (told_fault c.read_size.new.bits c.read_rate.new.bits _ c.in_err-rate.ensures.reads)))))))))))))));
+      reads = told_then c.args.bits.now c.take.new.self c.read_rate.new.bits _ c.in_ok-take.ensures.counts c.in_ok-take.ensures.reads (told_past {read = judged (not (nat_eq c.in_ok-take.field-0 0x7FFC)) BadSync c.take.new.self.cursor} c.take.new.self c.read_rate.new.bits c.take.new.self.cursor _ (rw c.if-branch-ne32764.false refl) (told_then c.take.new.self c.take-2.new.self c.read_rate.new.bits _ c.in_ok-bit.ensures.counts c.in_ok-bit.ensures.reads (told_then c.take-2.new.self c.take-3.new.self c.read_rate.new.bits _ c.in_ok-size_code.ensures.counts c.in_ok-size_code.ensures.reads (told_past {read = judged (nat_eq c.in_ok-size_code.field-0 0) ReservedCode c.take-3.new.self.cursor} c.take-3.new.self c.read_rate.new.bits c.take-3.new.self.cursor _ (rw (ne_eqb c.in_ok-size_code.field-0 0 c.if-size_code-eq0.false) refl) (told_then c.take-3.new.self c.take-4.new.self c.read_rate.new.bits _ c.in_ok-rate_code.ensures.counts c.in_ok-rate_code.ensures.reads (told_past {read = judged (nat_eq c.in_ok-rate_code.field-0 15) ReservedCode c.take-4.new.self.cursor} c.take-4.new.self c.read_rate.new.bits c.take-4.new.self.cursor _ (rw (ne_eqb c.in_ok-rate_code.field-0 15 c.if-rate_code-eq15.false) refl) (told_then c.take-4.new.self c.take-5.new.self c.read_rate.new.bits _ c.in_ok-channel_code.ensures.counts c.in_ok-channel_code.ensures.reads (told_past {read = judged (nat_lt 10 c.in_ok-channel_code.field-0) ReservedCode c.take-5.new.self.cursor} c.take-5.new.self c.read_rate.new.bits c.take-5.new.self.cursor _ (rw (at_most_10 c.in_ok-channel_code.field-0 c.if-channel_code-gt10.false) refl) (told_then c.take-5.new.self c.take-6.new.self c.read_rate.new.bits _ c.in_ok-depth_code.ensures.counts c.in_ok-depth_code.ensures.reads (told_past {read = judged (nat_eq c.in_ok-depth_code.field-0 3) ReservedCode c.take-6.new.self.cursor} c.take-6.new.self c.read_rate.new.bits c.take-6.new.self.cursor _ (rw (ne_eqb c.in_ok-depth_code.field-0 3 c.if-depth_code-eq3.false) refl) (told_then c.take-6.new.self c.take-7.new.self c.read_rate.new.bits _ c.in_ok-take-2.ensures.counts c.in_ok-take-2.ensures.reads (told_past {read = judged (not (nat_eq c.in_ok-take-2.field-0 0)) ReservedCode c.take-7.new.self.cursor} c.take-7.new.self c.read_rate.new.bits c.take-7.new.self.cursor _ (rw c.if-branch-ne0.false refl) (told_then c.take-7.new.self c.number_here.new.bits c.read_rate.new.bits _ c.in_ok-number.ensures.counts (rw most at c.in_ok-number.ensures.reads) (told_then c.number_here.new.bits c.read_size.new.bits c.read_rate.new.bits _ c.in_ok-size.ensures.counts c.in_ok-size.ensures.reads (told_fault c.read_size.new.bits c.read_rate.new.bits _ c.in_err-rate.ensures.reads)))))))))))))));
     })
 
 pub returns-in_err-take-3 : goal.returns-in_err-take-3
 unfolding header
 returns-in_err-take-3 g c =
-    let most : c.if-variable.number_here ≡ number_bits (nat_eq c.in_ok-variable.field-0 1) = elim c.if-variable.branch [ then-variable w ↦ rw (w.number_here-is, w.if-variable.true) refl | else-variable w ↦ rw (w.number_here-is, ne_eqb c.in_ok-variable.field-0 1 w.if-variable.false) refl ] in
+    let most = c.number_bits.ensures ∙ ap number_bits c.from_bit-strategy.ensures in
     let p = err_from_is_err_and c.from_residual-in_err-take-3.result c.from_residual-in_err-take-3.ensures.1 in
     rw (p.1, p.2) (record {
       spends = tt;
-      counts = failed_then c.args.bits.now c.take.new.self c.take-8.new.self c.in_ok-take.ensures.counts (failed_then c.take.new.self c.take-2.new.self c.take-8.new.self c.in_ok-variable.ensures.counts (failed_then c.take-2.new.self c.take-3.new.self c.take-8.new.self c.in_ok-size_code.ensures.counts (failed_then c.take-3.new.self c.take-4.new.self c.take-8.new.self c.in_ok-rate_code.ensures.counts (failed_then c.take-4.new.self c.take-5.new.self c.take-8.new.self c.in_ok-channel_code.ensures.counts (failed_then c.take-5.new.self c.take-6.new.self c.take-8.new.self c.in_ok-depth_code.ensures.counts (failed_then c.take-6.new.self c.take-7.new.self c.take-8.new.self c.in_ok-take-2.ensures.counts (failed_then c.take-7.new.self c.number_here.new.bits c.take-8.new.self c.in_ok-number.ensures.counts (failed_then c.number_here.new.bits c.read_size.new.bits c.take-8.new.self c.in_ok-size.ensures.counts (failed_then c.read_size.new.bits c.read_rate.new.bits c.take-8.new.self c.in_ok-rate.ensures.counts c.in_err-take-3.ensures.counts)))))))));
+      counts = failed_then c.args.bits.now c.take.new.self c.take-8.new.self c.in_ok-take.ensures.counts (failed_then c.take.new.self c.take-2.new.self c.take-8.new.self c.in_ok-bit.ensures.counts (failed_then c.take-2.new.self c.take-3.new.self c.take-8.new.self c.in_ok-size_code.ensures.counts (failed_then c.take-3.new.self c.take-4.new.self c.take-8.new.self c.in_ok-rate_code.ensures.counts (failed_then c.take-4.new.self c.take-5.new.self c.take-8.new.self c.in_ok-channel_code.ensures.counts (failed_then c.take-5.new.self c.take-6.new.self c.take-8.new.self c.in_ok-depth_code.ensures.counts (failed_then c.take-6.new.self c.take-7.new.self c.take-8.new.self c.in_ok-take-2.ensures.counts (failed_then c.take-7.new.self c.number_here.new.bits c.take-8.new.self c.in_ok-number.ensures.counts (failed_then c.number_here.new.bits c.read_size.new.bits c.take-8.new.self c.in_ok-size.ensures.counts (failed_then c.read_size.new.bits c.read_rate.new.bits c.take-8.new.self c.in_ok-rate.ensures.counts c.in_err-take-3.ensures.counts)))))))));
       memory = c.in_err-take-3.ensures.memory;
-      reads = told_then c.args.bits.now c.take.new.self c.take-8.new.self _ c.in_ok-take.ensures.counts c.in_ok-take.ensures.reads (told_past {read = judged (not (nat_eq c.in_ok-take.field-0 0x7FFC)) BadSync c.take.new.self.cursor} c.take.new.self c.take-8.new.self c.take.new.self.cursor _ (rw c.if-branch-ne32764.false refl) (told_then c.take.new.self c.take-2.new.self c.take-8.new.self _ c.in_ok-variable.ensures.counts c.in_ok-variable.ensures.reads (told_then c.take-2.new.self c.take-3.new.self c.take-8.new.self _ c.in_ok-size_code.ensures.counts c.in_ok-size_code.ensures.reads (told_past {read = judged (nat_eq c.in_ok-size_code.field-0 0) ReservedCode c.take-3.new.self.cursor} c.take-3.new.self c.take-8.new.self c.take-3.new.self.cursor _ (rw (ne_eqb c.in_ok-size_code.field-0 0 c.if-size_code-eq0.false) refl) (told_then c.take-3.new.self c.take-4.new.self c.take-8.new.self _ c.in_ok-rate_code.ensures.counts c.in_ok-rate_code.ensures.reads (told_past {read = judged (nat_eq c.in_ok-rate_code.field-0 15) ReservedCode c.take-4.new.self.cursor} c.take-4.new.self c.take-8.new.self c.take-4.new.self.cursor _ (rw (ne_eqb c.in_ok-rate_code.field-0 15 c.if-rate_code-eq15.false) refl) (told_then c.take-4.new.self c.take-5.new.self c.take-8.new.self _ c.in_ok-channel_code.ensures.counts c.in_ok-channel_code.ensures.reads (told_past {read = judged (nat_lt 10 c.in_ok-channel_code.field-0) ReservedCode c.take-5.new.self.cursor} c.take-5.new.self c.take-8.new.self c.take-5.new.self.cursor _ (rw (at_most_10 c.in_ok-channel_code.field-0 c.if-channel_code-gt10.false) refl) (told_then c.take-5.new.self c.take-6.new.self c.take-8.new.self _ c.in_ok-depth_code.ensures.counts c.in_ok-depth_code.ensures.reads (told_past {read = judged (nat_eq c.in_ok-depth_code.field-0 3) ReservedCode c.take-6.new.self.cursor} c.take-6.new.self c.take-8.new.self c.take-6.new.self.cursor _ (rw (ne_eqb c.in_ok-depth_code.field-0 3 c.if-depth_code-eq3.false) refl) (told_then c.take-6.new.self c.take-7.new.self c.take-8.new.self _ c.in_ok-take-2.ensures.counts c.in_ok-take-2.ensures.reads (told_past {read = judged (not (nat_eq c.in_ok-take-2.field-0 0)) ReservedCode c.take-7.new.self.cursor} c.take-7.new.self c.take-8.new.self c.take-7.new.self.cursor _ (rw c.if-branch-ne0.false refl) (told_then c.take-7.new.self c.number_here.new.bits c.take-8.new.self _ c.in_ok-number.ensures.counts (rw most at c.in_ok-number.ensures.reads) (told_then c.number_here.new.bits c.read_size.new.bits c.take-8.new.self _ c.in_ok-size.ensures.counts c.in_ok-size.ensures.reads (told_then c.read_size.new.bits c.read_rate.new.bits c.take-8.new.self _ c.in_ok-rate.ensures.counts c.in_ok-rate.ensures.reads (told_fault c.read_rate.new.bits c.take-8.new.self _ c.in_err-take-3.ensures.reads))))))))))))))));
+      reads = told_then c.args.bits.now c.take.new.self c.take-8.new.self _ c.in_ok-take.ensures.counts c.in_ok-take.ensures.reads (told_past {read = judged (not (nat_eq c.in_ok-take.field-0 0x7FFC)) BadSync c.take.new.self.cursor} c.take.new.self c.take-8.new.self c.take.new.self.cursor _ (rw c.if-branch-ne32764.false refl) (told_then c.take.new.self c.take-2.new.self c.take-8.new.self _ c.in_ok-bit.ensures.counts c.in_ok-bit.ensures.reads (told_then c.take-2.new.self c.take-3.new.self c.take-8.new.self _ c.in_ok-size_code.ensures.counts c.in_ok-size_code.ensures.reads (told_past {read = judged (nat_eq c.in_ok-size_code.field-0 0) ReservedCode c.take-3.new.self.cursor} c.take-3.new.self c.take-8.new.self c.take-3.new.self.cursor _ (rw (ne_eqb c.in_ok-size_code.field-0 0 c.if-size_code-eq0.false) refl) (told_then c.take-3.new.self c.take-4.new.self c.take-8.new.self _ c.in_ok-rate_code.ensures.counts c.in_ok-rate_code.ensures.reads (told_past {read = judged (nat_eq c.in_ok-rate_code.field-0 15) ReservedCode c.take-4.new.self.cursor} c.take-4.new.self c.take-8.new.self c.take-4.new.self.cursor _ (rw (ne_eqb c.in_ok-rate_code.field-0 15 c.if-rate_code-eq15.false) refl) (told_then c.take-4.new.self c.take-5.new.self c.take-8.new.self _ c.in_ok-channel_code.ensures.counts c.in_ok-channel_code.ensures.reads (told_past {read = judged (nat_lt 10 c.in_ok-channel_code.field-0) ReservedCode c.take-5.new.self.cursor} c.take-5.new.self c.take-8.new.self c.take-5.new.self.cursor _ (rw (at_most_10 c.in_ok-channel_code.field-0 c.if-channel_code-gt10.false) refl) (told_then c.take-5.new.self c.take-6.new.self c.take-8.new.self _ c.in_ok-depth_code.ensures.counts c.in_ok-depth_code.ensures.reads (told_past {read = judged (nat_eq c.in_ok-depth_code.field-0 3) ReservedCode c.take-6.new.self.cursor} c.take-6.new.self c.take-8.new.self c.take-6.new.self.cursor _ (rw (ne_eqb c.in_ok-depth_code.field-0 3 c.if-depth_code-eq3.false) refl) (told_then c.take-6.new.self c.take-7.new.self c.take-8.new.self _ c.in_ok-take-2.ensures.counts c.in_ok-take-2.ensures.reads (told_past {read = judged (not (nat_eq c.in_ok-take-2.field-0 0)) ReservedCode c.take-7.new.self.cursor} c.take-7.new.self c.take-8.new.self c.take-7.new.self.cursor _ (rw c.if-branch-ne0.false refl) (told_then c.take-7.new.self c.number_here.new.bits c.take-8.new.self _ c.in_ok-number.ensures.counts (rw most at c.in_ok-number.ensures.reads) (told_then c.number_here.new.bits c.read_size.new.bits c.take-8.new.self _ c.in_ok-size.ensures.counts c.in_ok-size.ensures.reads (told_then c.read_size.new.bits c.read_rate.new.bits c.take-8.new.self _ c.in_ok-rate.ensures.counts c.in_ok-rate.ensures.reads (told_fault c.read_rate.new.bits c.take-8.new.self _ c.in_err-take-3.ensures.reads))))))))))))))));
     })
 
 pub returns-then-branch-from : goal.returns-then-branch-from
 unfolding header
 returns-then-branch-from g c =
-    let most : c.if-variable.number_here ≡ number_bits (nat_eq c.in_ok-variable.field-0 1) = elim c.if-variable.branch [ then-variable w ↦ rw (w.number_here-is, w.if-variable.true) refl | else-variable w ↦ rw (w.number_here-is, ne_eqb c.in_ok-variable.field-0 1 w.if-variable.false) refl ] in
+    let most = c.number_bits.ensures ∙ ap number_bits c.from_bit-strategy.ensures in
     record {
       spends = tt;
-      counts = refused_then c.args.bits.now c.take-8.new.self (answered_then c.args.bits.now c.take.new.self c.take-8.new.self c.in_ok-take.ensures.counts (answered_then c.take.new.self c.take-2.new.self c.take-8.new.self c.in_ok-variable.ensures.counts (answered_then c.take-2.new.self c.take-3.new.self c.take-8.new.self c.in_ok-size_code.ensures.counts (answered_then c.take-3.new.self c.take-4.new.self c.take-8.new.self c.in_ok-rate_code.ensures.counts (answered_then c.take-4.new.self c.take-5.new.self c.take-8.new.self c.in_ok-channel_code.ensures.counts (answered_then c.take-5.new.self c.take-6.new.self c.take-8.new.self c.in_ok-depth_code.ensures.counts (answered_then c.take-6.new.self c.take-7.new.self c.take-8.new.self c.in_ok-take-2.ensures.counts (answered_then c.take-7.new.self c.number_here.new.bits c.take-8.new.self c.in_ok-number.ensures.counts (answered_then c.number_here.new.bits c.read_size.new.bits c.take-8.new.self c.in_ok-size.ensures.counts (answered_then c.read_size.new.bits c.read_rate.new.bits c.take-8.new.self c.in_ok-rate.ensures.counts c.in_ok-take-3.ensures.counts)))))))))) refl;
+      counts = refused_then c.args.bits.now c.take-8.new.self (answered_then c.args.bits.now c.take.new.self c.take-8.new.self c.in_ok-take.ensures.counts (answered_then c.take.new.self c.take-2.new.self c.take-8.new.self c.in_ok-bit.ensures.counts (answered_then c.take-2.new.self c.take-3.new.self c.take-8.new.self c.in_ok-size_code.ensures.counts (answered_then c.take-3.new.self c.take-4.new.self c.take-8.new.self c.in_ok-rate_code.ensures.counts (answered_then c.take-4.new.self c.take-5.new.self c.take-8.new.self c.in_ok-channel_code.ensures.counts (answered_then c.take-5.new.self c.take-6.new.self c.take-8.new.self c.in_ok-depth_code.ensures.counts (answered_then c.take-6.new.self c.take-7.new.self c.take-8.new.self c.in_ok-take-2.ensures.counts (answered_then c.take-7.new.self c.number_here.new.bits c.take-8.new.self c.in_ok-number.ensures.counts (answered_then c.number_here.new.bits c.read_size.new.bits c.take-8.new.self c.in_ok-size.ensures.counts (answered_then c.read_size.new.bits c.read_rate.new.bits c.take-8.new.self c.in_ok-rate.ensures.counts c.in_ok-take-3.ensures.counts)))))))))) refl;
       memory = check_no_memory;
-      reads = told_then c.args.bits.now c.take.new.self c.take-8.new.self _ c.in_ok-take.ensures.counts c.in_ok-take.ensures.reads (told_past {read = judged (not (nat_eq c.in_ok-take.field-0 0x7FFC)) BadSync c.take.new.self.cursor} c.take.new.self c.take-8.new.self c.take.new.self.cursor _ (rw c.if-branch-ne32764.false refl) (told_then c.take.new.self c.take-2.new.self c.take-8.new.self _ c.in_ok-variable.ensures.counts c.in_ok-variable.ensures.reads (told_then c.take-2.new.self c.take-3.new.self c.take-8.new.self _ c.in_ok-size_code.ensures.counts c.in_ok-size_code.ensures.reads (told_past {read = judged (nat_eq c.in_ok-size_code.field-0 0) ReservedCode c.take-3.new.self.cursor} c.take-3.new.self c.take-8.new.self c.take-3.new.self.cursor _ (rw (ne_eqb c.in_ok-size_code.field-0 0 c.if-size_code-eq0.false) refl) (told_then c.take-3.new.self c.take-4.new.self c.take-8.new.self _ c.in_ok-rate_code.ensures.counts c.in_ok-rate_code.ensures.reads (told_past {read = judged (nat_eq c.in_ok-rate_code.field-0 15) ReservedCode c.take-4.new.self.cursor} c.take-4.new.self c.take-8.new.self c.take-4.new.self.cursor _ (rw (ne_eqb c.in_ok-rate_code.field-0 15 c.if-rate_code-eq15.false) refl) (told_then c.take-4.new.self c.take-5.new.self c.take-8.new.self _ c.in_ok-channel_code.ensures.counts c.in_ok-channel_code.ensures.reads (told_past {read = judged (nat_lt 10 c.in_ok-channel_code.field-0) ReservedCode c.take-5.new.self.cursor} c.take-5.new.self c.take-8.new.self c.take-5.new.self.cursor _ (rw (at_most_10 c.in_ok-channel_code.field-0 c.if-channel_code-gt10.false) refl) (told_then c.take-5.new.self c.take-6.new.self c.take-8.new.self _ c.in_ok-depth_code.ensures.counts c.in_ok-depth_code.ensures.reads (told_past {read = judged (nat_eq c.in_ok-depth_code.field-0 3) ReservedCode c.take-6.new.self.cursor} c.take-6.new.self c.take-8.new.self c.take-6.new.self.cursor _ (rw (ne_eqb c.in_ok-depth_code.field-0 3 c.if-depth_code-eq3.false) refl) (told_then c.take-6.new.self c.take-7.new.self c.take-8.new.self _ c.in_ok-take-2.ensures.counts c.in_ok-take-2.ensures.reads (told_past {read = judged (not (nat_eq c.in_ok-take-2.field-0 0)) ReservedCode c.take-7.new.self.cursor} c.take-7.new.self c.take-8.new.self c.take-7.new.self.cursor _ (rw c.if-branch-ne0.false refl) (told_then c.take-7.new.self c.number_here.new.bits c.take-8.new.self _ c.in_ok-number.ensures.counts (rw most at c.in_ok-number.ensures.reads) (told_then c.number_here.new.bits c.read_size.new.bits c.take-8.new.self _ c.in_ok-size.ensures.counts c.in_ok-size.ensures.reads (told_then c.read_size.new.bits c.read_rate.new.bits c.take-8.new.self _ c.in_ok-rate.ensures.counts c.in_ok-rate.ensures.reads (told_then c.read_rate.new.bits c.take-8.new.self c.take-8.new.self _ c.in_ok-take-3.ensures.counts c.in_ok-take-3.ensures.reads (told_broken {read = judged (not (nat_eq c.in_ok-take-3.field-0 c.read_rate.new.bits.cursor.mark.check8)) HeaderCheck c.take-8.new.self.cursor} c.take-8.new.self c.take-8.new.self _ (search rules))))))))))))))))));
+      reads = told_then c.args.bits.now c.take.new.self c.take-8.new.self _ c.in_ok-take.ensures.counts c.in_ok-take.ensures.reads (told_past {read = judged (not (nat_eq c.in_ok-take.field-0 0x7FFC)) BadSync c.take.new.self.cursor} c.take.new.self c.take-8.new.self c.take.new.self.cursor _ (rw c.if-branch-ne32764.false refl) (told_then c.take.new.self c.take-2.new.self c.take-8.new.self _ c.in_ok-bit.ensures.counts c.in_ok-bit.ensures.reads (told_then c.take-2.new.self c.take-3.new.self c.take-8.new.self _ c.in_ok-size_code.ensures.counts c.in_ok-size_code.ensures.reads (told_past {read = judged (nat_eq c.in_ok-size_code.field-0 0) ReservedCode c.take-3.new.self.cursor} c.take-3.new.self c.take-8.new.self c.take-3.new.self.cursor _ (rw (ne_eqb c.in_ok-size_code.field-0 0 c.if-size_code-eq0.false) refl) (told_then c.take-3.new.self c.take-4.new.self c.take-8.new.self _ c.in_ok-rate_code.ensures.counts c.in_ok-rate_code.ensures.reads (told_past {read = judged (nat_eq c.in_ok-rate_code.field-0 15) ReservedCode c.take-4.new.self.cursor} c.take-4.new.self c.take-8.new.self c.take-4.new.self.cursor _ (rw (ne_eqb c.in_ok-rate_code.field-0 15 c.if-rate_code-eq15.false) refl) (told_then c.take-4.new.self c.take-5.new.self c.take-8.new.self _ c.in_ok-channel_code.ensures.counts c.in_ok-channel_code.ensures.reads (told_past {read = judged (nat_lt 10 c.in_ok-channel_code.field-0) ReservedCode c.take-5.new.self.cursor} c.take-5.new.self c.take-8.new.self c.take-5.new.self.cursor _ (rw (at_most_10 c.in_ok-channel_code.field-0 c.if-channel_code-gt10.false) refl) (told_then c.take-5.new.self c.take-6.new.self c.take-8.new.self _ c.in_ok-depth_code.ensures.counts c.in_ok-depth_code.ensures.reads (told_past {read = judged (nat_eq c.in_ok-depth_code.field-0 3) ReservedCode c.take-6.new.self.cursor} c.take-6.new.self c.take-8.new.self c.take-6.new.self.cursor _ (rw (ne_eqb c.in_ok-depth_code.field-0 3 c.if-depth_code-eq3.false) refl) (told_then c.take-6.new.self c.take-7.new.self c.take-8.new.self _ c.in_ok-take-2.ensures.counts c.in_ok-take-2.ensures.reads (told_past {read = judged (not (nat_eq c.in_ok-take-2.field-0 0)) ReservedCode c.take-7.new.self.cursor} c.take-7.new.self c.take-8.new.self c.take-7.new.self.cursor _ (rw c.if-branch-ne0.false refl) (told_then c.take-7.new.self c.number_here.new.bits c.take-8.new.self _ c.in_ok-number.ensures.counts (rw most at c.in_ok-number.ensures.reads) (told_then c.number_here.new.bits c.read_size.new.bits c.take-8.new.self _ c.in_ok-size.ensures.counts c.in_ok-size.ensures.reads (told_then c.read_size.new.bits c.read_rate.new.bits c.take-8.new.self _ c.in_ok-rate.ensures.counts c.in_ok-rate.ensures.reads (told_then c.read_rate.new.bits c.take-8.new.self c.take-8.new.self _ c.in_ok-take-3.ensures.counts c.in_ok-take-3.ensures.reads (told_broken {read = judged (not (nat_eq c.in_ok-take-3.field-0 c.read_rate.new.bits.cursor.mark.check8)) HeaderCheck c.take-8.new.self.cursor} c.take-8.new.self c.take-8.new.self _ (search rules))))))))))))))))));
     }
 
 pub returns-clause-counts : goal.returns-clause-counts
-returns-clause-counts g c = answered_then c.args.bits.now c.take.new.self c.take-8.new.self c.in_ok-take.ensures.counts (answered_then c.take.new.self c.take-2.new.self c.take-8.new.self c.in_ok-variable.ensures.counts (answered_then c.take-2.new.self c.take-3.new.self c.take-8.new.self c.in_ok-size_code.ensures.counts (answered_then c.take-3.new.self c.take-4.new.self c.take-8.new.self c.in_ok-rate_code.ensures.counts (answered_then c.take-4.new.self c.take-5.new.self c.take-8.new.self c.in_ok-channel_code.ensures.counts (answered_then c.take-5.new.self c.take-6.new.self c.take-8.new.self c.in_ok-depth_code.ensures.counts (answered_then c.take-6.new.self c.take-7.new.self c.take-8.new.self c.in_ok-take-2.ensures.counts (answered_then c.take-7.new.self c.number_here.new.bits c.take-8.new.self c.in_ok-number.ensures.counts (answered_then c.number_here.new.bits c.read_size.new.bits c.take-8.new.self c.in_ok-size.ensures.counts (answered_then c.read_size.new.bits c.read_rate.new.bits c.take-8.new.self c.in_ok-rate.ensures.counts c.in_ok-take-3.ensures.counts)))))))))
+returns-clause-counts g c = answered_then c.args.bits.now c.take.new.self c.take-8.new.self c.in_ok-take.ensures.counts (answered_then c.take.new.self c.take-2.new.self c.take-8.new.self c.in_ok-bit.ensures.counts (answered_then c.take-2.new.self c.take-3.new.self c.take-8.new.self c.in_ok-size_code.ensures.counts (answered_then c.take-3.new.self c.take-4.new.self c.take-8.new.self c.in_ok-rate_code.ensures.counts (answered_then c.take-4.new.self c.take-5.new.self c.take-8.new.self c.in_ok-channel_code.ensures.counts (answered_then c.take-5.new.self c.take-6.new.self c.take-8.new.self c.in_ok-depth_code.ensures.counts (answered_then c.take-6.new.self c.take-7.new.self c.take-8.new.self c.in_ok-take-2.ensures.counts (answered_then c.take-7.new.self c.number_here.new.bits c.take-8.new.self c.in_ok-number.ensures.counts (answered_then c.number_here.new.bits c.read_size.new.bits c.take-8.new.self c.in_ok-size.ensures.counts (answered_then c.read_size.new.bits c.read_rate.new.bits c.take-8.new.self c.in_ok-rate.ensures.counts c.in_ok-take-3.ensures.counts)))))))))
 
 pub returns-clause-reads : goal.returns-clause-reads
 unfolding header
 returns-clause-reads g c =
-    let most : c.if-variable.number_here ≡ number_bits (nat_eq c.in_ok-variable.field-0 1) = elim c.if-variable.branch [ then-variable w ↦ rw (w.number_here-is, w.if-variable.true) refl | else-variable w ↦ rw (w.number_here-is, ne_eqb c.in_ok-variable.field-0 1 w.if-variable.false) refl ] in
-    told_then c.args.bits.now c.take.new.self c.take-8.new.self _ c.in_ok-take.ensures.counts c.in_ok-take.ensures.reads (told_past {read = judged (not (nat_eq c.in_ok-take.field-0 0x7FFC)) BadSync c.take.new.self.cursor} c.take.new.self c.take-8.new.self c.take.new.self.cursor _ (rw c.if-branch-ne32764.false refl) (told_then c.take.new.self c.take-2.new.self c.take-8.new.self _ c.in_ok-variable.ensures.counts c.in_ok-variable.ensures.reads (told_then c.take-2.new.self c.take-3.new.self c.take-8.new.self _ c.in_ok-size_code.ensures.counts c.in_ok-size_code.ensures.reads (told_past {read = judged (nat_eq c.in_ok-size_code.field-0 0) ReservedCode c.take-3.new.self.cursor} c.take-3.new.self c.take-8.new.self c.take-3.new.self.cursor _ (rw (ne_eqb c.in_ok-size_code.field-0 0 c.if-size_code-eq0.false) refl) (told_then c.take-3.new.self c.take-4.new.self c.take-8.new.self _ c.in_ok-rate_code.ensures.counts c.in_ok-rate_code.ensures.reads (told_past {read = judged (nat_eq c.in_ok-rate_code.field-0 15) ReservedCode c.take-4.new.self.cursor} c.take-4.new.self c.take-8.new.self c.take-4.new.self.cursor _ (rw (ne_eqb c.in_ok-rate_code.field-0 15 c.if-rate_code-eq15.false) refl) (told_then c.take-4.new.self c.take-5.new.self c.take-8.new.self _ c.in_ok-channel_code.ensures.counts c.in_ok-channel_code.ensures.reads (told_past {read = judged (nat_lt 10 c.in_ok-channel_code.field-0) ReservedCode c.take-5.new.self.cursor} c.take-5.new.self c.take-8.new.self c.take-5.new.self.cursor _ (rw (at_most_10 c.in_ok-channel_code.field-0 c.if-channel_code-gt10.false) refl) (told_then c.take-5.new.self c.take-6.new.self c.take-8.new.self _ c.in_ok-depth_code.ensures.counts c.in_ok-depth_code.ensures.reads (told_past {read = judged (nat_eq c.in_ok-depth_code.field-0 3) ReservedCode c.take-6.new.self.cursor} c.take-6.new.self c.take-8.new.self c.take-6.new.self.cursor _ (rw (ne_eqb c.in_ok-depth_code.field-0 3 c.if-depth_code-eq3.false) refl) (told_then c.take-6.new.self c.take-7.new.self c.take-8.new.self _ c.in_ok-take-2.ensures.counts c.in_ok-take-2.ensures.reads (told_past {read = judged (not (nat_eq c.in_ok-take-2.field-0 0)) ReservedCode c.take-7.new.self.cursor} c.take-7.new.self c.take-8.new.self c.take-7.new.self.cursor _ (rw c.if-branch-ne0.false refl) (told_then c.take-7.new.self c.number_here.new.bits c.take-8.new.self _ c.in_ok-number.ensures.counts (rw most at c.in_ok-number.ensures.reads) (told_then c.number_here.new.bits c.read_size.new.bits c.take-8.new.self _ c.in_ok-size.ensures.counts c.in_ok-size.ensures.reads (told_then c.read_size.new.bits c.read_rate.new.bits c.take-8.new.self _ c.in_ok-rate.ensures.counts c.in_ok-rate.ensures.reads (told_then c.read_rate.new.bits c.take-8.new.self c.take-8.new.self _ c.in_ok-take-3.ensures.counts c.in_ok-take-3.ensures.reads (told_past {read = judged (not (nat_eq c.in_ok-take-3.field-0 c.read_rate.new.bits.cursor.mark.check8)) HeaderCheck c.take-8.new.self.cursor} c.take-8.new.self c.take-8.new.self c.take-8.new.self.cursor _ (search rules) (λ known same. refl))))))))))))))))))
+    let most = c.number_bits.ensures ∙ ap number_bits c.from_bit-strategy.ensures in
+    told_then c.args.bits.now c.take.new.self c.take-8.new.self _ c.in_ok-take.ensures.counts c.in_ok-take.ensures.reads (told_past {read = judged (not (nat_eq c.in_ok-take.field-0 0x7FFC)) BadSync c.take.new.self.cursor} c.take.new.self c.take-8.new.self c.take.new.self.cursor _ (rw c.if-branch-ne32764.false refl) (told_then c.take.new.self c.take-2.new.self c.take-8.new.self _ c.in_ok-bit.ensures.counts c.in_ok-bit.ensures.reads (told_then c.take-2.new.self c.take-3.new.self c.take-8.new.self _ c.in_ok-size_code.ensures.counts c.in_ok-size_code.ensures.reads (told_past {read = judged (nat_eq c.in_ok-size_code.field-0 0) ReservedCode c.take-3.new.self.cursor} c.take-3.new.self c.take-8.new.self c.take-3.new.self.cursor _ (rw (ne_eqb c.in_ok-size_code.field-0 0 c.if-size_code-eq0.false) refl) (told_then c.take-3.new.self c.take-4.new.self c.take-8.new.self _ c.in_ok-rate_code.ensures.counts c.in_ok-rate_code.ensures.reads (told_past {read = judged (nat_eq c.in_ok-rate_code.field-0 15) ReservedCode c.take-4.new.self.cursor} c.take-4.new.self c.take-8.new.self c.take-4.new.self.cursor _ (rw (ne_eqb c.in_ok-rate_code.field-0 15 c.if-rate_code-eq15.false) refl) (told_then c.take-4.new.self c.take-5.new.self c.take-8.new.self _ c.in_ok-channel_code.ensures.counts c.in_ok-channel_code.ensures.reads (told_past {read = judged (nat_lt 10 c.in_ok-channel_code.field-0) ReservedCode c.take-5.new.self.cursor} c.take-5.new.self c.take-8.new.self c.take-5.new.self.cursor _ (rw (at_most_10 c.in_ok-channel_code.field-0 c.if-channel_code-gt10.false) refl) (told_then c.take-5.new.self c.take-6.new.self c.take-8.new.self _ c.in_ok-depth_code.ensures.counts c.in_ok-depth_code.ensures.reads (told_past {read = judged (nat_eq c.in_ok-depth_code.field-0 3) ReservedCode c.take-6.new.self.cursor} c.take-6.new.self c.take-8.new.self c.take-6.new.self.cursor _ (rw (ne_eqb c.in_ok-depth_code.field-0 3 c.if-depth_code-eq3.false) refl) (told_then c.take-6.new.self c.take-7.new.self c.take-8.new.self _ c.in_ok-take-2.ensures.counts c.in_ok-take-2.ensures.reads (told_past {read = judged (not (nat_eq c.in_ok-take-2.field-0 0)) ReservedCode c.take-7.new.self.cursor} c.take-7.new.self c.take-8.new.self c.take-7.new.self.cursor _ (rw c.if-branch-ne0.false refl) (told_then c.take-7.new.self c.number_here.new.bits c.take-8.new.self _ c.in_ok-number.ensures.counts (rw most at c.in_ok-number.ensures.reads) (told_then c.number_here.new.bits c.read_size.new.bits c.take-8.new.self _ c.in_ok-size.ensures.counts c.in_ok-size.ensures.reads (told_then c.read_size.new.bits c.read_rate.new.bits c.take-8.new.self _ c.in_ok-rate.ensures.counts c.in_ok-rate.ensures.reads (told_then c.read_rate.new.bits c.take-8.new.self c.take-8.new.self _ c.in_ok-take-3.ensures.counts c.in_ok-take-3.ensures.reads (told_past {read = judged (not (nat_eq c.in_ok-take-3.field-0 c.read_rate.new.bits.cursor.mark.check8)) HeaderCheck c.take-8.new.self.cursor} c.take-8.new.self c.take-8.new.self c.take-8.new.self.cursor _ (search rules) (λ known same. rw c.from_bit-strategy.ensures refl))))))))))))))))))

@@ -2,7 +2,7 @@ use Rattle.std.proofs.Common.{rules, ◌≡◌, ℤ, pos, get_or, to_z, of_z, w3
 use Rattle.std.proofs.lemmas.Int.{to_z-of_z}
 use Rattle.flac_subframe.specs.Numbers.{fits}
 use Rattle.flac_frame.proofs.Depths.{fit_more, fit_less, none_left, none_both, none_wrong}
-use Rattle.flac_frame.proofs.audio.small.Goals as goal
+use Rattle.flac_frame.proofs.samples.samples_fit.Goals as goal
 
 pub loop-i-preserved : goal.loop-i-preserved
 loop-i-preserved c =
