@@ -1,29 +1,31 @@
 //! The content of the fewest bits for the samples of a subframe.
-ghost use Rattle.std.specs.Prelude.{◌≡◌, ◌<◌, ◌≤◌, ◌^◌, ◌+◌, ◌-◌, ◌++◌, ◌∷◌, [], ◌*◌, List, ℕ, length, All, IsTrue, ◌↔◌, replicate, map};
+ghost use Rattle.std.specs.Prelude.{◌≡◌, ◌<◌, ◌≤◌, ◌^◌, ◌+◌, ◌-◌, ◌++◌, ◌∷◌, [], ◌*◌, List, ℕ, length, take, All, IfSome, IfNone, IsTrue, ◌↔◌, replicate, map};
 ghost use Rattle.flac_bits.specs.Signed.{FitsBits};
 ghost use Rattle.flac_subframe.specs.Numbers.{sample_at};
 ghost use Rattle.flac_subframe.specs.Prediction.{fixed_coefficients};
 ghost use Rattle.flac_subframe.specs.Spelling.{folded};
 ghost use Rattle.flac_bits.specs.Rice.{IsResidual};
-ghost use Rattle.flac_subframe.specs.Bodies.{Chooses, fixed, differences};
+ghost use Rattle.flac_subframe.specs.Bodies.{Chooses, coefficients_of, differences};
 ghost use Rattle.flac_subframe.specs.Chosen.{fixed_below, offered};
-ghost use Rattle.flac_subframe.specs.inner.Chosen.{IsBest, way_held};
-ghost use Rattle.flac_subframe.specs.inner.Halves.{HasPlaces};
-ghost use Rattle.flac_subframe.specs.Handed.{predictor_of, handed_at};
+ghost use Rattle.flac_subframe.specs.Cost.{MayWrite, Codings, codings_in};
+ghost use Rattle.flac_subframe.specs.Least.{IsLeast};
+ghost use Rattle.flac_subframe.specs.inner.Chosen.{IsBest, IsNamed, predictor_named, residual_by, way_held};
+ghost use Rattle.flac_subframe.specs.inner.Cost.{residual_cost};
+ghost use Rattle.flac_subframe.specs.inner.Halves.{HasPlaces, HasResidual, HasRoom};
 ghost use Rattle.flac_subframe.specs.Wasted.{IsWasted, times_power, shortened};
 ghost use Rattle.flac_subframe.specs.declared.linear.LinearPredictor.{LinearPredictor};
 
 use crate::folding::fold_each;
 use crate::halving::Found;
-use crate::held::{Held, HeldKind, Sought};
+use crate::held::{Held, HeldKind, PredictorKind, Sought};
 use crate::leaving::{take_differences, take_weighed};
 use crate::linear::LinearPredictor;
 use crate::narrowed::{narrow, peak, take_narrow};
 use crate::numbers::power;
 use crate::products::take_products;
 use crate::survey::{greatest_halvings, least_residual};
-use crate::tables::Tables;
-use crate::view::{ResidualView, SampleView, Scope};
+use crate::tables::{SearchArrays, Tables};
+use crate::view::{ResidualView, SampleView, Task};
 use crate::wasted::drop_wasted;
 use crate::wide_products::take_wide_products;
 
@@ -39,14 +41,14 @@ pub(crate) fn all_equal(samples: &[i64]) -> bool
     true
 }
 
-/// The number of bits that a predictor of an order must stay below to replace the best so far: of two that take as many, the one of
-/// the lower order is kept.
-fn limit(best: &Held, order: usize) -> u64
+/// The number of bits that a predictor must stay below to replace the best so far: of two fixed ones that take as many, the one of the
+/// lower order is kept.
+fn limit(best: &Held, kind: PredictorKind) -> u64
     requires { best.now.bits ≤ 2 ^ 60 }
     ensures { (best.now.bits ≤ result) × (result ≤ best.now.bits + 1) }
 {
-    match best.kind {
-        HeldKind::AsFixed(held) if order < held => best.bits + 1,
+    match (best.kind, kind) {
+        (HeldKind::AsFixed(held), PredictorKind::Fixed(order)) if order < held => best.bits + 1,
         _ => best.bits,
     }
 }
@@ -90,7 +92,7 @@ fn likely_order(samples: &[i64]) -> usize
 }
 
 /// What the fixed predictor of an order leaves of the samples, and the same as unsigned numbers, if a residual may have it all.
-fn take_residual(
+fn take_fixed_residual(
     subject: &SampleView<'_>,
     order: usize,
     wide: &mut [i64],
@@ -119,57 +121,6 @@ fn take_residual(
     true
 }
 
-/// Replaces the best so far by the fixed predictor of an order, if that takes fewer bits.
-fn better_fixed(
-    subject: &SampleView<'_>,
-    order: usize,
-    wide: &mut [i64],
-    values: &mut [i32],
-    folds: &mut [u32],
-    tables: &mut Tables<'_>,
-    best: &mut Held,
-)
-    requires order { order ≤ 4 }
-    requires wide { length subject.now.samples.now ≤ length wide.old }
-    requires places { length subject.now.samples.now ≤ length values.old }
-    requires folds { length subject.now.samples.now ≤ length folds.old }
-    requires small { best.old.bits ≤ 2 ^ 60 }
-    requires arrays { HasPlaces subject.now.most tables.old }
-    ensures best { (tried : List Chooses) → IsBest subject.now.predictors.now subject.now.most subject.now.bits subject.now.samples.now tried (way_held best.old tables.old.codings.now) → IsBest subject.now.predictors.now subject.now.most subject.now.bits subject.now.samples.now (tried ++ fixed order ∷ []) (way_held best.new tables.new.codings.now) }
-    ensures within { best.old.found.halvings ≤ subject.now.most → best.new.found.halvings ≤ subject.now.most }
-    ensures arrays { HasPlaces subject.now.most tables.new }
-    ensures same { tables.new.codings.ghost_name ≡ tables.old.codings.ghost_name }
-{
-    let samples = subject.samples;
-    if order >= samples.len() {
-        return;
-    }
-    let places = &mut values[..samples.len() - order];
-    let folds = &mut folds[..places.len()];
-    if !take_residual(subject, order, wide, places, folds) {
-        return;
-    }
-    let limit = limit(best, order);
-    let before = u64::from(subject.bits) * order as u64;
-    if limit <= before {
-        return;
-    }
-    let halvings = greatest_halvings(places, order, subject.most);
-    let residual = ResidualView {
-        values: places,
-        folds,
-        order,
-        halvings,
-    };
-    if let Some(found) = least_residual(&residual, tables, limit - before) {
-        *best = Held {
-            kind: HeldKind::AsFixed(order),
-            found,
-            bits: before + found.bits,
-        };
-    }
-}
-
 /// What a linear predictor leaves of the samples, worked out in 64 bits, and whether a residual may have it all.
 fn take_wide(subject: &SampleView<'_>, predictor: &LinearPredictor, wide: &mut [i64]) -> bool
     requires places { length wide.old + length predictor.now.coefficients.items ≡ length subject.now.samples.now }
@@ -186,7 +137,7 @@ fn take_wide(subject: &SampleView<'_>, predictor: &LinearPredictor, wide: &mut [
 }
 
 /// What a linear predictor leaves of the samples, and the same as unsigned numbers, if a residual may have it all.
-fn take_handed(
+fn take_linear_residual(
     subject: &SampleView<'_>,
     predictor: &LinearPredictor,
     wide: &mut [i64],
@@ -216,81 +167,111 @@ fn take_handed(
     true
 }
 
-/// Replaces the best so far by the linear predictor at a place of the list, if that takes fewer bits.
-fn better_linear(
+/// Puts what a predictor leaves of the samples into the first places, and the same as unsigned numbers, if a residual may have it all.
+fn take_residual(
     subject: &SampleView<'_>,
-    index: usize,
+    kind: PredictorKind,
     wide: &mut [i64],
     values: &mut [i32],
     folds: &mut [u32],
-    tables: &mut Tables<'_>,
-    best: &mut Held,
-)
-    requires index { index < length subject.now.predictors.now }
+) -> bool
+    requires named { IsNamed subject.now.predictors.now kind }
+    requires room { length (coefficients_of (predictor_named subject.now.predictors.now kind)) < length subject.now.samples.now }
     requires wide { length subject.now.samples.now ≤ length wide.old }
-    requires places { length subject.now.samples.now ≤ length values.old }
+    requires values { length subject.now.samples.now ≤ length values.old }
     requires folds { length subject.now.samples.now ≤ length folds.old }
-    requires small { best.old.bits ≤ 2 ^ 60 }
-    requires arrays { HasPlaces subject.now.most tables.old }
-    ensures best { (tried : List Chooses) → IsBest subject.now.predictors.now subject.now.most subject.now.bits subject.now.samples.now tried (way_held best.old tables.old.codings.now) → IsBest subject.now.predictors.now subject.now.most subject.now.bits subject.now.samples.now (tried ++ handed_at subject.now.predictors.now index ∷ []) (way_held best.new tables.new.codings.now) }
-    ensures less { best.new.bits ≤ best.old.bits }
-    ensures within { best.old.found.halvings ≤ subject.now.most → best.new.found.halvings ≤ subject.now.most }
-    ensures arrays { HasPlaces subject.now.most tables.new }
+    ensures residual { IsTrue result → HasResidual (residual_by (predictor_named subject.now.predictors.now kind) subject.now.samples.now) values.new folds.new }
+    ensures all { All IsResidual (residual_by (predictor_named subject.now.predictors.now kind) subject.now.samples.now) → IsTrue result }
+{
+    let count = subject.samples.len() - subject.order(kind);
+    let values = &mut values[..count];
+    let folds = &mut folds[..count];
+    match kind {
+        PredictorKind::Fixed(order) => take_fixed_residual(subject, order, wide, values, folds),
+        PredictorKind::Linear(index) => {
+            let predictor = &subject.predictors[index];
+            take_linear_residual(subject, predictor, wide, values, folds)
+        }
+    }
+}
+
+/// The form of the fewest bits for the residual of a predictor of an order, if it takes fewer than `below`.
+fn least_form(
+    subject: &SampleView<'_>,
+    order: usize,
+    values: &[i32],
+    folds: &[u32],
+    tables: &mut Tables<'_>,
+    below: u64,
+) -> Option<Found>
+    requires order { order < length subject.now.samples.now }
+    requires values { length subject.now.samples.now ≤ length values.now }
+    requires residual { HasResidual (take (length subject.now.samples.now - order) values.now) values.now folds.now }
+    requires folds { length subject.now.samples.now ≤ length folds.now }
+    requires tables { HasPlaces subject.now.most tables.old }
+    ensures least { let rs = take (length subject.now.samples.now - order) values.now in IfSome result (λ f. IsLeast (MayWrite subject.now.most order rs) (residual_cost order rs) (codings_in f tables.new.codings.now)) }
+    ensures bits { let rs = take (length subject.now.samples.now - order) values.now in IfSome result (λ f. f.bits ≡ residual_cost order rs (codings_in f tables.new.codings.now)) }
+    ensures within { IfSome result (λ f. f.halvings ≤ subject.now.most) }
+    ensures less { IfSome result (λ f. f.bits < below) }
+    ensures small { IfSome result (λ f. f.bits ≤ 2 ^ 49) }
+    ensures kept { IfNone result (tables.new.codings.now ≡ tables.old.codings.now) }
+    ensures none { let rs = take (length subject.now.samples.now - order) values.now in IfNone result ((f : Codings) → MayWrite subject.now.most order rs f → below ≤ residual_cost order rs f) }
+    ensures places { HasPlaces subject.now.most tables.new }
     ensures same { tables.new.codings.ghost_name ≡ tables.old.codings.ghost_name }
 {
-    let samples = subject.samples;
-    let predictors = subject.predictors;
-    let predictor = &predictors[index];
-    let order = predictor.order();
-    if order >= samples.len() {
-        return;
-    }
-    let before = u64::from(subject.bits) * order as u64 + predictor.field_bits();
-    if best.bits <= before {
-        return;
-    }
-    let places = &mut values[..samples.len() - order];
-    let folds = &mut folds[..places.len()];
-    if !take_handed(subject, predictor, wide, places, folds) {
-        return;
-    }
-    let halvings = greatest_halvings(places, order, subject.most);
+    let count = subject.samples.len() - order;
+    let values = &values[..count];
+    let folds = &folds[..count];
+    let halvings = greatest_halvings(values, order, subject.most);
     let residual = ResidualView {
-        values: places,
+        values,
         folds,
         order,
         halvings,
     };
-    if let Some(found) = least_residual(&residual, tables, best.bits - before) {
-        *best = Held {
-            kind: HeldKind::AsLinear(index),
-            found,
-            bits: before + found.bits,
-        };
-    }
+    least_residual(&residual, tables, below)
 }
 
-/// Tries the linear predictors of the list one after another.
-fn better_of_each(
+/// Replaces the best so far by a predictor, if that takes fewer bits.
+fn improve(
     subject: &SampleView<'_>,
-    wide: &mut [i64],
-    values: &mut [i32],
-    folds: &mut [u32],
+    kind: PredictorKind,
+    arrays: &mut SearchArrays<'_>,
     tables: &mut Tables<'_>,
     best: &mut Held,
 )
-    requires wide { length subject.now.samples.now ≤ length wide.old }
-    requires places { length subject.now.samples.now ≤ length values.old }
-    requires folds { length subject.now.samples.now ≤ length folds.old }
+    requires named { IsNamed subject.now.predictors.now kind }
+    requires arrays { HasRoom (length subject.now.samples.now) arrays.old }
+    requires tables { HasPlaces subject.now.most tables.old }
     requires small { best.old.bits ≤ 2 ^ 60 }
-    requires arrays { HasPlaces subject.now.most tables.old }
-    ensures best { (tried : List Chooses) → IsBest subject.now.predictors.now subject.now.most subject.now.bits subject.now.samples.now tried (way_held best.old tables.old.codings.now) → IsBest subject.now.predictors.now subject.now.most subject.now.bits subject.now.samples.now (tried ++ map predictor_of subject.now.predictors.now) (way_held best.new tables.new.codings.now) }
+    ensures best { (tried : List Chooses) → IsBest subject.now.predictors.now subject.now.most subject.now.bits subject.now.samples.now tried (way_held best.old tables.old.codings.now) → IsBest subject.now.predictors.now subject.now.most subject.now.bits subject.now.samples.now (tried ++ predictor_named subject.now.predictors.now kind ∷ []) (way_held best.new tables.new.codings.now) }
+    ensures less { best.new.bits ≤ best.old.bits }
     ensures within { best.old.found.halvings ≤ subject.now.most → best.new.found.halvings ≤ subject.now.most }
-    ensures arrays { HasPlaces subject.now.most tables.new }
+    ensures arrays { HasRoom (length subject.now.samples.now) arrays.new }
+    ensures tables { HasPlaces subject.now.most tables.new }
     ensures same { tables.new.codings.ghost_name ≡ tables.old.codings.ghost_name }
 {
-    for index in 0..subject.predictors.len() {
-        better_linear(subject, index, wide, values, folds, tables, best);
+    let order = subject.order(kind);
+    if order >= subject.samples.len() {
+        return;
+    }
+    let before = u64::from(subject.bits) * order as u64 + subject.field_bits(kind);
+    let limit = limit(best, kind);
+    if limit <= before {
+        return;
+    }
+    let wide = &mut *arrays.wide;
+    let values = &mut *arrays.values;
+    let folds = &mut *arrays.folds;
+    if !take_residual(subject, kind, wide, values, folds) {
+        return;
+    }
+    if let Some(found) = least_form(subject, order, values, folds, tables, limit - before) {
+        *best = Held {
+            kind: kind.held(),
+            found,
+            bits: before + found.bits,
+        };
     }
 }
 
@@ -321,49 +302,56 @@ fn begin(samples: &[i64], bits: u32) -> Held
 
 /// The content of the fewest bits: constant, verbatim, a fixed predictor or one of the linear ones, with a partition order up to the
 /// greatest. The codings of its residual are in their array.
-fn search(
-    subject: &SampleView<'_>,
-    wide: &mut [i64],
-    values: &mut [i32],
-    folds: &mut [u32],
-    tables: &mut Tables<'_>,
-) -> Held
+fn search(subject: &SampleView<'_>, arrays: &mut SearchArrays<'_>, tables: &mut Tables<'_>) -> Held
     requires some { 0 < length subject.now.samples.now }
-    requires wide { length subject.now.samples.now ≤ length wide.old }
-    requires places { length subject.now.samples.now ≤ length values.old }
-    requires folds { length subject.now.samples.now ≤ length folds.old }
-    requires arrays { HasPlaces subject.now.most tables.old }
+    requires arrays { HasRoom (length subject.now.samples.now) arrays.old }
+    requires tables { HasPlaces subject.now.most tables.old }
     ensures best { IsBest subject.now.predictors.now subject.now.most subject.now.bits subject.now.samples.now (offered subject.now.predictors.now) (way_held result tables.new.codings.now) }
     ensures within { result.found.halvings ≤ subject.now.most }
-    ensures arrays { HasPlaces subject.now.most tables.new }
     ensures same { tables.new.codings.ghost_name ≡ tables.old.codings.ghost_name }
 {
     let mut best = begin(subject.samples, subject.bits);
     let first = likely_order(subject.samples);
-    better_fixed(subject, first, wide, values, folds, tables, &mut best);
+    improve(
+        subject,
+        PredictorKind::Fixed(first),
+        arrays,
+        tables,
+        &mut best,
+    );
     for order in 0..5 {
         if order != first {
-            better_fixed(subject, order, wide, values, folds, tables, &mut best);
+            improve(
+                subject,
+                PredictorKind::Fixed(order),
+                arrays,
+                tables,
+                &mut best,
+            );
         }
     }
-    better_of_each(subject, wide, values, folds, tables, &mut best);
+    for index in 0..subject.predictors.len() {
+        improve(
+            subject,
+            PredictorKind::Linear(index),
+            arrays,
+            tables,
+            &mut best,
+        );
+    }
     best
 }
 
-/// The content of the fewest bits, by tables that stand one after another in an array.
+/// The same by tables that are one after another in an array.
 fn search_within(
     subject: &SampleView<'_>,
-    wide: &mut [i64],
-    values: &mut [i32],
-    folds: &mut [u32],
+    arrays: &mut SearchArrays<'_>,
     tables: &mut [u64],
     widths: &mut [u8],
     codings: &mut [u8],
 ) -> Held
     requires some { 0 < length subject.now.samples.now }
-    requires wide { length subject.now.samples.now ≤ length wide.old }
-    requires places { length subject.now.samples.now ≤ length values.old }
-    requires folds { length subject.now.samples.now ≤ length folds.old }
+    requires arrays { HasRoom (length subject.now.samples.now) arrays.old }
     requires tables { 5 * 2 ^ subject.now.most ≤ length tables.old }
     requires widths { 2 * 2 ^ subject.now.most ≤ length widths.old }
     requires codings { 2 ^ subject.now.most ≤ length codings.old }
@@ -380,14 +368,12 @@ fn search_within(
         widths,
         codings,
     };
-    search(subject, wide, values, folds, &mut tables)
+    search(subject, arrays, &mut tables)
 }
 
-/// The wasted bits of some samples and the content of the fewest bits for the rest, whose codings are put into the first of the places.
+/// The wasted bits of some samples and the content of the fewest bits for the rest, whose codings are put into the first of their places.
 pub(crate) fn choose_in_places(
-    samples: &[i64],
-    depth: u32,
-    scope: &Scope<'_>,
+    task: &Task<'_>,
     longs: &mut [i64],
     shorts: &mut [i32],
     folds: &mut [u32],
@@ -395,36 +381,38 @@ pub(crate) fn choose_in_places(
     widths: &mut [u8],
     codings: &mut [u8],
 ) -> Sought
-    requires some { 0 < length samples.now }
-    requires few { length samples.now ≤ 65535 }
-    requires depth { (1 ≤ depth) × (depth ≤ 33) }
-    requires fits { All (FitsBits depth) samples.now }
-    requires longs { 2 * length samples.now ≤ length longs.old }
-    requires shorts { 2 * length samples.now ≤ length shorts.old }
-    requires folds { length samples.now ≤ length folds.old }
-    requires tables { 5 * 2 ^ scope.now.most ≤ length tables.old }
-    requires widths { 2 * 2 ^ scope.now.most ≤ length widths.old }
-    requires codings { 2 ^ scope.now.most ≤ length codings.old }
-    ensures wasted { IsWasted result.wasted samples.now }
-    ensures some { result.wasted < depth }
-    ensures times { samples.now ≡ map (times_power result.wasted) (shortened result.wasted samples.now) }
-    ensures best { IsBest scope.now.predictors.now scope.now.most (depth - result.wasted) (shortened result.wasted samples.now) (offered scope.now.predictors.now) (way_held result.held codings.new) }
-    ensures within { result.held.found.halvings ≤ scope.now.most }
+    requires longs { 2 * length task.now.samples.now ≤ length longs.old }
+    requires shorts { 2 * length task.now.samples.now ≤ length shorts.old }
+    requires folds { length task.now.samples.now ≤ length folds.old }
+    requires tables { 5 * 2 ^ task.now.most ≤ length tables.old }
+    requires widths { 2 * 2 ^ task.now.most ≤ length widths.old }
+    requires codings { 2 ^ task.now.most ≤ length codings.old }
+    ensures wasted { IsWasted result.wasted task.now.samples.now }
+    ensures some { result.wasted < task.now.depth }
+    ensures times { task.now.samples.now ≡ map (times_power result.wasted) (shortened result.wasted task.now.samples.now) }
+    ensures best { IsBest task.now.predictors.now task.now.most (task.now.depth - result.wasted) (shortened result.wasted task.now.samples.now) (offered task.now.predictors.now) (way_held result.held codings.new) }
+    ensures within { result.held.found.halvings ≤ task.now.most }
 {
+    let samples = task.samples;
     let (shortened, wide) = longs.split_at_mut(samples.len());
-    let wasted = drop_wasted(samples, depth, shortened);
+    let wasted = drop_wasted(samples, task.depth, shortened);
     let (narrowed, values) = shorts.split_at_mut(samples.len());
     let narrow = narrow(shortened, narrowed);
-    let peak = peak(narrowed, narrow, !scope.predictors.is_empty());
+    let peak = peak(narrowed, narrow, !task.predictors.is_empty());
     let subject = SampleView {
         samples: shortened,
         narrowed,
-        bits: depth - wasted,
-        most: scope.most,
-        predictors: scope.predictors,
+        bits: task.depth - wasted,
+        most: task.most,
+        predictors: task.predictors,
         narrow,
         peak,
     };
-    let held = search_within(&subject, wide, values, folds, tables, widths, codings);
+    let mut arrays = SearchArrays {
+        wide,
+        values,
+        folds,
+    };
+    let held = search_within(&subject, &mut arrays, tables, widths, codings);
     Sought { wasted, held }
 }

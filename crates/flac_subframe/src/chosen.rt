@@ -19,7 +19,7 @@ use crate::limits::Limits;
 use crate::linear::LinearPredictor;
 use crate::numbers::power;
 use crate::tables::filled;
-use crate::view::{ChosenView, CodedView, Scope};
+use crate::view::{ChosenView, CodedView, Task};
 use arrayvec::ArrayVec;
 
 /// How a subframe is written: how many lowest bits are left out, how the rest is written, with the codings that are in use, each as a byte,
@@ -150,14 +150,14 @@ pub fn choose_with(
     let mut tables = [0; 1280];
     let mut widths = [0; 512];
     let mut codings = [0; 256];
-    let scope = Scope {
+    let task = Task {
+        samples,
+        depth,
         most: limits.partition as u8,
         predictors,
     };
     let sought = choose_in_places(
-        samples,
-        depth,
-        &scope,
+        &task,
         &mut longs,
         &mut shorts,
         &mut folds,

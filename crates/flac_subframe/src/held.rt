@@ -12,6 +12,28 @@ pub enum HeldKind {
     AsLinear(usize),
 }
 
+/// A predictor: a fixed one by its order, or a linear one by its place in the list that was handed in.
+#[derive(Clone, Copy)]
+pub(crate) enum PredictorKind {
+    Fixed(usize),
+    Linear(usize),
+}
+
+impl PredictorKind {
+    ghost use Rattle.std.specs.Prelude.{◌≡◌};
+    ghost use Rattle.flac_subframe.specs.inner.Chosen.{kind_held};
+
+    /// The content that is written by it.
+    pub(crate) fn held(self) -> HeldKind
+        ensures { result ≡ kind_held self }
+    {
+        match self {
+            PredictorKind::Fixed(order) => HeldKind::AsFixed(order),
+            PredictorKind::Linear(index) => HeldKind::AsLinear(index),
+        }
+    }
+}
+
 /// The best so far. The codings of its residual stay in their array and are overwritten only by better ones.
 #[derive(Clone, Copy)]
 pub struct Held {

@@ -12,6 +12,14 @@ pub(crate) struct Tables<'a> {
     pub(crate) codings: &'a mut [u8],
 }
 
+/// The arrays of a search for what a predictor leaves of the samples: in 64 bits, in 32 bits, and as unsigned numbers.
+#[derive(Drop)]
+pub(crate) struct SearchArrays<'a> {
+    pub(crate) wide: &'a mut [i64],
+    pub(crate) values: &'a mut [i32],
+    pub(crate) folds: &'a mut [u32],
+}
+
 /// An array with one value in all places. For the prover its result is any array of that length; the places of a literal are counted one
 /// by one wherever its length is asked for.
 #[inline(always)]

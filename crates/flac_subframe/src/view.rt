@@ -8,14 +8,22 @@ ghost use Rattle.flac_subframe.specs.Numbers.{sample_at};
 ghost use Rattle.flac_subframe.specs.Spelling.{folded};
 ghost use Rattle.flac_subframe.specs.inner.Halves.{Halves};
 
-use crate::held::HeldKind;
+use crate::held::{HeldKind, PredictorKind};
 use crate::linear::LinearPredictor;
 
-/// What the search covers: partition orders up to the greatest, and linear predictors beside the fixed ones.
+/// What is searched for: the subframe of the fewest bits for samples of a depth, with partition orders up to the greatest and with linear
+/// predictors beside the fixed ones.
 #[derive(Drop)]
-pub(crate) struct Scope<'a> {
+pub(crate) struct Task<'a> {
+    pub(crate) samples: &'a [i64],
+    pub(crate) depth: u32,
     pub(crate) most: u8,
     pub(crate) predictors: &'a [LinearPredictor],
+    ghost some: { 0 < length samples.now },
+    ghost few: { length samples.now ≤ 65535 },
+    ghost positive: { 1 ≤ depth },
+    ghost deep: { depth ≤ 33 },
+    ghost fits: { All (FitsBits depth) samples.now },
     ghost halved: { most ≤ 15 },
 }
 
@@ -73,6 +81,36 @@ pub(crate) struct SampleView<'a> {
     ghost leaves: { IsTrue narrow → All (FitsBits 27) samples.now },
     ghost same: { IsTrue narrow → narrowed.now ≡ samples.now },
     ghost peaked: { IsTrue narrow → (i : ℕ) → unsigned_abs (sample_at narrowed.now i) ≤ peak },
+}
+
+impl SampleView<'_> {
+    ghost use Rattle.std.specs.Prelude.{◌≡◌, ◌≤◌, length};
+    ghost use Rattle.flac_subframe.specs.Bodies.{coefficients_of, fields_cost};
+    ghost use Rattle.flac_subframe.specs.inner.Chosen.{IsNamed, predictor_named};
+
+    /// The order of a predictor.
+    pub(crate) fn order(&self, kind: PredictorKind) -> usize
+        requires { IsNamed self.now.predictors.now kind }
+        ensures value { result ≡ length (coefficients_of (predictor_named self.now.predictors.now kind)) }
+        ensures few { result ≤ 32 }
+    {
+        match kind {
+            PredictorKind::Fixed(order) => order,
+            PredictorKind::Linear(index) => self.predictors[index].order(),
+        }
+    }
+
+    /// The bits of a predictor's own fields in a subframe: those of its precision, shift and coefficients; a fixed one has none.
+    pub(crate) fn field_bits(&self, kind: PredictorKind) -> u64
+        requires { IsNamed self.now.predictors.now kind }
+        ensures value { result ≡ fields_cost (predictor_named self.now.predictors.now kind) }
+        ensures small { result ≤ 1024 }
+    {
+        match kind {
+            PredictorKind::Fixed(_) => 0,
+            PredictorKind::Linear(index) => self.predictors[index].field_bits(),
+        }
+    }
 }
 
 /// The form of a residual as it is written: the bits of a Rice parameter, the partition order, and the coding of each partition as a

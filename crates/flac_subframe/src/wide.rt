@@ -20,7 +20,7 @@ use crate::held::HeldKind;
 use crate::limits::Limits;
 use crate::linear::LinearPredictor;
 use crate::numbers::power;
-use crate::view::{ChosenView, CodedView, Scope};
+use crate::view::{ChosenView, CodedView, Task};
 use crate::workspace::Workspace;
 use crate::writing::write_chosen;
 use flac_bits::{BitWriter, Target, Why};
@@ -157,14 +157,14 @@ pub fn choose_in(
     ensures room { workspace.new ≡ workspace.old }
 {
     let _most = workspace.most;
-    let scope = Scope {
+    let task = Task {
+        samples,
+        depth,
         most: limits.partition as u8,
         predictors,
     };
     let sought = choose_in_places(
-        samples,
-        depth,
-        &scope,
+        &task,
         &mut workspace.longs,
         &mut workspace.shorts,
         &mut workspace.folds,

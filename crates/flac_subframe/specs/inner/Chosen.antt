@@ -6,10 +6,33 @@ use Rattle.flac_subframe.specs.Cost.{MayWrite}
 use Rattle.flac_subframe.specs.inner.Cost.{residual_cost}
 use Rattle.flac_subframe.specs.Cost.{Codings, codings_in}
 use Rattle.flac_subframe.specs.declared.held.HeldKind.{HeldKind}
+use Rattle.flac_subframe.specs.declared.held.HeldKind.TheVariants.{AsFixed, AsLinear}
 use Rattle.flac_subframe.specs.declared.held.Held.{Held}
+use Rattle.flac_subframe.specs.declared.held.PredictorKind.{PredictorKind}
+use Rattle.flac_subframe.specs.declared.held.PredictorKind.TheVariants.{Fixed, Linear}
 use Rattle.flac_subframe.specs.declared.linear.LinearPredictor.{LinearPredictor}
-use Rattle.flac_subframe.specs.Bodies.{Chooses, differences, StandsFor, spelled}
+use Rattle.flac_subframe.specs.Bodies.{Chooses, fixed, coefficients_of, shift_of, differences, StandsFor, spelled}
+use Rattle.flac_subframe.specs.Handed.{handed_at}
 use Rattle.flac_subframe.specs.Chosen.{body_held, IsHeld}
+
+-- the predictor that is named, whose linear ones are those of a list
+abbrev pub predictor_named : List LinearPredictor → PredictorKind → Chooses
+predictor_named ps (Fixed order) = fixed order
+predictor_named ps (Linear index) = handed_at ps index
+
+-- what a predictor leaves of the samples
+abbrev pub residual_by : Chooses → List ℤ → List ℤ
+residual_by p s = differences (coefficients_of p) (shift_of p) s
+
+-- there is such a predictor
+abbrev pub IsNamed : List LinearPredictor → PredictorKind → Type 0
+IsNamed ps (Fixed order) = order ≤ 4
+IsNamed ps (Linear index) = index < length ps
+
+-- the content that is written by it
+abbrev pub kind_held : PredictorKind → HeldKind
+kind_held (Fixed order) = AsFixed order
+kind_held (Linear index) = AsLinear index
 
 -- a way to write samples, and how many bits it takes; of the codings only a kind with a residual makes use
 pub record Way : Type 0 where

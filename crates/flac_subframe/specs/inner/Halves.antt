@@ -1,9 +1,11 @@
 -- For proofs of the search: the partitions of a residual at each partition order, and the best coding of each so far.
-use Rattle.std.specs.Prelude.{ℕ, ℤ, ◌≡◌, ◌+◌, ◌-◌, ◌*◌, ◌/◌, ◌%◌, ◌^◌, ◌<◌, ◌≤◌, List, length, take, drop, slice_index, All, ◌↔◌}
+use Rattle.std.specs.Prelude.{ℕ, ℤ, ◌≡◌, ◌+◌, ◌-◌, ◌*◌, ◌/◌, ◌%◌, ◌^◌, ◌<◌, ◌≤◌, List, length, take, drop, map, slice_index, All, ◌↔◌}
 use Rattle.std.specs.List.{sum_by}
+use Rattle.flac_bits.specs.Rice.{IsResidual}
 use Rattle.flac_subframe.specs.inner.Cost.{value_cost}
 use Rattle.flac_subframe.specs.declared.tables.Tables.{Tables}
-use Rattle.flac_subframe.specs.Spelling.{FitsWidth}
+use Rattle.flac_subframe.specs.declared.tables.SearchArrays.{SearchArrays}
+use Rattle.flac_subframe.specs.Spelling.{FitsWidth, folded}
 
 -- where the partition j begins, behind the warm-up samples
 abbrev pub start : ℕ → ℕ → ℕ → ℕ → ℕ
@@ -54,3 +56,15 @@ pub record HasPlaces (most : ℕ) (t : Tables) : Type 0 where
   pub five : 2 * 2 ^ most ≤ length t.five.now
   pub widths : 2 * 2 ^ most ≤ length t.widths.now
   pub codings : 2 ^ most ≤ length t.codings.now
+
+-- those for what a predictor leaves have places for n samples
+pub record HasRoom (n : ℕ) (a : SearchArrays) : Type 0 where
+  pub wide : n ≤ length a.wide.now
+  pub values : n ≤ length a.values.now
+  pub folds : n ≤ length a.folds.now
+
+-- arrays begin with a residual, and with the same as unsigned numbers
+pub record HasResidual (rs values : List ℤ) (folds : List ℕ) : Type 0 where
+  pub begins : take (length rs) values ≡ rs
+  pub unsigned : take (length rs) folds ≡ map folded rs
+  pub range : All IsResidual rs

@@ -1,26 +1,26 @@
-use Rattle.std.proofs.Common.{arith, [], ◌∷◌, ◌≡◌, ◌∙◌}
+use Rattle.std.proofs.Common.{arith, [], ◌∷◌, ◌≡◌, ◌∙◌, ◌++◌, map, take}
+use Rattle.std.proofs.lemmas.List.{take_all, append-nil}
 use Rattle.flac_subframe.specs.Bodies.{fixed}
 use Rattle.flac_subframe.specs.Chosen.{fixed_below}
+use Rattle.flac_subframe.specs.Handed.{predictor_of}
 use Rattle.flac_subframe.specs.inner.Chosen.{IsBest, way_held}
-use Rattle.flac_subframe.proofs.Best.{next_tried, first_tried, all_tried}
+use Rattle.flac_subframe.proofs.Best.{next_tried, first_tried, all_tried, one_linear_more}
 use Rattle.flac_subframe.proofs.Complete.{among}
 use Rattle.flac_subframe.proofs.choice.search.Goals as goal
 use Rattle.flac_subframe.proofs.choice.search.Goals.{then-order-first, else-order-first}
 
-pub better_fixed-requires-clause-small : goal.better_fixed-requires-clause-small
-better_fixed-requires-clause-small c = (c.begin-best.ensures.best c.args.subject.now.predictors.now c.args.subject.now.most c.args.tables.now.codings.now).small
+pub improve-requires-clause-small : goal.improve-requires-clause-small
+improve-requires-clause-small c = (c.begin-best.ensures.best c.args.subject.now.predictors.now c.args.subject.now.most c.args.tables.now.codings.now).small
 
 pub loop-order-init : goal.loop-order-init
 loop-order-init c =
-    let new = c.better_fixed in
+    let new = c.improve.ensures in
     record {
-      best = new.ensures.best (fixed_below 0) (c.begin-best.ensures.best c.args.subject.now.predictors.now c.args.subject.now.most c.args.tables.now.codings.now);
-      within = new.ensures.within (omega (arith, c.begin-best.ensures.none));
-      arrays = new.ensures.arrays;
-      same = new.ensures.same;
-      wide = new.auto.wide;
-      values = new.auto.values;
-      folds = new.auto.folds;
+      best = new.best (fixed_below 0) (c.begin-best.ensures.best c.args.subject.now.predictors.now c.args.subject.now.most c.args.tables.now.codings.now);
+      within = new.within (omega (arith, c.begin-best.ensures.none));
+      arrays = new.arrays;
+      tables = new.tables;
+      same = new.same;
     }
 
 pub loop-order-preserved : goal.loop-order-preserved
@@ -30,15 +30,13 @@ loop-order-preserved c =
     let so = c.loop-order.invariant in
     elim c.if-order-first.branch [
       | then-order-first w ↦
-          let new = w.better_fixed-then-order-first in
+          let new = w.improve-then-order-first.ensures in
           record {
-            best = rw (w.best-is, w.tables-is) (next_tried hs most bits s _ first order (new.ensures.best (fixed first ∷ fixed_below order) so.best));
-            within = rw w.best-is (new.ensures.within so.within);
-            arrays = rw w.tables-is new.ensures.arrays;
-            same = rw w.tables-is (new.ensures.same ∙ so.same);
-            wide = rw w.wide-is (new.auto.wide ∙ so.wide);
-            values = rw w.values-is (new.auto.values ∙ so.values);
-            folds = rw w.folds-is (new.auto.folds ∙ so.folds);
+            best = rw (w.best-is, w.tables-is) (next_tried hs most bits s _ first order (new.best (fixed first ∷ fixed_below order) so.best));
+            within = rw w.best-is (new.within so.within);
+            arrays = rw w.arrays-is new.arrays;
+            tables = rw w.tables-is new.tables;
+            same = rw w.tables-is (new.same ∙ so.same);
           }
       | else-order-first w ↦
           let e : order ≡ first = omega arith in
@@ -46,20 +44,40 @@ loop-order-preserved c =
           record {
             best = rw (w.best-is, w.tables-is, ← e) (first_tried hs most bits s (way_held c.loop-order.best c.loop-order.tables.codings.now) order tried);
             within = rw w.best-is so.within;
-            arrays = rw w.tables-is so.arrays;
+            arrays = rw w.arrays-is so.arrays;
+            tables = rw w.tables-is so.tables;
             same = rw w.tables-is so.same;
-            wide = rw w.wide-is so.wide;
-            values = rw w.values-is so.values;
-            folds = rw w.folds-is so.folds;
           }
     ]
 
-pub better_of_each-requires-clause-small : goal.better_of_each-requires-clause-small
-better_of_each-requires-clause-small c = c.loop-order.invariant.best.small
+pub loop-index-init : goal.loop-index-init
+loop-index-init c =
+    let hs = c.args.subject.now.predictors.now in let most = c.args.subject.now.most in let bits = c.args.subject.now.bits in let s = c.args.subject.now.samples.now in let first = c.likely_order-first.result in
+    let way = way_held c.loop-order.best c.loop-order.tables.codings.now in
+    let five : c.loop-order.order ≡ 5 = omega arith in
+    let so : IsBest hs most bits s (fixed first ∷ fixed_below 5) way = rw five at c.loop-order.invariant.best in
+    let was = c.loop-order.invariant in
+    record { best = rw append-nil (all_tried hs most bits s way first (among first [] c.likely_order-first.ensures) so); within = was.within; arrays = was.arrays; tables = was.tables; same = was.same }
+
+pub loop-index-preserved : goal.loop-index-preserved
+loop-index-preserved c =
+    let i = c.loop-index.index in
+    let ps = c.args.subject.now.predictors.now in
+    let so = c.loop-index.invariant in
+    let new = c.improve-in-loop-index.ensures in
+    record {
+      best = rw (one_linear_more (fixed_below 5) ps i (omega (arith, c.loop-index-test.true))) (new.best (fixed_below 5 ++ map predictor_of (take i ps)) so.best);
+      within = new.within so.within;
+      arrays = new.arrays;
+      tables = new.tables;
+      same = new.same ∙ so.same;
+    }
+
+pub improve-requires-then-order-first-clause-small : goal.improve-requires-then-order-first-clause-small
+improve-requires-then-order-first-clause-small c = c.loop-order.invariant.best.small
+
+pub improve-requires-in-loop-index-clause-small : goal.improve-requires-in-loop-index-clause-small
+improve-requires-in-loop-index-clause-small c = c.loop-index.invariant.best.small
 
 pub returns-clause-best : goal.returns-clause-best
-returns-clause-best c =
-    let hs = c.args.subject.now.predictors.now in let most = c.args.subject.now.most in let bits = c.args.subject.now.bits in let s = c.args.subject.now.samples.now in let first = c.likely_order-first.result in
-    let five : c.loop-order.order ≡ 5 = omega arith in
-    let so : IsBest hs most bits s (fixed first ∷ fixed_below 5) (way_held c.loop-order.best c.loop-order.tables.codings.now) = rw five at c.loop-order.invariant.best in
-    c.better_of_each.ensures.best (fixed_below 5) (all_tried hs most bits s (way_held c.loop-order.best c.loop-order.tables.codings.now) first (among first [] c.likely_order-first.ensures) so)
+returns-clause-best c = rw (take_all c.loop-index.index c.args.subject.now.predictors.now (omega (arith, c.loop-index-test.false))) at c.loop-index.invariant.best

@@ -1,18 +1,12 @@
-use Rattle.std.proofs.Common.{All}
-use Rattle.flac_bits.specs.Signed.{FitsBits}
-use Rattle.flac_subframe.proofs.Folds.{folds_small}
-use Rattle.flac_subframe.proofs.Narrow.{narrow_differences}
+use Rattle.std.proofs.Common.{◌≡◌, get_or}
+use Rattle.std.proofs.lemmas.List.{get_or-map}
+use Rattle.flac_subframe.specs.Bodies.{fixed}
+use Rattle.flac_subframe.specs.Handed.{predictor_of, handed_at}
 use Rattle.flac_subframe.proofs.choice.take_residual.Goals as goal
 
-pub returns-then-subject-clause-range : goal.returns-then-subject-clause-range
-returns-then-subject-clause-range c = λ _.
-    let fits : All (FitsBits 27) c.args.subject.now.narrowed.now = rw (c.args.subject.now.same c.if-subject.true) (c.args.subject.now.leaves c.if-subject.true) in
-    rw c.take_narrow.ensures.values (narrow_differences c.args.order c.args.subject.now.narrowed.now c.requires.order fits)
-
-pub returns-then-subject-clause-small : goal.returns-then-subject-clause-small
-returns-then-subject-clause-small c = λ _.
-    let fits : All (FitsBits 27) c.args.subject.now.narrowed.now = rw (c.args.subject.now.same c.if-subject.true) (c.args.subject.now.leaves c.if-subject.true) in
-    rw c.take_narrow.ensures.folds (folds_small _ (narrow_differences c.args.order c.args.subject.now.narrowed.now c.requires.order fits))
-
-pub returns-clause-small : goal.returns-clause-small
-returns-clause-small c = λ _. rw (c.fold_each.ensures.folds, c.take_differences.ensures.all) (folds_small _ (c.take_differences.ensures.range.0 c.if-not-take_differences.false))
+pub returns-in-Linear-clause-all : goal.returns-in-Linear-clause-all
+returns-in-Linear-clause-all c = λ all.
+    let hs = c.args.subject.now.predictors.now in let index = c.in-Linear.index in let q = c.index-subject-index.result in
+    let within = rw c.in-Linear.is at c.requires.named in
+    let named : handed_at hs index ≡ predictor_of (get_or hs index q) = get_or-map predictor_of hs index q (fixed 0) within in
+    c.take_linear_residual.ensures.all (rw (c.in-Linear.is, named) at all)

@@ -1,6 +1,6 @@
 use Rattle.std.proofs.Common.{refl}
 use Rattle.flac_subframe.proofs.Folds.{folds_small}
-use Rattle.flac_subframe.proofs.choice.take_handed.Goals as goal
+use Rattle.flac_subframe.proofs.choice.take_linear_residual.Goals as goal
 
 pub returns-clause-range : goal.returns-clause-range
 returns-clause-range c = λ _. rw (c.fold_each.ensures.values, c.take_wide.ensures.all) (c.take_wide.ensures.range.0 c.if-not-take_wide.false)
