@@ -12,7 +12,8 @@ use std::process::Abort;
 use std::test::Fail;
 
 /// The example of RFC 9639, appendix D.1, its digest unknown: one frame of one sample of two channels.
-const PARTS: &str = "664c6143800000221000100000000f00000f0ac442f00000000100000000000000000000000000000000\
+const PARTS: &str =
+    "664c6143800000221000100000000f00000f0ac442f00000000100000000000000000000000000000000\
     fff869180000bf0358fd03128baa9a";
 
 /// The digest that the example states.
