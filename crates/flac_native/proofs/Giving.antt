@@ -34,7 +34,7 @@ made_as old new part.Marker other made = absurd (other refl)
 made_as old new part.Block other made = made
 made_as old new part.Frame other made = made
 
-pub made_behind : (old new : Track) (y : Part) → old.phase ≡ phase.Blocks → IsMadeAs y old new → is_made (course.Read y) new ≡ true
+pub made_behind : (old new : Track) (y : Part) → old.position.phase ≡ phase.Blocks → IsMadeAs y old new → is_made (course.Read y) new ≡ true
 made_behind old new part.Marker blocks made = absurd (two (sym blocks ∙ made.0))
   where
     two : phase.Blocks ≡ phase.Opening → ⊥

@@ -1,5 +1,5 @@
 -- What is read within a room is told by the meaning of the layout.
-use Rattle.std.proofs.Common.{◌≡◌, ℕ, ◌++◌, Option, Result, Ok, Err, sym, ap, subst, ◌∙◌}
+use Rattle.std.proofs.Common.{ℕ, Option, Result, Ok, Err, sym, ap, ◌∙◌}
 use Rattle.flac_bits.specs.State.{State, Cursor, past, started}
 use Rattle.flac_bits.specs.Layout.{Layout, because}
 use Rattle.flac_bits.specs.Reading.{Answers}

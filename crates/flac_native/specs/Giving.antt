@@ -6,7 +6,7 @@ use Rattle.flac_bits.specs.declared.why.Why.{Why}
 use Rattle.flac_bits.specs.declared.why.Why.TheVariants.{Memory, Read, Sink, Spent}
 use Rattle.flac_frame.specs.Lent.{frame_of}
 use Rattle.flac_native.specs.Stream.{Piece, marked, block, framed, Progress, next}
-use Rattle.flac_native.specs.Track.{IsAt, piece_of}
+use Rattle.flac_native.specs.Track.{IsAt, piece_of, stand_of}
 use Rattle.flac_native.specs.Item.{Item, metadata, frame, told}
 use Rattle.flac_native.specs.Coming.{Coming}
 use Rattle.flac_native.specs.declared.fault.Place.{Place}
@@ -113,7 +113,7 @@ pub record Goes {C X : Type 0} (g : container.Ghosts C) (old new : Stage C) (vie
   pub counts : CountsIn g old.track old.container new.container result
   pub broken : (p : Progress) → IsAt old.track p → IfErr result (λ f. IsOutside f.why → BreaksAt (g.breaks new.container) p f)
   -- no growth is refused behind the last block
-  pub memory : old.track.phase ≡ Frames → IfErr result (λ f. f.why ≢ Memory)
+  pub memory : (stand_of old.track).phase ≡ Frames → IfErr result (λ f. f.why ≢ Memory)
   pub going : IfOk result (λ x. IfSome (view x) (λ _. (part : Part) × (new.course ≡ course.Read part)))
   pub ends : seen_by view result ≡ Ok None → new.course ≡ course.Over
   pub refused : IfErr result (λ f. new.course ≡ course.Spent f.at)

@@ -7,6 +7,7 @@ use Rattle.flac_frame.specs.Frame.{Frame}
 use Rattle.flac_frame.specs.declared.before.Before.{Before}
 use Rattle.flac_native.specs.Stream.{Piece, marked, block, framed, Stand, Progress}
 use Rattle.flac_native.specs.declared.format.Format.{Format}
+use Rattle.flac_native.specs.declared.position.Position.{Position}
 use Rattle.flac_native.specs.declared.track.Track.{Track}
 use Rattle.flac_native.specs.declared.decoder.Course.{Course}
 use Rattle.flac_native.specs.declared.decoder.Course.TheVariants as course
@@ -31,7 +32,11 @@ profile_in profile (Some f) = f.profile
 
 -- which part comes next
 abbrev pub stand_of : Track → Stand
-stand_of t = record { profile = profile_in t.profile t.format; phase = t.phase; index = t.index; seen = t.seen; info = info_in t.format; before = before_in t.format }
+stand_of t = record { profile = profile_in t.profile t.format; phase = t.position.phase; index = t.position.index; seen = t.position.seen; info = info_in t.format; before = before_in t.format }
+
+-- the part of this that reading the marker and the metadata depends on
+abbrev pub position_of : Stand → Position
+position_of s = record { phase = s.phase; index = s.index; seen = s.seen }
 
 -- the last metadata block was read, so that only frames are still to come
 abbrev pub is_behind_blocks : Phase → Bool
@@ -72,7 +77,7 @@ pub record IsAt (t : Track) (p : Progress) : Type 0 where
 
 -- the part that was read is there; the marker comes but once
 abbrev pub IsMadeAs : Part → Track → Track → Type 0
-IsMadeAs part.Marker old new = (old.phase ≡ phase.Opening) × (new.phase ≡ phase.Blocks)
+IsMadeAs part.Marker old new = (old.position.phase ≡ phase.Opening) × (new.position.phase ≡ phase.Blocks)
 IsMadeAs part.Block old new = is_some new.block ≡ true
 IsMadeAs part.Frame old new = is_some new.format ≡ true
 

@@ -19,17 +19,17 @@ use flac_meta::{SeekPoint, StreamInfo};
 use md5::{Digest, Md5};
 use std::alloc::Global;
 
-/// One choice is kept for each 1000 samples of each channel: it takes some 80 bytes for each channel, and one for each
-/// partition of its residual.
-const KEPT: usize = 1000;
+/// One choice is kept for each 192 samples of each channel, the smallest block size that a code names (RFC 9639, section
+/// 9.1.1). It takes some 80 bytes for each channel, and one for each partition of its residual; a sample takes 4.
+const KEPT: usize = 192;
 
 /// How the frames of a plan are written, chosen before any of them is written: the sizes of the frames, and the choices
 /// of the first ones (RFC 9639, section 9).
 ///
-/// As many choices are kept as there are thousands of samples, and one more: all, if blocks have 1000 samples or more.
-/// They take at most a tenth of the memory of the samples, in [`Profile::Lax`](flac_header::Profile::Lax) at most three
-/// tenths. Frames without a choice are chosen again when they are written; each choice is a shortest frame of its
-/// block, so the sizes are the same.
+/// For n samples of each channel the choices of the first n / 192 + 1 frames are kept: all, if blocks have 192 samples
+/// or more. They take a thirtieth of the memory of the samples in blocks of 1024, a seventh in blocks of 256, and never
+/// more than half. Frames without a choice are chosen again when they are written; each choice is a shortest frame of
+/// its block, so the sizes are the same.
 ///
 /// ```
 /// let mut buffers = EncodeBuffers::new_in(alloc, plan.profile(), plan.block_size())?;

@@ -132,8 +132,8 @@ fn hand_at<S: Sink>(at: Place, part: Part, track: &Track, sink: &mut S) -> Resul
 }
 
 /// Passes each metadata block and each frame that is still to come to the sink, in the order of the stream (RFC 9639,
-/// section 6). It goes on from the state of the track. The marker is read and not passed on. [`crate::decode`] is the
-/// call for a native stream as a whole.
+/// section 6). It goes on from the state of the track. The marker is read and not passed on. It is for the author of a
+/// [`Container`]; [`crate::decode`] is the call for a native stream as a whole.
 ///
 /// # Errors
 /// The place, with blocks and frames counted from 0, and the reason. The sink took all items before that place, and no

@@ -249,7 +249,7 @@ pub(crate) fn feed(hasher: &mut Md5, view: &FrameView<'_>, width: usize)
 
 /// The sample at an index; 0 if there is none.
 #[inline(always)]
-fn sample_at(samples: &[i32], index: usize) -> i32
+fn sample_or_zero(samples: &[i32], index: usize) -> i32
     ensures { result ≡ slice_index_or samples.now index (pos 0) }
 {
     match samples.get(index) {
@@ -264,7 +264,7 @@ fn sample_of(channels: &[Vec<i32>], channel: usize, index: usize) -> i32
     requires { channel < length channels.now }
     ensures { result ≡ slice_index_or (slice_index_or (map (λ c. c.items) channels.now) channel []) index (pos 0) }
 {
-    sample_at(&channels[channel], index)
+    sample_or_zero(&channels[channel], index)
 }
 
 impl Channels for Audio {
@@ -293,9 +293,9 @@ impl<'a> Channels for Pair<'a> {
     #[inline(always)]
     fn sample(&self, channel: usize, index: usize) -> i32 {
         if channel == 0 {
-            return sample_at(self.left, index);
+            return sample_or_zero(self.left, index);
         }
-        sample_at(self.right, index)
+        sample_or_zero(self.right, index)
     }
 }
 

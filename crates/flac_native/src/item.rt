@@ -41,7 +41,7 @@ pub(crate) fn next_item<C: Container>(
     requires { C.stands container.old (stand_of track.old) ≡ true }
     ensures stands { IfOk result (λ o. IfSome o (λ _. C.stands container.new (stand_of track.new) ≡ true)) }
     ensures counts { CountsIn C.Container track.old container.old container.new result }
-    ensures memory { track.old.phase ≡ Phase.Frames → IfErr result (λ f. f.why ≢ Why.Memory) }
+    ensures memory { (stand_of track.old).phase ≡ Phase.Frames → IfErr result (λ f. f.why ≢ Why.Memory) }
     ensures made { IfOk result (λ o. IfSome o (λ part. is_made (Course.Read part) track.new ≡ true)) }
     ensures gives { (p : Progress) → IsAt track.old p → GivesFirst C.Container p container.old container.new track.new (λ o. found track.new o) result }
     ensures broken { (p : Progress) → IsAt track.old p → IfErr result (λ f. IsOutside f.why → BreaksAt (C.breaks container.new) p f) }

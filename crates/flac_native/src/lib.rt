@@ -28,6 +28,7 @@ mod item;
 mod laws;
 mod native;
 mod plan;
+mod position;
 mod retagging;
 mod stream_encoder;
 mod targets;
@@ -57,7 +58,7 @@ pub use laws::{
     frames_are_resumed, nothing_is_outside_lax, only_one_head, only_one_way, points_name_frames,
     retagged_are_read, some_way, streams_are_ordered, streams_are_whole, subset_is_lax,
 };
-pub use native::MARKER;
+pub use native::{MARKER, read_marker};
 pub use plan::{Plan, predictors_fault};
 pub use retagging::{RetagFault, retag};
 pub use stream_encoder::{StreamEncoder, StreamFormat, block_len};

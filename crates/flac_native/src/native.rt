@@ -21,9 +21,12 @@ use flac_bits::{BitReader, Source, Why};
 /// The marker with which a native stream begins: the four bytes `fLaC` as a number (RFC 9639, section 6).
 pub const MARKER: u64 = 0x664C6143;
 
-/// Reads the marker.
+/// Reads the marker `fLaC`, with which a native stream begins (RFC 9639, section 6).
+///
+/// # Errors
+/// [`Why::BadMarker`] if the next four bytes are others; those of [`BitReader`].
 #[tactic(auto, unfolding(crate::specs::Stream::marker))]
-fn read_marker<R: Source>(reader: &mut BitReader<R>) -> Result<(), Why>
+pub fn read_marker<R: Source>(reader: &mut BitReader<R>) -> Result<(), Why>
     ensures spends { OnOk result (reader.new.most + 32 ≤ reader.old.most) }
     ensures counts { Counts reader.old reader.new result }
     ensures reads { Reads (λ u. u) marker reader.old reader.new result }
@@ -39,18 +42,18 @@ fn read_marker<R: Source>(reader: &mut BitReader<R>) -> Result<(), Why>
 fn read_part<R: Source>(reader: &mut BitReader<R>, track: &mut Track) -> Result<Part, Why>
     ensures spends { OnOk result (reader.new.most + 32 ≤ reader.old.most) }
     ensures counts { Counts (lifted reader.old) reader.new result }
-    ensures memory { track.old.phase ≡ Phase.Frames → IfErr result (λ e. e ≢ Why.Memory) }
-    ensures reads { ReadsWithinInRoom (room_in track.old.phase) (λ part. piece_of track.new part) (layout (stand_of track.old)) reader.old reader.new result }
+    ensures memory { (stand_of track.old).phase ≡ Phase.Frames → IfErr result (λ e. e ≢ Why.Memory) }
+    ensures reads { ReadsWithinInRoom (room_in (stand_of track.old).phase) (λ part. piece_of track.new part) (layout (stand_of track.old)) reader.old reader.new result }
     ensures made { IfOk result (λ part. IsMadeAs part track.old track.new) }
-    ensures later { IfOk result (λ part. part ≡ Part.Frame → is_behind_blocks track.old.phase ≡ true) }
+    ensures later { IfOk result (λ part. part ≡ Part.Frame → is_behind_blocks (stand_of track.old).phase ≡ true) }
     ensures next { IfOk result (λ part. (p : Progress) → IsAt track.old p → IsAt track.new (next p (piece_of track.new part))) }
 {
-    match track.phase {
+    match track.position.phase {
         Phase::Opening => {
             reader.lift();
             reader.start_checks();
             read_marker(reader)?;
-            track.phase = Phase::Blocks;
+            track.position.phase = Phase::Blocks;
             Ok(Part::Marker)
         }
         Phase::Blocks => {
@@ -70,11 +73,11 @@ fn read_part<R: Source>(reader: &mut BitReader<R>, track: &mut Track) -> Result<
 fn ends_here<R: Source>(reader: &mut BitReader<R>, track: &Track) -> Result<bool, Why>
     ensures spends { OnOk result (reader.new.most ≤ reader.old.most) }
     ensures counts { Counts reader.old reader.new result }
-    ensures over { IfOk result (λ over. reader.old.known ≡ true → (reader.new.cursor ≡ reader.old.cursor) × (over ≡ (may_end_in track.now.phase (info_in track.now.format) && is_nil reader.old.cursor.left))) }
-    ensures later { IfOk result (λ over. over ≡ true → is_behind_blocks track.now.phase ≡ true) }
+    ensures over { IfOk result (λ over. reader.old.known ≡ true → (reader.new.cursor ≡ reader.old.cursor) × (over ≡ (may_end_in (stand_of track.now).phase (info_in track.now.format) && is_nil reader.old.cursor.left))) }
+    ensures later { IfOk result (λ over. over ≡ true → is_behind_blocks (stand_of track.now).phase ≡ true) }
     ensures failed { IfErr result (λ e. e ≡ Why.Read) }
 {
-    match track.phase {
+    match track.position.phase {
         Phase::Frames => match &track.format {
             Some(_) => reader.at_end(),
             None => Ok(false),
@@ -93,12 +96,12 @@ pub(crate) fn advance<R: Source>(
     ensures spends { IfOk result (λ o. MatchOption o (reader.new.most ≤ reader.old.most) (λ _. reader.new.most + 32 ≤ reader.old.most)) }
     ensures counts { Counts (lifted reader.old) reader.new (reason_of told result) }
     // After the last metadata block no allocation fails.
-    ensures memory { track.old.phase ≡ Phase.Frames → IfErr result (λ f. f.why ≢ Why.Memory) }
+    ensures memory { (stand_of track.old).phase ≡ Phase.Frames → IfErr result (λ f. f.why ≢ Why.Memory) }
     ensures broken { (p : Progress) → IsAt track.old p → IfErr result (λ f. IsOutside f.why → f.at ≡ grammar.place p) }
     ensures steps { (p : Progress) → IsAt track.old p → StepsTo (λ part. piece_of track.new part) told (step_at grammar p (lifted reader.old).cursor) (lifted reader.old) reader.new result }
     ensures made { IfOk result (λ o. IfSome o (λ part. IsMadeAs part track.old track.new)) }
     // No frame and no end comes before the last metadata block.
-    ensures later { IfOk result (λ o. MatchOption o (is_behind_blocks track.old.phase ≡ true) (λ part. part ≡ Part.Frame → is_behind_blocks track.old.phase ≡ true)) }
+    ensures later { IfOk result (λ o. MatchOption o (is_behind_blocks (stand_of track.old).phase ≡ true) (λ part. part ≡ Part.Frame → is_behind_blocks (stand_of track.old).phase ≡ true)) }
     ensures next { IfOk result (λ o. IfSome o (λ part. (p : Progress) → IsAt track.old p → IsAt track.new (next p (piece_of track.new part)))) }
 {
     reader.lift();

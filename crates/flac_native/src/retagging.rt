@@ -2,19 +2,19 @@
 
 ghost use Rattle.std.specs.Prelude.{◌≡◌, ◌≢◌, ◌≤◌, ◌+◌, ◌++◌, [], true, false, OnOk, IfOk, IfErr, Some, None, ◌<◌, ◌⊎◌, Bool, List, OnErr, IfSome, IsErrAnd, Err};
 ghost use Rattle.flac_bits.specs.Fencing.{lifted};
-ghost use Rattle.flac_bits.specs.Reading.{Counts};
+ghost use Rattle.flac_bits.specs.Reading.{Counts, ReadsInRoom};
 ghost use Rattle.flac_bits.specs.Items.{item, refused};
 ghost use Rattle.flac_bits.specs.inner.Items.{step_at};
 ghost use Rattle.flac_bits.specs.Handing.{reason_of};
 ghost use Rattle.flac_bits.specs.inner.Handing.{IsCalm};
-ghost use Rattle.flac_native.specs.Stream.{Piece, Progress, grammar, opening, next, block as block_piece};
-ghost use Rattle.flac_native.specs.Track.{IsAt, block_in, is_behind_blocks};
+ghost use Rattle.flac_native.specs.Stream.{Piece, Progress, Stand, grammar, layout, next, stand_after};
+ghost use Rattle.flac_native.specs.Track.{is_behind_blocks, position_of};
 ghost use Rattle.flac_native.specs.Item.{told};
 ghost use Rattle.flac_native.specs.Retag.{is_before_frames, IsRefused, not_read, not_written, BeginsWith, HasHead, Retags, BeginsRetagging, retagged, too_long, no_memory};
-ghost use Rattle.flac_native.specs.inner.Retag.{keeps, AreKept, MayBeHead, new_head};
+ghost use Rattle.flac_native.specs.inner.Retag.{stand_at, piece_in, keeps, AreKept, MayBeHead, new_head};
 ghost use Rattle.flac_bits.specs.Bits.{bits_of};
 ghost use Rattle.flac_bits.specs.Written.{Adds, Fails};
-ghost use Rattle.flac_bits.specs.State.{Rises, short_of};
+ghost use Rattle.flac_bits.specs.State.{Rises, short_of, started};
 ghost use Rattle.flac_meta.specs.Spelling.{comments_length};
 ghost use Rattle.flac_meta.specs.Info.{Info};
 ghost use Rattle.flac_meta.specs.declared.block.Block.{Block};
@@ -22,13 +22,12 @@ ghost use Rattle.flac_bits.specs.declared.why.Why.{Why};
 ghost use Rattle.flac_native.specs.declared.fault.Place.{Place};
 ghost use Rattle.flac_native.specs.Decoding.{beginning};
 
-use crate::container::Part;
 use crate::encoding::write_each;
 use crate::fault::{Fault, Place};
-use crate::native::{MARKER, advance};
-use crate::track::Track;
+use crate::native::{MARKER, read_marker};
+use crate::position::Position;
+use crate::track::Phase;
 use flac_bits::{BitReader, BitWriter, Collected, Source, Target, Why, send_all};
-use flac_header::Profile;
 use flac_meta::{Block, Comments, MOST_BYTES, write_block, write_comments};
 use std::alloc::Global;
 use std::fmt;
@@ -58,79 +57,77 @@ impl fmt::Display for RetagFault {
 impl std::error::Error for RetagFault {}
 
 /// Keeps a block that is no comment block. Its only error is `Memory`: an allocation failed.
-fn keep(kept: &mut Vec<Block>, last: bool, block: Option<Block>) -> Result<(), Why>
-    ensures keeps { OnOk result (keeps kept.old.items (block_in last block) kept.new.items) }
+fn keep(kept: &mut Vec<Block>, part: Option<(bool, Block)>) -> Result<(), Why>
+    ensures keeps { OnOk result (keeps kept.old.items (piece_in part) kept.new.items) }
     ensures memory { IfErr result (λ e. e ≡ Why.Memory) }
 {
-    match block {
+    match part {
         None => Ok(()),
-        Some(Block::VorbisComment(_)) => Ok(()),
-        Some(block) => {
+        Some((_, Block::VorbisComment(_))) => Ok(()),
+        Some((_, block)) => {
             kept.push(block)?;
             Ok(())
         }
     }
 }
 
+/// Reads the marker, which is `None`, or the next block, beside whether it is marked last.
+#[tactic(auto, unfolding(crate::specs::Stream::layout))]
+fn read_next<R: Source>(
+    alloc: Global,
+    reader: &mut BitReader<R>,
+    position: &mut Position,
+) -> Result<Option<(bool, Block)>, Why>
+    requires { is_behind_blocks position.old.phase ≡ false }
+    ensures spends { OnOk result (reader.new.most + 32 ≤ reader.old.most) }
+    ensures counts { Counts (lifted reader.old) reader.new result }
+    ensures reads { (s : Stand) → ReadsInRoom piece_in (layout (stand_at position.old s)) (started (lifted reader.old)) reader.new result }
+    ensures next { IfOk result (λ part. (s : Stand) → position_of (stand_after (stand_at position.old s) (piece_in part)) ≡ position.new) }
+{
+    reader.lift();
+    reader.start_checks();
+    match position.phase {
+        Phase::Opening => {
+            read_marker(reader)?;
+            position.phase = Phase::Blocks;
+            Ok(None)
+        }
+        Phase::Blocks => {
+            let part = position.read_block(alloc, reader)?;
+            Ok(Some(part))
+        }
+        Phase::Frames => unreachable!(),
+    }
+}
+
 /// Reads the marker or the next block, and keeps a block that is no comment block.
 fn keep_next<R: Source>(
+    alloc: Global,
     reader: &mut BitReader<R>,
-    track: &mut Track,
+    position: &mut Position,
     kept: &mut Vec<Block>,
 ) -> Result<(), Fault>
-    requires { is_behind_blocks track.old.phase ≡ false }
+    requires { is_behind_blocks position.old.phase ≡ false }
     ensures spends { OnOk result (reader.new.most + 32 ≤ reader.old.most) }
     ensures counts { Counts (lifted reader.old) reader.new (reason_of told result) }
-    ensures keeps { OnOk result ((p : Progress) → IsAt track.old p → (x : Piece) × IsAt track.new (next p x) × keeps kept.old.items x kept.new.items
+    ensures keeps { OnOk result ((p : Progress) → position_of p.stand ≡ position.old → (x : Piece) × (position_of (next p x).stand ≡ position.new) × keeps kept.old.items x kept.new.items
         × (reader.old.known ≡ true → step_at grammar p (lifted reader.old).cursor ≡ item x reader.new.cursor)) }
-    ensures refused { IfErr result (λ f. (p : Progress) → IsAt track.old p → reader.old.known ≡ true → reader.new.errors ≡ reader.old.errors → reader.new.raised ≡ reader.old.raised → f.why ≢ Why.Memory
+    ensures refused { IfErr result (λ f. (p : Progress) → position_of p.stand ≡ position.old → reader.old.known ≡ true → reader.new.errors ≡ reader.old.errors → reader.new.raised ≡ reader.old.raised → f.why ≢ Why.Memory
         → step_at grammar p (lifted reader.old).cursor ≡ refused f.at f.why) }
     ensures at { IfErr result (λ f. is_before_frames f.at ≡ true) }
 {
-    let at = track.place();
-    match advance(reader, track) {
-        Ok(Some(Part::Marker)) => Ok(()),
-        Ok(Some(Part::Block)) => match keep(kept, track.last, track.block.take()) {
+    let at = position.place();
+    match read_next(alloc, reader, position) {
+        Ok(part) => match keep(kept, part) {
             Ok(()) => Ok(()),
             Err(why) => Err(Fault { at, why }),
         },
-        Ok(Some(Part::Frame)) => unreachable!(),
-        Ok(None) => unreachable!(),
-        Err(fault) => Err(Fault { at, why: fault.why }),
+        Err(why) => Err(Fault { at, why }),
     }
 }
 
 /// Reads the marker and all blocks, and keeps those that are no comment blocks, in their order.
 fn keep_all<R: Source>(
-    reader: &mut BitReader<R>,
-    track: &mut Track,
-    kept: &mut Vec<Block>,
-) -> Result<(), Fault>
-    requires whole { reader.old.cursor.mark.unread ≡ 0 }
-    requires first { IsAt track.old (opening Profile.Subset) }
-    requires none { kept.old.items ≡ [] }
-    ensures counts { Counts (lifted reader.old) reader.new (reason_of told result) }
-    ensures whole { OnOk result (reader.new.cursor.mark.unread ≡ 0) }
-    ensures kept { OnOk result (reader.old.known ≡ true → AreKept (lifted reader.old).cursor kept.new.items reader.new.cursor.left) }
-    ensures refused { IfErr result (λ f. reader.old.known ≡ true → IsCalm reader.old reader.new → f.why ≢ Why.Memory
-        → IsRefused (lifted reader.old).cursor.mark (lifted reader.old).cursor.left f.at f.why) }
-    ensures at { IfErr result (λ f. reader.old.known ≡ true → is_before_frames f.at ≡ true) }
-{
-    while !track.is_past_metadata() {
-        keep_next(reader, track, kept)?;
-    }
-    reader.lift();
-    if reader.unread() != 0 {
-        return Err(Fault {
-            at: track.place(),
-            why: Why::Truncated,
-        });
-    }
-    Ok(())
-}
-
-/// The same from the start of a stream.
-fn keep_from_start<R: Source>(
     alloc: Global,
     reader: &mut BitReader<R>,
     kept: &mut Vec<Block>,
@@ -144,8 +141,18 @@ fn keep_from_start<R: Source>(
         → IsRefused (lifted reader.old).cursor.mark (lifted reader.old).cursor.left f.at f.why) }
     ensures at { IfErr result (λ f. reader.old.known ≡ true → is_before_frames f.at ≡ true) }
 {
-    let mut track = Track::opening(alloc, Profile::Subset);
-    keep_all(reader, &mut track, kept)
+    let mut position = Position::start();
+    while !position.is_past_metadata() {
+        keep_next(alloc, reader, &mut position, kept)?;
+    }
+    reader.lift();
+    if reader.unread() != 0 {
+        return Err(Fault {
+            at: position.place(),
+            why: Why::Truncated,
+        });
+    }
+    Ok(())
 }
 
 /// Reads the marker and all blocks, and keeps those that are no comment blocks, in their order. The reader is at a
@@ -163,7 +170,7 @@ pub(crate) fn read_kept<R: Source>(
     ensures at { IfErr result (λ f. reader.old.known ≡ true → is_before_frames f.at ≡ true) }
 {
     let mut kept = Vec::new(alloc);
-    match keep_from_start(alloc, reader, &mut kept) {
+    match keep_all(alloc, reader, &mut kept) {
         Ok(()) => Ok(kept),
         Err(fault) => Err(fault),
     }
@@ -306,8 +313,7 @@ fn retag_from<R: Source, W: Target>(
 /// a Vorbis comment block of these comments, the other metadata blocks in their order without an old comment block, and
 /// then all bytes that follow the metadata. These are copied as they are, and not verified.
 ///
-/// It holds the metadata blocks, the new metadata as bytes, and the buffers of one frame, though it reads no frame:
-/// they take up to 1.6 MB, by the channels and the block size of STREAMINFO. The rest is copied 4096 bytes at a time.
+/// It holds the metadata blocks and the new metadata as bytes. The rest is copied 4096 bytes at a time.
 ///
 /// ```
 /// let mut target = Counted::new(file);

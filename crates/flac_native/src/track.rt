@@ -20,10 +20,11 @@ ghost use Rattle.md5.specs.Md5.{Holds};
 use crate::digest::{feed, sample_width};
 use crate::fault::Place;
 use crate::format::Format;
+use crate::position::Position;
 use flac_bits::{BitReader, Source, Why};
 use flac_frame::FrameView;
 use flac_header::Profile;
-use flac_meta::{Block, Seen, StreamInfo, read_block};
+use flac_meta::{Block, StreamInfo};
 use md5::{Digest, Md5};
 use std::alloc::Global;
 use std::mem;
@@ -39,25 +40,10 @@ pub(crate) enum Phase {
     Frames,
 }
 
-/// What [`read_block`] does, proved by the reading of the layout.
-fn read_here<R: Source>(
-    alloc: Global,
-    bits: &mut BitReader<R>,
-    seen: &mut Seen,
-) -> Result<(bool, Block), Why>
-    ensures spends { OnOk result (bits.new.most + 32 ≤ bits.old.most) }
-    ensures counts { Counts bits.old bits.new result }
-    ensures reads { ReadsInRoom (λ x. x) (block_layout seen.old) bits.old bits.new result }
-    ensures seen { IfOk result (λ x. seen.new ≡ seen_after seen.old x.1) }
-    ensures unseen { OnErr result (seen.new ≡ seen.old) }
-{
-    read_block(alloc, bits, seen)
-}
-
 /// The state of a stream between two of its parts, by which they are read one by one (RFC 9639, section 6): a metadata
 /// block by [`Track::block`]; after the last block a frame by [`Track::frame`] or [`Track::next_frame`]; and at the end
 /// of the stream [`Track::end`], which compares what STREAMINFO states of all samples. [`crate::Decoder`] does all
-/// this.
+/// this; a track is for the author of a [`crate::Container`].
 ///
 /// ```
 /// let mut bits = BitReader::new(source); // after `fLaC`
@@ -69,9 +55,7 @@ pub struct Track {
     pub(crate) alloc: Global,
     /// The buffers have it too, once there are some.
     pub(crate) profile: Profile,
-    pub(crate) phase: Phase,
-    pub(crate) index: u64,
-    pub(crate) seen: Seen,
+    pub(crate) position: Position,
     pub(crate) format: Option<Format>,
     pub(crate) hasher: Md5,
     pub(crate) samples: u64,
@@ -86,7 +70,7 @@ impl Track {
         ensures { IsAt result (next (opening profile) marked) }
     {
         let mut track = Track::opening(alloc, profile);
-        track.phase = Phase::Blocks;
+        track.position.phase = Phase::Blocks;
         track
     }
 
@@ -97,9 +81,7 @@ impl Track {
         Track {
             alloc,
             profile,
-            phase: Phase::Opening,
-            index: 0,
-            seen: Seen::new(),
+            position: Position::start(),
             format: None,
             hasher: Md5::new(),
             samples: 0,
@@ -115,7 +97,7 @@ impl Track {
     {
         let format = Format::new(alloc, profile, info)?;
         let mut track = Track::opening(alloc, profile);
-        track.phase = Phase::Frames;
+        track.position.phase = Phase::Frames;
         track.format = Some(format);
         Ok(track)
     }
@@ -130,11 +112,9 @@ impl Track {
         }
     }
 
-    /// Notes a block that was read. Its only error is `Memory`: an allocation failed.
-    fn note(&mut self, last: bool, block: &Block) -> Result<(), Why>
-        ensures phase { OnOk result (self.new.phase ≡ phase_behind last) }
-        ensures index { OnOk result (self.new.index ≡ cond last 0 (raised self.old.index)) }
-        ensures seen { self.new.seen ≡ self.old.seen }
+    /// Makes the buffers for frames if a block is STREAMINFO. Its only error is `Memory`: an allocation failed.
+    fn prepare(&mut self, block: &Block) -> Result<(), Why>
+        ensures position { self.new.position ≡ self.old.position }
         ensures profile { OnOk result (profile_in self.new.profile self.new.format ≡ profile_in self.old.profile self.old.format) }
         ensures info { OnOk result (info_in self.new.format ≡ info_after (info_in self.old.format) block.now) }
         ensures before { OnOk result (before_in self.new.format ≡ before_behind (before_in self.old.format) block.now) }
@@ -147,13 +127,6 @@ impl Track {
         if let Block::StreamInfo(info) = block {
             let profile = self.profile();
             self.format = Some(Format::new(self.alloc, profile, *info)?);
-        }
-        if last {
-            self.phase = Phase::Frames;
-            self.index = 0;
-        } else {
-            self.phase = Phase::Blocks;
-            self.index = self.index.saturating_add(1);
         }
         Ok(())
     }
@@ -184,8 +157,8 @@ impl Track {
         ensures last { self.new.last ≡ self.old.last }
         ensures kept { self.new.block ≡ self.old.block }
     {
-        let (last, block) = read_here(self.alloc, bits, &mut self.seen)?;
-        self.note(last, &block)?;
+        let (last, block) = self.position.read_block(self.alloc, bits)?;
+        self.prepare(&block)?;
         Ok((last, block))
     }
 
@@ -261,7 +234,7 @@ impl Track {
         let width = sample_width(u32::from(format.info.depth()));
         feed(&mut self.hasher, &view, width);
         self.samples = self.samples.saturating_add(view.len() as u64);
-        self.index = self.index.saturating_add(1);
+        self.position.index = self.position.index.saturating_add(1);
         Ok(())
     }
 
@@ -297,11 +270,7 @@ impl Track {
     pub fn is_past_metadata(&self) -> bool
         ensures { result ≡ is_behind_blocks (stand_of self.now).phase }
     {
-        match self.phase {
-            Phase::Opening => false,
-            Phase::Blocks => false,
-            Phase::Frames => true,
-        }
+        self.position.is_past_metadata()
     }
 
     /// The place of the next part: the marker, a block or a frame. Blocks and frames are counted from 0, up to 2^64 -
@@ -309,11 +278,7 @@ impl Track {
     pub fn place(&self) -> Place
         ensures { result ≡ place_in (stand_of self.now).phase (stand_of self.now).index }
     {
-        match self.phase {
-            Phase::Opening => Place::Marker,
-            Phase::Blocks => Place::Block(self.index),
-            Phase::Frames => Place::Frame(self.index),
-        }
+        self.position.place()
     }
 
     /// Compares the number of samples and the MD5 digest of all frames with what STREAMINFO states, if it was read and

@@ -1,4 +1,5 @@
-//! Frames that are chosen before they are written, and the place that they are written into: the sample of `ONE_SAMPLE`, whose frame begins at byte 42.
+//! Frames that are chosen before they are written, and the place that they are written into: the sample of
+//! `ONE_SAMPLE`, whose frame begins at byte 42.
 
 ghost use Rattle.std.specs.Prelude.{◌≡◌, true};
 ghost use Rattle.flac_native.specs.Given.{fits_plan, room_of};
@@ -62,7 +63,8 @@ fn comes_of(alloc: Global, plan: &Plan, audio: &Audio, stream: &str, len: u32) -
     )
 }
 
-/// The frame of the sample is 15 bytes long, its digest is the MD5 of F4 63 B0 28, and its bytes are those of the stream.
+/// The frame of the sample is 15 bytes long, its digest is the MD5 of F4 63 B0 28, and its bytes are those of the
+/// stream.
 #[test]
 fn chosen_frames(rt: HostRuntime) -> Result<(), Fail> {
     let audio = sample(rt.alloc())?;

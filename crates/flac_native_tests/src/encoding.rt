@@ -1,4 +1,5 @@
-//! Streams that are written: samples of RFC 9639, appendix D.1, no samples, and blocks of 16 samples whose least subframe is known.
+//! Streams that are written: samples of RFC 9639, appendix D.1, no samples, and blocks of 16 samples whose shortest
+//! subframe is known.
 
 use flac_frame::Audio;
 use flac_native::{Plan, Profile};
@@ -10,7 +11,7 @@ use std::alloc::Global;
 use std::process::Abort;
 use std::test::Fail;
 
-/// Encodes channels in blocks of so many samples, and compares what is written.
+/// Encodes channels in blocks of `block` samples, and compares what is written.
 fn writes_channels(
     rt: &impl Abort,
     alloc: Global,
@@ -88,7 +89,7 @@ fn plans_fit(rt: HostRuntime) -> Result<(), Fail> {
     Ok(())
 }
 
-/// The number of the fault for which blocks of so many samples are refused at a rate, 0 if they are not.
+/// The number of the fault for which blocks of `block` samples are refused at a rate, 0 if they are not.
 fn block_refused(alloc: Global, profile: Profile, rate: u32, block: u32) -> Result<u8, Fail> {
     let audio = Audio::new_in(profile, rate, 16, channels_of(alloc, ";0")?)?;
     match Plan::new(block, &audio, 0) {

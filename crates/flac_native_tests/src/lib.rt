@@ -1,5 +1,6 @@
-//! Tests of native streams, through the public calls of the libraries and by vectors from outside. They stand apart, so that a library is proved once and not again
-//! with its tests. What fails, or comes in pieces, is tested in `flac_failure_tests`.
+//! Tests of native streams, through the public calls of the libraries and by vectors from outside. They are a crate of
+//! their own, so that a library is proved once and not again with its tests. What fails, or comes in pieces, is tested
+//! in `flac_failure_tests`.
 #![tactic(auto)]
 
 #[cfg(test)]

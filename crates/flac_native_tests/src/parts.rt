@@ -2,7 +2,7 @@
 
 use flac_native::{
     BitReader, Block, Decoder, EncodeFault, Fault, FrameView, Item, Memory, Place, Plan, Profile,
-    RetagFault, SetupFault, StreamInfo, Track, Why, info_of, put_rows, sample_width,
+    RetagFault, SetupFault, StreamInfo, Track, Why, info_of, put_rows, read_marker, sample_width,
 };
 use flac_testing::sample;
 use std::alloc::Global;
@@ -11,8 +11,9 @@ use std::mem::drop;
 use std::process::Abort;
 use std::test::Fail;
 
-/// The example of RFC 9639, appendix D.1, behind its marker, its digest unknown: one frame of one sample of two channels.
-const PARTS: &str = "800000221000100000000f00000f0ac442f00000000100000000000000000000000000000000\
+/// The example of RFC 9639, appendix D.1, its digest unknown: one frame of one sample of two channels.
+const PARTS: &str =
+    "664c6143800000221000100000000f00000f0ac442f00000000100000000000000000000000000000000\
     fff869180000bf0358fd03128baa9a";
 
 /// The digest that the example states.
@@ -42,7 +43,8 @@ fn is_at(rt: &impl Abort, track: &mut Track, place: Place, end: Result<(), Why>)
     assert!(rt; track.end() == end);
 }
 
-/// The channels, the length and the number of the next frame; its samples as how many bytes, and the first five of them.
+/// The channels, the length and the number of the next frame; how many bytes its samples are, and the first five of
+/// them.
 type Told = ((usize, usize, u64), (usize, [u8; 5]));
 
 /// The next frame.
@@ -54,8 +56,9 @@ fn next_frame(bits: &mut BitReader<Memory<'_>>, track: &mut Track) -> Result<Tol
     Ok((shape, (count, [out[0], out[1], out[2], out[3], out[4]])))
 }
 
-/// Reads the example: a block, behind which a sample is missing at the end, a frame, and the end.
+/// Reads the example: the marker, a block, after which a sample is missing at the end, a frame, and the end.
 fn reads_all(rt: &impl Abort, bits: &mut BitReader<Memory<'_>>, track: &mut Track) {
+    assert!(rt; read_marker(bits) == Ok(()));
     assert!(rt; track.place() == Place::Block(0));
     assert!(rt; is_last_info(bits, track));
     is_at(rt, track, Place::Frame(0), Err(Why::TotalMismatch));
@@ -65,7 +68,7 @@ fn reads_all(rt: &impl Abort, bits: &mut BitReader<Memory<'_>>, track: &mut Trac
     assert!(rt; bits.at_end() == Ok(true));
 }
 
-/// A stream read part by part: a block, a frame, and what STREAMINFO states of all samples.
+/// A stream read part by part: the marker, a block, a frame, and what STREAMINFO states of all samples.
 #[test]
 fn reads_parts(rt: HostRuntime) -> Result<(), Fail> {
     let stream = hex::decode(rt.alloc(), PARTS)?;
@@ -107,7 +110,7 @@ fn is_last_frame(decoder: Decoder<BitReader<Memory<'_>>>) -> bool {
 fn gives_its_source_back(rt: HostRuntime) -> Result<(), Fail> {
     let info = info(rt.alloc(), 15)?;
     let stream = hex::decode(rt.alloc(), PARTS)?;
-    let source = Memory::new(stream.get(38..).unwrap_or(&[]));
+    let source = Memory::new(stream.get(42..).unwrap_or(&[]));
     let decoder = Decoder::resume(rt.alloc(), source, &info, Profile::Subset)?;
     assert!(rt; is_last_frame(decoder));
     Ok(())

@@ -23,7 +23,8 @@ fn table(alloc: Global, points: Vec<SeekPoint>) -> Result<BlockList, Fail> {
     Ok(BlockList::new(blocks)?)
 }
 
-/// Encodes those samples with a seek table in the list, and a seek point each so many samples: the outcome, and how many bytes are written.
+/// Encodes those samples with a seek table in the list, and a seek point each `every` samples: the outcome, and how many
+/// bytes are written.
 fn encoded_with_table(alloc: Global, every: u32) -> Result<(Result<(), EncodeFault>, usize), Fail> {
     let audio = seventeen(alloc)?;
     let list = table(alloc, Vec::new(alloc))?;
@@ -64,7 +65,8 @@ fn next_frame<C: Container>(decoder: &mut Decoder<C>) -> Option<Told> {
     }
 }
 
-/// A frame's number, its channels, how many samples a channel has, and the first and the last sample of the first channel.
+/// A frame's number, its channels, how many samples a channel has, and the first and the last sample of the first
+/// channel.
 type Told = (u64, usize, usize, Option<i32>, Option<i32>);
 
 fn told(frame: &FrameView<'_>) -> Told {

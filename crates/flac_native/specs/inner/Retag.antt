@@ -1,5 +1,5 @@
 -- For proofs of retagging: which blocks are kept, and the head that is written.
-use Rattle.std.specs.Prelude.{◌≡◌, Bool, List, [], ◌∷◌, ◌++◌, length, None, ◌<◌}
+use Rattle.std.specs.Prelude.{◌≡◌, Bool, List, [], ◌∷◌, ◌++◌, length, Option, Some, None, ◌<◌}
 use Rattle.flac_bits.specs.Bits.{unsigned}
 use Rattle.flac_bits.specs.State.{Cursor}
 use Rattle.flac_meta.specs.Info.{Info}
@@ -7,10 +7,20 @@ use Rattle.flac_meta.specs.Listed.{block_fault}
 use Rattle.flac_meta.specs.declared.comments.Comments.{Comments}
 use Rattle.flac_meta.specs.declared.block.Block.{Block}
 use Rattle.flac_meta.specs.declared.block.Block.TheVariants as blocks
-use Rattle.flac_native.specs.Stream.{Piece, marked, block, framed}
+use Rattle.flac_native.specs.Stream.{Piece, Stand, marked, block, framed}
+use Rattle.flac_native.specs.declared.position.Position.{Position}
 use Rattle.flac_native.specs.inner.InOrder.{MayBeWritten}
 use Rattle.flac_native.specs.Writing.{blocks_spelling}
 use Rattle.flac_native.specs.Retag.{unless_comment, without_comments, BeginsWith}
+
+-- a stand at another position
+abbrev pub stand_at : Position → Stand → Stand
+stand_at q s = record s { phase = q.phase; index = q.index; seen = q.seen }
+
+-- the marker, or a block beside whether it is marked last
+abbrev pub piece_in : Option (Bool × Block) → Piece
+piece_in None = marked
+piece_in (Some b) = block b.0 b.1
 
 -- the blocks that are kept, with those of one more part, which is no frame
 abbrev pub keeps : List Block → Piece → List Block → Type 0

@@ -3,63 +3,63 @@ use Rattle.std.proofs.lemmas.Result.{err_from_is_err_and}
 use Rattle.flac_bits.specs.State.{State, without_fence}
 use Rattle.flac_bits.specs.Fencing.{lifted}
 use Rattle.flac_bits.proofs.Handing.{starts, one_more, step_refused}
-use Rattle.flac_native.specs.Stream.{Progress, Stand, grammar, next, opening}
-use Rattle.flac_native.specs.Track.{IsAt, is_behind_blocks}
+use Rattle.flac_native.specs.Stream.{Progress, grammar, next, opening}
+use Rattle.flac_native.specs.Track.{is_behind_blocks, position_of}
 use Rattle.flac_native.specs.inner.Retag.{keeps}
-use Rattle.flac_native.specs.declared.track.Track.{Track}
+use Rattle.flac_native.specs.declared.position.Position.{Position}
 use Rattle.flac_native.proofs.Bounds.{so_far_lifted, open_on, lifted_open, step_short}
 use Rattle.flac_native.proofs.Metadata.{no_errors}
 use Rattle.flac_native.proofs.Blocks.{kept_are, kept_whole}
 use Rattle.flac_native.proofs.retagging.keep_all.Goals as goal
 use Rattle.flac_header.specs.declared.subset.Profile.TheVariants.{Subset}
 
-pub loop-reader-init : goal.loop-reader-init
-loop-reader-init g c = record {
+pub loop-alloc-init : goal.loop-alloc-init
+loop-alloc-init g c = record {
   went = (λ k. k, refl, refl, λ k. refl, refl);
-  far = λ first at. (first, at, starts grammar keeps no_errors first (lifted c.args.reader.now) _);
+  far = (opening Subset, sym c.start-position.ensures, starts grammar keeps no_errors (opening Subset) (lifted c.args.reader.now) _);
 }
 
-pub loop-reader-preserved : goal.loop-reader-preserved
-loop-reader-preserved g c =
+pub loop-alloc-preserved : goal.loop-alloc-preserved
+loop-alloc-preserved g c =
     let step = c.in_ok-keep_next.ensures in
-    let inv = c.loop-reader.invariant in
+    let inv = c.loop-alloc.invariant in
     record {
       went = (λ known. step.counts.0 (inv.went.0 known), step.counts.1 ∙ inv.went.1, step.counts.2 ∙ inv.went.2, λ known. ap without_fence (step.counts.3 (inv.went.0 known)) ∙ inv.went.3 known, step.counts.4 ∙ inv.went.4);
-      far = λ first at.
-          let far = inv.far first at in
+      far =
+          let far = inv.far in
           let more = step.keeps far.0 far.1 in (
             next far.0 more.0,
             more.1,
-            so_far_lifted grammar keeps no_errors first (next far.0 more.0) (lifted c.args.reader.now) c.keep_next.new.reader c.args.kept.now.items c.keep_next.new.kept.items
-                (one_more grammar keeps no_errors first far.0 (next far.0 more.0) (lifted c.args.reader.now) (lifted c.loop-reader.reader) c.keep_next.new.reader c.args.kept.now.items c.loop-reader.kept.items c.keep_next.new.kept.items more.0
+            so_far_lifted grammar keeps no_errors (opening Subset) (next far.0 more.0) (lifted c.args.reader.now) c.keep_next.new.reader c.args.kept.now.items c.keep_next.new.kept.items
+                (one_more grammar keeps no_errors (opening Subset) far.0 (next far.0 more.0) (lifted c.args.reader.now) (lifted c.loop-alloc.reader) c.keep_next.new.reader c.args.kept.now.items c.loop-alloc.kept.items c.keep_next.new.kept.items more.0
                 far.2 step.counts (λ told. more.3 told) refl more.2 refl)
                 (λ known.
                 let told = far.2.known known in
-                open_on (lifted c.loop-reader.reader) c.keep_next.new.reader (lifted_open c.loop-reader.reader) (step.counts.3 told)
-                (step_short grammar far.0 (lifted c.loop-reader.reader).cursor c.keep_next.new.reader.cursor more.0 (more.3 told))),
+                open_on (lifted c.loop-alloc.reader) c.keep_next.new.reader (lifted_open c.loop-alloc.reader) (step.counts.3 told)
+                (step_short grammar far.0 (lifted c.loop-alloc.reader).cursor c.keep_next.new.reader.cursor more.0 (more.3 told))),
           );
     }
 
-over : (t : Track) (p : Progress) → IsAt t p → is_behind_blocks t.phase ≡ true → is_behind_blocks p.stand.phase ≡ true
-over t p at e = ap (λ (s : Stand). is_behind_blocks s.phase) (sym at.stand) ∙ e
+over : (q : Position) (p : Progress) → position_of p.stand ≡ q → is_behind_blocks q.phase ≡ true → is_behind_blocks p.stand.phase ≡ true
+over q p at e = ap (λ (k : Position). is_behind_blocks k.phase) at ∙ e
 
 pub returns-clause-kept : goal.returns-clause-kept
 returns-clause-kept g c = λ known.
-    let far = c.loop-reader.invariant.far (opening Subset) c.requires.first in
-    let end = over c.loop-reader.track far.0 far.1 (sym c.is_past_metadata.ensures ∙ c.loop-reader-test.false) in
-    rw c.lift.ensures (kept_are (lifted c.args.reader.now).cursor (lifted c.loop-reader.reader).cursor far.0 c.args.kept.now.items c.loop-reader.kept.items c.requires.none (far.2.far known) end)
+    let far = c.loop-alloc.invariant.far in
+    let end = over c.loop-alloc.position far.0 far.1 (sym c.is_past_metadata.ensures ∙ c.loop-alloc-test.false) in
+    rw c.lift.ensures (kept_are (lifted c.args.reader.now).cursor (lifted c.loop-alloc.reader).cursor far.0 c.args.kept.now.items c.loop-alloc.kept.items c.requires.none (far.2.far known) end)
 
 pub returns-then-unread-ne0-clause-refused : goal.returns-then-unread-ne0-clause-refused
 returns-then-unread-ne0-clause-refused g c = λ known calm room.
-    let far = c.loop-reader.invariant.far (opening Subset) c.requires.first in
-    let whole = kept_whole (lifted c.args.reader.now).cursor (lifted c.loop-reader.reader).cursor far.0 c.args.kept.now.items c.loop-reader.kept.items c.requires.whole (far.2.far known) in
+    let far = c.loop-alloc.invariant.far in
+    let whole = kept_whole (lifted c.args.reader.now).cursor (lifted c.loop-alloc.reader).cursor far.0 c.args.kept.now.items c.loop-alloc.kept.items c.requires.whole (far.2.far known) in
     let zero : c.unread.result ≡ 0 = c.unread.ensures.0 ∙ ap (λ (s : State). s.cursor.mark.unread) c.lift.ensures ∙ whole in
     absurd (c.if-unread-ne0.true zero)
 
 pub returns-then-unread-ne0-clause-at : goal.returns-then-unread-ne0-clause-at
 returns-then-unread-ne0-clause-at g c = λ known.
-    let far = c.loop-reader.invariant.far (opening Subset) c.requires.first in
-    let whole = kept_whole (lifted c.args.reader.now).cursor (lifted c.loop-reader.reader).cursor far.0 c.args.kept.now.items c.loop-reader.kept.items c.requires.whole (far.2.far known) in
+    let far = c.loop-alloc.invariant.far in
+    let whole = kept_whole (lifted c.args.reader.now).cursor (lifted c.loop-alloc.reader).cursor far.0 c.args.kept.now.items c.loop-alloc.kept.items c.requires.whole (far.2.far known) in
     let zero : c.unread.result ≡ 0 = c.unread.ensures.0 ∙ ap (λ (s : State). s.cursor.mark.unread) c.lift.ensures ∙ whole in
     absurd (c.if-unread-ne0.true zero)
 
@@ -69,7 +69,7 @@ returns-in_err-keep_next-clause-refused g c =
     let refuses = c.in_err-keep_next.ensures.refused in
     let at = c.in_err-keep_next.ensures.at in
     rw (p.1, p.2) (λ known calm room.
-    let far = c.loop-reader.invariant.far (opening Subset) c.requires.first in
-    let r = step_refused grammar keeps no_errors (opening Subset) far.0 (lifted c.args.reader.now) (lifted c.loop-reader.reader) c.keep_next.new.reader c.args.kept.now.items c.loop-reader.kept.items _ _ far.2
+    let far = c.loop-alloc.invariant.far in
+    let r = step_refused grammar keeps no_errors (opening Subset) far.0 (lifted c.args.reader.now) (lifted c.loop-alloc.reader) c.keep_next.new.reader c.args.kept.now.items c.loop-alloc.kept.items _ _ far.2
     (λ told same quiet some. refuses far.0 far.1 told same quiet some) known calm room in
     record { items = r.0; refused = r.1; place = at })

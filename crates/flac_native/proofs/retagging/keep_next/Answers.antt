@@ -1,26 +1,28 @@
-use Rattle.std.proofs.Common.{sym, ap, subst, ◌∙◌, ◌≡◌, true, false}
+use Rattle.std.proofs.Common.{sym, ap, subst, ◌∙◌, ◌≡◌, true}
 use Rattle.flac_bits.specs.Fencing.{lifted}
-use Rattle.flac_bits.specs.Items.{refused}
-use Rattle.flac_bits.specs.inner.Items.{step_at}
-use Rattle.flac_native.specs.Stream.{Progress, Stand, grammar, place_in}
-use Rattle.flac_native.specs.Track.{IsAt, is_behind_blocks}
+use Rattle.flac_native.specs.Stream.{Stand, stand_after}
+use Rattle.flac_native.specs.Track.{position_of}
 use Rattle.flac_native.specs.Retag.{is_before_frames}
-use Rattle.flac_native.specs.declared.track.Track.{Track}
-use Rattle.flac_native.proofs.Metadata.{refused_there, before_frames}
+use Rattle.flac_native.specs.inner.Retag.{piece_in}
+use Rattle.flac_native.proofs.Metadata.{own_stand, part_read, part_refused, before_frames}
 use Rattle.flac_native.proofs.retagging.keep_next.Goals as goal
-
-early : (t : Track) (p : Progress) → IsAt t p → is_behind_blocks t.phase ≡ false → is_behind_blocks p.stand.phase ≡ false
-early t p at e = ap (λ (s : Stand). is_behind_blocks s.phase) (sym at.stand) ∙ e
 
 pub returns-in-Err-clause-refused : goal.returns-in-Err-clause-refused
 returns-in-Err-clause-refused g c = λ p at known same quiet room.
-    let step = c.in-Err.ensures.steps p at known same quiet room in
-    let here = refused_there p (lifted c.args.reader.now).cursor c.in-Err.fault.at c.in-Err.fault.why (early c.args.track.now p at c.requires) step in
-    let place = c.place-at.ensures ∙ ap (λ (s : Stand). place_in s.phase s.index) at.stand ∙ sym here in
-    subst (λ q. step_at grammar p (lifted c.args.reader.now).cursor ≡ refused q c.in-Err.fault.why) (sym place) step
+    part_refused p c.args.position.now (lifted c.args.reader.now) c.place-at.result c.in-Err.why at c.requires c.place-at.ensures (c.in-Err.ensures.reads p.stand (λ e. room cc) known same)
 
 pub returns-in-Err-clause-at : goal.returns-in-Err-clause-at
-returns-in-Err-clause-at g c = subst (λ q. is_before_frames q ≡ true) (sym c.place-at.ensures) (before_frames c.args.track.now.phase c.args.track.now.index c.requires)
+returns-in-Err-clause-at g c = subst (λ q. is_before_frames q ≡ true) (sym c.place-at.ensures) (before_frames c.args.position.now.phase c.args.position.now.index c.requires)
 
 pub returns-in-Err-keep-clause-at : goal.returns-in-Err-keep-clause-at
-returns-in-Err-keep-clause-at g c = subst (λ q. is_before_frames q ≡ true) (sym c.place-at.ensures) (before_frames c.args.track.now.phase c.args.track.now.index c.requires)
+returns-in-Err-keep-clause-at g c = subst (λ q. is_before_frames q ≡ true) (sym c.place-at.ensures) (before_frames c.args.position.now.phase c.args.position.now.index c.requires)
+
+pub returns-in-Ok-keep-clause-keeps : goal.returns-in-Ok-keep-clause-keeps
+returns-in-Ok-keep-clause-keeps g c = λ p at.
+    let q = c.args.position.now in
+    let next_is = ap (λ (s : Stand). position_of (stand_after s (piece_in c.in-Ok.part))) (sym (own_stand q p.stand at)) ∙ c.in-Ok.ensures.next p.stand in (
+      piece_in c.in-Ok.part,
+      next_is,
+      c.in-Ok-keep.ensures.keeps,
+      λ known. part_read p q (lifted c.args.reader.now) c.read_next.new.reader c.in-Ok.part at c.requires (c.in-Ok.ensures.reads p.stand (λ e. absurd cc) known c.in-Ok.ensures.counts.1),
+    )
