@@ -32,7 +32,7 @@ fn point_among(points: &[SeekPoint], sample: u64, best: Option<SeekPoint>) -> Op
 {
     let mut found = best;
     for point in points {
-        if point.sample <= sample && point.sample != u64::MAX {
+        if point.sample <= sample && !point.is_placeholder() {
             found = Some(*point);
         }
     }
@@ -57,9 +57,7 @@ impl Metadata {
     {
         match block {
             Block::StreamInfo(info) => self.info = Some(*info),
-            Block::VorbisComment(comments) => {
-                self.comments = comments.list.as_slice().len() as u64;
-            }
+            Block::VorbisComment(comments) => self.comments = comments.len() as u64,
             Block::SeekTable(table) => {
                 self.point = point_among(table.points(), self.sample, self.point);
             }

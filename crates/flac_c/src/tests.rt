@@ -175,22 +175,23 @@ const SETTINGS: FlacProvedSettings = FlacProvedSettings {
     serial: 0,
 };
 
+/// The comments of [`TAGGED`].
+const TAGS: FlacProvedTags<'static> = FlacProvedTags {
+    vendor: FlacProvedText { bytes: b"abc" },
+    list: &[
+        FlacProvedText { bytes: b"A=1" },
+        FlacProvedText { bytes: b"BC=23" },
+    ],
+};
+
 /// What encoding returns, the length that it tells, and the first bytes.
 fn encode(
     alloc: Global,
     settings: &FlacProvedSettings,
     samples: &[i32],
 ) -> (u32, usize, [u8; 200]) {
-    let list = [
-        FlacProvedText { bytes: b"A=1" },
-        FlacProvedText { bytes: b"BC=23" },
-    ];
-    let tags = FlacProvedTags {
-        vendor: FlacProvedText { bytes: b"abc" },
-        list: &list,
-    };
     let (mut out, mut len) = ([9u8; 200], 99);
-    let number = flac_proved_encode(alloc, settings, samples, &tags, &mut out, &mut len);
+    let number = flac_proved_encode(alloc, settings, samples, &TAGS, &mut out, &mut len);
     (number, len, out)
 }
 
@@ -425,15 +426,7 @@ fn sought(rt: HostRuntime) -> Result<(), Fail> {
 
 /// The bound of samples with two comments.
 fn bound(settings: &FlacProvedSettings, count: usize) -> u64 {
-    let list = [
-        FlacProvedText { bytes: b"A=1" },
-        FlacProvedText { bytes: b"BC=23" },
-    ];
-    let tags = FlacProvedTags {
-        vendor: FlacProvedText { bytes: b"abc" },
-        list: &list,
-    };
-    flac_proved_bound(settings, count, &tags)
+    flac_proved_bound(settings, count, &TAGS)
 }
 
 #[test]

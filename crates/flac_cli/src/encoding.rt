@@ -20,7 +20,7 @@ use flac_frame::{Audio, SetupFault};
 use flac_header::{depth_code_in, rate_code_in};
 use flac_jobs::{Container, Format};
 use flac_meta::{Block, BlockList, Bytes, Comments, Texts};
-use flac_native::{EncodeFault, Plan, Profile, encode};
+use flac_native::{EncodeFault, Plan, Profile, encode, sample_width};
 use flac_ogg::encode_ogg;
 use flac_subframe::LinearPredictor;
 use std::alloc::Global;
@@ -158,7 +158,7 @@ fn audio_of<R: Source>(
         return Err(Refusal::Setup(fault));
     }
     let channels = format.channels as usize;
-    let width = (format.bits as usize + 7) / 8;
+    let width = sample_width(format.bits);
     let Some(lists) = read_channels(alloc, source, channels, width)? else {
         return Err(Refusal::RawLength);
     };
