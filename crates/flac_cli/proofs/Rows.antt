@@ -16,7 +16,7 @@ use Rattle.flac_header.specs.Choice.{depth_choice, depth_choice_in}
 use Rattle.flac_header.specs.declared.subset.Profile.{Profile}
 use Rattle.flac_header.specs.declared.subset.Profile.TheVariants.{Subset, Lax}
 use Rattle.flac_frame.specs.Audio.{Sound, IsSound, samples_each}
-use Rattle.flac_jobs.specs.declared.formats.Format.{Format}
+use Rattle.flac_jobs.specs.declared.formats.RawFormat.{RawFormat}
 use Rattle.flac_cli.specs.Raw.{number_of, samples_at, channels_at, IsRaw}
 use Rattle.flac_cli.specs.inner.Raw.{IsChannel, IsPart, AreParts, IsMore, AreChannels}
 
@@ -306,7 +306,7 @@ whole_back n new old same is =
 -- ---- samples of a format
 
 -- the channels of these bytes, under the profile and the format's rate and bits
-pub raw_is : (profile : Profile) (format : Format) (raw bytes : List ℕ) (a : Sound) (channels : List (List ℤ)) → a ≡ record { profile = profile; rate = format.rate; bits = format.bits; channels = channels }
+pub raw_is : (profile : Profile) (format : RawFormat) (raw bytes : List ℕ) (a : Sound) (channels : List (List ℤ)) → a ≡ record { profile = profile; rate = format.rate; bits = format.bits; channels = channels }
     → IsSound a → AreChannels bytes format.channels (sample_width format.bits) channels → bytes ≡ raw → IsRaw profile format raw a
 unfolding sound_message
 raw_is profile format raw bytes a channels is sound are same =

@@ -6,7 +6,7 @@ use Rattle.flac_header.specs.declared.subset.Profile.{Profile}
 use Rattle.flac_frame.specs.Audio.{Sound, IsSound}
 use Rattle.flac_native.specs.Given.{sound_message}
 use Rattle.flac_native.specs.Message.{sample_width}
-use Rattle.flac_jobs.specs.declared.formats.Format.{Format}
+use Rattle.flac_jobs.specs.declared.formats.RawFormat.{RawFormat}
 
 -- ---- the samples that bytes are
 
@@ -29,13 +29,13 @@ abbrev pub raw_channels : (count width : ℕ) → List ℕ → List (List ℤ)
 raw_channels count width bytes = channels_at bytes (length bytes / (count * width)) (count * width) width count
 
 -- the samples of this format that these bytes are, for a stream of this profile
-abbrev pub raw_sound : Profile → Format → List ℕ → Sound
+abbrev pub raw_sound : Profile → RawFormat → List ℕ → Sound
 raw_sound profile format bytes = record { profile = profile; rate = format.rate; bits = format.bits; channels = raw_channels format.channels (sample_width format.bits) bytes }
 
 -- ---- what holds of them
 
 -- these bytes are just these samples, which have this profile and format and fit its bits
-pub record IsRaw (profile : Profile) (format : Format) (bytes : List ℕ) (a : Sound) : Type 0 where
+pub record IsRaw (profile : Profile) (format : RawFormat) (bytes : List ℕ) (a : Sound) : Type 0 where
   pub profiled : a.profile ≡ profile
   pub rate : a.rate ≡ format.rate
   pub bits : a.bits ≡ format.bits

@@ -27,20 +27,20 @@ use Rattle.flac_cli.specs.declared.encoding.Refusal.{Refusal}
 use Rattle.flac_cli.specs.declared.predictors.ListFault.{ListFault}
 use Rattle.flac_cli.specs.declared.predictors.ListFault.TheVariants as faults
 use Rattle.flac_cli.specs.declared.encoding.Refusal.TheVariants.{Input, Setup, RawLength, Line, Output}
-use Rattle.flac_jobs.specs.declared.formats.Format.{Format}
-use Rattle.flac_jobs.specs.declared.formats.Container.{Container}
-use Rattle.flac_jobs.specs.declared.formats.Container.TheVariants as container
+use Rattle.flac_jobs.specs.declared.formats.RawFormat.{RawFormat}
+use Rattle.flac_jobs.specs.declared.formats.ContainerKind.{ContainerKind}
+use Rattle.flac_jobs.specs.declared.formats.ContainerKind.TheVariants as container
 
 -- Why samples of this format cannot be encoded, whatever they are: no frame header of the profile has a code for the rate or for the depth, or there are
 -- not 1 to 8 channels (RFC 9639, sections 7 and 9.1.2 to 9.1.4).
-unfoldable pub format_fault : Profile → Format → Option SetupFault
+unfoldable pub format_fault : Profile → RawFormat → Option SetupFault
 format_fault profile format =
     cond (is_none (rate_choice_in profile format.rate)) (Some BadRate)
     (cond (is_none (depth_choice_in profile format.bits)) (Some BadDepth)
     (cond (nat_eq format.channels 0 || nat_lt 8 format.channels) (Some BadChannels) None))
 
 -- Why these bytes are no samples of this format: the format, then their number, then the samples.
-unfoldable pub raw_fault : Profile → Format → (bytes : List ℕ) → Option Refusal
+unfoldable pub raw_fault : Profile → RawFormat → (bytes : List ℕ) → Option Refusal
 raw_fault profile format bytes =
     option_or (option_map Setup (format_fault profile format))
     (cond (nat_eq (length bytes % (format.channels * sample_width format.bits)) 0)
@@ -48,7 +48,7 @@ raw_fault profile format bytes =
     (Some RawLength))
 
 -- Why the calls that write a stream refuse these blocks: a native one has one seek table at most (section 8), and one in Ogg none.
-abbrev pub stream_fault : Container → Cut → List Block → Option EncodeFault
+abbrev pub stream_fault : ContainerKind → Cut → List Block → Option EncodeFault
 stream_fault container.Native p list = cond (repeats_table p list) (Some encode.RepeatedBlock) None
 stream_fault (container.Ogg serial) p list = cond (may_be_ogg p list) None (Some encode.BadMapping)
 

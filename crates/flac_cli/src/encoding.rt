@@ -18,7 +18,7 @@ use crate::raw::read_channels;
 use flac_bits::{Source, Target, Why};
 use flac_frame::{Audio, SetupFault};
 use flac_header::{depth_code_in, rate_code_in};
-use flac_jobs::{Container, Format};
+use flac_jobs::{ContainerKind, RawFormat};
 use flac_meta::{Block, BlockList, Bytes, Comments, Texts};
 use flac_native::{EncodeFault, Plan, Profile, encode, sample_width};
 use flac_ogg::encode_ogg;
@@ -34,9 +34,9 @@ pub(crate) struct Encoding<'a> {
     /// The profile of the stream.
     pub(crate) profile: Profile,
     /// The format of the raw samples, and how they are divided into blocks.
-    pub(crate) format: Format,
+    pub(crate) format: RawFormat,
     /// The container of the stream.
-    pub(crate) container: Container,
+    pub(crate) container: ContainerKind,
     /// Its comments, each `NAME=VALUE`.
     pub(crate) comments: &'a [&'a str],
     /// The text of a list of predictors that the encoder tries too, empty if there is none.
@@ -120,7 +120,7 @@ impl Refusal {
 
 /// The first reason, if there is one, for which no samples of this format can be encoded: rate, depth, channels.
 #[tactic(auto, unfolding(crate::specs::Refusals::format_fault), using(crate::proofs::Rows::depth_range))]
-fn format_fault(profile: Profile, format: Format) -> Option<SetupFault>
+fn format_fault(profile: Profile, format: RawFormat) -> Option<SetupFault>
     ensures value { result ≡ format_fault profile format }
     ensures bits { result ≡ None → (1 ≤ format.bits) × (format.bits ≤ 32) }
     ensures channels { result ≡ None → (1 ≤ format.channels) × (format.channels ≤ 8) }
@@ -146,7 +146,7 @@ fn audio_of<R: Source>(
     alloc: Global,
     source: &mut R,
     profile: Profile,
-    format: Format,
+    format: RawFormat,
 ) -> Result<Audio, Refusal>
     ensures raw { IfOk result (λ a. R.known source.old ≡ true → IsRaw profile format (R.coming source.old) a) }
     ensures sound { IfOk result (λ a. R.known source.old ≡ true → a ≡ raw_sound profile format (R.coming source.old)) }
@@ -173,7 +173,7 @@ fn audio_of<R: Source>(
 /// # Errors
 /// The first reason for which they cannot be: the block size, the seek points, the predictors.
 fn plan_of(
-    format: Format,
+    format: RawFormat,
     audio: &Audio,
     predictors: Vec<LinearPredictor>,
 ) -> Result<Plan, SetupFault>
@@ -221,7 +221,7 @@ fn comment_list(alloc: Global, words: &[&str]) -> Result<BlockList, Why>
 /// Writes the samples as a stream. After an error, nothing or a prefix of the stream was sent.
 fn write_stream<W: Target>(
     alloc: Global,
-    container: Container,
+    container: ContainerKind,
     plan: &Plan,
     list: &BlockList,
     audio: &Audio,
@@ -235,8 +235,8 @@ fn write_stream<W: Target>(
     ensures failed { IfErr result (λ e. e ≡ EncodeFault.Write → W.known target.old ≡ true → W.errors target.old < W.errors target.new) }
 {
     match container {
-        Container::Native => encode(alloc, plan, list, audio, target),
-        Container::Ogg { serial } => encode_ogg(alloc, serial, plan, list, audio, target),
+        ContainerKind::Native => encode(alloc, plan, list, audio, target),
+        ContainerKind::Ogg { serial } => encode_ogg(alloc, serial, plan, list, audio, target),
     }
 }
 

@@ -5,7 +5,7 @@ use crate::tables::{
     PREFIXES, RETAGGINGS, SWEPT,
 };
 use flac_bits::{Collected, Counted, Memory, Pieces, Source, Target};
-use flac_cli::{Container, Format, Job, Task, run};
+use flac_cli::{ContainerKind, Job, RawFormat, Task, run};
 use flac_words::job;
 use std::alloc::Global;
 use std::io;
@@ -606,7 +606,7 @@ fn failing(rt: HostRuntime) -> Result<(), Fail> {
 #[test]
 fn no_table_in_ogg(rt: HostRuntime) {
     let alloc = rt.alloc();
-    let format = Format {
+    let format = RawFormat {
         rate: 44100,
         channels: 2,
         bits: 16,
@@ -617,7 +617,7 @@ fn no_table_in_ogg(rt: HostRuntime) {
         input: "a.raw",
         output: "a.oga",
         format,
-        container: Container::Ogg { serial: 1 },
+        container: ContainerKind::Ogg { serial: 1 },
         comments: Vec::new(alloc),
         lax: false,
         predictors: None,
