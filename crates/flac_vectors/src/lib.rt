@@ -5,7 +5,7 @@ mod noise;
 mod rows;
 
 pub use noise::bursts;
-pub use rows::{bytes_of, channels_of, fields_of, pair_of, samples_of};
+pub use rows::{append_word, bytes_of, channels_of, fields_of, pair_of, samples_of};
 
 /// The example of RFC 9639, appendix D.1, its digest unknown: one frame of one sample of two channels.
 pub const EXAMPLE: &str =
