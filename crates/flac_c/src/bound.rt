@@ -87,8 +87,8 @@ fn bytes_among(
     }
 }
 
-/// A number of bytes that is enough for the buffer of `flac_proved_encode`: no stream of `count` samples by these settings and with these comments is longer. It is at
-/// most 2^64 - 1, and tells nothing of settings that are refused.
+/// A number of bytes that is enough for the buffer of `flac_proved_encode`: no stream of `count` samples by these
+/// settings and with these comments is longer. It is at most 2^64 - 1, and says nothing of settings that are refused.
 #[unsafe(no_mangle)]
 pub extern "C" fn flac_proved_bound(
     settings: &FlacProvedSettings,

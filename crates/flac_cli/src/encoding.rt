@@ -244,9 +244,9 @@ fn write_stream<W: Target>(
 /// sent.
 ///
 /// # Errors
-/// The first reason for which the samples cannot be encoded as asked for: a line of the list, for which the source is not
-/// read; the samples, the block size and the seek points, the predictors, the comments, the container. An error of the
-/// source or of the target, or out of memory.
+/// The first reason for which the samples cannot be encoded as asked for: a line of the list, for which the source is
+/// not read; the samples, the block size and the seek points, the predictors, the comments, the container. An error of
+/// the source or of the target, or out of memory.
 pub(crate) fn encode_raw<R: Source, W: Target>(
     alloc: Global,
     encoding: &Encoding<'_>,

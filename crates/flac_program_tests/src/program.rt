@@ -59,7 +59,8 @@ impl Outcome {
             && self.err.as_slice() == other.err.as_slice()
     }
 
-    /// Whether a stream was accepted, and none of the two where just the line of counts or of a fault is not what came of it.
+    /// Whether a stream was accepted, and none of the two where just the line of counts or of a fault is not what came
+    /// of it.
     pub(crate) fn is_accepted(&self) -> Option<bool> {
         if self.status == 0 && self.err.is_empty() && is_counts(line_in(&self.out, "")) {
             Some(true)

@@ -67,8 +67,8 @@ PREDICTED_PAGE 4f6767530004100000000000000001000000020000000ecc45b30110fff869080
 PLAIN 664c614300000022001000100000220000220ac440f000000010d1f223132b5d8ea4d06feffa79868854
 PLAIN_FRAME fff86908000f301003d6fa60bbe982efa60bbe982efa60bbe982efa60bbe982eb03d";
 
-/// Native streams: a command, its input, its status, and what it writes to its file, to standard output and to standard error. The frames were made bit
-/// by bit; the answers are those of RFC 9639 and of its streamable subset.
+/// Native streams: a command, its input, its status, and what it writes to its file, to standard output and to standard
+/// error. The frames were made bit by bit; the answers are those of RFC 9639 and of its streamable subset.
 pub(crate) const NATIVE: &str = "# The example of RFC 9639, appendix D.1.
 test a.flac | EXAMPLE | 0 |  | frames 1 samples 1;
 decode a.flac a.raw | EXAMPLE | 0 | f463b028
@@ -178,7 +178,8 @@ LEFT_SIDE | 4 42 | block 0: 3 Truncated
 LEFT_SIDE | 42 43 | frames 0 samples 0
 LEFT_SIDE | 43 61 | frame 0: 3 Truncated";
 
-/// Changed bytes of streams: the stream, the range of the bytes, and the lines that answer a change of the lowest bit, of the highest bit and of all bits.
+/// Changed bytes of streams: the stream, the range of the bytes, and the lines that answer a change of the lowest bit,
+/// of the highest bit and of all bits.
 pub(crate) const CHANGES: &str =
     "EXAMPLE | 0 4 | marker: 4 BadMarker | marker: 4 BadMarker | marker: 4 BadMarker
 EXAMPLE | 4 5 | block 0: 5 NotStreamInfoFirst | block 1: 6 ForbiddenType | block 0: 5 NotStreamInfoFirst
@@ -231,8 +232,9 @@ RISING_ALONE
 ALTERNATING
 LEFT_SIDE";
 
-/// Streams of which each prefix is read, and each stream with the lowest bit, the highest bit or all bits of one byte changed; and how many of both are
-/// accepted, as a model of the format answers that shares no code with this project (`conformance/model.py`).
+/// Streams of which each prefix is read, and each stream with the lowest bit, the highest bit or all bits of one byte
+/// changed; and how many of both are accepted, as a model of the format answers that shares no code with this project
+/// (`conformance/model.py`).
 pub(crate) const STRANGE: &str =
     "# The example, the same as this project writes it, no samples, four frames behind a STREAMINFO of their format, the example with a comment.
 EXAMPLE | 0 25
@@ -263,8 +265,8 @@ list a.flac | MORE 850001e031005c 00*130 01588880 00*258 02000000000000000001414
 # A block of every kind.
 list a.flac | MORE 02000006616243ff0102 03000036 00*16 1000000000000000100000000000000001020010ffffffffffffffff00000000000000070001 0400001c03000000615c620200000009000000583d7f7e20c3a90a5b00000000 0600002e0000000300000009696d6167652f706e6700000003610a62000000020000000500000018000000000000000200ff 7e000003616263 010000020007 850001e031005c 00*130 01588880 00*258 0200000000000000000141420000000000000000000040 00*13 01000000000000024c010000000000000000000930aa 00*12 80 00*14 | 0 |  | block 0 STREAMINFO 34;  blocks 16 4096 frames 0 0 rate 44100 channels 1 depth 16 samples 0;  md5 00000000000000000000000000000000;block 1 APPLICATION 6;  id 616243ff;block 2 SEEKTABLE 54;  point 0 0 4096;  point 4096 258 16;  placeholder;block 3 VORBIS_COMMENT 28;  vendor a\x5cb;  comment X=\x7f~ \xc3\xa9\x0a[;  comment ;block 4 PICTURE 46;  type 3 media image/png text a\x0ab size 2x5 depth 24 colours 0 data 2;block 5 TYPE_126 3;block 6 PADDING 2;block 7 CUESHEET 480;  catalogue 1\x00\x5c lead_in 88200 cd 1;  track 1 offset 0 isrc AB type audio pre 1;  index 1 offset 588;  track 170 offset 2352 isrc  type data pre 0;"#;
 
-/// Raw samples that are encoded, in rows as those of native streams. The streams were put together by hand, with checks and digests that were worked out
-/// apart from this project.
+/// Raw samples that are encoded, in rows as those of native streams. The streams were put together by hand, with checks
+/// and digests that were worked out apart from this project.
 pub(crate) const ENCODINGS: &str =
     "# One sample of two channels, without comments and with one; no samples. Each is listed or decoded again.
 encode a.raw a.flac --rate 44100 --channels 2 --bits 16 | f463b028 | 0 | ONE_INFO COMMENTS ONE_FRAME
@@ -383,7 +385,8 @@ retag a.flac b.flac TITLE=y | EXAMPLE_TAGGED | 0 | 664c6143000000221000100000000
 retag a.flac b.flac TITLE=x | TWO_INFOS | 1 |  |  | flac: a.flac: block 1: 9 RepeatedBlock;
 retag a.flac b.flac TITLE=x | 664c6143800000221000100000000f00000f0ac442f000000001 00*15 | 1 |  |  | flac: a.flac: block 0: 3 Truncated;";
 
-/// Ogg streams, page by page, in rows as those of native streams. The sums of the pages were worked out apart from this project.
+/// Ogg streams, page by page, in rows as those of native streams. The sums of the pages were worked out apart from this
+/// project.
 pub(crate) const OGG: &str = "test a.flac | PAGES | 0 |  | frames 1 samples 1;
 test a.flac | MAPPING COMMENT NO_SEGMENTS FRAME_3 | 0 |  | frames 1 samples 1;
 test a.flac | MAPPING PADDING 00*251 PADDING_GOES_ON 00*45 COMMENT_3 FRAME_4 | 0 |  | frames 1 samples 1;
@@ -419,7 +422,8 @@ test a.flac | MAPPING 4e67675300000000000000000000010000000100000060d1f601010c84
 # A page whose 255 lacing values are 255, and whose body is cut.
 test a.flac | MAPPING COMMENT 4f6767530000 ff*8 010000000200000000000000ff ff*255 fff869180000bf0158fd01128b5ab2 00*65009 | 1 |  |  | flac: a.flac: page 2: 3 Truncated;";
 
-/// Command lines, and the jobs that they are read as, or the status and the text of the refusal, of which `;` ends a line.
+/// Command lines, and the jobs that they are read as, or the status and the text of the refusal, of which `;` ends a
+/// line.
 pub(crate) const JOBS: &str = r#"flac test a.flac | Test { input: "a.flac", lax: false }
 flac test --lax a.flac | Test { input: "a.flac", lax: true }
 flac decode a.flac a.raw | Decode { input: "a.flac", output: "a.raw", lax: false }

@@ -59,6 +59,9 @@ impl<R: Source + Drop> Reader<BitReader<R>> {
     /// holds the samples from the number in its header on. If the header has the number of the frame, each frame before
     /// it counts as many samples as the largest block size of STREAMINFO (section 9.1.5).
     ///
+    /// The frames are read in `profile`, whatever the profile that the reader was opened with: in [`Profile::Subset`]
+    /// those outside the streamable subset are refused with [`Why::NotSubset`] (section 7).
+    ///
     /// ```
     /// let start = reader.frames_start() as usize;
     /// let mut reader = reader.seek(rt.alloc(), &stream[start..], Profile::Subset, 44100)?;
@@ -185,7 +188,8 @@ impl<R: Source + Drop> Reader<BitReader<R>> {
     ) -> Result<Reader<BitReader<Counted<T>>>, Fault>
         ensures blocks { IfOk result (λ r. (r.blocks ≡ self.blocks) × (r.info ≡ self.info) × (r.start ≡ self.start)) }
         ensures first { IfOk result (λ r. r.behind ≡ number_of self.info (held (stage_of r.decoder).course (stage_of r.decoder).track)) }
-        // Of the frames of the device from that point on, the first that holds the sample comes next, and then all others.
+        // Of the frames of the device from that point on, the first that holds the sample comes next, and then all
+        // others.
         ensures found { IfOk result (λ r. (moved : T) × IsMoved T.stream_position T.stream_bytes device moved (search_start self.start sample (first_points self.blocks.items)) × (is_some (T.remaining moved) ≡ true → Sought self.info sample (read_resumed profile self.info (T.remaining moved)) r)) }
         // Refused only if the device cannot be moved, or as its bytes from there on are, with no such frame before; or
         // because memory runs out, or because of an error of the device.
