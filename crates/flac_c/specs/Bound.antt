@@ -18,7 +18,7 @@ texts_bytes texts = fold (λ n t. n + text_bytes t) 0 texts
 abbrev pub raw_bytes : (bits count : ℕ) → ℕ
 raw_bytes bits count = sample_width (max 1 (min bits 32)) * count
 
--- how many parts of so many samples there are at most; 0 stands for 1
+-- how many parts of `size` samples there are at most; 0 stands for 1
 abbrev pub parts_of : (each size : ℕ) → ℕ
 parts_of each size = each / max size 1 + 1
 
@@ -40,6 +40,6 @@ bytes_among s count each t = native_bytes s count each t + page_bytes s each (na
 abbrev pub bound_of : FlacProvedSettings → (count : ℕ) → FlacProvedTags → ℕ
 bound_of s count t = min (bytes_among s count (count / max s.channels 1) t) 18446744073709551615
 
--- no stream of so many samples by these settings and with these comments has more bytes
+-- no stream of `count` samples by these settings and with these comments has more bytes
 abbrev pub IsEnough : FlacProvedSettings → (count : ℕ) → FlacProvedTags → ℕ → Type 0
 IsEnough s count t bytes = (samples : List ℤ) (stream : List ℕ) → length samples ≡ count → IsEncoded s samples t stream → length stream ≤ bytes

@@ -28,7 +28,7 @@ are_metadata (marked ∷ xs) = are_metadata xs
 are_metadata (block last b ∷ xs) = are_metadata xs
 are_metadata (framed f ∷ xs) = false
 
--- The first n bytes are these parts: the marker and all metadata blocks. Frames come behind them.
+-- The first n bytes are these parts: the marker and all metadata blocks. Frames come after them.
 pub record IsHead (bytes : List ℕ) (n : ℕ) (parts : List Piece) : Type 0 where
   pub within : n ≤ length bytes
   pub spelled : Joined grammar (opening Subset) (beginning Truncated) parts (bits_of (take n bytes))
@@ -70,7 +70,7 @@ at_point (Some p) c = record c { offset = min (c.offset + p.offset) 184467440737
 abbrev pub StandsFirst : List ℕ → FlacProvedCursor → Type 0
 StandsFirst bytes c = (parts : List Piece) × (n : ℕ) × (i : Info) × IsHead bytes n parts × ((after grammar (opening Subset) parts).stand.info ≡ Some i) × (c ≡ first_frame i (comments_from None parts) n)
 
--- the cursor is where the seek table says that the frame of the last point at or before a sample is; at the first frame where there is no such point
+-- the cursor is where the seek table says that the frame of the last point at or before a sample is; at the first frame if there is no such point
 abbrev pub StandsBefore : List ℕ → ℕ → FlacProvedCursor → Type 0
 StandsBefore bytes sample c =
     (parts : List Piece) × (n : ℕ) × (i : Info) × IsHead bytes n parts × ((after grammar (opening Subset) parts).stand.info ≡ Some i)

@@ -25,11 +25,11 @@ use Rattle.flac_jobs.specs.declared.jobs.Job.TheVariants as job
 abbrev pub comments_of : List (List ℕ) → Comments
 comments_of words = record { vendor = codes "flac profile 1"; list = words }
 
--- the one block behind STREAMINFO
+-- the one block after STREAMINFO
 abbrev pub comment_list : List (List ℕ) → List Block
 comment_list words = VorbisComment (comments_of words) ∷ []
 
--- behind the bits that were there, a stream of what was given was written
+-- after the bits that were there, a stream of what was given was written
 abbrev pub EncodesIn : ContainerKind → Cut → List Block → Sound → (before after : List Bool) → Type 0
 EncodesIn container.Native p list a before after = Encodes p list a before after
 EncodesIn (container.Ogg serial) p list a before after = EncodesOgg serial p list a before after
@@ -63,12 +63,12 @@ asked_for other list = None
 abbrev pub asked_by : Task → Option Asked
 asked_by task = asked_for task.job.now task.list.now
 
--- so it is where the job is an encoding
+-- so it is if the job is an encoding
 abbrev pub HasEncoded : Option Asked → (bytes : List ℕ) → (before after : List Bool) → Type 0
 HasEncoded (Some asked) bytes before after = EncodesRaw asked bytes before after
 HasEncoded None bytes before after = Unit {0}
 
--- what was written is a beginning of such a stream
+-- what was written is a prefix of such a stream
 abbrev pub BeginsIn : ContainerKind → Cut → List Block → Sound → (before after : List Bool) → Type 0
 BeginsIn container.Native p list a before after = BeginsEncoding p list a before after
 BeginsIn (container.Ogg serial) p list a before after = BeginsOgg serial p list a before after
@@ -81,7 +81,7 @@ pub record BeginsRaw (asked : Asked) (bytes : List ℕ) (before after : List Boo
   pub listed : AreListed asked.list predictors
   pub begins : BeginsIn asked.container (cut_as asked audio predictors) (comment_list asked.words) audio before after
 
--- nothing was written, or so much, where the job is an encoding
+-- nothing was written, or such a prefix, if the job is an encoding
 abbrev pub HasBegun : Option Asked → (bytes : List ℕ) → (before after : List Bool) → Type 0
 HasBegun (Some asked) bytes before after = (after ≡ before) ⊎ BeginsRaw asked bytes before after
 HasBegun None bytes before after = Unit {0}

@@ -84,7 +84,7 @@ refusal_of (faults.Line number) = Line number
 abbrev pub IsOutside : Refusal → Type 0
 IsOutside r = (r ≡ Input why.Memory) ⊎ ((r ≡ Output encode.Memory) ⊎ (r ≡ Output encode.Write))
 
--- there is no such reason where the job is an encoding
+-- there is no such reason if the job is an encoding
 abbrev pub CanBeEncoded : Option Asked → (bytes : List ℕ) → Type 0
 CanBeEncoded (Some asked) bytes = IsReason asked bytes None
 CanBeEncoded None bytes = Unit {0}

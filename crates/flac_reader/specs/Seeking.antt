@@ -65,7 +65,7 @@ abbrev pub HoldsFirst : Info → ℕ → List Frame → Type 0
 HoldsFirst info sample [] = ⊤
 HoldsFirst info sample (f ∷ frames) = holds info sample f ≡ true
 
--- Of these frames, which were to come, the ones before the first that holds the sample were passed by, and that one comes next; where none holds it, all were passed by.
+-- Of these frames, which were to come, the ones before the first that holds the sample were passed by, and that one comes next; if none holds it, all were passed by.
 pub record Finds {C : Type 0} (g : container.Ghosts C) (info : Info) (sample : ℕ) (frames : List Frame) (end : Option (Place × Why)) (ahead : Bool) (s : Stage C) : Type 0 where
   pub passed : List Frame
   pub left : List Frame
@@ -78,13 +78,13 @@ pub record Finds {C : Type 0} (g : container.Ghosts C) (info : Info) (sample : �
 abbrev pub Sought : {C : Type 0} {g : container.Ghosts C} → Info → ℕ → Reading Piece Place → Reader C g → Type 0
 Sought {g = g} info sample r reader = (frames : List Frame) (end : Option (Place × Why)) → IsReadAs r [] frames end → Finds g info sample frames end reader.ahead (stage_of reader.decoder)
 
--- So a reader was made over this input: it finds the frame; or the input is refused behind frames that do not hold the sample, unless memory ran out.
+-- So a reader was made over this input: it finds the frame; or the input is refused after frames that do not hold the sample, unless memory ran out.
 abbrev pub SeeksTo : {C : Type 0} {g : container.Ghosts C} → Info → ℕ → Reading Piece Place → Result (Reader C g) Fault → Type 0
 SeeksTo info sample r (Ok reader) = Sought info sample r reader
 SeeksTo info sample r (Err f) = f.why ≢ Memory → (frames : List Frame) (end : Option (Place × Why)) → IsReadAs r [] frames end → PassedBy info sample frames × (end ≡ Some (told f))
 
 -- No reader was made over the input of a source, for this reason. An error of the source raised its counts; without one, and if the input is known, it is refused
--- behind frames that do not hold the sample.
+-- after frames that do not hold the sample.
 pub record RefusesSeek (info : Info) (sample : ℕ) (r : Reading Piece Place) (known : Bool) (errors raised errors_left raised_left : ℕ) (f : Fault) : Type 0 where
   pub kept : errors ≤ errors_left
   pub risen : f.why ≡ Read → Rises raised raised_left
@@ -92,14 +92,14 @@ pub record RefusesSeek (info : Info) (sample : ℕ) (r : Reading Piece Place) (k
 
 -- ---- in a whole stream
 
--- The first so many bytes of a native stream are all its parts before these frames, and STREAMINFO among them is this.
+-- The first bytes of a native stream, up to this offset, are all its parts before these frames, and STREAMINFO among them is this.
 pub record Cuts (profile : Profile) (stream : List ℕ) (info : Info) (at : ℕ) (frames : List Frame) : Type 0 where
   pub front : List Piece
   pub whole : Stream grammar (opening profile) (beginning Truncated) (front ++ map framed frames) (bits_of stream)
   pub before : Joined grammar (opening profile) (beginning Truncated) front (bits_of (take at stream))
   pub known : (after grammar (opening profile) front).stand.info ≡ Some info
 
--- A reader finds the frame among these, and gives it and all behind it, up to the end of the stream; or memory ran out.
+-- A reader finds the frame among these, and gives it and all later ones, up to the end of the stream; or memory ran out.
 abbrev pub SeeksFrames : {C : Type 0} {g : container.Ghosts C} → Info → ℕ → List Frame → Result (Reader C g) Fault → Type 0
 SeeksFrames {g = g} info sample frames (Ok reader) = Finds g info sample frames None reader.ahead (stage_of reader.decoder)
 SeeksFrames info sample frames (Err f) = f.why ≢ Memory → ⊥
@@ -109,6 +109,6 @@ abbrev pub FramesStart : Type 0
 FramesStart = (profile : Profile) (stream : List ℕ) (blocks : List Block) (frames : List Frame) (info : Info) → length stream < 2 ^ 64
     → IsReadAs (by_grammar grammar (opening profile) (beginning Truncated) (bits_of stream)) blocks frames None → first_info blocks ≡ Some info → Cuts profile stream info (frames_start blocks) frames
 
--- And what is behind a cut is a stream of the frames there, read from the state in which a decoder is resumed.
+-- And the bytes after a cut are a stream of the frames there, read from the state in which a decoder is resumed.
 abbrev pub CutsAreRead : Type 0
 CutsAreRead = (profile : Profile) (stream : List ℕ) (info : Info) (at : ℕ) (frames : List Frame) → Cuts profile stream info at frames → IsReadAs (by_grammar grammar (resumed profile info) (beginning Truncated) (bits_of (drop at stream))) [] frames None
