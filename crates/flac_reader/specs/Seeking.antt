@@ -1,6 +1,6 @@
 -- Where a sample is sought in a stream (RFC 9639, sections 8.5 and 9.1.5).
-use Rattle.std.specs.Prelude.{◌≡◌, ◌≢◌, ◌≤◌, ◌<◌, ◌^◌, ℕ, ◌+◌, ◌*◌, min, Bool, not, ◌&&◌, cond, nat_eq, nat_le, nat_lt, List, [], ◌∷◌, ◌++◌, true, false, map, take, drop, length, Option, Some, None, Result, Ok, Err, ⊤}
-use Rattle.std.specs.List.{fold, list_any}
+use Rattle.std.specs.Prelude.{◌≡◌, ◌≢◌, ◌≤◌, ◌<◌, ◌^◌, ℕ, ◌+◌, min, Bool, ◌&&◌, nat_le, nat_lt, List, [], ◌∷◌, ◌++◌, true, false, map, take, drop, length, Option, Some, None, Result, Ok, Err, ⊤}
+use Rattle.std.specs.List.{list_any}
 use Rattle.flac_bits.specs.Bits.{bits_of}
 use Rattle.flac_bits.specs.State.{Rises}
 use Rattle.flac_bits.specs.Items.{Joined, Stream, after}
@@ -9,9 +9,10 @@ use Rattle.flac_bits.specs.declared.why.Why.{Why}
 use Rattle.flac_bits.specs.declared.why.Why.TheVariants.{Memory, Read, Truncated}
 use Rattle.flac_meta.specs.declared.block.Block.{Block}
 use Rattle.flac_meta.specs.Info.{Info}
+use Rattle.flac_meta.specs.SeekTable.{last_before}
 use Rattle.flac_meta.specs.declared.seek_table.SeekPoint.{SeekPoint}
 use Rattle.flac_header.specs.declared.subset.Profile.{Profile}
-use Rattle.flac_frame.specs.Frame.{Frame}
+use Rattle.flac_frame.specs.Frame.{Frame, first_sample}
 use Rattle.flac_native.specs.Decoding.{beginning}
 use Rattle.flac_native.specs.Resuming.{resumed}
 use Rattle.flac_native.specs.Stream.{Piece, framed, grammar, opening}
@@ -28,13 +29,14 @@ use Rattle.flac_reader.specs.declared.reader.Reader.{Reader}
 
 -- ---- a seek table
 
--- the point names a frame at or before the sample of this number: all ones stand for no frame (section 8.5.1)
-abbrev pub is_before : ℕ → SeekPoint → Bool
-is_before sample p = nat_le p.sample sample && not (nat_eq p.sample 18446744073709551615)
+-- the offset of a point, from the first frame; that of the first frame where there is none
+abbrev pub offset_of : Option SeekPoint → ℕ
+offset_of None = 0
+offset_of (Some p) = p.offset
 
--- the offset of the last point at or before a sample, from the first frame; that of the first frame where there is none
+-- the offset of the last point at or before a sample
 abbrev pub offset_before : ℕ → List SeekPoint → ℕ
-offset_before sample points = fold (λ offset p. cond (is_before sample p) p.offset offset) 0 points
+offset_before sample points = offset_of (last_before sample points)
 
 -- where a search begins, in bytes from the first of the stream, whose frames start here; it stops at 2^64 - 1
 abbrev pub search_start : (start sample : ℕ) → List SeekPoint → ℕ
@@ -42,19 +44,15 @@ search_start start sample points = min (start + offset_before sample points) 184
 
 -- ---- a frame
 
--- the number of the first sample of a frame, by its header: coded there, or as many blocks before it as the number of the frame (section 9.1.5)
-abbrev pub first_of : Info → Frame → ℕ
-first_of info f = cond f.variable f.number (f.number * info.greatest_block)
-
 -- the frame holds the sample of this number
 abbrev pub holds : Info → ℕ → Frame → Bool
-holds info sample f = nat_le (first_of info f) sample && nat_lt sample (first_of info f + f.size)
+holds info sample f = nat_le (first_sample info.greatest_block f) sample && nat_lt sample (first_sample info.greatest_block f + f.size)
 
 -- the number of the first sample of a frame that is held, 0 where none is
 abbrev pub number_of : Info → Option Item → ℕ
 number_of info None = 0
 number_of info (Some (metadata b)) = 0
-number_of info (Some (frame f)) = first_of info f
+number_of info (Some (frame f)) = first_sample info.greatest_block f
 
 -- none of these frames holds it
 abbrev pub PassedBy : Info → ℕ → List Frame → Type 0

@@ -16,7 +16,7 @@ ghost use Rattle.flac_reader.specs.Seeking.{offset_before, search_start, number_
 
 use crate::head::Head;
 use crate::reader::Reader;
-use crate::seeking::{bytes_from, find_frame, offset_before};
+use crate::seeking::{bytes_from, find_frame};
 use flac_bits::BitReader;
 use flac_native::{Counted, Decoder, Fault, Memory, Place, Profile, Source, Why};
 use std::alloc::Global;
@@ -44,7 +44,7 @@ impl<R: Source> Reader<BitReader<R>> {
     pub fn seek_offset(&self, sample: u64) -> u64
         ensures { result ≡ search_start self.now.start sample (first_points self.now.blocks.items) }
     {
-        let offset = offset_before(self.seek_points(), sample);
+        let offset = self.offset_before(sample);
         self.start.saturating_add(offset)
     }
 }
@@ -82,7 +82,7 @@ impl<R: Source + Drop> Reader<BitReader<R>> {
         // only as the bytes are, with no such frame before.
         ensures found { SeeksTo self.info sample (by_grammar grammar (resumed profile self.info) (beginning Truncated) (bits_of (drop (offset_before sample (first_points self.blocks.items)) frames.now))) result }
     {
-        let offset = offset_before(self.seek_points(), sample);
+        let offset = self.offset_before(sample);
         let source = Memory::new(bytes_from(frames, offset));
         self.seek_from(alloc, source, profile, sample)
     }
