@@ -1,5 +1,5 @@
 -- Where a native stream is read, frame by frame (RFC 9639, sections 8.2, 8.5 and 9).
-use Rattle.std.specs.Prelude.{◌≡◌, ◌⊎◌, ℕ, ◌+◌, ◌*◌, ◌<◌, ◌≤◌, min, cond, Bool, true, ℤ, List, [], ◌∷◌, ◌++◌, length, take, drop, replicate, Option, Some, None}
+use Rattle.std.specs.Prelude.{◌≡◌, ◌⊎◌, ℕ, ◌+◌, ◌<◌, ◌≤◌, min, Bool, true, ℤ, List, [], ◌∷◌, ◌++◌, length, take, drop, replicate, Option, Some, None}
 use Rattle.flac_bits.specs.Bits.{bits_of}
 use Rattle.flac_bits.specs.Items.{Joined, Stream, after}
 use Rattle.flac_bits.specs.Meaning.{Spells}
@@ -8,7 +8,7 @@ use Rattle.flac_bits.specs.declared.why.Why.{Why}
 use Rattle.flac_bits.specs.declared.why.Why.TheVariants.{Memory, Truncated, BadStreamInfo}
 use Rattle.flac_meta.specs.Info.{Info, KeepsRules}
 use Rattle.flac_header.specs.declared.subset.Profile.TheVariants.{Subset}
-use Rattle.flac_frame.specs.Frame.{Frame, frame}
+use Rattle.flac_frame.specs.Frame.{Frame, frame, first_sample}
 use Rattle.flac_frame.specs.Interleaved.{interleaved}
 use Rattle.flac_native.specs.Decoding.{beginning}
 use Rattle.flac_native.specs.Resuming.{untold}
@@ -36,16 +36,12 @@ info_of i = record {
   digest = replicate 16 0;
 }
 
--- the number of the first sample of a frame, by its header: coded there, or as many blocks before it as the number of the frame (section 9.1.5)
-abbrev pub first_of : FlacProvedInfo → Frame → ℕ
-first_of i f = cond f.variable f.number (f.number * i.greatest_block)
-
 -- the cursor after a frame that ends at an offset; counts stop at 2^64 - 1
 abbrev pub passed : FlacProvedCursor → Frame → (end : ℕ) → FlacProvedCursor
 passed c f end = record {
   offset = end;
   frames = min (c.frames + 1) 18446744073709551615;
-  sample = min (first_of c.info f + f.size) 18446744073709551615;
+  sample = min (first_sample c.info.greatest_block f + f.size) 18446744073709551615;
   info = c.info;
 }
 
