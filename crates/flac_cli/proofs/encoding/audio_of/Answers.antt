@@ -9,7 +9,7 @@ use Rattle.flac_cli.proofs.Refused.{sound_of, bad_format, bad_length, bad_sample
 use Rattle.flac_cli.proofs.encoding.audio_of.Goals as goal
 
 pub returns-in-Some-clause-refused : goal.returns-in-Some-clause-refused
-returns-in-Some-clause-refused g c = λ known same. inr (bad_format c.args.profile c.args.format (g.R.Source.coming c.args.source.now) c.in-Some.fault c.in-Some.ensures.value)
+returns-in-Some-clause-refused g c = λ known same. inr (bad_format c.args.profile c.args.format (g.R.Source.coming c.args.source.now) c.in-Some.fault c.in-Some.ensures.fault)
 
 pub returns-in_default-2-clause-refused : goal.returns-in_default-2-clause-refused
 returns-in_default-2-clause-refused g c = λ known same.
