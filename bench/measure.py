@@ -20,7 +20,9 @@ import wave
 
 HERE = os.path.dirname(os.path.abspath(__file__))
 sys.path.insert(0, os.path.join(os.path.dirname(HERE), "conformance"))
+sys.path.append(os.path.join(os.path.dirname(HERE), "predictors"))
 
+import lists
 import sounds
 
 REFERENCE = "/usr/bin/flac"
@@ -32,7 +34,6 @@ NEWER_RATIO = ["x86-64-v3 : flac"] if NEWER else []
 FOLDER = os.environ.get("SOUNDS", "/tmp/flac-bench")
 RAW = ["--force-raw-format", "--endian=little", "--sign=signed"]
 LEAST = ["-l", "0", "-m", "-r", "8", "-e"]
-PREDICTORS = os.path.join(os.path.dirname(HERE), "predictors")
 LEVELS = {"0": ["-0"], "5": ["-5"], "8": ["-8"], "fixed": LEAST}
 
 # What is measured: the block size is the reference's own if it is None, and 4096 for fixed predictors alone.
@@ -211,7 +212,7 @@ def own_list(form, seconds):
         with wave.open(sound, "wb") as file, open(raw, "rb") as samples:
             file.setparams((form.channels, form.bits // 8, form.rate, 0, "NONE", ""))
             file.writeframes(samples.read())
-        taken = once([os.path.join(PREDICTORS, "make"), path + ".part", sound])
+        taken = once(lists.making(path + ".part", sound))
         with open(path + ".part", "a", encoding="ascii") as file:
             file.write(f"# made in {taken:.0f} s\n")
         os.rename(path + ".part", path)
@@ -221,14 +222,14 @@ def own_list(form, seconds):
 
 def lists_for(form, seconds, folder):
     """The lists of linear predictors with which a sound is encoded: names, and words of the program."""
-    shipped, first = os.path.join(PREDICTORS, "music.txt"), os.path.join(folder, "first.txt")
-    with open(shipped, encoding="ascii") as file, open(first, "w", encoding="ascii") as out:
+    first = os.path.join(folder, "first.txt")
+    with open(lists.SHIPPED, encoding="ascii") as file, open(first, "w", encoding="ascii") as out:
         out.writelines([line for line in file if line.split("#")[0].strip()][:8])
     own = own_list(form, seconds)
     with open(own, encoding="ascii") as file:
         made = file.readlines()[-1].strip("# \n")
     yield "no list", []
-    for name, path in (("8 lines of music.txt", first), ("music.txt", shipped), (f"a list of its own, {made}", own)):
+    for name, path in (("8 lines of music.txt", first), ("music.txt", lists.SHIPPED), (f"a list of its own, {made}", own)):
         yield name, ["--predictors", path]
 
 

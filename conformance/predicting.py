@@ -5,6 +5,7 @@ counted by predictors/price, which shares no code with the program.
 """
 import os
 import subprocess
+import sys
 
 import damage
 import encoding
@@ -19,9 +20,10 @@ from program import Wrong, expect, read
 from reading import model_case
 from sounds import LENGTH
 
+sys.path.append(os.path.join(program.ROOT, "predictors"))
+import lists  # noqa: E402
+
 GROUP = "encode --predictors"
-FOLDER = os.path.join(program.ROOT, "predictors")
-SHIPPED = os.path.join(FOLDER, "music.txt")
 MOST_BYTES = 1 << 20
 """The most bytes of a list."""
 SMALL = b"# a straight line\n3 0 2 -1\n\n12 10 2047 -1024 # nearly\n1 0 -1\n"
@@ -55,7 +57,7 @@ def sounds(made, quick):
 
 def lists_for(sound, more, bench):
     """Lists that this sound may have: names and paths."""
-    yield "shipped", SHIPPED
+    yield "shipped", lists.SHIPPED
     yield "small", bench.put(SMALL, ".txt")
     yield "full", bench.put(FULL, ".txt")
     if more or sound.rate > 48000:
@@ -65,8 +67,7 @@ def lists_for(sound, more, bench):
 def own_list(wav, bench):
     """A list made of the sound itself."""
     path = bench.path(".txt")
-    words = [os.path.join(FOLDER, "make"), "--count", "8", "--candidates", "40", "--frames", "8", path, wav]
-    done = subprocess.run(words, capture_output=True, text=True, check=False)
+    done = subprocess.run(lists.making(path, wav, count=8, candidates=40, frames=8), capture_output=True, text=True, check=False)
     if done.returncode != 0:
         raise Wrong(f"predictors/make makes no list: {done.stderr[-200:]}")
     return path
@@ -90,7 +91,7 @@ def list_case(sound, block, more, listed, made, bench):
 
 def ogg_case(sound, block, more, made, bench):
     """The Ogg file has the frames of the native one."""
-    profile, raw, words = LAX if more else SUBSET, made.path(sound.name + ".raw"), ["--block", str(block), *more, "--predictors", SHIPPED]
+    profile, raw, words = LAX if more else SUBSET, made.path(sound.name + ".raw"), ["--block", str(block), *more, "--predictors", lists.SHIPPED]
     native = encoding.encode(sound, raw, bench, *words)
     path = encoding.encode(sound, raw, bench, *words, "--ogg", "A=b", suffix=".oga")
     encoding.given_back(path, raw, sound, profile)
@@ -217,7 +218,7 @@ def taken_case(text, words, bench):
 def damage_case(made, bench, container):
     """What is written is damaged in many ways: the program answers as the model."""
     sound = made.prepare(outside.sound("tone", length=900))
-    path = encoding.encode(sound, made.path(sound.name + ".raw"), bench, "--block", "256", "--predictors", SHIPPED, *container,
+    path = encoding.encode(sound, made.path(sound.name + ".raw"), bench, "--block", "256", "--predictors", lists.SHIPPED, *container,
                            suffix=".oga" if container else ".flac")
     data = read(path)
     for _, copy in damage.pages(data) if container else damage.everything(data, model.reader_of(data, LAX).places, sound.name, 20):

@@ -1,11 +1,15 @@
 """Lists of linear predictors, and their text: a predictor a line, `PRECISION SHIFT C1 C2 ..`, the coefficient for the nearest
 sample first. `#` starts a comment. README.md has the rules."""
+import os
 import re
 from collections import namedtuple
 
 Predictor = namedtuple("Predictor", "precision shift coefficients")
 MOST = 64
 """The most predictors of a list."""
+HERE = os.path.dirname(os.path.abspath(__file__))
+SHIPPED = os.path.join(HERE, "music.txt")
+"""The list that comes with the program."""
 
 
 class Refused(Exception):
@@ -77,3 +81,8 @@ def line_of(predictor):
 def text_of(predictors, comments=()):
     """The text of a list, after comments."""
     return "".join(f"{line}\n" for line in [*(f"# {one}" for one in comments), *map(line_of, predictors)])
+
+
+def making(path, sound, **options):
+    """The command that makes a list of a sound, a WAV file, by `make` with these options."""
+    return [os.path.join(HERE, "make"), *(word for name, value in options.items() for word in (f"--{name}", str(value))), path, sound]

@@ -1,5 +1,5 @@
 -- No stream is longer than the bound.
-use Rattle.std.proofs.Common.{◌≡◌, ◌∙◌, refl, sym, ap, subst, ℕ, ◌+◌, ◌*◌, ◌/◌, ◌^◌, ◌≤◌, ◌<◌, min, max, arith, div-le_self, ℤ, Bool, true, false, cond, nat_eq, nat_le, List, length, Option, Some, None}
+use Rattle.std.proofs.Common.{◌≡◌, ◌∙◌, refl, sym, ap, subst, ℕ, ◌+◌, ◌*◌, ◌/◌, ◌^◌, ◌≤◌, ◌<◌, min, max, arith, mul-le-mul_right, div-le_self, ℤ, Bool, true, false, cond, nat_eq, List, length, Option, Some, None}
 use Rattle.std.specs.Prelude.{option_map}
 use Rattle.std.specs.Option.{option_or}
 use Rattle.std.proofs.lemmas.Nat.{mul-le}
@@ -9,6 +9,7 @@ use Rattle.flac_meta.specs.Listed.{list_fault, info_seen}
 use Rattle.flac_frame.specs.Audio.{Sound}
 use Rattle.flac_frame.specs.Setup as setup
 use Rattle.flac_native.specs.Given.{plan_fault}
+use Rattle.flac_native.specs.Message.{sample_width}
 use Rattle.flac_native.proofs.Planned.{planned}
 use Rattle.flac_ogg.specs.RoundTrip.{EncodedBytes}
 use Rattle.flac_c.specs.Bound.{text_bytes, texts_bytes, raw_bytes, parts_of, table_bytes, native_bytes, bytes_among, bound_of, IsEnough}
@@ -59,11 +60,8 @@ module _ (s : FlacProvedSettings) (t : FlacProvedTags) (samples : List ℤ) (str
 
 -- ---- the bound is a number of 64 bits
 
-raw_most : (count : ℕ) (a b c : Bool) → cond a count (cond b (2 * count) (cond c (3 * count) (4 * count))) ≤ 4 * count
-raw_most count true b c = omega arith
-raw_most count false true c = omega arith
-raw_most count false false true = omega arith
-raw_most count false false false = omega arith
+raw_most : (bits count : ℕ) → raw_bytes bits count ≤ 4 * count
+raw_most bits count = let narrow : sample_width (max 1 (min bits 32)) ≤ 4 = omega arith in mul-le-mul_right count narrow
 
 either : (b : Bool) (n : ℕ) → cond b 0 n ≤ n
 either true n = omega arith
@@ -83,9 +81,9 @@ among_most s t samples stream is =
     let short : each < 2 ^ 36 = let k = is.can.sound.short in omega (arith, k, each_is s samples is.can) in
     let rows : each * s.channels ≤ each * 8 = let k = mul-le each s.channels each 8 (omega arith) (some_channels s samples is.can).1 in k in
     let samples_few : count ≤ 8 * each = omega (arith, all_are s samples is.can, rows) in
-    let parts_few : (size : ℕ) → parts_of each size ≤ each + 1 = λ size. omega (arith, div-le_self each (max size 1)) in
+    let parts_few : (size : ℕ) → parts_of each size ≤ each + 1 = λ size. omega (arith, mul-le-mul_right, div-le_self each (max size 1)) in
     let table : table_bytes each s.seek_every ≤ 4 + 18 * (each + 1) = omega (arith, either (nat_eq s.seek_every 0) (4 + 18 * parts_of each s.seek_every), parts_few s.seek_every) in
-    let raw : raw_bytes s.bits count ≤ 4 * count = raw_most count (nat_le s.bits 8) (nat_le s.bits 16) (nat_le s.bits 24) in
+    let raw : raw_bytes s.bits count ≤ 4 * count = raw_most s.bits count in
     bytes_most native (text_bytes t.vendor + texts_bytes t.list.now) (table_bytes each s.seek_every) (raw_bytes s.bits count) parts each count (cond (nat_eq s.ogg 0) 0 (native / 200 + 64 * (parts + 2)))
     (omega arith) (omega (arith, comments.0, comments.1)) table raw samples_few (parts_few s.block_size) (either (nat_eq s.ogg 0) (native / 200 + 64 * (parts + 2))) short
 

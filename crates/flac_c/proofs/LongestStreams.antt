@@ -1,8 +1,6 @@
 -- How long a native stream is at most (RFC 9639, sections 6 to 9).
-use Rattle.std.proofs.Common.{◌≡◌, ◌∙◌, refl, ap, subst, ℕ, zero, suc, ◌+◌, ◌*◌, ◌/◌, ◌≤◌, ◌<◌, arith, mul_comm, mul_assoc, mul-le-mul_right, div-add-mod', ℤ, pos, Bool, true, false, nat_le, inl, inr, List, [], ◌∷◌, ◌++◌, length, length-append, get_or, None}
+use Rattle.std.proofs.Common.{◌≡◌, ◌∙◌, refl, ap, subst, ℕ, zero, suc, ◌+◌, ◌*◌, ◌/◌, ◌≤◌, ◌<◌, min, max, arith, mul_comm, mul_assoc, mul-le-mul_right, div-add-mod', ℤ, pos, Bool, false, List, [], ◌∷◌, ◌++◌, length, length-append, get_or, None}
 use Rattle.std.proofs.Math.ListN.{get_or-append}
-use Rattle.std.proofs.lemmas.Bool.{cases_lt}
-use Rattle.std.proofs.lemmas.Bool.Decides.{nat_tests}
 use Rattle.std.proofs.lemmas.Nat.{mul-le}
 use Rattle.flac_bits.specs.Bits.{unsigned, is_nil}
 use Rattle.flac_bits.specs.Forms.{IsBytes, joined}
@@ -15,6 +13,7 @@ use Rattle.flac_meta.specs.declared.block.Block.TheVariants.{StreamInfo, VorbisC
 use Rattle.flac_frame.specs.Audio.{Sound, samples_each}
 use Rattle.flac_header.specs.declared.subset.Profile.TheVariants.{Subset}
 use Rattle.flac_frame.proofs.Sounds.{depth_small}
+use Rattle.flac_native.specs.Message.{sample_width}
 use Rattle.flac_native.specs.Given.{Cut, blocks_in, info_of, sound_message}
 use Rattle.flac_native.specs.Seeking.{points_of, table_of}
 use Rattle.flac_native.specs.Writing.{AreFrames, AreLeastFrames, blocks_spelling, stream_spelling}
@@ -54,43 +53,11 @@ module _ (samples : List ℤ) (count : ℕ) where
 
 -- ---- how many bytes they have
 
-fewer : (bits most count : ℕ) → bits ≤ most → bits * count ≤ most * count
-fewer bits most count le = mul-le-mul_right count le
-
-raw_8 : (bits count : ℕ) → bits ≤ 8 → raw_bytes bits count ≡ count
-raw_8 bits count le = let a : nat_le bits 8 ≡ true = grind (arith, nat_tests) in rw a refl
-
-raw_16 : (bits count : ℕ) → 8 < bits → bits ≤ 16 → raw_bytes bits count ≡ 2 * count
-raw_16 bits count gt le =
-    let a : nat_le bits 8 ≡ false = grind (arith, nat_tests) in
-    let b : nat_le bits 16 ≡ true = grind (arith, nat_tests) in
-    rw (a, b) refl
-
-raw_24 : (bits count : ℕ) → 16 < bits → bits ≤ 24 → raw_bytes bits count ≡ 3 * count
-raw_24 bits count gt le =
-    let a : nat_le bits 8 ≡ false = grind (arith, nat_tests) in
-    let b : nat_le bits 16 ≡ false = grind (arith, nat_tests) in
-    let c : nat_le bits 24 ≡ true = grind (arith, nat_tests) in
-    rw (a, b, c) refl
-
-raw_32 : (bits count : ℕ) → 24 < bits → raw_bytes bits count ≡ 4 * count
-raw_32 bits count gt =
-    let a : nat_le bits 8 ≡ false = grind (arith, nat_tests) in
-    let b : nat_le bits 16 ≡ false = grind (arith, nat_tests) in
-    let c : nat_le bits 24 ≡ false = grind (arith, nat_tests) in
-    rw (a, b, c) refl
-
 raw_enough : (bits count : ℕ) → bits ≤ 32 → bits * count ≤ 8 * raw_bytes bits count
-raw_enough bits count few = elim (cases_lt 8 bits) [
-  | inr a ↦ omega (arith, raw_8 bits count a, fewer bits 8 count a)
-  | inl a ↦ elim (cases_lt 16 bits) [
-    | inr b ↦ omega (arith, raw_16 bits count a b, fewer bits 16 count b)
-    | inl b ↦ elim (cases_lt 24 bits) [
-      | inr c ↦ omega (arith, raw_24 bits count b c, fewer bits 24 count c)
-      | inl c ↦ omega (arith, raw_32 bits count c, fewer bits 32 count few)
-    ]
-  ]
-]
+raw_enough bits count few =
+    let width : ℕ = sample_width (max 1 (min bits 32)) in
+    let wide : bits ≤ 8 * width = omega arith in
+    omega (arith, mul-le-mul_right count wide, mul_assoc 8 width count)
 
 turned : (n bits total count : ℕ) → total * n ≡ count → n * bits * total ≡ bits * count
 turned n bits total count e = ap (λ k. k * total) (mul_comm n bits) ∙ mul_assoc bits n total ∙ ap (λ k. bits * k) (mul_comm n total ∙ e)

@@ -27,15 +27,15 @@ abbrev pub in_c : Option (Place × Why) → FlacProvedFault
 in_c None = record { number = 0; place = 0; index = 0 }
 in_c (Some f) = record { number = number_of f.1; place = kind_of f.0; index = index_of f.0 }
 
--- what C is told is an outcome of which this holds
+-- the fault is that of an outcome of which this holds
 abbrev pub IsAnswered : (Option (Place × Why) → Type 0) → FlacProvedFault → Type 0
 IsAnswered holds fault = (outcome : Option (Place × Why)) × holds outcome × (fault ≡ in_c outcome)
 
--- as much of a list as there is room for, and the rest of the buffer as it was
+-- as much of a list as there is room for, and the rest of the buffer unchanged
 abbrev pub copied : {X : Type 0} → (list out : List X) → List X
 copied list out = take (min (length list) (length out)) list ++ drop (min (length list) (length out)) out
 
--- so it was written, and its length is told
+-- this was written, and its length is reported
 abbrev pub IsCopied : {X : Type 0} → (text old new : List X) → ℕ → Type 0
 IsCopied text old new told = (new ≡ copied text old) × (told ≡ length text)
 
@@ -43,6 +43,6 @@ IsCopied text old new told = (new ≡ copied text old) × (told ≡ length text)
 abbrev pub place_texts : List (List ℕ)
 place_texts = [] ∷ codes "marker" ∷ codes "block" ∷ codes "frame" ∷ codes "page" ∷ codes "end" ∷ []
 
--- the name of a kind of place, empty where there is no such kind
+-- the name of a kind of place, empty if there is no such kind
 abbrev pub place_text : ℕ → List ℕ
 place_text kind = slice_index_or place_texts kind []

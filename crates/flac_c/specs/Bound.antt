@@ -1,6 +1,7 @@
 -- A number of bytes that has room for an encoded stream.
-use Rattle.std.specs.Prelude.{◌≡◌, ℕ, ◌+◌, ◌*◌, ◌/◌, ◌≤◌, min, max, cond, nat_eq, nat_le, ℤ, List, length}
+use Rattle.std.specs.Prelude.{◌≡◌, ℕ, ◌+◌, ◌*◌, ◌/◌, ◌≤◌, min, max, cond, nat_eq, ℤ, List, length}
 use Rattle.std.specs.List.{fold}
+use Rattle.flac_native.specs.Message.{sample_width}
 use Rattle.flac_c.specs.declared.tags.FlacProvedText.{FlacProvedText}
 use Rattle.flac_c.specs.declared.tags.FlacProvedTags.{FlacProvedTags}
 use Rattle.flac_c.specs.declared.encoding.FlacProvedSettings.{FlacProvedSettings}
@@ -13,11 +14,11 @@ text_bytes t = 4 + min (length t.bytes.now) 16777216
 abbrev pub texts_bytes : List FlacProvedText → ℕ
 texts_bytes texts = fold (λ n t. n + text_bytes t) 0 texts
 
--- samples as they are, each in whole bytes
+-- samples as they are, each in the 1 to 4 whole bytes that hold its bits
 abbrev pub raw_bytes : (bits count : ℕ) → ℕ
-raw_bytes bits count = cond (nat_le bits 8) count (cond (nat_le bits 16) (2 * count) (cond (nat_le bits 24) (3 * count) (4 * count)))
+raw_bytes bits count = sample_width (max 1 (min bits 32)) * count
 
--- how many parts of so many samples there are at most; 0 stands for 1
+-- how many parts of `size` samples there are at most; 0 stands for 1
 abbrev pub parts_of : (each size : ℕ) → ℕ
 parts_of each size = each / max size 1 + 1
 
@@ -39,6 +40,6 @@ bytes_among s count each t = native_bytes s count each t + page_bytes s each (na
 abbrev pub bound_of : FlacProvedSettings → (count : ℕ) → FlacProvedTags → ℕ
 bound_of s count t = min (bytes_among s count (count / max s.channels 1) t) 18446744073709551615
 
--- no stream of so many samples by these settings and with these comments has more bytes
+-- no stream of `count` samples by these settings and with these comments has more bytes
 abbrev pub IsEnough : FlacProvedSettings → (count : ℕ) → FlacProvedTags → ℕ → Type 0
 IsEnough s count t bytes = (samples : List ℤ) (stream : List ℕ) → length samples ≡ count → IsEncoded s samples t stream → length stream ≤ bytes

@@ -1,5 +1,5 @@
 -- Where a native stream is read, frame by frame (RFC 9639, sections 8.2, 8.5 and 9).
-use Rattle.std.specs.Prelude.{◌≡◌, ◌⊎◌, ℕ, ◌+◌, ◌*◌, ◌<◌, ◌≤◌, min, cond, Bool, true, ℤ, List, [], ◌∷◌, ◌++◌, length, take, drop, replicate, Option, Some, None}
+use Rattle.std.specs.Prelude.{◌≡◌, ◌⊎◌, ℕ, ◌+◌, ◌<◌, ◌≤◌, min, Bool, true, ℤ, List, [], ◌∷◌, ◌++◌, length, take, drop, replicate, Option, Some, None}
 use Rattle.flac_bits.specs.Bits.{bits_of}
 use Rattle.flac_bits.specs.Items.{Joined, Stream, after}
 use Rattle.flac_bits.specs.Meaning.{Spells}
@@ -8,7 +8,7 @@ use Rattle.flac_bits.specs.declared.why.Why.{Why}
 use Rattle.flac_bits.specs.declared.why.Why.TheVariants.{Memory, Truncated, BadStreamInfo}
 use Rattle.flac_meta.specs.Info.{Info, KeepsRules}
 use Rattle.flac_header.specs.declared.subset.Profile.TheVariants.{Subset}
-use Rattle.flac_frame.specs.Frame.{Frame, frame}
+use Rattle.flac_frame.specs.Frame.{Frame, frame, first_sample}
 use Rattle.flac_frame.specs.Interleaved.{interleaved}
 use Rattle.flac_native.specs.Decoding.{beginning}
 use Rattle.flac_native.specs.Resuming.{untold}
@@ -36,16 +36,12 @@ info_of i = record {
   digest = replicate 16 0;
 }
 
--- the number of the first sample of a frame, by its header: coded there, or as many blocks before it as the number of the frame (section 9.1.5)
-abbrev pub first_of : FlacProvedInfo → Frame → ℕ
-first_of i f = cond f.variable f.number (f.number * i.greatest_block)
-
--- the cursor behind a frame that ends at an offset; counts stop at 2^64 - 1
+-- the cursor after a frame that ends at an offset; counts stop at 2^64 - 1
 abbrev pub passed : FlacProvedCursor → Frame → (end : ℕ) → FlacProvedCursor
 passed c f end = record {
   offset = end;
   frames = min (c.frames + 1) 18446744073709551615;
-  sample = min (first_of c.info f + f.size) 18446744073709551615;
+  sample = min (first_sample c.info.greatest_block f + f.size) 18446744073709551615;
   info = c.info;
 }
 
@@ -63,8 +59,8 @@ pub record IsFrameAt (i : Info) (bytes : List ℕ) (f : Frame) (n : ℕ) : Type 
 abbrev pub NoFrameAt : Info → List ℕ → Why → Type 0
 NoFrameAt i bytes why = StopsIn (Some 16777215) (frame Subset i None) (beginning Truncated) (bits_of bytes) why
 
--- So many samples it has. Where there is room for all of them they are at the front of the buffer, and the cursor is behind the frame, which ends at this offset;
--- where there is not, both are as they were.
+-- `len` is the number of its samples. If there is room for all of them, they are at the front of the buffer, and the cursor is after the frame, which ends at this
+-- offset; otherwise both are unchanged.
 pub record HandsOver (f : Frame) (end : ℕ) (old new : FlacProvedCursor) (out written : List ℤ) (len : ℕ) : Type 0 where
   pub many : len ≡ length (interleaved f)
   pub given : len ≤ length out → (written ≡ copied (interleaved f) out) × (new ≡ passed old f end)
@@ -72,7 +68,7 @@ pub record HandsOver (f : Frame) (end : ℕ) (old new : FlacProvedCursor) (out w
 
 -- ---- a call
 
--- The stream is over at the cursor, or a frame is there and is handed over.
+-- The stream is over at the cursor, or a frame is there and its samples are written.
 abbrev pub GivesNext : List ℕ → (old new : FlacProvedCursor) → (out written : List ℤ) → ℕ → Type 0
 GivesNext bytes old new out written len =
     ((old.offset ≡ length bytes) × (new ≡ old) × (written ≡ out) × (len ≡ 0))
@@ -95,10 +91,10 @@ pub record StandsIn (bytes : List ℕ) (c : FlacProvedCursor) (front more : List
   pub told : (after grammar (opening Subset) front).stand.info ≡ Some info
   pub same : info_of c.info ≡ untold info
 
--- The bytes are a native stream of these items, and the cursor stands in it behind just the metadata.
+-- The bytes are a native stream of these items, and the cursor is at its first frame, right after the metadata.
 abbrev pub StartsIn : List ℕ → FlacProvedCursor → List Piece → Type 0
 StartsIn bytes c items = (front : List Piece) × (more : List Piece) × (items ≡ front ++ more) × (are_metadata front ≡ true) × StandsIn bytes c front more
 
--- Of a stream the next frame is handed over, and the cursor behind it stands in the same stream.
+-- Of a stream the samples of the next frame are written, and the cursor after it is in the same stream.
 abbrev pub GoesOn : List ℕ → (old new : FlacProvedCursor) → (out written : List ℤ) → ℕ → (front more : List Piece) → Frame → Type 0
 GoesOn bytes old new out written len front more f = (end : ℕ) × HandsOver f end old new out written len × StandsIn bytes (passed old f end) (front ++ framed f ∷ []) more

@@ -20,7 +20,7 @@ use Rattle.flac_c.specs.declared.encoding.FlacProvedSettings.{FlacProvedSettings
 
 -- ---- what is given
 
--- the samples as channels of as many samples each
+-- the samples as channels of the same number of samples
 abbrev pub sound_of : FlacProvedSettings → List ℤ → Sound
 sound_of s samples = record { profile = Subset; rate = s.rate; bits = s.bits; channels = channels_at samples s.channels (length samples / s.channels) s.channels }
 
@@ -37,13 +37,13 @@ texts_of texts = map (λ t. t.bytes.now) texts
 abbrev pub comments_of : FlacProvedTags → Comments
 comments_of t = record { vendor = t.vendor.bytes.now; list = texts_of t.list.now }
 
--- the one block behind STREAMINFO (RFC 9639, section 8.6)
+-- the one block after STREAMINFO (RFC 9639, section 8.6)
 abbrev pub blocks_of : FlacProvedTags → List Block
 blocks_of t = VorbisComment (comments_of t) ∷ []
 
 -- ---- why it is not encoded
 
--- Why these are no samples of 1 to 8 channels: not as many of each, or what no stream of the streamable subset tells.
+-- Why these are no samples of 1 to 8 channels: not the same number of each, or what no stream of the streamable subset has.
 unfoldable pub samples_fault : FlacProvedSettings → List ℤ → Option SetupFault
 samples_fault s samples =
     cond (nat_eq s.channels 0 || nat_lt 8 s.channels) (Some BadChannels)
@@ -58,7 +58,7 @@ stream_fault s t a =
 
 -- ---- what is made of it
 
--- they are samples that can be encoded, as many of each channel
+-- they are samples that can be encoded, the same number of each channel
 pub record CanBeEncoded (s : FlacProvedSettings) (samples : List ℤ) : Type 0 where
   pub whole : length samples % s.channels ≡ 0
   pub sound : IsSound (sound_of s samples)

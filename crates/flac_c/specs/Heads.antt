@@ -13,7 +13,7 @@ use Rattle.flac_native.specs.declared.fault.Place.TheVariants as place
 use Rattle.flac_ogg.specs.Verifying.{bytes_reading, Verifies}
 use Rattle.flac_c.specs.declared.info.FlacProvedInfo.{FlacProvedInfo}
 
--- the comments behind a block (RFC 9639, section 8.6)
+-- the comments after a block (RFC 9639, section 8.6)
 abbrev pub comments_after : Option Comments → Block → Option Comments
 comments_after comments (VorbisComment c) = Some c
 comments_after comments other = comments
@@ -31,7 +31,7 @@ comments_from comments (marked ∷ xs) = comments_from comments xs
 comments_from comments (block last b ∷ xs) = comments_from (comments_after comments b) xs
 comments_from comments (framed f ∷ xs) = comments_from comments xs
 
--- whether a frame is among items, or else was before; no metadata block comes behind one
+-- whether a frame is among items, or else was before; no metadata block comes after one
 abbrev pub frames_from : Bool → List Piece → Bool
 frames_from over [] = over
 frames_from over (marked ∷ xs) = frames_from over xs
@@ -42,12 +42,12 @@ frames_from over (framed f ∷ xs) = frames_from true xs
 abbrev pub BeginsBy : List ℕ → Bool → Option Info → Option Comments → Type 0
 BeginsBy bytes over info comments = (items : List Piece) × (bytes_reading Subset bytes).begins items × (over ≡ frames_from false items) × (info ≡ info_from None items) × (comments ≡ comments_from None items)
 
--- bytes that are items of this STREAMINFO and these comments, or are refused behind just these
+-- bytes that are items of this STREAMINFO and these comments, or are refused right after these
 abbrev pub EndsBy : List ℕ → Option Info → Option Comments → Type 0
 EndsBy bytes info comments =
     (items : List Piece) × ((bytes_reading Subset bytes).whole items ⊎ ((at : Place) × (why : Why) × (bytes_reading Subset bytes).refused items at why)) × (info ≡ info_from None items) × (comments ≡ comments_from None items)
 
--- All blocks before the first frame tell this STREAMINFO and these comments; or, where no frame comes, all blocks that are there.
+-- All blocks before the first frame have this STREAMINFO and these comments; or, if no frame comes, all blocks that are there.
 abbrev pub Begins : List ℕ → Option Info → Option Comments → Type 0
 Begins bytes info comments = ((n : ℕ) × BeginsBy (take n bytes) true info comments) ⊎ EndsBy bytes info comments
 

@@ -13,7 +13,7 @@ use Rattle.flac_native.specs.Stream.{Piece, marked, block, framed}
 abbrev pub width_of : (asked depth : ℕ) → ℕ
 width_of asked depth = cond (nat_eq asked 0) (sample_width depth) asked
 
--- how many bits a sample has behind this block (RFC 9639, section 8.2)
+-- how many bits a sample has after this block (RFC 9639, section 8.2)
 abbrev pub depth_after : ℕ → Block → ℕ
 depth_after depth (StreamInfo info) = info.depth
 depth_after depth other = depth
@@ -22,7 +22,7 @@ depth_after depth other = depth
 abbrev pub frame_bytes : (asked depth : ℕ) → Frame → List ℕ
 frame_bytes asked depth f = rows_bytes (width_of asked depth) f.channels f.size 0
 
--- the samples of all frames, behind blocks that told this depth
+-- the samples of all frames, after blocks that state this depth
 abbrev pub samples_from : (asked depth : ℕ) → List Piece → List ℕ
 samples_from asked depth [] = []
 samples_from asked depth (marked ∷ xs) = samples_from asked depth xs

@@ -1,11 +1,12 @@
 -- Where the frames of a native stream begin, and where its seek table says that one begins (RFC 9639, sections 6, 8 and 8.5).
-use Rattle.std.specs.Prelude.{◌≡◌, ◌≢◌, ◌⊎◌, ℕ, ◌+◌, ◌≤◌, min, Bool, true, false, not, ◌&&◌, cond, nat_eq, nat_le, List, [], ◌∷◌, length, take, Option, Some, None}
-use Rattle.std.specs.List.{fold}
+use Rattle.std.specs.Prelude.{◌≡◌, ◌≢◌, ◌⊎◌, ℕ, ◌+◌, ◌≤◌, min, Bool, true, false, List, [], ◌∷◌, length, take, Option, Some, None}
+use Rattle.std.specs.Option.{option_or}
 use Rattle.flac_bits.specs.Bits.{bits_of}
 use Rattle.flac_bits.specs.Items.{Joined, Refused, after}
 use Rattle.flac_bits.specs.declared.why.Why.{Why}
 use Rattle.flac_bits.specs.declared.why.Why.TheVariants.{Memory, Truncated, NotStreamInfoFirst}
 use Rattle.flac_meta.specs.Info.{Info}
+use Rattle.flac_meta.specs.SeekTable.{last_before}
 use Rattle.flac_meta.specs.declared.block.Block.{Block}
 use Rattle.flac_meta.specs.declared.block.Block.TheVariants.{SeekTable}
 use Rattle.flac_meta.specs.declared.comments.Comments.{Comments}
@@ -28,7 +29,7 @@ are_metadata (marked ∷ xs) = are_metadata xs
 are_metadata (block last b ∷ xs) = are_metadata xs
 are_metadata (framed f ∷ xs) = false
 
--- The first n bytes are these parts: the marker and all metadata blocks. Frames come behind them.
+-- The first n bytes are these parts: the marker and all metadata blocks. Frames come after them.
 pub record IsHead (bytes : List ℕ) (n : ℕ) (parts : List Piece) : Type 0 where
   pub within : n ≤ length bytes
   pub spelled : Joined grammar (opening Subset) (beginning Truncated) parts (bits_of (take n bytes))
@@ -37,16 +38,9 @@ pub record IsHead (bytes : List ℕ) (n : ℕ) (parts : List Piece) : Type 0 whe
 
 -- ---- the seek table
 
--- the point names a frame at or before the sample of this number: all ones stand for no frame (section 8.5.1)
-abbrev pub is_before : ℕ → SeekPoint → Bool
-is_before sample p = nat_le p.sample sample && not (nat_eq p.sample 18446744073709551615)
-
 -- the last point at or before a sample, or else the one that was there
-abbrev pub point_among : ℕ → Option SeekPoint → List SeekPoint → Option SeekPoint
-point_among sample best points = fold (λ found p. cond (is_before sample p) (Some p) found) best points
-
 abbrev pub point_after : ℕ → Option SeekPoint → Block → Option SeekPoint
-point_after sample best (SeekTable points) = point_among sample best points
+point_after sample best (SeekTable points) = option_or (last_before sample points) best
 point_after sample best other = best
 
 abbrev pub point_from : ℕ → Option SeekPoint → List Piece → Option SeekPoint
@@ -70,7 +64,7 @@ at_point (Some p) c = record c { offset = min (c.offset + p.offset) 184467440737
 abbrev pub StandsFirst : List ℕ → FlacProvedCursor → Type 0
 StandsFirst bytes c = (parts : List Piece) × (n : ℕ) × (i : Info) × IsHead bytes n parts × ((after grammar (opening Subset) parts).stand.info ≡ Some i) × (c ≡ first_frame i (comments_from None parts) n)
 
--- the cursor is where the seek table says that the frame of the last point at or before a sample is; at the first frame where there is no such point
+-- the cursor is where the seek table says that the frame of the last point at or before a sample is; at the first frame if there is no such point
 abbrev pub StandsBefore : List ℕ → ℕ → FlacProvedCursor → Type 0
 StandsBefore bytes sample c =
     (parts : List Piece) × (n : ℕ) × (i : Info) × IsHead bytes n parts × ((after grammar (opening Subset) parts).stand.info ≡ Some i)

@@ -5,6 +5,7 @@ ghost use Rattle.flac_c.specs.Bound.{text_bytes, texts_bytes, raw_bytes, parts_o
 
 use crate::encoding::FlacProvedSettings;
 use crate::tags::{FlacProvedTags, FlacProvedText};
+use flac_native::sample_width;
 
 /// Bytes of a text and its length. A text that is longer than a block counts as 2^24 bytes.
 fn text_bytes(text: &FlacProvedText<'_>) -> u64
@@ -26,21 +27,12 @@ fn texts_bytes(texts: &[FlacProvedText<'_>]) -> u128
     sum
 }
 
-/// Bytes of `count` samples of `bits` bits, in whole bytes.
+/// Bytes of `count` samples of `bits` bits, in whole bytes: 1 to 4 for each.
 fn raw_bytes(bits: u32, count: u64) -> u128
     ensures value { result ≡ raw_bytes bits count }
     ensures few { result ≤ 4 * count }
 {
-    let count = u128::from(count);
-    if bits <= 8 {
-        count
-    } else if bits <= 16 {
-        2 * count
-    } else if bits <= 24 {
-        3 * count
-    } else {
-        4 * count
-    }
+    sample_width(bits.clamp(1, 32)) as u128 * u128::from(count)
 }
 
 /// An upper bound of how many parts of this size there are.
@@ -95,8 +87,8 @@ fn bytes_among(
     }
 }
 
-/// A number of bytes that is enough for the buffer of `flac_proved_encode`: no stream of `count` samples by these settings and with these comments is longer. It is at
-/// most 2^64 - 1, and tells nothing of settings that are refused.
+/// A number of bytes that is enough for the buffer of `flac_proved_encode`: no stream of `count` samples by these
+/// settings and with these comments is longer. It is at most 2^64 - 1, and says nothing of settings that are refused.
 #[unsafe(no_mangle)]
 pub extern "C" fn flac_proved_bound(
     settings: &FlacProvedSettings,

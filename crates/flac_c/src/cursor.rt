@@ -1,6 +1,6 @@
 //! A place in a native stream that is read frame by frame.
 
-ghost use Rattle.std.specs.Prelude.{◌≡◌, IfOk, IfErr, drop};
+ghost use Rattle.std.specs.Prelude.{◌≡◌, ◌≤◌, IfOk, IfErr, drop};
 ghost use Rattle.flac_meta.specs.Info.{KeepsRules};
 ghost use Rattle.flac_frame.specs.Lent.{frame_of};
 ghost use Rattle.flac_c.specs.Cursors.{info_of, passed};
@@ -68,19 +68,14 @@ pub(crate) fn bytes_from(bytes: &[u8], offset: u64) -> &[u8]
 
 /// The cursor after a frame that ends at an offset.
 pub(crate) fn passed(cursor: &FlacProvedCursor, frame: &FrameView<'_>, end: u64) -> FlacProvedCursor
+    requires { cursor.now.info.greatest_block ≤ 65535 }
     ensures { result ≡ passed cursor.now (frame_of frame.now) end }
 {
-    let number = u128::from(frame.number());
-    let first = if frame.variable() {
-        number
-    } else {
-        number * u128::from(cursor.info.greatest_block)
-    };
-    let behind = first + frame.len() as u128;
+    let first = frame.first_sample(cursor.info.greatest_block as u16);
     FlacProvedCursor {
         offset: end,
         frames: cursor.frames.saturating_add(1),
-        sample: behind.min(u128::from(u64::MAX)) as u64,
+        sample: first.saturating_add(frame.len() as u64),
         info: cursor.info,
     }
 }

@@ -18,7 +18,7 @@ use crate::texts::copy;
 use flac_bits::{Memory, Why};
 use flac_frame::FrameView;
 use flac_meta::Block;
-use flac_native::{Fault, Profile, Sink, SinkFault, put_rows};
+use flac_native::{Fault, Profile, Sink, SinkFault, put_rows, sample_width};
 use flac_ogg::decode_any;
 use std::alloc::{AllocError, Global};
 
@@ -79,7 +79,7 @@ impl Sink for Samples {
 
     fn frame(&mut self, frame: &FrameView<'_>) -> Result<(), SinkFault> {
         let width = if self.asked == 0 {
-            (usize::from(self.depth) + 7) / 8
+            sample_width(u32::from(self.depth))
         } else {
             self.asked
         };

@@ -99,7 +99,7 @@ fn decode_head(alloc: Global, bytes: &[u8], head: &mut Head) -> Result<(), Fault
     decode_any(alloc, &mut source, Profile::Subset, head)
 }
 
-/// Reads the head of the first bytes of more, and tells whether it is whole: a frame was read behind all blocks.
+/// Reads the head of the first `most` bytes, and returns whether it is whole: a frame was read after all blocks.
 fn read_front(alloc: Global, bytes: &[u8], most: usize, head: &mut Head) -> bool
     ensures begun { result ≡ true → Begins bytes.now head.new.info head.new.comments }
     ensures found { result ≡ true → is_some head.new.info ≡ true }

@@ -43,7 +43,7 @@ fn count_of(comments: &Option<Comments>) -> u64
     ensures { result ≡ count_of comments.now }
 {
     match comments {
-        Some(comments) => comments.list.as_slice().len() as u64,
+        Some(comments) => comments.len() as u64,
         None => 0,
     }
 }
@@ -78,14 +78,7 @@ fn copy_comment(comments: &Option<Comments>, index: usize, out: &mut [u8]) -> us
     ensures { IsCopied (comment_of comments.now index) out.old out.new result }
 {
     match comments {
-        Some(comments) => {
-            let list = comments.list.as_slice();
-            if index < list.len() {
-                copy(list[index].as_slice(), out)
-            } else {
-                copy(&[], out)
-            }
-        }
+        Some(comments) => copy(comments.get(index).unwrap_or(&[]), out),
         None => copy(&[], out),
     }
 }
@@ -95,7 +88,7 @@ fn copy_vendor(comments: &Option<Comments>, out: &mut [u8]) -> usize
     ensures { IsCopied (vendor_of comments.now) out.old out.new result }
 {
     match comments {
-        Some(comments) => copy(comments.vendor.as_slice(), out),
+        Some(comments) => copy(comments.vendor(), out),
         None => copy(&[], out),
     }
 }

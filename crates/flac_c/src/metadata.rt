@@ -6,7 +6,6 @@ ghost use Rattle.flac_bits.specs.Reading.{Counts, Reads};
 ghost use Rattle.flac_bits.specs.State.{fresh, started};
 ghost use Rattle.flac_meta.specs.Block.{block as block_layout};
 ghost use Rattle.flac_native.specs.Stream.{marker};
-ghost use Rattle.flac_c.specs.Starts.{point_among};
 ghost use Rattle.flac_c.specs.inner.Blocks.{Noted, IsFound, BlockRead, HeadRead, IsRefusedAt};
 
 use flac_bits::{BitReader, Memory, Why};
@@ -24,19 +23,6 @@ pub(crate) struct Metadata {
     pub(crate) sample: u64,
     /// The last seek point at or before it.
     pub(crate) point: Option<SeekPoint>,
-}
-
-/// The last of these points at or before a sample; `best` if there is none.
-fn point_among(points: &[SeekPoint], sample: u64, best: Option<SeekPoint>) -> Option<SeekPoint>
-    ensures { result ≡ point_among sample best points.now }
-{
-    let mut found = best;
-    for point in points {
-        if point.sample <= sample && point.sample != u64::MAX {
-            found = Some(*point);
-        }
-    }
-    found
 }
 
 impl Metadata {
@@ -57,12 +43,8 @@ impl Metadata {
     {
         match block {
             Block::StreamInfo(info) => self.info = Some(*info),
-            Block::VorbisComment(comments) => {
-                self.comments = comments.list.as_slice().len() as u64;
-            }
-            Block::SeekTable(table) => {
-                self.point = point_among(table.points(), self.sample, self.point);
-            }
+            Block::VorbisComment(comments) => self.comments = comments.len() as u64,
+            Block::SeekTable(table) => self.point = table.before(self.sample).or(self.point),
             _ => {}
         }
     }

@@ -49,6 +49,7 @@ fn hand_over(
     cursor: &mut FlacProvedCursor,
     out: &mut [i32],
 ) -> usize
+    requires { cursor.old.info.greatest_block ≤ 65535 }
     ensures { HandsOver (frame_of frame.now) end cursor.old cursor.new out.old out.new result }
 {
     let count = frame.channels() * frame.len();
@@ -71,6 +72,7 @@ fn step(
     requires channels { info.now.channels ≤ buffers.old.channels }
     requires block { info.now.greatest_block ≤ buffers.old.max_block }
     requires first { buffers.old.before ≡ None }
+    requires short { cursor.old.info.greatest_block ≤ 65535 }
     ensures found { IfOk result (λ len. (f : Frame) × (n : ℕ) × IsFrameAt info.now (drop cursor.old.offset bytes.now) f n
         × HandsOver f (cursor.old.offset + n) cursor.old cursor.new out.old out.new len) }
     ensures fault { IfErr result (λ why. NoFrameAt info.now (drop cursor.old.offset bytes.now) why) }

@@ -7,7 +7,7 @@ ghost use Rattle.flac_meta.specs.Listed.{list_fault, info_seen};
 ghost use Rattle.flac_c.specs.Encoded.{texts_of, comments_of, blocks_of};
 
 use flac_bits::Why;
-use flac_meta::{Block, BlockList, Bytes, Comments, Texts};
+use flac_meta::{BlockList, Bytes, Comments, Texts};
 use std::alloc::{AllocError, Global};
 
 /// A text: bytes of UTF-8, without a byte 0 at its end. That they are UTF-8 is not checked.
@@ -58,7 +58,5 @@ pub(crate) fn blocks_of(alloc: Global, tags: &FlacProvedTags<'_>) -> Result<Bloc
     ensures refused { IfErr result (λ e. (e ≡ Why.Memory) ⊎ (list_fault info_seen (blocks_of tags.now) ≡ Some e)) }
 {
     let comments = comments_of(alloc, tags)?;
-    let mut blocks = Vec::with_capacity(alloc, 1)?;
-    blocks.push(Block::VorbisComment(comments))?;
-    BlockList::new(blocks)
+    BlockList::of_comments(alloc, comments)
 }

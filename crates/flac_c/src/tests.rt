@@ -23,7 +23,8 @@ const STREAM: [u8; 57] = [
     0xbf, 0x01, 0x58, 0xfd, 0x01, 0x12, 0x8b, 0x5a, 0xb2,
 ];
 
-/// The same with a block of comments behind STREAMINFO (RFC 9639, section 8.6): of the program `abc`, `A=1` and `BC=23`.
+/// The same with a block of comments after STREAMINFO (RFC 9639, section 8.6): of the program `abc`, `A=1` and
+/// `BC=23`.
 const TAGGED: [u8; 88] = [
     0x66, 0x4c, 0x61, 0x43, 0x00, 0x00, 0x00, 0x22, 0x10, 0x00, 0x10, 0x00, 0x00, 0x00, 0x0f, 0x00,
     0x00, 0x0f, 0x0a, 0xc4, 0x42, 0xf0, 0x00, 0x00, 0x00, 0x01, 0x3e, 0x84, 0xb4, 0x18, 0x07, 0xdc,
@@ -38,7 +39,7 @@ const DIGEST: [u8; 16] = [
     0x3e, 0x84, 0xb4, 0x18, 0x07, 0xdc, 0x69, 0x03, 0x07, 0x58, 0x6a, 0x3d, 0xad, 0x1a, 0x2e, 0x0f,
 ];
 
-/// A fault of other fields than any call tells.
+/// A fault whose fields no call reports.
 fn unset() -> FlacProvedFault {
     FlacProvedFault {
         number: 99,
@@ -175,22 +176,23 @@ const SETTINGS: FlacProvedSettings = FlacProvedSettings {
     serial: 0,
 };
 
-/// What encoding returns, the length that it tells, and the first bytes.
+/// The comments of [`TAGGED`].
+const TAGS: FlacProvedTags<'static> = FlacProvedTags {
+    vendor: FlacProvedText { bytes: b"abc" },
+    list: &[
+        FlacProvedText { bytes: b"A=1" },
+        FlacProvedText { bytes: b"BC=23" },
+    ],
+};
+
+/// What encoding returns, the length that it reports, and the first bytes.
 fn encode(
     alloc: Global,
     settings: &FlacProvedSettings,
     samples: &[i32],
 ) -> (u32, usize, [u8; 200]) {
-    let list = [
-        FlacProvedText { bytes: b"A=1" },
-        FlacProvedText { bytes: b"BC=23" },
-    ];
-    let tags = FlacProvedTags {
-        vendor: FlacProvedText { bytes: b"abc" },
-        list: &list,
-    };
     let (mut out, mut len) = ([9u8; 200], 99);
-    let number = flac_proved_encode(alloc, settings, samples, &tags, &mut out, &mut len);
+    let number = flac_proved_encode(alloc, settings, samples, &TAGS, &mut out, &mut len);
     (number, len, out)
 }
 
@@ -211,7 +213,8 @@ fn encoded_in_ogg(rt: HostRuntime) -> Result<(), Fail> {
         ..SETTINGS
     };
     let (number, len, stream) = encode(rt.alloc(), &settings, &[25588, 10416]);
-    // Three pages with 28 bytes before the packet (RFC 3533, section 6): 13 bytes and STREAMINFO, 38; the comments, 31; the frame, 15.
+    // Three pages with 28 bytes before the packet (RFC 3533, section 6): 13 bytes and STREAMINFO, 38; the comments, 31;
+    // the frame, 15.
     assert!(rt; (number, len) == (0, 181));
     assert!(rt; stream[14] == 7 && stream[15] == 0);
     let (mut samples, mut count, mut fault) = ([9i32; 3], 99, unset());
@@ -387,7 +390,8 @@ fn no_frame(rt: HostRuntime) -> Result<(), Fail> {
     Ok(())
 }
 
-/// The stream with a seek table behind STREAMINFO (RFC 9639, section 8.5): of sample 5 in a frame 7 bytes behind the first frame, and of no frame.
+/// The stream with a seek table after STREAMINFO (RFC 9639, section 8.5): of sample 5 in a frame 7 bytes after the
+/// first frame, and of no frame.
 const SOUGHT: [u8; 97] = [
     0x66, 0x4c, 0x61, 0x43, 0x00, 0x00, 0x00, 0x22, 0x10, 0x00, 0x10, 0x00, 0x00, 0x00, 0x0f, 0x00,
     0x00, 0x0f, 0x0a, 0xc4, 0x42, 0xf0, 0x00, 0x00, 0x00, 0x01, 0x3e, 0x84, 0xb4, 0x18, 0x07, 0xdc,
@@ -425,20 +429,13 @@ fn sought(rt: HostRuntime) -> Result<(), Fail> {
 
 /// The bound of samples with two comments.
 fn bound(settings: &FlacProvedSettings, count: usize) -> u64 {
-    let list = [
-        FlacProvedText { bytes: b"A=1" },
-        FlacProvedText { bytes: b"BC=23" },
-    ];
-    let tags = FlacProvedTags {
-        vendor: FlacProvedText { bytes: b"abc" },
-        list: &list,
-    };
-    flac_proved_bound(settings, count, &tags)
+    flac_proved_bound(settings, count, &TAGS)
 }
 
 #[test]
 fn bounds(rt: HostRuntime) -> Result<(), Fail> {
-    // 58 bytes, the texts of 7, 7 and 9 bytes with their lengths, two samples of 2 bytes, and a frame of 28 bytes beside them.
+    // 58 bytes, the texts of 7, 7 and 9 bytes with their lengths, two samples of 2 bytes, and a frame of 28 bytes
+    // beside them.
     assert!(rt; bound(&SETTINGS, 2) == 113);
     // Three packets.
     let ogg = FlacProvedSettings { ogg: 1, ..SETTINGS };

@@ -12,8 +12,8 @@ use Rattle.flac_native.specs.Seeking.{points_of, table_of}
 use Rattle.flac_native.proofs.Messages.{rows_split}
 use Rattle.flac_native.proofs.Planned.{planned}
 use Rattle.flac_cli.specs.Encoded.{comment_list, EncodesIn, parts_in}
-use Rattle.flac_jobs.specs.declared.formats.Container.{Container}
-use Rattle.flac_jobs.specs.declared.formats.Container.TheVariants as container
+use Rattle.flac_jobs.specs.declared.formats.ContainerKind.{ContainerKind}
+use Rattle.flac_jobs.specs.declared.formats.ContainerKind.TheVariants as container
 use Rattle.flac_cli.specs.Samples.{all_samples}
 
 part_row : (width start size k : ℕ) (channels : List (List ℤ)) → k < size → row_bytes width (block_of start size channels) k ≡ row_bytes width channels (start + k)
@@ -95,7 +95,7 @@ given_back p a words points least greatest good =
     go (x ∷ xs) e = e
 
 -- they are, native or in Ogg, where no seek table stands
-pub parts_back : (c : Container) (p : Cut) (a : Sound) (words : List (List ℕ)) (before after : List Bool) (e : EncodesIn c p (comment_list words) a before after)
+pub parts_back : (c : ContainerKind) (p : Cut) (a : Sound) (words : List (List ℕ)) (before after : List Bool) (e : EncodesIn c p (comment_list words) a before after)
     → plan_fault p ≡ None → all_samples 0 (parts_in c p (comment_list words) a before after e) ≡ sound_message a
 parts_back container.Native p a words before after e good = given_back p a words (points_of p e.frames) e.least e.greatest good
 parts_back (container.Ogg serial) p a words before after e good = given_back p a words [] e.are.least e.are.greatest good

@@ -33,7 +33,7 @@ use Rattle.flac_cli.specs.declared.encoding.Refusal.{Refusal}
 use Rattle.flac_cli.specs.declared.encoding.Refusal.TheVariants.{Input, Setup, RawLength, Output}
 use Rattle.flac_cli.specs.declared.predictors.ListFault.{ListFault}
 use Rattle.flac_cli.specs.declared.predictors.ListFault.TheVariants as faults
-use Rattle.flac_jobs.specs.declared.formats.Format.{Format}
+use Rattle.flac_jobs.specs.declared.formats.RawFormat.{RawFormat}
 
 -- ---- samples that can be encoded
 
@@ -85,12 +85,12 @@ sound_good a s =
 -- ---- raw samples
 
 -- the channels of these bytes are the samples that they are
-pub sound_of : (profile : Profile) (format : Format) (raw bytes : List ℕ) (a : Sound) (channels : List (List ℤ)) → a ≡ record { profile = profile; rate = format.rate; bits = format.bits; channels = channels }
+pub sound_of : (profile : Profile) (format : RawFormat) (raw bytes : List ℕ) (a : Sound) (channels : List (List ℤ)) → a ≡ record { profile = profile; rate = format.rate; bits = format.bits; channels = channels }
     → AreChannels bytes format.channels (sample_width format.bits) channels → bytes ≡ raw → a ≡ raw_sound profile format raw
 sound_of profile format raw bytes a channels is are same =
     is ∙ ap (λ (l : List (List ℤ)). record { profile = profile; rate = format.rate; bits = format.bits; channels = l }) (are.numbers ∙ ap (λ (bs : List ℕ). raw_channels format.channels (sample_width format.bits) bs) same)
 
-module _ (profile : Profile) (format : Format) (raw : List ℕ) where
+module _ (profile : Profile) (format : RawFormat) (raw : List ℕ) where
   pub bad_format : (e : SetupFault) → Some e ≡ format_fault profile format → raw_fault profile format raw ≡ Some (Setup e)
   unfolding raw_fault
   bad_format e h = rw (sym h) refl

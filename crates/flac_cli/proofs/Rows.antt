@@ -4,19 +4,16 @@ use Rattle.std.proofs.lemmas.List.{length_push, get_or_push, get_or_append_left,
 use Rattle.std.proofs.lemmas.List.Elements.{All-from_get_or, All-push, All-nil, All-append}
 use Rattle.std.proofs.Math.Nat.{mod-add-div', mul-le-mul_left, mul-pos, mul-div_left, mul-mod_left, mul-add-mod_self_right}
 use Rattle.std.proofs.Math.Seq.{take-add, drop-append-add}
-use Rattle.std.specs.Prelude.{All, is_none, false}
+use Rattle.std.specs.Prelude.{All}
 use Rattle.std.proofs.lemmas.Slice.{take-put_mid}
 use borrow.Rule.Slice.PartMut.{put_mid}
 use Rattle.flac_bits.specs.Signed.{FitsBits}
 use Rattle.flac_native.specs.Message.{sample_bytes, sample_width, row_bytes, rows_bytes}
 use Rattle.flac_native.specs.Given.{sound_message}
 use Rattle.std.proofs.lemmas.Bool.{cases_lt}
-use Rattle.std.proofs.lemmas.Bool.Decides.{nat_tests}
-use Rattle.flac_header.specs.Choice.{depth_choice, depth_choice_in}
 use Rattle.flac_header.specs.declared.subset.Profile.{Profile}
-use Rattle.flac_header.specs.declared.subset.Profile.TheVariants.{Subset, Lax}
 use Rattle.flac_frame.specs.Audio.{Sound, IsSound, samples_each}
-use Rattle.flac_jobs.specs.declared.formats.Format.{Format}
+use Rattle.flac_jobs.specs.declared.formats.RawFormat.{RawFormat}
 use Rattle.flac_cli.specs.Raw.{number_of, samples_at, channels_at, IsRaw}
 use Rattle.flac_cli.specs.inner.Raw.{IsChannel, IsPart, AreParts, IsMore, AreChannels}
 
@@ -306,7 +303,7 @@ whole_back n new old same is =
 -- ---- samples of a format
 
 -- the channels of these bytes, under the profile and the format's rate and bits
-pub raw_is : (profile : Profile) (format : Format) (raw bytes : List ℕ) (a : Sound) (channels : List (List ℤ)) → a ≡ record { profile = profile; rate = format.rate; bits = format.bits; channels = channels }
+pub raw_is : (profile : Profile) (format : RawFormat) (raw bytes : List ℕ) (a : Sound) (channels : List (List ℤ)) → a ≡ record { profile = profile; rate = format.rate; bits = format.bits; channels = channels }
     → IsSound a → AreChannels bytes format.channels (sample_width format.bits) channels → bytes ≡ raw → IsRaw profile format raw a
 unfolding sound_message
 raw_is profile format raw bytes a channels is sound are same =
@@ -321,9 +318,3 @@ raw_is profile format raw bytes a channels is sound are same =
       samples = ap (λ d. rows_bytes (sample_width d) a.channels (samples_each a.channels) 0) depth
           ∙ (ap (λ l. rows_bytes (sample_width format.bits) l (samples_each l) 0) listed ∙ (are.spelled ∙ same));
     }
-
--- a depth that has a code is a number of 1 to 32 bits
-pub depth_range : (profile : Profile) (depth : ℕ) → is_none (depth_choice_in profile depth) ≡ false → (1 ≤ depth) × (depth ≤ 32)
-unfolding depth_choice_in depth_choice
-depth_range Subset depth e = grind (arith, nat_tests)
-depth_range Lax depth e = grind (arith, nat_tests)

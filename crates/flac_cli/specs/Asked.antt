@@ -1,15 +1,15 @@
 -- What an encoding is asked for.
 use Rattle.std.specs.Prelude.{ℕ, List, map}
 use Rattle.flac_header.specs.declared.subset.Profile.{Profile}
-use Rattle.flac_jobs.specs.declared.formats.Format.{Format}
-use Rattle.flac_jobs.specs.declared.formats.Container.{Container}
+use Rattle.flac_jobs.specs.declared.formats.RawFormat.{RawFormat}
+use Rattle.flac_jobs.specs.declared.formats.ContainerKind.{ContainerKind}
 use Rattle.flac_cli.specs.declared.encoding.Encoding.{Encoding}
 
 -- The profile of the stream, the format of the raw samples, the container, the words that are its comments, and the text of a list of predictors.
 pub record Asked : Type 0 where
   pub profile : Profile
-  pub format : Format
-  pub container : Container
+  pub format : RawFormat
+  pub container : ContainerKind
   pub words : List (List ℕ)
   pub list : List ℕ
 

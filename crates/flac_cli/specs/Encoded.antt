@@ -16,8 +16,8 @@ use Rattle.flac_cli.specs.Raw.{IsRaw}
 use Rattle.flac_cli.specs.Samples.{all_samples}
 use Rattle.flac_cli.specs.Streams.{profile_of}
 use Rattle.flac_cli.specs.declared.runs.Task.{Task}
-use Rattle.flac_jobs.specs.declared.formats.Container.{Container}
-use Rattle.flac_jobs.specs.declared.formats.Container.TheVariants as container
+use Rattle.flac_jobs.specs.declared.formats.ContainerKind.{ContainerKind}
+use Rattle.flac_jobs.specs.declared.formats.ContainerKind.TheVariants as container
 use Rattle.flac_jobs.specs.declared.jobs.Job.{Job}
 use Rattle.flac_jobs.specs.declared.jobs.Job.TheVariants as job
 
@@ -25,17 +25,17 @@ use Rattle.flac_jobs.specs.declared.jobs.Job.TheVariants as job
 abbrev pub comments_of : List (List ℕ) → Comments
 comments_of words = record { vendor = codes "flac profile 1"; list = words }
 
--- the one block behind STREAMINFO
+-- the one block after STREAMINFO
 abbrev pub comment_list : List (List ℕ) → List Block
 comment_list words = VorbisComment (comments_of words) ∷ []
 
--- behind the bits that were there, a stream of what was given was written
-abbrev pub EncodesIn : Container → Cut → List Block → Sound → (before after : List Bool) → Type 0
+-- after the bits that were there, a stream of what was given was written
+abbrev pub EncodesIn : ContainerKind → Cut → List Block → Sound → (before after : List Bool) → Type 0
 EncodesIn container.Native p list a before after = Encodes p list a before after
 EncodesIn (container.Ogg serial) p list a before after = EncodesOgg serial p list a before after
 
 -- the blocks and frames of this stream
-abbrev pub parts_in : (c : Container) (p : Cut) (list : List Block) (a : Sound) (before after : List Bool) → EncodesIn c p list a before after → List Piece
+abbrev pub parts_in : (c : ContainerKind) (p : Cut) (list : List Block) (a : Sound) (before after : List Bool) → EncodesIn c p list a before after → List Piece
 parts_in container.Native p list a before after e = given p (list ++ table_of (points_of p e.frames)) a e.least e.greatest
 parts_in (container.Ogg serial) p list a before after e = closing (StreamInfo (info_of p a e.are.least e.are.greatest) ∷ list) ++ map framed (frames_of p.block_size a)
 
@@ -63,13 +63,13 @@ asked_for other list = None
 abbrev pub asked_by : Task → Option Asked
 asked_by task = asked_for task.job.now task.list.now
 
--- so it is where the job is an encoding
+-- so it is if the job is an encoding
 abbrev pub HasEncoded : Option Asked → (bytes : List ℕ) → (before after : List Bool) → Type 0
 HasEncoded (Some asked) bytes before after = EncodesRaw asked bytes before after
 HasEncoded None bytes before after = Unit {0}
 
--- what was written is a beginning of such a stream
-abbrev pub BeginsIn : Container → Cut → List Block → Sound → (before after : List Bool) → Type 0
+-- what was written is a prefix of such a stream
+abbrev pub BeginsIn : ContainerKind → Cut → List Block → Sound → (before after : List Bool) → Type 0
 BeginsIn container.Native p list a before after = BeginsEncoding p list a before after
 BeginsIn (container.Ogg serial) p list a before after = BeginsOgg serial p list a before after
 
@@ -81,7 +81,7 @@ pub record BeginsRaw (asked : Asked) (bytes : List ℕ) (before after : List Boo
   pub listed : AreListed asked.list predictors
   pub begins : BeginsIn asked.container (cut_as asked audio predictors) (comment_list asked.words) audio before after
 
--- nothing was written, or so much, where the job is an encoding
+-- nothing was written, or such a prefix, if the job is an encoding
 abbrev pub HasBegun : Option Asked → (bytes : List ℕ) → (before after : List Bool) → Type 0
 HasBegun (Some asked) bytes before after = (after ≡ before) ⊎ BeginsRaw asked bytes before after
 HasBegun None bytes before after = Unit {0}

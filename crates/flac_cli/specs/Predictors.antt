@@ -39,7 +39,7 @@ numbers_after numbers (word ∷ more) = option_and_then (λ z. numbers_after (nu
 
 -- ---- lines
 
--- a number fits so many bits in two's complement
+-- a number fits `precision` bits in two's complement
 abbrev pub fits : (precision : ℕ) → ℤ → Bool
 fits precision (pos n) = nat_lt n (2 ^ (precision - 1))
 fits precision (negsuc n) = nat_lt n (2 ^ (precision - 1))

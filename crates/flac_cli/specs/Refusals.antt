@@ -1,9 +1,8 @@
 -- Which raw samples cannot be encoded as asked for, and for which first reason.
-use Rattle.std.specs.Prelude.{◌≡◌, ◌⊎◌, ◌*◌, ◌%◌, ◌||◌, ℕ, nat_eq, nat_lt, cond, List, length, codes, Err, Option, Some, None, is_none, option_map}
+use Rattle.std.specs.Prelude.{◌≡◌, ◌⊎◌, ◌*◌, ◌%◌, ℕ, nat_eq, cond, List, length, codes, Err, Option, Some, None, option_map}
 use Rattle.std.specs.Option.{option_or}
 use Rattle.flac_bits.specs.Reasons as reasons
 use Rattle.flac_bits.specs.declared.why.Why.TheVariants as why
-use Rattle.flac_header.specs.Choice.{rate_choice_in, depth_choice_in}
 use Rattle.flac_header.specs.declared.subset.Profile.{Profile}
 use Rattle.flac_meta.specs.Listed.{list_fault, info_seen}
 use Rattle.flac_meta.specs.declared.block.Block.{Block}
@@ -11,7 +10,6 @@ use Rattle.flac_subframe.specs.declared.linear.LinearPredictor.{LinearPredictor}
 use Rattle.flac_frame.specs.Audio.{audio_fault}
 use Rattle.flac_frame.specs.Setup as setup
 use Rattle.flac_frame.specs.declared.setup.SetupFault.{SetupFault}
-use Rattle.flac_frame.specs.declared.setup.SetupFault.TheVariants.{BadRate, BadDepth, BadChannels}
 use Rattle.flac_native.specs.Given.{Cut, plan_fault}
 use Rattle.flac_native.specs.Message.{sample_width}
 use Rattle.flac_native.specs.Numbers as numbers
@@ -27,20 +25,16 @@ use Rattle.flac_cli.specs.declared.encoding.Refusal.{Refusal}
 use Rattle.flac_cli.specs.declared.predictors.ListFault.{ListFault}
 use Rattle.flac_cli.specs.declared.predictors.ListFault.TheVariants as faults
 use Rattle.flac_cli.specs.declared.encoding.Refusal.TheVariants.{Input, Setup, RawLength, Line, Output}
-use Rattle.flac_jobs.specs.declared.formats.Format.{Format}
-use Rattle.flac_jobs.specs.declared.formats.Container.{Container}
-use Rattle.flac_jobs.specs.declared.formats.Container.TheVariants as container
+use Rattle.flac_jobs.specs.declared.formats.RawFormat.{RawFormat}
+use Rattle.flac_jobs.specs.declared.formats.ContainerKind.{ContainerKind}
+use Rattle.flac_jobs.specs.declared.formats.ContainerKind.TheVariants as container
 
--- Why samples of this format cannot be encoded, whatever they are: no frame header of the profile has a code for the rate or for the depth, or there are
--- not 1 to 8 channels (RFC 9639, sections 7 and 9.1.2 to 9.1.4).
-unfoldable pub format_fault : Profile → Format → Option SetupFault
-format_fault profile format =
-    cond (is_none (rate_choice_in profile format.rate)) (Some BadRate)
-    (cond (is_none (depth_choice_in profile format.bits)) (Some BadDepth)
-    (cond (nat_eq format.channels 0 || nat_lt 8 format.channels) (Some BadChannels) None))
+-- Why samples of this format cannot be encoded, whatever they are: the rate, the depth or the number of channels.
+abbrev pub format_fault : Profile → RawFormat → Option SetupFault
+format_fault profile format = setup.format_fault profile format.rate format.bits format.channels
 
 -- Why these bytes are no samples of this format: the format, then their number, then the samples.
-unfoldable pub raw_fault : Profile → Format → (bytes : List ℕ) → Option Refusal
+unfoldable pub raw_fault : Profile → RawFormat → (bytes : List ℕ) → Option Refusal
 raw_fault profile format bytes =
     option_or (option_map Setup (format_fault profile format))
     (cond (nat_eq (length bytes % (format.channels * sample_width format.bits)) 0)
@@ -48,7 +42,7 @@ raw_fault profile format bytes =
     (Some RawLength))
 
 -- Why the calls that write a stream refuse these blocks: a native one has one seek table at most (section 8), and one in Ogg none.
-abbrev pub stream_fault : Container → Cut → List Block → Option EncodeFault
+abbrev pub stream_fault : ContainerKind → Cut → List Block → Option EncodeFault
 stream_fault container.Native p list = cond (repeats_table p list) (Some encode.RepeatedBlock) None
 stream_fault (container.Ogg serial) p list = cond (may_be_ogg p list) None (Some encode.BadMapping)
 
@@ -84,7 +78,7 @@ refusal_of (faults.Line number) = Line number
 abbrev pub IsOutside : Refusal → Type 0
 IsOutside r = (r ≡ Input why.Memory) ⊎ ((r ≡ Output encode.Memory) ⊎ (r ≡ Output encode.Write))
 
--- there is no such reason where the job is an encoding
+-- there is no such reason if the job is an encoding
 abbrev pub CanBeEncoded : Option Asked → (bytes : List ℕ) → Type 0
 CanBeEncoded (Some asked) bytes = IsReason asked bytes None
 CanBeEncoded None bytes = Unit {0}

@@ -22,7 +22,7 @@ pub record Files : Type 0 where
   pub output : List ℕ
   pub list : List ℕ
 
--- the path of the file at fault: the list for what its predictors are, the output where it could not be written, and else the input
+-- the path of the file at fault: the list for what its predictors are, the output if it could not be written, and else the input
 abbrev pub path_of : Files → Refusal → List ℕ
 path_of files (Line number) = files.list
 path_of files (Setup setup.PredictorOrder) = files.list
@@ -35,7 +35,7 @@ abbrev pub line_text : Refusal → List ℕ
 line_text (Line number) = text_at (at.Line number) (text_of (Line number))
 line_text other = text_of other
 
--- the target tells its bytes, and answered no error in the call
+-- the bytes of the target are known, and it returned no error in the call
 abbrev pub Serves : {T : Type 0} (g : target.Ghosts T) (old new : T) → Type 0
 Serves g old new = (g.known old ≡ true) × (g.errors new ≡ g.errors old)
 
@@ -54,7 +54,7 @@ IsReport asked bytes files status before after =
 abbrev pub files_of : Job → Files
 files_of j = record { input = input_of j; output = unwrap_or (output_of j) (input_of j); list = unwrap_or (list_of j) (input_of j) }
 
--- so it is where the job is an encoding
+-- so it is if the job is an encoding
 abbrev pub Reports : Option Asked → (bytes : List ℕ) → Files → (status : ℕ) → (before after : List ℕ) → Type 0
 Reports (Some asked) bytes files status before after = IsReport asked bytes files status before after
 Reports None bytes files status before after = Unit {0}

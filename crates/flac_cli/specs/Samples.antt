@@ -1,17 +1,17 @@
--- The raw samples of a stream: interleaved channel by channel, signed little-endian, each sign-extended to whole bytes. It is
--- the message whose digest STREAMINFO states (RFC 9639, section 8.2).
+-- The raw samples of a stream: interleaved channel by channel, signed little-endian, each sign-extended to whole bytes. They are
+-- the bytes whose MD5 STREAMINFO states (RFC 9639, section 8.2).
 use Rattle.std.specs.Prelude.{ℕ, List, [], ◌∷◌, ◌++◌}
 use Rattle.flac_meta.specs.declared.block.Block.{Block}
 use Rattle.flac_meta.specs.declared.block.Block.TheVariants.{StreamInfo}
 use Rattle.flac_native.specs.Stream.{Piece, marked, block, framed}
 use Rattle.flac_native.specs.Message.{frame_message}
 
--- how many bits a sample has behind this block
+-- how many bits a sample has after this block
 abbrev pub depth_after : ℕ → Block → ℕ
 depth_after depth (StreamInfo info) = info.depth
 depth_after depth other = depth
 
--- the samples of all frames, behind blocks that told this depth
+-- the samples of all frames, after blocks that state this depth
 abbrev pub all_samples : ℕ → List Piece → List ℕ
 all_samples depth [] = []
 all_samples depth (marked ∷ xs) = all_samples depth xs

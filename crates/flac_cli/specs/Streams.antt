@@ -14,10 +14,10 @@ use Rattle.flac_header.specs.declared.subset.Profile.TheVariants.{Subset, Lax}
 abbrev pub profile_of : (lax : Bool) → Profile
 profile_of lax = cond lax Lax Subset
 
--- the bytes that a source gives, and what stands behind them, are a stream of these parts
+-- the bytes that a source gives, and what comes after them, are a stream of these parts
 abbrev pub IsStream : Profile → List Piece → List ℕ → Behind → Type 0
 IsStream profile parts bytes behind = Stream grammar (opening profile) (beginning (short_of behind.fails)) parts (bits_of bytes) ⊎ OggStream profile (beginning (short_of behind.fails)) parts (bits_of bytes)
 
--- the source tells its bytes, and answered no error in the call
+-- the bytes of the source are known, and it returned no error in the call
 abbrev pub Tells : {S : Type 0} (g : source.Ghosts S) (old new : S) → Type 0
 Tells g old new = (g.known old ≡ true) × (g.errors new ≡ g.errors old) × (g.raised new ≡ g.raised old)

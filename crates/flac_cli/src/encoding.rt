@@ -8,7 +8,7 @@ ghost use Rattle.flac_cli.specs.Asked.{asked_of};
 ghost use Rattle.flac_cli.specs.Encoded.{comments_of, comment_list, EncodesIn, EncodesRaw, BeginsIn, BeginsRaw};
 ghost use Rattle.flac_cli.specs.Lined.{text_at};
 ghost use Rattle.flac_cli.specs.Raw.{IsRaw, raw_sound};
-ghost use Rattle.flac_cli.specs.Refusals.{format_fault, raw_fault, stream_fault, refusal_of, text_of, IsReason, IsOutside};
+ghost use Rattle.flac_cli.specs.Refusals.{raw_fault, stream_fault, refusal_of, text_of, IsReason, IsOutside};
 ghost use Rattle.flac_cli.specs.Reports.{line_text};
 ghost use Rattle.flac_cli.specs.declared.encoding.Refusal.TheVariants.{Input, Setup, Output};
 
@@ -16,11 +16,10 @@ use crate::lines::At;
 use crate::predictors::{ListFault, predictors_in};
 use crate::raw::read_channels;
 use flac_bits::{Source, Target, Why};
-use flac_frame::{Audio, SetupFault};
-use flac_header::{depth_code_in, rate_code_in};
-use flac_jobs::{Container, Format};
-use flac_meta::{Block, BlockList, Bytes, Comments, Texts};
-use flac_native::{EncodeFault, Plan, Profile, encode};
+use flac_frame::{Audio, SetupFault, format_fault};
+use flac_jobs::{ContainerKind, RawFormat};
+use flac_meta::{BlockList, Bytes, Comments, Texts};
+use flac_native::{EncodeFault, Plan, Profile, encode, sample_width};
 use flac_ogg::encode_ogg;
 use flac_subframe::LinearPredictor;
 use std::alloc::Global;
@@ -34,9 +33,9 @@ pub(crate) struct Encoding<'a> {
     /// The profile of the stream.
     pub(crate) profile: Profile,
     /// The format of the raw samples, and how they are divided into blocks.
-    pub(crate) format: Format,
+    pub(crate) format: RawFormat,
     /// The container of the stream.
-    pub(crate) container: Container,
+    pub(crate) container: ContainerKind,
     /// Its comments, each `NAME=VALUE`.
     pub(crate) comments: &'a [&'a str],
     /// The text of a list of predictors that the encoder tries too, empty if there is none.
@@ -118,25 +117,6 @@ impl Refusal {
     }
 }
 
-/// The first reason, if there is one, for which no samples of this format can be encoded: rate, depth, channels.
-#[tactic(auto, unfolding(crate::specs::Refusals::format_fault), using(crate::proofs::Rows::depth_range))]
-fn format_fault(profile: Profile, format: Format) -> Option<SetupFault>
-    ensures value { result ≡ format_fault profile format }
-    ensures bits { result ≡ None → (1 ≤ format.bits) × (format.bits ≤ 32) }
-    ensures channels { result ≡ None → (1 ≤ format.channels) × (format.channels ≤ 8) }
-{
-    if rate_code_in(profile, format.rate).is_none() {
-        return Some(SetupFault::BadRate);
-    }
-    if depth_code_in(profile, format.bits).is_none() {
-        return Some(SetupFault::BadDepth);
-    }
-    if format.channels < 1 || format.channels > 8 {
-        return Some(SetupFault::BadChannels);
-    }
-    None
-}
-
 /// The samples that the bytes of a source are.
 ///
 /// # Errors
@@ -146,7 +126,7 @@ fn audio_of<R: Source>(
     alloc: Global,
     source: &mut R,
     profile: Profile,
-    format: Format,
+    format: RawFormat,
 ) -> Result<Audio, Refusal>
     ensures raw { IfOk result (λ a. R.known source.old ≡ true → IsRaw profile format (R.coming source.old) a) }
     ensures sound { IfOk result (λ a. R.known source.old ≡ true → a ≡ raw_sound profile format (R.coming source.old)) }
@@ -154,11 +134,11 @@ fn audio_of<R: Source>(
     ensures refused { IfErr result (λ e. R.known source.old ≡ true → R.raised source.new ≡ R.raised source.old → IsOutside e ⊎ (raw_fault profile format (R.coming source.old) ≡ Some e)) }
     ensures unwritten { IfErr result (λ e. e ≢ Output EncodeFault.Write) }
 {
-    if let Some(fault) = format_fault(profile, format) {
+    let channels = format.channels as usize;
+    if let Some(fault) = format_fault(profile, format.rate, format.bits, channels) {
         return Err(Refusal::Setup(fault));
     }
-    let channels = format.channels as usize;
-    let width = (format.bits as usize + 7) / 8;
+    let width = sample_width(format.bits);
     let Some(lists) = read_channels(alloc, source, channels, width)? else {
         return Err(Refusal::RawLength);
     };
@@ -173,7 +153,7 @@ fn audio_of<R: Source>(
 /// # Errors
 /// The first reason for which they cannot be: the block size, the seek points, the predictors.
 fn plan_of(
-    format: Format,
+    format: RawFormat,
     audio: &Audio,
     predictors: Vec<LinearPredictor>,
 ) -> Result<Plan, SetupFault>
@@ -213,15 +193,13 @@ fn comment_list(alloc: Global, words: &[&str]) -> Result<BlockList, Why>
     ensures refused { IfErr result (λ e. (e ≡ Why.Memory) ⊎ (list_fault info_seen (comment_list (map (λ word. word.now) words.now)) ≡ Some e)) }
 {
     let comments = comments_of(alloc, words)?;
-    let mut blocks = Vec::with_capacity(alloc, 1)?;
-    blocks.push(Block::VorbisComment(comments))?;
-    BlockList::new(blocks)
+    BlockList::of_comments(alloc, comments)
 }
 
 /// Writes the samples as a stream. After an error, nothing or a prefix of the stream was sent.
 fn write_stream<W: Target>(
     alloc: Global,
-    container: Container,
+    container: ContainerKind,
     plan: &Plan,
     list: &BlockList,
     audio: &Audio,
@@ -235,8 +213,8 @@ fn write_stream<W: Target>(
     ensures failed { IfErr result (λ e. e ≡ EncodeFault.Write → W.known target.old ≡ true → W.errors target.old < W.errors target.new) }
 {
     match container {
-        Container::Native => encode(alloc, plan, list, audio, target),
-        Container::Ogg { serial } => encode_ogg(alloc, serial, plan, list, audio, target),
+        ContainerKind::Native => encode(alloc, plan, list, audio, target),
+        ContainerKind::Ogg { serial } => encode_ogg(alloc, serial, plan, list, audio, target),
     }
 }
 
@@ -244,9 +222,9 @@ fn write_stream<W: Target>(
 /// sent.
 ///
 /// # Errors
-/// The first reason for which the samples cannot be encoded as asked for: a line of the list, for which the source is not
-/// read; the samples, the block size and the seek points, the predictors, the comments, the container. An error of the
-/// source or of the target, or out of memory.
+/// The first reason for which the samples cannot be encoded as asked for: a line of the list, for which the source is
+/// not read; the samples, the block size and the seek points, the predictors, the comments, the container. An error of
+/// the source or of the target, or out of memory.
 pub(crate) fn encode_raw<R: Source, W: Target>(
     alloc: Global,
     encoding: &Encoding<'_>,

@@ -16,5 +16,5 @@ mod runs;
 mod samples;
 mod texts;
 
-pub use flac_jobs::{Container, Format, Job, LineFault};
+pub use flac_jobs::{ContainerKind, Job, LineFault, RawFormat};
 pub use runs::{Task, run};

@@ -69,7 +69,7 @@ fn write_info<W: Write>(lines: &mut W, info: &StreamInfo) -> fmt::Result {
 /// Writes a line for each seek point.
 fn write_points<W: Write>(lines: &mut W, table: &SeekTable) -> fmt::Result {
     for point in table.points() {
-        if point.sample == u64::MAX {
+        if point.is_placeholder() {
             writeln!(lines, "  placeholder")?;
         } else {
             let (sample, offset, length) = (point.sample, point.offset, point.length);
@@ -81,7 +81,7 @@ fn write_points<W: Write>(lines: &mut W, table: &SeekTable) -> fmt::Result {
 
 /// Writes the vendor and a line for each comment.
 fn write_comments<W: Write>(lines: &mut W, comments: &Comments) -> fmt::Result {
-    let vendor = Escaped(comments.vendor.as_slice());
+    let vendor = Escaped(comments.vendor());
     writeln!(lines, "  vendor {vendor}")?;
     for comment in comments.list.as_slice() {
         let comment = Escaped(comment.as_slice());

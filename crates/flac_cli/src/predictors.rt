@@ -153,9 +153,9 @@ fn line_in(alloc: Global, line: &[u8]) -> Result<Line, AllocError>
 
 /// The predictors of a list: in each line one, `PRECISION SHIFT C1 C2 ..`, or none.
 ///
-/// The numbers are decimal, and words are separated by spaces, tabs or carriage returns. PRECISION is 1 to 15 bits, SHIFT
-/// 0 to 15. There are 1 to 32 coefficients, the one for the nearest sample first, and each fits PRECISION bits in two's
-/// complement (RFC 9639, section 9.2.6). `#` starts a comment up to the end of the line.
+/// The numbers are decimal, and words are separated by spaces, tabs or carriage returns. PRECISION is 1 to 15 bits,
+/// SHIFT 0 to 15. There are 1 to 32 coefficients, the one for the nearest sample first, and each fits PRECISION bits in
+/// two's complement (RFC 9639, section 9.2.6). `#` starts a comment up to the end of the line.
 ///
 /// # Errors
 /// The number of the first line that has words and is no predictor, counted from 1. Out of memory.

@@ -67,8 +67,8 @@ fn put_samples(piece: &[u8], row: usize, start: usize, width: usize, places: &mu
     }
 }
 
-/// Where the samples of one channel are in a piece of `rows` inter-channel samples of `row` bytes each: in each of these
-/// the channel's sample begins at byte `start`, and has `width` bytes.
+/// Where the samples of one channel are in a piece of `rows` inter-channel samples of `row` bytes each: in each of
+/// these the channel's sample begins at byte `start`, and has `width` bytes.
 #[derive(Clone, Copy)]
 struct Column {
     rows: usize,

@@ -319,10 +319,11 @@ pub fn run<R: Source, W: Target, O: Target, E: Target>(
     // After status 0, a decoding has added to the file exactly the samples of the stream's frames.
     ensures decoded { AsksDecode task.now.job.now → result ≡ 0 → Tells R.Source source.old source.new → W.known target.old ≡ true →
         (parts : List Piece) × IsStream (profile_of (asks_lax task.now.job.now)) parts (R.coming source.old) (R.behind source.old) × (W.sent target.new ≡ W.sent target.old ++ all_samples 0 parts) }
-    // After status 0, an encoding has added to the file a stream of exactly the samples that the input is, in the profile
-    // that is asked for, each frame a shortest one also over the predictors of the list.
+    // After status 0, an encoding has added to the file a stream of exactly the samples that the input is, in the
+    // profile that is asked for, each frame a shortest one also over the predictors of the list.
     ensures encoded { result ≡ 0 → R.known source.old ≡ true → W.known target.old ≡ true → HasEncoded (asked_by task.now) (R.coming source.old) (bits_of (W.sent target.old)) (bits_of (W.sent target.new)) }
-    // After status 0 there was no reason to refuse the encoding, and each line of the list is a predictor or has no word.
+    // After status 0 there was no reason to refuse the encoding, and each line of the list is a predictor or has no
+    // word.
     ensures accepted { result ≡ 0 → R.known source.old ≡ true → CanBeEncoded (asked_by task.now) (R.coming source.old) }
     // After status 1, an encoding has added nothing, or a prefix of such a stream.
     ensures begun { result ≡ 1 → R.known source.old ≡ true → W.known target.old ≡ true → HasBegun (asked_by task.now) (R.coming source.old) (bits_of (W.sent target.old)) (bits_of (W.sent target.new)) }

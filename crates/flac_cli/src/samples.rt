@@ -9,7 +9,7 @@ use crate::frames::send_frame;
 use flac_bits::Target;
 use flac_frame::FrameView;
 use flac_meta::Block;
-use flac_native::{Sink, SinkFault};
+use flac_native::{Sink, SinkFault, sample_width};
 use std::snapshot::Snapshot;
 
 /// Writes the samples of each frame: interleaved, signed little-endian, each sign-extended to whole bytes. It holds no
@@ -81,7 +81,7 @@ impl<W: Target> Sink for SampleWriter<W> {
     }
 
     fn frame(&mut self, frame: &FrameView<'_>) -> Result<(), SinkFault> {
-        let width = (usize::from(self.depth) + 7) / 8;
+        let width = sample_width(u32::from(self.depth));
         match send_frame(frame, width, &mut self.target) {
             Ok(()) => Ok(()),
             Err(_) => self.failures.fail(),

@@ -1,5 +1,5 @@
-//! Tests of what goes wrong: streams that come in pieces, that are cut off or changed, and devices that fail at each call in turn. They stand apart from
-//! `flac_tests`, so that both are proved side by side.
+//! Tests of what goes wrong: streams that come in pieces, that are cut off or changed, and devices that fail at each
+//! call in turn. They stand apart from `flac_tests`, so that both are proved side by side.
 #![tactic(auto)]
 
 #[cfg(test)]

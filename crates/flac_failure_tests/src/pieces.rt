@@ -1,4 +1,5 @@
-//! Streams that come in pieces: however a source cuts its bytes, a sink and a decoder get the same items and the same end.
+//! Streams that come in pieces: however a source cuts its bytes, a sink and a decoder get the same items and the same
+//! end.
 
 ghost use Rattle.std.specs.Prelude.{⊤, [], true};
 

@@ -1,4 +1,5 @@
-//! Streams whose reading fails: each call of a source in turn, and each of a sink. What was handed out before is the front of what a run without a fault gives.
+//! Streams whose reading fails: each call of a source in turn, and each of a sink. What was handed out before is the
+//! front of what a run without a fault gives.
 
 ghost use Rattle.std.specs.Prelude.{⊤, [], true, ◌≡◌, ◌<◌, OnOk, OnErr};
 ghost use Rattle.flac_bits.specs.Failing.{failed};
@@ -18,7 +19,8 @@ use std::test::Fail;
 /// No call fails.
 pub(crate) const NEVER: u64 = u64::MAX;
 
-/// A stream, the lengths of its parts, and how many blocks it has. A part is the marker, a block or a frame, and of an Ogg stream a page, which holds one item.
+/// A stream, the lengths of its parts, and how many blocks it has. A part is the marker, a block or a frame, and of an
+/// Ogg stream a page, which holds one item.
 pub(crate) struct Layout {
     stream: &'static str,
     ogg: bool,
@@ -292,7 +294,8 @@ fn stepped(alloc: Global, input: &Input<'_>, at: u64) -> (Found, [Result<(), Fau
     ((end, items, source.calls()), after)
 }
 
-/// Whether a sink and a decoder get this of a stream, where this call of the source fails, and the decoder answers this then.
+/// Whether a sink and a decoder get this of a stream, where this call of the source fails, and the decoder answers this
+/// then.
 fn both_get(
     alloc: Global,
     input: &Input<'_>,
@@ -304,14 +307,15 @@ fn both_get(
     sunk(alloc, input, call, NEVER) == *wanted && found == *wanted && after == [then; 2]
 }
 
-/// What comes where the source fails that is asked for the byte of this number: the fault is at the part of that byte, or behind the last, and the items before were
-/// handed out.
+/// What comes where the source fails that is asked for the byte of this number: the fault is at the part of that byte,
+/// or behind the last, and the items before were handed out.
 fn failed_at(layout: &Layout, whole: &Items, byte: usize) -> (Place, Items) {
     let part = layout.whole_before(byte);
     (layout.part_place(part), whole.first(layout.items_in(part)))
 }
 
-/// What a sink gets of a stream, which is the same for a decoder. The source is asked for each piece, and once at the end.
+/// What a sink gets of a stream, which is the same for a decoder. The source is asked for each piece, and once at the
+/// end.
 fn read_whole(rt: &impl Abort, alloc: Global, layout: &Layout, input: &Input<'_>) -> (Items, u64) {
     let (end, items, calls) = sunk(alloc, input, NEVER, NEVER);
     let pieces = input.stream.len().div_ceil(input.most.max(1)) as u64;

@@ -1,5 +1,6 @@
-//! Strange bytes: each prefix of small streams, and each stream with one byte changed, comes to the same by a sink and by a decoder, in pieces of 1 and of 4096
-//! bytes. How many are accepted is what a model of the format answers that shares no code with this project (`conformance/model.py`).
+//! Strange bytes: each prefix of small streams, and each stream with one byte changed, comes to the same by a sink and
+//! by a decoder, in pieces of 1 and of 4096 bytes. How many are accepted is what a model of the format answers that
+//! shares no code with this project (`conformance/model.py`).
 
 use crate::pieces::{Told, native_items, ogg_items, sunk};
 use flac_vectors::{

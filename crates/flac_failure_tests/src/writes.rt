@@ -1,4 +1,5 @@
-//! Streams whose writing fails: each call of a target in turn, and of the source that is retagged. What was written before begins what a run without a fault gives.
+//! Streams whose writing fails: each call of a target in turn, and of the source that is retagged. What was written
+//! before begins what a run without a fault gives.
 
 use crate::reads::{NEVER, ONE_FRAME};
 use flac_bits::{Collected, Counted, FailAt, Memory, Pieces, Target};
@@ -70,7 +71,8 @@ pub(crate) fn write<W: Target>(
     }
 }
 
-/// Writes a stream to a target that takes a byte at a time, of which a call fails: the outcome, the bytes that were written, and how often the target was called.
+/// Writes a stream to a target that takes a byte at a time, of which a call fails: the outcome, the bytes that were
+/// written, and how often the target was called.
 fn trickled(
     alloc: Global,
     written: &Written<'_>,
@@ -174,7 +176,8 @@ fn writes_of_three_frames_fail(rt: HostRuntime) -> Result<(), Fail> {
     each_native_write_fails(&rt, rt.alloc(), &audio, 1000, TEN_THOUSAND)
 }
 
-/// What is answered by the making of an encoder, by each of three pushes, and by its end; 0 is no fault, and 255 that it was not asked.
+/// What is answered by the making of an encoder, by each of three pushes, and by its end; 0 is no fault, and 255 that
+/// it was not asked.
 type Answers = [u8; 5];
 
 /// Pushes the samples from a place on, 4096 at most.
@@ -213,14 +216,16 @@ fn pushed<W: Target + Drop>(
     }
 }
 
-/// Pushes samples to a target that takes a byte at a time, of which a call fails: the answers, and the bytes that were written.
+/// Pushes samples to a target that takes a byte at a time, of which a call fails: the answers, and the bytes that were
+/// written.
 fn push_trickled(alloc: Global, list: &BlockList, samples: &[i32], at: u64) -> (Answers, Vec<u8>) {
     let mut target = FailAt::new(Counted::new(Trickle::new(alloc)), at);
     let answers = pushed(alloc, list, samples, &mut target);
     (answers, target.into_inner().into_inner().into_bytes())
 }
 
-/// What an encoder answers where the byte of this number is not written, which the stream has in its first 42 bytes, or in frames of 15, 15 and 17 bytes.
+/// What an encoder answers where the byte of this number is not written, which the stream has in its first 42 bytes, or
+/// in frames of 15, 15 and 17 bytes.
 fn wanted_answers(byte: usize) -> Answers {
     if byte < 42 {
         [39, 255, 255, 255, 255]
@@ -235,7 +240,8 @@ fn wanted_answers(byte: usize) -> Answers {
     }
 }
 
-/// The marker and STREAMINFO of one channel in blocks of 4096, total and digest unknown; and the frames of 10000 samples behind it.
+/// The marker and STREAMINFO of one channel in blocks of 4096, total and digest unknown; and the frames of 10000
+/// samples behind it.
 fn ten_thousand_pushed(alloc: Global) -> Result<Vec<u8>, Fail> {
     let head = "664c61438000002210001000000000000000\
         0ac440f00000000000000000000000000000000000000000";
@@ -283,8 +289,8 @@ fn pushes_fail(rt: HostRuntime) -> Result<(), Fail> {
     Ok(())
 }
 
-/// Writes a stream into memory, where a call of the target fails: the number of the fault, 0 if there is none, the bytes that were written, and how often the target was
-/// called.
+/// Writes a stream into memory, where a call of the target fails: the number of the fault, 0 if there is none, the
+/// bytes that were written, and how often the target was called.
 fn written_whole(alloc: Global, written: &Written<'_>, at: u64) -> (u8, Vec<u8>, u64) {
     let mut target = FailAt::new(Collected::new(alloc), at);
     let outcome = write(alloc, written, &mut target);
@@ -301,7 +307,8 @@ fn pushed_whole(alloc: Global, list: &BlockList, samples: &[i32], at: u64) -> (u
     (number, target.into_inner().into_bytes(), calls)
 }
 
-/// A call of this number failed, and no other was made: just what the calls before took was written, which of the blocks are 4096 bytes each.
+/// A call of this number failed, and no other was made: just what the calls before took was written, which of the
+/// blocks are 4096 bytes each.
 fn stops_there(rt: &impl Abort, outcome: &(u8, Vec<u8>, u64), whole: &[u8], n: u64) {
     let (number, bytes, calls) = outcome;
     let front = (n as usize).saturating_mul(4096).min(9046);
@@ -345,7 +352,8 @@ fn writes_of_a_long_block_fail(rt: HostRuntime) -> Result<(), Fail> {
     Ok(())
 }
 
-/// What is answered by the making of an Ogg encoder, by one push, and by its end; 0 is no fault, and 255 that it was not asked.
+/// What is answered by the making of an Ogg encoder, by one push, and by its end; 0 is no fault, and 255 that it was
+/// not asked.
 type PageAnswers = [u8; 3];
 
 /// Pushes one sample of two channels, and ends.
@@ -378,8 +386,8 @@ fn pages_trickled(alloc: Global, list: &BlockList, at: u64) -> (PageAnswers, Vec
     (answers, target.into_inner().into_inner().into_bytes())
 }
 
-/// What an Ogg encoder answers where the byte of this number is not written. Of the pages of 79, 40 and 43 bytes the one that was made last is held back, so that a push
-/// writes the page before it, and the end the last one.
+/// What an Ogg encoder answers where the byte of this number is not written. Of the pages of 79, 40 and 43 bytes the
+/// one that was made last is held back, so that a push writes the page before it, and the end the last one.
 fn wanted_page_answers(byte: usize) -> PageAnswers {
     if byte < 79 {
         [39, 255, 255]
@@ -418,7 +426,8 @@ fn title(alloc: Global) -> Result<Comments, Fail> {
     Ok(comments)
 }
 
-/// What came of setting a comment: the outcome, the bytes that were written, and how often the source and the target were called.
+/// What came of setting a comment: the outcome, the bytes that were written, and how often the source and the target
+/// were called.
 type Retagged = (Result<(), RetagFault>, Vec<u8>, u64, u64);
 
 /// A stream, comments, and the stream with these comments.
@@ -429,7 +438,8 @@ struct Tagging<'a> {
     wanted: &'a [u8],
 }
 
-/// Sets the comments in pieces of so many bytes, where a call of the source fails, or one of the target, which takes a byte at a time.
+/// Sets the comments in pieces of so many bytes, where a call of the source fails, or one of the target, which takes a
+/// byte at a time.
 fn retagged(
     alloc: Global,
     tagging: &Tagging<'_>,
@@ -459,8 +469,8 @@ fn calls_of_copying(rt: &impl Abort, alloc: Global, tagging: &Tagging<'_>, most:
     calls
 }
 
-/// Whether these bytes are written if the source fails that is asked for the byte of this number: within the blocks nothing, and behind them a beginning, the blocks at
-/// least.
+/// Whether these bytes are written if the source fails that is asked for the byte of this number: within the blocks
+/// nothing, and behind them a beginning, the blocks at least.
 fn may_be_written(bytes: &[u8], wanted: &[u8], byte: usize) -> bool {
     wanted.starts_with(bytes)
         && if byte < 42 {

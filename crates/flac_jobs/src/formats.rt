@@ -2,9 +2,9 @@
 
 /// The format of raw samples, and how an encoding divides them into blocks.
 ///
-/// A `Format` has the numbers of the command line as they were given; an encoding refuses those out of range.
+/// A `RawFormat` has the numbers of the command line as they were given; an encoding refuses those out of range.
 #[derive(Clone, Copy, Debug, PartialEq, Eq)]
-pub struct Format {
+pub struct RawFormat {
     /// Sample rate in Hz.
     pub rate: u32,
     /// The number of channels.
@@ -19,7 +19,7 @@ pub struct Format {
 
 /// The container of a stream.
 #[derive(Clone, Copy, Debug, PartialEq, Eq)]
-pub enum Container {
+pub enum ContainerKind {
     /// None: a native stream (RFC 9639, section 6).
     Native,
     /// An Ogg stream of this serial number (RFC 9639, section 10.1).

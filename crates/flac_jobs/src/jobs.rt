@@ -3,7 +3,7 @@
 ghost use Rattle.std.specs.Prelude.{◌≡◌, option_map};
 ghost use Rattle.flac_jobs.specs.Asks.{input_of, list_of, output_of};
 
-use crate::formats::{Container, Format};
+use crate::formats::{ContainerKind, RawFormat};
 
 /// What the program is asked for: one variant for each command, with what was given on the command line.
 ///
@@ -33,8 +33,8 @@ pub enum Job<'a> {
     Encode {
         input: &'a str,
         output: &'a str,
-        format: Format,
-        container: Container,
+        format: RawFormat,
+        container: ContainerKind,
         comments: Vec<&'a str>,
         lax: bool,
         predictors: Option<&'a str>,

@@ -5,6 +5,6 @@ mod formats;
 mod jobs;
 mod line_faults;
 
-pub use formats::{Container, Format};
+pub use formats::{ContainerKind, RawFormat};
 pub use jobs::Job;
 pub use line_faults::LineFault;

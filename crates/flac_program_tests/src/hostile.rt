@@ -87,7 +87,8 @@ fn perform_zeros(alloc: Global, zeros: &mut Zeros<'_>) -> Outcome {
     found
 }
 
-/// A quotient whose zeros do not end within the 16777215 bytes of a frame: the source is asked for one piece of 4096 bytes more at most.
+/// A quotient whose zeros do not end within the 16777215 bytes of a frame: the source is asked for one piece of 4096
+/// bytes more at most.
 #[test]
 fn endless_quotient(rt: HostRuntime) -> Result<(), Fail> {
     let alloc = rt.alloc();

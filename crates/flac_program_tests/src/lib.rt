@@ -1,5 +1,5 @@
-//! Tests of the program over memory: its command lines, and what it answers to streams and samples, by tables of text. They stand apart
-//! from those of the libraries, so that these need not wait for the program.
+//! Tests of the program over memory: its command lines, and what it answers to streams and samples, by tables of text.
+//! They stand apart from those of the libraries, so that these need not wait for the program.
 #![tactic(auto)]
 
 #[cfg(test)]

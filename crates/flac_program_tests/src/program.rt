@@ -5,7 +5,11 @@ use crate::tables::{
     PREFIXES, RETAGGINGS, SWEPT,
 };
 use flac_bits::{Collected, Counted, Memory, Pieces, Source, Target};
-use flac_cli::{Container, Format, Job, Task, run};
+use flac_cli::{ContainerKind, Job, RawFormat, Task, run};
+use flac_vectors::{
+    ALTERNATING, EXAMPLE, EXAMPLE_INFO, EXAMPLE_TAGGED, LEFT_SIDE, NO_SAMPLES, ONE_SAMPLE, PAGES,
+    RISING_ALONE, SILENT_ALONE, TWO_INFOS, append_word,
+};
 use flac_words::job;
 use std::alloc::Global;
 use std::io;
@@ -55,7 +59,8 @@ impl Outcome {
             && self.err.as_slice() == other.err.as_slice()
     }
 
-    /// Whether a stream was accepted, and none of the two where just the line of counts or of a fault is not what came of it.
+    /// Whether a stream was accepted, and none of the two where just the line of counts or of a fault is not what came
+    /// of it.
     pub(crate) fn is_accepted(&self) -> Option<bool> {
         if self.status == 0 && self.err.is_empty() && is_counts(line_in(&self.out, "")) {
             Some(true)
@@ -126,8 +131,26 @@ fn is_fault(line: &str) -> bool {
     is_place(place) && is_number(number) && !name.is_empty() && !name.contains(' ')
 }
 
-/// The hex digits of the piece of this name, or else the word itself.
+/// The hex digits of the stream or the piece of this name, or else the word itself.
 fn digits_of<'a>(word: &'a str) -> &'a str {
+    match word {
+        "EXAMPLE" => EXAMPLE,
+        "EXAMPLE_INFO" => EXAMPLE_INFO,
+        "EXAMPLE_TAGGED" => EXAMPLE_TAGGED,
+        "TWO_INFOS" => TWO_INFOS,
+        "ONE_SAMPLE" => ONE_SAMPLE,
+        "NO_SAMPLES" => NO_SAMPLES,
+        "RISING_ALONE" => RISING_ALONE,
+        "SILENT_ALONE" => SILENT_ALONE,
+        "ALTERNATING" => ALTERNATING,
+        "LEFT_SIDE" => LEFT_SIDE,
+        "PAGES" => PAGES,
+        _ => piece_of(word),
+    }
+}
+
+/// The hex digits of the piece of this name, or else the word itself.
+fn piece_of<'a>(word: &'a str) -> &'a str {
     for line in PIECES.lines() {
         if let Some((name, digits)) = line.split_once(' ') {
             if name == word {
@@ -138,15 +161,11 @@ fn digits_of<'a>(word: &'a str) -> &'a str {
     word
 }
 
-/// The bytes of some words: each is the name of a piece or hex digits, and `WORD*COUNT` is that often.
+/// The bytes of some words: each is the name of a stream or of a piece, or hex digits, `DIGITS*COUNT` that often.
 pub(crate) fn bytes_of(alloc: Global, words: &str) -> Result<Vec<u8>, Fail> {
     let mut bytes = Vec::new(alloc);
     for word in words.split_whitespace() {
-        let (name, count) = word.split_once('*').unwrap_or((word, "1"));
-        let part = hex::decode(alloc, digits_of(name))?;
-        for _ in 0..count.parse::<usize>()? {
-            bytes.extend_from_slice(&part)?;
-        }
+        append_word(alloc, &mut bytes, digits_of(word))?;
     }
     Ok(bytes)
 }
@@ -343,7 +362,7 @@ fn many_lines(alloc: Global, count: usize, last: &str) -> Result<Outcome, Fail> 
 #[test]
 fn too_many_predictors(rt: HostRuntime) -> Result<(), Fail> {
     let alloc = rt.alloc();
-    let wanted = bytes_of(alloc, "PREDICTED COMMENTS ALTERNATING")?;
+    let wanted = bytes_of(alloc, "PREDICTED COMMENTS PREDICTED_FRAME")?;
     let line = "flac: a.txt: 52 TooManyPredictors\n";
     assert!(rt; many_lines(alloc, 63, "1 0 -1")?.is(0, &wanted, "", ""));
     assert!(rt; many_lines(alloc, 64, "# none")?.is(0, &wanted, "", ""));
@@ -595,7 +614,7 @@ fn fails(alloc: Global, job: &Job<'_>, stream: &[u8], wanted: &str) -> bool {
 #[test]
 fn failing(rt: HostRuntime) -> Result<(), Fail> {
     let alloc = rt.alloc();
-    let stream = bytes_of(alloc, "ROW")?;
+    let stream = bytes_of(alloc, "EXAMPLE")?;
     assert!(rt; fails(alloc, &TEST, &stream, "flac: a.flac: 39 Write\n"));
     assert!(rt; fails(alloc, &DECODE, &stream, "flac: a.raw: frame 0: 30 Sink\n"));
     assert!(rt; fails(alloc, &LIST, &stream, "flac: a.flac: block 0: 30 Sink\n"));
@@ -606,7 +625,7 @@ fn failing(rt: HostRuntime) -> Result<(), Fail> {
 #[test]
 fn no_table_in_ogg(rt: HostRuntime) {
     let alloc = rt.alloc();
-    let format = Format {
+    let format = RawFormat {
         rate: 44100,
         channels: 2,
         bits: 16,
@@ -617,7 +636,7 @@ fn no_table_in_ogg(rt: HostRuntime) {
         input: "a.raw",
         output: "a.oga",
         format,
-        container: Container::Ogg { serial: 1 },
+        container: ContainerKind::Ogg { serial: 1 },
         comments: Vec::new(alloc),
         lax: false,
         predictors: None,

@@ -1,23 +1,13 @@
 //! The tables of the tests of the program.
 
-/// Pieces of streams, by name, in hex.
+/// Pieces of streams, by name, in hex. Whole streams have their names in `flac_vectors`.
 pub(crate) const PIECES: &str =
-    "# The example of RFC 9639, appendix D.1, its digest unknown: one frame of one sample of two channels.
-ROW 664c6143800000221000100000000f00000f0ac442f00000000100000000000000000000000000000000fff869180000bf0358fd03128baa9a
-# Its marker and STREAMINFO, and its frame.
-ROW_INFO 664c6143800000221000100000000f00000f0ac442f00000000100000000000000000000000000000000
-ROW_FRAME fff869180000bf0358fd03128baa9a
-# The marker and STREAMINFO of 44100 Hz, one or two channels of 16 bits, blocks of 16 to 4096 (or 4608) samples; total and digest unknown.
+    "# The marker and STREAMINFO of 44100 Hz, one or two channels of 16 bits, blocks of 16 to 4096 (or 4608) samples; total and digest unknown.
 MONO 664c614380000022001010000000000000000ac440f00000000000000000000000000000000000000000
 STEREO 664c614380000022001010000000000000000ac442f00000000000000000000000000000000000000000
 MONO_4608 664c614380000022001012000000000000000ac440f00000000000000000000000000000000000000000
 # The same as MONO, and more blocks after it.
 MORE 664c614300000022001010000000000000000ac440f00000000000000000000000000000000000000000
-# Frames: 0 to 15 by a fixed predictor of order 2; sixteen zeros by order 0; 1001 and -1001 in turn by a linear predictor of the coefficient -1; 0 to 15 in two channels as left and side.
-RAMP fff86908000f30140000000103c0efc9
-ZEROS fff86908000f301003c0cf43
-ALTERNATING fff86908000f304003e90040f000b5aa
-LEFT_SIDE fff86988000f3b140000000103c02007803d83
 # The raw samples 0 to 15 in one channel, and in each of two.
 RISING 00000100020003000400050006000700080009000a000b000c000d000e000f00
 RISING_TWICE 000000000100010002000200030003000400040005000500060006000700070008000800090009000a000a000b000b000c000c000d000d000e000e000f000f00
@@ -26,7 +16,7 @@ COMMENTS 840000160e000000666c61632070726f66696c65203100000000
 # The same with TITLE=x.
 TITLE_X 840000210e000000666c61632070726f66696c65203101000000070000005449544c453d78
 # STREAMINFO of one sample of two channels, its digest stated, and the frame that is written.
-ONE_SAMPLE 664c6143000000221000100000000f00000f0ac442f0000000013e84b41807dc690307586a3dad1a2e0f
+ONE_INFO 664c6143000000221000100000000f00000f0ac442f0000000013e84b41807dc690307586a3dad1a2e0f
 ONE_FRAME fff869180000bf0158fd01128b5ab2
 # Pages of Ogg. The mapping packet with STREAMINFO of one sample of two channels; a comment block of no vendor and no comments, the last block; the frame of that sample, on the page marked last.
 MAPPING 4f67675300020000000000000000010000000000000018597d8f01337f464c414301000001664c6143000000221000100000000f00000f0ac442f0000000013e84b41807dc690307586a3dad1a2e0f
@@ -69,35 +59,36 @@ LAX 664c6143000000220010001000000b00000b10001040000000104ae71336e44bf9bf79d2752e
 LAX_FRAME fff86000000fc700000572
 LAX_MAPPING 4f67675300020000000000000000010000000000000029c2183b01337f464c414301000001664c6143000000220010001000000b00000b10001040000000104ae71336e44bf9bf79d2752e234818a5
 LAX_PAGE 4f676753000410000000000000000100000002000000aa3cdb8e010bfff86000000fc700000572
-# 1001 and -1001 in turn: STREAMINFO where the frame is ALTERNATING, and in Ogg; STREAMINFO and the frame by a fixed predictor of order 0, with residuals of 11 bits.
+# 1001 and -1001 in turn: the frame by a linear predictor of the coefficient -1, STREAMINFO of such a stream, and in Ogg; STREAMINFO and the frame by a fixed predictor of order 0, with residuals of 11 bits.
+PREDICTED_FRAME fff86908000f304003e90040f000b5aa
 PREDICTED 664c614300000022001000100000100000100ac440f000000010d1f223132b5d8ea4d06feffa79868854
 PREDICTED_MAPPING 4f67675300020000000000000000010000000000000029bebf0b01337f464c414301000001664c614300000022001000100000100000100ac440f000000010d1f223132b5d8ea4d06feffa79868854
 PREDICTED_PAGE 4f6767530004100000000000000001000000020000000ecc45b30110fff86908000f304003e90040f000b5aa
 PLAIN 664c614300000022001000100000220000220ac440f000000010d1f223132b5d8ea4d06feffa79868854
 PLAIN_FRAME fff86908000f301003d6fa60bbe982efa60bbe982efa60bbe982efa60bbe982eb03d";
 
-/// Native streams: a command, its input, its status, and what it writes to its file, to standard output and to standard error. The frames were made bit
-/// by bit; the answers are those of RFC 9639 and of its streamable subset.
+/// Native streams: a command, its input, its status, and what it writes to its file, to standard output and to standard
+/// error. The frames were made bit by bit; the answers are those of RFC 9639 and of its streamable subset.
 pub(crate) const NATIVE: &str = "# The example of RFC 9639, appendix D.1.
-test a.flac | ROW | 0 |  | frames 1 samples 1;
-decode a.flac a.raw | ROW | 0 | f463b028
-list a.flac | ROW | 0 |  | block 0 STREAMINFO 34;  blocks 4096 4096 frames 15 15 rate 44100 channels 2 depth 16 samples 1;  md5 00000000000000000000000000000000;
+test a.flac | EXAMPLE | 0 |  | frames 1 samples 1;
+decode a.flac a.raw | EXAMPLE | 0 | f463b028
+list a.flac | EXAMPLE | 0 |  | block 0 STREAMINFO 34;  blocks 4096 4096 frames 15 15 rate 44100 channels 2 depth 16 samples 1;  md5 00000000000000000000000000000000;
 # Sixteen zeros of 65537 Hz and 5 bits, which STREAMINFO alone states: outside the streamable subset.
 test a.flac | 664c614380000022001000100000000000001000104000000010 00*16 fff86000000fc700000572 | 1 |  |  | flac: a.flac: frame 0: 14 NotSubset;
 test --lax a.flac | 664c614380000022001000100000000000001000104000000010 00*16 fff86000000fc700000572 | 0 |  | frames 1 samples 16;
 decode --lax a.flac a.raw | 664c614380000022001000100000000000001000104000000010 00*16 fff86000000fc700000572 | 0 | 00*16
 list a.flac --lax | 664c614380000022001000100000000000001000104000000010 00*16 fff86000000fc700000572 | 0 |  | block 0 STREAMINFO 34;  blocks 16 16 frames 0 0 rate 65537 channels 1 depth 5 samples 16;  md5 00000000000000000000000000000000;
 # Cut, with another check, and followed by one byte and by two.
-test a.flac | 664c6143800000221000100000000f00000f0ac442f000000001 00*16 fff869180000bf0358fd03128baa | 1 |  |  | flac: a.flac: frame 0: 3 Truncated;
-decode a.flac a.raw | 664c6143800000221000100000000f00000f0ac442f000000001 00*16 fff869180000bf0358fd03128baa9b | 1 |  |  | flac: a.flac: frame 0: 26 FrameCheck;
-decode a.flac a.raw | ROW 00 | 1 | f463b028 |  | flac: a.flac: frame 1: 3 Truncated;
-decode a.flac a.raw | ROW 0000 | 1 | f463b028 |  | flac: a.flac: frame 1: 12 BadSync;
+test a.flac | EXAMPLE_INFO fff869180000bf0358fd03128baa | 1 |  |  | flac: a.flac: frame 0: 3 Truncated;
+decode a.flac a.raw | EXAMPLE_INFO fff869180000bf0358fd03128baa9b | 1 |  |  | flac: a.flac: frame 0: 26 FrameCheck;
+decode a.flac a.raw | EXAMPLE 00 | 1 | f463b028 |  | flac: a.flac: frame 1: 3 Truncated;
+decode a.flac a.raw | EXAMPLE 0000 | 1 | f463b028 |  | flac: a.flac: frame 1: 12 BadSync;
 # Sixteen zeros in one channel after a STREAMINFO of two channels, and of one.
-test a.flac | ROW_INFO fff86908000f300000004680 | 1 |  |  | flac: a.flac: frame 0: 17 HeaderMismatch;
+test a.flac | EXAMPLE_INFO fff86908000f300000004680 | 1 |  |  | flac: a.flac: frame 0: 17 HeaderMismatch;
 test a.flac | 664c6143800000221000100000000f00000f0ac440f000000010 00*16 fff86908000f300000004680 | 0 |  | frames 1 samples 16;
 decode a.flac a.raw | 664c6143800000221000100000000f00000f0ac440f000000010 00*16 fff86908000f300000004680 | 0 | 00*32
 # A header of other block size and rate, whose check holds.
-test a.flac | 664c6143800000221000100000000f00000f0ac442f000000001 00*16 fff858180000bf0358fd03128baa9a | 1 |  |  | flac: a.flac: frame 0: 17 HeaderMismatch;
+test a.flac | EXAMPLE_INFO fff858180000bf0358fd03128baa9a | 1 |  |  | flac: a.flac: frame 0: 17 HeaderMismatch;
 # A short block before another, and the last one short.
 test a.flac | MONO fff8c908009500000021bd fff86908010f25000000ba85 fff8c908029b000000f94d | 1 |  |  | flac: a.flac: frame 2: 19 BlockSize;
 test a.flac | MONO fff8c908009500000021bd fff8c90801920000004dc5 fff86908020f1a0000003e8f | 0 |  | frames 3 samples 8208;
@@ -107,30 +98,30 @@ test a.flac | MONO_4608 fff9c908008300000009bd fff9c908e18880bb000000f2a2 | 1 | 
 # The blocking strategy changes.
 test a.flac | MONO fff9c908008300000009bd fff8c90801920000004dc5 | 1 |  |  | flac: a.flac: frame 1: 18 Sequence;
 # What is decoded of four kinds of subframe, and of samples at the ends of 32 bits that the reference encoder wrote as mid and side.
-decode a.flac a.raw | MONO RAMP | 0 | RISING
-decode a.flac a.raw | MONO ZEROS | 0 | 00*32
-decode a.flac a.raw | MONO ALTERNATING | 0 | e90317fc*8
-decode a.flac a.raw | STEREO LEFT_SIDE | 0 | RISING_TWICE
+decode a.flac a.raw | RISING_ALONE | 0 | RISING
+decode a.flac a.raw | SILENT_ALONE | 0 | 00*32
+decode a.flac a.raw | ALTERNATING | 0 | e90317fc*8
+decode a.flac a.raw | LEFT_SIDE | 0 | RISING_TWICE
 decode a.flac a.raw | 664c614380000022001010000000000000000ac443f0 00*20 fff869ae000f05100015555555501ffffffff8c88021c7ffffff480000003ffffffa40000001ffffffd20000000ffffffe900000007ffffff480000003ffffffa40000001ffffffd20000000ffffffe89a26 | 0 | ffffff7f0000008000000080ffffff7f*8
 # A quotient of 262143 zeros is read on under the parameter 14; the next zero makes the value too large.
 test a.flac | MONO fff86908000f301003 80 00*32767 40 | 1 |  |  | flac: a.flac: frame 0: 3 Truncated;
 test a.flac | MONO fff86908000f301003 80 00*32767 20 | 1 |  |  | flac: a.flac: frame 0: 23 ResidualRange;
 # Two rules broken at the end of a header: the check goes before the subset, the format, the sequence and the size.
 # a depth as in STREAMINFO, 48000 Hz, number 5, 32 samples, each with a wrong check
-test a.flac | MONO ZEROS fff86900010f75 | 1 |  |  | flac: a.flac: frame 1: 16 HeaderCheck;
-test a.flac | MONO ZEROS fff86a08010f1e | 1 |  |  | flac: a.flac: frame 1: 16 HeaderCheck;
-test a.flac | MONO ZEROS fff86908050f70 | 1 |  |  | flac: a.flac: frame 1: 16 HeaderCheck;
-test a.flac | MONO ZEROS fff86908011f54 | 1 |  |  | flac: a.flac: frame 1: 16 HeaderCheck;
+test a.flac | SILENT_ALONE fff86900010f75 | 1 |  |  | flac: a.flac: frame 1: 16 HeaderCheck;
+test a.flac | SILENT_ALONE fff86a08010f1e | 1 |  |  | flac: a.flac: frame 1: 16 HeaderCheck;
+test a.flac | SILENT_ALONE fff86908050f70 | 1 |  |  | flac: a.flac: frame 1: 16 HeaderCheck;
+test a.flac | SILENT_ALONE fff86908011f54 | 1 |  |  | flac: a.flac: frame 1: 16 HeaderCheck;
 # a depth as in STREAMINFO, with two channels, number 5, 32 samples
-test a.flac | MONO ZEROS fff86910010fd6 | 1 |  |  | flac: a.flac: frame 1: 14 NotSubset;
-test a.flac | MONO ZEROS fff86900050f20 | 1 |  |  | flac: a.flac: frame 1: 14 NotSubset;
-test a.flac | MONO ZEROS fff86900011f04 | 1 |  |  | flac: a.flac: frame 1: 14 NotSubset;
+test a.flac | SILENT_ALONE fff86910010fd6 | 1 |  |  | flac: a.flac: frame 1: 14 NotSubset;
+test a.flac | SILENT_ALONE fff86900050f20 | 1 |  |  | flac: a.flac: frame 1: 14 NotSubset;
+test a.flac | SILENT_ALONE fff86900011f04 | 1 |  |  | flac: a.flac: frame 1: 14 NotSubset;
 # 48000 Hz, with number 5, 32 samples
-test a.flac | MONO ZEROS fff86a08050f4b | 1 |  |  | flac: a.flac: frame 1: 17 HeaderMismatch;
-test a.flac | MONO ZEROS fff86a08011f6f | 1 |  |  | flac: a.flac: frame 1: 17 HeaderMismatch;
+test a.flac | SILENT_ALONE fff86a08050f4b | 1 |  |  | flac: a.flac: frame 1: 17 HeaderMismatch;
+test a.flac | SILENT_ALONE fff86a08011f6f | 1 |  |  | flac: a.flac: frame 1: 17 HeaderMismatch;
 # number 5 with 32 samples, and 32 samples alone
-test a.flac | MONO ZEROS fff86908051f01 | 1 |  |  | flac: a.flac: frame 1: 18 Sequence;
-test a.flac | MONO ZEROS fff86908011f55 | 1 |  |  | flac: a.flac: frame 1: 19 BlockSize;
+test a.flac | SILENT_ALONE fff86908051f01 | 1 |  |  | flac: a.flac: frame 1: 18 Sequence;
+test a.flac | SILENT_ALONE fff86908011f55 | 1 |  |  | flac: a.flac: frame 1: 19 BlockSize;
 # -1 of 12 bits, -2 of 20, 127 of 8: the digest right, wrong, and wrong after a wrong total.
 decode a.flac a.raw | 664c614380000022001010000000000000000ac440b000000001ab2a0d28de6b77ffdd6c72afead099ab fff869040000e700fff064e0 | 0 | ffff
 decode a.flac a.raw | 664c614380000022001010000000000000000ac440b000000001ab2a0d28de6b77ffdd6c72afead099aa fff869040000e700fff064e0 | 1 | ffff |  | flac: a.flac: end: 29 Md5Mismatch;
@@ -178,83 +169,85 @@ MORE 8600002000000000ffffffff | block 1: 7 BlockLength
 MORE 83fffff6 | block 1: 3 Truncated";
 
 /// Prefixes of streams: the stream, the range of their lengths in bytes, and the line that answers each.
-pub(crate) const PREFIXES: &str = "ROW | 0 4 | marker: 3 Truncated
-ROW | 4 42 | block 0: 3 Truncated
-ROW | 42 43 | end: 28 TotalMismatch
-ROW | 43 57 | frame 0: 3 Truncated
-STEREO LEFT_SIDE | 0 4 | marker: 3 Truncated
-STEREO LEFT_SIDE | 4 42 | block 0: 3 Truncated
-STEREO LEFT_SIDE | 42 43 | frames 0 samples 0
-STEREO LEFT_SIDE | 43 61 | frame 0: 3 Truncated";
+pub(crate) const PREFIXES: &str = "EXAMPLE | 0 4 | marker: 3 Truncated
+EXAMPLE | 4 42 | block 0: 3 Truncated
+EXAMPLE | 42 43 | end: 28 TotalMismatch
+EXAMPLE | 43 57 | frame 0: 3 Truncated
+LEFT_SIDE | 0 4 | marker: 3 Truncated
+LEFT_SIDE | 4 42 | block 0: 3 Truncated
+LEFT_SIDE | 42 43 | frames 0 samples 0
+LEFT_SIDE | 43 61 | frame 0: 3 Truncated";
 
-/// Changed bytes of streams: the stream, the range of the bytes, and the lines that answer a change of the lowest bit, of the highest bit and of all bits.
+/// Changed bytes of streams: the stream, the range of the bytes, and the lines that answer a change of the lowest bit,
+/// of the highest bit and of all bits.
 pub(crate) const CHANGES: &str =
-    "ROW | 0 4 | marker: 4 BadMarker | marker: 4 BadMarker | marker: 4 BadMarker
-ROW | 4 5 | block 0: 5 NotStreamInfoFirst | block 1: 6 ForbiddenType | block 0: 5 NotStreamInfoFirst
-ROW | 5 8 | block 0: 7 BlockLength | block 0: 7 BlockLength | block 0: 7 BlockLength
-ROW | 8 10 | block 0: 8 BadStreamInfo | block 0: 8 BadStreamInfo | block 0: 8 BadStreamInfo
-ROW | 10 18 | frames 1 samples 1 | frames 1 samples 1 | frames 1 samples 1
-ROW | 18 21 | frame 0: 17 HeaderMismatch | frame 0: 17 HeaderMismatch | frame 0: 17 HeaderMismatch
-ROW | 21 22 | end: 28 TotalMismatch | frame 0: 17 HeaderMismatch | block 0: 8 BadStreamInfo
-ROW | 22 25 | end: 28 TotalMismatch | end: 28 TotalMismatch | end: 28 TotalMismatch
-ROW | 25 26 | frames 1 samples 1 | end: 28 TotalMismatch | end: 28 TotalMismatch
-ROW | 26 42 | end: 29 Md5Mismatch | end: 29 Md5Mismatch | end: 29 Md5Mismatch
-ROW | 42 43 | frame 0: 12 BadSync | frame 0: 12 BadSync | frame 0: 12 BadSync
-ROW | 43 44 | frame 0: 16 HeaderCheck | frame 0: 12 BadSync | frame 0: 12 BadSync
-ROW | 44 45 | frame 0: 16 HeaderCheck | frame 0: 16 HeaderCheck | frame 0: 16 HeaderCheck
-ROW | 45 46 | frame 0: 13 ReservedCode | frame 0: 16 HeaderCheck | frame 0: 13 ReservedCode
-ROW | 46 47 | frame 0: 16 HeaderCheck | frame 0: 15 BadNumber | frame 0: 15 BadNumber
-ROW | 47 49 | frame 0: 16 HeaderCheck | frame 0: 16 HeaderCheck | frame 0: 16 HeaderCheck
-ROW | 49 50 | frame 0: 26 FrameCheck | frame 0: 20 BadSubframe | frame 0: 20 BadSubframe
-ROW | 50 52 | frame 0: 26 FrameCheck | frame 0: 26 FrameCheck | frame 0: 26 FrameCheck
-ROW | 52 53 | frame 0: 26 FrameCheck | frame 0: 20 BadSubframe | frame 0: 20 BadSubframe
-ROW | 53 57 | frame 0: 26 FrameCheck | frame 0: 26 FrameCheck | frame 0: 26 FrameCheck
-STEREO LEFT_SIDE | 0 4 | marker: 4 BadMarker | marker: 4 BadMarker | marker: 4 BadMarker
-STEREO LEFT_SIDE | 4 5 | block 0: 5 NotStreamInfoFirst | block 1: 6 ForbiddenType | block 0: 5 NotStreamInfoFirst
-STEREO LEFT_SIDE | 5 8 | block 0: 7 BlockLength | block 0: 7 BlockLength | block 0: 7 BlockLength
-STEREO LEFT_SIDE | 8 9 | frames 1 samples 16 | block 0: 8 BadStreamInfo | block 0: 8 BadStreamInfo
-STEREO LEFT_SIDE | 9 18 | frames 1 samples 16 | frames 1 samples 16 | frames 1 samples 16
-STEREO LEFT_SIDE | 18 21 | frame 0: 17 HeaderMismatch | frame 0: 17 HeaderMismatch | frame 0: 17 HeaderMismatch
-STEREO LEFT_SIDE | 21 22 | end: 28 TotalMismatch | frame 0: 17 HeaderMismatch | block 0: 8 BadStreamInfo
-STEREO LEFT_SIDE | 22 25 | end: 28 TotalMismatch | end: 28 TotalMismatch | end: 28 TotalMismatch
-STEREO LEFT_SIDE | 25 26 | end: 28 TotalMismatch | end: 28 TotalMismatch | end: 28 TotalMismatch
-STEREO LEFT_SIDE | 26 42 | end: 29 Md5Mismatch | end: 29 Md5Mismatch | end: 29 Md5Mismatch
-STEREO LEFT_SIDE | 42 43 | frame 0: 12 BadSync | frame 0: 12 BadSync | frame 0: 12 BadSync
-STEREO LEFT_SIDE | 43 44 | frame 0: 16 HeaderCheck | frame 0: 12 BadSync | frame 0: 12 BadSync
-STEREO LEFT_SIDE | 44 45 | frame 0: 16 HeaderCheck | frame 0: 16 HeaderCheck | frame 0: 16 HeaderCheck
-STEREO LEFT_SIDE | 45 46 | frame 0: 13 ReservedCode | frame 0: 16 HeaderCheck | frame 0: 13 ReservedCode
-STEREO LEFT_SIDE | 46 47 | frame 0: 16 HeaderCheck | frame 0: 15 BadNumber | frame 0: 15 BadNumber
-STEREO LEFT_SIDE | 47 49 | frame 0: 16 HeaderCheck | frame 0: 16 HeaderCheck | frame 0: 16 HeaderCheck
-STEREO LEFT_SIDE | 49 50 | frame 0: 20 BadSubframe | frame 0: 20 BadSubframe | frame 0: 20 BadSubframe
-STEREO LEFT_SIDE | 50 54 | frame 0: 26 FrameCheck | frame 0: 26 FrameCheck | frame 0: 26 FrameCheck
-STEREO LEFT_SIDE | 54 55 | frame 0: 3 Truncated | frame 0: 22 BadPartition | frame 0: 22 BadPartition
-STEREO LEFT_SIDE | 55 56 | frame 0: 20 BadSubframe | frame 0: 3 Truncated | frame 0: 3 Truncated
-STEREO LEFT_SIDE | 56 57 | frame 0: 22 BadPartition | frame 0: 3 Truncated | frame 0: 14 NotSubset
-STEREO LEFT_SIDE | 57 58 | frame 0: 3 Truncated | frame 0: 23 ResidualRange | frame 0: 14 NotSubset
-STEREO LEFT_SIDE | 58 59 | frame 0: 24 NonzeroPadding | frame 0: 3 Truncated | frame 0: 3 Truncated
-STEREO LEFT_SIDE | 59 61 | frame 0: 26 FrameCheck | frame 0: 26 FrameCheck | frame 0: 26 FrameCheck";
+    "EXAMPLE | 0 4 | marker: 4 BadMarker | marker: 4 BadMarker | marker: 4 BadMarker
+EXAMPLE | 4 5 | block 0: 5 NotStreamInfoFirst | block 1: 6 ForbiddenType | block 0: 5 NotStreamInfoFirst
+EXAMPLE | 5 8 | block 0: 7 BlockLength | block 0: 7 BlockLength | block 0: 7 BlockLength
+EXAMPLE | 8 10 | block 0: 8 BadStreamInfo | block 0: 8 BadStreamInfo | block 0: 8 BadStreamInfo
+EXAMPLE | 10 18 | frames 1 samples 1 | frames 1 samples 1 | frames 1 samples 1
+EXAMPLE | 18 21 | frame 0: 17 HeaderMismatch | frame 0: 17 HeaderMismatch | frame 0: 17 HeaderMismatch
+EXAMPLE | 21 22 | end: 28 TotalMismatch | frame 0: 17 HeaderMismatch | block 0: 8 BadStreamInfo
+EXAMPLE | 22 25 | end: 28 TotalMismatch | end: 28 TotalMismatch | end: 28 TotalMismatch
+EXAMPLE | 25 26 | frames 1 samples 1 | end: 28 TotalMismatch | end: 28 TotalMismatch
+EXAMPLE | 26 42 | end: 29 Md5Mismatch | end: 29 Md5Mismatch | end: 29 Md5Mismatch
+EXAMPLE | 42 43 | frame 0: 12 BadSync | frame 0: 12 BadSync | frame 0: 12 BadSync
+EXAMPLE | 43 44 | frame 0: 16 HeaderCheck | frame 0: 12 BadSync | frame 0: 12 BadSync
+EXAMPLE | 44 45 | frame 0: 16 HeaderCheck | frame 0: 16 HeaderCheck | frame 0: 16 HeaderCheck
+EXAMPLE | 45 46 | frame 0: 13 ReservedCode | frame 0: 16 HeaderCheck | frame 0: 13 ReservedCode
+EXAMPLE | 46 47 | frame 0: 16 HeaderCheck | frame 0: 15 BadNumber | frame 0: 15 BadNumber
+EXAMPLE | 47 49 | frame 0: 16 HeaderCheck | frame 0: 16 HeaderCheck | frame 0: 16 HeaderCheck
+EXAMPLE | 49 50 | frame 0: 26 FrameCheck | frame 0: 20 BadSubframe | frame 0: 20 BadSubframe
+EXAMPLE | 50 52 | frame 0: 26 FrameCheck | frame 0: 26 FrameCheck | frame 0: 26 FrameCheck
+EXAMPLE | 52 53 | frame 0: 26 FrameCheck | frame 0: 20 BadSubframe | frame 0: 20 BadSubframe
+EXAMPLE | 53 57 | frame 0: 26 FrameCheck | frame 0: 26 FrameCheck | frame 0: 26 FrameCheck
+LEFT_SIDE | 0 4 | marker: 4 BadMarker | marker: 4 BadMarker | marker: 4 BadMarker
+LEFT_SIDE | 4 5 | block 0: 5 NotStreamInfoFirst | block 1: 6 ForbiddenType | block 0: 5 NotStreamInfoFirst
+LEFT_SIDE | 5 8 | block 0: 7 BlockLength | block 0: 7 BlockLength | block 0: 7 BlockLength
+LEFT_SIDE | 8 9 | frames 1 samples 16 | block 0: 8 BadStreamInfo | block 0: 8 BadStreamInfo
+LEFT_SIDE | 9 18 | frames 1 samples 16 | frames 1 samples 16 | frames 1 samples 16
+LEFT_SIDE | 18 21 | frame 0: 17 HeaderMismatch | frame 0: 17 HeaderMismatch | frame 0: 17 HeaderMismatch
+LEFT_SIDE | 21 22 | end: 28 TotalMismatch | frame 0: 17 HeaderMismatch | block 0: 8 BadStreamInfo
+LEFT_SIDE | 22 25 | end: 28 TotalMismatch | end: 28 TotalMismatch | end: 28 TotalMismatch
+LEFT_SIDE | 25 26 | end: 28 TotalMismatch | end: 28 TotalMismatch | end: 28 TotalMismatch
+LEFT_SIDE | 26 42 | end: 29 Md5Mismatch | end: 29 Md5Mismatch | end: 29 Md5Mismatch
+LEFT_SIDE | 42 43 | frame 0: 12 BadSync | frame 0: 12 BadSync | frame 0: 12 BadSync
+LEFT_SIDE | 43 44 | frame 0: 16 HeaderCheck | frame 0: 12 BadSync | frame 0: 12 BadSync
+LEFT_SIDE | 44 45 | frame 0: 16 HeaderCheck | frame 0: 16 HeaderCheck | frame 0: 16 HeaderCheck
+LEFT_SIDE | 45 46 | frame 0: 13 ReservedCode | frame 0: 16 HeaderCheck | frame 0: 13 ReservedCode
+LEFT_SIDE | 46 47 | frame 0: 16 HeaderCheck | frame 0: 15 BadNumber | frame 0: 15 BadNumber
+LEFT_SIDE | 47 49 | frame 0: 16 HeaderCheck | frame 0: 16 HeaderCheck | frame 0: 16 HeaderCheck
+LEFT_SIDE | 49 50 | frame 0: 20 BadSubframe | frame 0: 20 BadSubframe | frame 0: 20 BadSubframe
+LEFT_SIDE | 50 54 | frame 0: 26 FrameCheck | frame 0: 26 FrameCheck | frame 0: 26 FrameCheck
+LEFT_SIDE | 54 55 | frame 0: 3 Truncated | frame 0: 22 BadPartition | frame 0: 22 BadPartition
+LEFT_SIDE | 55 56 | frame 0: 20 BadSubframe | frame 0: 3 Truncated | frame 0: 3 Truncated
+LEFT_SIDE | 56 57 | frame 0: 22 BadPartition | frame 0: 3 Truncated | frame 0: 14 NotSubset
+LEFT_SIDE | 57 58 | frame 0: 3 Truncated | frame 0: 23 ResidualRange | frame 0: 14 NotSubset
+LEFT_SIDE | 58 59 | frame 0: 24 NonzeroPadding | frame 0: 3 Truncated | frame 0: 3 Truncated
+LEFT_SIDE | 59 61 | frame 0: 26 FrameCheck | frame 0: 26 FrameCheck | frame 0: 26 FrameCheck";
 
 /// Streams of one frame, which begins at byte 42.
-pub(crate) const SWEPT: &str = "ROW
-MONO RAMP
-MONO ALTERNATING
-STEREO LEFT_SIDE";
+pub(crate) const SWEPT: &str = "EXAMPLE
+RISING_ALONE
+ALTERNATING
+LEFT_SIDE";
 
-/// Streams of which each prefix is read, and each stream with the lowest bit, the highest bit or all bits of one byte changed; and how many of both are
-/// accepted, as a model of the format answers that shares no code with this project (`conformance/model.py`).
+/// Streams of which each prefix is read, and each stream with the lowest bit, the highest bit or all bits of one byte
+/// changed; and how many of both are accepted, as a model of the format answers that shares no code with this project
+/// (`conformance/model.py`).
 pub(crate) const STRANGE: &str =
     "# The example, the same as this project writes it, no samples, four frames behind a STREAMINFO of their format, the example with a comment.
-ROW | 0 25
-664c6143800000221000100000000f00000f0ac442f0000000013e84b41807dc690307586a3dad1a2e0f ONE_FRAME | 0 25
-664c614380000022100010000000000000000ac442f000000000d41d8cd98f00b204e9800998ecf8427e | 0 34
-MONO RAMP | 1 28
-MONO ZEROS | 1 28
-MONO ALTERNATING | 1 28
-STEREO LEFT_SIDE | 1 28
-664c6143000000221000100000000f00000f0ac442f000000001 00*16 TITLE_X ROW_FRAME | 0 88
+EXAMPLE | 0 25
+ONE_SAMPLE | 0 25
+NO_SAMPLES | 0 34
+RISING_ALONE | 1 28
+SILENT_ALONE | 1 28
+ALTERNATING | 1 28
+LEFT_SIDE | 1 28
+EXAMPLE_TAGGED | 0 88
 # A block of every kind, and a stream in pages.
 MORE 02000006616243ff0102 03000036 00*16 1000000000000000100000000000000001020010ffffffffffffffff00000000000000070001 0400001c03000000615c620200000009000000583d7f7e20c3a90a5b00000000 0600002e0000000300000009696d6167652f706e6700000003610a62000000020000000500000018000000000000000200ff 7e000003616263 010000020007 850001e031005c 00*130 01588880 00*258 0200000000000000000141420000000000000000000040 00*13 01000000000000024c010000000000000000000930aa 00*12 80 00*14 | 0 917
-MAPPING COMMENT FRAME | 0 0";
+PAGES | 0 0";
 
 /// The lines of `list`, in rows as those of native streams.
 pub(crate) const LISTS: &str =
@@ -272,17 +265,17 @@ list a.flac | MORE 850001e031005c 00*130 01588880 00*258 02000000000000000001414
 # A block of every kind.
 list a.flac | MORE 02000006616243ff0102 03000036 00*16 1000000000000000100000000000000001020010ffffffffffffffff00000000000000070001 0400001c03000000615c620200000009000000583d7f7e20c3a90a5b00000000 0600002e0000000300000009696d6167652f706e6700000003610a62000000020000000500000018000000000000000200ff 7e000003616263 010000020007 850001e031005c 00*130 01588880 00*258 0200000000000000000141420000000000000000000040 00*13 01000000000000024c010000000000000000000930aa 00*12 80 00*14 | 0 |  | block 0 STREAMINFO 34;  blocks 16 4096 frames 0 0 rate 44100 channels 1 depth 16 samples 0;  md5 00000000000000000000000000000000;block 1 APPLICATION 6;  id 616243ff;block 2 SEEKTABLE 54;  point 0 0 4096;  point 4096 258 16;  placeholder;block 3 VORBIS_COMMENT 28;  vendor a\x5cb;  comment X=\x7f~ \xc3\xa9\x0a[;  comment ;block 4 PICTURE 46;  type 3 media image/png text a\x0ab size 2x5 depth 24 colours 0 data 2;block 5 TYPE_126 3;block 6 PADDING 2;block 7 CUESHEET 480;  catalogue 1\x00\x5c lead_in 88200 cd 1;  track 1 offset 0 isrc AB type audio pre 1;  index 1 offset 588;  track 170 offset 2352 isrc  type data pre 0;"#;
 
-/// Raw samples that are encoded, in rows as those of native streams. The streams were put together by hand, with checks and digests that were worked out
-/// apart from this project.
+/// Raw samples that are encoded, in rows as those of native streams. The streams were put together by hand, with checks
+/// and digests that were worked out apart from this project.
 pub(crate) const ENCODINGS: &str =
     "# One sample of two channels, without comments and with one; no samples. Each is listed or decoded again.
-encode a.raw a.flac --rate 44100 --channels 2 --bits 16 | f463b028 | 0 | ONE_SAMPLE COMMENTS ONE_FRAME
-decode a.flac a.raw | ONE_SAMPLE COMMENTS ONE_FRAME | 0 | f463b028
-encode a.raw a.flac --rate 44100 --channels 2 --bits 16 TITLE=x | f463b028 | 0 | ONE_SAMPLE TITLE_X ONE_FRAME
+encode a.raw a.flac --rate 44100 --channels 2 --bits 16 | f463b028 | 0 | ONE_INFO COMMENTS ONE_FRAME
+decode a.flac a.raw | ONE_INFO COMMENTS ONE_FRAME | 0 | f463b028
+encode a.raw a.flac --rate 44100 --channels 2 --bits 16 TITLE=x | f463b028 | 0 | ONE_INFO TITLE_X ONE_FRAME
 encode a.raw a.flac --rate 44100 --channels 2 --bits 16 |  | 0 | 664c614300000022100010000000000000000ac442f000000000d41d8cd98f00b204e9800998ecf8427e COMMENTS
 test a.flac | 664c614300000022100010000000000000000ac442f000000000d41d8cd98f00b204e9800998ecf8427e COMMENTS | 0 |  | frames 0 samples 0;
-test a.flac | 664c614380000022100010000000000000000ac442f000000000d41d8cd98f00b204e9800998ecf8427e | 0 |  | frames 0 samples 0;
-list a.flac | 664c614380000022100010000000000000000ac442f000000000d41d8cd98f00b204e9800998ecf8427e | 0 |  | block 0 STREAMINFO 34;  blocks 4096 4096 frames 0 0 rate 44100 channels 2 depth 16 samples 0;  md5 d41d8cd98f00b204e9800998ecf8427e;
+test a.flac | NO_SAMPLES | 0 |  | frames 0 samples 0;
+list a.flac | NO_SAMPLES | 0 |  | block 0 STREAMINFO 34;  blocks 4096 4096 frames 0 0 rate 44100 channels 2 depth 16 samples 0;  md5 d41d8cd98f00b204e9800998ecf8427e;
 # No samples have no seek table.
 encode a.raw a.flac --rate 44100 --channels 2 --bits 16 --seek-every 1 |  | 0 | 664c614300000022100010000000000000000ac442f000000000d41d8cd98f00b204e9800998ecf8427e COMMENTS
 # One sample of 12, 20 and 8 bits: -1, -2 with its wasted bit left out and by a fixed predictor of order 0, 127.
@@ -341,10 +334,10 @@ pub(crate) const PREDICTED: &str =
 --block 16 --predictors a.txt |  | 0 | PLAIN COMMENTS PLAIN_FRAME
 --block 16 --predictors a.txt | # no predictor;;\t \r; | 0 | PLAIN COMMENTS PLAIN_FRAME
 # The predictor that the samples follow: its residual is zeros.
---block 16 --predictors a.txt | 1 0 -1 | 0 | PREDICTED COMMENTS ALTERNATING
---block 16 --predictors a.txt | 1 0 -1; | 0 | PREDICTED COMMENTS ALTERNATING
---block 16 --predictors a.txt | # the last one;3 0 2 -1;\t01  0\t-1 # right\r;15 15 -16384 16383 | 0 | PREDICTED COMMENTS ALTERNATING
---block 16 --predictors a.txt --lax | 1 0 -1 | 0 | PREDICTED COMMENTS ALTERNATING
+--block 16 --predictors a.txt | 1 0 -1 | 0 | PREDICTED COMMENTS PREDICTED_FRAME
+--block 16 --predictors a.txt | 1 0 -1; | 0 | PREDICTED COMMENTS PREDICTED_FRAME
+--block 16 --predictors a.txt | # the last one;3 0 2 -1;\t01  0\t-1 # right\r;15 15 -16384 16383 | 0 | PREDICTED COMMENTS PREDICTED_FRAME
+--block 16 --predictors a.txt --lax | 1 0 -1 | 0 | PREDICTED COMMENTS PREDICTED_FRAME
 --block 16 --predictors a.txt --ogg | 1 0 -1 | 0 | PREDICTED_MAPPING VENDOR PREDICTED_PAGE
 # An order of 16, which a block of 16 samples does not use: above 12 in the subset at this rate.
 --block 16 --predictors a.txt | 2 0 1 0 0 0 0 0 0 0 0 0 0 0 0 0 0 1 | 1 |  |  | flac: a.txt: 51 PredictorOrder;
@@ -387,13 +380,14 @@ pub(crate) const COME_BACK: &str = "--bits 8 --channels 1 | 17
 /// Streams that are given other comments, in rows as those of native streams.
 pub(crate) const RETAGGINGS: &str =
     "# A comment is added, and replaced; a second STREAMINFO; a stream that is cut in the first.
-retag a.flac b.flac TITLE=x | ROW | 0 | 664c6143000000221000100000000f00000f0ac442f000000001 00*16 TITLE_X ROW_FRAME
-retag a.flac b.flac TITLE=y | 664c6143000000221000100000000f00000f0ac442f000000001 00*16 TITLE_X ROW_FRAME | 0 | 664c6143000000221000100000000f00000f0ac442f000000001 00*16 840000210e000000666c61632070726f66696c65203101000000070000005449544c453d79 ROW_FRAME
-retag a.flac b.flac TITLE=x | 664c6143000000221000100000000f00000f0ac442f000000001 00*16 800000221000100000000f00000f0ac442f000000001 00*16 fff869180000bf0358fd03128baa9a | 1 |  |  | flac: a.flac: block 1: 9 RepeatedBlock;
+retag a.flac b.flac TITLE=x | EXAMPLE | 0 | EXAMPLE_TAGGED
+retag a.flac b.flac TITLE=y | EXAMPLE_TAGGED | 0 | 664c6143000000221000100000000f00000f0ac442f000000001 00*16 840000210e000000666c61632070726f66696c65203101000000070000005449544c453d79 fff869180000bf0358fd03128baa9a
+retag a.flac b.flac TITLE=x | TWO_INFOS | 1 |  |  | flac: a.flac: block 1: 9 RepeatedBlock;
 retag a.flac b.flac TITLE=x | 664c6143800000221000100000000f00000f0ac442f000000001 00*15 | 1 |  |  | flac: a.flac: block 0: 3 Truncated;";
 
-/// Ogg streams, page by page, in rows as those of native streams. The sums of the pages were worked out apart from this project.
-pub(crate) const OGG: &str = "test a.flac | MAPPING COMMENT FRAME | 0 |  | frames 1 samples 1;
+/// Ogg streams, page by page, in rows as those of native streams. The sums of the pages were worked out apart from this
+/// project.
+pub(crate) const OGG: &str = "test a.flac | PAGES | 0 |  | frames 1 samples 1;
 test a.flac | MAPPING COMMENT NO_SEGMENTS FRAME_3 | 0 |  | frames 1 samples 1;
 test a.flac | MAPPING PADDING 00*251 PADDING_GOES_ON 00*45 COMMENT_3 FRAME_4 | 0 |  | frames 1 samples 1;
 test a.flac | ZEROS_MAPPING ZEROS_0 ZEROS_1 ZEROS_2 ZEROS_3 | 0 |  | frames 4 samples 64;
@@ -401,7 +395,7 @@ test a.flac | ZEROS_MAPPING ZEROS_TOGETHER | 0 |  | frames 4 samples 64;
 test a.flac | MAPPING COMMENT NO_BYTES | 1 |  |  | flac: a.flac: frame 0: 35 PacketLength;
 test a.flac | MAPPING COMMENT LONG_FRAME | 1 |  |  | flac: a.flac: frame 0: 35 PacketLength;
 test a.flac | MAPPING COMMENT SHORT_FRAME | 1 |  |  | flac: a.flac: frame 0: 35 PacketLength;
-test a.flac | MAPPING COMMENT FRAME 4f | 1 |  |  | flac: a.flac: page 3: 33 PageOrder;
+test a.flac | PAGES 4f | 1 |  |  | flac: a.flac: page 3: 33 PageOrder;
 test a.flac | MAPPING COMMENT OPEN_FRAME | 1 |  |  | flac: a.flac: end: 36 NoEndPage;
 test a.flac | MAPPING COMMENT | 1 |  |  | flac: a.flac: end: 36 NoEndPage;
 test a.flac | MAPPING LAST_COMMENT | 1 |  |  | flac: a.flac: end: 28 TotalMismatch;
@@ -418,8 +412,8 @@ test a.flac | MAPPING CONTINUED FRAME | 1 |  |  | flac: a.flac: page 1: 33 PageO
 test a.flac | VERSION_2 COMMENT FRAME | 1 |  |  | flac: a.flac: marker: 37 BadMapping;
 test a.flac | NOT_FIRST COMMENT FRAME | 1 |  |  | flac: a.flac: marker: 37 BadMapping;
 test a.flac | 4f | 1 |  |  | flac: a.flac: page 0: 3 Truncated;
-decode a.flac a.raw | MAPPING COMMENT FRAME | 0 | f463b028
-list a.flac | MAPPING COMMENT FRAME | 0 |  | block 0 STREAMINFO 34;  blocks 4096 4096 frames 15 15 rate 44100 channels 2 depth 16 samples 1;  md5 3e84b41807dc690307586a3dad1a2e0f;block 1 VORBIS_COMMENT 8;  vendor ;
+decode a.flac a.raw | PAGES | 0 | f463b028
+list a.flac | PAGES | 0 |  | block 0 STREAMINFO 34;  blocks 4096 4096 frames 15 15 rate 44100 channels 2 depth 16 samples 1;  md5 3e84b41807dc690307586a3dad1a2e0f;block 1 VORBIS_COMMENT 8;  vendor ;
 # A page is missing: the frames whose packets ended before it are written.
 decode a.flac a.raw | ZEROS_MAPPING ZEROS_0 ZEROS_1 ZEROS_3 | 1 | 00*64 |  | flac: a.flac: page 3: 33 PageOrder;
 # A wrong sum, and a page that does not begin as one.
@@ -428,7 +422,8 @@ test a.flac | MAPPING 4e67675300000000000000000000010000000100000060d1f601010c84
 # A page whose 255 lacing values are 255, and whose body is cut.
 test a.flac | MAPPING COMMENT 4f6767530000 ff*8 010000000200000000000000ff ff*255 fff869180000bf0158fd01128b5ab2 00*65009 | 1 |  |  | flac: a.flac: page 2: 3 Truncated;";
 
-/// Command lines, and the jobs that they are read as, or the status and the text of the refusal, of which `;` ends a line.
+/// Command lines, and the jobs that they are read as, or the status and the text of the refusal, of which `;` ends a
+/// line.
 pub(crate) const JOBS: &str = r#"flac test a.flac | Test { input: "a.flac", lax: false }
 flac test --lax a.flac | Test { input: "a.flac", lax: true }
 flac decode a.flac a.raw | Decode { input: "a.flac", output: "a.raw", lax: false }
@@ -436,12 +431,12 @@ flac decode a.flac a.raw --lax | Decode { input: "a.flac", output: "a.raw", lax:
 flac list a.flac | List { input: "a.flac", lax: false }
 flac list a.flac --lax | List { input: "a.flac", lax: true }
 flac retag a.flac b.flac A=b | Retag { input: "a.flac", output: "b.flac", comments: ["A=b"] }
-flac encode a.raw a.flac --rate 44100 --channels 2 --bits 16 --seek-every 5 A=b | Encode { input: "a.raw", output: "a.flac", format: Format { rate: 44100, channels: 2, bits: 16, block: 4096, seek_every: 5 }, container: Native, comments: ["A=b"], lax: false, predictors: None }
-flac encode a.raw a.oga --rate 44100 --channels 2 --bits 16 --ogg --serial 7 | Encode { input: "a.raw", output: "a.oga", format: Format { rate: 44100, channels: 2, bits: 16, block: 4096, seek_every: 0 }, container: Ogg { serial: 7 }, comments: [], lax: false, predictors: None }
-flac encode a.raw a.oga --rate 44100 --channels 2 --bits 16 --ogg --block 4096 | Encode { input: "a.raw", output: "a.oga", format: Format { rate: 44100, channels: 2, bits: 16, block: 4096, seek_every: 0 }, container: Ogg { serial: 1 }, comments: [], lax: false, predictors: None }
-flac encode a.raw a.oga --rate 44100 --channels 2 --bits 16 --seek-every=0 --serial 7 | Encode { input: "a.raw", output: "a.oga", format: Format { rate: 44100, channels: 2, bits: 16, block: 4096, seek_every: 0 }, container: Native, comments: [], lax: false, predictors: None }
-flac encode a.raw a.flac --rate 44100 --channels 2 --bits 5 --lax | Encode { input: "a.raw", output: "a.flac", format: Format { rate: 44100, channels: 2, bits: 5, block: 4096, seek_every: 0 }, container: Native, comments: [], lax: true, predictors: None }
-flac encode a.raw a.flac --rate 44100 --channels 2 --bits 16 --predictors a.txt | Encode { input: "a.raw", output: "a.flac", format: Format { rate: 44100, channels: 2, bits: 16, block: 4096, seek_every: 0 }, container: Native, comments: [], lax: false, predictors: Some("a.txt") }
+flac encode a.raw a.flac --rate 44100 --channels 2 --bits 16 --seek-every 5 A=b | Encode { input: "a.raw", output: "a.flac", format: RawFormat { rate: 44100, channels: 2, bits: 16, block: 4096, seek_every: 5 }, container: Native, comments: ["A=b"], lax: false, predictors: None }
+flac encode a.raw a.oga --rate 44100 --channels 2 --bits 16 --ogg --serial 7 | Encode { input: "a.raw", output: "a.oga", format: RawFormat { rate: 44100, channels: 2, bits: 16, block: 4096, seek_every: 0 }, container: Ogg { serial: 7 }, comments: [], lax: false, predictors: None }
+flac encode a.raw a.oga --rate 44100 --channels 2 --bits 16 --ogg --block 4096 | Encode { input: "a.raw", output: "a.oga", format: RawFormat { rate: 44100, channels: 2, bits: 16, block: 4096, seek_every: 0 }, container: Ogg { serial: 1 }, comments: [], lax: false, predictors: None }
+flac encode a.raw a.oga --rate 44100 --channels 2 --bits 16 --seek-every=0 --serial 7 | Encode { input: "a.raw", output: "a.oga", format: RawFormat { rate: 44100, channels: 2, bits: 16, block: 4096, seek_every: 0 }, container: Native, comments: [], lax: false, predictors: None }
+flac encode a.raw a.flac --rate 44100 --channels 2 --bits 5 --lax | Encode { input: "a.raw", output: "a.flac", format: RawFormat { rate: 44100, channels: 2, bits: 5, block: 4096, seek_every: 0 }, container: Native, comments: [], lax: true, predictors: None }
+flac encode a.raw a.flac --rate 44100 --channels 2 --bits 16 --predictors a.txt | Encode { input: "a.raw", output: "a.flac", format: RawFormat { rate: 44100, channels: 2, bits: 16, block: 4096, seek_every: 0 }, container: Native, comments: [], lax: false, predictors: Some("a.txt") }
 flac encode a.raw a.flac --rate 44100 --channels 2 --bits 16 none | 2 flac: command: comment without =;
 flac encode a.raw a.flac --rate 44100 --channels 2 --bits 16 --ogg --seek-every 5 | 2 flac: command: --ogg with --seek-every;
 flac encode a.raw a.flac --rate 44100 --channels 2 --bits 16 --ogg --seek-every 5 none | 2 flac: command: comment without =;

@@ -1,5 +1,5 @@
 -- What a reader finds in a stream that encoding wrote.
-use Rattle.std.proofs.Common.{◌≡◌, ℕ, zero, suc, ◌+◌, ◌-◌, ◌*◌, ◌/◌, ◌<◌, ◌≤◌, min, Bool, true, false, cond, ◌&&◌, nat_le, nat_lt, List, [], ◌∷◌, ◌++◌, length, Some, None, Result, Ok, Err, refl, sym, ap, subst, ◌∙◌, arith}
+use Rattle.std.proofs.Common.{◌≡◌, ℕ, zero, suc, ◌+◌, ◌-◌, ◌*◌, ◌/◌, ◌<◌, ◌≤◌, min, Bool, true, false, cond, ◌&&◌, nat_le, nat_lt, List, [], ◌∷◌, ◌++◌, length, Option, Some, None, Result, Ok, Err, refl, sym, ap, subst, ◌∙◌, arith}
 use Rattle.std.specs.List.{fold, filter}
 use Rattle.std.proofs.lemmas.Bool.{and_parts}
 use Rattle.std.proofs.lemmas.Bool.Decides.{nat_tests}
@@ -9,6 +9,7 @@ use Rattle.flac_bits.specs.Bits.{bits_of}
 use Rattle.flac_bits.specs.Handing.{by_grammar}
 use Rattle.flac_bits.specs.declared.why.Why.TheVariants.{Truncated}
 use Rattle.flac_meta.specs.Info.{Info}
+use Rattle.flac_meta.specs.SeekTable.{is_before}
 use Rattle.flac_meta.specs.Valid.{AllAre}
 use Rattle.flac_meta.specs.declared.seek_table.SeekPoint.{SeekPoint}
 use Rattle.flac_meta.specs.declared.block.Block.{Block}
@@ -30,7 +31,7 @@ use Rattle.flac_reader.specs.Kept.{keeps, first_info, first_points}
 use Rattle.flac_reader.specs.Starting.{frames_start}
 use Rattle.flac_reader.specs.Coming.{FramesCome}
 use Rattle.flac_reader.specs.Opening.{IsReadAs, Opens}
-use Rattle.flac_reader.specs.Seeking.{is_before, offset_before, search_start, holds, PassedBy, HoldsFirst, Cuts, SeeksFrames}
+use Rattle.flac_reader.specs.Seeking.{offset_of, offset_before, search_start, holds, PassedBy, HoldsFirst, Cuts, SeeksFrames}
 use Rattle.flac_reader.specs.Encoded.{IsEncoded, stream_info, all_blocks, frame_count, frames_at, bytes_before, IsSoughtFrom, SearchesAreCut, frames_holding, GivesFrames, SamplesAreFound}
 use Rattle.flac_reader.specs.declared.keep.Keep.{Keep}
 use Rattle.flac_reader.specs.declared.keep.Keep.TheVariants.{All, Tags}
@@ -151,13 +152,13 @@ module _ (p : Cut) (list : List Block) (a : Sound) (stream : List ℕ) (e : IsEn
       let low = at_most x.sample sample (and_parts _ _ h).0 in
       record { number = n.number; among = let k = n.among in omega (arith, k); is = offset_is p list a stream e x n; first = subst (λ k. k ≤ sample) n.sample low }
 
-  before_all : (points : List SeekPoint) (offset : ℕ) → AllAre (NamesFrame p e.written.frames) points → IsFrameBefore e sample offset → IsFrameBefore e sample (fold (λ offset x. cond (is_before sample x) x.offset offset) offset points)
-  before_all [] offset all so_far = so_far
-  before_all (x ∷ xs) offset all so_far = before_all xs (cond (is_before sample x) x.offset offset) all.1 (go (is_before sample x) refl)
+  before_all : (points : List SeekPoint) (found : Option SeekPoint) → AllAre (NamesFrame p e.written.frames) points → IsFrameBefore e sample (offset_of found) → IsFrameBefore e sample (offset_of (fold (λ found x. cond (is_before sample x) (Some x) found) found points))
+  before_all [] found all so_far = so_far
+  before_all (x ∷ xs) found all so_far = before_all xs (cond (is_before sample x) (Some x) found) all.1 (go (is_before sample x) refl)
     where
-      go : (h : Bool) → is_before sample x ≡ h → IsFrameBefore e sample (cond (is_before sample x) x.offset offset)
-      go true h = subst (λ k. IsFrameBefore e sample (cond k x.offset offset)) (sym h) (point_before x all.0 h)
-      go false h = subst (λ k. IsFrameBefore e sample (cond k x.offset offset)) (sym h) so_far
+      go : (h : Bool) → is_before sample x ≡ h → IsFrameBefore e sample (offset_of (cond (is_before sample x) (Some x) found))
+      go true h = subst (λ k. IsFrameBefore e sample (offset_of (cond k (Some x) found))) (sym h) (point_before x all.0 h)
+      go false h = subst (λ k. IsFrameBefore e sample (offset_of (cond k (Some x) found))) (sym h) so_far
 
   from_the_first : IsFrameBefore e sample 0
   from_the_first = record { number = 0; among = omega arith; is = refl; first = omega arith }
@@ -168,7 +169,7 @@ module _ (p : Cut) (list : List Block) (a : Sound) (stream : List ℕ) (e : IsEn
   -- so by points that name frames
   sought_from : (points : List SeekPoint) → AllAre (NamesFrame p e.written.frames) points → IsSoughtFrom e (stream_info e) (frames_start (all_blocks e)) sample points
   sought_from points all =
-      let f = before_all points 0 all from_the_first in
+      let f = before_all points None all from_the_first in
       let start = frames_start (all_blocks e) in
       let at : start + offset_before sample points ≡ start + bytes_before e f.number = ap (λ o. start + o) f.is in
       let in_it : start + offset_before sample points ≤ length stream = subst (λ n. n ≤ length stream) (sym at) (within p list a stream e f.number f.among) in

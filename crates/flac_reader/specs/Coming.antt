@@ -23,8 +23,8 @@ use Rattle.flac_reader.specs.declared.keep.Keep.{Keep}
 
 -- ---- a decoder
 
--- A decoder has still to give these items, and then the end of the stream, or its refusal. Behind the end nothing is left but the end, and behind a refusal
--- that it is spent, at the place of that refusal.
+-- A decoder has still to give these items, and then the end of the stream, or its refusal. After the end each call gives the end again, and after a refusal
+-- it reports that it is spent, at the place of that refusal.
 abbrev pub ComesBehind : {C : Type 0} → container.Ghosts C → Course → Stage C → List Item → Option (Place × Why) → Type 0
 ComesBehind g course.Begun s items end = (p : Progress) × IsAt s.track p × StillGives (g.gives s.container) p items end
 ComesBehind g (course.Read part) s items end = (p : Progress) × IsAt s.track p × StillGives (g.gives s.container) p items end
@@ -34,17 +34,17 @@ ComesBehind g (course.Spent at) s items end = (items ≡ []) × (end ≡ Some (a
 abbrev pub Comes : {C : Type 0} → container.Ghosts C → Stage C → List Item → Option (Place × Why) → Type 0
 Comes g s items end = ComesBehind g s.course s items end
 
--- what comes once this end was told
+-- what comes once this end was returned
 abbrev pub again : Option (Place × Why) → Option (Place × Why)
 again None = None
 again (Some f) = Some (f.0, Spent)
 
--- the answer is the first of these items, or else the end, and the others are still to come
+-- the call returned the first of these items, or else the end, and the others are still to come
 abbrev pub IsFirst : {C : Type 0} → container.Ghosts C → List Item → Option (Place × Why) → Result (Option Item) Fault → Stage C → Type 0
 IsFirst g [] end answer s = EndsBy end answer × Comes g s [] (again end)
 IsFirst g (x ∷ xs) end answer s = (answer ≡ Ok (Some x)) × Comes g s xs end
 
--- the source tells its bytes, and answered no error
+-- the bytes of the source are known, and it returned no error
 abbrev pub IsCalm : {C : Type 0} → container.Ghosts C → Stage C → Stage C → Type 0
 IsCalm g old new = (g.known old.container ≡ true) × (g.errors new.container ≡ g.errors old.container) × (g.raised new.container ≡ g.raised old.container)
 
@@ -60,7 +60,7 @@ pub record Counted {C X : Type 0} (g : container.Ghosts C) (old new : Stage C) (
 
 -- ---- the metadata
 
--- blocks, and frames behind them
+-- blocks, and frames after them
 abbrev pub stream_items : List Block → List Frame → List Item
 stream_items blocks frames = map metadata blocks ++ map frame frames
 
@@ -98,7 +98,7 @@ size_of None = 0
 size_of (Some (metadata b)) = 0
 size_of (Some (frame f)) = f.size
 
--- The metadata was read from old on, of a source that tells its bytes: the wanted blocks are kept, the frames come next, and the bytes before them are counted. No
+-- The metadata was read from old on, of a source whose bytes are known: the wanted blocks are kept, the frames come next, and the bytes before them are counted. No
 -- error was met.
 pub record HeadOf {C : Type 0} (g : container.Ghosts C) (old new : Stage C) (keep : Keep) (kept : List Block) (ahead : Bool) (start : ℕ) : Type 0 where
   pub known : g.known old.container ≡ true → g.known new.container ≡ true

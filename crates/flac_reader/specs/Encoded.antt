@@ -57,7 +57,7 @@ bytes_before e number = length (joined (take number e.written.frames)) / 8
 
 -- ---- where it is cut
 
--- It is cut at each of its frames, and behind the last.
+-- It is cut at each of its frames, and after the last.
 abbrev pub FramesAreCut : Type 0
 FramesAreCut = (p : Cut) (list : List Block) (a : Sound) (stream : List ℕ) (e : IsEncoded p list a stream) (number : ℕ) → number ≤ frame_count e
     → Cuts p.profile stream (stream_info e) (frames_start (all_blocks e) + bytes_before e number) (frames_at e number)
@@ -75,7 +75,7 @@ PointsAreCut = (p : Cut) (list : List Block) (a : Sound) (stream : List ℕ) (e 
 
 -- ---- what a reader of it finds
 
--- Where a sample is sought by these points, the stream is cut at a frame that does not begin behind the sample: that of the point, or the first.
+-- If a sample is sought by these points, the stream is cut at a frame that begins at or before the sample: that of the point, or the first.
 pub record IsSoughtFrom {p : Cut} {list : List Block} {a : Sound} {stream : List ℕ} (e : IsEncoded p list a stream) (info : Info) (start sample : ℕ) (points : List SeekPoint) : Type 0 where
   pub number : ℕ
   pub among : number ≤ frame_count e
@@ -88,7 +88,7 @@ abbrev pub SearchesAreCut : {C : Type 0} → container.Ghosts C → Type 0
 SearchesAreCut {C = C} g = (p : Cut) (list : List Block) (a : Sound) (stream : List ℕ) (e : IsEncoded p list a stream) (keep : Keep) (reader : Reader C g) (sample : ℕ) → has_table list ≡ false
     → Opens (by_grammar grammar (opening p.profile) (beginning Truncated) (bits_of stream)) keep reader → IsSoughtFrom e reader.info reader.start sample (first_points reader.blocks.items)
 
--- the frames from the one on that holds a sample; none if the stream does not have so many samples
+-- the frames from the one on that holds a sample; none if the stream has fewer samples
 abbrev pub frames_holding : {p : Cut} {list : List Block} {a : Sound} {stream : List ℕ} → IsEncoded p list a stream → ℕ → List Frame
 frames_holding {p = p} e sample = cond (nat_lt sample p.total) (frames_at e (sample / p.block_size)) []
 
@@ -98,7 +98,7 @@ GivesFrames {h = h} frames (Ok reader) = FramesCome h reader.ahead (stage_of rea
 GivesFrames frames (Err f) = f.why ≢ Memory → ⊥
 
 -- What such a reader seeks in the bytes of the stream in that profile, as the clause `whole` of `Reader::seek_in` says it, is found: the frame that holds the sample comes next, and then
--- all frames behind it.
+-- all later frames.
 abbrev pub SamplesAreFound : {C D : Type 0} → container.Ghosts C → container.Ghosts D → Type 0
 SamplesAreFound {C = C} {D = D} g h = (p : Cut) (list : List Block) (a : Sound) (stream : List ℕ) (e : IsEncoded p list a stream) (keep : Keep) (reader : Reader C g) (sample : ℕ) (result : Result (Reader D h) Fault) → has_table list ≡ false
     → Opens (by_grammar grammar (opening p.profile) (beginning Truncated) (bits_of stream)) keep reader

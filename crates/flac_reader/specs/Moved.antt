@@ -13,7 +13,7 @@ use Rattle.flac_native.specs.declared.fault.Place.{Place}
 use Rattle.flac_native.specs.declared.fault.Place.TheVariants as place
 use Rattle.flac_native.specs.declared.fault.Fault.{Fault}
 
--- A device was moved so that its byte of this number is the next, and keeps its bytes; of one that tells no position, or no bytes, nothing is said of these.
+-- A device was moved so that its byte of this number is the next, and keeps its bytes; if its position or its bytes are not known, nothing is said of these.
 pub record IsMoved {T : Type 0} (position : T → Option ℕ) (bytes : T → Option (List ℕ)) (old new : T) (at : ℕ) : Type 0 where
   pub there : IfSome (position old) (λ _. position new ≡ Some at)
   pub kept : Keeps (bytes old) (bytes new)

@@ -21,7 +21,7 @@ left_in None channel index = []
 left_in (Some (metadata b)) channel index = []
 left_in (Some (frame f)) channel index = samples_from f channel index
 
--- what is left of it behind a spot
+-- what is left of it after a spot
 abbrev pub left_at : Spot → Option Item → List ℤ
 left_at spot.Next held = []
 left_at (spot.Inside channel index) held = left_in held channel index

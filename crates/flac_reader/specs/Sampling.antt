@@ -21,7 +21,7 @@ pub record SamplesLeft {C : Type 0} {g : container.Ghosts C} (reader : Reader C 
   pub split : samples ≡ first ++ all_samples frames
   pub come : FramesCome g reader.ahead (stage_of reader.decoder) frames end
 
--- behind the end, and behind a refusal, nothing is left, and no further refusal
+-- after the end, and after a refusal, nothing is left, and no further refusal
 abbrev pub ComeBehind : {C : Type 0} {g : container.Ghosts C} → Spot → Reader C g → List ℤ → Option (Place × Why) → Type 0
 ComeBehind spot.Over reader samples end = (samples ≡ []) × (end ≡ None)
 ComeBehind spot.Next reader samples end = SamplesLeft reader [] samples end
@@ -32,7 +32,7 @@ SamplesCome s samples end = ComeBehind s.spot s.reader samples end
 
 -- ---- what a call gives
 
--- the answer is the first of these samples, or else the end or the refusal, which is told once
+-- the call returned the first of these samples, or else the end or the refusal, which is returned once
 abbrev pub IsFirstSample : {C : Type 0} {g : container.Ghosts C} → List ℤ → Option (Place × Why) → Result (Option ℤ) Fault → Samples C g → Type 0
 IsFirstSample [] None answer s = (answer ≡ Ok None) × SamplesCome s [] None
 IsFirstSample [] (Some f) answer s = (answer ≡ Err (record { at = f.0; why = f.1 })) × SamplesCome s [] None
@@ -46,7 +46,7 @@ calls_left at left = cond (is_over at) 0 (left + 1)
 pub record GivesSample {C : Type 0} {g : container.Ghosts C} (old new : Samples C g) (answer : Result (Option ℤ) Fault) : Type 0 where
   pub sample : IsCalm g (stage_of old.reader.decoder) (stage_of new.reader.decoder) → HadRoom answer → (samples : List ℤ) (end : Option (Place × Why)) → SamplesCome old samples end → IsFirstSample samples end answer new
   pub counts : Counted g (stage_of old.reader.decoder) (stage_of new.reader.decoder) answer
-  -- behind the end, and behind any error, it answers that nothing is left, and stays so
+  -- after the end, and after any error, it returns that nothing is left, and stays so
   pub ended : answer ≡ Ok None → new.spot ≡ spot.Over
   pub spent : IfErr answer (λ _. new.spot ≡ spot.Over)
   pub over : old.spot ≡ spot.Over → (answer ≡ Ok None) × (new ≡ old)

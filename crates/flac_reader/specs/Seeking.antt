@@ -1,6 +1,6 @@
 -- Where a sample is sought in a stream (RFC 9639, sections 8.5 and 9.1.5).
-use Rattle.std.specs.Prelude.{◌≡◌, ◌≢◌, ◌≤◌, ◌<◌, ◌^◌, ℕ, ◌+◌, ◌*◌, min, Bool, not, ◌&&◌, cond, nat_eq, nat_le, nat_lt, List, [], ◌∷◌, ◌++◌, true, false, map, take, drop, length, Option, Some, None, Result, Ok, Err, ⊤}
-use Rattle.std.specs.List.{fold, list_any}
+use Rattle.std.specs.Prelude.{◌≡◌, ◌≢◌, ◌≤◌, ◌<◌, ◌^◌, ℕ, ◌+◌, min, Bool, ◌&&◌, nat_le, nat_lt, List, [], ◌∷◌, ◌++◌, true, false, map, take, drop, length, Option, Some, None, Result, Ok, Err, ⊤}
+use Rattle.std.specs.List.{list_any}
 use Rattle.flac_bits.specs.Bits.{bits_of}
 use Rattle.flac_bits.specs.State.{Rises}
 use Rattle.flac_bits.specs.Items.{Joined, Stream, after}
@@ -9,9 +9,10 @@ use Rattle.flac_bits.specs.declared.why.Why.{Why}
 use Rattle.flac_bits.specs.declared.why.Why.TheVariants.{Memory, Read, Truncated}
 use Rattle.flac_meta.specs.declared.block.Block.{Block}
 use Rattle.flac_meta.specs.Info.{Info}
+use Rattle.flac_meta.specs.SeekTable.{last_before}
 use Rattle.flac_meta.specs.declared.seek_table.SeekPoint.{SeekPoint}
 use Rattle.flac_header.specs.declared.subset.Profile.{Profile}
-use Rattle.flac_frame.specs.Frame.{Frame}
+use Rattle.flac_frame.specs.Frame.{Frame, first_sample}
 use Rattle.flac_native.specs.Decoding.{beginning}
 use Rattle.flac_native.specs.Resuming.{resumed}
 use Rattle.flac_native.specs.Stream.{Piece, framed, grammar, opening}
@@ -28,13 +29,14 @@ use Rattle.flac_reader.specs.declared.reader.Reader.{Reader}
 
 -- ---- a seek table
 
--- the point names a frame at or before the sample of this number: all ones stand for no frame (section 8.5.1)
-abbrev pub is_before : ℕ → SeekPoint → Bool
-is_before sample p = nat_le p.sample sample && not (nat_eq p.sample 18446744073709551615)
+-- the offset of a point, from the first frame; that of the first frame where there is none
+abbrev pub offset_of : Option SeekPoint → ℕ
+offset_of None = 0
+offset_of (Some p) = p.offset
 
--- the offset of the last point at or before a sample, from the first frame; that of the first frame where there is none
+-- the offset of the last point at or before a sample
 abbrev pub offset_before : ℕ → List SeekPoint → ℕ
-offset_before sample points = fold (λ offset p. cond (is_before sample p) p.offset offset) 0 points
+offset_before sample points = offset_of (last_before sample points)
 
 -- where a search begins, in bytes from the first of the stream, whose frames start here; it stops at 2^64 - 1
 abbrev pub search_start : (start sample : ℕ) → List SeekPoint → ℕ
@@ -42,19 +44,15 @@ search_start start sample points = min (start + offset_before sample points) 184
 
 -- ---- a frame
 
--- the number of the first sample of a frame, by its header: coded there, or as many blocks before it as the number of the frame (section 9.1.5)
-abbrev pub first_of : Info → Frame → ℕ
-first_of info f = cond f.variable f.number (f.number * info.greatest_block)
-
 -- the frame holds the sample of this number
 abbrev pub holds : Info → ℕ → Frame → Bool
-holds info sample f = nat_le (first_of info f) sample && nat_lt sample (first_of info f + f.size)
+holds info sample f = nat_le (first_sample info.greatest_block f) sample && nat_lt sample (first_sample info.greatest_block f + f.size)
 
 -- the number of the first sample of a frame that is held, 0 where none is
 abbrev pub number_of : Info → Option Item → ℕ
 number_of info None = 0
 number_of info (Some (metadata b)) = 0
-number_of info (Some (frame f)) = first_of info f
+number_of info (Some (frame f)) = first_sample info.greatest_block f
 
 -- none of these frames holds it
 abbrev pub PassedBy : Info → ℕ → List Frame → Type 0
@@ -65,7 +63,7 @@ abbrev pub HoldsFirst : Info → ℕ → List Frame → Type 0
 HoldsFirst info sample [] = ⊤
 HoldsFirst info sample (f ∷ frames) = holds info sample f ≡ true
 
--- Of these frames, which were to come, the ones before the first that holds the sample were passed by, and that one comes next; where none holds it, all were passed by.
+-- Of these frames, which were to come, the ones before the first that holds the sample were passed by, and that one comes next; if none holds it, all were passed by.
 pub record Finds {C : Type 0} (g : container.Ghosts C) (info : Info) (sample : ℕ) (frames : List Frame) (end : Option (Place × Why)) (ahead : Bool) (s : Stage C) : Type 0 where
   pub passed : List Frame
   pub left : List Frame
@@ -78,13 +76,13 @@ pub record Finds {C : Type 0} (g : container.Ghosts C) (info : Info) (sample : �
 abbrev pub Sought : {C : Type 0} {g : container.Ghosts C} → Info → ℕ → Reading Piece Place → Reader C g → Type 0
 Sought {g = g} info sample r reader = (frames : List Frame) (end : Option (Place × Why)) → IsReadAs r [] frames end → Finds g info sample frames end reader.ahead (stage_of reader.decoder)
 
--- So a reader was made over this input: it finds the frame; or the input is refused behind frames that do not hold the sample, unless memory ran out.
+-- So a reader was made over this input: it finds the frame; or the input is refused after frames that do not hold the sample, unless memory ran out.
 abbrev pub SeeksTo : {C : Type 0} {g : container.Ghosts C} → Info → ℕ → Reading Piece Place → Result (Reader C g) Fault → Type 0
 SeeksTo info sample r (Ok reader) = Sought info sample r reader
 SeeksTo info sample r (Err f) = f.why ≢ Memory → (frames : List Frame) (end : Option (Place × Why)) → IsReadAs r [] frames end → PassedBy info sample frames × (end ≡ Some (told f))
 
 -- No reader was made over the input of a source, for this reason. An error of the source raised its counts; without one, and if the input is known, it is refused
--- behind frames that do not hold the sample.
+-- after frames that do not hold the sample.
 pub record RefusesSeek (info : Info) (sample : ℕ) (r : Reading Piece Place) (known : Bool) (errors raised errors_left raised_left : ℕ) (f : Fault) : Type 0 where
   pub kept : errors ≤ errors_left
   pub risen : f.why ≡ Read → Rises raised raised_left
@@ -92,14 +90,14 @@ pub record RefusesSeek (info : Info) (sample : ℕ) (r : Reading Piece Place) (k
 
 -- ---- in a whole stream
 
--- The first so many bytes of a native stream are all its parts before these frames, and STREAMINFO among them is this.
+-- The first bytes of a native stream, up to this offset, are all its parts before these frames, and STREAMINFO among them is this.
 pub record Cuts (profile : Profile) (stream : List ℕ) (info : Info) (at : ℕ) (frames : List Frame) : Type 0 where
   pub front : List Piece
   pub whole : Stream grammar (opening profile) (beginning Truncated) (front ++ map framed frames) (bits_of stream)
   pub before : Joined grammar (opening profile) (beginning Truncated) front (bits_of (take at stream))
   pub known : (after grammar (opening profile) front).stand.info ≡ Some info
 
--- A reader finds the frame among these, and gives it and all behind it, up to the end of the stream; or memory ran out.
+-- A reader finds the frame among these, and gives it and all later ones, up to the end of the stream; or memory ran out.
 abbrev pub SeeksFrames : {C : Type 0} {g : container.Ghosts C} → Info → ℕ → List Frame → Result (Reader C g) Fault → Type 0
 SeeksFrames {g = g} info sample frames (Ok reader) = Finds g info sample frames None reader.ahead (stage_of reader.decoder)
 SeeksFrames info sample frames (Err f) = f.why ≢ Memory → ⊥
@@ -109,6 +107,6 @@ abbrev pub FramesStart : Type 0
 FramesStart = (profile : Profile) (stream : List ℕ) (blocks : List Block) (frames : List Frame) (info : Info) → length stream < 2 ^ 64
     → IsReadAs (by_grammar grammar (opening profile) (beginning Truncated) (bits_of stream)) blocks frames None → first_info blocks ≡ Some info → Cuts profile stream info (frames_start blocks) frames
 
--- And what is behind a cut is a stream of the frames there, read from the state in which a decoder is resumed.
+-- And the bytes after a cut are a stream of the frames there, read from the state in which a decoder is resumed.
 abbrev pub CutsAreRead : Type 0
 CutsAreRead = (profile : Profile) (stream : List ℕ) (info : Info) (at : ℕ) (frames : List Frame) → Cuts profile stream info at frames → IsReadAs (by_grammar grammar (resumed profile info) (beginning Truncated) (bits_of (drop at stream))) [] frames None

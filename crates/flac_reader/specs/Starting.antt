@@ -1,4 +1,4 @@
--- Where the frames of a native stream start: behind the marker and the metadata blocks (RFC 9639, section 6).
+-- Where the frames of a native stream start: after the marker and the metadata blocks (RFC 9639, section 6).
 use Rattle.std.specs.Prelude.{ℕ, ◌+◌, min, List, [], ◌∷◌}
 use Rattle.flac_meta.specs.Spelling.{length_of}
 use Rattle.flac_meta.specs.declared.block.Block.{Block}

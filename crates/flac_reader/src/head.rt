@@ -112,7 +112,7 @@ pub fn read_blocks<C: Container>(
 
 /// The first STREAMINFO of some blocks.
 #[tactic(auto, unfolding(crate::specs::Kept::first_info), using(crate::proofs::Firsts::info_more))]
-fn info_of(blocks: &[Block]) -> Option<StreamInfo>
+fn first_info(blocks: &[Block]) -> Option<StreamInfo>
     ensures { result ≡ first_info blocks.now }
 {
     for block in blocks {
@@ -141,7 +141,7 @@ pub(crate) fn read_head<C: Container>(
         Ok(()) => {}
         Err(fault) => return Err(fault),
     }
-    match info_of(kept.as_slice()) {
+    match first_info(kept.as_slice()) {
         Some(info) => Ok(Head { info, start }),
         None => Err(Fault {
             at: Place::Block(0),

@@ -13,9 +13,9 @@ pub fn streams_are_cut()
     ensures read { CutsAreRead }
 {}
 
-/// A stream that [`flac_native::encode`] wrote, with nothing before it, is cut at each of its frames: a frame begins as
-/// many bytes after the first one begins as the frames before it have. So it is cut at the offset of each point of the
-/// seek table that the plan asked for (RFC 9639, section 8.5.1).
+/// A stream that [`flac_native::encode`] wrote, with nothing before it, is cut at each of its frames: the offset of a
+/// frame from the first one is the number of bytes of the frames before it. So the stream is cut at the offset of each
+/// point of the seek table that the plan asked for (RFC 9639, section 8.5.1).
 pub fn encoded_are_cut()
     ensures frames { FramesAreCut }
     ensures points { PointsAreCut }

@@ -8,8 +8,10 @@ ghost use Rattle.flac_native.specs.declared.fault.Place.{Place};
 ghost use Rattle.std.specs.Borrow.{sem, follows_so};
 ghost use mathlib.Core.Option.{none};
 ghost use Rattle.flac_native.specs.Giving.{stage_of, held};
+ghost use Rattle.flac_meta.specs.SeekTable.{last_before};
 ghost use Rattle.flac_reader.specs.Kept.{first_info, first_comments, first_points};
 ghost use Rattle.flac_reader.specs.Refusing.{RefusedHead, IsRefusedHead};
+ghost use Rattle.flac_reader.specs.Seeking.{offset_before};
 ghost use Rattle.flac_reader.specs.Coming.{lent, only_frame, size_of, FramesCome, HeadOf};
 
 use crate::head::{Head, forward, read_head};
@@ -173,18 +175,29 @@ impl<C: Container> Reader<C> {
         None
     }
 
-    /// The points of the seek table, if one is among the blocks that were kept (RFC 9639, section 8.5).
+    /// The last point at or before a sample of the seek table, if a table with one is among the blocks that were kept
+    /// (RFC 9639, section 8.5).
     #[tactic(auto, unfolding(crate::specs::Kept::first_points), using(crate::proofs::Firsts::points_more))]
-    pub(crate) fn seek_points(&self) -> &[SeekPoint]
-        ensures { result.now ≡ first_points self.now.blocks.items }
+    pub(crate) fn point_before(&self, sample: u64) -> Option<SeekPoint>
+        ensures { result ≡ last_before sample (first_points self.now.blocks.items) }
     {
         for block in self.blocks.iter() {
             match block {
-                Block::SeekTable(table) => return table.points(),
+                Block::SeekTable(table) => return table.before(sample),
                 _ => {}
             }
         }
-        &[]
+        None
+    }
+
+    /// The offset of that point, in bytes from the first frame; 0 if there is none.
+    pub(crate) fn offset_before(&self, sample: u64) -> u64
+        ensures { result ≡ offset_before sample (first_points self.now.blocks.items) }
+    {
+        match self.point_before(sample) {
+            Some(point) => point.offset,
+            None => 0,
+        }
     }
 
     /// The number of the first sample of the frame that was lent last, counted from 0 in each channel. At the end of

@@ -6,24 +6,10 @@ ghost use Rattle.flac_frame.specs.Lent.{frame_of};
 ghost use Rattle.flac_native.specs.Item.{frame as framed};
 ghost use Rattle.flac_native.specs.Giving.{stage_of, held};
 ghost use Rattle.flac_reader.specs.Coming.{Comes, IsCalm, HadRoom, Counted};
-ghost use Rattle.flac_reader.specs.Seeking.{offset_before, first_of, number_of};
+ghost use Rattle.flac_reader.specs.Seeking.{number_of};
 ghost use Rattle.flac_reader.specs.inner.Seeking.{FirstIfHeld, Passes, Searches};
 
-use flac_meta::SeekPoint;
 use flac_native::{Container, Decoder, Fault, FrameView, Item, Place, StreamInfo, Why};
-
-/// The offset, in bytes from the first frame, of the last point at or before a sample; 0 if there is none.
-pub(crate) fn offset_before(points: &[SeekPoint], sample: u64) -> u64
-    ensures { result ≡ offset_before sample points.now }
-{
-    let mut offset = 0;
-    for point in points {
-        if point.sample <= sample && !point.is_placeholder() {
-            offset = point.offset;
-        }
-    }
-    offset
-}
 
 /// The bytes from an offset on; none if there are not as many.
 pub(crate) fn bytes_from(bytes: &[u8], offset: u64) -> &[u8]
@@ -36,26 +22,13 @@ pub(crate) fn bytes_from(bytes: &[u8], offset: u64) -> &[u8]
     }
 }
 
-/// The number of the first sample of a frame, by its header (RFC 9639, section 9.1.5).
-fn first_of(info: &StreamInfo, frame: &FrameView<'_>) -> u128
-    ensures { result ≡ first_of info.now (frame_of frame.now) }
-{
-    let number = u128::from(frame.number());
-    if frame.variable() {
-        number
-    } else {
-        number * u128::from(info.greatest_block())
-    }
-}
-
 /// The number of the frame's first sample, if the frame holds the sample.
 fn first_if_held(info: &StreamInfo, frame: &FrameView<'_>, sample: u64) -> Option<u64>
     ensures { FirstIfHeld info.now sample (frame_of frame.now) result }
 {
-    let first = first_of(info, frame);
-    let sample = u128::from(sample);
-    if first <= sample && sample < first + frame.len() as u128 {
-        Some(first as u64)
+    let first = frame.first_sample(info.greatest_block());
+    if first <= sample && sample - first < frame.len() as u64 {
+        Some(first)
     } else {
         None
     }

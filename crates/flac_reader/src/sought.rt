@@ -16,7 +16,7 @@ ghost use Rattle.flac_reader.specs.Seeking.{offset_before, search_start, number_
 
 use crate::head::Head;
 use crate::reader::Reader;
-use crate::seeking::{bytes_from, find_frame, offset_before};
+use crate::seeking::{bytes_from, find_frame};
 use flac_bits::BitReader;
 use flac_native::{Counted, Decoder, Fault, Memory, Place, Profile, Source, Why};
 use std::alloc::Global;
@@ -44,7 +44,7 @@ impl<R: Source> Reader<BitReader<R>> {
     pub fn seek_offset(&self, sample: u64) -> u64
         ensures { result ≡ search_start self.now.start sample (first_points self.now.blocks.items) }
     {
-        let offset = offset_before(self.seek_points(), sample);
+        let offset = self.offset_before(sample);
         self.start.saturating_add(offset)
     }
 }
@@ -58,6 +58,9 @@ impl<R: Source + Drop> Reader<BitReader<R>> {
     /// 9639, section 8.5): for that, the seek table must have been kept ([`Keep::All`](crate::Keep::All)). A frame
     /// holds the samples from the number in its header on. If the header has the number of the frame, each frame before
     /// it counts as many samples as the largest block size of STREAMINFO (section 9.1.5).
+    ///
+    /// The frames are read in `profile`, whatever the profile that the reader was opened with: in [`Profile::Subset`]
+    /// those outside the streamable subset are refused with [`Why::NotSubset`] (section 7).
     ///
     /// ```
     /// let start = reader.frames_start() as usize;
@@ -79,7 +82,7 @@ impl<R: Source + Drop> Reader<BitReader<R>> {
         // only as the bytes are, with no such frame before.
         ensures found { SeeksTo self.info sample (by_grammar grammar (resumed profile self.info) (beginning Truncated) (bits_of (drop (offset_before sample (first_points self.blocks.items)) frames.now))) result }
     {
-        let offset = offset_before(self.seek_points(), sample);
+        let offset = self.offset_before(sample);
         let source = Memory::new(bytes_from(frames, offset));
         self.seek_from(alloc, source, profile, sample)
     }
@@ -185,7 +188,8 @@ impl<R: Source + Drop> Reader<BitReader<R>> {
     ) -> Result<Reader<BitReader<Counted<T>>>, Fault>
         ensures blocks { IfOk result (λ r. (r.blocks ≡ self.blocks) × (r.info ≡ self.info) × (r.start ≡ self.start)) }
         ensures first { IfOk result (λ r. r.behind ≡ number_of self.info (held (stage_of r.decoder).course (stage_of r.decoder).track)) }
-        // Of the frames of the device from that point on, the first that holds the sample comes next, and then all others.
+        // Of the frames of the device from that point on, the first that holds the sample comes next, and then all
+        // others.
         ensures found { IfOk result (λ r. (moved : T) × IsMoved T.stream_position T.stream_bytes device moved (search_start self.start sample (first_points self.blocks.items)) × (is_some (T.remaining moved) ≡ true → Sought self.info sample (read_resumed profile self.info (T.remaining moved)) r)) }
         // Refused only if the device cannot be moved, or as its bytes from there on are, with no such frame before; or
         // because memory runs out, or because of an error of the device.

@@ -1,5 +1,5 @@
-//! Programs over a reader, as a user writes them: the tags and the peak of a stream, and a copy of one. The stream is the example of RFC 9639, appendix D.1, its
-//! digest unknown, with the comment TITLE=x.
+//! Programs over a reader, as a user writes them: the tags and the peak of a stream, and a copy of one. The stream is
+//! the example of RFC 9639, appendix D.1, its digest unknown, with the comment TITLE=x.
 
 use flac_frame::{Audio, FrameView};
 use flac_native::Decoder;

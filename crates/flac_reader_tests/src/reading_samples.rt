@@ -1,5 +1,6 @@
-//! Samples one by one, frames that are sought, and times. The streams are the example of RFC 9639, appendix D.1, with the comment TITLE=x, and the samples 0, 1, ..,
-//! 9999 in three frames of 4096, 4096 and 1808 samples with seek points, of which the first frame begins at byte 100.
+//! Samples one by one, frames that are sought, and times. The streams are the example of RFC 9639, appendix D.1, with
+//! the comment TITLE=x, and the samples 0, 1, .., 9999 in three frames of 4096, 4096 and 1808 samples with seek points,
+//! of which the first frame begins at byte 100.
 
 use flac_frame::Audio;
 use flac_reader::{
@@ -137,7 +138,8 @@ fn count_rising<C: Container + Drop>(
     (10001, None)
 }
 
-/// What is counted of a stream: the samples that rise by 1 from 0 on, what comes in place of the next, and what comes then.
+/// What is counted of a stream: the samples that rise by 1 from 0 on, what comes in place of the next, and what comes
+/// then.
 type Counts = (i32, Option<Result<i32, Fault>>, Option<Result<i32, Fault>>);
 
 /// Counts the samples of a stream.

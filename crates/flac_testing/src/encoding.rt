@@ -5,7 +5,7 @@ ghost use Rattle.flac_native.specs.Given.{fits_plan};
 
 use flac_bits::Collected;
 use flac_frame::Audio;
-use flac_meta::{Block, BlockList, Comments};
+use flac_meta::{BlockList, Comments};
 use flac_native::{Plan, encode};
 use std::alloc::Global;
 use std::mem::drop;
@@ -31,6 +31,5 @@ pub fn encoded(alloc: Global, audio: &Audio, block: u32, every: u32) -> Result<V
 
 /// A block of no vendor and no comments.
 pub fn no_comments(alloc: Global) -> Result<BlockList, Fail> {
-    let block = Block::VorbisComment(Comments::new(alloc, b"")?);
-    Ok(BlockList::new(vec![in alloc; block]?)?)
+    Ok(BlockList::of_comments(alloc, Comments::new(alloc, b"")?)?)
 }

@@ -1,4 +1,5 @@
-//! What the tests of several crates call: samples, streams that are encoded, and what a decoder gives. It has no tests, so that it is proved once.
+//! What the tests of several crates call: samples, streams that are encoded, and what a decoder gives. It has no tests,
+//! so that it is proved once.
 #![tactic(auto)]
 
 mod decoding;

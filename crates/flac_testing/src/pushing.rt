@@ -69,7 +69,8 @@ impl Recorder {
     }
 }
 
-/// How far samples go on that rise by 1 from a number on: the number that would be next, or the smallest of all if one is another.
+/// How far samples go on that rise by 1 from a number on: the number that would be next, or the smallest of all if one
+/// is another.
 fn rising_to(from: i32, samples: &[i32]) -> i32 {
     let mut next = from;
     for sample in samples {

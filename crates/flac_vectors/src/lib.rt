@@ -5,7 +5,7 @@ mod noise;
 mod rows;
 
 pub use noise::bursts;
-pub use rows::{bytes_of, channels_of, fields_of, pair_of, samples_of};
+pub use rows::{append_word, bytes_of, channels_of, fields_of, pair_of, samples_of};
 
 /// The example of RFC 9639, appendix D.1, its digest unknown: one frame of one sample of two channels.
 pub const EXAMPLE: &str =
@@ -78,8 +78,9 @@ pub const ALTERNATING: &str =
 pub const LEFT_SIDE: &str =
     "664c614380000022001010000000000000000ac442f00000000000000000000000000000000000000000fff86988000f3b140000000103c02007803d83";
 
-/// The samples 0, 1, .., 9999 of one channel of 16 bits, in blocks of 4096 with seek points at every 1000: STREAMINFO, the three points, and the frames, each
-/// by a fixed predictor of order 2 that leaves nothing. The first frame begins at byte 100.
+/// The samples 0, 1, .., 9999 of one channel of 16 bits, in blocks of 4096 with seek points at every 1000: STREAMINFO,
+/// the three points, and the frames, each by a fixed predictor of order 2 that leaves nothing. The first frame begins
+/// at byte 100.
 pub const TEN_THOUSAND: &str =
     "664c6143000000221000100000000f0000110ac440f000002710fbaf22f91d9bc53a48e9bcd88d4a22ff830000360000000000000000000000000000000010000000000000001000000000\
     000000000f10000000000000002000000000000000001e0710fff8c9080095140000000103c080fcfff8c9080192141000100103c0b699fff8790802070ff1142000200103c0c8ca";

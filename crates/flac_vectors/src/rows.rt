@@ -35,7 +35,7 @@ pub fn pair_of(words: &str) -> Result<(u32, u32), Fail> {
 }
 
 /// Appends the hex digits of a word, as often as it says: `DIGITS` or `DIGITS*COUNT`.
-fn append(alloc: Global, bytes: &mut Vec<u8>, word: &str) -> Result<(), Fail> {
+pub fn append_word(alloc: Global, bytes: &mut Vec<u8>, word: &str) -> Result<(), Fail> {
     let (digits, count) = word.split_once('*').unwrap_or((word, "1"));
     let part = hex::decode(alloc, digits)?;
     for _ in 0..count.parse::<usize>()? {
@@ -48,7 +48,7 @@ fn append(alloc: Global, bytes: &mut Vec<u8>, word: &str) -> Result<(), Fail> {
 pub fn bytes_of(alloc: Global, words: &str) -> Result<Vec<u8>, Fail> {
     let mut bytes = Vec::new(alloc);
     for word in words.split_whitespace() {
-        append(alloc, &mut bytes, word)?;
+        append_word(alloc, &mut bytes, word)?;
     }
     Ok(bytes)
 }

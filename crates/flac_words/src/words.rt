@@ -5,7 +5,7 @@ ghost use Rattle.std.specs.Prelude.{◌≤◌, IfErr};
 use clap::builder::ValueParser;
 use clap::error::ErrorKind;
 use clap::{Arg, ArgAction, ArgMatches, Command};
-use flac_jobs::{Container, Format, Job, LineFault};
+use flac_jobs::{ContainerKind, Job, LineFault, RawFormat};
 use std::alloc::{AllocError, Global};
 use std::borrow::CowStr;
 
@@ -122,7 +122,7 @@ fn has_table_in_ogg(job: &Job<'_>) -> bool {
             format,
             container,
             ..
-        } => format.seek_every != 0 && *container != Container::Native,
+        } => format.seek_every != 0 && *container != ContainerKind::Native,
         _ => false,
     }
 }
@@ -240,8 +240,8 @@ fn comments_of<'a>(alloc: Global, given: &ArgMatches<'a>) -> Result<Vec<&'a str>
 }
 
 /// The format of raw samples that the options give.
-fn format_of(given: &ArgMatches<'_>) -> Option<Format> {
-    Some(Format {
+fn format_of(given: &ArgMatches<'_>) -> Option<RawFormat> {
+    Some(RawFormat {
         rate: given.get_one("rate")?,
         channels: given.get_one("channels")?,
         bits: given.get_one("bits")?,
@@ -251,12 +251,12 @@ fn format_of(given: &ArgMatches<'_>) -> Option<Format> {
 }
 
 /// The container that the options give.
-fn container_of(given: &ArgMatches<'_>) -> Option<Container> {
+fn container_of(given: &ArgMatches<'_>) -> Option<ContainerKind> {
     if !given.get_flag("ogg") {
-        return Some(Container::Native);
+        return Some(ContainerKind::Native);
     }
     let serial = given.get_one("serial")?;
-    Some(Container::Ogg { serial })
+    Some(ContainerKind::Ogg { serial })
 }
 
 /// The command line of the program.

@@ -2,19 +2,19 @@
 use Rattle.std.specs.Prelude.{◌≡◌, ℕ, Bool, List, [], ◌∷◌, true, false, map, Option, Some, None, Result, Ok, Err}
 use Rattle.flac_bits.specs.declared.why.Why.{Why}
 use Rattle.flac_meta.specs.Info.{Info}
-use Rattle.flac_frame.specs.Frame.{Frame}
+use Rattle.flac_frame.specs.Frame.{Frame, first_sample}
 use Rattle.flac_native.specs.Item.{frame, told}
 use Rattle.flac_native.specs.Giving.{Stage}
 use Rattle.flac_native.specs.declared.fault.Place.{Place}
 use Rattle.flac_native.specs.declared.fault.Fault.{Fault}
 use Rattle.flac_native.specs.declared.container.Container as container
 use Rattle.flac_reader.specs.Coming.{Comes, FramesCome}
-use Rattle.flac_reader.specs.Seeking.{first_of, holds, PassedBy, HoldsFirst, Finds}
+use Rattle.flac_reader.specs.Seeking.{holds, PassedBy, HoldsFirst, Finds}
 
 -- the number of its first sample, if it holds the sample
 abbrev pub FirstIfHeld : Info → ℕ → Frame → Option ℕ → Type 0
 FirstIfHeld info sample f None = holds info sample f ≡ false
-FirstIfHeld info sample f (Some n) = (holds info sample f ≡ true) × (n ≡ first_of info f)
+FirstIfHeld info sample f (Some n) = (holds info sample f ≡ true) × (n ≡ first_sample info.greatest_block f)
 
 -- a search ended so; or the stream was refused behind frames that do not hold the sample
 abbrev pub Searches : {C X : Type 0} → container.Ghosts C → Info → ℕ → List Frame → Option (Place × Why) → Bool → Result X Fault → Stage C → Type 0

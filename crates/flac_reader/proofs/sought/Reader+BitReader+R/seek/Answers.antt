@@ -14,6 +14,6 @@ pub returns-clause-found : goal.returns-clause-found
 returns-clause-found g c =
     let info = c.args.self.info in
     let bytes : c.new-source.result.bytes.now ≡ drop (offset_before c.args.sample (first_points c.args.self.blocks.items)) c.args.frames.now =
-    c.new-source.ensures ∙ c.bytes_from.ensures ∙ ap (λ n. drop n c.args.frames.now) (c.offset_before-offset.ensures ∙ ap (λ ps. offset_before c.args.sample ps) c.seek_points.ensures) in
+    c.new-source.ensures ∙ c.bytes_from.ensures ∙ ap (λ n. drop n c.args.frames.now) c.offset_before-offset.ensures in
     subst (λ b. SeeksTo info c.args.sample (by_grammar grammar (resumed c.args.profile info) (beginning Truncated) (bits_of b)) c.seek_from.result) bytes
     (seeks_memory _ info c.args.sample (by_grammar grammar (resumed c.args.profile info) (beginning Truncated) (bits_of c.new-source.result.bytes.now)) c.seek_from.result c.seek_from.ensures.found c.seek_from.ensures.refused)
