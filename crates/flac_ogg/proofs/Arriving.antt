@@ -18,7 +18,7 @@ use Rattle.flac_native.specs.declared.fault.Place.TheVariants as place
 use Rattle.flac_native.specs.declared.fault.Fault.{Fault}
 use Rattle.flac_native.specs.declared.track.Phase.TheVariants.{Opening}
 use Rattle.flac_native.specs.declared.track.Track.{Track}
-use Rattle.flac_pages.specs.Packets.{Place as Stands, Ahead, ahead, at_front}
+use Rattle.flac_pages.specs.Packets.{Place as Stands, Ahead, OnPage, ahead, at_front}
 use Rattle.flac_pages.specs.Items.{IsAtPacket, GoesBehind}
 use Rattle.flac_ogg.specs.Stream.{start, packet_start, closed_packet, OggStream, OggRefused}
 use Rattle.flac_ogg.specs.Steps.{PacketStep, item, over, refused, packet_step, Goes}
@@ -49,8 +49,8 @@ on_ok_at (Ok x) A B a h = h a
 on_ok_at (Err e) A B a h = tt
 
 -- a packet's item was read, and no error was met
-pub went_on : {X : Type 0} {name : GName} (p : Stands) (old mid : State) (new : Stands) (read : Result X Why) (result : Result X (Option ℕ × Why))
-    → IsAtPacket name p old → Counts (lifted old) mid read → IfOk result (λ item. read ≡ Ok item) → OnOk result (GoesBehind mid new) → OnOk result ((p.known ≡ true → new.known ≡ true) × (new.errors ≡ p.errors))
+pub went_on : {X : Type 0} {name : GName} {page : OnPage} (p : Stands) (old mid : State) (new : Stands) (read : Result X Why) (result : Result X (Option ℕ × Why))
+    → IsAtPacket name page p old → Counts (lifted old) mid read → IfOk result (λ item. read ≡ Ok item) → OnOk result (GoesBehind mid new) → OnOk result ((p.known ≡ true → new.known ≡ true) × (new.errors ≡ p.errors))
 went_on {X} p old mid new read (Ok x) at counts same goes =
     let c = subst (λ (r : Result X Why). Counts (lifted old) mid r) same counts in
     (λ k. goes.known (c.0 (at.known ∙ k)), goes.errors ∙ c.1 ∙ at.errors)
