@@ -1,4 +1,6 @@
-use flac_bits::{BitWriter, Collected, Counted, FailAt, Target, Why, number_len, put_little_32, write_number};
+use flac_bits::{
+    BitWriter, Collected, Counted, FailAt, Target, Why, number_len, put_little_32, write_number,
+};
 use flac_vectors::bytes_of;
 use std::alloc::Global;
 use std::io;

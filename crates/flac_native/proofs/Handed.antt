@@ -14,7 +14,7 @@ use Rattle.flac_native.specs.declared.fault.Fault.{Fault}
 use Rattle.flac_native.specs.declared.track.Track.{Track}
 
 -- so far the receiver took the first parts, and the others are still to come
-pub record Far {K : Type 0} (gives : Coming) (takes : K → Piece → K → Type 0) (errors : K → ℕ) (p : Progress) (parts : List Piece) (end : Option (Place × Why)) (t : Track) (old now : K) : Type 0 where
+pub record Far {K : Type 0} (gives : Coming) (gave : List Piece → Type 0) (takes : K → Piece → K → Type 0) (errors : K → ℕ) (p : Progress) (parts : List Piece) (end : Option (Place × Why)) (t : Track) (old now : K) : Type 0 where
   pub taken : List Piece
   pub left : List Piece
   pub split : parts ≡ taken ++ left
@@ -24,9 +24,11 @@ pub record Far {K : Type 0} (gives : Coming) (takes : K → Piece → K → Type
   pub state : q ≡ after grammar p taken
   pub at : IsAt t q
   pub comes : gives q left end
+  pub given : gave taken
 
-pub starts : {K : Type 0} (gives : Coming) (takes : K → Piece → K → Type 0) (errors : K → ℕ) (p : Progress) (parts : List Piece) (end : Option (Place × Why)) (t : Track) (old : K) → IsAt t p → gives p parts end → Far gives takes errors p parts end t old old
-starts gives takes errors p parts end t old at comes = record { taken = []; left = parts; split = refl; took = refl; received = refl; q = p; state = refl; at = at; comes = comes }
+pub starts : {K : Type 0} (gives : Coming) (gave : List Piece → Type 0) (takes : K → Piece → K → Type 0) (errors : K → ℕ) (p : Progress) (parts : List Piece) (end : Option (Place × Why)) (t : Track) (old : K) → IsAt t p → gives p parts end → gave []
+    → Far gives gave takes errors p parts end t old old
+starts gives gave takes errors p parts end t old at comes given = record { taken = []; left = parts; split = refl; took = refl; received = refl; q = p; state = refl; at = at; comes = comes; given = given }
 
 abbrev answer : {X : Type 0} → Option X → Result (Option X) Fault
 answer o = Ok o
@@ -59,11 +61,12 @@ none_is_no_end : (r : Place × Why) → ends None ≡ Some r → ⊥
 none_is_no_end r e = absurd cc
 
 -- a part was read and taken
-pub one_more : {K X : Type 0} (gives given : Coming) (takes : K → Piece → K → Type 0) (errors : K → ℕ) (p : Progress) (parts : List Piece) (end : Option (Place × Why)) (t u : Track) (old now new : K) (view : X → Piece) (x : X)
-    → (far : Far gives takes errors p parts end t old now) → IsNext given far.q view (Ok (Some x)) far.left end → IsAt u (next far.q (view x)) → errors new ≡ errors now → takes now (view x) new → Far given takes errors p parts end u old new
-one_more {X = X} gives given takes errors p parts end t u old now new view x far first noted received took = go far.left end far.split first
+pub one_more : {K X : Type 0} (gives given : Coming) (gave gave' : List Piece → Type 0) (takes : K → Piece → K → Type 0) (errors : K → ℕ) (p : Progress) (parts : List Piece) (end : Option (Place × Why)) (t u : Track) (old now new : K) (view : X → Piece) (x : X)
+    → (far : Far gives gave takes errors p parts end t old now) → IsNext given far.q view (Ok (Some x)) far.left end → IsAt u (next far.q (view x)) → errors new ≡ errors now → takes now (view x) new → ((xs : List Piece) (z : Piece) → gave xs → gave' (xs ++ z ∷ []))
+    → Far given gave' takes errors p parts end u old new
+one_more {X = X} gives given gave gave' takes errors p parts end t u old now new view x far first noted received took more = go far.left end far.split first
   where
-    go : (left : List Piece) (stop : Option (Place × Why)) → parts ≡ far.taken ++ left → IsNext given far.q view (Ok (Some x)) left stop → Far given takes errors p parts stop u old new
+    go : (left : List Piece) (stop : Option (Place × Why)) → parts ≡ far.taken ++ left → IsNext given far.q view (Ok (Some x)) left stop → Far given gave' takes errors p parts stop u old new
     go [] None split f = absurd (none_some x (sym f))
     go [] (Some w) split f = absurd (some_err x _ f)
     go (z ∷ zs) stop split (y, is, seen, comes) =
@@ -78,12 +81,13 @@ one_more {X = X} gives given takes errors p parts end t u old now new view x far
           state = ap (λ s. next s z) far.state ∙ sym (after-append grammar p far.taken z);
           at = subst (λ k. IsAt u (next far.q k)) same noted;
           comes = comes;
+          given = more far.taken z far.given;
         }
 
 -- the stream is over
-pub all_done : {K X : Type 0} (gives given : Coming) (takes : K → Piece → K → Type 0) (errors : K → ℕ) (p : Progress) (parts : List Piece) (end : Option (Place × Why)) (t : Track) (old now : K) (view : X → Piece) (calm : Type 0) (breaks : Progress → Place → Why → Type 0)
-    → (far : Far gives takes errors p parts end t old now) → (calm → IsNext given far.q view (Ok None) far.left end) → HandsFirst takes errors p parts end calm breaks old now None
-all_done {X = X} gives given takes errors p parts end t old now view calm breaks far first = record {
+pub all_done : {K X : Type 0} (gives given : Coming) (gave : List Piece → Type 0) (takes : K → Piece → K → Type 0) (errors : K → ℕ) (p : Progress) (parts : List Piece) (end : Option (Place × Why)) (t : Track) (old now : K) (view : X → Piece) (calm : Type 0) (breaks : List Piece → Place → Why → Type 0)
+    → (far : Far gives gave takes errors p parts end t old now) → (calm → IsNext given far.q view (Ok None) far.left end) → HandsFirst takes errors p parts end calm breaks old now None
+all_done {X = X} gives given gave takes errors p parts end t old now view calm breaks far first = record {
   taken = far.taken;
   left = far.left;
   split = far.split;
@@ -102,10 +106,10 @@ all_done {X = X} gives given takes errors p parts end t old now view calm breaks
     go (z ∷ zs) stop (y, is, seen, rest) = absurd (none_some y is)
 
 -- or the call refused
-pub next_refused : {K X : Type 0} (gives given : Coming) (takes : K → Piece → K → Type 0) (errors : K → ℕ) (p : Progress) (parts : List Piece) (end : Option (Place × Why)) (t : Track) (old now : K) (view : X → Piece) (calm : Type 0) (breaks : Progress → Place → Why → Type 0) (fault : Fault)
-    → (far : Far gives takes errors p parts end t old now) → (calm → fault.why ≢ Memory → IsNext given far.q view (Err fault) far.left end) → (IsOutside fault.why → breaks far.q fault.at fault.why)
+pub next_refused : {K X : Type 0} (gives given : Coming) (gave : List Piece → Type 0) (takes : K → Piece → K → Type 0) (errors : K → ℕ) (p : Progress) (parts : List Piece) (end : Option (Place × Why)) (t : Track) (old now : K) (view : X → Piece) (calm : Type 0) (breaks : List Piece → Place → Why → Type 0) (fault : Fault)
+    → (far : Far gives gave takes errors p parts end t old now) → (calm → fault.why ≢ Memory → IsNext given far.q view (Err fault) far.left end) → (IsOutside fault.why → breaks far.taken fault.at fault.why)
     → HandsFirst takes errors p parts end calm breaks old now (Some (fault.at, fault.why))
-next_refused {X = X} gives given takes errors p parts end t old now view calm breaks fault far first broke = record {
+next_refused {X = X} gives given gave takes errors p parts end t old now view calm breaks fault far first broke = record {
   taken = far.taken;
   left = far.left;
   split = far.split;
@@ -119,7 +123,7 @@ next_refused {X = X} gives given takes errors p parts end t old now view calm br
   broken = λ to w is out.
       let pair = some_is (fault.at, fault.why) (to, w) is in
       let told = broke (subst IsOutside (sym (ap (λ (r : Place × Why). r.1) pair)) out) in
-      (refl, subst (λ (r : Place × Why). breaks (after grammar p far.taken) r.0 r.1) pair (subst (λ q. breaks q fault.at fault.why) far.state told));
+      (refl, subst (λ (r : Place × Why). breaks far.taken r.0 r.1) pair told);
   failed = λ rose. absurd (omega (arith, rose, far.received));
 }
   where
@@ -133,9 +137,9 @@ sink_inside (inl e) = absurd cc
 sink_inside (inr e) = absurd cc
 
 -- the receiver did not take the part that was read
-pub sink_failed : {K : Type 0} (gives : Coming) (takes : K → Piece → K → Type 0) (errors : K → ℕ) (p : Progress) (parts : List Piece) (end : Option (Place × Why)) (t : Track) (old now new : K) (calm : Type 0) (breaks : Progress → Place → Why → Type 0) (at : Place) (why : Why)
-    → (far : Far gives takes errors p parts end t old now) → errors now < errors new → why ≡ Sink → ((q : Progress) → IsAt t q → at ≡ grammar.place q) → HandsFirst takes errors p parts end calm breaks old new (Some (at, why))
-sink_failed gives takes errors p parts end t old now new calm breaks at why far rose is place = record {
+pub sink_failed : {K : Type 0} (gives : Coming) (gave : List Piece → Type 0) (takes : K → Piece → K → Type 0) (errors : K → ℕ) (p : Progress) (parts : List Piece) (end : Option (Place × Why)) (t : Track) (old now new : K) (calm : Type 0) (breaks : List Piece → Place → Why → Type 0) (at : Place) (why : Why)
+    → (far : Far gives gave takes errors p parts end t old now) → errors now < errors new → why ≡ Sink → ((q : Progress) → IsAt t q → at ≡ grammar.place q) → HandsFirst takes errors p parts end calm breaks old new (Some (at, why))
+sink_failed gives gave takes errors p parts end t old now new calm breaks at why far rose is place = record {
   taken = far.taken;
   left = far.left;
   split = far.split;

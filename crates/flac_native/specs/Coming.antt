@@ -29,7 +29,7 @@ IsNext gives p view result [] (Some f) = result ≡ Err (record { at = f.0; why 
 IsNext {X} gives p view result (x ∷ xs) end = (y : X) × (result ≡ Ok (Some y)) × (view y ≡ x) × gives (next p x) xs end
 
 -- of these parts, which are to come and then this end, the receiver took the first
-pub record HandsFirst {K : Type 0} (takes : K → Piece → K → Type 0) (errors : K → ℕ) (p : Progress) (parts : List Piece) (end : Option (Place × Why)) (calm : Type 0) (breaks : Progress → Place → Why → Type 0) (old new : K) (outcome : Option (Place × Why)) : Type 0 where
+pub record HandsFirst {K : Type 0} (takes : K → Piece → K → Type 0) (errors : K → ℕ) (p : Progress) (parts : List Piece) (end : Option (Place × Why)) (calm : Type 0) (breaks : List Piece → Place → Why → Type 0) (old new : K) (outcome : Option (Place × Why)) : Type 0 where
   pub taken : List Piece
   pub left : List Piece
   pub split : parts ≡ taken ++ left
@@ -41,6 +41,6 @@ pub record HandsFirst {K : Type 0} (takes : K → Piece → K → Type 0) (error
   pub done : calm → outcome ≡ None → (left ≡ []) × (end ≡ None) × (mid ≡ new)
   pub refused : calm → (at : Place) (why : Why) → outcome ≡ Some (at, why) → why ≢ Memory → errors new ≡ errors old → (left ≡ []) × (end ≡ Some (at, why))
   -- where the source failed or memory ran out, that is told at its place of the part behind them
-  pub broken : (at : Place) (why : Why) → outcome ≡ Some (at, why) → IsOutside why → (mid ≡ new) × breaks (after grammar p taken) at why
+  pub broken : (at : Place) (why : Why) → outcome ≡ Some (at, why) → IsOutside why → (mid ≡ new) × breaks taken at why
   -- where it failed, that is told at the place of the part that it did not take
   pub failed : errors old < errors new → (at : Place) × (outcome ≡ Some (at, Sink)) × (at ≡ grammar.place (after grammar p taken))

@@ -1,11 +1,12 @@
 -- What a decoder has still to give, and that each call gives the first of it.
 use Rattle.std.specs.Prelude.{◌≡◌, ◌≢◌, ◌≤◌, ◌<◌, ◌⊎◌, true, List, [], ◌∷◌, Option, Some, None, Result, Ok, Err, IfOk, IfErr, IfSome}
 use Rattle.flac_bits.specs.State.{Rises, without_fence}
-use Rattle.flac_bits.specs.Handing.{reason_of, IsOutside}
+use Rattle.flac_bits.specs.Items.{after}
+use Rattle.flac_bits.specs.Handing.{TakesAll, reason_of, IsOutside}
 use Rattle.flac_bits.specs.declared.why.Why.{Why}
 use Rattle.flac_bits.specs.declared.why.Why.TheVariants.{Memory, Read, Sink, Spent}
 use Rattle.flac_frame.specs.Lent.{frame_of}
-use Rattle.flac_native.specs.Stream.{Piece, marked, block, framed, Progress, next}
+use Rattle.flac_native.specs.Stream.{Piece, marked, block, framed, Progress, grammar, next}
 use Rattle.flac_native.specs.Track.{IsAt, piece_of, stand_of}
 use Rattle.flac_native.specs.Item.{Item, metadata, frame, told}
 use Rattle.flac_native.specs.Coming.{Coming}
@@ -40,6 +41,16 @@ items_of (x ∷ xs) = before (handed x) (items_of xs)
 -- these items, and then the end of the stream, or its refusal
 abbrev pub StillGives : Coming → Progress → List Item → Option (Place × Why) → Type 0
 StillGives gives p items end = (parts : List Piece) × (items ≡ items_of parts) × gives p parts end
+
+-- ---- what a container gave
+
+-- A container gave these parts, by calls one after another.
+abbrev pub Gave : {C : Type 0} → container.Ghosts C → C → List Piece → C → Type 0
+Gave g old parts new = TakesAll (λ c _ d. g.gave c d) old parts new
+
+-- A container that gave these parts was broken off behind them, which is told at its place.
+abbrev pub BreaksBehind : {C : Type 0} → container.Ghosts C → Progress → C → C → List Piece → Place → Why → Type 0
+BreaksBehind {C} g p old new parts at why = g.breaks new (after grammar p parts) at why × ((there : C) × Gave g old parts there × g.broke there new why)
 
 -- ---- what a call answers
 

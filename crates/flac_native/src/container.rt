@@ -69,6 +69,12 @@ pub trait Container {
     /// At which place a call that reads the part after this progress reports `Read`, and at which `Memory`.
     ghost breaks: { Self → Progress → Place → Why → Type 0 };
 
+    /// How a call that returns a part changes the container.
+    ghost gave: { Self → Self → Type 0 };
+
+    /// How a call that returns `Read` or `Memory` changes it.
+    ghost broke: { Self → Self → Why → Type 0 };
+
     /// Reads the next part and keeps it in the track, or returns `None` at the end of the stream.
     ///
     /// # Errors
@@ -95,6 +101,8 @@ pub trait Container {
         ensures gives { (p : Progress) → IsAt track.old p → known self.old ≡ true → errors self.new ≡ errors self.old → raised self.new ≡ raised self.old → (reason_of told result ≡ Err Memory → ⊥) →
             (parts : List Piece) (end : Option (Place × Why)) → gives self.old p parts end → IsNext (gives self.new) p (piece_of track.new) result parts end }
         ensures broken { (p : Progress) → IsAt track.old p → IfErr result (λ f. IsOutside f.why → breaks self.new p f.at f.why) }
+        ensures gave { IfOk result (λ o. IfSome o (λ _. gave self.old self.new)) }
+        ensures broke { IfErr result (λ f. IsOutside f.why → broke self.old self.new f.why) }
         ensures made { IfOk result (λ o. IfSome o (λ part. IsMadeAs part track.old track.new)) }
         ensures next { IfOk result (λ o. IfSome o (λ part. (p : Progress) → IsAt track.old p → IsAt track.new (next p (piece_of track.new part)))) };
 }

@@ -145,6 +145,10 @@ impl<R: Source> Container for BitReader<R> {
 
     ghost breaks = { λ _ p at _. at ≡ grammar.place p };
 
+    ghost gave = { λ _ _. ⊤ };
+
+    ghost broke = { λ _ _ _. ⊤ };
+
     fn next(&mut self, track: &mut Track) -> Result<Option<Part>, Fault> {
         advance(self, track)
     }

@@ -1,14 +1,15 @@
 -- The items of packets come one after another.
-use Rattle.std.proofs.Common.{◌≡◌, ◌≢◌, ◌<◌, ◌≤◌, ℕ, zero, suc, ◌*◌, arith, Bool, true, List, [], ◌∷◌, ◌++◌, Option, Some, None, Result, Ok, Err, refl, sym, ap, subst, ◌∙◌, inl, inr, ◌⊎◌}
+use Rattle.std.proofs.Common.{◌≡◌, ◌≢◌, ◌<◌, ◌≤◌, ℕ, zero, suc, ◌*◌, arith, Bool, true, false, List, [], ◌∷◌, ◌++◌, Option, Some, None, Result, Ok, Err, refl, sym, ap, subst, ◌∙◌, inl, inr, ◌⊎◌}
 use Rattle.std.specs.Prelude.{OnOk, IfOk, IfErr, IfSome}
 use Rattle.std.specs.Borrow.{GName}
 use Rattle.flac_bits.specs.State.{Mark, State, Rises, short_of}
 use Rattle.flac_bits.specs.Fencing.{lifted}
 use Rattle.flac_bits.specs.Reading.{Counts}
-use Rattle.flac_bits.specs.Handing.{Hands, Decides, reason_of}
+use Rattle.flac_bits.specs.Items.{after}
+use Rattle.flac_bits.specs.Handing.{TakesAll, Hands, Decides, reason_of}
 use Rattle.flac_bits.specs.declared.why.Why.{Why}
 use Rattle.flac_bits.specs.declared.why.Why.TheVariants.{Memory, Read, Sink, Truncated}
-use Rattle.flac_native.specs.Stream.{Piece, Progress, Stand, next}
+use Rattle.flac_native.specs.Stream.{Piece, Progress, Stand, grammar, next}
 use Rattle.flac_native.specs.Track.{IsAt, stand_of}
 use Rattle.flac_native.specs.Item.{told}
 use Rattle.flac_native.specs.Decoding.{beginning}
@@ -18,11 +19,11 @@ use Rattle.flac_native.specs.declared.fault.Place.TheVariants as place
 use Rattle.flac_native.specs.declared.fault.Fault.{Fault}
 use Rattle.flac_native.specs.declared.track.Phase.TheVariants.{Opening}
 use Rattle.flac_native.specs.declared.track.Track.{Track}
-use Rattle.flac_pages.specs.Packets.{Place as Stands, Ahead, ahead, at_front}
+use Rattle.flac_pages.specs.Packets.{Place as Stands, Ahead, OnPage, ahead, at_front}
 use Rattle.flac_pages.specs.Items.{IsAtPacket, GoesBehind}
 use Rattle.flac_ogg.specs.Stream.{start, packet_start, closed_packet, OggStream, OggRefused}
 use Rattle.flac_ogg.specs.Steps.{PacketStep, item, over, refused, packet_step, Goes}
-use Rattle.flac_ogg.specs.Decoding.{IsBrokenAt, ogg_reading}
+use Rattle.flac_ogg.specs.Decoding.{IsBrokenAt, PassesNext, BreaksInNext, ogg_reading}
 use Rattle.flac_ogg.specs.Telling.{IsUnderWay}
 use Rattle.flac_ogg.specs.inner.Telling.{MeetsIn, StepIs}
 use Rattle.flac_ogg.specs.Coming.{final, ItemsCome, Foretells, IsClear}
@@ -31,6 +32,7 @@ use Rattle.flac_ogg.proofs.MeaningSteps.{step_item, step_refused}
 use Rattle.flac_ogg.proofs.MeaningStreams.{IsReadTo, goes_begins, goes_over, goes_refused, stream_goes, refused_goes}
 use Rattle.flac_ogg.proofs.MeaningReadings.{some_ogg_reading}
 use Rattle.flac_ogg.proofs.MeaningErrors.{stops_read, fault_read, stop_read}
+use Rattle.flac_ogg.proofs.PagesRead.{reads_to}
 use Rattle.flac_ogg.proofs.UnderWay.{started, goes_on}
 use Rattle.flac_native.proofs.Received.{Fronts, hands_of, decides_of, none_some, same_end}
 use Rattle.flac_header.specs.declared.subset.Profile.{Profile}
@@ -49,8 +51,8 @@ on_ok_at (Ok x) A B a h = h a
 on_ok_at (Err e) A B a h = tt
 
 -- a packet's item was read, and no error was met
-pub went_on : {X : Type 0} {name : GName} (p : Stands) (old mid : State) (new : Stands) (read : Result X Why) (result : Result X (Option ℕ × Why))
-    → IsAtPacket name p old → Counts (lifted old) mid read → IfOk result (λ item. read ≡ Ok item) → OnOk result (GoesBehind mid new) → OnOk result ((p.known ≡ true → new.known ≡ true) × (new.errors ≡ p.errors))
+pub went_on : {X : Type 0} {name : GName} {page : OnPage} (p : Stands) (old mid : State) (new : Stands) (read : Result X Why) (result : Result X (Option ℕ × Why))
+    → IsAtPacket name page p old → Counts (lifted old) mid read → IfOk result (λ item. read ≡ Ok item) → OnOk result (GoesBehind mid new) → OnOk result ((p.known ≡ true → new.known ≡ true) × (new.errors ≡ p.errors))
 went_on {X} p old mid new read (Ok x) at counts same goes =
     let c = subst (λ (r : Result X Why). Counts (lifted old) mid r) same counts in
     (λ k. goes.known (c.0 (at.known ∙ k)), goes.errors ∙ c.1 ∙ at.errors)
@@ -272,15 +274,61 @@ fronts profile mark text items end come = record {
   place = λ xs. refl;
 }
 
-pub hands_ogg : {K : Type 0} (profile : Profile) (n : ℕ) (takes : K → Piece → K → Type 0) (errors : K → ℕ) (mark : Mark) (text : List Bool) (items : List Piece) (end : Option (Place × Why)) (calm : Type 0) (old new : K) (outcome : Option (Place × Why))
-    → ItemsCome (start profile) (ahead_of mark text) items end → HandsFirst takes errors (start profile) items end calm (IsBrokenAt n) old new outcome → Hands (ogg_reading profile mark text) takes errors calm old new outcome
-hands_ogg profile n takes errors mark text items end calm old new outcome come h =
-    hands_of (ogg_reading profile mark text) takes errors (start profile) items end calm (IsBrokenAt n) old new outcome (read_as profile mark text items end come) (fronts profile mark text items end come) (λ xs at why b. inl (n, b)) h
+-- the reader of packets gave these items' packets, and then broke off
+abbrev BreaksOff : {C : Type 0} → (C → Stands) → Profile → C → C → List Piece → Place → Why → Type 0
+BreaksOff {C} pages profile first last items at why =
+    IsBrokenAt (pages last).count (after grammar (start profile) items) at why × ((there : C) × TakesAll (λ (a : C) (x : Piece) (b : C). PassesNext (pages a) (pages b)) first items there × BreaksInNext (pages there) (pages last) why)
 
-pub decides_ogg : {K : Type 0} (profile : Profile) (n : ℕ) (takes : K → Piece → K → Type 0) (errors : K → ℕ) (mark : Mark) (text : List Bool) (calm : Type 0) (old new : K) (outcome : Option (Place × Why))
-    → ((items : List Piece) (end : Option (Place × Why)) → ItemsCome (start profile) (ahead_of mark text) items end → HandsFirst takes errors (start profile) items end calm (IsBrokenAt n) old new outcome) → calm → errors new ≡ errors old → Decides (ogg_reading profile mark text) outcome
-decides_ogg profile n takes errors mark text calm old new outcome hands quiet same =
-    decides_of (ogg_reading profile mark text) takes errors (start profile) calm (IsBrokenAt n) old new outcome (λ items end has. hands items end (comes profile mark text items end has)) quiet same
+-- which is at the input's front
+pub record BeginsAt (mark : Mark) (text : List Bool) (p : Stands) : Type 0 where
+  pub known : p.known ≡ true
+  pub lacing : p.lacing ≡ []
+  pub last : p.last ≡ false
+  pub before : p.before ≡ None
+  pub count : p.count ≡ 0
+  pub cursor : p.cursor ≡ record { left = text; mark = mark }
+
+pub begins_at : (p : Stands) (known : Bool) (errors raised most : ℕ) (names : List GName) (text : List Bool) (short : Why) → p ≡ at_front known errors raised most names text short → known ≡ true → BeginsAt (beginning short) text p
+begins_at p known errors raised most names text short e told = record {
+  known = ap (λ (q : Stands). q.known) e ∙ told;
+  lacing = ap (λ (q : Stands). q.lacing) e;
+  last = ap (λ (q : Stands). q.last) e;
+  before = ap (λ (q : Stands). q.before) e;
+  count = ap (λ (q : Stands). q.count) e;
+  cursor = ap (λ (q : Stands). q.cursor) e;
+}
+
+pub hands_ogg : {K C : Type 0} (profile : Profile) (first last : C) (pages : C → Stands) (takes : K → Piece → K → Type 0) (errors : K → ℕ) (mark : Mark) (text : List Bool) (items : List Piece) (end : Option (Place × Why)) (calm : Type 0) (old new : K) (outcome : Option (Place × Why))
+    → BeginsAt mark text (pages first) → ItemsCome (start profile) (ahead_of mark text) items end → HandsFirst takes errors (start profile) items end calm (BreaksOff pages profile first last) old new outcome → Hands (ogg_reading profile mark text) takes errors calm old new outcome
+hands_ogg {K} {C} profile first last pages takes errors mark text items end calm old new outcome at come h =
+    let front = fronts profile mark text items end come in
+    let there : HandsFirst takes errors (start profile) items end calm (λ xs to why. (ogg_reading profile mark text).breaks xs to why) old new outcome = record {
+      taken = h.taken;
+      left = h.left;
+      split = h.split;
+      mid = h.mid;
+      took = h.took;
+      whole = h.whole;
+      done = h.done;
+      refused = h.refused;
+      broken = λ to why is out.
+          let b = h.broken to why is out in (
+            b.0,
+            inl (
+              (pages last).count,
+              b.1.0,
+              λ read.
+                  reads_to pages profile mark text h.taken first b.1.1.0 (pages last).count at.known at.lacing at.last at.before at.count at.cursor (front.begins h.taken h.left h.split) b.1.1.1 (λ known. b.1.1.2 read known),
+            ),
+          );
+      failed = h.failed;
+    } in
+    hands_of (ogg_reading profile mark text) takes errors (start profile) items end calm (λ xs to why. (ogg_reading profile mark text).breaks xs to why) old new outcome (read_as profile mark text items end come) front (λ xs to why b. b) there
+
+pub decides_ogg : {K : Type 0} (profile : Profile) (breaks : List Piece → Place → Why → Type 0) (takes : K → Piece → K → Type 0) (errors : K → ℕ) (mark : Mark) (text : List Bool) (calm : Type 0) (old new : K) (outcome : Option (Place × Why))
+    → ((items : List Piece) (end : Option (Place × Why)) → ItemsCome (start profile) (ahead_of mark text) items end → HandsFirst takes errors (start profile) items end calm breaks old new outcome) → calm → errors new ≡ errors old → Decides (ogg_reading profile mark text) outcome
+decides_ogg profile breaks takes errors mark text calm old new outcome hands quiet same =
+    decides_of (ogg_reading profile mark text) takes errors (start profile) calm breaks old new outcome (λ items end has. hands items end (comes profile mark text items end has)) quiet same
 
 -- an error that is foretold stands behind the input
 pub foretold_short : (mark : Mark) (text : List Bool) → Foretells (ahead_of mark text) → mark.short ≡ Read

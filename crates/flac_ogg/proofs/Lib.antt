@@ -6,6 +6,7 @@ pub mod MeaningReadings
 pub mod MeaningErrors
 pub mod Packeted
 pub mod UnderWay
+pub mod PagesRead
 pub mod Arriving
 pub mod Stepped
 pub mod Breaking

@@ -1,5 +1,5 @@
 -- How an input is read as an Ogg stream.
-use Rattle.std.specs.Prelude.{◌≡◌, ◌≢◌, ◌⊎◌, ℕ, Bool, List, [], ◌++◌}
+use Rattle.std.specs.Prelude.{◌≡◌, ◌≢◌, ◌⊎◌, ℕ, Bool, true, List, [], ◌++◌, length}
 use Rattle.flac_bits.specs.State.{Mark}
 use Rattle.flac_bits.specs.Items.{after}
 use Rattle.flac_bits.specs.Handing.{Reading}
@@ -9,6 +9,8 @@ use Rattle.flac_native.specs.Stream.{Piece, Progress, grammar}
 use Rattle.flac_native.specs.declared.fault.Place.{Place}
 use Rattle.flac_native.specs.declared.fault.Place.TheVariants as place
 use Rattle.flac_native.specs.declared.track.Phase.TheVariants.{Frames}
+use Rattle.flac_pages.specs.Page.{Page}
+use Rattle.flac_pages.specs.Packets.{Place as Stands, Packets, page_index, on_page, PassesPacket, BreaksAt}
 use Rattle.flac_ogg.specs.Stream.{start, Contents, AreItems, OggStream, OggRefused}
 use Rattle.flac_header.specs.declared.subset.Profile.{Profile}
 
@@ -20,18 +22,42 @@ pub record BeginsWith (profile : Profile) (mark : Mark) (items : List Piece) (te
   pub split : contents.packets ≡ taken ++ left
   pub spelled : AreItems (start profile) taken items
 
+-- The first n of the input's good pages were read, where n stops at the greatest index: the packets that end in them are these items. A further packet may have
+-- begun in them.
+pub record ReadsTo (profile : Profile) (mark : Mark) (items : List Piece) (text : List Bool) (n : ℕ) : Type 0 where
+  pub contents : Contents mark text
+  pub read : List Page
+  pub left : List Page
+  pub split : contents.run.pages ≡ read ++ left
+  pub count : n ≡ page_index (length read)
+  pub packets : List (List ℕ)
+  pub begun : List ℕ
+  pub packed : Packets read packets begun
+  pub spelled : AreItems (start profile) packets items
+
 -- The place of an error that breaks off the reading of the next item, once n pages were read: one of the device is reported at the page after them, one of memory at
 -- the metadata block that comes next, since no memory is allocated for a frame.
 abbrev pub IsBrokenAt : ℕ → Progress → Place → Why → Type 0
 IsBrokenAt n p at why = (why ≡ Read → at ≡ place.Page n) × (why ≡ Memory → (p.stand.phase ≢ Frames) × (at ≡ grammar.place p))
 
 -- it is an Ogg stream of these items, or is refused behind them, or its first packets are these items; the next one stands where it would in a native stream.
--- Before the first item either may be told at the marker too
+-- An error of the device is told at the page behind those that were read, which are the pages of these items. Before the first item either may be told at the
+-- marker too
 abbrev pub ogg_reading : Profile → Mark → List Bool → Reading Piece Place
 ogg_reading profile mark text = record {
   whole = λ items. OggStream profile mark items text;
   refused = λ items at why. OggRefused profile mark items text at why;
   begins = λ items. BeginsWith profile mark items text;
   place = λ items. grammar.place (after grammar (start profile) items);
-  breaks = λ items at why. ((n : ℕ) × IsBrokenAt n (after grammar (start profile) items) at why) ⊎ ((items ≡ []) × (at ≡ place.Marker));
+  breaks = λ items at why. ((n : ℕ) × IsBrokenAt n (after grammar (start profile) items) at why × (why ≡ Read → ReadsTo profile mark items text n)) ⊎ ((items ≡ []) × (at ≡ place.Marker));
 }
+
+-- ---- one packet
+
+-- the next packet was passed
+abbrev pub PassesNext : Stands → Stands → Type 0
+PassesNext old new = old.known ≡ true → (new.known ≡ true) × PassesPacket (on_page old) (on_page new)
+
+-- the device failed once so many pages were read as are counted, before the next packet ended
+abbrev pub BreaksInNext : Stands → Stands → Why → Type 0
+BreaksInNext old new why = why ≡ Read → old.known ≡ true → BreaksAt (on_page old) new.count

@@ -11,12 +11,12 @@ ghost use Rattle.flac_native.specs.inner.Within.{ReadsWithinInRoom};
 ghost use Rattle.flac_native.specs.declared.track.Phase.TheVariants.{Opening, Blocks, Frames};
 ghost use Rattle.flac_ogg.specs.Telling.{IsUnderWay};
 ghost use Rattle.flac_ogg.specs.inner.Telling.{block_packet, first_packet, MeetsIn, StepIs, EndIs};
-ghost use Rattle.flac_pages.specs.Items.{packet_of, packet_mark, TellsItem, Meets, HasBehind, HasItsPage};
+ghost use Rattle.flac_pages.specs.Items.{packet_of, packet_mark, TellsItem, Meets, TellsPages, HasBehind, HasItsPage};
 ghost use Rattle.flac_bits.specs.Handing.{IsOutside};
-ghost use Rattle.flac_pages.specs.Packets.{Met, ahead};
+ghost use Rattle.flac_pages.specs.Packets.{Met, ahead, on_page};
 ghost use Rattle.flac_ogg.specs.Steps.{packet_step, without_packet, refused};
 ghost use Rattle.flac_ogg.specs.Stream.{last_fault};
-ghost use Rattle.flac_ogg.specs.Decoding.{IsBrokenAt};
+ghost use Rattle.flac_ogg.specs.Decoding.{IsBrokenAt, PassesNext, BreaksInNext};
 ghost use Rattle.flac_bits.specs.State.{the_end};
 ghost use Rattle.flac_ogg.specs.Coming.{ItemsCome, IsClear};
 
@@ -197,6 +197,7 @@ pub(crate) fn read_packet<R: Source>(
     // Read is returned only if the device returned an error in the call.
     ensures meets { Meets pages.old.raised pages.new.raised result }
     ensures page { IfErr result (λ e. HasItsPage pages.new.count e) }
+    ensures pages { TellsPages (on_page pages.old) pages.new result }
     ensures stands { OnOk result ((pages.new.rest ≡ 0) × (pages.new.more ≡ false)) }
     ensures goes { OnOk result ((pages.old.known ≡ true → pages.new.known ≡ true) × (pages.new.errors ≡ pages.old.errors)) }
     ensures ahead { OnOk result ((stand_of track.old).phase ≢ Opening → pages.old.known ≡ true → HasBehind pages.old pages.new) }
@@ -286,6 +287,8 @@ pub(crate) fn advance<R: Source>(
     ensures steps { (p : Progress) → IsAt track.old p → IsUnderWay p.stand → pages.old.known ≡ true → pages.new.errors ≡ pages.old.errors →
         StepIs (λ part. piece_of track.new part) (packet_step p (ahead pages.old)) (ahead pages.new) result }
     ensures broken { (p : Progress) → IsAt track.old p → IfErr result (λ f. IsBrokenAt pages.new.count p f.at f.why) }
+    ensures gave { IfOk result (λ o. IfSome o (λ _. PassesNext pages.old pages.new)) }
+    ensures broke { IfErr result (λ f. BreaksInNext pages.old pages.new f.why) }
     ensures stands { IfOk result (λ o. IfSome o (λ _. (pages.new.rest ≡ 0) × (pages.new.more ≡ false))) }
     ensures spends { IfOk result (λ o. IfSome o (λ _. pages.new.most + length pages.new.body < pages.old.most + length pages.old.body)) }
     ensures goes { IfOk result (λ _. (pages.old.known ≡ true → pages.new.known ≡ true) × (pages.new.errors ≡ pages.old.errors)) }
@@ -368,6 +371,10 @@ impl<R: Source> Container for OggPackets<R> {
     ghost gives = { λ c p items end. ItemsCome p (ahead c.pages) items end };
 
     ghost breaks = { λ c p at why. IsBrokenAt c.pages.count p at why };
+
+    ghost gave = { λ c d. PassesNext c.pages d.pages };
+
+    ghost broke = { λ c d why. BreaksInNext c.pages d.pages why };
 
     fn next(&mut self, track: &mut Track) -> Result<Option<Part>, Fault> {
         advance(&mut self.pages, track)

@@ -3,8 +3,9 @@ use Rattle.std.proofs.Common.{◌≡◌, ℕ, ◌<◌, ◌≤◌, Bool, true, fa
 use Rattle.std.specs.Prelude.{⊤, IfSome}
 use Rattle.flac_bits.specs.declared.why.Why.{Why}
 use Rattle.flac_pages.specs.Pages.{end_fault}
-use Rattle.flac_pages.specs.Packets.{Place, Ahead, Met, ahead, Begins}
+use Rattle.flac_pages.specs.Packets.{Place, Ahead, Met, ahead, on_page, Begins}
 use Rattle.flac_pages.specs.inner.Packets.{only_fault, next_segment, Turns, Steps, ended}
+use Rattle.flac_pages.proofs.Paged.{reads_then, none_read, follows_segment}
 use Rattle.flac_pages.proofs.Stepping.{Same, Waits, met_then, segment_same, same_ahead, packet_over, pages_over, none_ahead, broken_ahead, closed_ahead}
 
 abbrev turn_ok : Result ⊤ Why
@@ -37,6 +38,7 @@ segment_step old new (v ∷ vs) r m some eq e =
       behind = λ known. same.behind;
       room = omega arith;
       spends = omega (arith, ap length eq);
+      follows = follows_segment old v vs m eq;
     })
 
 pub step_segment : (old new : Place) → old.rest ≡ 0 → old.more ≡ true → 0 < length old.lacing → new ≡ next_segment old old.lacing → Steps old new (Ok true)
@@ -54,6 +56,7 @@ step_turned old new r l t =
       behind = λ known. (same known).behind;
       room = omega (arith, t.room);
       spends = omega (arith, t.spends);
+      follows = record { known = t.known; more = λ more. sym t.more ∙ more; pages = t.pages; breaks = λ known more. t.breaks known };
     }
 
 pub step_refused : (old new : Place) (why : Why) → old.rest ≡ 0 → old.more ≡ true → Turns old new (turn_err why) → Steps old new (Err why)
@@ -64,6 +67,7 @@ step_refused old new why r m t = record {
   count = t.count;
   bytes = λ known same. (broken_ahead old (old.count, why) r m (t.ahead known same)).bytes;
   behind = λ known same. (broken_ahead old (old.count, why) r m (t.ahead known same)).behind;
+  breaks = (m, t.breaks);
 }
 
 -- ---- the next packet
@@ -85,6 +89,8 @@ waits_turned old now new w t = record {
   more = t.more ∙ w.more;
   room = omega (arith, w.room, t.room);
   ahead = λ known. t.ahead (w.known known) ∙ w.ahead known;
+  pages = λ known. reads_then (on_page old) (on_page now) (on_page new) (w.pages known) (t.pages (w.known known));
+  breaks = λ known n at. w.breaks known n (t.breaks (w.known known) n at);
 }
 
 pub waits_refused : (old now new : Place) (why : Why) → Waits old now → Turns now new (turn_err why) → Begins old new (Err (new.count, why))
@@ -98,10 +104,11 @@ waits_refused old now new why w t = record {
   breaks = λ known same.
       let is : ahead old ≡ only_fault (new.count, why) = sym (w.ahead known) ∙ t.ahead (w.known known) (same ∙ sym w.errors) ∙ ap (λ k. only_fault (k, why)) (sym t.count) in
       ap (λ (a : Ahead). a.fault) is ∙ ap (λ b. unless_last b (new.count, why)) (sym t.last);
+  pages = λ known. w.breaks known new.count t.breaks;
 }
 
 pub waits_begun : (old now : Place) → Waits old now → 0 < length now.lacing → Begins old (record now { more = true }) (Ok true)
-unfolding ahead
+unfolding ahead on_page
 waits_begun old now w some = record {
   known = w.known;
   errors = w.errors;
@@ -111,6 +118,8 @@ waits_begun old now w some = record {
   some = some;
   room = omega (arith, w.room);
   ahead = w.ahead;
+  pages = λ known. let p = w.pages known in record { fewer = p.fewer; behind = p.behind; count = p.count };
+  breaks = λ known n at. w.breaks known n (record { index = at.index; from = at.from; below = at.below });
 }
 
 pub waits_begins : (old now new : Place) (result : Result Bool (ℕ × Why)) → Waits old now → Begins now new result → Begins old new result
@@ -123,6 +132,8 @@ waits_begins old now new (Ok true) w b = record {
   some = b.some;
   room = omega (arith, w.room, b.room);
   ahead = λ known. b.ahead (w.known known) ∙ w.ahead known;
+  pages = λ known. reads_then (on_page old) (on_page now) (on_page new) (w.pages known) (b.pages (w.known known));
+  breaks = λ known n at. w.breaks known n (b.breaks (w.known known) n at);
 }
 waits_begins old now new (Ok false) w b = record {
   known = λ known. b.known (w.known known);
@@ -141,6 +152,7 @@ waits_begins old now new (Err f) w b = record {
       let over = b.fault (w.known known) (same ∙ sym w.errors) in
       (ap (λ (a : Ahead). a.lacing) (sym (w.ahead known)) ∙ over.0, ap (λ (a : Ahead). a.stop) (sym (w.ahead known)) ∙ over.1);
   breaks = λ known same. ap (λ (a : Ahead). a.fault) (sym (w.ahead known)) ∙ b.breaks (w.known known) (same ∙ sym w.errors);
+  pages = λ known. w.breaks known f.0 (b.pages (w.known known));
 }
 
 pub met_at : (o : Option Why) (old mid new : ℕ) → mid ≡ old → IfSome o (λ why. Met why mid new) → IfSome o (λ why. Met why old new)
@@ -162,4 +174,5 @@ closes old new o result e small l la nla errors names over met fault = subst (λ
       names = names;
       fault = λ known same. closed_ahead old (Some why) small l la (sym (fault known same));
       breaks = λ known same. closed_fault old la ∙ ap (λ b. unless_last b (old.count, why)) (sym nla);
+      pages = λ known. none_read old old.count small l refl;
     }

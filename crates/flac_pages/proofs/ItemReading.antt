@@ -1,5 +1,5 @@
 -- A reader's call over a packet's bits and the judgement of the packet's end, together: they tell what the packet is.
-use Rattle.std.proofs.Common.{◌≡◌, ℕ, ◌<◌, ◌-◌, ◌^◌, ◌≤◌, ◌∷◌, Bool, true, false, [], Option, Some, None, Result, Ok, Err, OnOk, refl, sym, ap, subst, ◌∙◌, arith}
+use Rattle.std.proofs.Common.{◌≡◌, ℕ, ◌<◌, ◌-◌, ◌^◌, ◌≤◌, ◌∷◌, ◌++◌, Bool, true, false, List, [], Option, Some, None, Result, Ok, Err, OnOk, refl, sym, ap, subst, ◌∙◌, arith}
 use Rattle.std.proofs.lemmas.List.{append-nil}
 use Rattle.std.specs.Borrow.{GName}
 use Rattle.flac_bits.specs.Bits.{is_nil}
@@ -12,10 +12,11 @@ use Rattle.flac_bits.specs.declared.why.Why.{Why}
 use Rattle.flac_bits.specs.declared.why.Why.TheVariants.{Memory, Read}
 use Rattle.flac_bits.proofs.Meaning.{past-short}
 use Rattle.flac_bits.proofs.Fences.{takes_in, refuses_in}
-use Rattle.flac_pages.specs.Packets.{Place, ahead, behind_of}
-use Rattle.flac_pages.specs.Items.{PacketEnd, whole, unended, cut_at, Packet, end_in, end_of, packet_of, packet_mark, in_packet, behind_item, TellsItem, Meets, CountsSo, GivesBack, IsAtPacket, JudgesPacket, GoesBehind, HasBehind}
+use Rattle.flac_pages.specs.Packets.{Place, OnPage, ahead, behind_of}
+use Rattle.flac_pages.specs.Items.{PacketEnd, whole, unended, cut_at, Packet, end_in, end_of, packet_of, packet_mark, in_packet, behind_item, TellsItem, Meets, CountsSo, TellsPages, numbers_of, GivesBack, IsAtPacket, JudgesPacket, GoesBehind, HasBehind}
 use Rattle.flac_pages.specs.inner.Items.{short_at}
 use Rattle.flac_pages.proofs.ItemMeaning.{stopped, told_behind}
+use Rattle.flac_pages.proofs.Paged.{numbers_same}
 
 pub short_is : (fails : Option (ℕ × Why)) (cut : Bool) → short_of fails ≡ short_at (end_in fails cut)
 short_is (Some f) cut = refl
@@ -62,13 +63,32 @@ same_names : {X : Type 0} (s mid : State) (read : Result X Why) → Counts s mid
 same_names s mid (Ok x) counts = counts.4
 same_names s mid (Err why) counts = counts.3
 
+second_same : (a b k n : ℕ) (xs ys : List ℕ) → a ∷ k ∷ xs ≡ b ∷ n ∷ ys → (k ≡ n) × (xs ≡ ys)
+second_same a b k n xs ys e = (cc, cc)
+
+-- the pages are given back as they were lent
+same_lent : {X : Type 0} (p new : Place) (page : OnPage) (name back : GName) (s mid : State) (read : Result X Why) (result : Result X (Option ℕ × Why)) → s.names ≡ name ∷ p.raised ∷ (numbers_of page ++ p.names) → Counts s mid read → (gives : GivesBack mid back new read result)
+    → (gives.lent ≡ p.raised) × ((gives.page ≡ page) × (new.names ≡ p.names))
+same_lent p new page name back s mid read result names counts gives =
+    let same = second_same back name gives.lent p.raised _ _ (sym gives.names ∙ same_names s mid read counts ∙ names) in
+    (same.0, numbers_same gives.page page new.names p.names same.1)
+
 -- a packet's item was read, or none: what is told of the device's errors
-pub met_told : {X : Type 0} (p new : Place) (name back : GName) (s mid : State) (read : Result X Why) (result : Result X (Option ℕ × Why)) → s.raised ≡ 0 → s.names ≡ name ∷ p.raised ∷ p.names → Counts s mid read → GivesBack mid back new read result
+pub met_told : {X : Type 0} (p new : Place) (page : OnPage) (name back : GName) (s mid : State) (read : Result X Why) (result : Result X (Option ℕ × Why)) → s.raised ≡ 0 → s.names ≡ name ∷ p.raised ∷ (numbers_of page ++ p.names) → Counts s mid read → GivesBack mid back new read result
     → Meets p.raised new.raised result
-met_told p new name back s mid read result none names counts gives =
-    let same : back ∷ gives.lent ∷ new.names ≡ name ∷ p.raised ∷ p.names = sym gives.names ∙ same_names s mid read counts ∙ names in
-    let lent : gives.lent ≡ p.raised = cc in
-    subst (λ n. Meets n new.raised result) lent (gives.meets (counts_so s mid read none counts))
+met_told p new page name back s mid read result none names counts gives =
+    subst (λ n. Meets n new.raised result) (same_lent p new page name back s mid read result names counts gives).0 (gives.meets (counts_so s mid read none counts))
+
+-- of the pages
+pub pages_told : {X : Type 0} (p new : Place) (page : OnPage) (name back : GName) (s mid : State) (read : Result X Why) (result : Result X (Option ℕ × Why)) → s.raised ≡ 0 → s.names ≡ name ∷ p.raised ∷ (numbers_of page ++ p.names) → Counts s mid read → GivesBack mid back new read result
+    → TellsPages page new result
+pages_told p new page name back s mid read result none names counts gives =
+    subst (λ (q : OnPage). TellsPages q new result) (same_lent p new page name back s mid read result names counts gives).1.0 (gives.pages (counts_so s mid read none counts))
+
+-- and of the references
+pub names_told : {X : Type 0} (p new : Place) (page : OnPage) (name back : GName) (s mid : State) (read : Result X Why) (result : Result X (Option ℕ × Why)) → s.names ≡ name ∷ p.raised ∷ (numbers_of page ++ p.names) → Counts s mid read → GivesBack mid back new read result
+    → new.names ≡ p.names
+names_told p new page name back s mid read result names counts gives = (same_lent p new page name back s mid read result names counts gives).1.1
 
 -- a growth that was refused is told so, and so is none where it is not told
 pub memory_told : {X : Type 0} (mid : State) (new : Place) (read : Result X Why) (result : Result X (Option ℕ × Why)) → JudgesPacket mid new read result → (result ≡ Err (None, Memory) → ⊥) → read ≡ Err Memory → ⊥
@@ -79,8 +99,8 @@ memory_told {X = X} mid new read result judges calm is = calm (subst (λ (r : Re
 
 -- ---- from a packet's first bit on
 
-pub at_there : {name : GName} (p q : Place) (s : State) → p ≡ q → IsAtPacket name p s → IsAtPacket name q s
-at_there {name} p q s e at = subst (λ (k : Place). IsAtPacket name k s) e at
+pub at_there : {name : GName} {page : OnPage} (p q : Place) (s : State) → p ≡ q → IsAtPacket name page p s → IsAtPacket name page q s
+at_there {name} {page} p q s e at = subst (λ (k : Place). IsAtPacket name page k s) e at
 
 abbrev cursor_at : Place → Cursor
 cursor_at p = record { left = (packet_of p).bits; mark = packet_mark p }
@@ -88,19 +108,19 @@ cursor_at p = record { left = (packet_of p).bits; mark = packet_mark p }
 same_end : (a b : Behind) → a ≡ without_fence b → end_of a ≡ end_of b
 same_end a b e = ap (λ (x : Behind). end_of x) e
 
-short_there : {name : GName} (p : Place) (s : State) → IsAtPacket name p s → s.cursor.mark.short ≡ short_of s.behind.fails
+short_there : {name : GName} {page : OnPage} (p : Place) (s : State) → IsAtPacket name page p s → s.cursor.mark.short ≡ short_of s.behind.fails
 short_there p s at = ap (λ (c : Cursor). c.mark.short) at.cursor ∙ ap (λ (b : Behind). short_of b.fails) (sym at.behind)
 
 -- the fence that stands nowhere is lifted, and the checks have begun
-pub lifted_there : {name : GName} (p : Place) (s : State) → IsAtPacket name p s → (started (lifted s)).cursor ≡ s.cursor
+pub lifted_there : {name : GName} {page : OnPage} (p : Place) (s : State) → IsAtPacket name page p s → (started (lifted s)).cursor ≡ s.cursor
 lifted_there p s at =
     let none : s.behind.fenced ≡ [] = ap (λ (b : Behind). b.fenced) at.behind in
     let short : short_of s.behind.fails ≡ (packet_mark p).short = ap (λ (b : Behind). short_of b.fails) at.behind in
     rw (at.cursor, none, short, append-nil (packet_of p).bits) refl
 
 -- what a reader answered over the packet, and the judgement of its end, tell what the packet is
-pub packet_told : {X A : Type 0} {name : GName} (view : X → A) (room : Option ℕ) (l : Layout A) (p : Place) (old mid : State) (new : Place) (read : Result X Why) (result : Result X (Option ℕ × Why))
-    → IsAtPacket name p old → Counts old mid read → Gives view (read_in room l old.cursor) old mid read → mid.errors ≤ new.errors → JudgesPacket mid new read result
+pub packet_told : {X A : Type 0} {name : GName} {page : OnPage} (view : X → A) (room : Option ℕ) (l : Layout A) (p : Place) (old mid : State) (new : Place) (read : Result X Why) (result : Result X (Option ℕ × Why))
+    → IsAtPacket name page p old → Counts old mid read → Gives view (read_in room l old.cursor) old mid read → mid.errors ≤ new.errors → JudgesPacket mid new read result
     → p.known ≡ true → new.errors ≡ p.errors → TellsItem view room l (packet_mark p) (packet_of p) result
 packet_told view room l p old mid new read result at counts gives kept judges known same =
     let told = item_told view room l old.cursor old mid new read result at.raised (short_there p old at) counts gives kept judges (at.known ∙ known) (same ∙ sym at.errors) in
@@ -108,8 +128,8 @@ packet_told view room l p old mid new read result at counts gives kept judges kn
     (subst (λ (c : Cursor). TellsItem view room l c.mark (record { bits = c.left; ends = end_of old.behind }) result) at.cursor told)
 
 -- the same of a reader that lifts the fence and begins the checks first
-pub packet_told_within : {X A : Type 0} {name : GName} (view : X → A) (room : Option ℕ) (l : Layout A) (p : Place) (old mid : State) (new : Place) (read : Result X Why) (result : Result X (Option ℕ × Why))
-    → IsAtPacket name p old → Counts (lifted old) mid read → Gives view (read_in room l (started (lifted old)).cursor) (lifted old) mid read → mid.errors ≤ new.errors → JudgesPacket mid new read result
+pub packet_told_within : {X A : Type 0} {name : GName} {page : OnPage} (view : X → A) (room : Option ℕ) (l : Layout A) (p : Place) (old mid : State) (new : Place) (read : Result X Why) (result : Result X (Option ℕ × Why))
+    → IsAtPacket name page p old → Counts (lifted old) mid read → Gives view (read_in room l (started (lifted old)).cursor) (lifted old) mid read → mid.errors ≤ new.errors → JudgesPacket mid new read result
     → p.known ≡ true → new.errors ≡ p.errors → TellsItem view room l (packet_mark p) (packet_of p) result
 packet_told_within view room l p old mid new read result at counts gives kept judges known same =
     let there = lifted_there p old at in
@@ -159,14 +179,14 @@ has_behind p new b known errors (Ok x) knows same is gave = λ k.
     record { known = g.0; errors = g.1 ∙ same; lacing = g.2 ∙ ap (λ (b : Behind). b.pieces) is; bytes = g.3 ∙ ap (λ (b : Behind). b.bytes) is; fault = g.4 ∙ ap (λ (b : Behind). b.fault) is; stop = g.5 ∙ ap (λ (b : Behind). b.stop) is }
 has_behind p new b known errors (Err why) knows same is gave = tt
 
-pub behind_told : {X A : Type 0} {name : GName} (view : X → A) (room : Option ℕ) (l : Layout A) (p : Place) (old mid : State) (new : Place) (read : Result X Why) (result : Result X (Option ℕ × Why))
-    → IsAtPacket name p old → Counts old mid read → ((read ≡ Err Memory → ⊥) → Gives view (read_in room l old.cursor) old mid read) → JudgesPacket mid new read result → OnOk result (GoesBehind mid new) → OnOk result (p.known ≡ true → HasBehind p new)
+pub behind_told : {X A : Type 0} {name : GName} {page : OnPage} (view : X → A) (room : Option ℕ) (l : Layout A) (p : Place) (old mid : State) (new : Place) (read : Result X Why) (result : Result X (Option ℕ × Why))
+    → IsAtPacket name page p old → Counts old mid read → ((read ≡ Err Memory → ⊥) → Gives view (read_in room l old.cursor) old mid read) → JudgesPacket mid new read result → OnOk result (GoesBehind mid new) → OnOk result (p.known ≡ true → HasBehind p new)
 behind_told view room l p old mid new read result at counts gives judges goes =
     has_behind p new old.behind (old.known ≡ true) old.errors result (λ k. at.known ∙ k) at.errors at.behind
     (item_behind view room l old.cursor old mid new read result at.raised (short_there p old at) counts gives judges goes)
 
-pub behind_told_within : {X A : Type 0} {name : GName} (view : X → A) (room : Option ℕ) (l : Layout A) (p : Place) (old mid : State) (new : Place) (read : Result X Why) (result : Result X (Option ℕ × Why))
-    → IsAtPacket name p old → Counts (lifted old) mid read → ((read ≡ Err Memory → ⊥) → Gives view (read_in room l (started (lifted old)).cursor) (lifted old) mid read) → JudgesPacket mid new read result → OnOk result (GoesBehind mid new)
+pub behind_told_within : {X A : Type 0} {name : GName} {page : OnPage} (view : X → A) (room : Option ℕ) (l : Layout A) (p : Place) (old mid : State) (new : Place) (read : Result X Why) (result : Result X (Option ℕ × Why))
+    → IsAtPacket name page p old → Counts (lifted old) mid read → ((read ≡ Err Memory → ⊥) → Gives view (read_in room l (started (lifted old)).cursor) (lifted old) mid read) → JudgesPacket mid new read result → OnOk result (GoesBehind mid new)
     → OnOk result (p.known ≡ true → HasBehind p new)
 behind_told_within view room l p old mid new read result at counts gives judges goes =
     let there = lifted_there p old at in

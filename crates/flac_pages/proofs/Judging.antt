@@ -1,15 +1,17 @@
 -- What a judged packet is, by what stands behind its bits.
-use Rattle.std.proofs.Common.{◌≡◌, ◌≢◌, ℕ, ◌<◌, ◌-◌, ◌^◌, Bool, true, false, ◌∷◌, Option, Some, None, Result, Ok, Err, OnOk, refl, sym, ap, subst, ◌∙◌, arith}
-use Rattle.std.specs.Prelude.{⊤, ◌&&◌}
+use Rattle.std.proofs.Common.{◌≡◌, ◌≢◌, ℕ, ◌<◌, ◌-◌, ◌^◌, Bool, true, false, ◌∷◌, ◌++◌, Option, Some, None, Result, Ok, Err, OnOk, refl, sym, ap, subst, ◌∙◌, arith}
+use Rattle.std.specs.Prelude.{⊤, ◌&&◌, IfSome}
 use Rattle.std.specs.Borrow.{GName}
 use Rattle.std.specs.Option.{ForSome}
 use Rattle.flac_bits.specs.Bits.{is_nil}
 use Rattle.flac_bits.specs.State.{State, Behind, Rises, short_of, without_fence}
 use Rattle.flac_bits.specs.declared.why.Why.{Why}
-use Rattle.flac_bits.specs.declared.why.Why.TheVariants.{Read, Memory, Sink, Truncated}
-use Rattle.flac_pages.specs.Packets.{Place, Met, ahead, behind_of, behind_in, behind_left}
-use Rattle.flac_pages.specs.Items.{PacketEnd, whole, unended, cut_at, end_of, in_packet, behind_item, HasItsPage, CountsSo, GivesBack, JudgesPacket, GoesBehind}
+use Rattle.flac_bits.specs.declared.why.Why.TheVariants.{Read, Memory, Sink, Truncated, PacketLength}
+use Rattle.flac_pages.specs.Packets.{Place, OnPage, Met, ahead, behind_of, behind_in, behind_left, on_page, BreaksAt}
+use Rattle.flac_pages.specs.inner.Packets.{Follows}
+use Rattle.flac_pages.specs.Items.{PacketEnd, whole, unended, cut_at, end_of, in_packet, behind_item, HasItsPage, CountsSo, numbers_of, GivesBack, JudgesPacket, GoesBehind}
 use Rattle.flac_pages.specs.inner.Items.{why_in, EndsPacket}
+use Rattle.flac_pages.proofs.Paged.{reads_then, broke_since, passes_there}
 use Rattle.flac_pages.proofs.Stepping.{met_then}
 
 -- ---- behind a packet that is one item
@@ -97,21 +99,42 @@ judged_end {X = X} s new read x r why is refused judges =
 
 -- ---- the pages are given back
 
-same_names : (s : State) (name : GName) (lent : ℕ) (pages old new : Place) → s.names ≡ name ∷ lent ∷ pages.names → old ≡ pages → new.names ≡ old.names → s.names ≡ name ∷ lent ∷ new.names
-same_names s name lent pages old new names is kept = names ∙ ap (λ n. name ∷ lent ∷ n) (sym (kept ∙ ap (λ (p : Place). p.names) is))
+same_names : (s : State) (name : GName) (lent : ℕ) (page : OnPage) (pages old new : Place) → s.names ≡ name ∷ lent ∷ (numbers_of page ++ pages.names) → old ≡ pages → new.names ≡ old.names → s.names ≡ name ∷ lent ∷ (numbers_of page ++ new.names)
+same_names s name lent page pages old new names is kept = names ∙ ap (λ n. name ∷ lent ∷ (numbers_of page ++ n)) (sym (kept ∙ ap (λ (p : Place). p.names) is))
+
+follows_there : (start pages old : Place) → old ≡ pages → Follows start pages → Follows start old
+follows_there start pages old is follows = subst (λ (p : Place). Follows start p) (sym is) follows
+
+pub known_there : (p : Place) → (on_page p).known ≡ true → p.known ≡ true
+unfolding on_page
+known_there p known = known
 
 -- behind a whole item, where the packet's end is judged
-pub end_back : (s : State) (name : GName) (lent : ℕ) (fault : Option (ℕ × Why)) (errors : ℕ) (pages old new : Place) (result : Result ⊤ (Option ℕ × Why)) → s.names ≡ name ∷ lent ∷ pages.names → old ≡ pages → errors ≡ s.raised → (errors ≡ 0 → fault ≡ None)
-    → (fault ≡ None → pages.raised ≡ lent) → EndsPacket old new result → GivesBack s name new (Ok nothing) result
-end_back s name lent fault errors pages old new (Ok x) names is raised none calm ends = record {
-  lent = lent;
-  names = same_names s name lent pages old new names is ends.names;
+pub end_back : (s : State) (name : GName) (start : Place) (fault : Option (ℕ × Why)) (errors : ℕ) (pages old new : Place) (result : Result ⊤ (Option ℕ × Why)) → s.names ≡ name ∷ start.raised ∷ (numbers_of (on_page start) ++ pages.names) → old ≡ pages → errors ≡ s.raised
+    → (errors ≡ 0 → fault ≡ None) → (fault ≡ None → pages.raised ≡ start.raised) → (fault ≡ None → Follows start pages) → (fault ≡ None → start.known ≡ true → behind_of pages ≡ behind_of start)
+    → EndsPacket old new result → GivesBack s name new (Ok nothing) result
+end_back s name start fault errors pages old new (Ok x) names is raised none calm follows behind ends = record {
+  lent = start.raised;
+  page = on_page start;
+  names = same_names s name start.raised (on_page start) pages old new names is ends.names;
   meets = λ counts. ends.raised ∙ ap (λ (p : Place). p.raised) is ∙ calm (none (raised ∙ counts));
+  pages = λ counts known more.
+      let calm = none (raised ∙ counts) in
+      let f = follows_there start pages old is (follows calm) in
+      let there = known_there start known in
+      let read = reads_then (on_page start) (on_page old) (on_page new) (f.pages there) (ends.pages (f.known there)) in
+      let same : behind_of old ≡ behind_of start = ap behind_of is ∙ behind calm there in
+      passes_there start new read more ends.stands.1 (ap (λ (b : Behind). end_of b) (sym same) ∙ ends.ended (f.known there)) (ends.behind (f.known there) ∙ same);
 }
-end_back s name lent fault errors pages old new (Err why) names is raised none calm ends = record {
-  lent = lent;
-  names = same_names s name lent pages old new names is ends.names;
-  meets = λ counts. met_then why.1 lent old.raised new.raised (ap (λ (p : Place). p.raised) is ∙ calm (none (raised ∙ counts))) ends.met;
+end_back s name start fault errors pages old new (Err why) names is raised none calm follows behind ends = record {
+  lent = start.raised;
+  page = on_page start;
+  names = same_names s name start.raised (on_page start) pages old new names is ends.names;
+  meets = λ counts. met_then why.1 start.raised old.raised new.raised (ap (λ (p : Place). p.raised) is ∙ calm (none (raised ∙ counts))) ends.met;
+  pages = λ counts known.
+      let f = follows_there start pages old is (follows (none (raised ∙ counts))) in
+      let there = known_there start known in
+      broke_since start old why.0 f there (ends.breaks (f.known there));
 }
 
 met_why : (fault : Option (ℕ × Why)) (errors lent raised : ℕ) (why : Why) → (fault ≡ None → errors ≡ 0) → ForSome fault (λ f. Met f.1 lent raised) → (why ≡ Read → 0 < errors) × (why ≡ Sink → ⊥) → Met (why_in fault why).1 lent raised
@@ -120,16 +143,42 @@ met_why None errors lent raised Read quiet met counts = absurd (omega (arith, qu
 met_why (Some f) errors lent raised Read quiet met counts = met f refl
 met_why fault errors lent raised why quiet met counts = (λ e. absurd cc, counts.1)
 
--- where the item's reader refused
-pub why_back : {X : Type 0} (s : State) (name : GName) (lent : ℕ) (fault seen : Option (ℕ × Why)) (errors : ℕ) (pages new : Place) (read : Result X Why) (why : Why) (told : Option ℕ × Why) → read ≡ Err why → told ≡ why_in seen why → seen ≡ fault
-    → s.names ≡ name ∷ lent ∷ pages.names → new ≡ pages → errors ≡ s.raised → (fault ≡ None → errors ≡ 0) → ForSome fault (λ f. Met f.1 lent pages.raised) → GivesBack s name new read (Err told)
-why_back {X = X} s name lent fault seen errors pages new read why told is tells same names at raised quiet met = record {
+broke_why : (page : OnPage) (fault : Option (ℕ × Why)) (why : Why) → page.known ≡ true → ForSome fault (λ f. page.known ≡ true → BreaksAt page f.0) → IfSome (why_in fault why).0 (λ n. BreaksAt page n)
+broke_why page fault Truncated known broke = tt
+broke_why page None Read known broke = tt
+broke_why page (Some f) Read known broke = broke f refl known
+broke_why page fault why known broke = tt
+
+-- where a reader of bits refused
+pub told_back : {X : Type 0} (s : State) (name : GName) (lent : ℕ) (page : OnPage) (fault seen : Option (ℕ × Why)) (errors : ℕ) (pages new : Place) (read : Result X Why) (why : Why) (told : Option ℕ × Why) → told ≡ why_in seen why → seen ≡ fault
+    → s.names ≡ name ∷ lent ∷ (numbers_of page ++ pages.names) → new ≡ pages → (fault ≡ None → errors ≡ 0) → ForSome fault (λ f. Met f.1 lent pages.raised) → ForSome fault (λ f. page.known ≡ true → BreaksAt page f.0)
+    → (CountsSo read s.raised → (why ≡ Read → 0 < errors) × (why ≡ Sink → ⊥)) → GivesBack s name new read (Err told)
+told_back {X = X} s name lent page fault seen errors pages new read why told tells same names at quiet met broke so = record {
   lent = lent;
-  names = same_names s name lent pages new new names at refl;
+  page = page;
+  names = same_names s name lent page pages new new names at refl;
   meets = λ counts.
-      let so : CountsSo {X = X} (Err why) s.raised = subst (λ (r : Result X Why). CountsSo r s.raised) is counts in
-      let found : Met (why_in fault why).1 lent pages.raised = met_why fault errors lent pages.raised why quiet met (λ e. subst (λ n. 0 < n) (sym raised) (so.0 e), so.1) in
+      let found : Met (why_in fault why).1 lent pages.raised = met_why fault errors lent pages.raised why quiet met (so counts) in
       subst (λ (p : Place). Met told.1 lent p.raised) (sym at) (subst (λ (w : Option ℕ × Why). Met w.1 lent pages.raised) (ap (λ o. why_in o why) (sym same) ∙ sym tells) found);
+  pages = λ counts known. subst (λ (w : Option ℕ × Why). IfSome w.0 (λ n. BreaksAt page n)) (ap (λ o. why_in o why) (sym same) ∙ sym tells) (broke_why page fault why known broke);
+}
+
+-- where the item's reader did
+pub why_back : {X : Type 0} (s : State) (name : GName) (lent : ℕ) (page : OnPage) (fault seen : Option (ℕ × Why)) (errors : ℕ) (pages new : Place) (read : Result X Why) (why : Why) (told : Option ℕ × Why) → read ≡ Err why → told ≡ why_in seen why → seen ≡ fault
+    → s.names ≡ name ∷ lent ∷ (numbers_of page ++ pages.names) → new ≡ pages → errors ≡ s.raised → (fault ≡ None → errors ≡ 0) → ForSome fault (λ f. Met f.1 lent pages.raised) → ForSome fault (λ f. page.known ≡ true → BreaksAt page f.0) → GivesBack s name new read (Err told)
+why_back {X = X} s name lent page fault seen errors pages new read why told is tells same names at raised quiet met broke =
+    told_back s name lent page fault seen errors pages new read why told tells same names at quiet met broke (λ counts.
+    let so : CountsSo {X = X} (Err why) s.raised = subst (λ (r : Result X Why). CountsSo r s.raised) is counts in
+    (λ e. subst (λ n. 0 < n) (sym raised) (so.0 e), so.1))
+
+-- where bits are left behind the item
+pub left_back : (s : State) (name : GName) (lent : ℕ) (page : OnPage) (pages new : Place) → s.names ≡ name ∷ lent ∷ (numbers_of page ++ pages.names) → new ≡ pages → GivesBack s name new (Ok nothing) (Err (None, PacketLength))
+left_back s name lent page pages new names at = record {
+  lent = lent;
+  page = page;
+  names = same_names s name lent page pages new new names at refl;
+  meets = λ counts. (λ e. absurd cc, λ e. absurd cc);
+  pages = λ counts known. tt;
 }
 
 -- ---- the page of an error of the device

@@ -2,6 +2,7 @@ pub mod PageSum
 pub mod Anew
 pub mod PageReads
 pub mod Turns
+pub mod Paged
 pub mod Stepping
 pub mod Unchecked
 pub mod Exits

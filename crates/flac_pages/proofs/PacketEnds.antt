@@ -5,9 +5,10 @@ use Rattle.flac_bits.specs.State.{Behind}
 use Rattle.flac_bits.specs.declared.why.Why.{Why}
 use Rattle.flac_bits.specs.declared.why.Why.TheVariants.{PacketLength, Read, Memory, Sink}
 use Rattle.flac_pages.specs.Packets.{Place, ahead, behind_of, behind_in, broken_off}
-use Rattle.flac_pages.specs.inner.Packets.{Finds, Copies}
+use Rattle.flac_pages.specs.inner.Packets.{Follows, Finds, Copies}
 use Rattle.flac_pages.specs.Items.{whole, unended, cut_at, end_in, end_of, cut_off, HasItsPage}
 use Rattle.flac_pages.specs.inner.Items.{EndsPacket}
+use Rattle.flac_pages.proofs.Paged.{follows_then}
 use Rattle.flac_pages.proofs.Stepping.{met_then}
 
 -- what a way to the packet's end keeps
@@ -18,6 +19,7 @@ pub record Passes (old now : Place) : Type 0 where
   pub names : now.names ≡ old.names
   pub room : now.most + length now.body ≤ old.most + length old.body
   pub behind : old.known ≡ true → behind_of now ≡ behind_of old
+  pub follows : Follows old now
 
 abbrev ends_ok : Result ⊤ (Option ℕ × Why)
 ends_ok = Ok tt
@@ -39,6 +41,7 @@ passed_more old now mid new out n p f c = record {
   names = c.names ∙ f.names ∙ p.names;
   room = omega (arith, p.room, f.room, c.room);
   behind = λ known. c.behind ∙ f.behind (p.known known) ∙ p.behind known;
+  follows = follows_then old mid new (follows_then old now mid p.follows f.follows) c.follows;
 }
 
 pub ends_between : (old now new : Place) → Passes old now → Finds now new (found false) → (new.rest ≡ 0) × (new.more ≡ false) → EndsPacket old new ends_ok
@@ -54,6 +57,7 @@ ends_between old now new p f stands =
       room = omega (arith, p.room, f.room);
       ended = λ known. ap (λ (b : Behind). end_of b) (sym (behind known)) ∙ ap (λ b. end_of (behind_in new.rest b (ahead new))) stands.1;
       behind = behind;
+      pages = (follows_then old now new p.follows f.follows).pages;
     }
 
 pub ends_inside : (old now new : Place) → Passes old now → Finds now new (found false) → ((new.rest ≡ 0) × (new.more ≡ false) → ⊥) → EndsPacket old new (ends_err (None, PacketLength))
@@ -71,6 +75,7 @@ ends_inside old now new p f inside =
           let cut : (behind_of old).cut ≡ true = ap (λ (b : Behind). b.cut) (sym behind) ∙ rw (goes_on, none) refl in
           let is : end_of (behind_of old) ≡ unended = ap (λ o. end_in o (behind_of old).cut) calm ∙ ap (λ b. end_in None b) cut in
           (λ e. differ (sym is ∙ e), ap cut_off (sym is));
+      breaks = λ known. tt;
     }
   where
     differ : unended ≡ whole → ⊥
@@ -95,6 +100,7 @@ ends_broken old now new why p f = record {
       let behind : behind_of old ≡ broken_off (new.count, why) = sym (p.behind known) ∙ f.behind (p.known known) (same ∙ sym p.errors) in
       let is : end_of (behind_of old) ≡ cut_at new.count why = ap (λ (b : Behind). end_of b) behind in
       (λ e. differ (sym is ∙ e), ap cut_off (sym is));
+  breaks = λ known. let broke = f.breaks (p.known known) in (p.follows.more broke.0, p.follows.breaks known broke.0 new.count broke.1);
 }
   where
     differ : cut_at new.count why ≡ whole → ⊥

@@ -9,8 +9,9 @@ use Rattle.flac_bits.specs.Layout.{because}
 use Rattle.flac_bits.specs.declared.why.Why.{Why}
 use Rattle.flac_pages.specs.Page.{Page, is_last, after, goes_on_behind}
 use Rattle.flac_pages.specs.Pages.{Stop, closed, broken, one, next_page, pages_of, pages_behind, end_fault}
-use Rattle.flac_pages.specs.Packets.{Place, Ahead, Met, ahead, size, ends, past_packet, to_come, rest_of, behind_of, rest_in, behind_in, broken_off, fault_of, stop_of, at_page, page_index}
-use Rattle.flac_pages.specs.inner.Packets.{only_fault, next_segment, Copies}
+use Rattle.flac_pages.specs.Packets.{Place, Ahead, Met, ahead, size, ends, past_packet, to_come, rest_of, behind_of, rest_in, behind_in, broken_off, fault_of, stop_of, at_page, page_index, on_page, ReadsPages, BreaksAt}
+use Rattle.flac_pages.specs.inner.Packets.{only_fault, next_segment, Follows, Copies}
+use Rattle.flac_pages.proofs.Paged.{follows_none, follows_then, follows_segment, follows_same}
 use Rattle.flac_pages.proofs.Turns.{good_turn, bad_turn}
 
 -- what a step keeps
@@ -175,6 +176,7 @@ pub record Kept (old new : Place) : Type 0 where
   pub room : new.most + length new.body ≤ old.most + length old.body
   pub bytes : old.known ≡ true → rest_of new ≡ rest_of old
   pub behind : old.known ≡ true → behind_of new ≡ behind_of old
+  pub follows : Follows old new
 
 -- what a loop over pages keeps
 pub record Waits (old new : Place) : Type 0 where
@@ -186,6 +188,8 @@ pub record Waits (old new : Place) : Type 0 where
   pub more : new.more ≡ false
   pub room : new.most + length new.body ≤ old.most + length old.body
   pub ahead : old.known ≡ true → ahead new ≡ ahead old
+  pub pages : old.known ≡ true → ReadsPages (on_page old) (on_page new)
+  pub breaks : old.known ≡ true → (n : ℕ) → BreaksAt (on_page new) n → BreaksAt (on_page old) n
 
 -- ---- copies
 
@@ -226,18 +230,19 @@ copied old new out n a b o nk ne ns nn nmo nr nm nl nb nla nf nc nd =
       bytes = ap (take (old.rest + more)) split ∙ ap (λ k. take k (front ++ (rest ++ behind))) count ∙ take-append-add front (rest ++ behind) (old.rest - n + more) ∙ rw (o, nr, nm, nl, nb, nla, nf, nd) refl;
       behind = behind_is _ _ _ _ _ _ _ _ _ _ _ _ (rw (nm, nl, nla, nf, nc, nd) refl) (rw (nm, nl, nla, nf, nd) refl) (rw (nm, nl, nla, nf, nd) refl)
           (rw (nr, nm, nl, nb, nla, nf, nd) (sym (ap (λ k. drop k (old.body ++ behind)) count' ∙ drop_more (old.body ++ behind) n (old.rest - n + more) ∙ ap (drop (old.rest - n + more)) seam))) (rw (nla, nf, nc, nd) refl) (rw (nla, nf, nc, nd) refl);
+      follows = follows_same old new nk nm nl nla nf nc nd;
     }
 
 -- nothing is copied
 pub copies_none : (p : Place) (out : List ℕ) → Copies p p out 0
-copies_none p out = record { known = refl; errors = refl; raised = refl; names = refl; room = omega arith; bytes = refl; behind = refl }
+copies_none p out = record { known = refl; errors = refl; raised = refl; names = refl; room = omega arith; bytes = refl; behind = refl; follows = follows_none p }
 
 -- the packet's next segment is entered, and nothing copied
 pub copies_entered : (old new : Place) (l : List ℕ) → old.rest ≡ 0 → old.more ≡ true → 0 < length old.lacing → old.lacing ≡ l → new ≡ next_segment old l → Copies old new [] 0
 copies_entered old new [] r m some eq e = absurd (omega (arith, ap length eq, some))
 copies_entered old new (v ∷ vs) r m some eq e =
     let same = segment_same old v vs r m eq in
-    subst (λ (p : Place). Copies old p [] 0) (sym e) (record { known = refl; errors = refl; raised = refl; names = refl; room = omega arith; bytes = sym same.bytes; behind = same.behind })
+    subst (λ (p : Place). Copies old p [] 0) (sym e) (record { known = refl; errors = refl; raised = refl; names = refl; room = omega arith; bytes = sym same.bytes; behind = same.behind; follows = follows_segment old v vs m eq })
 
 -- none more
 pub copies_still : (old mid new : Place) (xs : List ℕ) (n : ℕ) → Copies old mid xs n → Copies mid new [] 0 → Copies old new xs n
@@ -249,6 +254,7 @@ copies_still old mid new xs n a b = record {
   room = omega (arith, a.room, b.room);
   bytes = a.bytes ∙ ap (λ r. take n xs ++ r) b.bytes;
   behind = b.behind ∙ a.behind;
+  follows = follows_then old mid new a.follows b.follows;
 }
 
 -- more bytes behind those that were copied
@@ -261,6 +267,7 @@ copies_more old mid new xs ys zs n m e a b = record {
   room = omega (arith, a.room, b.room);
   bytes = a.bytes ∙ ap (λ r. take n xs ++ r) b.bytes ∙ sym (append_assoc (take n xs) (take m ys) (rest_of new)) ∙ ap (λ k. k ++ rest_of new) (sym e);
   behind = b.behind ∙ a.behind;
+  follows = follows_then old mid new a.follows b.follows;
 }
 
 -- ---- whether a packet goes on

@@ -1,5 +1,5 @@
 -- Pages are the same pages, whatever the checks of their bits are.
-use Rattle.std.proofs.Common.{◌≡◌, ℕ, zero, suc, ◌+◌, ◌*◌, Bool, true, false, cond, List, [], ◌∷◌, length, Option, Some, Result, Ok, Err, refl, ap, subst, ◌∙◌, ◌<◌, ◌^◌}
+use Rattle.std.proofs.Common.{◌≡◌, ℕ, zero, suc, ◌+◌, ◌*◌, Bool, true, false, cond, List, [], ◌∷◌, length, Option, Some, Result, Ok, Err, refl, sym, ap, subst, ◌∙◌, ◌<◌, ◌^◌}
 use Rattle.std.specs.Prelude.{⊤}
 use Rattle.std.specs.List.{sum}
 use Rattle.flac_bits.specs.Bits.{bit_value}
@@ -17,6 +17,7 @@ use Rattle.flac_pages.specs.Pages.{Stop, Run, closed, broken, one, none, between
 use Rattle.flac_pages.specs.Packets.{Place, ahead, to_come, fault_of, stop_of, page_index}
 use Rattle.flac_pages.specs.inner.Packets.{only_fault}
 use Rattle.flac_pages.proofs.Anew.{anew_is, anew_err}
+use Rattle.flac_pages.proofs.Turns.{good_turn}
 use Rattle.flac_pages.proofs.Stepping.{ahead_is, turned, refused}
 
 -- the same bits are to come, and they run short for the same reason
@@ -189,6 +190,16 @@ turned_anew old new p l b la next nl nb nla nf nc =
     let same = anew_alike new.cursor read.0 read.2 in
     let runs : runs_alike (to_come new) (to_come mid) = subst (λ (t : List Bool). runs_alike (to_come new) (pages_behind new.last new.before (at_ t read.0.mark))) same.0 (plain_behind new.last new.before new.cursor.left new.cursor.mark read.0.mark same.1) in
     ahead_same mid new refl refl refl runs ∙ turned old mid p l b la read.1 nl nb nla nf nc
+
+-- and it is the first of the pages to come
+pub turned_first : (old : Place) (last : Bool) (before : Option Before) (c : Cursor) (p : Page) → old.last ≡ false → begun_anew (next_page old.before old.cursor) ≡ Ok (p, c) → last ≡ is_last p.head.flags → before ≡ Some (after old.before p)
+    → (to_come old).pages ≡ p ∷ (pages_behind last before c).pages
+turned_first old last before c p la next nla nf =
+    let read = anew_is (next_page old.before old.cursor) p c next in
+    let same = anew_alike c read.0 read.2 in
+    let runs : runs_alike (pages_behind last before c) (pages_behind last before read.0) = subst (λ (t : List Bool). runs_alike (pages_behind last before c) (pages_behind last before (at_ t read.0.mark))) same.0 (plain_behind last before c.left c.mark read.0.mark same.1) in
+    let turn : pages_of old.before old.cursor ≡ one p (pages_behind last before read.0) = good_turn old.before old.cursor p read.0 read.1 ∙ rw (nla, nf) refl in
+    ap (λ b. (pages_behind b old.before old.cursor).pages) la ∙ ap (λ (r : Run). r.pages) turn ∙ ap (λ ps. p ∷ ps) (sym runs.0)
 
 pub refused_anew : (old : Place) (why : Why) → old.count < 2 ^ 64 → old.lacing ≡ [] → old.body ≡ [] → old.last ≡ false → begun_anew (next_page old.before old.cursor) ≡ Err (because why) → ahead old ≡ only_fault (old.count, why)
 refused_anew old why small l b la next = refused old why small l b la (anew_err (next_page old.before old.cursor) (because why) next)

@@ -1,7 +1,8 @@
 -- One item in one packet: the bytes of a packet are one item, a metadata block or a frame, and nothing else (RFC 9639, section 10.1).
-use Rattle.std.specs.Prelude.{◌≡◌, ◌≢◌, ◌↔◌, ◌<◌, ◌+◌, ◌*◌, ℕ, length, Bool, true, false, List, [], ◌∷◌, ◌++◌, Option, Some, None, Result, Ok, Err}
+use Rattle.std.specs.Prelude.{◌≡◌, ◌≢◌, ◌↔◌, ◌<◌, ◌+◌, ◌*◌, ℕ, length, Bool, true, false, List, [], ◌∷◌, ◌++◌, Option, Some, None, Result, Ok, Err, IfSome}
+use Rattle.std.specs.List.{flat_map}
 use Rattle.std.specs.Borrow.{GName}
-use Rattle.flac_bits.specs.Bits.{bits_of, is_nil}
+use Rattle.flac_bits.specs.Bits.{bits_of, bit_value, is_nil}
 use Rattle.flac_bits.specs.State.{Mark, Cursor, State, Behind, short_of, without_fence}
 use Rattle.flac_bits.specs.Layout.{Layout, bits, Reason}
 use Rattle.flac_bits.specs.Lists.{list_of}
@@ -9,7 +10,7 @@ use Rattle.flac_bits.specs.Meaning.{Spells, Shows, IsCut}
 use Rattle.flac_bits.specs.Fence.{InRoom, LeavesRoom, FillsRoom, read_in}
 use Rattle.flac_bits.specs.declared.why.Why.{Why}
 use Rattle.flac_bits.specs.declared.why.Why.TheVariants.{Read, Memory, Sink, Truncated, FrameTooLong, PacketLength}
-use Rattle.flac_pages.specs.Packets.{Place, Met, ahead, rest_of, behind_of}
+use Rattle.flac_pages.specs.Packets.{Place, Met, ahead, rest_of, behind_of, OnPage, on_page, PassesPacket, BreaksAt}
 
 -- How a packet ends behind the bytes that good pages give of it (RFC 3533, section 6).
 pub data PacketEnd : Type 0 where
@@ -110,15 +111,23 @@ HasItsPage count told = (told.1 ≡ Read → told.0 ≡ Some count) × (told.1 �
 
 -- ---- what the calls do that judge a packet's end
 
--- A reader of bits stands at the first bit of the packet that was begun, by pages that are lent under this name. What stays of them, whatever it meets: the name,
--- how many errors of the device they had met, and the references that they go through.
-pub record IsAtPacket (name : GName) (p : Place) (s : State) : Type 0 where
+-- a list behind its length
+abbrev pub counted : List ℕ → List ℕ
+counted xs = length xs ∷ xs
+
+-- The page on which a reader of packets stands as numbers, which a list of names can hold.
+unfoldable pub numbers_of : OnPage → List ℕ
+numbers_of p = bit_value p.known ∷ bit_value p.more ∷ p.count ∷ (counted p.lacing ++ length p.behind ∷ flat_map counted p.behind)
+
+-- A reader of bits stands at the first bit of the packet that was begun, by pages that are lent under this name, and stood on this page when they were lent. What
+-- stays of them, whatever it meets: the name, how many errors of the device they had met, that page, and the references that they go through.
+pub record IsAtPacket (name : GName) (lent : OnPage) (p : Place) (s : State) : Type 0 where
   pub known : s.known ≡ p.known
   pub errors : s.errors ≡ p.errors
   pub raised : s.raised ≡ 0
   pub behind : s.behind ≡ without_fence (behind_of p)
   pub most : s.most ≡ 8 * (p.most + length p.body)
-  pub names : s.names ≡ name ∷ p.raised ∷ p.names
+  pub names : s.names ≡ name ∷ p.raised ∷ (numbers_of lent ++ p.names)
   pub cursor : s.cursor ≡ record { left = (packet_of p).bits; mark = packet_mark p }
 
 -- What was answered tells which errors of the device were met: none, or one where it tells Read.
@@ -131,11 +140,20 @@ abbrev pub CountsSo : {X : Type 0} → Result X Why → ℕ → Type 0
 CountsSo (Ok x) raised = raised ≡ 0
 CountsSo (Err why) raised = (why ≡ Read → 0 < raised) × (why ≡ Sink → ⊥)
 
--- Pages that were lent to a reader of a packet's bits, which answered this, are given back under their name; they had met so many errors when they were lent.
+-- What was answered of the packet that was begun tells which pages were read: those up to where the next one begins, or, where a page is refused, those before
+-- it, in none of which the packet ends.
+abbrev pub TellsPages : {X : Type 0} → OnPage → Place → Result X (Option ℕ × Why) → Type 0
+TellsPages old new (Ok x) = old.known ≡ true → old.more ≡ true → PassesPacket old (on_page new)
+TellsPages old new (Err e) = old.known ≡ true → IfSome e.0 (λ n. BreaksAt old n)
+
+-- Pages that were lent to a reader of a packet's bits, which answered this, are given back under their name; they had met so many errors when they were lent,
+-- and stood on this page.
 pub record GivesBack {X : Type 0} (s : State) (name : GName) (new : Place) (read : Result X Why) (result : Result X (Option ℕ × Why)) : Type 0 where
   pub lent : ℕ
-  pub names : s.names ≡ name ∷ lent ∷ new.names
+  pub page : OnPage
+  pub names : s.names ≡ name ∷ lent ∷ (numbers_of page ++ new.names)
   pub meets : CountsSo read s.raised → Meets lent new.raised result
+  pub pages : CountsSo read s.raised → TellsPages page new result
 
 -- What an item's reader answered over a packet's bits, behind which it stands at `s`, and what stands behind those bits are told together.
 abbrev pub JudgesPacket : {X : Type 0} → State → Place → Result X Why → Result X (Option ℕ × Why) → Type 0

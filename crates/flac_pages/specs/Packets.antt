@@ -1,5 +1,5 @@
 -- Packets of pages (RFC 3533, sections 5 and 6).
-use Rattle.std.specs.Prelude.{◌≡◌, ℕ, ◌+◌, ◌*◌, ◌/◌, ◌%◌, ◌<◌, Bool, true, false, cond, List, [], ◌∷◌, ◌++◌, length, take, drop, replicate, Option, Some, None, nat_eq, ◌&&◌, not, min, Result, Ok, Err, ◌≤◌}
+use Rattle.std.specs.Prelude.{◌≡◌, ℕ, suc, ◌+◌, ◌-◌, ◌*◌, ◌/◌, ◌%◌, ◌<◌, Bool, true, false, cond, List, [], ◌∷◌, ◌++◌, length, take, drop, map, replicate, Option, Some, None, nat_eq, ◌&&◌, not, min, Result, Ok, Err, ◌≤◌}
 use Rattle.std.specs.Borrow.{GName}
 use Rattle.std.specs.List.{flat_map}
 use Rattle.flac_bits.specs.State.{Cursor, Behind, Rises}
@@ -141,6 +141,50 @@ behind_of p = behind_in p.rest p.more (ahead p)
 abbrev pub broken_off : ℕ × Why → Behind
 broken_off f = record { fails = Some f; cut = true; pieces = []; bytes = []; fault = Some f; stop = Some f; fenced = [] }
 
+-- ---- on which page a reader of packets stands
+
+-- How many pages were read, and the lacing values still to come, page by page: those that are left of this page, and those of each good page behind it.
+pub record OnPage : Type 0 where
+  pub known : Bool
+  pub more : Bool
+  pub count : ℕ
+  pub lacing : List ℕ
+  pub behind : List (List ℕ)
+
+unfoldable pub on_page : Place → OnPage
+on_page p = record { known = p.known; more = p.more; count = p.count; lacing = p.lacing; behind = map (λ q. q.lacing) (to_come p).pages }
+
+-- how many pages were read between
+abbrev pub read_since : (old new : OnPage) → ℕ
+read_since old new = length old.behind - length new.behind
+
+-- further pages were read, which are counted up to the greatest index
+pub record ReadsPages (old new : OnPage) : Type 0 where
+  pub fewer : length new.behind ≤ length old.behind
+  pub behind : new.behind ≡ drop (read_since old new) old.behind
+  pub count : page_index new.count ≡ page_index (old.count + read_since old new)
+
+-- all lacing values still to come
+abbrev pub coming : OnPage → List ℕ
+coming p = p.lacing ++ flat_map (λ lacing. lacing) p.behind
+
+-- the packet that was begun was passed, which ends among the lacing values to come
+pub record PassesPacket (old new : OnPage) : Type 0 where
+  pub pages : ReadsPages old new
+  pub ended : ends (coming old) ≡ true
+  pub passed : coming new ≡ past_packet (coming old)
+
+-- how many of these pages one after another have no packet's end among their lacing values
+abbrev pub open_in : List (List ℕ) → ℕ
+open_in [] = 0
+open_in (page ∷ pages) = cond (ends page) 0 (suc (open_in pages))
+
+-- Further pages were read, n in all, and the packet that comes next or was begun ends in none of them.
+pub record BreaksAt (p : OnPage) (n : ℕ) : Type 0 where
+  pub index : page_index n ≡ n
+  pub from : p.count ≤ n
+  pub below : n < p.count + open_in (p.lacing ∷ p.behind)
+
 -- ---- what the calls of a reader do
 
 -- A call that refused for this reason: by Read it met an error of the device, whose count rose, if it could; and no reader answers Sink.
@@ -159,6 +203,8 @@ Begins old new (Ok true) = record {
   some : 0 < length new.lacing;
   room : new.most + length new.body ≤ old.most + length old.body;
   ahead : old.known ≡ true → ahead new ≡ ahead old;
+  pages : old.known ≡ true → ReadsPages (on_page old) (on_page new);
+  breaks : old.known ≡ true → (n : ℕ) → BreaksAt (on_page new) n → BreaksAt (on_page old) n;
 }
 Begins old new (Ok false) = record {
   known : old.known ≡ true → new.known ≡ true;
@@ -173,6 +219,7 @@ Begins old new (Err f) = record {
   names : new.names ≡ old.names;
   fault : old.known ≡ true → new.errors ≡ old.errors → ((ahead old).lacing ≡ []) × ((ahead old).stop ≡ Some f);
   breaks : old.known ≡ true → new.errors ≡ old.errors → (ahead old).fault ≡ cond new.last None (Some f);
+  pages : old.known ≡ true → BreaksAt (on_page old) f.0;
 }
 
 -- ---- one packet as a source

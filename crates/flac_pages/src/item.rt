@@ -1,12 +1,13 @@
 //! One item in one packet.
 
-ghost use Rattle.std.specs.Prelude.{◌≡◌, ◌≢◌, ◌≤◌, ◌+◌, ◌*◌, ◌∷◌, true, false, length, OnOk, IfOk, IfErr, IfSome, None, Ok, Err};
+ghost use Rattle.std.specs.Prelude.{◌≡◌, ◌≢◌, ◌≤◌, ◌+◌, ◌*◌, ◌∷◌, ◌++◌, true, false, length, OnOk, IfOk, IfErr, IfSome, None, Ok, Err};
 ghost use Rattle.flac_bits.specs.Bits.{is_nil};
 ghost use Rattle.flac_bits.specs.Layout.{bits as number};
 ghost use Rattle.flac_bits.specs.Lists.{list_of};
 ghost use Rattle.flac_bits.specs.Reading.{Counts, Reads};
 ghost use Rattle.flac_bits.specs.State.{short_of};
-ghost use Rattle.flac_pages.specs.Items.{end_of, behind_item, packet_of, packet_mark, TellsItem, Meets, GivesBack, IsAtPacket, JudgesPacket, GoesBehind, HasBehind, CountsSo, HasItsPage};
+ghost use Rattle.flac_pages.specs.Items.{end_of, behind_item, packet_of, packet_mark, TellsItem, Meets, TellsPages, numbers_of, GivesBack, IsAtPacket, JudgesPacket, GoesBehind, HasBehind, CountsSo, HasItsPage};
+ghost use Rattle.flac_pages.specs.Packets.{on_page};
 ghost use Rattle.flac_pages.specs.inner.Items.{why_in};
 
 use crate::packet_bytes::PacketBytes;
@@ -16,8 +17,8 @@ use flac_bits::{BitReader, Source, Why, read_bytes};
 
 /// Makes a reader of the bits of a packet, to read an item from. [`end_item`] returns the pages.
 pub fn packet_bits<R: Source>(packet: PacketBytes<'_, R>) -> BitReader<PacketBytes<'_, R>>
-    ensures at { packet.entry.fault ≡ None → packet.entry.errors ≡ 0 → IsAtPacket packet.entry.pages.ghost_name packet.entry.pages.now result }
-    ensures names { result.names ≡ packet.entry.pages.ghost_name ∷ packet.entry.lent.value.raised ∷ packet.entry.pages.now.names }
+    ensures at { packet.entry.fault ≡ None → packet.entry.errors ≡ 0 → IsAtPacket packet.entry.pages.ghost_name (on_page packet.entry.lent.value) packet.entry.pages.now result }
+    ensures names { result.names ≡ packet.entry.pages.ghost_name ∷ packet.entry.lent.value.raised ∷ (numbers_of (on_page packet.entry.lent.value) ++ packet.entry.pages.now.names) }
 {
     BitReader::new(packet)
 }
@@ -124,6 +125,8 @@ pub fn read_packet<R: Source>(pages: &mut Pages<R>, out: &mut [u8]) -> Result<()
     ensures meets { Meets pages.old.raised pages.new.raised result }
     ensures memory { IfErr result (λ e. e.1 ≢ Why.Memory) }
     ensures page { IfErr result (λ e. HasItsPage pages.new.count e) }
+    // If a refused page breaks the packet off, it ends in none of the pages before that page.
+    ensures pages { TellsPages (on_page pages.old) pages.new result }
     ensures tells { pages.old.known ≡ true → pages.new.errors ≡ pages.old.errors → TellsItem (λ _. out.new) None (list_of (length out.old) (number 8)) (packet_mark pages.old) (packet_of pages.old) result }
     ensures stands { OnOk result ((pages.new.rest ≡ 0) × (pages.new.more ≡ false)) }
     ensures ahead { OnOk result (pages.old.known ≡ true → HasBehind pages.old pages.new) }

@@ -1,9 +1,11 @@
 //! The bytes of one packet.
 
-ghost use Rattle.std.specs.Prelude.{◌≡◌, ◌≢◌, ◌≤◌, ◌<◌, ◌+◌, ◌^◌, ◌-◌, ◌&&◌, ◌∷◌, true, nat_lt, length, IfSome, None, Some};
+ghost use Rattle.std.specs.Prelude.{◌≡◌, ◌≢◌, ◌≤◌, ◌<◌, ◌+◌, ◌^◌, ◌-◌, ◌&&◌, ◌∷◌, ◌++◌, true, nat_lt, length, IfSome, None, Some};
 ghost use Rattle.std.specs.Option.{ForSome};
 ghost use Rattle.flac_bits.specs.declared.why.Why.TheVariants.{Memory};
-ghost use Rattle.flac_pages.specs.Packets.{Met, left_of, behind_left};
+ghost use Rattle.flac_pages.specs.Items.{numbers_of};
+ghost use Rattle.flac_pages.specs.Packets.{BreaksAt, Met, behind_of, left_of, behind_left, on_page};
+ghost use Rattle.flac_pages.specs.inner.Packets.{Follows};
 
 use crate::page::PageFault;
 use crate::pages::Pages;
@@ -26,6 +28,9 @@ pub struct PacketBytes<'a, R: Source> {
     ghost met: { ForSome fault (λ f. Met f.1 lent.value.raised pages.now.raised) },
     ghost memory: { ForSome fault (λ f. f.1 ≢ Memory) },
     ghost page: { ForSome fault (λ f. f.0 ≡ pages.now.count) },
+    ghost follows: { fault ≡ None → Follows lent.value pages.now },
+    ghost same: { fault ≡ None → lent.value.known ≡ true → behind_of pages.now ≡ behind_of lent.value },
+    ghost breaks: { ForSome fault (λ f. lent.value.known ≡ true → BreaksAt (on_page lent.value) f.0) },
 }
 
 impl<'a, R: Source> PacketBytes<'a, R> {
@@ -33,6 +38,7 @@ impl<'a, R: Source> PacketBytes<'a, R> {
     pub fn over(pages: &'a mut Pages<R>) -> PacketBytes<'a, R>
         ensures same { result.pages.ghost_name ≡ pages.entry.ghost_name }
         ensures pages { result.pages.now ≡ pages.old }
+        ensures lent { result.lent.value ≡ pages.old }
         ensures unread { (result.fault ≡ None) × (result.errors ≡ 0) }
     {
         let lent = Snapshot::of(&*pages);
@@ -80,8 +86,9 @@ impl<R: Source> Source for PacketBytes<'_, R> {
 
     ghost most = { λ p. p.pages.now.most + length p.pages.now.body };
 
-    // The number between them is how many errors the device had returned when the pages were borrowed. It stays, too.
-    ghost names = { λ p. p.pages.ghost_name ∷ p.lent.value.raised ∷ p.pages.now.names };
+    // The numbers between them are how many errors the device had returned when the pages were borrowed, and the page
+    // on which they stood. They stay, too.
+    ghost names = { λ p. p.pages.ghost_name ∷ p.lent.value.raised ∷ (numbers_of (on_page p.lent.value) ++ p.pages.now.names) };
 
     fn pull(&mut self, buf: &mut [u8]) -> io::Result<usize> {
         if self.fault.is_some() {

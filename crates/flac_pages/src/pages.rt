@@ -227,6 +227,7 @@ impl<R: Source> Pages<R> {
     }
 
     /// Goes to the packet's next byte; false at the end of the packet or of the last page.
+    #[tactic(auto, using(crate::proofs::Paged::follows_then, crate::proofs::Paged::follows_none))]
     pub(crate) fn find(&mut self) -> Result<bool, Why>
         ensures memory { IfErr result (λ e. e ≢ Why.Memory) }
         ensures finds { Finds self.old self.new result }

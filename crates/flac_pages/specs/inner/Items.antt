@@ -1,8 +1,8 @@
 -- For proofs of reading packets: how a call ends one, and why.
-use Rattle.std.specs.Prelude.{◌≡◌, ◌≢◌, ◌≤◌, ◌+◌, ℕ, length, true, false, Option, Some, None, Result, Ok, Err}
+use Rattle.std.specs.Prelude.{◌≡◌, ◌≢◌, ◌≤◌, ◌+◌, ℕ, length, true, false, Option, Some, None, Result, Ok, Err, IfSome}
 use Rattle.flac_bits.specs.declared.why.Why.{Why}
 use Rattle.flac_bits.specs.declared.why.Why.TheVariants.{Read, Truncated, PacketLength}
-use Rattle.flac_pages.specs.Packets.{Place, Met, behind_of}
+use Rattle.flac_pages.specs.Packets.{Place, Met, behind_of, on_page, ReadsPages, BreaksAt}
 use Rattle.flac_pages.specs.Items.{PacketEnd, whole, cut_at, end_of, cut_off}
 
 -- the reason where a field needs more bits than the packet has
@@ -32,10 +32,12 @@ EndsPacket old new (Ok x) = record {
   room : new.most + length new.body ≤ old.most + length old.body;
   ended : old.known ≡ true → end_of (behind_of old) ≡ whole;
   behind : old.known ≡ true → behind_of new ≡ behind_of old;
+  pages : old.known ≡ true → ReadsPages (on_page old) (on_page new);
 }
 EndsPacket old new (Err why) = record {
   errors : old.errors ≤ new.errors;
   met : Met why.1 old.raised new.raised;
   names : new.names ≡ old.names;
   fault : old.known ≡ true → new.errors ≡ old.errors → (end_of (behind_of old) ≢ whole) × (why ≡ cut_off (end_of (behind_of old)));
+  breaks : old.known ≡ true → IfSome why.0 (λ n. (old.more ≡ true) × BreaksAt (on_page old) n);
 }

@@ -1,7 +1,7 @@
 -- For proofs of reading packets: what the steps of a reader do.
 use Rattle.std.specs.Prelude.{◌≡◌, ℕ, ◌+◌, ◌*◌, ◌<◌, Bool, true, false, List, [], ◌∷◌, ◌++◌, length, take, Option, Some, None, nat_eq, Result, Ok, Err, ◌≤◌}
 use Rattle.flac_bits.specs.declared.why.Why.{Why}
-use Rattle.flac_pages.specs.Packets.{Place, Ahead, ahead, rest_of, behind_of, broken_off, Met}
+use Rattle.flac_pages.specs.Packets.{Place, Ahead, ahead, rest_of, behind_of, broken_off, on_page, ReadsPages, BreaksAt, Met}
 
 -- ---- where a reader of packets stands
 
@@ -16,6 +16,13 @@ abbrev pub next_segment : Place → List ℕ → Place
 next_segment p [] = p
 next_segment p (v ∷ vs) = record p { rest = v; more = nat_eq v 255; lacing = vs }
 
+-- Within a packet further pages were read, and what breaks the packet off there does so from the start too.
+pub record Follows (old new : Place) : Type 0 where
+  pub known : old.known ≡ true → new.known ≡ true
+  pub more : new.more ≡ true → old.more ≡ true
+  pub pages : old.known ≡ true → ReadsPages (on_page old) (on_page new)
+  pub breaks : old.known ≡ true → new.more ≡ true → (n : ℕ) → BreaksAt (on_page new) n → BreaksAt (on_page old) n
+
 -- the next page, or its fault: what good pages give stays
 abbrev pub Turns : {X : Type 0} → Place → Place → Result X Why → Type 0
 Turns old new (Ok x) = record {
@@ -28,6 +35,8 @@ Turns old new (Ok x) = record {
   room : new.most + length new.body ≤ old.most;
   spends : 256 * new.most + length new.lacing < 256 * old.most;
   ahead : old.known ≡ true → ahead new ≡ ahead old;
+  pages : old.known ≡ true → ReadsPages (on_page old) (on_page new);
+  breaks : old.known ≡ true → (n : ℕ) → BreaksAt (on_page new) n → BreaksAt (on_page old) n;
 }
 Turns old new (Err why) = record {
   errors : old.errors ≤ new.errors;
@@ -36,6 +45,7 @@ Turns old new (Err why) = record {
   count : new.count ≡ old.count;
   last : new.last ≡ false;
   ahead : old.known ≡ true → new.errors ≡ old.errors → ahead old ≡ only_fault (old.count, why);
+  breaks : BreaksAt (on_page old) new.count;
 }
 
 -- A step towards the packet's next bytes: the same bytes are still to come, and the same behind them. There is none
@@ -50,6 +60,7 @@ Steps old new (Ok true) = record {
   behind : old.known ≡ true → behind_of new ≡ behind_of old;
   room : new.most + length new.body ≤ old.most + length old.body;
   spends : 256 * new.most + length new.lacing < 256 * old.most + length old.lacing;
+  follows : Follows old new;
 }
 Steps old new (Ok false) = record { same : new ≡ old; bytes : rest_of old ≡ []; fault : (behind_of old).fails ≡ None; none : old.more ≡ true → (ahead old).lacing ≡ [] }
 Steps old new (Err why) = record {
@@ -59,6 +70,7 @@ Steps old new (Err why) = record {
   count : new.count ≡ old.count;
   bytes : old.known ≡ true → new.errors ≡ old.errors → rest_of old ≡ [];
   behind : old.known ≡ true → new.errors ≡ old.errors → behind_of old ≡ broken_off (old.count, why);
+  breaks : (old.more ≡ true) × BreaksAt (on_page old) new.count;
 }
 
 -- the next byte of the packet is found, or the packet's end, or the fault behind its last good byte
@@ -74,6 +86,7 @@ Finds old new (Ok found) = record {
   byte : found ≡ true → 0 < new.rest;
   over : found ≡ false → old.known ≡ true → (rest_of old ≡ []) × ((behind_of old).fails ≡ None);
   stands : found ≡ false → (new.rest ≡ 0) × (new.more ≡ true → (ahead new).lacing ≡ []);
+  follows : Follows old new;
 }
 Finds old new (Err why) = record {
   errors : old.errors ≤ new.errors;
@@ -81,6 +94,7 @@ Finds old new (Err why) = record {
   names : new.names ≡ old.names;
   bytes : old.known ≡ true → new.errors ≡ old.errors → rest_of old ≡ [];
   behind : old.known ≡ true → new.errors ≡ old.errors → behind_of old ≡ broken_off (new.count, why);
+  breaks : old.known ≡ true → (old.more ≡ true) × BreaksAt (on_page old) new.count;
 }
 
 -- so many bytes of the packet are copied to the room's front
@@ -92,6 +106,7 @@ pub record Copies (old new : Place) (out : List ℕ) (n : ℕ) : Type 0 where
   pub room : new.most + length new.body + n ≤ old.most + length old.body
   pub bytes : rest_of old ≡ take n out ++ rest_of new
   pub behind : behind_of new ≡ behind_of old
+  pub follows : Follows old new
 
 -- behind the last page: no packet, or the fault there
 abbrev pub ended : ℕ → Option Why → Result Bool (ℕ × Why)

@@ -7,7 +7,7 @@ use Rattle.flac_native.specs.Stream.{grammar, opening}
 use Rattle.flac_native.specs.Item.{told}
 use Rattle.flac_native.specs.Decoding.{taken, beginning}
 use Rattle.flac_bits.proofs.Handing.{calmer}
-use Rattle.flac_native.proofs.Received.{some_come, fronts, hands_of, decides_of}
+use Rattle.flac_native.proofs.Received.{some_come, fronts, hands_placed, decides_of}
 use Rattle.flac_native.proofs.decoding.decode.Goals as goal
 
 pub returns-clause-hands : goal.returns-clause-hands
@@ -18,7 +18,7 @@ returns-clause-hands g c = λ known receives.
     let whole = rw (append-nil (bits_of (R.coming source))) at hands in
     let there = some_come (opening c.args.profile) (beginning (short_of ((R.behind source).fails))) (bits_of (R.coming source)) in
     calmer _ _ (λ q. (search (rules, q.0), search (rules, q.1)))
-    (hands_of (by_grammar grammar (opening c.args.profile) (beginning (short_of ((R.behind source).fails))) (bits_of (R.coming source))) (taken g.S.Sink.takes) g.S.Sink.errors (opening c.args.profile) there.parts there.end _ (λ q at _. at ≡ grammar.place q) c.args.sink.now c.hand_out-outcome.new.sink (outcome_of told c.hand_out-outcome.result)
+    (hands_placed (by_grammar grammar (opening c.args.profile) (beginning (short_of ((R.behind source).fails))) (bits_of (R.coming source))) (taken g.S.Sink.takes) g.S.Sink.errors (opening c.args.profile) there.parts there.end _ (λ q at _. at ≡ grammar.place q) _ c.args.sink.now c.hand_out-outcome.new.sink (outcome_of told c.hand_out-outcome.result)
     there.come (fronts (opening c.args.profile) (beginning (short_of ((R.behind source).fails))) (bits_of (R.coming source)) there.parts there.end there.come) (λ xs at why e. e) (whole known receives there.parts there.end there.come))
 
 pub returns-clause-decides : goal.returns-clause-decides
@@ -27,5 +27,5 @@ returns-clause-decides g c = λ known receives errors raised same.
     let source = c.args.source.now in
     let hands = rw c.new-reader.ensures at (c.hand_out-outcome.ensures.hands (opening c.args.profile) c.opening-track.ensures) in
     let whole = rw (append-nil (bits_of (R.coming source))) at hands in
-    decides_of (by_grammar grammar (opening c.args.profile) (beginning (short_of ((R.behind source).fails))) (bits_of (R.coming source))) (taken g.S.Sink.takes) g.S.Sink.errors (opening c.args.profile) _ (λ q at _. at ≡ grammar.place q) c.args.sink.now c.hand_out-outcome.new.sink (outcome_of told c.hand_out-outcome.result)
+    decides_of (by_grammar grammar (opening c.args.profile) (beginning (short_of ((R.behind source).fails))) (bits_of (R.coming source))) (taken g.S.Sink.takes) g.S.Sink.errors (opening c.args.profile) _ _ c.args.sink.now c.hand_out-outcome.new.sink (outcome_of told c.hand_out-outcome.result)
     (λ parts end come. whole known receives parts end come) (search (rules, errors), search (rules, raised)) same

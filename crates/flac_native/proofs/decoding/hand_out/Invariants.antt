@@ -3,6 +3,7 @@ use Rattle.flac_bits.specs.State.{without_fence}
 use Rattle.flac_bits.specs.declared.why.Why.{Why}
 use Rattle.flac_native.specs.Stream.{Piece, Progress}
 use Rattle.flac_native.specs.Track.{IsAt, stand_of}
+use Rattle.flac_native.specs.Giving.{Gave}
 use Rattle.flac_native.specs.Decoding.{taken}
 use Rattle.flac_native.specs.declared.fault.Place.{Place}
 use Rattle.flac_native.proofs.Handed.{Far}
@@ -22,7 +23,7 @@ invariant-loop-part g l = record {
   clear : g.C.Container.known l.initial.container ≡ true → g.C.Container.clear l.initial.container l.initial.track → g.C.Container.clear l.container l.track;
   behind : g.C.Container.known l.initial.container ≡ true → without_fence (g.C.Container.behind l.container) ≡ without_fence (g.C.Container.behind l.initial.container);
   far : (p : Progress) → IsAt l.initial.track p → g.C.Container.known l.initial.container ≡ true → g.S.Sink.known l.initial.sink ≡ true → (parts : List Piece) (end : Option (Place × Why)) → g.C.Container.gives l.initial.container p parts end
-      → Far (g.C.Container.gives l.container) (taken g.S.Sink.takes) g.S.Sink.errors p parts end l.track l.initial.sink l.sink;
+      → Far (g.C.Container.gives l.container) (λ xs. Gave g.C.Container l.initial.container xs l.container) (taken g.S.Sink.takes) g.S.Sink.errors p parts end l.track l.initial.sink l.sink;
 }
 
 abbrev pub decreases-loop-part : goal.decreases-loop-part

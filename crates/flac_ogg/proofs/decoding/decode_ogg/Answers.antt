@@ -9,7 +9,7 @@ use Rattle.flac_ogg.specs.Stream.{start}
 use Rattle.flac_pages.specs.Packets.{Place, ahead}
 use Rattle.flac_ogg.specs.Coming.{ItemsCome}
 use Rattle.flac_bits.proofs.Handing.{calmer}
-use Rattle.flac_ogg.proofs.Arriving.{front_ahead, some_come, hands_ogg, decides_ogg, nothing_read, clear_start}
+use Rattle.flac_ogg.proofs.Arriving.{front_ahead, begins_at, some_come, hands_ogg, decides_ogg, nothing_read, clear_start}
 use Rattle.flac_ogg.proofs.decoding.decode_ogg.Goals as goal
 
 pub returns-in-Err-clause-hands : goal.returns-in-Err-clause-hands
@@ -29,7 +29,8 @@ returns-clause-hands g c = λ known receives.
     let last = ap (λ (p : Place). p.errors) (sym c.into_pages-pages.ensures) in
     let first = ap (λ (p : Place). p.errors) c.over-packets.ensures in
     calmer _ _ (λ q. let e = last ∙ search (rules, q) ∙ sym first in (e, e))
-    (hands_ogg c.args.profile c.hand_out-outcome.new.container.pages.count (taken g.S.Sink.takes) g.S.Sink.errors mark text there.items there.end _ c.args.sink.now c.hand_out-outcome.new.sink (outcome_of told c.hand_out-outcome.result) there.come
+    (hands_ogg c.args.profile c.over-packets.result c.hand_out-outcome.new.container (λ k. k.pages) (taken g.S.Sink.takes) g.S.Sink.errors mark text there.items there.end _ c.args.sink.now c.hand_out-outcome.new.sink (outcome_of told c.hand_out-outcome.result)
+    (begins_at c.over-packets.result.pages (R.known source) (R.errors source) (R.raised source) (8 * R.most source) _ text (short_of ((R.behind source).fails)) (c.over-packets.ensures ∙ c.over.ensures) known) there.come
     (c.hand_out-outcome.ensures.hands (start c.args.profile) c.new-track.ensures (search (rules, known)) receives there.items there.end come))
 
 pub returns-clause-decides : goal.returns-clause-decides
@@ -42,7 +43,7 @@ returns-clause-decides g c = λ known receives errors same.
     let last = ap (λ (p : Place). p.errors) (sym c.into_pages-pages.ensures) in
     let first = ap (λ (p : Place). p.errors) c.over-packets.ensures in
     let e = last ∙ search (rules, errors) ∙ sym first in
-    decides_ogg c.args.profile c.hand_out-outcome.new.container.pages.count (taken g.S.Sink.takes) g.S.Sink.errors mark text _ c.args.sink.now c.hand_out-outcome.new.sink (outcome_of told c.hand_out-outcome.result)
+    decides_ogg c.args.profile _ (taken g.S.Sink.takes) g.S.Sink.errors mark text _ c.args.sink.now c.hand_out-outcome.new.sink (outcome_of told c.hand_out-outcome.result)
     (λ items end come. c.hand_out-outcome.ensures.hands (start c.args.profile) c.new-track.ensures (search (rules, known)) receives items end (subst (λ a. ItemsCome (start c.args.profile) a items end) (sym front) come))
     (e, e) same
 

@@ -7,6 +7,7 @@ use Rattle.flac_ogg.specs.Stream.{last_fault}
 use Rattle.flac_ogg.proofs.Arriving.{begun_there, on_ok_at}
 use Rattle.flac_ogg.proofs.Stepped.{begins_so, ok_step, err_step, end_step, fault_step}
 use Rattle.flac_ogg.proofs.Breaking.{in_packet, in_next}
+use Rattle.flac_ogg.proofs.PagesRead.{gave_next, broke_next, broke_before}
 use Rattle.flac_ogg.proofs.packets.advance.Goals as goal
 
 pub returns-in-Ok-clause-steps : goal.returns-in-Ok-clause-steps
@@ -54,3 +55,19 @@ returns-in-Ok-clause-meets g c =
 
 pub returns-in-Err-clause-meets : goal.returns-in-Err-clause-meets
 returns-in-Err-clause-meets g c = c.page_fault.ensures.met _ _ c.in-Err.ensures.begins.met
+
+pub returns-in-Ok-clause-gave : goal.returns-in-Ok-clause-gave
+returns-in-Ok-clause-gave g c =
+    let begun = begins_so c.args.pages.now c.next_packet.new.self c.in-Ok-true.field-0 true c.in-Ok-true.field-0-test c.in-Ok-true.ensures.begins in
+    gave_next c.args.pages.now c.next_packet.new.self c.read_packet.new.pages c.read_packet.result c.in-Ok.part c.in-Ok.is begun c.read_packet.ensures.pages c.read_packet.ensures.goes
+
+pub returns-in-Err-read_packet-clause-broke : goal.returns-in-Err-read_packet-clause-broke
+returns-in-Err-read_packet-clause-broke g c =
+    let begun = begins_so c.args.pages.now c.next_packet.new.self c.in-Ok-true.field-0 true c.in-Ok-true.field-0-test c.in-Ok-true.ensures.begins in
+    broke_next c.args.pages.now c.next_packet.new.self c.read_packet.new.pages c.read_packet.result c.in-Err-read_packet.told c.packet_fault.result.why c.in-Err-read_packet.is c.packet_fault.ensures.why begun c.read_packet.ensures.pages c.read_packet.ensures.page
+
+pub returns-in-Err-end_here-clause-broke : goal.returns-in-Err-end_here-clause-broke
+returns-in-Err-end_here-clause-broke g c = λ e known. absurd (c.in-Err-end_here.ensures.quiet e)
+
+pub returns-in-Err-clause-broke : goal.returns-in-Err-clause-broke
+returns-in-Err-clause-broke g c = broke_before c.args.pages.now c.next_packet.new.self (c.in-Err.page, c.in-Err.why) c.page_fault.result.why c.in-Err.ensures.begins c.in-Err.ensures.page

@@ -3,10 +3,10 @@ use Rattle.std.specs.Prelude.{IfErr}
 use Rattle.flac_native.specs.Stream.{room_in}
 use Rattle.flac_native.specs.Track.{stand_of, piece_of}
 use Rattle.flac_native.specs.declared.track.Phase.TheVariants.{Opening}
-use Rattle.flac_pages.specs.Packets.{Place}
-use Rattle.flac_pages.specs.Items.{Meets, HasBehind, HasItsPage}
+use Rattle.flac_pages.specs.Packets.{Place, on_page}
+use Rattle.flac_pages.specs.Items.{Meets, TellsPages, HasBehind, HasItsPage}
 use Rattle.flac_bits.specs.Fencing.{lifted}
-use Rattle.flac_pages.proofs.ItemReading.{at_there, counts_so, met_told, packet_told_within, behind_told_within, memory_told}
+use Rattle.flac_pages.proofs.ItemReading.{at_there, counts_so, met_told, pages_told, names_told, packet_told_within, behind_told_within, memory_told}
 use Rattle.flac_ogg.proofs.Arriving.{on_ok_under, went_on, spent}
 use Rattle.flac_ogg.specs.Mapping.{packet_layout}
 use Rattle.flac_ogg.proofs.packets.read_packet.Goals as goal
@@ -57,7 +57,7 @@ returns-clause-meets g c =
     let item = c.end_item-told.result in
     let at = at_there c.over.result.pages.now p c.packet_bits-bits.result c.over.ensures.pages (c.packet_bits-bits.ensures.at c.over.ensures.unread.0 c.over.ensures.unread.1) in
     subst (λ (q : Place). Meets p.raised q.raised item.0) {x = item.1.now} {y = c.pages-1.given.0} (search rules)
-    (met_told p item.1.now _ _ (lifted c.packet_bits-bits.result) c.read_part-read.new.bits c.read_part-read.result item.0 at.raised at.names c.read_part-read.ensures.counts c.end_item-told.ensures.back)
+    (met_told p item.1.now _ _ _ (lifted c.packet_bits-bits.result) c.read_part-read.new.bits c.read_part-read.result item.0 at.raised at.names c.read_part-read.ensures.counts c.end_item-told.ensures.back)
 
 pub returns-clause-page : goal.returns-clause-page
 returns-clause-page g c =
@@ -66,3 +66,20 @@ returns-clause-page g c =
     let at = at_there c.over.result.pages.now c.args.pages.now bits c.over.ensures.pages (c.packet_bits-bits.ensures.at c.over.ensures.unread.0 c.over.ensures.unread.1) in
     let told : IfErr item.0 (λ e. HasItsPage item.1.now.count e) = c.end_item-told.ensures.page (counts_so (lifted bits) c.read_part-read.new.bits c.read_part-read.result at.raised c.read_part-read.ensures.counts) in
     search (rules, told)
+
+pub returns-clause-pages : goal.returns-clause-pages
+returns-clause-pages g c =
+    let p = c.args.pages.now in
+    let item = c.end_item-told.result in
+    let at = at_there c.over.result.pages.now p c.packet_bits-bits.result c.over.ensures.pages (c.packet_bits-bits.ensures.at c.over.ensures.unread.0 c.over.ensures.unread.1) in
+    subst (λ (q : Place). TellsPages (on_page p) q item.0) {x = item.1.now} {y = c.pages-1.given.0} (search rules)
+    (subst (λ (q : Place). TellsPages (on_page q) item.1.now item.0) c.over.ensures.lent
+    (pages_told p item.1.now _ _ _ (lifted c.packet_bits-bits.result) c.read_part-read.new.bits c.read_part-read.result item.0 at.raised at.names c.read_part-read.ensures.counts c.end_item-told.ensures.back))
+
+pub returns-clause-names : goal.returns-clause-names
+returns-clause-names g c =
+    let p = c.args.pages.now in
+    let item = c.end_item-told.result in
+    let at = at_there c.over.result.pages.now p c.packet_bits-bits.result c.over.ensures.pages (c.packet_bits-bits.ensures.at c.over.ensures.unread.0 c.over.ensures.unread.1) in
+    subst (λ (q : Place). q.names ≡ p.names) {x = item.1.now} {y = c.pages-1.given.0} (search rules)
+    (names_told p item.1.now _ _ _ (lifted c.packet_bits-bits.result) c.read_part-read.new.bits c.read_part-read.result item.0 at.names c.read_part-read.ensures.counts c.end_item-told.ensures.back)

@@ -2,9 +2,9 @@ use Rattle.std.proofs.Common.{◌≡◌, rules, true, None, length, subst, OnOk}
 use Rattle.std.specs.Prelude.{⊤, IfErr}
 use Rattle.flac_bits.specs.Layout.{bits as number}
 use Rattle.flac_bits.specs.Lists.{list_of}
-use Rattle.flac_pages.specs.Packets.{Place}
-use Rattle.flac_pages.specs.Items.{HasBehind, HasItsPage}
-use Rattle.flac_pages.proofs.ItemReading.{at_there, counts_so, packet_told, behind_told}
+use Rattle.flac_pages.specs.Packets.{Place, on_page}
+use Rattle.flac_pages.specs.Items.{HasBehind, HasItsPage, Meets, TellsPages}
+use Rattle.flac_pages.proofs.ItemReading.{at_there, counts_so, met_told, names_told, pages_told, packet_told, behind_told}
 use Rattle.flac_pages.proofs.item.read_packet.Goals as goal
 
 pub returns-clause-tells : goal.returns-clause-tells
@@ -30,3 +30,25 @@ returns-clause-page g c =
     let told : IfErr c.end_item-told.result.0 (λ e. HasItsPage c.end_item-told.result.1.now.count e) =
     c.end_item-told.ensures.page (counts_so c.packet_bits-bits.result c.fill-read.new.bits c.fill-read.result at.raised c.fill-read.ensures.counts) in
     search (rules, told)
+
+pub returns-clause-pages : goal.returns-clause-pages
+returns-clause-pages g c =
+    let p = c.args.pages.now in
+    let at = at_there c.over.result.pages.now p c.packet_bits-bits.result c.over.ensures.pages (c.packet_bits-bits.ensures.at c.over.ensures.unread.0 c.over.ensures.unread.1) in
+    subst (λ (q : Place). TellsPages (on_page p) q c.end_item-told.result.0) {x = c.end_item-told.result.1.now} {y = c.pages-1.given.0} (search rules)
+    (subst (λ (q : Place). TellsPages (on_page q) c.end_item-told.result.1.now c.end_item-told.result.0) c.over.ensures.lent
+    (pages_told p c.end_item-told.result.1.now _ _ _ c.packet_bits-bits.result c.fill-read.new.bits c.fill-read.result c.end_item-told.result.0 at.raised at.names c.fill-read.ensures.counts c.end_item-told.ensures.back))
+
+pub returns-clause-names : goal.returns-clause-names
+returns-clause-names g c =
+    let p = c.args.pages.now in
+    let at = at_there c.over.result.pages.now p c.packet_bits-bits.result c.over.ensures.pages (c.packet_bits-bits.ensures.at c.over.ensures.unread.0 c.over.ensures.unread.1) in
+    subst (λ (q : Place). q.names ≡ p.names) {x = c.end_item-told.result.1.now} {y = c.pages-1.given.0} (search rules)
+    (names_told p c.end_item-told.result.1.now _ _ _ c.packet_bits-bits.result c.fill-read.new.bits c.fill-read.result c.end_item-told.result.0 at.names c.fill-read.ensures.counts c.end_item-told.ensures.back)
+
+pub returns-clause-meets : goal.returns-clause-meets
+returns-clause-meets g c =
+    let p = c.args.pages.now in
+    let at = at_there c.over.result.pages.now p c.packet_bits-bits.result c.over.ensures.pages (c.packet_bits-bits.ensures.at c.over.ensures.unread.0 c.over.ensures.unread.1) in
+    subst (λ (q : Place). Meets p.raised q.raised c.end_item-told.result.0) {x = c.end_item-told.result.1.now} {y = c.pages-1.given.0} (search rules)
+    (met_told p c.end_item-told.result.1.now _ _ _ c.packet_bits-bits.result c.fill-read.new.bits c.fill-read.result c.end_item-told.result.0 at.raised at.names c.fill-read.ensures.counts c.end_item-told.ensures.back)

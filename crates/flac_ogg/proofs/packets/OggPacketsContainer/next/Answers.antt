@@ -1,7 +1,8 @@
 use Rattle.std.proofs.lemmas.Result.{IfErr-weaker}
 use Rattle.flac_bits.specs.Handing.{IsOutside}
 use Rattle.flac_native.specs.Track.{piece_of}
-use Rattle.flac_ogg.specs.Decoding.{IsBrokenAt}
+use Rattle.flac_native.specs.declared.fault.Fault.{Fault}
+use Rattle.flac_ogg.specs.Decoding.{IsBrokenAt, BreaksInNext}
 use Rattle.flac_ogg.proofs.Arriving.{counts_both, read_risen, none_of_sink, clear_behind, read_rises, gives_there}
 use Rattle.flac_ogg.proofs.packets.OggPacketsContainer.next.Goals as goal
 
@@ -29,3 +30,8 @@ returns-clause-sinkless g c = none_of_sink c.args.self.now.pages.raised c.advanc
 pub returns-clause-broken : goal.returns-clause-broken
 returns-clause-broken g c = λ p at.
     IfErr-weaker c.advance.result (λ f. IsBrokenAt c.advance.new.pages.count p f.at f.why) (λ f. IsOutside f.why → IsBrokenAt c.advance.new.pages.count p f.at f.why) (λ f told out. told) (c.advance.ensures.broken p at)
+
+pub returns-clause-broke : goal.returns-clause-broke
+returns-clause-broke g c =
+    let broke = λ (f : Fault). BreaksInNext c.args.self.now.pages c.advance.new.pages f.why in
+    IfErr-weaker c.advance.result broke (λ f. IsOutside f.why → broke f) (λ f told out. told) c.advance.ensures.broke

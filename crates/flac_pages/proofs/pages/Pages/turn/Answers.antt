@@ -1,4 +1,4 @@
-use Rattle.std.proofs.Common.{◌≡◌, ◌+◌, drop, Some, [], ap, sym, ◌∙◌, refl, arith}
+use Rattle.std.proofs.Common.{◌≡◌, true, ◌+◌, drop, Some, [], ap, sym, ◌∙◌, refl, arith}
 use Rattle.std.specs.Prelude.{min}
 use Rattle.std.specs.List.{sum}
 use Rattle.std.proofs.lemmas.List.{drop_all}
@@ -8,7 +8,8 @@ use Rattle.flac_bits.specs.Unchecked.{begun_anew}
 use Rattle.flac_pages.specs.Pages.{next_page}
 use Rattle.flac_pages.specs.Packets.{Place}
 use Rattle.flac_pages.proofs.Stepping.{met_then}
-use Rattle.flac_pages.proofs.Unchecked.{turned_anew, refused_anew}
+use Rattle.flac_pages.proofs.Paged.{turned_pages, turned_breaks, none_read}
+use Rattle.flac_pages.proofs.Unchecked.{turned_anew, turned_first, refused_anew}
 use Rattle.flac_pages.proofs.pages.Pages.turn.Goals as goal
 
 pub returns-in-Ok-clause-turns : goal.returns-in-Ok-clause-turns
@@ -23,6 +24,9 @@ returns-in-Ok-clause-turns g c =
     let went : c.went_on-went_on.result ≡ went_on c.args.self.now.before = c.went_on-went_on.ensures ∙ ap (λ (p : Place). went_on p.before) is in
     let going : c.goes_on_behind-goes_on.result ≡ goes_on_behind (went_on c.args.self.now.before) page.lacing = c.goes_on_behind-goes_on.ensures ∙ ap (goes_on_behind c.went_on-went_on.result) c.lacing.ensures.values ∙ ap (λ b. goes_on_behind b page.lacing) went in
     let before_is : Some record { serial = c.head-head.result.serial; sequence = c.head-head.result.sequence; goes_on = c.goes_on_behind-goes_on.result } ≡ Some (after c.args.self.now.before page) = rw (c.head-head.ensures, going) refl in
+    let last = c.is_last-self-inside.ensures ∙ ap (λ (h : Head). is_last h.flags) c.head-head.ensures in
+    let count = c.saturating_add-self-inside.ensures ∙ ap (λ (p : Place). min (p.count + 1) 18446744073709551615) is in
+    let read = λ (known : c.args.self.now.known ≡ true). ap (λ (p : Place). begun_anew (next_page p.before p.cursor)) (sym is) ∙ c.in-Ok.ensures.reads (ap (λ (p : Place). p.known) is ∙ known) counts.1 in
     record {
       known = λ known. counts.0 (ap (λ (p : Place). p.known) is ∙ known);
       errors = counts.1 ∙ ap (λ (p : Place). p.errors) is;
@@ -33,8 +37,9 @@ returns-in-Ok-clause-turns g c =
       room = omega (arith, ap (λ (p : Place). p.most) is, c.in-Ok.ensures.spends);
       spends = omega (arith, ap (λ (p : Place). p.most) is, c.in-Ok.ensures.spends, c.in-Ok.ensures.whole.2);
       ahead = λ known. turned_anew c.args.self.now _ page c.requires.read (sym (ap (λ (p : Place). p.body) is) ∙ no_body) c.requires.last
-          (ap (λ (p : Place). begun_anew (next_page p.before p.cursor)) (sym is) ∙ c.in-Ok.ensures.reads (ap (λ (p : Place). p.known) is ∙ known) counts.1)
-          refl refl (c.is_last-self-inside.ensures ∙ ap (λ (h : Head). is_last h.flags) c.head-head.ensures) before_is (c.saturating_add-self-inside.ensures ∙ ap (λ (p : Place). min (p.count + 1) 18446744073709551615) is);
+          (read known) refl refl last before_is count;
+      pages = λ known. turned_pages c.args.self.now _ page (turned_first c.args.self.now _ _ _ page c.requires.last (read known) last before_is) count;
+      breaks = λ known. turned_breaks c.args.self.now _ page (omega (arith, ap (λ (p : Place). p.count) is)) c.requires.read (turned_first c.args.self.now _ _ _ page c.requires.last (read known) last before_is) refl count;
     }
 
 pub returns-in-Err-clause-turns : goal.returns-in-Err-clause-turns
@@ -53,4 +58,5 @@ returns-in-Err-clause-turns g c =
       last = ap (λ (p : Place). p.last) is ∙ c.requires.last;
       ahead = λ known same. refused_anew c.args.self.now c.in-Err.why (omega (arith, ap (λ (p : Place). p.count) is)) c.requires.read (sym (ap (λ (p : Place). p.body) is) ∙ no_body) c.requires.last
           (ap (λ (p : Place). begun_anew (next_page p.before p.cursor)) (sym is) ∙ c.in-Err.ensures.reads (ap (λ (p : Place). p.known) is ∙ known) (same ∙ sym errors));
+      breaks = none_read c.args.self.now _ (omega (arith, ap (λ (p : Place). p.count) is)) c.requires.read (ap (λ (p : Place). p.count) is);
     }
