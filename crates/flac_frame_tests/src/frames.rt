@@ -5,8 +5,8 @@ ghost use Rattle.std.specs.Prelude.{◌≡◌, IfOk};
 use flac_bits::{BitReader, BitWriter, Collected, Memory, Target, Why};
 use flac_frame::{
     Audio, EncodeBuffers, FrameBuffers, FrameChoice, FrameView, SetupFault, channels_are_joined,
-    choose_frame, encode_frame, encodings_are_frames, forms_stand_for_samples, frames_are_spelled,
-    frames_follow, write_frame,
+    choose_frame, encode_frame, encodings_are_frames, format_fault, forms_stand_for_samples,
+    frames_are_spelled, frames_follow, samples_fit, write_frame,
 };
 use flac_header::Profile;
 use flac_meta::StreamInfo;
@@ -16,18 +16,19 @@ use std::mem::drop;
 use std::process::Abort;
 use std::test::Fail;
 
-/// Frames: the bit depth and the largest block; their bytes; and the number, whether block sizes vary, the samples a channel and these, or why they are refused.
+/// Frames: the bit depth and the largest block; their bytes; and the number, whether block sizes vary, the blocking strategy, the number of the first sample in
+/// blocks of 4096, the samples a channel and these, or why they are refused.
 const FRAMES: &str = "# Of the standard.
-16 4096 | fff869180000bf0358fd03128baa9a | 0 false 1 [25588] [10416]
+16 4096 | fff869180000bf0358fd03128baa9a | 0 false Fixed 0 1 [25588] [10416]
 # Left and side.
-16 16 | fff86988000f3b140000000103c02007803d83 | 0 false 16 [0, 1, 2, 3, 4, 5, 6, 7, 8, 9, 10, 11, 12, 13, 14, 15] [0, 1, 2, 3, 4, 5, 6, 7, 8, 9, 10, 11, 12, 13, 14, 15]
+16 16 | fff86988000f3b140000000103c02007803d83 | 0 false Fixed 0 16 [0, 1, 2, 3, 4, 5, 6, 7, 8, 9, 10, 11, 12, 13, 14, 15] [0, 1, 2, 3, 4, 5, 6, 7, 8, 9, 10, 11, 12, 13, 14, 15]
 # Out of range, and with another check.
 16 16 | fff86988000f3b007fff00ffff806f48 | SampleRange
 16 16 | fff86988000f3b007fff00ffff806f49 | FrameCheck
 # Middle and side, left and side, side and right, of 32 bits.
-32 16 | fff869ae00002802ffffffff02ffffffff80b563 | 0 false 1 [-1] [0]
-32 16 | fff8698e00006b027fffffff027fffffff80fc62 | 0 false 1 [2147483647] [-2147483648]
-32 16 | fff8699e0000c9027fffffff8140000000005f45 | 0 false 1 [2147483647] [-2147483648]";
+32 16 | fff869ae00002802ffffffff02ffffffff80b563 | 0 false Fixed 0 1 [-1] [0]
+32 16 | fff8698e00006b027fffffff027fffffff80fc62 | 0 false Fixed 0 1 [2147483647] [-2147483648]
+32 16 | fff8699e0000c9027fffffff8140000000005f45 | 0 false Fixed 0 1 [2147483647] [-2147483648]";
 
 /// STREAMINFO of two channels, of blocks of so many samples and of a bit depth.
 fn stereo_info(block: u16, depth: u8) -> Result<StreamInfo, Why>
@@ -42,8 +43,9 @@ fn described(alloc: Global, view: &FrameView<'_>) -> Result<String, Fail> {
         return Ok(String::new(alloc));
     }
     let (number, variable, len) = (view.number(), view.variable(), view.len());
+    let (strategy, first) = (view.blocking_strategy(), view.first_sample(4096));
     let (left, right) = (view.channel(0), view.channel(1));
-    Ok(format!(in alloc; "{number} {variable} {len} {left:?} {right:?}")?)
+    Ok(format!(in alloc; "{number} {variable} {strategy:?} {first} {len} {left:?} {right:?}")?)
 }
 
 /// The frame that was read, in text, or why none was.
@@ -196,6 +198,24 @@ fn audio(rt: HostRuntime) -> Result<(), Fail> {
     Ok(())
 }
 
+/// The first fault of a format: the rate, then the depth, then the channels.
+#[test]
+fn faults_of_formats(rt: HostRuntime) -> Result<(), Fail> {
+    assert!(rt; format_fault(Profile::Subset, 44100, 16, 2).is_none());
+    assert!(rt; format_fault(Profile::Subset, 0, 17, 9) == Some(SetupFault::BadRate));
+    assert!(rt; format_fault(Profile::Subset, 44100, 17, 9) == Some(SetupFault::BadDepth));
+    assert!(rt; format_fault(Profile::Lax, 44100, 17, 9) == Some(SetupFault::BadChannels));
+    Ok(())
+}
+
+#[test]
+fn samples_of_eight_bits(rt: HostRuntime) -> Result<(), Fail> {
+    assert!(rt; samples_fit(&[127, -128], 8));
+    assert!(rt; !samples_fit(&[0, 128], 8));
+    assert!(rt; !samples_fit(&[-129, 0], 8));
+    Ok(())
+}
+
 /// Whether samples have this shape, and are of the profile without the limits of the subset.
 fn is_lax(alloc: Global, format: &str, words: &str, shape: Shape) -> Result<bool, Fail> {
     let audio = audio_of(alloc, format, words)??;
@@ -335,7 +355,7 @@ const WIDEST: &str =
     -2147483648 2147483647 -2147483648 2147483647 -2147483648 2147483647 -2147483648 2147483647";
 
 /// That frame as it is read.
-const WIDEST_READ: &str = "0 false 16 \
+const WIDEST_READ: &str = "0 false Fixed 0 16 \
     [2147483647, -2147483648, 2147483647, -2147483648, 2147483647, -2147483648, 2147483647, -2147483648, \
     2147483647, -2147483648, 2147483647, -2147483648, 2147483647, -2147483648, 2147483647, -2147483648] \
     [-2147483648, 2147483647, -2147483648, 2147483647, -2147483648, 2147483647, -2147483648, 2147483647, \
