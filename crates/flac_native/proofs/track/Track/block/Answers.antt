@@ -4,4 +4,4 @@ use Rattle.flac_native.specs.Track.{stand_of}
 use Rattle.flac_native.proofs.track.Track.block.Goals as goal
 
 pub returns-clause-means : goal.returns-clause-means
-returns-clause-means g c = λ room. means (λ x. x) (block (stand_of c.args.self.now).seen) c.args.bits.now c.block_here.new.bits c.block_here.result (c.block_here.ensures.reads room)
+returns-clause-means g c = λ room. means (λ x. x) (block (stand_of c.args.self.now).seen) c.args.bits.now c.block_here.new.bits c.block_here.result (c.block_here.ensures.reading.reads room)

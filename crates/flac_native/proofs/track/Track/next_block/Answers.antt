@@ -5,4 +5,4 @@ use Rattle.flac_native.specs.declared.track.Phase.TheVariants.{Blocks}
 use Rattle.flac_native.proofs.track.Track.next_block.Goals as goal
 
 pub returns-clause-means : goal.returns-clause-means
-returns-clause-means g c = λ room. means (λ _. kept c.next_block_here.new.self) (layout_in Blocks (stand_of c.args.self.now)) c.args.bits.now c.next_block_here.new.bits c.next_block_here.result (c.next_block_here.ensures.reads room)
+returns-clause-means g c = λ room. means (λ _. kept c.next_block_here.new.self) (layout_in Blocks (stand_of c.args.self.now)) c.args.bits.now c.next_block_here.new.bits c.next_block_here.result (c.next_block_here.ensures.reading.reads room)
