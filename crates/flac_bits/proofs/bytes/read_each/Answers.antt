@@ -33,13 +33,3 @@ returns g c = record { reading = record {
       memory = search rules;
       reads = (λ known same. sym (c.loop-i.invariant.goes.reads known) ∙ list_end (length c.args.out.now) c.loop-i.i (bits 8) c.loop-i.bits.cursor (take c.loop-i.i c.loop-i.out) c.loop-i-test.false ∙ ap (λ front. okay (front, c.loop-i.bits.cursor)) (take_all c.loop-i.i c.loop-i.out (omega (arith, c.loop-i.auto.out, c.loop-i-test.false))));
     } }
-
-pub returns-in_err-out : goal.returns-in_err-out
-returns-in_err-out g c =
-    let p = err_from_is_err_and c.from_residual.result c.from_residual.ensures.1 in
-    rw (p.1, p.2) (record { reading = record {
-      spends = tt;
-      counts = failed_then c.args.bits.now c.loop-i.bits c.take.new.self (gone c.loop-i.invariant.goes) c.in_err-out.ensures.reading.counts;
-      memory = search rules;
-      reads = search rules;
-    } })

@@ -10,24 +10,6 @@ overflow_mul-value g c = omega (arith, six_more c.loop-i.i c.args.count c.loop-i
 pub overflow_add-value : goal.overflow_add-value
 overflow_add-value g c = omega (arith, six_more c.loop-i.i c.args.count c.loop-i.value c.loop-i-test.true c.requires.few c.loop-i.invariant.0)
 
-pub returns-in_err-byte-clause-reading : goal.returns-in_err-byte-clause-reading
-returns-in_err-byte-clause-reading g c =
-    let p = err_from_is_err_and c.from_residual.result c.from_residual.ensures.1 in
-    rw (p.1, p.2) (record {
-      spends = tt;
-      counts = failed_then c.args.bits.now c.loop-i.bits c.take.new.self (gone c.loop-i.invariant.3) c.in_err-byte.ensures.reading.counts;
-      memory = search rules;
-      reads = search rules;
-    })
-
-pub returns-then-byte-ne2-clause-reading : goal.returns-then-byte-ne2-clause-reading
-returns-then-byte-ne2-clause-reading g c = record {
-      spends = search rules;
-      counts = refused_then c.args.bits.now c.take.new.self (answered_then c.args.bits.now c.loop-i.bits c.take.new.self (gone c.loop-i.invariant.3) c.in_ok-byte.ensures.reading.counts) refl;
-      memory = search rules;
-      reads = search rules;
-    }
-
 pub returns-clause-reading : goal.returns-clause-reading
 unfolding Rattle.flac_bits.specs.Number.continued
 returns-clause-reading g c = record {

@@ -55,13 +55,3 @@ returns-clause-reading g c = record {
       memory = search rules;
       reads = (λ known same. sym (c.loop-i.invariant.goes.reads known) ∙ list_end (length c.args.values.now) c.loop-i.i (signed_field c.args.n) c.loop-i.self.cursor (take c.loop-i.i c.loop-i.values) c.loop-i-test.false ∙ ap (λ front. okay (front, c.loop-i.self.cursor)) (take_all c.loop-i.i c.loop-i.values (omega (arith, c.loop-i.auto.values, c.loop-i-test.false))));
     }
-
-pub returns-in_err-values-clause-reading : goal.returns-in_err-values-clause-reading
-returns-in_err-values-clause-reading g c =
-    let p = err_from_is_err_and c.from_residual.result c.from_residual.ensures.1 in
-    rw (p.1, p.2) (record {
-      spends = tt;
-      counts = failed_then c.args.self.now c.loop-i.self c.take_signed.new.self (gone c.loop-i.invariant.goes) c.in_err-values.ensures.reading.counts;
-      memory = search rules;
-      reads = search rules;
-    })

@@ -17,13 +17,3 @@ returns-clause-reading g c = record {
       let low = c.in_ok-low.ensures in
       rw (number_halves c.args.n c.args.self.now.cursor (omega (arith, c.if-n-le32.false)), high.reading.reads known high.reading.counts.1, low.reading.reads (high.reading.counts.0 known) low.reading.counts.1, halves_joined c.args.n c.in_ok-high.high c.in_ok-low.low c.requires high.small) refl);
     }
-
-pub returns-in_err-low-clause-reading : goal.returns-in_err-low-clause-reading
-returns-in_err-low-clause-reading g c =
-    let p = err_from_is_err_and c.from_residual-in_err-low.result c.from_residual-in_err-low.ensures.1 in
-    rw (p.1, p.2) (record {
-      spends = tt;
-      counts = failed_then c.args.self.now c.take_few-2.new.self c.take_few-3.new.self c.in_ok-high.ensures.reading.counts c.in_err-low.ensures.reading.counts;
-      memory = search rules;
-      reads = search rules;
-    })
