@@ -137,6 +137,7 @@ returns-in_err-bytes-in_default-clause-reading g c = record {
     }
 
 pub returns-in_ok-bytes-in_default-clause-reading : goal.returns-in_ok-bytes-in_default-clause-reading
+unfolding content stream_info padding Rattle.flac_meta.specs.Block.application Rattle.flac_meta.specs.SeekTable.seek_points Rattle.flac_meta.specs.Comments.comments Rattle.flac_meta.specs.CueSheet.cue_sheet Rattle.flac_meta.specs.Picture.picture Rattle.flac_meta.specs.Block.other
 returns-in_ok-bytes-in_default-clause-reading g c = record {
       spends = search rules;
       counts = c.in_ok-bytes-in_default.ensures.reading.counts;

@@ -17,6 +17,7 @@ returns-in_err-count g c =
     } })
 
 pub returns-in_err-tracks : goal.returns-in_err-tracks
+unfolding cue_sheet
 returns-in_err-tracks g c =
     let p = err_from_is_err_and c.from_residual-in_err-tracks.result c.from_residual-in_err-tracks.ensures.1 in
     rw (p.1, p.2) (record { reading = record {
@@ -26,6 +27,7 @@ returns-in_err-tracks g c =
     } })
 
 pub returns : goal.returns
+unfolding cue_sheet
 returns g c = record { reading = record {
       spends = search rules;
       counts = answered_then c.args.bits.now c.read_sheet_front.new.bits c.read_tracks.new.bits c.in_ok-catalogue.ensures.reading.counts (answered_then c.read_sheet_front.new.bits c.read_count.new.bits c.read_tracks.new.bits c.in_ok-count.ensures.reading.counts c.in_ok-tracks.ensures.reading.counts);

@@ -27,6 +27,7 @@ returns-in_err-read_zeros g c =
     } })
 
 pub returns : goal.returns
+unfolding cue_index Rattle.flac_meta.specs.Fields.reserved
 returns g c = record { reading = record {
       spends = search rules;
       counts = answered_then c.args.bits.now c.take.new.self c.read_zeros.new.bits c.in_ok-offset.ensures.reading.counts (answered_then c.take.new.self c.take-2.new.self c.read_zeros.new.bits c.in_ok-number.ensures.reading.counts c.in_ok-read_zeros.ensures.reading.counts);

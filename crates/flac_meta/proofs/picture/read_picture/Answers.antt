@@ -6,6 +6,7 @@ use Rattle.flac_meta.specs.Picture.{picture}
 use Rattle.flac_meta.proofs.picture.read_picture.Goals as goal
 
 pub returns-in_err-width : goal.returns-in_err-width
+unfolding picture
 returns-in_err-width g c =
     let p = err_from_is_err_and c.from_residual-in_err-width.result c.from_residual-in_err-width.ensures.1 in
     rw (p.1, p.2) (record { reading = record {
@@ -15,6 +16,7 @@ returns-in_err-width g c =
     } })
 
 pub returns-in_err-bytes : goal.returns-in_err-bytes
+unfolding picture
 returns-in_err-bytes g c =
     let p = err_from_is_err_and c.from_residual-in_err-bytes.result c.from_residual-in_err-bytes.ensures.1 in
     rw (p.1, p.2) (record { reading = record {
@@ -24,6 +26,7 @@ returns-in_err-bytes g c =
     } })
 
 pub returns : goal.returns
+unfolding picture
 returns g c = record { reading = record {
       spends = search rules;
       counts = answered_then c.args.bits.now c.read_picture_front.new.bits c.read_sized.new.bits c.in_ok-kind.ensures.reading.counts (answered_then c.read_picture_front.new.bits c.read_sizes.new.bits c.read_sized.new.bits c.in_ok-width.ensures.reading.counts c.in_ok-bytes.ensures.reading.counts);

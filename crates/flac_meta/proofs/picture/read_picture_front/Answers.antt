@@ -16,6 +16,7 @@ returns-in_err-media-clause-reading g c =
     })
 
 pub returns-in_err-text-clause-reading : goal.returns-in_err-text-clause-reading
+unfolding picture_front
 returns-in_err-text-clause-reading g c =
     let p = err_from_is_err_and c.from_residual-in_err-text.result c.from_residual-in_err-text.ensures.1 in
     rw (p.1, p.2) (record {
@@ -25,6 +26,7 @@ returns-in_err-text-clause-reading g c =
     })
 
 pub returns-clause-reading : goal.returns-clause-reading
+unfolding picture_front
 returns-clause-reading g c = record {
       spends = search rules;
       counts = answered_then c.args.bits.now c.read_number_32.new.bits c.read_sized-2.new.bits c.in_ok-kind.ensures.reading.counts (answered_then c.read_number_32.new.bits c.read_sized.new.bits c.read_sized-2.new.bits c.in_ok-media.ensures.reading.counts c.in_ok-text.ensures.reading.counts);

@@ -26,6 +26,7 @@ returns-in_err-length g c =
     } })
 
 pub returns : goal.returns
+unfolding seek_point
 returns g c = record { reading = record {
       spends = search rules;
       counts = answered_then c.args.bits.now c.take.new.self c.take-3.new.self c.in_ok-sample.ensures.reading.counts (answered_then c.take.new.self c.take-2.new.self c.take-3.new.self c.in_ok-offset.ensures.reading.counts c.in_ok-length.ensures.reading.counts);

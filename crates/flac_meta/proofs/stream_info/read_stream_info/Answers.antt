@@ -26,6 +26,7 @@ returns-in_err-read_bytes g c =
     } })
 
 pub returns : goal.returns
+unfolding stream_info
 returns g c = record { reading = record {
       spends = search rules;
       counts = answered_then c.args.bits.now c.read_sizes.new.bits c.read_bytes.new.bits c.in_ok-least_block.ensures.reading.counts (answered_then c.read_sizes.new.bits c.read_format.new.bits c.read_bytes.new.bits c.in_ok-rate.ensures.reading.counts c.in_ok-read_bytes.ensures.reading.counts);
