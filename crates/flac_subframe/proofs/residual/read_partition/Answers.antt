@@ -28,14 +28,6 @@ returns-in_err-rice_partition g c =
     let p = err_from_is_err_and c.from_residual-in_err-rice_partition.result c.from_residual-in_err-rice_partition.ensures.1 in
     rw (p.1, p.2) (record { fits = tt; reading = record { spends = tt; counts = failed_then c.args.bits.now c.take.new.self c.rice_partition.new.self c.in_ok-parameter.ensures.reading.counts c.in_err-rice_partition.ensures.reading.counts; memory = c.in_err-rice_partition.ensures.reading.memory; reads = search rules }; })
 
-pub returns-then-width-eq0-clause-reading : goal.returns-then-width-eq0-clause-reading
-returns-then-width-eq0-clause-reading g c = record {
-      spends = search rules;
-      counts = answered_then c.args.bits.now c.take.new.self c.take-then-parameter-parameter_bits.new.self c.in_ok-parameter.ensures.reading.counts c.in_ok-width.ensures.reading.counts;
-      memory = search rules;
-      reads = search rules;
-    }
-
 pub returns-then-parameter-parameter_bits-clause-reading : goal.returns-then-parameter-parameter_bits-clause-reading
 unfolding partition escaped coded
 returns-then-parameter-parameter_bits-clause-reading g c = record {

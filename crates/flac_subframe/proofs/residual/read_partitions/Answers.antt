@@ -15,7 +15,7 @@ loop-i-preserved g c =
     parts_next c.args.parameter_bits c.args.order c.args.size c.args.count c.args.bits.now c.loop-i.bits c.read_partition.new.bits c.loop-i.out c.read_partition.new.out c.loop-i.start c.loop-i.end c.loop-i.i
     (length (mid_of c.loop-i.start (c.loop-i.end - c.loop-i.start) c.loop-i.out)) c.loop-i-test.true so (length_mid c.loop-i.start c.loop-i.end c.loop-i.out so.cuts.ordered within)
     c.read_partition.auto.out (same_len_mid c.loop-i.start (c.loop-i.end - c.loop-i.start) c.loop-i.out c.read_partition.new.out c.read_partition.auto.out)
-    c.in_ok-read_partition.ensures.fits c.in_ok-read_partition.ensures.reading.spends c.in_ok-read_partition.ensures.reading.counts c.in_ok-read_partition.ensures.reading.reads
+    c.in_ok-read_partition.ensures.fits (omega (arith, c.in_ok-read_partition.ensures.reading.spends)) c.in_ok-read_partition.ensures.reading.counts c.in_ok-read_partition.ensures.reading.reads
 
 pub returns-in_err-read_partition : goal.returns-in_err-read_partition
 returns-in_err-read_partition g c =
