@@ -10,7 +10,7 @@ pub returns-in-Ok-true-clause-behind : goal.returns-in-Ok-true-clause-behind
 returns-in-Ok-true-clause-behind g c =
     let packet = c.into_source-packet.result in
     let tells = c.into_source-packet.ensures in
-    let counts = c.in-Ok-true.ensures.reading.counts in
+    let counts = c.in-Ok-true.ensures.counts in
     goes_behind c.args.bits packet.fault packet.pages.now c.into_pages-pages.result.now c.end_packet-ended.new.self c.end_packet-ended.result c.into_pages-pages.ensures.pages
     (λ known. and_left _ _ (tells.told (counts.0 known)))
     (tells.errors ∙ counts.1)
@@ -22,7 +22,7 @@ pub returns-in-Ok-true-clause-back : goal.returns-in-Ok-true-clause-back
 returns-in-Ok-true-clause-back g c =
     let packet = c.into_source-packet.result in
     let tells = c.into_source-packet.ensures in
-    let counts = c.in-Ok-true.ensures.reading.counts in
+    let counts = c.in-Ok-true.ensures.counts in
     end_back c.args.bits _ packet.lent.value packet.fault packet.errors packet.pages.now c.into_pages-pages.result.now c.end_packet-ended.new.self c.end_packet-ended.result
     (sym (tells.names ∙ counts.4) ∙ ap (λ (k : GName). k ∷ packet.lent.value.raised ∷ (numbers_of (on_page packet.lent.value) ++ packet.pages.now.names)) (sym c.into_pages-pages.ensures.same)) c.into_pages-pages.ensures.pages (tells.raised ∙ counts.2) packet.counted packet.calm packet.follows packet.same c.end_packet-ended.ensures.ends
 
@@ -30,20 +30,20 @@ pub returns-in-Err-clause-page : goal.returns-in-Err-clause-page
 returns-in-Err-clause-page g c = λ none.
     let packet = c.into_source-packet.result in
     told_of packet.fault c.why-fault.result packet.errors packet.pages.now c.into_pages-pages.result.now c.in-Err.why c.why_in.result c.why_in.ensures.value c.why-fault.ensures.fault c.into_pages-pages.ensures.pages packet.quiet packet.page packet.memory
-    (rose_read c.args.bits.raised c.at_end-over.new.self.raised packet.errors c.in-Err.why none c.in-Err.ensures.reading.counts.4 c.into_source-packet.ensures.raised)
+    (rose_read c.args.bits.raised c.at_end-over.new.self.raised packet.errors c.in-Err.why none c.in-Err.ensures.counts.4 c.into_source-packet.ensures.raised)
 
 pub returns-in-Ok-false-clause-back : goal.returns-in-Ok-false-clause-back
 returns-in-Ok-false-clause-back g c =
     let packet = c.into_source-packet.result in
     let tells = c.into_source-packet.ensures in
     left_back c.args.bits _ packet.lent.value.raised (on_page packet.lent.value) packet.pages.now c.into_pages-pages.result.now
-    (sym (tells.names ∙ c.in-Ok-false.ensures.reading.counts.4) ∙ ap (λ (k : GName). k ∷ packet.lent.value.raised ∷ (numbers_of (on_page packet.lent.value) ++ packet.pages.now.names)) (sym c.into_pages-pages.ensures.same)) c.into_pages-pages.ensures.pages
+    (sym (tells.names ∙ c.in-Ok-false.ensures.counts.4) ∙ ap (λ (k : GName). k ∷ packet.lent.value.raised ∷ (numbers_of (on_page packet.lent.value) ++ packet.pages.now.names)) (sym c.into_pages-pages.ensures.same)) c.into_pages-pages.ensures.pages
 
 pub returns-in-Err-clause-back : goal.returns-in-Err-clause-back
 returns-in-Err-clause-back g c =
     let packet = c.into_source-packet.result in
     let tells = c.into_source-packet.ensures in
     told_back c.args.bits _ packet.lent.value.raised (on_page packet.lent.value) packet.fault c.why-fault.result packet.errors packet.pages.now c.into_pages-pages.result.now _ c.in-Err.why c.why_in.result c.why_in.ensures.value c.why-fault.ensures.fault
-    (sym (tells.names ∙ c.in-Err.ensures.reading.counts.3) ∙ ap (λ (k : GName). k ∷ packet.lent.value.raised ∷ (numbers_of (on_page packet.lent.value) ++ packet.pages.now.names)) (sym c.into_pages-pages.ensures.same)) c.into_pages-pages.ensures.pages
+    (sym (tells.names ∙ c.in-Err.ensures.counts.3) ∙ ap (λ (k : GName). k ∷ packet.lent.value.raised ∷ (numbers_of (on_page packet.lent.value) ++ packet.pages.now.names)) (sym c.into_pages-pages.ensures.same)) c.into_pages-pages.ensures.pages
     packet.quiet packet.met (λ f is known. packet.breaks f is (known_there packet.lent.value known))
-    (λ none. (rose_read c.args.bits.raised c.at_end-over.new.self.raised packet.errors c.in-Err.why none c.in-Err.ensures.reading.counts.4 tells.raised, c.in-Err.ensures.reading.counts.5))
+    (λ none. (rose_read c.args.bits.raised c.at_end-over.new.self.raised packet.errors c.in-Err.why none c.in-Err.ensures.counts.4 tells.raised, c.in-Err.ensures.counts.5))
