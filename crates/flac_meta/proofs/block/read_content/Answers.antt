@@ -1,3 +1,5 @@
+use Rattle.std.proofs.lemmas.Grind.{common_steps}
+use Rattle.std.proofs.Common.{arith}
 use Rattle.std.proofs.Common.{rules, ◌≡◌, ◌*◌, refl}
 use Rattle.std.proofs.lemmas.Result.{err_from_is_err_and}
 use Rattle.flac_bits.specs.declared.why.Why.TheVariants.{Memory}
@@ -129,11 +131,12 @@ returns-in_ok-read_picture-in-6-clause-reading g c = record {
     }
 
 pub returns-in_err-bytes-in_default-clause-reading : goal.returns-in_err-bytes-in_default-clause-reading
+unfolding Rattle.flac_meta.specs.Block.content Rattle.flac_meta.specs.Block.padding Rattle.flac_meta.specs.Block.other
 returns-in_err-bytes-in_default-clause-reading g c = record {
       spends = search rules;
       counts = (let p = err_from_is_err_and c.from_residual-in_err-bytes-in_default.result c.from_residual-in_err-bytes-in_default.ensures.1 in
       rw (p.1, p.2) c.in_err-bytes-in_default.ensures.reading.counts);
-      reads = search rules;
+      reads = grind (arith, common_steps);
     }
 
 pub returns-in_ok-bytes-in_default-clause-reading : goal.returns-in_ok-bytes-in_default-clause-reading

@@ -1,3 +1,5 @@
+use Rattle.std.proofs.lemmas.Grind.{common_steps}
+use Rattle.std.proofs.Common.{arith}
 use Rattle.std.proofs.Common.{rules}
 use Rattle.std.proofs.lemmas.Result.{err_from_is_err_and}
 use Rattle.flac_bits.proofs.Counting.{answered_then, failed_then}
@@ -37,10 +39,11 @@ returns-in_err-read_zeros g c =
     } })
 
 pub returns : goal.returns
+unfolding Rattle.flac_meta.specs.CueSheet.sheet_front Rattle.flac_meta.specs.Fields.reserved
 returns g c = record { reading = record {
       spends = search rules;
       counts = answered_then c.args.bits.now c.read_bytes.new.bits c.read_zeros.new.bits c.in_ok-read_bytes.ensures.reading.counts (answered_then c.read_bytes.new.bits c.take.new.self c.read_zeros.new.bits c.in_ok-lead_in.ensures.reading.counts (answered_then c.take.new.self c.take-2.new.self c.read_zeros.new.bits c.in_ok-cd.ensures.reading.counts c.in_ok-read_zeros.ensures.reading.counts));
-      reads = search rules;
+      reads = grind (arith, common_steps);
     } }
 
 pub returns-in_err-read_bytes : goal.returns-in_err-read_bytes

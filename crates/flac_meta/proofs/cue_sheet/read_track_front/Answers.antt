@@ -1,3 +1,5 @@
+use Rattle.std.proofs.lemmas.Grind.{common_steps}
+use Rattle.std.proofs.Common.{arith}
 use Rattle.std.proofs.Common.{rules}
 use Rattle.std.proofs.lemmas.Result.{err_from_is_err_and}
 use Rattle.flac_bits.proofs.Counting.{answered_then, failed_then}
@@ -57,10 +59,11 @@ returns-in_err-read_zeros g c =
     } })
 
 pub returns : goal.returns
+unfolding Rattle.flac_meta.specs.CueSheet.track_front Rattle.flac_meta.specs.Fields.reserved
 returns g c = record { reading = record {
       spends = search rules;
       counts = answered_then c.args.bits.now c.take.new.self c.read_zeros.new.bits c.in_ok-offset.ensures.reading.counts (answered_then c.take.new.self c.take-2.new.self c.read_zeros.new.bits c.in_ok-number.ensures.reading.counts (answered_then c.take-2.new.self c.read_bytes.new.bits c.read_zeros.new.bits c.in_ok-read_bytes.ensures.reading.counts (answered_then c.read_bytes.new.bits c.take-3.new.self c.read_zeros.new.bits c.in_ok-audio.ensures.reading.counts (answered_then c.take-3.new.self c.take-4.new.self c.read_zeros.new.bits c.in_ok-pre_emphasis.ensures.reading.counts c.in_ok-read_zeros.ensures.reading.counts))));
-      reads = search rules;
+      reads = grind (arith, common_steps);
     } }
 
 pub returns-in_err-offset : goal.returns-in_err-offset

@@ -1,3 +1,6 @@
+use Rattle.std.proofs.lemmas.Grind.{common_steps}
+use Rattle.flac_meta.proofs.Turns.{turn_start}
+use Rattle.flac_meta.proofs.Turns.{tracks_end}
 use Rattle.std.proofs.Common.{rules, arith, ◌+◌, ◌-◌, ◌*◌, ◌++◌, ◌∷◌, [], length, refl, sym, ap, ◌∙◌}
 use Rattle.std.proofs.lemmas.Result.{err_from_is_err_and}
 use Rattle.flac_bits.specs.State.{Cursor}
@@ -37,7 +40,7 @@ pub returns : goal.returns
 returns g c = record { reading = record {
       spends = search rules;
       counts = gone c.loop-i.invariant.2;
-      reads = search rules;
+      reads = grind (arith, common_steps, tracks_more, tracks_end, turn_start);
     } }
 
 pub returns-in_err-push : goal.returns-in_err-push
@@ -53,5 +56,5 @@ pub returns-then-left-ne0 : goal.returns-then-left-ne0
 returns-then-left-ne0 g c = record { reading = record {
       spends = search rules;
       counts = refused_then c.args.bits.now c.loop-i.bits (gone c.loop-i.invariant.2) refl;
-      reads = search rules;
+      reads = grind (arith, common_steps, tracks_more, tracks_end, turn_start);
     } }

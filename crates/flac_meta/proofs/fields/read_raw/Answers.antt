@@ -1,3 +1,8 @@
+use Rattle.std.proofs.lemmas.Grind.{common_steps}
+use Rattle.std.proofs.Common.{arith}
+use Rattle.flac_bits.proofs.Lists.{list_start}
+use Rattle.flac_bits.proofs.Lists.{list_end}
+use Rattle.flac_bits.proofs.Lists.{list_more}
 use Rattle.std.proofs.Common.{rules, refl}
 use Rattle.std.proofs.lemmas.Result.{err_from_is_err_and}
 use Rattle.flac_bits.proofs.Counting.{gone, answered_then, failed_then, refused_then}
@@ -9,7 +14,7 @@ returns-in_err-take-clause-reading g c =
     rw (p.1, p.2) (record {
       spends = tt;
       counts = failed_then c.args.bits.now c.loop-i.bits c.take.new.self (gone c.loop-i.invariant.2) c.in_err-take.ensures.reading.counts;
-      reads = search rules;
+      reads = grind (arith, common_steps, list_more, list_end, list_start);
     })
 
 pub returns-in_err-push-clause-reading : goal.returns-in_err-push-clause-reading
@@ -25,5 +30,5 @@ pub returns-clause-reading : goal.returns-clause-reading
 returns-clause-reading g c = record {
       spends = search rules;
       counts = gone c.loop-i.invariant.2;
-      reads = search rules;
+      reads = grind (arith, common_steps, list_more, list_end, list_start);
     }

@@ -1,3 +1,6 @@
+use Rattle.std.proofs.lemmas.Grind.{common_steps}
+use Rattle.flac_meta.proofs.Zeros.{zeros_end}
+use Rattle.flac_meta.proofs.Zeros.{zeros_first}
 use Rattle.std.proofs.Common.{rules, ◌+◌, ◌-◌, ◌*◌, ◌/◌, ◌&&◌, nat_eq, ℕ, arith}
 use Rattle.flac_bits.specs.State.{Cursor}
 use Rattle.flac_bits.specs.Layout.{number_at}
@@ -31,5 +34,5 @@ pub returns : goal.returns
 returns g c = record { reading = record {
       spends = search rules;
       counts = gone c.loop-i.invariant.1;
-      reads = search rules;
+      reads = grind (arith, common_steps, zeros_first, zeros_more, zeros_end);
     } }
