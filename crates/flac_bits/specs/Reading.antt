@@ -53,3 +53,7 @@ pub record Decodes {X Y : Type 0} (view : X → Y) (layout : Layout Y) (old new 
 
 abbrev pub Means : {X Y : Type 0} → (X → Y) → Layout Y → State → State → Result X Why → Type 0
 Means view layout old new result = old.known ≡ true → new.errors ≡ old.errors → Decodes view layout old.cursor new.cursor result
+
+-- the same where no growth was refused
+abbrev pub MeansInRoom : {X Y : Type 0} → (X → Y) → Layout Y → State → State → Result X Why → Type 0
+MeansInRoom view layout old new result = (result ≡ Err Memory → ⊥) → Means view layout old new result

@@ -5,7 +5,7 @@ ghost use Rattle.flac_meta.specs.Spelling.{kind_of, length_of, header_spelling, 
 ghost use Rattle.flac_meta.specs.Listed.{is_forbidden, block_fault, has_bad_sheet};
 ghost use Rattle.flac_meta.specs.Header.{nothing_seen, is_repeated, block_header};
 ghost use Rattle.flac_meta.specs.Block.{seen_after, application, content, block, MemoryAsked};
-ghost use Rattle.flac_bits.specs.Reading.{Counts, Reads, ReadsInRoom, Means, Call};
+ghost use Rattle.flac_bits.specs.Reading.{Reads, ReadsInRoom, Call, MeansInRoom};
 ghost use Rattle.flac_bits.specs.State.{Cursor};
 ghost use Rattle.flac_bits.specs.Layout.{run};
 ghost use Rattle.flac_meta.specs.declared.block.BlockHeader.{BlockHeader};
@@ -293,9 +293,7 @@ pub fn read_block<R: Source>(
     bits: &mut BitReader<R>,
     seen: &mut Seen,
 ) -> Result<(bool, Block), Why>
-    ensures spends { OnOk result (bits.new.most + 32 ≤ bits.old.most) }
-    ensures counts { Counts bits.old bits.new result }
-    ensures means { (result ≡ Err Why.Memory → ⊥) → Means (λ x. x) (block seen.old) bits.old bits.new result }
+    ensures reading { Call 32 (MeansInRoom (λ x. x) (block seen.old)) bits.old bits.new result }
     ensures spare { MemoryAsked seen.old bits.old bits.new result }
     ensures seen { IfOk result (λ x. seen.new ≡ seen_after seen.old x.1) }
     ensures unseen { OnErr result (seen.new ≡ seen.old) }

@@ -3,7 +3,7 @@
 ghost use Rattle.std.specs.Prelude.{◌≡◌, ◌≢◌, ◌≤◌, ◌+◌, cond, OnOk, OnErr, IfOk, IfErr, Err, Some, is_some, true, ⊤, ℕ, List, [], min, false};
 ghost use Rattle.std.specs.Borrow.{sem, follows_so};
 ghost use mathlib.Core.Option.{none};
-ghost use Rattle.flac_bits.specs.Reading.{Counts, ReadsInRoom, Means, Call, CallInPlace};
+ghost use Rattle.flac_bits.specs.Reading.{ReadsInRoom, Call, CallInPlace, MeansInRoom};
 ghost use Rattle.flac_bits.specs.Fencing.{lifted};
 ghost use Rattle.flac_native.specs.Within.{ReadsWithin, MeansWithin};
 ghost use Rattle.flac_meta.specs.Block.{block as block_layout, seen_after};
@@ -137,9 +137,7 @@ impl Track {
     /// Those of [`flac_meta::read_block`], which depend on the blocks that this track read before; [`Why::Memory`] also
     /// if the allocation for a frame fails. The track must not be used to read on then.
     pub fn block<R: Source>(&mut self, bits: &mut BitReader<R>) -> Result<(bool, Block), Why>
-        ensures spends { OnOk result (bits.new.most + 32 ≤ bits.old.most) }
-        ensures counts { Counts bits.old bits.new result }
-        ensures means { (result ≡ Err Why.Memory → ⊥) → Means (λ x. x) (block_layout (stand_of self.old).seen) bits.old bits.new result }
+        ensures reading { Call 32 (MeansInRoom (λ x. x) (block_layout (stand_of self.old).seen)) bits.old bits.new result }
         ensures next { IfOk result (λ x. (p : Progress) → IsAt self.old p → IsAt self.new (next p (block_piece x.0 x.1))) }
         // The block that Track::next_block keeps does not change.
         ensures last { self.new.last ≡ self.old.last }
@@ -166,9 +164,7 @@ impl Track {
     /// # Errors
     /// Those of [`Track::block`].
     pub fn next_block<R: Source>(&mut self, bits: &mut BitReader<R>) -> Result<(), Why>
-        ensures spends { OnOk result (bits.new.most + 32 ≤ bits.old.most) }
-        ensures counts { Counts bits.old bits.new result }
-        ensures means { (result ≡ Err Why.Memory → ⊥) → Means (λ _. kept self.new) (layout_in Blocks (stand_of self.old)) bits.old bits.new result }
+        ensures reading { Call 32 (MeansInRoom (λ _. kept self.new) (layout_in Blocks (stand_of self.old))) bits.old bits.new result }
         ensures next { OnOk result ((p : Progress) → IsAt self.old p → IsAt self.new (next p (kept self.new))) }
         ensures made { OnOk result (is_some self.new.block ≡ true) }
     {

@@ -7,5 +7,5 @@ pub returns-clause-reading : goal.returns-clause-reading
 returns-clause-reading g c = record {
       spends = search rules;
       counts = search rules;
-      reads = (λ room. reads (λ x. x) (block c.args.seen.now) c.args.bits.now c.read_block.new.bits c.read_block.result (c.read_block.ensures.means room));
+      reads = (λ room. reads (λ x. x) (block c.args.seen.now) c.args.bits.now c.read_block.new.bits c.read_block.result (c.read_block.ensures.reading.reads room));
     }
