@@ -1,6 +1,6 @@
 //! STREAMINFO (RFC 9639, section 8.2).
 
-ghost use Rattle.std.specs.Prelude.{◌≡◌, IfOk, IfErr, ◌<◌, ◌≤◌, ◌^◌};
+ghost use Rattle.std.specs.Prelude.{◌≡◌, IfOk, IfErr, ◌<◌, ◌≤◌, ◌^◌, ◌||◌, nat_eq, nat_lt};
 ghost use Rattle.flac_meta.specs.Info.{Info, KeepsRules, info_of_format, without_totals, info_sizes, info_format, stream_info};
 ghost use Rattle.flac_bits.specs.Reading.{Reads, Call};
 ghost use Rattle.flac_bits.specs.Written.{Writes};
@@ -114,17 +114,14 @@ impl StreamInfo {
           digest = digest;
         }) → ⊥)) }
     {
-        let sizes_fit = least_block >= 16
-            && least_block <= greatest_block
-            && least_frame < 1 << 24
-            && greatest_frame < 1 << 24;
-        let rate_fits = rate >= 1 && rate < 1 << 20;
-        let samples_fit = channels >= 1
+        let each_fits = least_frame < 1 << 24
+            && greatest_frame < 1 << 24
+            && rate < 1 << 20
+            && channels >= 1
             && channels <= 8
-            && depth >= 4
             && depth <= 32
             && total < 1 << 36;
-        if !(sizes_fit && rate_fits && samples_fit) {
+        if !each_fits || is_out_of_range(least_block, greatest_block, rate, depth) {
             return Err(Why::BadStreamInfo);
         }
         Ok(StreamInfo {
@@ -251,6 +248,13 @@ impl StreamInfo {
     }
 }
 
+/// Whether a value is out of its range, though it fits its field: the block sizes, the rate or the bits per sample.
+fn is_out_of_range(least_block: u16, greatest_block: u16, rate: u32, depth: u8) -> bool
+    ensures { result ≡ (nat_lt least_block 16 || nat_lt greatest_block least_block || nat_eq rate 0 || nat_lt depth 4) }
+{
+    least_block < 16 || greatest_block < least_block || rate == 0 || depth < 4
+}
+
 /// Smallest and largest block size in samples, smallest and largest frame size in bytes.
 #[tactic(auto, unfolding(crate::specs::Info::info_sizes))]
 fn read_sizes<R: Source>(bits: &mut BitReader<R>) -> Result<(u16, u16, u32, u32), Why>
@@ -286,7 +290,7 @@ pub(crate) fn read_stream_info<R: Source>(bits: &mut BitReader<R>) -> Result<Str
     let (rate, channels, depth, total) = read_format(bits)?;
     let mut digest = [0u8; 16];
     read_bytes(bits, &mut digest)?;
-    if least_block < 16 || greatest_block < least_block || rate == 0 || depth < 4 {
+    if is_out_of_range(least_block, greatest_block, rate, depth) {
         return Err(Why::BadStreamInfo);
     }
     Ok(StreamInfo {
