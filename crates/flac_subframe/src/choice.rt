@@ -17,12 +17,12 @@ ghost use Rattle.flac_subframe.specs.declared.linear.LinearPredictor.{LinearPred
 
 use crate::content::{Content, Held, PredictorKind, Sought};
 use crate::folding::fold_each;
-use crate::halving::Found;
 use crate::leaving::{take_differences, take_weighed};
 use crate::linear::LinearPredictor;
 use crate::narrowed::{narrow, peak, take_narrow};
 use crate::numbers::power;
 use crate::products::take_products;
+use crate::residual_form::ResidualForm;
 use crate::survey::{greatest_halvings, least_residual};
 use crate::tables::{SearchArrays, Tables};
 use crate::view::{ResidualView, SampleView, Task};
@@ -204,7 +204,7 @@ fn least_form(
     folds: &[u32],
     tables: &mut Tables<'_>,
     below: u64,
-) -> Option<Found>
+) -> Option<ResidualForm>
     requires order { order < length subject.now.samples.now }
     requires values { length subject.now.samples.now ≤ length values.now }
     requires residual { HasResidual (take (length subject.now.samples.now - order) values.now) values.now folds.now }
@@ -284,7 +284,7 @@ fn begin(samples: &[i64], bits: u32) -> Held
     ensures best { (handed : List LinearPredictor) (most : ℕ) (codings : List ℕ) → IsBest handed most bits samples.now (fixed_below 0) (way_held result codings) }
     ensures none { result.found.halvings ≡ 0 }
 {
-    let found = Found::none();
+    let found = ResidualForm::none();
     let width = u64::from(bits);
     if all_equal(samples) {
         Held {

@@ -14,10 +14,10 @@ ghost use Rattle.flac_subframe.specs.declared.limits.Limits.{Limits};
 
 use crate::choice::choose_in_places;
 use crate::content::{Content, Sought};
-use crate::halving::Found;
 use crate::limits::Limits;
 use crate::linear::LinearPredictor;
 use crate::numbers::power;
+use crate::residual_form::ResidualForm;
 use crate::tables::filled;
 use crate::view::{ChosenView, CodedView, Task};
 use arrayvec::ArrayVec;
@@ -31,7 +31,7 @@ use arrayvec::ArrayVec;
 pub struct Choice {
     pub(crate) wasted: u32,
     pub(crate) content: Content,
-    pub(crate) found: Found,
+    pub(crate) found: ResidualForm,
     pub(crate) codings: ArrayVec<u8, 256>,
     bits: u64,
 }
@@ -77,7 +77,7 @@ impl Choice {
             wasted: self.wasted,
             content: self.content,
             residual: CodedView {
-                parameter_bits: self.found.parameter_bits,
+                method: self.found.method,
                 halvings: self.found.halvings,
                 codings: self.codings.as_slice(),
             },

@@ -1,6 +1,6 @@
 //! How the samples of a subframe are written.
 
-use crate::halving::Found;
+use crate::residual_form::ResidualForm;
 
 /// How the samples of a subframe are written, but for the codings of a residual.
 #[derive(Clone, Copy, Debug, PartialEq, Eq)]
@@ -24,7 +24,7 @@ pub enum PredictorKind {
 #[derive(Clone, Copy)]
 pub struct Held {
     pub content: Content,
-    pub found: Found,
+    pub found: ResidualForm,
     pub bits: u64,
 }
 

@@ -8,6 +8,7 @@ ghost use Rattle.flac_subframe.specs.Numbers.{sample_at};
 ghost use Rattle.flac_subframe.specs.Spelling.{folded};
 ghost use Rattle.flac_subframe.specs.inner.Halves.{Halves};
 
+use crate::coding_method::CodingMethod;
 use crate::content::{Content, PredictorKind};
 use crate::linear::LinearPredictor;
 
@@ -113,11 +114,10 @@ impl SampleView<'_> {
     }
 }
 
-/// The form of a residual as it is written: the bits of a Rice parameter, the partition order, and the coding of each partition as a
-/// byte.
+/// The form of a residual as it is written: the coding method, the partition order, and the coding of each partition as a byte.
 #[derive(Clone, Copy)]
 pub(crate) struct CodedView<'a> {
-    pub(crate) parameter_bits: u8,
+    pub(crate) method: CodingMethod,
     pub(crate) halvings: u8,
     pub(crate) codings: &'a [u8],
 }

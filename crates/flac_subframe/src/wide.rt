@@ -16,10 +16,10 @@ ghost use Rattle.flac_subframe.specs.declared.linear.LinearPredictor.{LinearPred
 
 use crate::choice::choose_in_places;
 use crate::content::Content;
-use crate::halving::Found;
 use crate::limits::Limits;
 use crate::linear::LinearPredictor;
 use crate::numbers::power;
+use crate::residual_form::ResidualForm;
 use crate::view::{ChosenView, CodedView, Task};
 use crate::workspace::Workspace;
 use crate::writing::write_chosen;
@@ -34,7 +34,7 @@ use std::alloc::Global;
 pub struct WideChoice {
     pub(crate) wasted: u32,
     pub(crate) content: Content,
-    pub(crate) found: Found,
+    pub(crate) found: ResidualForm,
     pub(crate) codings: Vec<u8>,
     bits: u64,
 }
@@ -55,7 +55,7 @@ impl WideChoice {
         Ok(WideChoice {
             wasted: 0,
             content: Content::Constant,
-            found: Found::none(),
+            found: ResidualForm::none(),
             codings,
             bits: 9,
         })
@@ -116,7 +116,7 @@ impl WideChoice {
             wasted: self.wasted,
             content: self.content,
             residual: CodedView {
-                parameter_bits: self.found.parameter_bits,
+                method: self.found.method,
                 halvings: self.found.halvings,
                 codings: &self.codings[..power(self.found.halvings)],
             },

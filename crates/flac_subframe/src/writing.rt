@@ -129,7 +129,7 @@ fn write_residual<W: Target>(
     ensures { Writes (residual_spelling (residual_of order values.now (codings_lent coded.now))) writer.old writer.new result }
 {
     let size = (values.len() + order) / power(coded.halvings);
-    let parameter_bits = coded.parameter_bits as u32;
+    let parameter_bits = coded.method.parameter_bits();
     let field = (parameter_bits as u64 - 4) * 16 + coded.halvings as u64;
     writer.put(6, field)?;
     write_partitions(
