@@ -6,12 +6,11 @@ use Rattle.flac_bits.specs.Meaning.{Spells}
 use Rattle.flac_bits.specs.Fence.{InRoom, StopsIn}
 use Rattle.flac_bits.specs.declared.why.Why.{Why}
 use Rattle.flac_bits.specs.declared.why.Why.TheVariants.{Memory, Truncated, BadStreamInfo}
-use Rattle.flac_meta.specs.Info.{Info, KeepsRules}
+use Rattle.flac_meta.specs.Info.{Info, KeepsRules, without_totals}
 use Rattle.flac_header.specs.declared.subset.Profile.TheVariants.{Subset}
 use Rattle.flac_frame.specs.Frame.{Frame, frame, first_sample}
 use Rattle.flac_frame.specs.Interleaved.{interleaved}
 use Rattle.flac_native.specs.Decoding.{beginning}
-use Rattle.flac_native.specs.Resuming.{untold}
 use Rattle.flac_native.specs.Stream.{Piece, framed, grammar, opening}
 use Rattle.flac_native.specs.declared.fault.Place.{Place}
 use Rattle.flac_native.specs.declared.fault.Place.TheVariants as place
@@ -89,7 +88,7 @@ pub record StandsIn (bytes : List ℕ) (c : FlacProvedCursor) (front more : List
   pub spelled : Joined grammar (opening Subset) (beginning Truncated) front (bits_of (take c.offset bytes))
   pub info : Info
   pub told : (after grammar (opening Subset) front).stand.info ≡ Some info
-  pub same : info_of c.info ≡ untold info
+  pub same : info_of c.info ≡ without_totals info
 
 -- The bytes are a native stream of these items, and the cursor is at its first frame, right after the metadata.
 abbrev pub StartsIn : List ℕ → FlacProvedCursor → List Piece → Type 0

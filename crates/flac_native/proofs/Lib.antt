@@ -1,4 +1,5 @@
 pub mod Giving
+pub mod Passing
 pub mod Arriving
 pub mod Handed
 pub mod Received

@@ -7,6 +7,7 @@ pub mod Decoding
 pub mod Ends
 pub mod Coming
 pub mod Giving
+pub mod Calls
 pub mod Given
 pub mod Seeking
 pub mod Writing

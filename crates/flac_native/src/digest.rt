@@ -299,15 +299,6 @@ impl<'a> Channels for Pair<'a> {
     }
 }
 
-/// The `size` samples of a channel from index `start` on.
-fn part_of(channel: &[i32], start: usize, size: usize) -> &[i32]
-    requires { start + size ≤ length channel.now }
-    ensures part { result.now ≡ take size (drop start channel.now) }
-    ensures long { length result.now ≡ size }
-{
-    &channel[start..start + size]
-}
-
 /// How many whole bytes a sample of `bits` bits takes, as raw samples and the MD5 digest have it (RFC 9639, section
 /// 8.2).
 ///
@@ -329,8 +320,8 @@ pub(crate) fn feed_block(hasher: &mut Md5, audio: &Audio, start: usize, size: us
     let width = sample_width(audio.bits());
     let channels = audio.channels();
     if channels.len() == 2 {
-        let left = part_of(&channels[0], start, size);
-        let right = part_of(&channels[1], start, size);
+        let left = audio.part(0, start, size);
+        let right = audio.part(1, start, size);
         let pair = Pair { left, right };
         feed_rows(hasher, &pair, 2, 0, size, width);
         return;

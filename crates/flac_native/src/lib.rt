@@ -54,9 +54,10 @@ pub use flac_subframe::LinearPredictor;
 pub use format::LONGEST_FRAME;
 pub use item::Item;
 pub use laws::{
-    blocks_are_in_order, encoded_are_read_back, encoded_are_resumed, encoded_are_streams,
-    frames_are_resumed, nothing_is_outside_lax, only_one_head, only_one_way, points_name_frames,
-    retagged_are_read, some_way, streams_are_ordered, streams_are_whole, subset_is_lax,
+    blocks_are_in_order, calls_break_behind, encoded_are_read_back, encoded_are_resumed,
+    encoded_are_streams, frames_are_resumed, nothing_is_outside_lax, only_one_head, only_one_way,
+    points_name_frames, retagged_are_read, some_way, streams_are_ordered, streams_are_whole,
+    subset_is_lax,
 };
 pub use native::{MARKER, read_marker};
 pub use plan::{Plan, predictors_fault};
