@@ -29,6 +29,7 @@ returns-in_err-take g c =
     rw (p.1, p.2) (record { reading = record { spends = tt; counts = failed_then c.args.bits.now c.align.new.self c.take.new.self c.in_ok-align.ensures.reading.counts c.in_err-take.ensures.reading.counts; memory = c.in_err-take.ensures.reading.memory; reads = told_then c.args.bits.now c.align.new.self c.take.new.self _ c.in_ok-align.ensures.reading.counts c.in_ok-align.ensures.reading.reads (rw c.if-not-branch.false (told_fault c.align.new.self c.take.new.self _ c.in_err-take.ensures.reading.reads)) }; })
 
 pub returns-then-branch-from : goal.returns-then-branch-from
+unfolding frame_end
 returns-then-branch-from g c = record { reading = record {
       spends = search rules;
       counts = refused_then c.args.bits.now c.take.new.self (answered_then c.args.bits.now c.align.new.self c.take.new.self c.in_ok-align.ensures.reading.counts c.in_ok-take.ensures.reading.counts) refl;
@@ -37,6 +38,7 @@ returns-then-branch-from g c = record { reading = record {
     } }
 
 pub returns : goal.returns
+unfolding frame_end
 returns g c = record { reading = record {
       spends = search rules;
       counts = answered_then c.args.bits.now c.align.new.self c.take.new.self c.in_ok-align.ensures.reading.counts c.in_ok-take.ensures.reading.counts;

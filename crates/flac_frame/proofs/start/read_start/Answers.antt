@@ -26,6 +26,7 @@ returns-in_err-header g c =
     rw (p.1, p.2) (record { number = tt; code = tt; channels = tt; size = tt; reading = record { spends = tt; counts = c.in_err-header.ensures.reading.counts; memory = c.in_err-header.ensures.reading.memory; reads = told_fault (started c.args.bits.now) c.header_here.new.bits _ c.in_err-header.ensures.reading.reads }; })
 
 pub returns-then-not-allows-clause-reading : goal.returns-then-not-allows-clause-reading
+unfolding stream_header
 returns-then-not-allows-clause-reading g c = record {
       spends = search rules;
       counts = refused_then c.args.bits.now c.header_here.new.bits c.in_ok-header.ensures.reading.counts refl;
@@ -34,6 +35,7 @@ returns-then-not-allows-clause-reading g c = record {
     }
 
 pub returns-then-differs-clause-reading : goal.returns-then-differs-clause-reading
+unfolding stream_header
 returns-then-differs-clause-reading g c = record {
       spends = search rules;
       counts = refused_then c.args.bits.now c.header_here.new.bits c.in_ok-header.ensures.reading.counts refl;
@@ -42,6 +44,7 @@ returns-then-differs-clause-reading g c = record {
     }
 
 pub returns-then-breaks_sequence-clause-reading : goal.returns-then-breaks_sequence-clause-reading
+unfolding stream_header
 returns-then-breaks_sequence-clause-reading g c = record {
       spends = search rules;
       counts = refused_then c.args.bits.now c.header_here.new.bits c.in_ok-header.ensures.reading.counts refl;
@@ -50,6 +53,7 @@ returns-then-breaks_sequence-clause-reading g c = record {
     }
 
 pub returns-then-breaks_size-clause-reading : goal.returns-then-breaks_size-clause-reading
+unfolding stream_header
 returns-then-breaks_size-clause-reading g c = record {
       spends = search rules;
       counts = refused_then c.args.bits.now c.header_here.new.bits c.in_ok-header.ensures.reading.counts refl;
@@ -58,6 +62,7 @@ returns-then-breaks_size-clause-reading g c = record {
     }
 
 pub returns-clause-reading : goal.returns-clause-reading
+unfolding stream_header
 returns-clause-reading g c = record {
       spends = search rules;
       counts = c.in_ok-header.ensures.reading.counts;
