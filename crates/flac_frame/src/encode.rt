@@ -269,16 +269,9 @@ pub fn choose_frame(
 {
     // read for the invariant of the buffers
     let _places = buffers.places.len();
-    let first = range.start;
-    let subject = Subject {
-        audio,
-        start: first,
-        size: range.end - first,
-        number,
-        predictors,
-    };
+    let block = Subject::of(audio, range, number, predictors);
     choose_first(
-        &subject,
+        &block,
         &mut buffers.places,
         &mut buffers.choices,
         &mut buffers.workspace,
@@ -318,16 +311,9 @@ pub fn write_frame<W: Target>(
 {
     // read for the invariant of the buffers
     let _places = buffers.places.len();
-    let begin = range.start;
-    let subject = Subject {
-        audio,
-        start: begin,
-        size: range.end - begin,
-        number,
-        predictors,
-    };
+    let frame = Subject::of(audio, range, number, predictors);
     write_first(
-        &subject,
+        &frame,
         choice,
         &mut buffers.places,
         &mut buffers.workspace,
@@ -393,15 +379,7 @@ pub fn encode_frame_with<W: Target>(
     let before = writer.bytes_written();
     // read for the invariant of the buffers
     let _places = buffers.places.len();
-    let start = range.start;
-    let size = range.end - range.start;
-    let subject = Subject {
-        audio,
-        start,
-        size,
-        number,
-        predictors,
-    };
+    let subject = Subject::of(audio, range, number, predictors);
     choose_first(
         &subject,
         &mut buffers.places,
