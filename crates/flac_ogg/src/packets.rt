@@ -128,7 +128,7 @@ fn read_first_block<R: Source>(bits: &mut BitReader<R>, track: &mut Track) -> Re
 
 /// What [`Track::next_frame`] does, proved by the reading of the layout.
 fn frame_here<R: Source>(bits: &mut BitReader<R>, track: &mut Track) -> Result<(), Why>
-    ensures reading { CallInPlace 40 (λ (_ now : State) r. ReadsWithin (Some 16777215) (λ _. shown track.new) (frame_behind (stand_of track.old).profile (stand_of track.old).info (stand_of track.old).before) bits.old now r) (lifted bits.old) bits.new result }
+    ensures reading { CallInPlace 40 (λ _. ReadsWithin (Some 16777215) (λ _. shown track.new) (frame_behind (stand_of track.old).profile (stand_of track.old).info (stand_of track.old).before) bits.old) (lifted bits.old) bits.new result }
     ensures next { OnOk result ((p : Progress) → IsAt track.old p → IsAt track.new (next p (framed (shown track.new)))) }
     ensures made { OnOk result (is_some (stand_of track.new).info ≡ true) }
     ensures last { track.new.last ≡ track.old.last }

@@ -21,7 +21,7 @@ feed_rows-requires-clause-rows c = omega (arith, c.part-left.ensures.long)
 pub feed_rows-requires-clause-width : goal.feed_rows-requires-clause-width
 feed_rows-requires-clause-width c =
     let e = c.channels-channels.ensures in
-    let deep = bits_small (λ v. v.items) c.channels-channels.result.now c.args.audio.now e.sound e.items c.args.audio.now.bits refl in
+    let deep = bits_small c.args.audio.now e.sound c.args.audio.now.bits refl in
     omega (arith, deep.1, c.bits.ensures, c.sample_width-width.ensures)
 
 pub returns-then-channels-eq2 : goal.returns-then-channels-eq2
@@ -52,7 +52,7 @@ feed_rows-requires-2-clause-few c = let e = c.channels-channels.ensures in (few_
 pub feed_rows-requires-2-clause-width : goal.feed_rows-requires-2-clause-width
 feed_rows-requires-2-clause-width c =
     let e = c.channels-channels.ensures in
-    let deep = bits_small (λ v. v.items) c.channels-channels.result.now c.args.audio.now e.sound e.items c.args.audio.now.bits refl in
+    let deep = bits_small c.args.audio.now e.sound c.args.audio.now.bits refl in
     omega (arith, deep.1, c.bits.ensures, c.sample_width-width.ensures)
 
 pub feed_rows-requires-2-clause-end : goal.feed_rows-requires-2-clause-end
