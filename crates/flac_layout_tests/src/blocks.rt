@@ -569,3 +569,26 @@ fn lists_are_given_back(rt: HostRuntime) -> Result<(), Fail> {
     assert!(rt; count == 3 && bytes.as_slice() == b"A=b=c=xnone".as_slice());
     Ok(())
 }
+
+/// The sum of the sample numbers of a table's points, by its iterator and by a loop over the table.
+fn sums_of_samples(table: &SeekTable) -> (u64, u64) {
+    let mut by_loop = 0;
+    for point in table {
+        by_loop += point.sample & 0xFFFF;
+    }
+    let mut by_iterator = 0;
+    for point in table.iter() {
+        by_iterator += point.sample & 0xFFFF;
+    }
+    (by_iterator, by_loop)
+}
+
+#[test]
+fn lists_are_gone_over(rt: HostRuntime) -> Result<(), Fail> {
+    let table = SeekTable::from_vec(Vec::from_slice(rt.alloc(), &[OTHER_POINT, POINT])?);
+    let empty = Texts::from_vec(Vec::new(rt.alloc()));
+    assert!(rt; sums_of_samples(&table) == (4097, 4097));
+    assert!(rt; table.len() == 2 && !table.is_empty());
+    assert!(rt; empty.len() == 0 && empty.is_empty());
+    Ok(())
+}
