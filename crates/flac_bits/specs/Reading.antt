@@ -1,5 +1,5 @@
 -- What a reading call does.
-use Rattle.std.specs.Prelude.{◌≡◌, ◌<◌, ◌≤◌, Bool, true, List, ◌++◌, Result, Ok, Err, IfOk, IfErr, IsOkAnd, IsErrAnd, ◌⊎◌}
+use Rattle.std.specs.Prelude.{◌≡◌, ◌≢◌, ◌<◌, ◌≤◌, ◌+◌, ℕ, Bool, true, List, ◌++◌, Result, Ok, Err, OnOk, IfOk, IfErr, IsOkAnd, IsErrAnd, ◌⊎◌}
 use Rattle.flac_bits.specs.State.{Cursor, State, Rises, Consumes}
 use Rattle.flac_bits.specs.Layout.{Layout, Reason, because, run}
 use Rattle.flac_bits.specs.Meaning.{Spells, Shows, IsCut}
@@ -28,6 +28,20 @@ Reads view layout old new result = Gives view (run layout old.cursor) old new re
 abbrev pub ReadsInRoom : {X Y : Type 0} → (X → Y) → Layout Y → State → State → Result X Why → Type 0
 ReadsInRoom view layout old new result = (result ≡ Err Memory → ⊥) → Reads view layout old new result
 
+-- What each reading call does. A value takes at least so many of the bits that can still come, errors of the source are counted, and what was returned is
+-- what it says of a reader before and after the call, such as Reads of a layout.
+pub record Call {X : Type 0} (least : ℕ) (says : State → State → Result X Why → Type 0) (old new : State) (result : Result X Why) : Type 0 where
+  pub spends : OnOk result (new.most + least ≤ old.most)
+  pub counts : Counts old new result
+  pub reads : says old new result
+
+-- the same of a call that allocates nothing
+pub record CallInPlace {X : Type 0} (least : ℕ) (says : State → State → Result X Why → Type 0) (old new : State) (result : Result X Why) : Type 0 where
+  pub spends : OnOk result (new.most + least ≤ old.most)
+  pub counts : Counts old new result
+  pub memory : IfErr result (λ e. e ≢ Memory)
+  pub reads : says old new result
+
 -- what was returned is told by the meaning of the layout alone: a value is the one that the front of the input spells, and the reader stands behind
 -- just these bits; a reason is one that a front of the input shows, or the input ends inside
 pub record Decodes {X Y : Type 0} (view : X → Y) (layout : Layout Y) (old new : Cursor) (result : Result X Why) : Type 0 where
@@ -39,3 +53,7 @@ pub record Decodes {X Y : Type 0} (view : X → Y) (layout : Layout Y) (old new 
 
 abbrev pub Means : {X Y : Type 0} → (X → Y) → Layout Y → State → State → Result X Why → Type 0
 Means view layout old new result = old.known ≡ true → new.errors ≡ old.errors → Decodes view layout old.cursor new.cursor result
+
+-- the same where no growth was refused
+abbrev pub MeansInRoom : {X Y : Type 0} → (X → Y) → Layout Y → State → State → Result X Why → Type 0
+MeansInRoom view layout old new result = (result ≡ Err Memory → ⊥) → Means view layout old new result

@@ -4,7 +4,7 @@ ghost use Rattle.std.specs.Prelude.{◌≡◌, ◌+◌, ◌≤◌, min, false, O
 ghost use Rattle.flac_meta.specs.Spelling.{tracks_length, zero_bits, each_spelled, index_spelling, track_spelling, sheet_spelling};
 ghost use Rattle.flac_meta.specs.Listed.{overflows, is_bad_sheet};
 ghost use Rattle.flac_bits.specs.Lists.{list_of};
-ghost use Rattle.flac_bits.specs.Reading.{Counts, Reads, ReadsInRoom};
+ghost use Rattle.flac_bits.specs.Reading.{Reads, ReadsInRoom, Call};
 ghost use Rattle.flac_meta.specs.CueSheet.{cue_count, cue_index, track_front, cue_track, cue_tracks, sheet_front, cue_sheet};
 ghost use Rattle.flac_bits.specs.Bits.{unsigned, bits_of, bit_value};
 ghost use Rattle.flac_bits.specs.Forms.{joined};
@@ -101,9 +101,7 @@ pub(crate) fn is_bad(sheet: &CueSheet) -> bool
 /// Reads an index point of a track (RFC 9639, section 8.7.1.1).
 #[tactic(auto, unfolding(crate::specs::CueSheet::cue_index, crate::specs::Fields::reserved))]
 fn read_index<R: Source>(bits: &mut BitReader<R>) -> Result<CueIndex, Why>
-    ensures spends { OnOk result (bits.new.most ≤ bits.old.most) }
-    ensures counts { Counts bits.old bits.new result }
-    ensures reads { Reads (λ i. i) cue_index bits.old bits.new result }
+    ensures reading { Call 0 (Reads (λ i. i) cue_index) bits.old bits.new result }
 {
     let offset = bits.take(64)?;
     let number = bits.take(8)? as u8;
@@ -121,9 +119,7 @@ fn read_indices<R: Source>(
     count: u8,
 ) -> Result<CueIndices, Why>
     ensures count { IfOk result (λ t. length t ≡ count) }
-    ensures spends { OnOk result (bits.new.most ≤ bits.old.most) }
-    ensures counts { Counts bits.old bits.new result }
-    ensures reads { ReadsInRoom (λ t. t) (list_of count cue_index) bits.old bits.new result }
+    ensures reading { Call 0 (ReadsInRoom (λ t. t) (list_of count cue_index)) bits.old bits.new result }
 {
     let mut items = Vec::new(alloc);
     for i in 0..count {
@@ -139,9 +135,7 @@ fn read_indices<R: Source>(
 fn read_track_front<R: Source>(
     bits: &mut BitReader<R>,
 ) -> Result<(u64, u8, [u8; 12], bool, bool), Why>
-    ensures spends { OnOk result (bits.new.most ≤ bits.old.most) }
-    ensures counts { Counts bits.old bits.new result }
-    ensures reads { Reads (λ f. f) track_front bits.old bits.new result }
+    ensures reading { Call 0 (Reads (λ f. f) track_front) bits.old bits.new result }
 {
     let offset = bits.take(64)?;
     let number = bits.take(8)? as u8;
@@ -160,9 +154,7 @@ fn read_track_front<R: Source>(
 fn read_track<R: Source>(alloc: Global, bits: &mut BitReader<R>, left: u32) -> Result<CueTrack, Why>
     requires { left < 2 ^ 24 }
     ensures fits { IfOk result (λ t. 36 + 12 * length t.indices ≤ left) }
-    ensures spends { OnOk result (bits.new.most ≤ bits.old.most) }
-    ensures counts { Counts bits.old bits.new result }
-    ensures reads { ReadsInRoom (λ t. t) (cue_track left) bits.old bits.new result }
+    ensures reading { Call 0 (ReadsInRoom (λ t. t) (cue_track left)) bits.old bits.new result }
 {
     if left < 35 {
         return Err(too_short(bits, left));
@@ -188,9 +180,7 @@ fn read_track<R: Source>(alloc: Global, bits: &mut BitReader<R>, left: u32) -> R
 fn read_count<R: Source>(bits: &mut BitReader<R>, left: u32) -> Result<u8, Why>
     requires { left < 2 ^ 24 }
     ensures fits { OnOk result (1 ≤ left) }
-    ensures spends { OnOk result (bits.new.most ≤ bits.old.most) }
-    ensures counts { Counts bits.old bits.new result }
-    ensures reads { Reads (λ n. n) (cue_count left) bits.old bits.new result }
+    ensures reading { Call 0 (Reads (λ n. n) (cue_count left)) bits.old bits.new result }
 {
     if left < 1 {
         return Err(too_short(bits, left));
@@ -207,9 +197,7 @@ fn read_tracks<R: Source>(
     left: u32,
 ) -> Result<CueTracks, Why>
     requires { left < 2 ^ 24 }
-    ensures spends { OnOk result (bits.new.most ≤ bits.old.most) }
-    ensures counts { Counts bits.old bits.new result }
-    ensures reads { ReadsInRoom (λ t. t) (cue_tracks count left) bits.old bits.new result }
+    ensures reading { Call 0 (ReadsInRoom (λ t. t) (cue_tracks count left)) bits.old bits.new result }
 {
     let mut tracks = Vec::new(alloc);
     let mut left = left;
@@ -228,9 +216,7 @@ fn read_tracks<R: Source>(
 /// Reads the fields of a cue sheet before its tracks.
 #[tactic(auto, unfolding(crate::specs::CueSheet::sheet_front, crate::specs::Fields::reserved))]
 fn read_sheet_front<R: Source>(bits: &mut BitReader<R>) -> Result<([u8; 128], u64, bool), Why>
-    ensures spends { OnOk result (bits.new.most ≤ bits.old.most) }
-    ensures counts { Counts bits.old bits.new result }
-    ensures reads { Reads (λ f. f) sheet_front bits.old bits.new result }
+    ensures reading { Call 0 (Reads (λ f. f) sheet_front) bits.old bits.new result }
 {
     let mut catalogue = [0u8; 128];
     read_bytes(bits, &mut catalogue)?;
@@ -250,9 +236,7 @@ pub(crate) fn read_cue_sheet<R: Source>(
     left: u32,
 ) -> Result<CueSheet, Why>
     requires { left < 2 ^ 24 }
-    ensures spends { OnOk result (bits.new.most ≤ bits.old.most) }
-    ensures counts { Counts bits.old bits.new result }
-    ensures reads { ReadsInRoom (λ s. s) (cue_sheet left) bits.old bits.new result }
+    ensures reading { Call 0 (ReadsInRoom (λ s. s) (cue_sheet left)) bits.old bits.new result }
 {
     if left < 395 {
         return Err(too_short(bits, left));

@@ -1,7 +1,7 @@
 //! Seek tables (RFC 9639, section 8.5).
 
-ghost use Rattle.std.specs.Prelude.{◌≡◌, OnOk, ◌<◌, ◌≤◌, length, None, false, nat_eq};
-ghost use Rattle.flac_bits.specs.Reading.{Counts, Reads, ReadsInRoom};
+ghost use Rattle.std.specs.Prelude.{◌≡◌, ◌<◌, length, None, false, nat_eq};
+ghost use Rattle.flac_bits.specs.Reading.{Reads, ReadsInRoom, Call};
 ghost use Rattle.flac_meta.specs.SeekTable.{placeholder, follows, seek_point, seek_points, in_order, last_before};
 ghost use Rattle.flac_bits.specs.Written.{Writes};
 ghost use Rattle.flac_meta.specs.Spelling.{each_spelled, point_spelling};
@@ -80,9 +80,7 @@ pub(crate) fn may_follow(before: Option<u64>, point: &SeekPoint) -> bool
 /// Reads a seek point that comes after one of the sample number `before`.
 #[tactic(auto, unfolding(crate::specs::SeekTable::seek_point))]
 fn read_point<R: Source>(bits: &mut BitReader<R>, before: Option<u64>) -> Result<SeekPoint, Why>
-    ensures spends { OnOk result (bits.new.most ≤ bits.old.most) }
-    ensures counts { Counts bits.old bits.new result }
-    ensures reads { Reads (λ p. p) (seek_point before) bits.old bits.new result }
+    ensures reading { Call 0 (Reads (λ p. p) (seek_point before)) bits.old bits.new result }
 {
     let sample = bits.take(64)?;
     let offset = bits.take(64)?;
@@ -105,9 +103,7 @@ pub(crate) fn read_seek_table<R: Source>(
     bits: &mut BitReader<R>,
     count: u32,
 ) -> Result<SeekTable, Why>
-    ensures spends { OnOk result (bits.new.most ≤ bits.old.most) }
-    ensures counts { Counts bits.old bits.new result }
-    ensures reads { ReadsInRoom (λ t. t) (seek_points count None) bits.old bits.new result }
+    ensures reading { Call 0 (ReadsInRoom (λ t. t) (seek_points count None)) bits.old bits.new result }
 {
     let mut points = Vec::new(alloc);
     let mut before = None;

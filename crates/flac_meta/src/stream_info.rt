@@ -1,8 +1,8 @@
 //! STREAMINFO (RFC 9639, section 8.2).
 
-ghost use Rattle.std.specs.Prelude.{◌≡◌, IfOk, IfErr, OnOk, ◌<◌, ◌≤◌, ◌^◌, ◌||◌, nat_eq, nat_lt};
+ghost use Rattle.std.specs.Prelude.{◌≡◌, IfOk, IfErr, ◌<◌, ◌≤◌, ◌^◌, ◌||◌, nat_eq, nat_lt};
 ghost use Rattle.flac_meta.specs.Info.{Info, KeepsRules, info_of_format, without_totals, info_sizes, info_format, stream_info};
-ghost use Rattle.flac_bits.specs.Reading.{Counts, Reads};
+ghost use Rattle.flac_bits.specs.Reading.{Reads, Call};
 ghost use Rattle.flac_bits.specs.Written.{Writes};
 ghost use Rattle.flac_meta.specs.Spelling.{info_spelling};
 
@@ -259,9 +259,7 @@ fn is_out_of_range(least_block: u16, greatest_block: u16, rate: u32, depth: u8) 
 #[tactic(auto, unfolding(crate::specs::Info::info_sizes))]
 fn read_sizes<R: Source>(bits: &mut BitReader<R>) -> Result<(u16, u16, u32, u32), Why>
     ensures fit { IfOk result (λ s. (s.2 < 2 ^ 24) × (s.3 < 2 ^ 24)) }
-    ensures spends { OnOk result (bits.new.most ≤ bits.old.most) }
-    ensures counts { Counts bits.old bits.new result }
-    ensures reads { Reads (λ s. s) info_sizes bits.old bits.new result }
+    ensures reading { Call 0 (Reads (λ s. s) info_sizes) bits.old bits.new result }
 {
     let least_block = bits.take(16)? as u16;
     let greatest_block = bits.take(16)? as u16;
@@ -274,9 +272,7 @@ fn read_sizes<R: Source>(bits: &mut BitReader<R>) -> Result<(u16, u16, u32, u32)
 #[tactic(auto, unfolding(crate::specs::Info::info_format))]
 fn read_format<R: Source>(bits: &mut BitReader<R>) -> Result<(u32, u8, u8, u64), Why>
     ensures fit { IfOk result (λ f. (f.0 < 2 ^ 20) × (1 ≤ f.1) × (f.1 ≤ 8) × (f.2 ≤ 32) × (f.3 < 2 ^ 36)) }
-    ensures spends { OnOk result (bits.new.most ≤ bits.old.most) }
-    ensures counts { Counts bits.old bits.new result }
-    ensures reads { Reads (λ f. f) info_format bits.old bits.new result }
+    ensures reading { Call 0 (Reads (λ f. f) info_format) bits.old bits.new result }
 {
     let rate = bits.take(20)? as u32;
     let channels = bits.take(3)? as u8 + 1;
@@ -288,9 +284,7 @@ fn read_format<R: Source>(bits: &mut BitReader<R>) -> Result<(u32, u8, u8, u64),
 /// Reads the content of a STREAMINFO block (RFC 9639, section 8.2).
 #[tactic(auto, unfolding(crate::specs::Info::stream_info))]
 pub(crate) fn read_stream_info<R: Source>(bits: &mut BitReader<R>) -> Result<StreamInfo, Why>
-    ensures spends { OnOk result (bits.new.most ≤ bits.old.most) }
-    ensures counts { Counts bits.old bits.new result }
-    ensures reads { Reads (λ i. i) stream_info bits.old bits.new result }
+    ensures reading { Call 0 (Reads (λ i. i) stream_info) bits.old bits.new result }
 {
     let (least_block, greatest_block, least_frame, greatest_frame) = read_sizes(bits)?;
     let (rate, channels, depth, total) = read_format(bits)?;

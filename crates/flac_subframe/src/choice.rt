@@ -6,23 +6,23 @@ ghost use Rattle.flac_subframe.specs.Prediction.{fixed_coefficients};
 ghost use Rattle.flac_subframe.specs.Spelling.{folded};
 ghost use Rattle.flac_bits.specs.Rice.{IsResidual};
 ghost use Rattle.flac_subframe.specs.Bodies.{Chooses, coefficients_of, differences};
-ghost use Rattle.flac_subframe.specs.Chosen.{fixed_below, offered};
+ghost use Rattle.flac_subframe.specs.Chosen.{IsNamed, fixed_below, offered, predictor_named};
 ghost use Rattle.flac_subframe.specs.Cost.{MayWrite, Codings, codings_in};
 ghost use Rattle.flac_subframe.specs.Least.{IsLeast};
-ghost use Rattle.flac_subframe.specs.inner.Chosen.{IsBest, IsNamed, predictor_named, residual_by, way_held};
+ghost use Rattle.flac_subframe.specs.inner.Chosen.{IsBest, residual_by, way_held};
 ghost use Rattle.flac_subframe.specs.inner.Cost.{residual_cost};
 ghost use Rattle.flac_subframe.specs.inner.Halves.{HasPlaces, HasResidual, HasRoom};
 ghost use Rattle.flac_subframe.specs.Wasted.{IsWasted, times_power, shortened};
 ghost use Rattle.flac_subframe.specs.declared.linear.LinearPredictor.{LinearPredictor};
 
+use crate::content::{Content, Held, PredictorKind, Sought};
 use crate::folding::fold_each;
-use crate::halving::Found;
-use crate::held::{Held, HeldKind, PredictorKind, Sought};
 use crate::leaving::{take_differences, take_weighed};
 use crate::linear::LinearPredictor;
 use crate::narrowed::{narrow, peak, take_narrow};
 use crate::numbers::power;
 use crate::products::take_products;
+use crate::residual_form::ResidualForm;
 use crate::survey::{greatest_halvings, least_residual};
 use crate::tables::{SearchArrays, Tables};
 use crate::view::{ResidualView, SampleView, Task};
@@ -47,8 +47,9 @@ fn limit(best: &Held, kind: PredictorKind) -> u64
     requires { best.now.bits ≤ 2 ^ 60 }
     ensures { (best.now.bits ≤ result) × (result ≤ best.now.bits + 1) }
 {
-    match (best.kind, kind) {
-        (HeldKind::AsFixed(held), PredictorKind::Fixed(order)) if order < held => best.bits + 1,
+    match (best.content, kind) {
+        (Content::Predicted(PredictorKind::Fixed(held)), PredictorKind::Fixed(order))
+            if order < held => best.bits + 1,
         _ => best.bits,
     }
 }
@@ -203,7 +204,7 @@ fn least_form(
     folds: &[u32],
     tables: &mut Tables<'_>,
     below: u64,
-) -> Option<Found>
+) -> Option<ResidualForm>
     requires order { order < length subject.now.samples.now }
     requires values { length subject.now.samples.now ≤ length values.now }
     requires residual { HasResidual (take (length subject.now.samples.now - order) values.now) values.now folds.now }
@@ -268,7 +269,7 @@ fn improve(
     }
     if let Some(found) = least_form(subject, order, values, folds, tables, limit - before) {
         *best = Held {
-            kind: kind.held(),
+            content: Content::Predicted(kind),
             found,
             bits: before + found.bits,
         };
@@ -283,17 +284,17 @@ fn begin(samples: &[i64], bits: u32) -> Held
     ensures best { (handed : List LinearPredictor) (most : ℕ) (codings : List ℕ) → IsBest handed most bits samples.now (fixed_below 0) (way_held result codings) }
     ensures none { result.found.halvings ≡ 0 }
 {
-    let found = Found::none();
+    let found = ResidualForm::none();
     let width = u64::from(bits);
     if all_equal(samples) {
         Held {
-            kind: HeldKind::AsConstant,
+            content: Content::Constant,
             found,
             bits: width,
         }
     } else {
         Held {
-            kind: HeldKind::AsVerbatim,
+            content: Content::Verbatim,
             found,
             bits: width * samples.len() as u64,
         }

@@ -13,11 +13,11 @@ ghost use Rattle.flac_subframe.specs.Subframe.{samples_of};
 ghost use Rattle.flac_subframe.specs.declared.limits.Limits.{Limits};
 
 use crate::choice::choose_in_places;
-use crate::halving::Found;
-use crate::held::{HeldKind, Sought};
+use crate::content::{Content, Sought};
 use crate::limits::Limits;
 use crate::linear::LinearPredictor;
 use crate::numbers::power;
+use crate::residual_form::ResidualForm;
 use crate::tables::filled;
 use crate::view::{ChosenView, CodedView, Task};
 use arrayvec::ArrayVec;
@@ -30,8 +30,8 @@ use arrayvec::ArrayVec;
 #[derive(Drop, Clone, Debug, PartialEq, Eq)]
 pub struct Choice {
     pub(crate) wasted: u32,
-    pub(crate) kind: HeldKind,
-    pub(crate) found: Found,
+    pub(crate) content: Content,
+    pub(crate) found: ResidualForm,
     pub(crate) codings: ArrayVec<u8, 256>,
     bits: u64,
 }
@@ -44,7 +44,7 @@ impl Choice {
         requires few { sought.held.found.halvings ≤ 8 }
         requires places { 2 ^ sought.held.found.halvings ≤ length codings.now }
         ensures wasted { result.wasted ≡ sought.wasted }
-        ensures kind { result.kind ≡ sought.held.kind }
+        ensures content { result.content ≡ sought.held.content }
         ensures codings { codings_of result.found result.codings.items ≡ codings_in sought.held.found codings.now }
         ensures bits { result.bits ≡ 8 + sought.wasted + sought.held.bits }
     {
@@ -53,7 +53,7 @@ impl Choice {
         let _ = copy.try_extend_from_slice(&codings[..power(found.halvings)]);
         Choice {
             wasted: sought.wasted,
-            kind: sought.held.kind,
+            content: sought.held.content,
             found,
             codings: copy,
             bits: sought.bits(),
@@ -70,14 +70,14 @@ impl Choice {
     /// The same with its codings lent.
     pub(crate) fn lent(&self) -> ChosenView<'_>
         ensures wasted { result.wasted ≡ self.now.wasted }
-        ensures kind { result.kind ≡ self.now.kind }
+        ensures content { result.content ≡ self.now.content }
         ensures codings { codings_lent result.residual ≡ codings_of self.now.found self.now.codings.items }
     {
         ChosenView {
             wasted: self.wasted,
-            kind: self.kind,
+            content: self.content,
             residual: CodedView {
-                parameter_bits: self.found.parameter_bits,
+                method: self.found.method,
                 halvings: self.found.halvings,
                 codings: self.codings.as_slice(),
             },

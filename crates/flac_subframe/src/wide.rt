@@ -15,11 +15,11 @@ ghost use Rattle.flac_subframe.specs.declared.limits.Limits.{Limits};
 ghost use Rattle.flac_subframe.specs.declared.linear.LinearPredictor.{LinearPredictor};
 
 use crate::choice::choose_in_places;
-use crate::halving::Found;
-use crate::held::HeldKind;
+use crate::content::Content;
 use crate::limits::Limits;
 use crate::linear::LinearPredictor;
 use crate::numbers::power;
+use crate::residual_form::ResidualForm;
 use crate::view::{ChosenView, CodedView, Task};
 use crate::workspace::Workspace;
 use crate::writing::write_chosen;
@@ -33,8 +33,8 @@ use std::alloc::Global;
 #[derive(Drop)]
 pub struct WideChoice {
     pub(crate) wasted: u32,
-    pub(crate) kind: HeldKind,
-    pub(crate) found: Found,
+    pub(crate) content: Content,
+    pub(crate) found: ResidualForm,
     pub(crate) codings: Vec<u8>,
     bits: u64,
 }
@@ -54,8 +54,8 @@ impl WideChoice {
         let codings = vec![in alloc; 0u8; power(limits.partition as u8)]?;
         Ok(WideChoice {
             wasted: 0,
-            kind: HeldKind::AsConstant,
-            found: Found::none(),
+            content: Content::Constant,
+            found: ResidualForm::none(),
             codings,
             bits: 9,
         })
@@ -97,7 +97,7 @@ impl WideChoice {
         codings.copy_from_slice(used);
         Ok(WideChoice {
             wasted: self.wasted,
-            kind: self.kind,
+            content: self.content,
             found: self.found,
             codings,
             bits: self.bits,
@@ -109,14 +109,14 @@ impl WideChoice {
         requires few { self.now.found.halvings ≤ 15 }
         requires places { 2 ^ self.now.found.halvings ≤ vec_len self.now.codings }
         ensures wasted { result.wasted ≡ self.now.wasted }
-        ensures kind { result.kind ≡ self.now.kind }
+        ensures content { result.content ≡ self.now.content }
         ensures codings { codings_lent result.residual ≡ codings_kept self.now }
     {
         ChosenView {
             wasted: self.wasted,
-            kind: self.kind,
+            content: self.content,
             residual: CodedView {
-                parameter_bits: self.found.parameter_bits,
+                method: self.found.method,
                 halvings: self.found.halvings,
                 codings: &self.codings[..power(self.found.halvings)],
             },
@@ -173,7 +173,7 @@ pub fn choose_in(
         &mut choice.codings,
     );
     choice.wasted = sought.wasted;
-    choice.kind = sought.held.kind;
+    choice.content = sought.held.content;
     choice.found = sought.held.found;
     choice.bits = sought.bits();
 }

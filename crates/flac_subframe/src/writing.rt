@@ -5,9 +5,9 @@ ghost use Rattle.flac_bits.specs.Rice.{IsResidual};
 ghost use Rattle.flac_bits.specs.Signed.{signed, FitsBits};
 ghost use Rattle.flac_bits.specs.Written.{Writes};
 ghost use Rattle.flac_subframe.specs.Bodies.{cut, residual_of, content_of, Predicts, fixed, order_of, coefficients_of, shift_of, differences, StandsFor};
-ghost use Rattle.flac_subframe.specs.Chosen.{body_under, body_held, IsHeld, offered};
+ghost use Rattle.flac_subframe.specs.Chosen.{body_under, body_as, HasPredictor, offered};
 ghost use Rattle.flac_subframe.specs.Family.{form_as, form_of, form_with, IsMadeAs, IsMadeOf, IsMadeWith};
-ghost use Rattle.flac_subframe.specs.inner.Family.{OrderIsFew, kind_number};
+ghost use Rattle.flac_subframe.specs.inner.Family.{type_number};
 ghost use Rattle.flac_subframe.specs.Handed.{predictor_of, handed};
 ghost use Rattle.flac_subframe.specs.Cost.{MayCode, MayCodeEach, MayWrite, coding_of};
 ghost use Rattle.flac_subframe.specs.inner.Cost.{codings_lent};
@@ -15,8 +15,8 @@ ghost use Rattle.flac_subframe.specs.Spelling.{value_spelling, coding_spelling, 
 
 use crate::chosen::{Choice, MOST_SAMPLES};
 use crate::coding::Coding;
+use crate::content::{Content, PredictorKind};
 use crate::folding::fold;
-use crate::held::HeldKind;
 use crate::leaving::{take_fixed, take_linear};
 use crate::linear::LinearPredictor;
 use crate::numbers::power;
@@ -129,7 +129,7 @@ fn write_residual<W: Target>(
     ensures { Writes (residual_spelling (residual_of order values.now (codings_lent coded.now))) writer.old writer.new result }
 {
     let size = (values.len() + order) / power(coded.halvings);
-    let parameter_bits = coded.parameter_bits as u32;
+    let parameter_bits = coded.method.parameter_bits();
     let field = (parameter_bits as u64 - 4) * 16 + coded.halvings as u64;
     writer.put(6, field)?;
     write_partitions(
@@ -250,19 +250,23 @@ fn write_content<W: Target>(
     requires depth { (1 ≤ depth) × (depth ≤ 33) }
     requires fits { All (FitsBits 33) samples.now }
     requires places { length samples.now ≤ length values.old }
-    requires handed { IsHeld predictors.now chosen.now.kind }
-    requires stands { StandsFor 15 (offered predictors.now) (body_held predictors.now chosen.now.kind (codings_lent chosen.now.residual) samples.now) samples.now }
-    ensures { Writes (content_spelling depth (content_of (body_held predictors.now chosen.now.kind (codings_lent chosen.now.residual) samples.now))) writer.old writer.new result }
+    requires handed { HasPredictor predictors.now chosen.now.content }
+    requires stands { StandsFor 15 (offered predictors.now) (body_as predictors.now chosen.now.content (codings_lent chosen.now.residual) samples.now) samples.now }
+    ensures { Writes (content_spelling depth (content_of (body_as predictors.now chosen.now.content (codings_lent chosen.now.residual) samples.now))) writer.old writer.new result }
 {
     let residual = &chosen.residual;
-    match chosen.kind {
-        HeldKind::AsConstant => writer.put_signed(depth, samples[0]),
-        HeldKind::AsVerbatim => write_signed(writer, depth, samples),
-        HeldKind::AsFixed(order) => write_fixed(writer, order, residual, depth, samples, values),
-        HeldKind::AsLinear(index) => {
-            let predictor = &predictors[index];
-            write_linear(writer, predictor, residual, depth, samples, values)
-        }
+    match chosen.content {
+        Content::Constant => writer.put_signed(depth, samples[0]),
+        Content::Verbatim => write_signed(writer, depth, samples),
+        Content::Predicted(kind) => match kind {
+            PredictorKind::Fixed(order) => {
+                write_fixed(writer, order, residual, depth, samples, values)
+            }
+            PredictorKind::Linear(index) => {
+                let predictor = &predictors[index];
+                write_linear(writer, predictor, residual, depth, samples, values)
+            }
+        },
     }
 }
 
@@ -280,19 +284,20 @@ fn write_header<W: Target>(writer: &mut BitWriter<W>, kind: u64, wasted: u32) ->
 }
 
 /// The type of a subframe (RFC 9639, section 9.2.1).
-fn type_of_kind(kind: HeldKind, predictors: &[LinearPredictor]) -> u64
-    requires order { OrderIsFew kind }
-    requires handed { IsHeld predictors.now kind }
-    ensures { result ≡ kind_number predictors.now kind }
+fn type_of_content(content: Content, predictors: &[LinearPredictor]) -> u64
+    requires handed { HasPredictor predictors.now content }
+    ensures { result ≡ type_number predictors.now content }
 {
-    match kind {
-        HeldKind::AsConstant => 0,
-        HeldKind::AsVerbatim => 1,
-        HeldKind::AsFixed(order) => 8 + order as u64,
-        HeldKind::AsLinear(index) => {
-            let predictor = &predictors[index];
-            31 + predictor.order() as u64
-        }
+    match content {
+        Content::Constant => 0,
+        Content::Verbatim => 1,
+        Content::Predicted(kind) => match kind {
+            PredictorKind::Fixed(order) => 8 + order as u64,
+            PredictorKind::Linear(index) => {
+                let predictor = &predictors[index];
+                31 + predictor.order() as u64
+            }
+        },
     }
 }
 
@@ -311,12 +316,12 @@ pub(crate) fn write_chosen<W: Target>(
     requires depth { (1 ≤ depth) × (depth ≤ 33) }
     requires fits { All (FitsBits depth) samples.now }
     requires places { 2 * length samples.now ≤ length places.old }
-    requires made { IsMadeAs 15 predictors.now chosen.now.wasted chosen.now.kind (codings_lent chosen.now.residual) samples.now }
-    ensures { Writes (subframe_spelling depth (form_as predictors.now chosen.now.wasted chosen.now.kind (codings_lent chosen.now.residual) samples.now)) writer.old writer.new result }
+    requires made { IsMadeAs 15 predictors.now chosen.now.wasted chosen.now.content (codings_lent chosen.now.residual) samples.now }
+    ensures { Writes (subframe_spelling depth (form_as predictors.now chosen.now.wasted chosen.now.content (codings_lent chosen.now.residual) samples.now)) writer.old writer.new result }
 {
     let (shortened, values) = places.split_at_mut(samples.len());
     let wasted = drop_wasted(samples, depth, shortened);
-    write_header(writer, type_of_kind(chosen.kind, predictors), wasted)?;
+    write_header(writer, type_of_content(chosen.content, predictors), wasted)?;
     write_content(
         writer,
         chosen,

@@ -5,7 +5,7 @@ use Rattle.flac_subframe.specs.declared.coding.Coding.{Coding}
 use Rattle.flac_subframe.specs.declared.coding.Coding.TheVariants.{Rice, Escape}
 use Rattle.flac_subframe.specs.declared.view.CodedView.{CodedView}
 use Rattle.flac_subframe.specs.Spelling.{folded}
-use Rattle.flac_subframe.specs.Cost.{MayCodeEach, Codings, MayWrite, coding_of}
+use Rattle.flac_subframe.specs.Cost.{MayCodeEach, Codings, MayWrite, coding_of, parameter_bits_of}
 
 -- a folded number under a Rice parameter: its quotient in zeros, a one, and k bits
 abbrev pub folded_cost : ℕ → ℕ → ℕ
@@ -38,7 +38,7 @@ HasByte (Escape n) = n < 32
 
 -- the same of bytes that are lent
 abbrev pub codings_lent : CodedView → Codings
-codings_lent c = record { parameter_bits = c.parameter_bits; halvings = c.halvings; codings = map coding_of c.codings.now }
+codings_lent c = record { parameter_bits = parameter_bits_of c.method; halvings = c.halvings; codings = map coding_of c.codings.now }
 
 -- the forms of one method and partition order, and of one method
 abbrev pub HalvedTo : ℕ → ℕ → ℕ → ℕ → List ℤ → Codings → Type 0

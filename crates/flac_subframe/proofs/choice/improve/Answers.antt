@@ -1,7 +1,8 @@
 use Rattle.std.proofs.Common.{arith, ◌≡◌, ◌+◌, ◌-◌, ◌*◌, refl, ℕ, length}
 use Rattle.flac_subframe.specs.Bodies.{Chooses, coefficients_of, order_of, fields_cost}
-use Rattle.flac_subframe.specs.inner.Chosen.{predictor_named, way_held}
-use Rattle.flac_subframe.proofs.Searching.{residual_taken, too_long, out_of_range, too_dear, no_better, better, named_body, named_held}
+use Rattle.flac_subframe.specs.Chosen.{predictor_named}
+use Rattle.flac_subframe.specs.inner.Chosen.{way_held}
+use Rattle.flac_subframe.proofs.Searching.{residual_taken, too_long, out_of_range, too_dear, no_better, better}
 use Rattle.flac_subframe.proofs.choice.improve.Goals as goal
 
 before_is : (p : Chooses) (d order from field : ℕ) → order ≡ length (coefficients_of p) → from ≡ d → field ≡ fields_cost p → from * order + field ≡ d * order_of p + fields_cost p
@@ -44,7 +45,7 @@ returns-in-Some-clause-best c = λ tried so.
     let bits = rw is at new.bits in
     better hs view.most view.bits view.samples.now tried p order.result (c.from.result * order.result + c.field_bits.result) order.ensures.value before
     (way_held c.args.best.now c.args.tables.now.codings.now) so _ c.in-Some.found.bits _ (omega arith) left.range least bits new.small refl (omega (arith, new.less, c.limit-limit.ensures.1))
-    (rw c.held.ensures (named_held hs c.args.kind c.requires.named)) (rw c.held.ensures (named_body hs c.args.kind _ view.samples.now))
+    c.requires.named refl
 
 pub returns-in_default-clause-best : goal.returns-in_default-clause-best
 returns-in_default-clause-best c = λ tried so.

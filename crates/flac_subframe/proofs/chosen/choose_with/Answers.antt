@@ -36,7 +36,7 @@ returns-clause-least c =
     let so = found.ensures in
     let new = c.gathered.ensures in
     let way : Way = way_held found.result.held found.new.codings in
-    rw (new.wasted, new.kind, new.codings) (way_least c.args.limits.now.partition c.args.depth found.result.wasted c.args.predictors.now c.args.samples.now way so.wasted so.some so.times so.best)
+    rw (new.wasted, new.content, new.codings) (way_least c.args.limits.now.partition c.args.depth found.result.wasted c.args.predictors.now c.args.samples.now way so.wasted so.some so.times so.best)
 
 pub returns-clause-bits : goal.returns-clause-bits
 returns-clause-bits c =
@@ -44,7 +44,7 @@ returns-clause-bits c =
     let so = found.ensures in
     let new = c.gathered.ensures in
     let way : Way = way_held found.result.held found.new.codings in
-    rw (new.wasted, new.kind, new.codings, new.bits) (way_bits c.args.limits.now.partition c.args.depth found.result.wasted c.args.predictors.now c.args.samples.now way so.wasted so.some so.times so.best)
+    rw (new.wasted, new.content, new.codings, new.bits) (way_bits c.args.limits.now.partition c.args.depth found.result.wasted c.args.predictors.now c.args.samples.now way so.wasted so.some so.times so.best)
 
 pub returns-clause-made : goal.returns-clause-made
 returns-clause-made c =
@@ -52,7 +52,7 @@ returns-clause-made c =
     let so = found.ensures in
     let new = c.gathered.ensures in
     let way : Way = way_held found.result.held found.new.codings in
-    rw (new.wasted, new.kind, new.codings) (way_made c.args.limits.now.partition c.args.depth found.result.wasted c.args.predictors.now c.args.samples.now way so.wasted so.some so.times so.best 8 c.requires.partition)
+    rw (new.wasted, new.content, new.codings) (way_made c.args.limits.now.partition c.args.depth found.result.wasted c.args.predictors.now c.args.samples.now way so.wasted so.some so.times so.best 8 c.requires.partition)
 
 pub returns-clause-valid : goal.returns-clause-valid
 returns-clause-valid c =
@@ -61,7 +61,7 @@ returns-clause-valid c =
     let new = c.gathered.ensures in
     let way : Way = way_held found.result.held found.new.codings in
     let few : c.args.limits.now.partition ≤ 15 = omega (arith, c.requires.partition) in
-    rw (new.wasted, new.kind, new.codings) (way_valid c.args.limits.now.partition c.args.depth found.result.wasted c.args.predictors.now c.args.samples.now way so.wasted so.some so.times so.best few c.requires.some c.requires.fits)
+    rw (new.wasted, new.content, new.codings) (way_valid c.args.limits.now.partition c.args.depth found.result.wasted c.args.predictors.now c.args.samples.now way so.wasted so.some so.times so.best few c.requires.some c.requires.fits)
 
 pub returns-clause-restored : goal.returns-clause-restored
 returns-clause-restored c =
@@ -69,4 +69,4 @@ returns-clause-restored c =
     let so = found.ensures in
     let new = c.gathered.ensures in
     let way : Way = way_held found.result.held found.new.codings in
-    rw (new.wasted, new.kind, new.codings) (way_restored c.args.limits.now.partition c.args.depth found.result.wasted c.args.predictors.now c.args.samples.now way so.wasted so.some so.times so.best c.requires.fits)
+    rw (new.wasted, new.content, new.codings) (way_restored c.args.limits.now.partition c.args.depth found.result.wasted c.args.predictors.now c.args.samples.now way so.wasted so.some so.times so.best c.requires.fits)

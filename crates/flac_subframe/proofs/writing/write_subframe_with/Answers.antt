@@ -10,9 +10,9 @@ pub write_chosen-requires-clause-made : goal.write_chosen-requires-clause-made
 write_chosen-requires-clause-made g c =
     let lent = c.lent.ensures in
     let choice = c.args.choice.now in
-    rw (lent.wasted, lent.kind, lent.codings) (made_of_fewer 8 15 c.args.predictors.now choice.wasted choice.kind (codings_of choice.found choice.codings.items) c.args.samples.now (omega arith) c.requires.made)
+    rw (lent.wasted, lent.content, lent.codings) (made_of_fewer 8 15 c.args.predictors.now choice.wasted choice.content (codings_of choice.found choice.codings.items) c.args.samples.now (omega arith) c.requires.made)
 
 pub returns : goal.returns
 returns g c =
     let lent = c.lent.ensures in
-    rw (lent.wasted, lent.kind, lent.codings) at c.write_chosen.ensures
+    rw (lent.wasted, lent.content, lent.codings) at c.write_chosen.ensures

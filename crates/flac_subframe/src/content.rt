@@ -1,44 +1,30 @@
-//! The best content so far.
+//! How the samples of a subframe are written.
 
-use crate::halving::Found;
+use crate::residual_form::ResidualForm;
 
-/// How the samples of a subframe are written, but for the codings of a residual. A linear predictor is named by its
-/// place in the list that was handed in.
+/// How the samples of a subframe are written, but for the codings of a residual.
 #[derive(Clone, Copy, Debug, PartialEq, Eq)]
-pub enum HeldKind {
-    AsConstant,
-    AsVerbatim,
-    AsFixed(usize),
-    AsLinear(usize),
+pub enum Content {
+    /// The first sample, which stands for all (RFC 9639, section 9.2.3).
+    Constant,
+    /// Each sample (section 9.2.4).
+    Verbatim,
+    /// What a predictor leaves (sections 9.2.5 and 9.2.6).
+    Predicted(PredictorKind),
 }
 
 /// A predictor: a fixed one by its order, or a linear one by its place in the list that was handed in.
-#[derive(Clone, Copy)]
-pub(crate) enum PredictorKind {
+#[derive(Clone, Copy, Debug, PartialEq, Eq)]
+pub enum PredictorKind {
     Fixed(usize),
     Linear(usize),
-}
-
-impl PredictorKind {
-    ghost use Rattle.std.specs.Prelude.{◌≡◌};
-    ghost use Rattle.flac_subframe.specs.inner.Chosen.{kind_held};
-
-    /// The content that is written by it.
-    pub(crate) fn held(self) -> HeldKind
-        ensures { result ≡ kind_held self }
-    {
-        match self {
-            PredictorKind::Fixed(order) => HeldKind::AsFixed(order),
-            PredictorKind::Linear(index) => HeldKind::AsLinear(index),
-        }
-    }
 }
 
 /// The best so far. The codings of its residual stay in their array and are overwritten only by better ones.
 #[derive(Clone, Copy)]
 pub struct Held {
-    pub kind: HeldKind,
-    pub found: Found,
+    pub content: Content,
+    pub found: ResidualForm,
     pub bits: u64,
 }
 

@@ -2,25 +2,27 @@
 
 ghost use Rattle.std.specs.Prelude.{◌≡◌};
 
+use crate::coding_method::CodingMethod;
+
 /// The form of a residual without its codings, and how many bits it takes.
 #[derive(Clone, Copy, Debug, PartialEq, Eq)]
-pub struct Found {
-    /// Bits of a Rice parameter: 4 or 5, as the coding method says (RFC 9639, section 9.2.7).
-    pub parameter_bits: u8,
+pub struct ResidualForm {
+    /// The coding method (RFC 9639, section 9.2.7).
+    pub method: CodingMethod,
     /// The partition order, at most 15.
     pub halvings: u8,
     /// Bits of the residual.
     pub bits: u64,
 }
 
-impl Found {
+impl ResidualForm {
     /// That of no residual.
-    pub(crate) fn none() -> Found
+    pub(crate) fn none() -> ResidualForm
         ensures halvings { result.halvings ≡ 0 }
         ensures bits { result.bits ≡ 0 }
     {
-        Found {
-            parameter_bits: 4,
+        ResidualForm {
+            method: CodingMethod::FourBits,
             halvings: 0,
             bits: 0,
         }
