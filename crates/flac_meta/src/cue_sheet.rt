@@ -14,7 +14,7 @@ use crate::fields::{Field, capped, flag, read_zeros, too_short};
 use crate::lists::Items;
 use crate::put::{put_fields, put_zeros};
 use flac_bits::{BitReader, BitWriter, Source, Target, Why, read_bytes};
-use std::alloc::Global;
+use std::alloc::{AllocError, Global};
 
 /// An index point of a track (RFC 9639, section 8.7.1.1).
 #[derive(Clone, Copy, Debug, PartialEq, Eq)]
@@ -27,6 +27,14 @@ pub struct CueIndex {
 
 /// The index points of a track.
 pub type CueIndices = Items<CueIndex>;
+
+impl Clone for CueIndices {
+    ghost is_clone = { λ a b. b ≡ a };
+
+    fn clone(&self) -> Result<CueIndices, AllocError> {
+        self.copied()
+    }
+}
 
 /// A track of a cue sheet (RFC 9639, section 8.7.1).
 #[derive(Clone, Debug, PartialEq, Eq, Drop)]
@@ -47,6 +55,14 @@ pub struct CueTrack {
 
 /// The tracks of a cue sheet.
 pub type CueTracks = Items<CueTrack>;
+
+impl Clone for CueTracks {
+    ghost is_clone = { λ a b. b ≡ a };
+
+    fn clone(&self) -> Result<CueTracks, AllocError> {
+        self.copied()
+    }
+}
 
 /// A cue sheet (RFC 9639, section 8.7).
 #[derive(Clone, Debug, PartialEq, Eq, Drop)]

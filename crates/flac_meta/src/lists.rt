@@ -1,6 +1,6 @@
 //! Lists: vectors of bytes, texts, index points, tracks and seek points.
 
-ghost use Rattle.std.specs.Prelude.{◌≡◌, ◌<◌, ◌^◌, ◌++◌, ◌∷◌, [], List, length, nat_eq, OnOk, OnErr};
+ghost use Rattle.std.specs.Prelude.{◌≡◌, ◌<◌, ◌^◌, ◌++◌, ◌∷◌, [], List, length, nat_eq, IfOk, OnOk, OnErr};
 ghost use Rattle.std.specs.Cmp.Lexicographic.{pointwise, lists_equiv, lists_per};
 ghost use Rattle.std.specs.Iterator.Runs.{EveryRun, ItemsMapTo};
 ghost use Rattle.std.specs.List.{AllZip};
@@ -10,7 +10,7 @@ use std::alloc::AllocError;
 use std::marker::Model;
 use std::slice;
 
-/// A vector, which contracts see as the list of its items.
+/// A list of items: a vector, which contracts see as a list.
 #[derive(Debug, Drop)]
 pub struct Items<T> {
     items: Vec<T>,
@@ -20,16 +20,6 @@ impl<T> Model for Items<T> {
     ghost Value = { List T };
 
     ghost view = { λ i. i.items.items };
-}
-
-impl<T: Clone> Clone for Items<T> {
-    ghost is_clone = { AllZip T.is_clone };
-
-    fn clone(&self) -> Result<Items<T>, AllocError> {
-        Ok(Items {
-            items: self.items.clone()?,
-        })
-    }
 }
 
 impl<T: PartialEq> PartialEq for Items<T> {
@@ -59,8 +49,20 @@ impl<'a, T> IntoIterator for &'a Items<T> {
     }
 }
 
+impl<T: Clone> Items<T> {
+    /// Copies the items. `Clone` is written for each type of list, since its contract says that the copy equals the list,
+    /// and not of each item what the item's own `clone` says.
+    pub(crate) fn copied(&self) -> Result<Items<T>, AllocError>
+        ensures { IfOk result (AllZip T.is_clone self.now) }
+    {
+        Ok(Items {
+            items: self.items.clone()?,
+        })
+    }
+}
+
 impl<T: Drop> Items<T> {
-    /// Adds one after the others. After an error they are as before.
+    /// Adds an item after the others. After an error the list is as before.
     pub(crate) fn push(&mut self, item: T) -> Result<(), AllocError>
         ensures pushed { OnOk result (self.new ≡ self.old ++ item ∷ []) }
         ensures kept { OnErr result (self.new ≡ self.old) }
@@ -71,14 +73,14 @@ impl<T: Drop> Items<T> {
 }
 
 impl<T> Items<T> {
-    /// Makes them of a vector.
+    /// Makes a list of these items.
     pub fn from_vec(items: Vec<T>) -> Items<T>
         ensures { result ≡ items.items }
     {
         Items { items }
     }
 
-    /// Returns them as a vector.
+    /// Returns the items as a vector.
     pub fn into_vec(self) -> Vec<T>
         ensures { result.items ≡ self }
     {
@@ -93,14 +95,14 @@ impl<T> Items<T> {
         self.items.as_slice()
     }
 
-    /// How many there are.
+    /// How many items there are.
     pub fn len(&self) -> usize
         ensures { result ≡ length self.now }
     {
         self.items.len()
     }
 
-    /// Whether there is none.
+    /// Whether there is no item.
     pub fn is_empty(&self) -> bool
         ensures { result ≡ nat_eq (length self.now) 0 }
     {
@@ -118,5 +120,21 @@ impl<T> Items<T> {
 /// A vector of bytes.
 pub type Bytes = Items<u8>;
 
+impl Clone for Bytes {
+    ghost is_clone = { λ a b. b ≡ a };
+
+    fn clone(&self) -> Result<Bytes, AllocError> {
+        self.copied()
+    }
+}
+
 /// A vector of texts, each of bytes that need not be UTF-8.
 pub type Texts = Items<Bytes>;
+
+impl Clone for Texts {
+    ghost is_clone = { λ a b. b ≡ a };
+
+    fn clone(&self) -> Result<Texts, AllocError> {
+        self.copied()
+    }
+}

@@ -8,7 +8,7 @@ ghost use Rattle.flac_meta.specs.Spelling.{each_spelled, point_spelling};
 
 use crate::lists::Items;
 use flac_bits::{BitReader, BitWriter, Source, Target, Why};
-use std::alloc::Global;
+use std::alloc::{AllocError, Global};
 
 /// A frame to which a player can jump (RFC 9639, section 8.5.1).
 #[derive(Clone, Copy, Debug, PartialEq, Eq)]
@@ -31,9 +31,17 @@ impl SeekPoint {
     }
 }
 
-/// A seek table (RFC 9639, section 8.5), of any points. If it is to be written, sample numbers rise strictly, and placeholders come
-/// last.
+/// A seek table (RFC 9639, section 8.5). That its sample numbers rise strictly, with placeholders last, is checked when
+/// it is written.
 pub type SeekTable = Items<SeekPoint>;
+
+impl Clone for SeekTable {
+    ghost is_clone = { λ a b. b ≡ a };
+
+    fn clone(&self) -> Result<SeekTable, AllocError> {
+        self.copied()
+    }
+}
 
 impl SeekTable {
     /// The points.
@@ -43,8 +51,8 @@ impl SeekTable {
         self.as_slice()
     }
 
-    /// The last point whose frame begins at or before a sample: where to begin a search for it. `None` if there is no such
-    /// point. Placeholders name no frame (RFC 9639, section 8.5.1).
+    /// The last point whose frame begins at or before a sample: where to begin a search for it. `None` if there is no
+    /// such point. Placeholders name no frame (RFC 9639, section 8.5.1).
     ///
     /// ```
     /// let offset = match table.before(sample) {
