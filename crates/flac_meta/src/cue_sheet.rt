@@ -1,8 +1,6 @@
 //! Cue sheets (RFC 9639, section 8.7).
 
 ghost use Rattle.std.specs.Prelude.{◌≡◌, ◌+◌, ◌≤◌, min, false, OnOk, IfOk, ◌*◌, ◌<◌, ◌^◌, length, ◌∷◌, [], not};
-ghost use Rattle.std.specs.Cmp.{partial_equiv_from_equiv};
-ghost use Rattle.std.specs.Cmp.Lexicographic.{pointwise, lists_equiv};
 ghost use Rattle.flac_meta.specs.Spelling.{tracks_length, zero_bits, each_spelled, index_spelling, track_spelling, sheet_spelling};
 ghost use Rattle.flac_meta.specs.Listed.{overflows, is_bad_sheet};
 ghost use Rattle.flac_bits.specs.Lists.{list_of};
@@ -13,10 +11,10 @@ ghost use Rattle.flac_bits.specs.Forms.{joined};
 ghost use Rattle.flac_bits.specs.Written.{Writes};
 
 use crate::fields::{Field, capped, flag, read_zeros, too_short};
+use crate::lists::Items;
 use crate::put::{put_fields, put_zeros};
 use flac_bits::{BitReader, BitWriter, Source, Target, Why, read_bytes};
 use std::alloc::{AllocError, Global};
-use std::marker::Model;
 
 /// An index point of a track (RFC 9639, section 8.7.1.1).
 #[derive(Clone, Copy, Debug, PartialEq, Eq)]
@@ -28,69 +26,13 @@ pub struct CueIndex {
 }
 
 /// The index points of a track.
-#[derive(Debug, Drop)]
-pub struct CueIndices {
-    items: Vec<CueIndex>,
-}
-
-impl Model for CueIndices {
-    ghost use Rattle.std.specs.Prelude.{List};
-    ghost use Rattle.flac_meta.specs.declared.cue_sheet.CueIndex.{CueIndex};
-
-    ghost Value = { List CueIndex };
-
-    ghost view = { λ t. t.items.items };
-}
+pub type CueIndices = Items<CueIndex>;
 
 impl Clone for CueIndices {
     ghost is_clone = { λ a b. b ≡ a };
 
     fn clone(&self) -> Result<CueIndices, AllocError> {
-        Ok(CueIndices {
-            items: self.items.clone()?,
-        })
-    }
-}
-
-impl PartialEq for CueIndices {
-    ghost use Rattle.flac_meta.specs.contracts.cue_sheet.CueIndexPartialEq.TheImpl as item;
-    ghost use Rattle.flac_meta.specs.contracts.cue_sheet.CueIndexEq.TheImpl.Laws.{laws-law};
-
-    ghost eq = { pointwise (item.ghosts).eq };
-
-    ghost laws = { partial_equiv_from_equiv (lists_equiv laws-law) };
-
-    fn eq(&self, other: &CueIndices) -> bool {
-        self.items == other.items
-    }
-}
-
-impl Eq for CueIndices {
-    ghost use Rattle.flac_meta.specs.contracts.cue_sheet.CueIndexEq.TheImpl.Laws.{laws-law};
-
-    ghost laws = { lists_equiv laws-law };
-}
-
-impl CueIndices {
-    /// Makes index points of a vector.
-    pub fn from_vec(items: Vec<CueIndex>) -> CueIndices
-        ensures { result ≡ items.items }
-    {
-        CueIndices { items }
-    }
-
-    /// Returns the index points as a vector.
-    pub fn into_vec(self) -> Vec<CueIndex>
-        ensures { result.items ≡ self }
-    {
-        self.items
-    }
-
-    /// The index points.
-    pub fn as_slice(&self) -> &[CueIndex]
-        ensures { result.now ≡ self.now }
-    {
-        self.items.as_slice()
+        self.copied()
     }
 }
 
@@ -112,69 +54,13 @@ pub struct CueTrack {
 }
 
 /// The tracks of a cue sheet.
-#[derive(Debug, Drop)]
-pub struct CueTracks {
-    tracks: Vec<CueTrack>,
-}
-
-impl Model for CueTracks {
-    ghost use Rattle.std.specs.Prelude.{List};
-    ghost use Rattle.flac_meta.specs.declared.cue_sheet.CueTrack.{CueTrack};
-
-    ghost Value = { List CueTrack };
-
-    ghost view = { λ t. t.tracks.items };
-}
+pub type CueTracks = Items<CueTrack>;
 
 impl Clone for CueTracks {
     ghost is_clone = { λ a b. b ≡ a };
 
     fn clone(&self) -> Result<CueTracks, AllocError> {
-        Ok(CueTracks {
-            tracks: self.tracks.clone()?,
-        })
-    }
-}
-
-impl PartialEq for CueTracks {
-    ghost use Rattle.flac_meta.specs.contracts.cue_sheet.CueTrackPartialEq.TheImpl as item;
-    ghost use Rattle.flac_meta.specs.contracts.cue_sheet.CueTrackEq.TheImpl.Laws.{laws-law};
-
-    ghost eq = { pointwise (item.ghosts).eq };
-
-    ghost laws = { partial_equiv_from_equiv (lists_equiv laws-law) };
-
-    fn eq(&self, other: &CueTracks) -> bool {
-        self.tracks == other.tracks
-    }
-}
-
-impl Eq for CueTracks {
-    ghost use Rattle.flac_meta.specs.contracts.cue_sheet.CueTrackEq.TheImpl.Laws.{laws-law};
-
-    ghost laws = { lists_equiv laws-law };
-}
-
-impl CueTracks {
-    /// Makes tracks of a vector.
-    pub fn from_vec(tracks: Vec<CueTrack>) -> CueTracks
-        ensures { result ≡ tracks.items }
-    {
-        CueTracks { tracks }
-    }
-
-    /// Returns the tracks as a vector.
-    pub fn into_vec(self) -> Vec<CueTrack>
-        ensures { result.items ≡ self }
-    {
-        self.tracks
-    }
-
-    /// The tracks.
-    pub fn as_slice(&self) -> &[CueTrack]
-        ensures { result.now ≡ self.now }
-    {
-        self.tracks.as_slice()
+        self.copied()
     }
 }
 

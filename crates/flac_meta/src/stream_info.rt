@@ -137,8 +137,8 @@ impl StreamInfo {
         })
     }
 
-    /// The STREAMINFO of a format before the samples are known: all blocks have one size, and the sizes of the frames, the
-    /// number of samples and their MD5 are unknown. The ranges are those of [`StreamInfo::new`].
+    /// The STREAMINFO of a format before the samples are known: all blocks have one size, and the sizes of the frames,
+    /// the number of samples and their MD5 are unknown. The ranges are those of [`StreamInfo::new`].
     ///
     /// ```
     /// // blocks of 4096 samples, 44100 Hz, 2 channels, 16 bits
