@@ -381,25 +381,24 @@ fn search_within(
     search(subject, arrays, &mut tables)
 }
 
-/// The subframe of the fewest bits and how many it takes. The codings of its residual are put into the first of their places.
+/// The subframe of the fewest bits and how many it takes. The codings of its residual are the first of the bytes; the places behind those for
+/// the codings are for the widths of partitions.
 pub(crate) fn choose_in_places(
     task: &Task<'_>,
     longs: &mut [i64],
     shorts: &mut [i32],
     folds: &mut [u32],
     tables: &mut [u64],
-    widths: &mut [u8],
-    codings: &mut [u8],
+    bytes: &mut [u8],
 ) -> (SubframeForm, u64)
     requires longs { 2 * length task.now.samples.now ≤ length longs.old }
     requires shorts { 2 * length task.now.samples.now ≤ length shorts.old }
     requires folds { length task.now.samples.now ≤ length folds.old }
     requires tables { 5 * 2 ^ task.now.most ≤ length tables.old }
-    requires widths { 2 * 2 ^ task.now.most ≤ length widths.old }
-    requires codings { 2 ^ task.now.most ≤ length codings.old }
-    ensures least { IsLeast (λ f. Stands task.now.most (offered task.now.predictors.now) f task.now.samples.now) (λ f. length (subframe_spelling task.now.depth f)) (form_as task.now.predictors.now result.0 (take (2 ^ result.0.residual.halvings) codings.new) task.now.samples.now) }
-    ensures bits { result.1 ≡ length (subframe_spelling task.now.depth (form_as task.now.predictors.now result.0 (take (2 ^ result.0.residual.halvings) codings.new) task.now.samples.now)) }
-    ensures made { IsMadeAs task.now.most task.now.predictors.now result.0 (take (2 ^ result.0.residual.halvings) codings.new) task.now.samples.now }
+    requires bytes { 3 * 2 ^ task.now.most ≤ length bytes.old }
+    ensures least { IsLeast (λ f. Stands task.now.most (offered task.now.predictors.now) f task.now.samples.now) (λ f. length (subframe_spelling task.now.depth f)) (form_as task.now.predictors.now result.0 (take (2 ^ result.0.residual.halvings) bytes.new) task.now.samples.now) }
+    ensures bits { result.1 ≡ length (subframe_spelling task.now.depth (form_as task.now.predictors.now result.0 (take (2 ^ result.0.residual.halvings) bytes.new) task.now.samples.now)) }
+    ensures made { IsMadeAs task.now.most task.now.predictors.now result.0 (take (2 ^ result.0.residual.halvings) bytes.new) task.now.samples.now }
     ensures some { result.0.wasted < task.now.depth }
     ensures within { result.0.residual.halvings ≤ task.now.most }
     ensures small { result.1 ≤ 2 ^ 61 }
@@ -424,6 +423,7 @@ pub(crate) fn choose_in_places(
         values,
         folds,
     };
+    let (codings, widths) = bytes.split_at_mut(power(task.most));
     let best = search_within(&subject, &mut arrays, tables, widths, codings);
     let form = SubframeForm {
         wasted,

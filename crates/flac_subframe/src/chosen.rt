@@ -130,8 +130,7 @@ pub fn choose_with(
     let mut shorts: [i32; 2 * MOST_SAMPLES] = filled(0);
     let mut folds: [u32; MOST_SAMPLES] = filled(0);
     let mut tables = [0; 1280];
-    let mut widths = [0; 512];
-    let mut codings = [0; 256];
+    let mut bytes = [0; 768];
     let task = Task {
         samples,
         depth,
@@ -144,8 +143,7 @@ pub fn choose_with(
         &mut shorts,
         &mut folds,
         &mut tables,
-        &mut widths,
-        &mut codings,
+        &mut bytes,
     );
-    Choice::gathered(form, &codings, bits)
+    Choice::gathered(form, &bytes, bits)
 }

@@ -115,6 +115,15 @@ impl WideChoice {
     }
 }
 
+/// Copies the first bytes of an array to the first places.
+fn copy_first(bytes: &[u8], count: usize, places: &mut [u8])
+    requires some { count ≤ length bytes.now }
+    requires room { count ≤ length places.old }
+    ensures { take count places.new ≡ take count bytes.now }
+{
+    places[..count].copy_from_slice(&bytes[..count]);
+}
+
 /// Chooses the subframe of the fewest bits for samples of a depth of 1 to 33 bits, with partition orders up to that of the limits, at
 /// most 15, and puts it into the place of a choice (RFC 9639, section 9.2.7).
 ///
@@ -160,9 +169,10 @@ pub fn choose_in(
         &mut workspace.shorts,
         &mut workspace.folds,
         &mut workspace.tables,
-        &mut workspace.widths,
-        &mut choice.codings,
+        &mut workspace.bytes,
     );
+    let count = power(form.residual.halvings);
+    copy_first(&workspace.bytes, count, &mut choice.codings);
     choice.form = form;
     choice.bits = bits;
 }
