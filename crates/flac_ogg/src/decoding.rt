@@ -15,7 +15,7 @@ ghost use Rattle.flac_pages.specs.Packets.{ahead};
 ghost use Rattle.flac_ogg.specs.Coming.{ItemsCome, IsClear};
 ghost use Rattle.flac_bits.specs.Handing.{Hands, Decides, outcome_of};
 ghost use Rattle.flac_native.specs.Item.{told};
-ghost use Rattle.flac_ogg.specs.Decoding.{ogg_reading};
+ghost use Rattle.flac_ogg.specs.Decoding.{IsFront, ogg_reading};
 ghost use Rattle.flac_ogg.specs.Fronts.{front_bytes, front_count};
 ghost use Rattle.flac_ogg.specs.Either.{begins_page, read_either};
 
@@ -52,6 +52,8 @@ pub fn ogg_decoder<R: Source + Drop>(
     // What is still to come is what the input is.
     ensures stream { IfOk result (λ d. (items : List Piece) → OggStream profile (beginning (short_of ((R.behind source).fails))) items (bits_of (R.coming source)) → ItemsCome (start profile) (ahead (stage_of d).container.pages) items None) }
     ensures refused { IfOk result (λ d. (items : List Piece) (at : Where) (why : Reason) → OggRefused profile (beginning (short_of ((R.behind source).fails))) items (bits_of (R.coming source)) at why → ItemsCome (start profile) (ahead (stage_of d).container.pages) items (Some (at, why))) }
+    // No page was read.
+    ensures front { IfOk result (λ d. R.known source ≡ true → IsFront (beginning (short_of ((R.behind source).fails))) (bits_of (R.coming source)) (stage_of d).container.pages) }
     // Read is returned only if the source returns an error in the call, unless one is announced.
     ensures clear { IfOk result (λ d. (R.behind source).fails ≡ None → IsClear (stage_of d).container.pages (stage_of d).track) }
     ensures memory { IfErr result (λ f. f.why ≡ Why.Memory) }

@@ -39,7 +39,8 @@ pub use flac_native::{
 };
 pub use flac_pages::{PacketBytes, Pages};
 pub use laws::{
-    encoded_are_read, encoded_items, only_one_way, same_items, some_way, subset_is_lax,
+    calls_break_at_pages, encoded_are_read, encoded_items, only_one_way, same_items, some_way,
+    subset_is_lax,
 };
 pub use ogg_encoder::OggEncoder;
 pub use packets::OggPackets;
