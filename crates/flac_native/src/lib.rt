@@ -10,12 +10,14 @@
 //! | try linear predictors of one's own | [`LinearPredictor`] and [`Plan::with_predictors`] |
 //! | encode a block at a time | [`StreamEncoder`] |
 //! | encode one block as a frame | [`StreamFormat::encode_block`] |
+//! | encode the blocks of a stream for a container of one's own | [`BlockEncoder`] |
 //! | replace the comments | [`retag`] |
 //!
 //! It re-exports what its users need from the crates below: sources and targets, metadata blocks, frames, and errors. A
 //! program names this crate alone.
 #![tactic(auto)]
 
+mod block_encoder;
 mod chosen_frames;
 mod container;
 mod decoder;
@@ -31,10 +33,12 @@ mod plan;
 mod position;
 mod retagging;
 mod stream_encoder;
+mod stream_format;
 mod targets;
 mod track;
 
-pub use chosen_frames::{ChosenFrames, info_of};
+pub use block_encoder::BlockEncoder;
+pub use chosen_frames::ChosenFrames;
 pub use container::{Container, Part};
 pub use decoder::Decoder;
 pub use decoding::{Sink, SinkFault, decode, hand_out};
@@ -62,6 +66,7 @@ pub use laws::{
 pub use native::{MARKER, read_marker};
 pub use plan::{Plan, predictors_fault};
 pub use retagging::{RetagFault, retag};
-pub use stream_encoder::{StreamEncoder, StreamFormat, block_len};
+pub use stream_encoder::StreamEncoder;
+pub use stream_format::{StreamFormat, block_len};
 pub use targets::Room;
 pub use track::Track;

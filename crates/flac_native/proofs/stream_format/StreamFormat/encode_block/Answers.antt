@@ -5,7 +5,7 @@ use Rattle.flac_frame.specs.Frame.{limits_at}
 use Rattle.flac_native.specs.Pushing.{shape_of}
 use Rattle.flac_native.proofs.Predictors.{within}
 use Rattle.flac_native.proofs.Pushing.{fits_format}
-use Rattle.flac_native.proofs.stream_encoder.StreamFormat.encode_block.Goals as goal
+use Rattle.flac_native.proofs.stream_format.StreamFormat.encode_block.Goals as goal
 
 not_both : {X : Type 0} (o : Option X) (x : X) → o ≡ None → o ≡ Some x → ⊥
 not_both o x none some = absurd cc

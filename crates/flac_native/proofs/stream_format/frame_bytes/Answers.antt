@@ -8,7 +8,7 @@ use Rattle.flac_header.specs.Spelling.{restarted}
 use Rattle.flac_native.proofs.Heads.{Blank, head_collected}
 use Rattle.flac_native.proofs.Predictors.{partition_is}
 use Rattle.flac_native.proofs.Pushing.{frame_made, least_made}
-use Rattle.flac_native.proofs.stream_encoder.frame_bytes.Goals as goal
+use Rattle.flac_native.proofs.stream_format.frame_bytes.Goals as goal
 
 pub returns-in-Ok-clause-frame : goal.returns-in-Ok-clause-frame
 returns-in-Ok-clause-frame c =

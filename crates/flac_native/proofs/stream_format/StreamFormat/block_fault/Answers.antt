@@ -1,5 +1,5 @@
 use Rattle.flac_native.proofs.Pushing.{bad_channels, differ, large, faultless}
-use Rattle.flac_native.proofs.stream_encoder.StreamFormat.block_fault.Goals as goal
+use Rattle.flac_native.proofs.stream_format.StreamFormat.block_fault.Goals as goal
 
 pub returns-then-block-self : goal.returns-then-block-self
 returns-then-block-self c = bad_channels (λ b. b.now) c.args.block.now c.args.self.now.channels c.args.self.now.bits c.if-block-self.true
