@@ -27,9 +27,11 @@ mod format;
 mod item;
 mod laws;
 mod native;
+mod offsets;
 mod plan;
 mod position;
 mod retagging;
+mod sinks;
 mod stream_encoder;
 mod targets;
 mod track;
@@ -59,8 +61,10 @@ pub use laws::{
     retagged_are_read, some_way, streams_are_ordered, streams_are_whole, subset_is_lax,
 };
 pub use native::{MARKER, read_marker};
+pub use offsets::bytes_from;
 pub use plan::{Plan, predictors_fault};
 pub use retagging::{RetagFault, retag};
+pub use sinks::{Failures, SampleWriter};
 pub use stream_encoder::{StreamEncoder, StreamFormat, block_len};
 pub use targets::Room;
 pub use track::Track;
