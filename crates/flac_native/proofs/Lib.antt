@@ -5,6 +5,8 @@ pub mod Handed
 pub mod Received
 pub mod Bounds
 pub mod Messages
+pub mod SampleRows
+pub mod Sampled
 pub mod Advancing
 pub mod Deciding
 pub mod WholeBytes

@@ -1,5 +1,6 @@
 pub mod Within
 pub mod Message
+pub mod Samples
 pub mod Stream
 pub mod Track
 pub mod Item

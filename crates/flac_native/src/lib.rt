@@ -29,9 +29,11 @@ mod format;
 mod item;
 mod laws;
 mod native;
+mod offsets;
 mod plan;
 mod position;
 mod retagging;
+mod sinks;
 mod stream_encoder;
 mod stream_format;
 mod targets;
@@ -64,8 +66,10 @@ pub use laws::{
     subset_is_lax,
 };
 pub use native::{MARKER, read_marker};
+pub use offsets::bytes_from;
 pub use plan::{Plan, predictors_fault};
 pub use retagging::{RetagFault, retag};
+pub use sinks::{Failures, SampleWriter};
 pub use stream_encoder::StreamEncoder;
 pub use stream_format::{StreamFormat, block_len};
 pub use targets::Room;
