@@ -10,8 +10,10 @@ use Rattle.flac_native.specs.Stream.{Piece, marked, block, framed, Progress, gra
 use Rattle.flac_native.specs.Track.{IsAt, piece_of}
 use Rattle.flac_native.specs.Item.{Item, metadata, frame}
 use Rattle.flac_native.specs.Coming.{IsNext}
-use Rattle.flac_native.specs.Giving.{handed, before, items_of, PassesParts, IsBeforeItem, PassesItem, BreaksOff, found, Stage, MovesFrom}
+use Rattle.flac_native.specs.Giving.{handed, before, items_of, PassesParts, IsBeforeItem, PassesItem, BreaksOff, found, seen_by, Stage, Goes, MovesFrom, Moves}
 use Rattle.flac_native.specs.Calls.{Answers, GivesAll, CallsBreakBehind}
+use Rattle.flac_native.proofs.Giving.{moves_refused}
+use Rattle.flac_native.proofs.Handed.{no_fault}
 use Rattle.flac_native.specs.declared.track.Track.{Track}
 use Rattle.flac_native.specs.declared.fault.Place.{Place}
 use Rattle.flac_native.specs.declared.fault.Fault.{Fault}
@@ -136,6 +138,29 @@ same_refusal f g e = cc
 spent_inside : (why : Why) → why ≡ Spent → IsOutside why → ⊥
 spent_inside why e (inl read) = absurd cc
 spent_inside why e (inr memory) = absurd cc
+
+-- what a call did is told by its answer alone, whatever it hands out
+pub answers_seen : {C X : Type 0} (g : container.Ghosts C) (old new : Stage C) (view : X → Option Item) (result : Result X Fault) → Moves g old new view result → Answers g old (seen_by view result) new
+answers_seen {C} {X} g old new view (Err f) h = moves_refused g old new view (λ (o : Option Item). o) f h
+answers_seen {C} {X} g old new view (Ok x) h = go old.course h
+  where
+    goes : Goes g old new view (Ok x) → Goes g old new (λ (o : Option Item). o) (Ok (view x))
+    goes h = record {
+      gives = λ p at known same quiet room items end still. h.gives p at known same quiet (no_fault x) items end still;
+      counts = record { met = h.counts.met; kept = h.counts.kept; read = tt; risen = tt; sinkless = tt; behind = h.counts.behind; names = h.counts.names };
+      passes = h.passes;
+      broken = λ p at. tt;
+      memory = λ frames. tt;
+      going = h.going;
+      ends = h.ends;
+      refused = tt;
+    }
+
+    go : (k : Course) → MovesFrom g k old new view (Ok x) → MovesFrom g k old new (λ (o : Option Item). o) (Ok (view x))
+    go course.Begun h = goes h
+    go (course.Read part) h = goes h
+    go course.Over h = h
+    go (course.Spent at) h = h
 
 gave_item : {C : Type 0} (g : container.Ghosts C) (old new : Stage C) (x : Item) → Answers g old (Ok (Some x)) new → (p : Progress) → IsAt old.track p → PassesItem g p old.container new.container new.track x
 gave_item {C} g old new x h p at = go old.course h
