@@ -35,7 +35,7 @@ pub use flac_meta::{
 };
 pub use flac_native::{
     Decoder, EncodeFault, Fault, Item, LinearPredictor, Place, Plan, Profile, Sink, SinkFault,
-    decode,
+    StreamFormat, decode,
 };
 pub use flac_pages::{PacketBytes, Pages};
 pub use laws::{
