@@ -26,7 +26,7 @@ use Rattle.flac_native.specs.declared.track.Phase.TheVariants.{Opening, Blocks, 
 use Rattle.flac_native.proofs.Blocks.{block_there, marker_there}
 use Rattle.flac_native.proofs.OneHead.{heads}
 use Rattle.flac_native.proofs.Onwards.{Told, nothing_told, step_of, frame_there, same_info, without_totals_rules, after_profile}
-use Rattle.flac_c.specs.Cursors.{info_of, passed, IsFrameAt, HandsOver, StandsIn, GoesOn}
+use Rattle.flac_c.specs.Cursors.{info_from_c, passed, IsFrameAt, HandsOver, StandsIn, GoesOn}
 use Rattle.flac_c.specs.declared.cursor.FlacProvedCursor.{FlacProvedCursor}
 use Rattle.flac_c.proofs.FramesRead.{frame_whole, left_behind}
 
@@ -111,8 +111,8 @@ front_is bytes text left n split long = sym (take-append_seam text left) ∙ ap 
 -- The next frame is there.
 pub record NextIn (bytes : List ℕ) (c : FlacProvedCursor) (front more : List Piece) (f : Frame) : Type 0 where
   pub n : ℕ
-  pub rules : KeepsRules (info_of c.info)
-  pub at : IsFrameAt (info_of c.info) (drop c.offset bytes) f n
+  pub rules : KeepsRules (info_from_c c.info)
+  pub at : IsFrameAt (info_from_c c.info) (drop c.offset bytes) f n
   pub behind : StandsIn bytes (passed c f (c.offset + n)) (front ++ framed f ∷ []) more
 
 pub next_in : (bytes : List ℕ) (c : FlacProvedCursor) (front more : List Piece) (f : Frame) → StandsIn bytes c front (framed f ∷ more) → NextIn bytes c front more f
@@ -168,7 +168,7 @@ next_in bytes c front more f h =
 
 -- A call that hands over each frame that is there goes on in a stream.
 pub goes_on : (bytes : List ℕ) (old new : FlacProvedCursor) (out written : List ℤ) (len result : ℕ)
-    → (KeepsRules (info_of old.info) → (f : Frame) (n : ℕ) → IsFrameAt (info_of old.info) (drop old.offset bytes) f n → (result ≡ 2) ⊎ ((result ≡ 0) × HandsOver f (old.offset + n) old new out written len))
+    → (KeepsRules (info_from_c old.info) → (f : Frame) (n : ℕ) → IsFrameAt (info_from_c old.info) (drop old.offset bytes) f n → (result ≡ 2) ⊎ ((result ≡ 0) × HandsOver f (old.offset + n) old new out written len))
     → (front more : List Piece) (f : Frame) → StandsIn bytes old front (framed f ∷ more) → (result ≡ 2) ⊎ ((result ≡ 0) × GoesOn bytes old new out written len front more f)
 goes_on bytes old new out written len result frames front more f h =
     let x = next_in bytes old front more f h in

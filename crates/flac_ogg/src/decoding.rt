@@ -172,7 +172,7 @@ impl<S: Source> Source for Fronted<S> {
 
 /// Whether this byte begins a page, so that the stream is in Ogg (RFC 3533, section 6); false if there is none. For
 /// readers of either container.
-pub fn is_page(front: Option<u8>) -> bool
+pub fn begins_page(front: Option<u8>) -> bool
     ensures { result ≡ begins_page (front_bytes front) }
 {
     match front {
@@ -182,7 +182,7 @@ pub fn is_page(front: Option<u8>) -> bool
 }
 
 /// Pulls the first byte of a source, if there is one: `None` at its end. For readers of either container, which ask
-/// [`is_page`] about it, and put it in front of the source again by [`Fronted`].
+/// [`begins_page`] about it, and put it in front of the source again by [`Fronted`].
 ///
 /// # Errors
 /// [`Why::Read`] at the marker if the source returns an error.
@@ -275,7 +275,7 @@ pub fn decode_any<R: Source, S: Sink>(
 {
     let front = pull_front(source)?;
     let mut fronted = Fronted { front, source };
-    let outcome = decode_as(alloc, is_page(front), &mut fronted, profile, sink);
+    let outcome = decode_as(alloc, begins_page(front), &mut fronted, profile, sink);
     let _source = fronted.into_source();
     outcome
 }

@@ -25,7 +25,7 @@ mod ogg_encoder;
 mod packets;
 mod verifying;
 
-pub use decoding::{Fronted, decode_any, decode_ogg, is_page, ogg_decoder, pull_front};
+pub use decoding::{Fronted, begins_page, decode_any, decode_ogg, ogg_decoder, pull_front};
 pub use encoding::encode_ogg;
 pub use flac_bits::{Collected, Counted, Memory, Pieces, Source, Target, Why};
 pub use flac_frame::{Audio, FrameView, SetupFault};

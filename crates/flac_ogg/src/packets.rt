@@ -21,7 +21,7 @@ ghost use Rattle.flac_bits.specs.State.{the_end};
 ghost use Rattle.flac_ogg.specs.Coming.{ItemsCome, IsClear};
 
 use flac_bits::{BitReader, Source, Why};
-use flac_native::{Container, Fault, Part, Place, Track};
+use flac_native::{Container, Fault, MARKER, Part, Place, Track};
 use flac_pages::{PacketBytes, PacketFault, Pages, end_item, packet_bits};
 
 /// Reads what the first packet has before STREAMINFO: the byte 7F and `FLAC`, version 1.0, the number of header
@@ -34,7 +34,7 @@ pub(crate) fn read_mapping<R: Source>(bits: &mut BitReader<R>) -> Result<(), Why
     let version = bits.take(16)?;
     let _count = bits.take(16)?;
     let marker = bits.take(32)?;
-    if name != 0x7F464C4143 || version != 0x0100 || marker != 0x664C6143 {
+    if name != 0x7F464C4143 || version != 0x0100 || marker != MARKER {
         return Err(Why::BadMapping);
     }
     Ok(())
