@@ -11,7 +11,7 @@ ghost use Rattle.flac_bits.specs.Forms.{joined};
 ghost use Rattle.flac_bits.specs.Written.{Writes};
 
 use crate::fields::{Field, capped, flag, read_zeros, too_short};
-use crate::lists::Items;
+use crate::lists::Entries;
 use crate::put::{put_fields, put_zeros};
 use flac_bits::{BitReader, BitWriter, Source, Target, Why, read_bytes};
 use std::alloc::{AllocError, Global};
@@ -26,7 +26,7 @@ pub struct CueIndex {
 }
 
 /// The index points of a track.
-pub type CueIndices = Items<CueIndex>;
+pub type CueIndices = Entries<CueIndex>;
 
 impl Clone for CueIndices {
     ghost is_clone = { λ a b. b ≡ a };
@@ -54,7 +54,7 @@ pub struct CueTrack {
 }
 
 /// The tracks of a cue sheet.
-pub type CueTracks = Items<CueTrack>;
+pub type CueTracks = Entries<CueTrack>;
 
 impl Clone for CueTracks {
     ghost is_clone = { λ a b. b ≡ a };

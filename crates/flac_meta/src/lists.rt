@@ -10,33 +10,33 @@ use std::alloc::AllocError;
 use std::marker::Model;
 use std::slice;
 
-/// A list of items: a vector, which contracts see as a list.
+/// The entries of a list in a block: a vector, which contracts see as a list.
 #[derive(Debug, Drop)]
-pub struct Items<T> {
+pub struct Entries<T> {
     items: Vec<T>,
 }
 
-impl<T> Model for Items<T> {
+impl<T> Model for Entries<T> {
     ghost Value = { List T };
 
     ghost view = { λ i. i.items.items };
 }
 
-impl<T: PartialEq> PartialEq for Items<T> {
+impl<T: PartialEq> PartialEq for Entries<T> {
     ghost eq = { pointwise T.eq };
 
     ghost laws = { lists_per T.laws };
 
-    fn eq(&self, other: &Items<T>) -> bool {
+    fn eq(&self, other: &Entries<T>) -> bool {
         self.items == other.items
     }
 }
 
-impl<T: Eq> Eq for Items<T> {
+impl<T: Eq> Eq for Entries<T> {
     ghost laws = { lists_equiv T.Eq.laws };
 }
 
-impl<'a, T> IntoIterator for &'a Items<T> {
+impl<'a, T> IntoIterator for &'a Entries<T> {
     type Item = &'a T;
 
     type IntoIter = slice::Iter<'a, T>;
@@ -49,19 +49,19 @@ impl<'a, T> IntoIterator for &'a Items<T> {
     }
 }
 
-impl<T: Clone> Items<T> {
+impl<T: Clone> Entries<T> {
     /// Copies the items. `Clone` is written for each type of list, since its contract says that the copy equals the list,
     /// and not of each item what the item's own `clone` says.
-    pub(crate) fn copied(&self) -> Result<Items<T>, AllocError>
+    pub(crate) fn copied(&self) -> Result<Entries<T>, AllocError>
         ensures { IfOk result (AllZip T.is_clone self.now) }
     {
-        Ok(Items {
+        Ok(Entries {
             items: self.items.clone()?,
         })
     }
 }
 
-impl<T: Drop> Items<T> {
+impl<T: Drop> Entries<T> {
     /// Adds an item after the others. After an error the list is as before.
     pub(crate) fn push(&mut self, item: T) -> Result<(), AllocError>
         ensures pushed { OnOk result (self.new ≡ self.old ++ item ∷ []) }
@@ -72,19 +72,19 @@ impl<T: Drop> Items<T> {
     }
 }
 
-impl<T> Items<T> {
+impl<T> Entries<T> {
     /// Makes a list of these items.
-    pub fn from_vec(items: Vec<T>) -> Items<T>
+    pub fn from_vec(items: Vec<T>) -> Entries<T>
         ensures { result ≡ items.items }
     {
-        Items { items }
+        Entries { items }
     }
 
     /// Returns the items as a vector.
     pub fn into_vec(self) -> Vec<T>
         ensures { result.items ≡ self }
     {
-        let Items { items } = self;
+        let Entries { items } = self;
         items
     }
 
@@ -118,7 +118,7 @@ impl<T> Items<T> {
 }
 
 /// A vector of bytes.
-pub type Bytes = Items<u8>;
+pub type Bytes = Entries<u8>;
 
 impl Clone for Bytes {
     ghost is_clone = { λ a b. b ≡ a };
@@ -129,7 +129,7 @@ impl Clone for Bytes {
 }
 
 /// A vector of texts, each of bytes that need not be UTF-8.
-pub type Texts = Items<Bytes>;
+pub type Texts = Entries<Bytes>;
 
 impl Clone for Texts {
     ghost is_clone = { λ a b. b ≡ a };

@@ -6,7 +6,7 @@ ghost use Rattle.flac_meta.specs.SeekTable.{placeholder, follows, seek_point, se
 ghost use Rattle.flac_bits.specs.Written.{Writes};
 ghost use Rattle.flac_meta.specs.Spelling.{each_spelled, point_spelling};
 
-use crate::lists::Items;
+use crate::lists::Entries;
 use flac_bits::{BitReader, BitWriter, Source, Target, Why};
 use std::alloc::{AllocError, Global};
 
@@ -32,8 +32,8 @@ impl SeekPoint {
 }
 
 /// A seek table (RFC 9639, section 8.5). That its sample numbers rise strictly, with placeholders last, is checked when
-/// it is written.
-pub type SeekTable = Items<SeekPoint>;
+/// it is read and when it is written.
+pub type SeekTable = Entries<SeekPoint>;
 
 impl Clone for SeekTable {
     ghost is_clone = { λ a b. b ≡ a };

@@ -1,5 +1,5 @@
 use Rattle.std.proofs.Common.{rules}
-use Rattle.flac_meta.proofs.lists.Items.from_vec.Goals as goal
+use Rattle.flac_meta.proofs.lists.Entries.from_vec.Goals as goal
 
 pub returns : goal.returns
 returns g c = search rules

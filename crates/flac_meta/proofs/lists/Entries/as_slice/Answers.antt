@@ -1,5 +1,5 @@
 use Rattle.std.proofs.Common.{rules}
-use Rattle.flac_meta.proofs.lists.Items.len.Goals as goal
+use Rattle.flac_meta.proofs.lists.Entries.as_slice.Goals as goal
 
 pub returns : goal.returns
 returns g c = search rules
