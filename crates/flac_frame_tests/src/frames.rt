@@ -198,6 +198,28 @@ fn audio(rt: HostRuntime) -> Result<(), Fail> {
     Ok(())
 }
 
+/// Whether the samples of a channel from one on are these; false if the channel has fewer, or is none.
+fn has_part(audio: &Audio, channel: usize, start: usize, wanted: &[i32]) -> bool {
+    let size = wanted.len();
+    let len = audio.len();
+    if channel >= audio.channels().len() || start > len || size > len - start {
+        return false;
+    }
+    audio.part(channel, start, size) == wanted
+}
+
+/// Parts inside channels, at their ends, whole, and empty.
+#[test]
+fn parts_of_channels(rt: HostRuntime) -> Result<(), Fail> {
+    let audio = Audio::new(7000, 12, channels_of(rt.alloc(), ";1 2 3 4;-1 -2 -3 -4")?)?;
+    assert!(rt; has_part(&audio, 1, 1, &[-2, -3]));
+    assert!(rt; has_part(&audio, 0, 2, &[3, 4]));
+    assert!(rt; has_part(&audio, 1, 0, &[-1, -2, -3, -4]));
+    assert!(rt; has_part(&audio, 1, 0, &[]));
+    assert!(rt; has_part(&audio, 0, 4, &[]));
+    Ok(())
+}
+
 /// The first fault of a format: the rate, then the depth, then the channels.
 #[test]
 fn faults_of_formats(rt: HostRuntime) -> Result<(), Fail> {

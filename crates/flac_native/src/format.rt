@@ -64,7 +64,7 @@ impl Format {
 
     /// Reads the next frame into the buffers. It has at most 16777215 bytes.
     pub(crate) fn fill<R: Source>(&mut self, bits: &mut BitReader<R>) -> Result<(), Why>
-        ensures reading { CallInPlace 40 (λ (_ now : State) r. ReadsWithin (Some 16777215) (λ _. self.new.buffers.held) (frame self.old.profile self.old.info self.old.buffers.before) bits.old now r) (lifted bits.old) bits.new result }
+        ensures reading { CallInPlace 40 (λ _. ReadsWithin (Some 16777215) (λ _. self.new.buffers.held) (frame self.old.profile self.old.info self.old.buffers.before) bits.old) (lifted bits.old) bits.new result }
         ensures before { OnOk result (self.new.buffers.before ≡ Some (after self.old.buffers.before self.new.buffers.held)) }
         ensures info { self.new.info ≡ self.old.info }
         ensures profile { self.new.profile ≡ self.old.profile }

@@ -192,7 +192,7 @@ impl Track {
     /// [`Why::NotStreamInfoFirst`] if no STREAMINFO was read. Never [`Why::Memory`]. The track must not be used to read
     /// on then.
     pub fn next_frame<R: Source>(&mut self, bits: &mut BitReader<R>) -> Result<(), Why>
-        ensures reading { CallInPlace 40 (λ (_ now : State) r. MeansWithin (Some 16777215) (λ _. shown self.new) (frame_behind (stand_of self.old).profile (stand_of self.old).info (stand_of self.old).before) bits.old now r) (lifted bits.old) bits.new result }
+        ensures reading { CallInPlace 40 (λ _. MeansWithin (Some 16777215) (λ _. shown self.new) (frame_behind (stand_of self.old).profile (stand_of self.old).info (stand_of self.old).before) bits.old) (lifted bits.old) bits.new result }
         ensures next { OnOk result ((p : Progress) → IsAt self.old p → IsAt self.new (next p (framed (shown self.new)))) }
         ensures made { OnOk result (is_some (stand_of self.new).info ≡ true) }
         // The block that Track::next_block keeps does not change.
@@ -205,7 +205,7 @@ impl Track {
     /// What [`Track::next_frame`] does, proved by the reading of the layout.
     #[tactic(auto, unfolding(crate::specs::Stream::frame_behind))]
     pub(crate) fn next_frame_here<R: Source>(&mut self, bits: &mut BitReader<R>) -> Result<(), Why>
-        ensures reading { CallInPlace 40 (λ (_ now : State) r. ReadsWithin (Some 16777215) (λ _. shown self.new) (frame_behind (stand_of self.old).profile (stand_of self.old).info (stand_of self.old).before) bits.old now r) (lifted bits.old) bits.new result }
+        ensures reading { CallInPlace 40 (λ _. ReadsWithin (Some 16777215) (λ _. shown self.new) (frame_behind (stand_of self.old).profile (stand_of self.old).info (stand_of self.old).before) bits.old) (lifted bits.old) bits.new result }
         ensures next { OnOk result ((p : Progress) → IsAt self.old p → IsAt self.new (next p (framed (shown self.new)))) }
         ensures made { OnOk result (is_some (stand_of self.new).info ≡ true) }
         ensures last { self.new.last ≡ self.old.last }
@@ -240,7 +240,7 @@ impl Track {
     /// # Errors
     /// Those of [`Track::next_frame`].
     pub fn frame<R: Source>(&mut self, bits: &mut BitReader<R>) -> Result<FrameView<'_>, Why>
-        ensures reading { CallInPlace 40 (λ (_ now : State) r. MeansWithin (Some 16777215) frame_of (frame_behind (stand_of self.old).profile (stand_of self.old).info (stand_of self.old).before) bits.old now r) (lifted bits.old) bits.new result }
+        ensures reading { CallInPlace 40 (λ _. MeansWithin (Some 16777215) frame_of (frame_behind (stand_of self.old).profile (stand_of self.old).info (stand_of self.old).before) bits.old) (lifted bits.old) bits.new result }
         ensures* after { sem 𝓛 (follows_so the_row the_row self.entry.ghost_name none (λ _ _. ⊤)
             (λ last. IfOk result (λ v. (p : Progress) → IsAt self.old p → IsAt last (next p (framed (frame_of v)))))) }
     {

@@ -6,7 +6,7 @@ ghost use Rattle.flac_native.specs.Given.{fits_plan, room_of};
 
 use flac_bits::{Target, send_all};
 use flac_frame::{Audio, EncodeBuffers};
-use flac_native::{ChosenFrames, Plan, Profile, Room, Why};
+use flac_native::{ChosenFrames, Plan, Profile, Room, StreamInfo, Why};
 use flac_testing::{list_of, sample, wave};
 use flac_vectors::{ONE_SAMPLE, WAVE, WAVE_PREDICTED};
 use std::alloc::Global;
@@ -18,7 +18,8 @@ use std::test::Fail;
 struct FirstFrame {
     least: u32,
     greatest: u32,
-    digest: [u8; 16],
+    info: StreamInfo,
+    samples: usize,
     room: Room,
 }
 
@@ -35,15 +36,25 @@ fn chosen(
     let _size = plan.block_size();
     let frames = ChosenFrames::new(alloc, plan, audio, buffers)?;
     let mut room = frames.room(alloc)?;
+    let mut samples = 0;
     if !audio.is_empty() {
+        samples = plan.range(audio, 0).len();
         room = frames.write(plan, audio, 0, buffers, room);
     }
     Ok(FirstFrame {
         least: frames.least(),
         greatest: frames.greatest(),
-        digest: frames.info(plan, audio).digest(),
+        info: frames.info(plan, audio),
+        samples,
         room,
     })
+}
+
+/// Whether STREAMINFO is that of frames of so many bytes, at 44100 Hz and 16 bits.
+fn is_info_of(info: &StreamInfo, len: u32) -> bool {
+    (info.least_frame(), info.greatest_frame()) == (len, len)
+        && (info.rate(), info.depth()) == (44100, 16)
+        && info.least_block() == info.greatest_block()
 }
 
 /// Whether samples by a plan, which are one frame, have the digest and the frame of a stream, of `len` bytes.
@@ -58,7 +69,9 @@ fn comes_of(alloc: Global, plan: &Plan, audio: &Audio, stream: &str, len: u32) -
     let chosen = chosen?;
     Ok(
         (chosen.least, chosen.greatest) == (len, len)
-            && Some(chosen.digest.as_slice()) == stream.get(26..42)
+            && is_info_of(&chosen.info, len)
+            && chosen.samples == audio.len()
+            && Some(chosen.info.digest().as_slice()) == stream.get(26..42)
             && Some(chosen.room.bytes()) == stream.get(42..),
     )
 }

@@ -2,7 +2,7 @@
 
 use flac_native::{
     BitReader, Block, Decoder, EncodeFault, Fault, FrameView, Item, Memory, Place, Plan, Profile,
-    RetagFault, SetupFault, StreamInfo, Track, Why, info_of, put_rows, read_marker, sample_width,
+    RetagFault, SetupFault, StreamInfo, Track, Why, put_rows, read_marker, sample_width,
 };
 use flac_testing::sample;
 use std::alloc::Global;
@@ -15,11 +15,6 @@ use std::test::Fail;
 const PARTS: &str =
     "664c6143800000221000100000000f00000f0ac442f00000000100000000000000000000000000000000\
     fff869180000bf0358fd03128baa9a";
-
-/// The digest that the example states.
-const DIGEST: [u8; 16] = [
-    0x3E, 0x84, 0xB4, 0x18, 0x07, 0xDC, 0x69, 0x03, 0x07, 0x58, 0x6A, 0x3D, 0xAD, 0x1A, 0x2E, 0x0F,
-];
 
 /// Writes the samples of a frame of at most 2 as the digest's bytes of 16 bits, and returns how many these are.
 fn rows(frame: &FrameView<'_>, out: &mut [u8; 64]) -> usize {
@@ -79,24 +74,6 @@ fn reads_parts(rt: HostRuntime) -> Result<(), Fail> {
     Ok(())
 }
 
-/// STREAMINFO of the example, for frames of at most 15 bytes.
-fn info(alloc: Global, least: u32) -> Result<StreamInfo, Fail> {
-    let audio = sample(alloc)?;
-    let plan = Plan::new(4096, &audio, 0)?;
-    Ok(info_of(&plan, &audio, least.min(15), 15))
-}
-
-#[test]
-fn states_the_digest(rt: HostRuntime) -> Result<(), Fail> {
-    let info = info(rt.alloc(), 14)?;
-    assert!(rt; (info.least_block(), info.greatest_block()) == (4096, 4096));
-    assert!(rt; (info.least_frame(), info.greatest_frame()) == (14, 15));
-    assert!(rt; (info.rate(), info.channels(), info.depth()) == (44100, 2, 16));
-    assert!(rt; info.total() == 1);
-    assert!(rt; info.digest() == DIGEST);
-    Ok(())
-}
-
 /// Whether a frame comes next, and the source, which is given back, is at its end then.
 fn is_last_frame(decoder: Decoder<BitReader<Memory<'_>>>) -> bool {
     let mut decoder = decoder;
@@ -108,7 +85,7 @@ fn is_last_frame(decoder: Decoder<BitReader<Memory<'_>>>) -> bool {
 /// A decoder gives its source back, here one that was read to its end.
 #[test]
 fn gives_its_source_back(rt: HostRuntime) -> Result<(), Fail> {
-    let info = info(rt.alloc(), 15)?;
+    let info = StreamInfo::of_format(4096, 44100, 2, 16);
     let stream = hex::decode(rt.alloc(), PARTS)?;
     let source = Memory::new(stream.get(42..).unwrap_or(&[]));
     let decoder = Decoder::resume(rt.alloc(), source, &info, Profile::Subset)?;

@@ -21,7 +21,7 @@ ghost use Rattle.flac_bits.specs.State.{the_end};
 ghost use Rattle.flac_ogg.specs.Coming.{ItemsCome, IsClear};
 
 use flac_bits::{BitReader, Source, Why};
-use flac_native::{Container, Fault, Part, Place, Track};
+use flac_native::{Container, Fault, MARKER, Part, Place, Track};
 use flac_pages::{PacketBytes, PacketFault, Pages, end_item, packet_bits};
 
 /// Reads what the first packet has before STREAMINFO: the byte 7F and `FLAC`, version 1.0, the number of header
@@ -34,7 +34,7 @@ pub(crate) fn read_mapping<R: Source>(bits: &mut BitReader<R>) -> Result<(), Why
     let version = bits.take(16)?;
     let _count = bits.take(16)?;
     let marker = bits.take(32)?;
-    if name != 0x7F464C4143 || version != 0x0100 || marker != 0x664C6143 {
+    if name != 0x7F464C4143 || version != 0x0100 || marker != MARKER {
         return Err(Why::BadMapping);
     }
     Ok(())
@@ -128,7 +128,7 @@ fn read_first_block<R: Source>(bits: &mut BitReader<R>, track: &mut Track) -> Re
 
 /// What [`Track::next_frame`] does, proved by the reading of the layout.
 fn frame_here<R: Source>(bits: &mut BitReader<R>, track: &mut Track) -> Result<(), Why>
-    ensures reading { CallInPlace 40 (λ (_ now : State) r. ReadsWithin (Some 16777215) (λ _. shown track.new) (frame_behind (stand_of track.old).profile (stand_of track.old).info (stand_of track.old).before) bits.old now r) (lifted bits.old) bits.new result }
+    ensures reading { CallInPlace 40 (λ _. ReadsWithin (Some 16777215) (λ _. shown track.new) (frame_behind (stand_of track.old).profile (stand_of track.old).info (stand_of track.old).before) bits.old) (lifted bits.old) bits.new result }
     ensures next { OnOk result ((p : Progress) → IsAt track.old p → IsAt track.new (next p (framed (shown track.new)))) }
     ensures made { OnOk result (is_some (stand_of track.new).info ≡ true) }
     ensures last { track.new.last ≡ track.old.last }

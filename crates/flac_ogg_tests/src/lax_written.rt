@@ -9,7 +9,7 @@ use flac_bits::Collected;
 use flac_frame::Audio;
 use flac_meta::BlockList;
 use flac_native::{Plan, Profile, StreamEncoder, StreamFormat};
-use flac_ogg::{encode_and_decode, encode_ogg};
+use flac_ogg::{OggEncoder, encode_and_decode, encode_ogg};
 use flac_testing::{encoded, encoded_by, no_comments, number_of};
 use flac_vectors::{OUTSIDE, OUTSIDE_PAGES, OUTSIDE_PUSHED, bursts, fields_of, pair_of};
 use std::alloc::Global;
@@ -273,6 +273,37 @@ fn block_by_block(rt: HostRuntime) -> Result<(), Fail> {
     let wanted = hex::decode(rt.alloc(), OUTSIDE_PUSHED)?;
     assert!(rt; answers == [0, 44, 0]);
     assert!(rt; target.bytes() == wanted.as_slice());
+    assert!(rt; is_outside(rt.alloc(), target.bytes())?);
+    Ok(())
+}
+
+/// Pushes 16 zeros and a sample of 6 bits.
+fn push_pages(encoder: &mut OggEncoder<Collected>) -> [u8; 2] {
+    let (zeros, large) = ([0; 16], [16; 16]);
+    [
+        number_of(encoder.push(&[zeros.as_slice()])),
+        number_of(encoder.push(&[large.as_slice()])),
+    ]
+}
+
+/// What an encoder of Ogg streams writes of these, of 5 bits at 65537 Hz.
+fn pushed_pages(alloc: Global) -> Result<([u8; 2], Collected), Fail> {
+    let format = format_of("lax 65537 5 1 16")?;
+    let list = no_comments(alloc)?;
+    let made = OggEncoder::new_in(alloc, 1, &format, &list, Collected::new(alloc));
+    drop(list);
+    let mut encoder = made?;
+    let answers = push_pages(&mut encoder);
+    Ok((answers, encoder.finish()?))
+}
+
+/// The pages behind the first one, of 79 bytes, whose STREAMINFO states neither total nor digest.
+#[test]
+fn pages_block_by_block(rt: HostRuntime) -> Result<(), Fail> {
+    let (answers, target) = pushed_pages(rt.alloc())?;
+    let wanted = hex::decode(rt.alloc(), OUTSIDE_PAGES)?;
+    assert!(rt; answers == [0, 44]);
+    assert!(rt; target.bytes().get(79..) == wanted.get(79..));
     assert!(rt; is_outside(rt.alloc(), target.bytes())?);
     Ok(())
 }

@@ -3,10 +3,11 @@ use Rattle.std.proofs.Common.{◌≡◌, inl, inr, refl, sym, subst, ℕ, suc, �
 use Rattle.std.proofs.lemmas.List.{length-take-le, get_or_default}
 use Rattle.flac_subframe.specs.declared.content.Content.{Content}
 use Rattle.flac_subframe.specs.declared.content.Content.TheVariants.{Constant, Verbatim, Predicted}
+use Rattle.flac_subframe.specs.declared.content.SubframeForm.{SubframeForm}
 use Rattle.flac_subframe.specs.declared.content.PredictorKind.TheVariants.{Fixed, Linear}
 use Rattle.flac_subframe.specs.declared.linear.LinearPredictor.{LinearPredictor}
 use Rattle.flac_subframe.specs.Bodies.{Chooses, fixed, linear, order_of, Among, Body, constant, verbatim, predicted, StandsFor, content_of}
-use Rattle.flac_subframe.specs.Cost.{Codings, MayWrite}
+use Rattle.flac_subframe.specs.Cost.{Codings, MayWrite, codings_of}
 use Rattle.flac_subframe.specs.Chosen.{body_under, body_as, HasPredictor, offered}
 use Rattle.flac_subframe.specs.Handed.{predictor_of, handed_at, AreWithin}
 use Rattle.flac_subframe.specs.Family.{IsMadeAs}
@@ -99,10 +100,10 @@ pub all_within : (ps : List LinearPredictor) → AreWithin 32 ps
 all_within ps = λ i d lt. (get_or ps i d).few
 
 -- a choice that was made with few partition orders is one with more
-pub made_of_fewer : (most more : ℕ) (ps : List LinearPredictor) (k : ℕ) (c : Content) (f : Codings) (s : List ℤ) → most ≤ more → IsMadeAs most ps k c f s → IsMadeAs more ps k c f s
-made_of_fewer most more ps k c f s le made = record {
+pub made_of_fewer : (most more : ℕ) (ps : List LinearPredictor) (c : SubframeForm) (bytes : List ℕ) (s : List ℤ) → most ≤ more → IsMadeAs most ps c bytes s → IsMadeAs more ps c bytes s
+made_of_fewer most more ps c bytes s le made = record {
   wasted = made.wasted;
   times = made.times;
   within = made.within;
-  stands = fewer_orders most more (offered ps) (body_as ps c f (shortened k s)) (shortened k s) le made.stands;
+  stands = fewer_orders most more (offered ps) (body_as ps c.content (codings_of c.residual bytes) (shortened c.wasted s)) (shortened c.wasted s) le made.stands;
 }

@@ -1,4 +1,4 @@
-//! How the samples of a subframe are written.
+//! How a subframe and its samples are written.
 
 use crate::residual_form::ResidualForm;
 
@@ -20,30 +20,11 @@ pub enum PredictorKind {
     Linear(usize),
 }
 
-/// The best so far. The codings of its residual stay in their array and are overwritten only by better ones.
-#[derive(Clone, Copy)]
-pub struct Held {
+/// How a subframe is written, but for the codings of its residual: how many of the lowest bits are left out of each sample, how the rest is
+/// written, and the form of its residual, which a content without one does not use.
+#[derive(Clone, Copy, Debug, PartialEq, Eq)]
+pub struct SubframeForm {
+    pub wasted: u32,
     pub content: Content,
-    pub found: ResidualForm,
-    pub bits: u64,
-}
-
-/// What was found for some samples: how many of their lowest bits are left out, and the content of the fewest bits for the rest.
-#[derive(Clone, Copy)]
-pub(crate) struct Sought {
-    pub(crate) wasted: u32,
-    pub(crate) held: Held,
-}
-
-impl Sought {
-    ghost use Rattle.std.specs.Prelude.{◌≡◌, ◌≤◌, ◌+◌, ◌^◌};
-
-    /// How many bits the subframe takes: eight of its header, those that say how many are wasted, and the content.
-    pub(crate) fn bits(self) -> u64
-        requires wasted { self.wasted ≤ 33 }
-        requires small { self.held.bits ≤ 2 ^ 60 }
-        ensures { result ≡ 8 + self.wasted + self.held.bits }
-    {
-        8 + u64::from(self.wasted) + self.held.bits
-    }
+    pub residual: ResidualForm,
 }

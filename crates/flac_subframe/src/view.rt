@@ -8,8 +8,7 @@ ghost use Rattle.flac_subframe.specs.Numbers.{sample_at};
 ghost use Rattle.flac_subframe.specs.Spelling.{folded};
 ghost use Rattle.flac_subframe.specs.inner.Halves.{Halves};
 
-use crate::coding_method::CodingMethod;
-use crate::content::{Content, PredictorKind};
+use crate::content::{PredictorKind, SubframeForm};
 use crate::linear::LinearPredictor;
 
 /// What is searched for: the subframe of the fewest bits for samples of a depth, with partition orders up to the greatest and with linear
@@ -114,18 +113,9 @@ impl SampleView<'_> {
     }
 }
 
-/// The form of a residual as it is written: the coding method, the partition order, and the coding of each partition as a byte.
+/// A choice as it is written: its form, and the coding of each partition of its residual as a byte.
 #[derive(Clone, Copy)]
-pub(crate) struct CodedView<'a> {
-    pub(crate) method: CodingMethod,
-    pub(crate) halvings: u8,
+pub(crate) struct ChoiceView<'a> {
+    pub(crate) form: SubframeForm,
     pub(crate) codings: &'a [u8],
-}
-
-/// A choice as it is written: its content, and the form of its residual, which a content without one does not use.
-#[derive(Clone, Copy)]
-pub(crate) struct ChosenView<'a> {
-    pub(crate) wasted: u32,
-    pub(crate) content: Content,
-    pub(crate) residual: CodedView<'a>,
 }

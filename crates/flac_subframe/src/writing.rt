@@ -22,7 +22,7 @@ use crate::linear::LinearPredictor;
 use crate::numbers::power;
 use crate::predictors::fixed_coefficients;
 use crate::tables::filled;
-use crate::view::{ChosenView, CodedView};
+use crate::view::ChoiceView;
 use crate::wasted::drop_wasted;
 use flac_bits::{BitWriter, Target, Why};
 
@@ -119,25 +119,26 @@ fn write_partitions<W: Target>(
 /// Writes the residual of a predictor of an order.
 fn write_residual<W: Target>(
     writer: &mut BitWriter<W>,
-    coded: &CodedView<'_>,
+    choice: &ChoiceView<'_>,
     order: usize,
     values: &[i64],
 ) -> Result<(), Why>
     requires few { length values.now + order ≤ 65535 }
-    requires may { MayWrite 15 order values.now (codings_lent coded.now) }
+    requires may { MayWrite 15 order values.now (codings_lent choice.now) }
     requires range { All IsResidual values.now }
-    ensures { Writes (residual_spelling (residual_of order values.now (codings_lent coded.now))) writer.old writer.new result }
+    ensures { Writes (residual_spelling (residual_of order values.now (codings_lent choice.now))) writer.old writer.new result }
 {
-    let size = (values.len() + order) / power(coded.halvings);
-    let parameter_bits = coded.method.parameter_bits();
-    let field = (parameter_bits as u64 - 4) * 16 + coded.halvings as u64;
+    let form = choice.form.residual;
+    let size = (values.len() + order) / power(form.halvings);
+    let parameter_bits = form.method.parameter_bits();
+    let field = (parameter_bits as u64 - 4) * 16 + form.halvings as u64;
     writer.put(6, field)?;
     write_partitions(
         writer,
         parameter_bits,
         size - order,
         size,
-        coded.codings,
+        choice.codings,
         values,
     )
 }
@@ -146,7 +147,7 @@ fn write_residual<W: Target>(
 fn write_fixed<W: Target>(
     writer: &mut BitWriter<W>,
     order: usize,
-    residual: &CodedView<'_>,
+    choice: &ChoiceView<'_>,
     depth: u32,
     samples: &[i64],
     values: &mut [i64],
@@ -156,15 +157,15 @@ fn write_fixed<W: Target>(
     requires depth { (1 ≤ depth) × (depth ≤ 33) }
     requires fits { All (FitsBits 33) samples.now }
     requires places { length samples.now ≤ length values.old }
-    requires predicts { Predicts 15 (fixed order) (take (order_of (fixed order)) samples.now) (codings_lent residual.now) (differences (coefficients_of (fixed order)) 0 samples.now) samples.now }
-    ensures { Writes (content_spelling depth (content_of (body_under (fixed order) (codings_lent residual.now) samples.now))) writer.old writer.new result }
+    requires predicts { Predicts 15 (fixed order) (take (order_of (fixed order)) samples.now) (codings_lent choice.now) (differences (coefficients_of (fixed order)) 0 samples.now) samples.now }
+    ensures { Writes (content_spelling depth (content_of (body_under (fixed order) (codings_lent choice.now) samples.now))) writer.old writer.new result }
 {
     let coefficients = fixed_coefficients(order as u32);
     let count = coefficients.len();
     let places = &mut values[..samples.len() - count];
     take_fixed(order, samples, places);
     write_signed(writer, depth, &samples[..count])?;
-    write_residual(writer, residual, count, places)
+    write_residual(writer, choice, count, places)
 }
 
 /// Writes coefficients of n bits each.
@@ -201,23 +202,23 @@ fn write_predictor<W: Target>(
 fn write_rest<W: Target>(
     writer: &mut BitWriter<W>,
     predictor: &LinearPredictor,
-    residual: &CodedView<'_>,
+    choice: &ChoiceView<'_>,
     values: &[i64],
 ) -> Result<(), Why>
     requires few { length values.now + length predictor.now.coefficients.items ≤ 65535 }
-    requires may { MayWrite 15 (length predictor.now.coefficients.items) values.now (codings_lent residual.now) }
+    requires may { MayWrite 15 (length predictor.now.coefficients.items) values.now (codings_lent choice.now) }
     requires range { All IsResidual values.now }
-    ensures { Writes (predictor_spelling (handed predictor.now) ++ residual_spelling (residual_of (length predictor.now.coefficients.items) values.now (codings_lent residual.now))) writer.old writer.new result }
+    ensures { Writes (predictor_spelling (handed predictor.now) ++ residual_spelling (residual_of (length predictor.now.coefficients.items) values.now (codings_lent choice.now))) writer.old writer.new result }
 {
     write_predictor(writer, predictor)?;
-    write_residual(writer, residual, predictor.order(), values)
+    write_residual(writer, choice, predictor.order(), values)
 }
 
 /// Writes the content of a linear predictor; the places are overwritten.
 fn write_linear<W: Target>(
     writer: &mut BitWriter<W>,
     predictor: &LinearPredictor,
-    residual: &CodedView<'_>,
+    choice: &ChoiceView<'_>,
     depth: u32,
     samples: &[i64],
     values: &mut [i64],
@@ -226,20 +227,20 @@ fn write_linear<W: Target>(
     requires depth { (1 ≤ depth) × (depth ≤ 33) }
     requires fits { All (FitsBits 33) samples.now }
     requires places { length samples.now ≤ length values.old }
-    requires predicts { let p = predictor_of predictor.now in Predicts 15 p (take (order_of p) samples.now) (codings_lent residual.now) (differences (coefficients_of p) (shift_of p) samples.now) samples.now }
-    ensures { Writes (content_spelling depth (content_of (body_under (predictor_of predictor.now) (codings_lent residual.now) samples.now))) writer.old writer.new result }
+    requires predicts { let p = predictor_of predictor.now in Predicts 15 p (take (order_of p) samples.now) (codings_lent choice.now) (differences (coefficients_of p) (shift_of p) samples.now) samples.now }
+    ensures { Writes (content_spelling depth (content_of (body_under (predictor_of predictor.now) (codings_lent choice.now) samples.now))) writer.old writer.new result }
 {
     let order = predictor.order();
     let places = &mut values[..samples.len() - order];
     take_linear(predictor.coefficients(), predictor.shift(), samples, places);
     write_signed(writer, depth, &samples[..order])?;
-    write_rest(writer, predictor, residual, places)
+    write_rest(writer, predictor, choice, places)
 }
 
 /// Writes the content of a subframe; the places are overwritten.
 fn write_content<W: Target>(
     writer: &mut BitWriter<W>,
-    chosen: &ChosenView<'_>,
+    choice: &ChoiceView<'_>,
     predictors: &[LinearPredictor],
     depth: u32,
     samples: &[i64],
@@ -250,21 +251,20 @@ fn write_content<W: Target>(
     requires depth { (1 ≤ depth) × (depth ≤ 33) }
     requires fits { All (FitsBits 33) samples.now }
     requires places { length samples.now ≤ length values.old }
-    requires handed { HasPredictor predictors.now chosen.now.content }
-    requires stands { StandsFor 15 (offered predictors.now) (body_as predictors.now chosen.now.content (codings_lent chosen.now.residual) samples.now) samples.now }
-    ensures { Writes (content_spelling depth (content_of (body_as predictors.now chosen.now.content (codings_lent chosen.now.residual) samples.now))) writer.old writer.new result }
+    requires handed { HasPredictor predictors.now choice.now.form.content }
+    requires stands { StandsFor 15 (offered predictors.now) (body_as predictors.now choice.now.form.content (codings_lent choice.now) samples.now) samples.now }
+    ensures { Writes (content_spelling depth (content_of (body_as predictors.now choice.now.form.content (codings_lent choice.now) samples.now))) writer.old writer.new result }
 {
-    let residual = &chosen.residual;
-    match chosen.content {
+    match choice.form.content {
         Content::Constant => writer.put_signed(depth, samples[0]),
         Content::Verbatim => write_signed(writer, depth, samples),
         Content::Predicted(kind) => match kind {
             PredictorKind::Fixed(order) => {
-                write_fixed(writer, order, residual, depth, samples, values)
+                write_fixed(writer, order, choice, depth, samples, values)
             }
             PredictorKind::Linear(index) => {
                 let predictor = &predictors[index];
-                write_linear(writer, predictor, residual, depth, samples, values)
+                write_linear(writer, predictor, choice, depth, samples, values)
             }
         },
     }
@@ -304,7 +304,7 @@ fn type_of_content(content: Content, predictors: &[LinearPredictor]) -> u64
 /// Writes a subframe as it was chosen, with places for the samples and for the residual one after another, which are
 /// overwritten.
 pub(crate) fn write_chosen<W: Target>(
-    chosen: &ChosenView<'_>,
+    choice: &ChoiceView<'_>,
     predictors: &[LinearPredictor],
     samples: &[i64],
     depth: u32,
@@ -316,15 +316,19 @@ pub(crate) fn write_chosen<W: Target>(
     requires depth { (1 ≤ depth) × (depth ≤ 33) }
     requires fits { All (FitsBits depth) samples.now }
     requires places { 2 * length samples.now ≤ length places.old }
-    requires made { IsMadeAs 15 predictors.now chosen.now.wasted chosen.now.content (codings_lent chosen.now.residual) samples.now }
-    ensures { Writes (subframe_spelling depth (form_as predictors.now chosen.now.wasted chosen.now.content (codings_lent chosen.now.residual) samples.now)) writer.old writer.new result }
+    requires made { IsMadeAs 15 predictors.now choice.now.form choice.now.codings.now samples.now }
+    ensures { Writes (subframe_spelling depth (form_as predictors.now choice.now.form choice.now.codings.now samples.now)) writer.old writer.new result }
 {
     let (shortened, values) = places.split_at_mut(samples.len());
     let wasted = drop_wasted(samples, depth, shortened);
-    write_header(writer, type_of_content(chosen.content, predictors), wasted)?;
+    write_header(
+        writer,
+        type_of_content(choice.form.content, predictors),
+        wasted,
+    )?;
     write_content(
         writer,
-        chosen,
+        choice,
         predictors,
         depth - wasted,
         shortened,

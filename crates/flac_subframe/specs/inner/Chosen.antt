@@ -6,7 +6,7 @@ use Rattle.flac_subframe.specs.Cost.{MayWrite}
 use Rattle.flac_subframe.specs.inner.Cost.{residual_cost}
 use Rattle.flac_subframe.specs.Cost.{Codings, codings_in}
 use Rattle.flac_subframe.specs.declared.content.Content.{Content}
-use Rattle.flac_subframe.specs.declared.content.Held.{Held}
+use Rattle.flac_subframe.specs.declared.choice.Best.{Best}
 use Rattle.flac_subframe.specs.declared.linear.LinearPredictor.{LinearPredictor}
 use Rattle.flac_subframe.specs.Bodies.{Chooses, coefficients_of, shift_of, differences, StandsFor, spelled}
 use Rattle.flac_subframe.specs.Chosen.{body_as, HasPredictor}
@@ -22,8 +22,8 @@ pub record Way : Type 0 where
   pub bits : ℕ
 
 -- the best so far, and the bytes of its codings
-abbrev pub way_held : Held → List ℕ → Way
-way_held h bytes = record { content = h.content; codings = codings_in h.found bytes; bits = h.bits }
+abbrev pub way_of : Best → List ℕ → Way
+way_of b bytes = record { content = b.content; codings = codings_in b.residual bytes; bits = b.bits }
 
 -- a way, whose linear predictor is one of those that are handed in, is the least by the predictors that were tried
 pub record IsBest (handed : List LinearPredictor) (most bits : ℕ) (s : List ℤ) (tried : List Chooses) (w : Way) : Type 0 where

@@ -27,9 +27,11 @@ abbrev okay : List ℕ × Cursor → Result (List ℕ × Cursor) Reason
 okay y = Ok y
 
 pub returns : goal.returns
-returns g c = record { reading = record {
-      spends = search rules;
-      counts = gone c.loop-i.invariant.goes;
-      memory = search rules;
-      reads = (λ known same. sym (c.loop-i.invariant.goes.reads known) ∙ list_end (length c.args.out.now) c.loop-i.i (bits 8) c.loop-i.bits.cursor (take c.loop-i.i c.loop-i.out) c.loop-i-test.false ∙ ap (λ front. okay (front, c.loop-i.bits.cursor)) (take_all c.loop-i.i c.loop-i.out (omega (arith, c.loop-i.auto.out, c.loop-i-test.false))));
-    } }
+returns g c = record {
+  reading = record {
+    spends = search rules;
+    counts = gone c.loop-i.invariant.goes;
+    memory = search rules;
+    reads = (λ known same. sym (c.loop-i.invariant.goes.reads known) ∙ list_end (length c.args.out.now) c.loop-i.i (bits 8) c.loop-i.bits.cursor (take c.loop-i.i c.loop-i.out) c.loop-i-test.false ∙ ap (λ front. okay (front, c.loop-i.bits.cursor)) (take_all c.loop-i.i c.loop-i.out (omega (arith, c.loop-i.auto.out, c.loop-i-test.false))));
+  };
+}

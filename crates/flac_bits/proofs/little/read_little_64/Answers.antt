@@ -7,18 +7,22 @@ pub returns-in_err-high : goal.returns-in_err-high
 unfolding Rattle.flac_bits.specs.LittleEndian.little_64
 returns-in_err-high g c =
     let p = err_from_is_err_and c.from_residual-in_err-high.result c.from_residual-in_err-high.ensures.1 in
-    rw (p.1, p.2) (record { reading = record {
-      spends = tt;
-      counts = failed_then c.args.bits.now c.read_little_32.new.bits c.read_little_32-2.new.bits c.in_ok-low.ensures.reading.counts c.in_err-high.ensures.reading.counts;
-      memory = search rules;
-      reads = search rules;
-    } })
+    rw (p.1, p.2) (record {
+      reading = record {
+        spends = tt;
+        counts = failed_then c.args.bits.now c.read_little_32.new.bits c.read_little_32-2.new.bits c.in_ok-low.ensures.reading.counts c.in_err-high.ensures.reading.counts;
+        memory = search rules;
+        reads = search rules;
+      };
+    })
 
 pub returns : goal.returns
 unfolding Rattle.flac_bits.specs.LittleEndian.little_64
-returns g c = record { reading = record {
-      spends = search rules;
-      counts = answered_then c.args.bits.now c.read_little_32.new.bits c.read_little_32-2.new.bits c.in_ok-low.ensures.reading.counts c.in_ok-high.ensures.reading.counts;
-      memory = search rules;
-      reads = search rules;
-    } }
+returns g c = record {
+  reading = record {
+    spends = search rules;
+    counts = answered_then c.args.bits.now c.read_little_32.new.bits c.read_little_32-2.new.bits c.in_ok-low.ensures.reading.counts c.in_ok-high.ensures.reading.counts;
+    memory = search rules;
+    reads = search rules;
+  };
+}

@@ -13,8 +13,8 @@ overflow_add-value g c = omega (arith, six_more c.loop-i.i c.args.count c.loop-i
 pub returns-clause-reading : goal.returns-clause-reading
 unfolding Rattle.flac_bits.specs.Number.continued
 returns-clause-reading g c = record {
-      spends = search rules;
-      counts = gone c.loop-i.invariant.3;
-      memory = search rules;
-      reads = search rules;
-    }
+  spends = search rules;
+  counts = gone c.loop-i.invariant.3;
+  memory = search rules;
+  reads = search rules;
+}

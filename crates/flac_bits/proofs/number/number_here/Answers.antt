@@ -6,11 +6,11 @@ use Rattle.flac_bits.proofs.number.number_here.Goals as goal
 pub returns-in_default-clause-reading : goal.returns-in_default-clause-reading
 unfolding Rattle.flac_bits.specs.Number.number
 returns-in_default-clause-reading g c = record {
-      spends = search rules;
-      counts = refused_then c.args.bits.now c.take.new.self c.in_ok-lead.ensures.reading.counts refl;
-      memory = search rules;
-      reads = search rules;
-    }
+  spends = search rules;
+  counts = refused_then c.args.bits.now c.take.new.self c.in_ok-lead.ensures.reading.counts refl;
+  memory = search rules;
+  reads = search rules;
+}
 
 pub returns-in_err-value-clause-reading : goal.returns-in_err-value-clause-reading
 unfolding Rattle.flac_bits.specs.Number.number
@@ -26,17 +26,17 @@ returns-in_err-value-clause-reading g c =
 pub returns-then-value-least-clause-reading : goal.returns-then-value-least-clause-reading
 unfolding Rattle.flac_bits.specs.Number.number
 returns-then-value-least-clause-reading g c = record {
-      spends = search rules;
-      counts = refused_then c.args.bits.now c.continued.new.bits (answered_then c.args.bits.now c.take.new.self c.continued.new.bits c.in_ok-lead.ensures.reading.counts c.in_ok-value.ensures.reading.counts) refl;
-      memory = search rules;
-      reads = search rules;
-    }
+  spends = search rules;
+  counts = refused_then c.args.bits.now c.continued.new.bits (answered_then c.args.bits.now c.take.new.self c.continued.new.bits c.in_ok-lead.ensures.reading.counts c.in_ok-value.ensures.reading.counts) refl;
+  memory = search rules;
+  reads = search rules;
+}
 
 pub returns-clause-reading : goal.returns-clause-reading
 unfolding Rattle.flac_bits.specs.Number.number
 returns-clause-reading g c = record {
-      spends = search rules;
-      counts = answered_then c.args.bits.now c.take.new.self c.continued.new.bits c.in_ok-lead.ensures.reading.counts c.in_ok-value.ensures.reading.counts;
-      memory = search rules;
-      reads = search rules;
-    }
+  spends = search rules;
+  counts = answered_then c.args.bits.now c.take.new.self c.continued.new.bits c.in_ok-lead.ensures.reading.counts c.in_ok-value.ensures.reading.counts;
+  memory = search rules;
+  reads = search rules;
+}

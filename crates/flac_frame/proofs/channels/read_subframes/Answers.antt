@@ -22,15 +22,15 @@ never false e f = absurd cc
 
 pub returns-clause-reading : goal.returns-clause-reading
 returns-clause-reading g c = record {
-      spends = search rules;
-      counts = gone c.loop-channel.invariant.2;
-      memory = search rules;
-      reads = (λ known same.
+  spends = search rules;
+  counts = gone c.loop-channel.invariant.2;
+  memory = search rules;
+  reads = (λ known same.
       let l = c.loop-channel in
       let e : l.channel ≡ c.args.shape.now.channels = omega (arith, c.loop-channel-test.false, l.auto.channel-end) in
       sym (l.invariant.2.reads known) ∙ subframes_over c.args.shape.now.depth (code_of c.args.assignment) c.args.shape.now.block c.args.shape.now.limits (cond l.fits (Some (chunks l.channel c.args.shape.now.block l.samples)) None) l.channel c.args.shape.now.channels l.bits.cursor (omega (arith, c.loop-channel-test.false))
       ∙ ap (λ k. okay (cond l.fits (Some (chunks k c.args.shape.now.block l.samples)) None, l.bits.cursor)) e);
-    }
+}
 
 pub loop-channel-preserved : goal.loop-channel-preserved
 loop-channel-preserved g c =
@@ -64,13 +64,13 @@ returns-clause-small g c = λ yes.
 
 pub returns-in_err-subframe_here-clause-reading : goal.returns-in_err-subframe_here-clause-reading
 returns-in_err-subframe_here-clause-reading g c = record {
-      spends = search rules;
-      counts = (let p = err_from_is_err_and c.from_residual.result c.from_residual.ensures.1 in
+  spends = search rules;
+  counts = (let p = err_from_is_err_and c.from_residual.result c.from_residual.ensures.1 in
       rw (p.1, p.2) (failed_then c.args.bits.now c.loop-channel.bits c.subframe_here.new.bits (gone c.loop-channel.invariant.2) c.in_err-subframe_here.ensures.reading.counts));
-      memory = search rules;
-      reads = (let p = err_from_is_err_and c.from_residual.result c.from_residual.ensures.1 in
+  memory = search rules;
+  reads = (let p = err_from_is_err_and c.from_residual.result c.from_residual.ensures.1 in
       let l = c.loop-channel in
       let reads = rw c.side_bit.ensures.bit at c.in_err-subframe_here.ensures.reading.reads in
       rw (p.1, p.2) (gone_fault c.args.bits.now l.bits c.subframe_here.new.bits _ l.invariant.2
       (subframes_more c.args.shape.now.depth (code_of c.args.assignment) c.args.shape.now.block c.args.shape.now.limits (cond l.fits (Some (chunks l.channel c.args.shape.now.block l.samples)) None) l.channel c.args.shape.now.channels l.bits.cursor c.loop-channel-test.true) reads));
-    }
+}

@@ -33,16 +33,16 @@ returns-in_err-read_body-clause-reading g c =
 pub returns-clause-reading : goal.returns-clause-reading
 unfolding frame
 returns-clause-reading g c = record {
-      spends = search rules;
-      counts = answered_then c.args.bits.now c.read_start.new.bits c.read_body.new.bits c.in_ok-header.ensures.reading.counts c.in_ok-read_body.ensures.reading.counts;
-      memory = search rules;
-      reads = (let size = c.in_ok-header.ensures.size in
+  spends = search rules;
+  counts = answered_then c.args.bits.now c.read_start.new.bits c.read_body.new.bits c.in_ok-header.ensures.reading.counts c.in_ok-read_body.ensures.reading.counts;
+  memory = search rules;
+  reads = (let size = c.in_ok-header.ensures.size in
       let same : c.args.info.now.channels * c.in_ok-header.header.size ≡ c.channels.result * c.size.result = ap (λ k. k * c.in_ok-header.header.size) (sym c.channels.ensures.value) ∙ ap (λ k. c.channels.result * k) (sym c.size.ensures.size) in
       let within = places_within c.args.info.now.channels c.in_ok-header.header.size c.args.info.now.greatest_block (greatest_in c.args.profile c.args.info.now.rate) (length c.args.out.now) size.0 size.1 (subst (λ n. c.args.info.now.channels * min c.args.info.now.greatest_block (greatest_in c.args.profile c.args.info.now.rate) ≤ n) (sym c.requires.out) c.requires.wide) in
       let long = taken_long (c.args.info.now.channels * c.in_ok-header.header.size) (c.channels.result * c.size.result) c.read_body.new.out c.args.out.now c.read_body.auto.out same within in
       let e = first_places (c.args.info.now.channels * c.in_ok-header.header.size) c.read_body.new.out (drop (c.channels.result * c.size.result) c.args.out.now) long in
       rw e (told_then (started c.args.bits.now) c.read_start.new.bits c.read_body.new.bits _ c.in_ok-header.ensures.reading.counts c.in_ok-header.ensures.reading.reads c.in_ok-read_body.ensures.reading.reads));
-    }
+}
 
 pub slice_bounds-read_body-end : goal.slice_bounds-read_body-end
 slice_bounds-read_body-end g c =

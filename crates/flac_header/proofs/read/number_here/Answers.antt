@@ -5,8 +5,8 @@ use Rattle.flac_header.proofs.read.number_here.Goals as goal
 
 pub returns-clause-reading : goal.returns-clause-reading
 returns-clause-reading g c = record {
-      spends = search rules;
-      counts = search rules;
-      memory = search rules;
-      reads = reads (λ v. v) (number c.args.max_bits) c.args.bits.now c.read_number.new.bits c.read_number.result c.read_number.ensures.reading.reads;
-    }
+  spends = search rules;
+  counts = search rules;
+  memory = search rules;
+  reads = reads (λ v. v) (number c.args.max_bits) c.args.bits.now c.read_number.new.bits c.read_number.result c.read_number.ensures.reading.reads;
+}

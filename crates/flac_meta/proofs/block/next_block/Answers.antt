@@ -27,12 +27,12 @@ returns-in_err-body-clause-spare g c = λ is known same firm.
 pub returns-in_err-header-clause-reading : goal.returns-in_err-header-clause-reading
 unfolding block
 returns-in_err-header-clause-reading g c = record {
-      spends = search rules;
-      counts = (let p = err_from_is_err_and c.from_residual.result c.from_residual.ensures.1 in
+  spends = search rules;
+  counts = (let p = err_from_is_err_and c.from_residual.result c.from_residual.ensures.1 in
       rw (p.1, p.2) c.in_err-header.ensures.reading.counts);
-      reads = (let p = err_from_is_err_and c.from_residual.result c.from_residual.ensures.1 in
+  reads = (let p = err_from_is_err_and c.from_residual.result c.from_residual.ensures.1 in
       rw (p.1, p.2) (λ room. told_fault c.args.bits.now c.read_block_header.new.bits _ c.in_err-header.ensures.reading.reads));
-    }
+}
 
 pub returns-in_err-body-clause-reading : goal.returns-in_err-body-clause-reading
 unfolding block
@@ -42,14 +42,14 @@ returns-in_err-body-clause-reading g c =
       spends = tt;
       counts = failed_then c.args.bits.now c.read_block_header.new.bits c.read_content.new.bits c.in_ok-header.ensures.reading.counts c.in_err-body.ensures.reading.counts;
       reads = (λ room. told_then c.args.bits.now c.read_block_header.new.bits c.read_content.new.bits _ c.in_ok-header.ensures.reading.counts c.in_ok-header.ensures.reading.reads
-      (told_fault c.read_block_header.new.bits c.read_content.new.bits _ (c.in_err-body.ensures.reading.reads (λ q. room cc))));
+          (told_fault c.read_block_header.new.bits c.read_content.new.bits _ (c.in_err-body.ensures.reading.reads (λ q. room cc))));
     })
 
 pub returns-clause-reading : goal.returns-clause-reading
 unfolding block
 returns-clause-reading g c = record {
-      spends = search rules;
-      counts = answered_then c.args.bits.now c.read_block_header.new.bits c.read_content.new.bits c.in_ok-header.ensures.reading.counts c.in_ok-body.ensures.reading.counts;
-      reads = (λ room. told_then c.args.bits.now c.read_block_header.new.bits c.read_content.new.bits _ c.in_ok-header.ensures.reading.counts c.in_ok-header.ensures.reading.reads
+  spends = search rules;
+  counts = answered_then c.args.bits.now c.read_block_header.new.bits c.read_content.new.bits c.in_ok-header.ensures.reading.counts c.in_ok-body.ensures.reading.counts;
+  reads = (λ room. told_then c.args.bits.now c.read_block_header.new.bits c.read_content.new.bits _ c.in_ok-header.ensures.reading.counts c.in_ok-header.ensures.reading.reads
       (told_then c.read_block_header.new.bits c.read_content.new.bits c.read_content.new.bits _ c.in_ok-body.ensures.reading.counts (c.in_ok-body.ensures.reading.reads (λ q. absurd cc)) (λ known same. refl)));
-    }
+}

@@ -28,10 +28,10 @@ returns-in_err-length-clause-reading g c =
 pub returns-clause-reading : goal.returns-clause-reading
 unfolding block_header
 returns-clause-reading g c = record {
-      spends = search rules;
-      counts = answered_then c.args.bits.now c.take.new.self c.take-3.new.self c.in_ok-last.ensures.reading.counts (answered_then c.take.new.self c.take-2.new.self c.take-3.new.self c.in_ok-kind.ensures.reading.counts c.in_ok-length.ensures.reading.counts);
-      reads = search rules;
-    }
+  spends = search rules;
+  counts = answered_then c.args.bits.now c.take.new.self c.take-3.new.self c.in_ok-last.ensures.reading.counts (answered_then c.take.new.self c.take-2.new.self c.take-3.new.self c.in_ok-kind.ensures.reading.counts c.in_ok-length.ensures.reading.counts);
+  reads = search rules;
+}
 
 pub returns-in_err-last-clause-reading : goal.returns-in_err-last-clause-reading
 unfolding block_header

@@ -10,36 +10,44 @@ pub returns-in_err-number : goal.returns-in_err-number
 unfolding cue_index
 returns-in_err-number g c =
     let p = err_from_is_err_and c.from_residual-in_err-number.result c.from_residual-in_err-number.ensures.1 in
-    rw (p.1, p.2) (record { reading = record {
-      spends = tt;
-      counts = failed_then c.args.bits.now c.take.new.self c.take-2.new.self c.in_ok-offset.ensures.reading.counts c.in_err-number.ensures.reading.counts;
-      reads = told_then c.args.bits.now c.take.new.self c.take-2.new.self _ c.in_ok-offset.ensures.reading.counts c.in_ok-offset.ensures.reading.reads (told_fault c.take.new.self c.take-2.new.self _ c.in_err-number.ensures.reading.reads);
-    } })
+    rw (p.1, p.2) (record {
+      reading = record {
+        spends = tt;
+        counts = failed_then c.args.bits.now c.take.new.self c.take-2.new.self c.in_ok-offset.ensures.reading.counts c.in_err-number.ensures.reading.counts;
+        reads = told_then c.args.bits.now c.take.new.self c.take-2.new.self _ c.in_ok-offset.ensures.reading.counts c.in_ok-offset.ensures.reading.reads (told_fault c.take.new.self c.take-2.new.self _ c.in_err-number.ensures.reading.reads);
+      };
+    })
 
 pub returns-in_err-read_zeros : goal.returns-in_err-read_zeros
 unfolding cue_index
 returns-in_err-read_zeros g c =
     let p = err_from_is_err_and c.from_residual-in_err-read_zeros.result c.from_residual-in_err-read_zeros.ensures.1 in
-    rw (p.1, p.2) (record { reading = record {
-      spends = tt;
-      counts = failed_then c.args.bits.now c.take.new.self c.read_zeros.new.bits c.in_ok-offset.ensures.reading.counts (failed_then c.take.new.self c.take-2.new.self c.read_zeros.new.bits c.in_ok-number.ensures.reading.counts c.in_err-read_zeros.ensures.reading.counts);
-      reads = told_then c.args.bits.now c.take.new.self c.read_zeros.new.bits _ c.in_ok-offset.ensures.reading.counts c.in_ok-offset.ensures.reading.reads (told_then c.take.new.self c.take-2.new.self c.read_zeros.new.bits _ c.in_ok-number.ensures.reading.counts c.in_ok-number.ensures.reading.reads (told_fault c.take-2.new.self c.read_zeros.new.bits _ (told_reserved 24 c.take-2.new.self c.read_zeros.new.bits c.in_err-read_zeros.ensures.reading.reads)));
-    } })
+    rw (p.1, p.2) (record {
+      reading = record {
+        spends = tt;
+        counts = failed_then c.args.bits.now c.take.new.self c.read_zeros.new.bits c.in_ok-offset.ensures.reading.counts (failed_then c.take.new.self c.take-2.new.self c.read_zeros.new.bits c.in_ok-number.ensures.reading.counts c.in_err-read_zeros.ensures.reading.counts);
+        reads = told_then c.args.bits.now c.take.new.self c.read_zeros.new.bits _ c.in_ok-offset.ensures.reading.counts c.in_ok-offset.ensures.reading.reads (told_then c.take.new.self c.take-2.new.self c.read_zeros.new.bits _ c.in_ok-number.ensures.reading.counts c.in_ok-number.ensures.reading.reads (told_fault c.take-2.new.self c.read_zeros.new.bits _ (told_reserved 24 c.take-2.new.self c.read_zeros.new.bits c.in_err-read_zeros.ensures.reading.reads)));
+      };
+    })
 
 pub returns : goal.returns
 unfolding cue_index Rattle.flac_meta.specs.Fields.reserved
-returns g c = record { reading = record {
-      spends = search rules;
-      counts = answered_then c.args.bits.now c.take.new.self c.read_zeros.new.bits c.in_ok-offset.ensures.reading.counts (answered_then c.take.new.self c.take-2.new.self c.read_zeros.new.bits c.in_ok-number.ensures.reading.counts c.in_ok-read_zeros.ensures.reading.counts);
-      reads = search rules;
-    } }
+returns g c = record {
+  reading = record {
+    spends = search rules;
+    counts = answered_then c.args.bits.now c.take.new.self c.read_zeros.new.bits c.in_ok-offset.ensures.reading.counts (answered_then c.take.new.self c.take-2.new.self c.read_zeros.new.bits c.in_ok-number.ensures.reading.counts c.in_ok-read_zeros.ensures.reading.counts);
+    reads = search rules;
+  };
+}
 
 pub returns-in_err-offset : goal.returns-in_err-offset
 unfolding cue_index
 returns-in_err-offset g c =
     let p = err_from_is_err_and c.from_residual.result c.from_residual.ensures.1 in
-    rw (p.1, p.2) (record { reading = record {
-      spends = tt;
-      counts = search rules;
-      reads = told_fault c.args.bits.now c.take.new.self _ c.in_err-offset.ensures.reading.reads;
-    } })
+    rw (p.1, p.2) (record {
+      reading = record {
+        spends = tt;
+        counts = search rules;
+        reads = told_fault c.args.bits.now c.take.new.self _ c.in_err-offset.ensures.reading.reads;
+      };
+    })

@@ -31,18 +31,18 @@ returns-in_err-indices-clause-reading g c =
 pub returns-clause-reading : goal.returns-clause-reading
 unfolding cue_track
 returns-clause-reading g c = record {
-      spends = search rules;
-      counts = answered_then c.args.bits.now c.read_track_front.new.bits c.read_indices.new.bits c.in_ok-offset.ensures.reading.counts (answered_then c.read_track_front.new.bits c.read_count.new.bits c.read_indices.new.bits c.in_ok-count.ensures.reading.counts c.in_ok-indices.ensures.reading.counts);
-      reads = (λ room. told_part 35 c.args.left _ c.args.bits.now c.read_indices.new.bits c.if-left-lt35.false (told_then c.args.bits.now c.read_track_front.new.bits c.read_indices.new.bits _ c.in_ok-offset.ensures.reading.counts c.in_ok-offset.ensures.reading.reads (told_then c.read_track_front.new.bits c.read_count.new.bits c.read_indices.new.bits _ c.in_ok-count.ensures.reading.counts c.in_ok-count.ensures.reading.reads (told_kept (nat_lt (c.args.left - 36) (12 * c.in_ok-count.count)) BlockLength c.read_count.new.bits c.read_indices.new.bits c.read_count.new.bits.cursor _ (less_not (c.args.left - 36) (12 * c.in_ok-count.count) (omega arith)) (told_then c.read_count.new.bits c.read_indices.new.bits c.read_indices.new.bits _ c.in_ok-indices.ensures.reading.counts (c.in_ok-indices.ensures.reading.reads (λ q. absurd cc)) (λ known same. refl))))));
-    }
+  spends = search rules;
+  counts = answered_then c.args.bits.now c.read_track_front.new.bits c.read_indices.new.bits c.in_ok-offset.ensures.reading.counts (answered_then c.read_track_front.new.bits c.read_count.new.bits c.read_indices.new.bits c.in_ok-count.ensures.reading.counts c.in_ok-indices.ensures.reading.counts);
+  reads = (λ room. told_part 35 c.args.left _ c.args.bits.now c.read_indices.new.bits c.if-left-lt35.false (told_then c.args.bits.now c.read_track_front.new.bits c.read_indices.new.bits _ c.in_ok-offset.ensures.reading.counts c.in_ok-offset.ensures.reading.reads (told_then c.read_track_front.new.bits c.read_count.new.bits c.read_indices.new.bits _ c.in_ok-count.ensures.reading.counts c.in_ok-count.ensures.reading.reads (told_kept (nat_lt (c.args.left - 36) (12 * c.in_ok-count.count)) BlockLength c.read_count.new.bits c.read_indices.new.bits c.read_count.new.bits.cursor _ (less_not (c.args.left - 36) (12 * c.in_ok-count.count) (omega arith)) (told_then c.read_count.new.bits c.read_indices.new.bits c.read_indices.new.bits _ c.in_ok-indices.ensures.reading.counts (c.in_ok-indices.ensures.reading.reads (λ q. absurd cc)) (λ known same. refl))))));
+}
 
 pub returns-then-left-lt35-clause-reading : goal.returns-then-left-lt35-clause-reading
 unfolding cue_track
 returns-then-left-lt35-clause-reading g c = record {
-      spends = search rules;
-      counts = search rules;
-      reads = (λ room. part_short 35 c.args.left _ c.args.bits.now c.too_short.new.bits c.if-left-lt35.true c.too_short.ensures.reads);
-    }
+  spends = search rules;
+  counts = search rules;
+  reads = (λ room. part_short 35 c.args.left _ c.args.bits.now c.too_short.new.bits c.if-left-lt35.true c.too_short.ensures.reads);
+}
 
 pub returns-in_err-offset-clause-reading : goal.returns-in_err-offset-clause-reading
 unfolding cue_track

@@ -12,66 +12,80 @@ pub returns-in_err-number : goal.returns-in_err-number
 unfolding track_front
 returns-in_err-number g c =
     let p = err_from_is_err_and c.from_residual-in_err-number.result c.from_residual-in_err-number.ensures.1 in
-    rw (p.1, p.2) (record { reading = record {
-      spends = tt;
-      counts = failed_then c.args.bits.now c.take.new.self c.take-2.new.self c.in_ok-offset.ensures.reading.counts c.in_err-number.ensures.reading.counts;
-      reads = told_then c.args.bits.now c.take.new.self c.take-2.new.self _ c.in_ok-offset.ensures.reading.counts c.in_ok-offset.ensures.reading.reads (told_fault c.take.new.self c.take-2.new.self _ c.in_err-number.ensures.reading.reads);
-    } })
+    rw (p.1, p.2) (record {
+      reading = record {
+        spends = tt;
+        counts = failed_then c.args.bits.now c.take.new.self c.take-2.new.self c.in_ok-offset.ensures.reading.counts c.in_err-number.ensures.reading.counts;
+        reads = told_then c.args.bits.now c.take.new.self c.take-2.new.self _ c.in_ok-offset.ensures.reading.counts c.in_ok-offset.ensures.reading.reads (told_fault c.take.new.self c.take-2.new.self _ c.in_err-number.ensures.reading.reads);
+      };
+    })
 
 pub returns-in_err-read_bytes : goal.returns-in_err-read_bytes
 unfolding track_front
 returns-in_err-read_bytes g c =
     let p = err_from_is_err_and c.from_residual-in_err-read_bytes.result c.from_residual-in_err-read_bytes.ensures.1 in
-    rw (p.1, p.2) (record { reading = record {
-      spends = tt;
-      counts = failed_then c.args.bits.now c.take.new.self c.read_bytes.new.bits c.in_ok-offset.ensures.reading.counts (failed_then c.take.new.self c.take-2.new.self c.read_bytes.new.bits c.in_ok-number.ensures.reading.counts c.in_err-read_bytes.ensures.reading.counts);
-      reads = told_then c.args.bits.now c.take.new.self c.read_bytes.new.bits _ c.in_ok-offset.ensures.reading.counts c.in_ok-offset.ensures.reading.reads (told_then c.take.new.self c.take-2.new.self c.read_bytes.new.bits _ c.in_ok-number.ensures.reading.counts c.in_ok-number.ensures.reading.reads (told_fault c.take-2.new.self c.read_bytes.new.bits _ c.in_err-read_bytes.ensures.reading.reads));
-    } })
+    rw (p.1, p.2) (record {
+      reading = record {
+        spends = tt;
+        counts = failed_then c.args.bits.now c.take.new.self c.read_bytes.new.bits c.in_ok-offset.ensures.reading.counts (failed_then c.take.new.self c.take-2.new.self c.read_bytes.new.bits c.in_ok-number.ensures.reading.counts c.in_err-read_bytes.ensures.reading.counts);
+        reads = told_then c.args.bits.now c.take.new.self c.read_bytes.new.bits _ c.in_ok-offset.ensures.reading.counts c.in_ok-offset.ensures.reading.reads (told_then c.take.new.self c.take-2.new.self c.read_bytes.new.bits _ c.in_ok-number.ensures.reading.counts c.in_ok-number.ensures.reading.reads (told_fault c.take-2.new.self c.read_bytes.new.bits _ c.in_err-read_bytes.ensures.reading.reads));
+      };
+    })
 
 pub returns-in_err-audio : goal.returns-in_err-audio
 unfolding track_front
 returns-in_err-audio g c =
     let p = err_from_is_err_and c.from_residual-in_err-audio.result c.from_residual-in_err-audio.ensures.1 in
-    rw (p.1, p.2) (record { reading = record {
-      spends = tt;
-      counts = failed_then c.args.bits.now c.take.new.self c.take-3.new.self c.in_ok-offset.ensures.reading.counts (failed_then c.take.new.self c.take-2.new.self c.take-3.new.self c.in_ok-number.ensures.reading.counts (failed_then c.take-2.new.self c.read_bytes.new.bits c.take-3.new.self c.in_ok-read_bytes.ensures.reading.counts c.in_err-audio.ensures.reading.counts));
-      reads = told_then c.args.bits.now c.take.new.self c.take-3.new.self _ c.in_ok-offset.ensures.reading.counts c.in_ok-offset.ensures.reading.reads (told_then c.take.new.self c.take-2.new.self c.take-3.new.self _ c.in_ok-number.ensures.reading.counts c.in_ok-number.ensures.reading.reads (told_then c.take-2.new.self c.read_bytes.new.bits c.take-3.new.self _ c.in_ok-read_bytes.ensures.reading.counts c.in_ok-read_bytes.ensures.reading.reads (told_fault c.read_bytes.new.bits c.take-3.new.self _ c.in_err-audio.ensures.reading.reads)));
-    } })
+    rw (p.1, p.2) (record {
+      reading = record {
+        spends = tt;
+        counts = failed_then c.args.bits.now c.take.new.self c.take-3.new.self c.in_ok-offset.ensures.reading.counts (failed_then c.take.new.self c.take-2.new.self c.take-3.new.self c.in_ok-number.ensures.reading.counts (failed_then c.take-2.new.self c.read_bytes.new.bits c.take-3.new.self c.in_ok-read_bytes.ensures.reading.counts c.in_err-audio.ensures.reading.counts));
+        reads = told_then c.args.bits.now c.take.new.self c.take-3.new.self _ c.in_ok-offset.ensures.reading.counts c.in_ok-offset.ensures.reading.reads (told_then c.take.new.self c.take-2.new.self c.take-3.new.self _ c.in_ok-number.ensures.reading.counts c.in_ok-number.ensures.reading.reads (told_then c.take-2.new.self c.read_bytes.new.bits c.take-3.new.self _ c.in_ok-read_bytes.ensures.reading.counts c.in_ok-read_bytes.ensures.reading.reads (told_fault c.read_bytes.new.bits c.take-3.new.self _ c.in_err-audio.ensures.reading.reads)));
+      };
+    })
 
 pub returns-in_err-pre_emphasis : goal.returns-in_err-pre_emphasis
 unfolding track_front
 returns-in_err-pre_emphasis g c =
     let p = err_from_is_err_and c.from_residual-in_err-pre_emphasis.result c.from_residual-in_err-pre_emphasis.ensures.1 in
-    rw (p.1, p.2) (record { reading = record {
-      spends = tt;
-      counts = failed_then c.args.bits.now c.take.new.self c.take-4.new.self c.in_ok-offset.ensures.reading.counts (failed_then c.take.new.self c.take-2.new.self c.take-4.new.self c.in_ok-number.ensures.reading.counts (failed_then c.take-2.new.self c.read_bytes.new.bits c.take-4.new.self c.in_ok-read_bytes.ensures.reading.counts (failed_then c.read_bytes.new.bits c.take-3.new.self c.take-4.new.self c.in_ok-audio.ensures.reading.counts c.in_err-pre_emphasis.ensures.reading.counts)));
-      reads = told_then c.args.bits.now c.take.new.self c.take-4.new.self _ c.in_ok-offset.ensures.reading.counts c.in_ok-offset.ensures.reading.reads (told_then c.take.new.self c.take-2.new.self c.take-4.new.self _ c.in_ok-number.ensures.reading.counts c.in_ok-number.ensures.reading.reads (told_then c.take-2.new.self c.read_bytes.new.bits c.take-4.new.self _ c.in_ok-read_bytes.ensures.reading.counts c.in_ok-read_bytes.ensures.reading.reads (told_then c.read_bytes.new.bits c.take-3.new.self c.take-4.new.self _ c.in_ok-audio.ensures.reading.counts c.in_ok-audio.ensures.reading.reads (told_fault c.take-3.new.self c.take-4.new.self _ c.in_err-pre_emphasis.ensures.reading.reads))));
-    } })
+    rw (p.1, p.2) (record {
+      reading = record {
+        spends = tt;
+        counts = failed_then c.args.bits.now c.take.new.self c.take-4.new.self c.in_ok-offset.ensures.reading.counts (failed_then c.take.new.self c.take-2.new.self c.take-4.new.self c.in_ok-number.ensures.reading.counts (failed_then c.take-2.new.self c.read_bytes.new.bits c.take-4.new.self c.in_ok-read_bytes.ensures.reading.counts (failed_then c.read_bytes.new.bits c.take-3.new.self c.take-4.new.self c.in_ok-audio.ensures.reading.counts c.in_err-pre_emphasis.ensures.reading.counts)));
+        reads = told_then c.args.bits.now c.take.new.self c.take-4.new.self _ c.in_ok-offset.ensures.reading.counts c.in_ok-offset.ensures.reading.reads (told_then c.take.new.self c.take-2.new.self c.take-4.new.self _ c.in_ok-number.ensures.reading.counts c.in_ok-number.ensures.reading.reads (told_then c.take-2.new.self c.read_bytes.new.bits c.take-4.new.self _ c.in_ok-read_bytes.ensures.reading.counts c.in_ok-read_bytes.ensures.reading.reads (told_then c.read_bytes.new.bits c.take-3.new.self c.take-4.new.self _ c.in_ok-audio.ensures.reading.counts c.in_ok-audio.ensures.reading.reads (told_fault c.take-3.new.self c.take-4.new.self _ c.in_err-pre_emphasis.ensures.reading.reads))));
+      };
+    })
 
 pub returns-in_err-read_zeros : goal.returns-in_err-read_zeros
 unfolding track_front
 returns-in_err-read_zeros g c =
     let p = err_from_is_err_and c.from_residual-in_err-read_zeros.result c.from_residual-in_err-read_zeros.ensures.1 in
-    rw (p.1, p.2) (record { reading = record {
-      spends = tt;
-      counts = failed_then c.args.bits.now c.take.new.self c.read_zeros.new.bits c.in_ok-offset.ensures.reading.counts (failed_then c.take.new.self c.take-2.new.self c.read_zeros.new.bits c.in_ok-number.ensures.reading.counts (failed_then c.take-2.new.self c.read_bytes.new.bits c.read_zeros.new.bits c.in_ok-read_bytes.ensures.reading.counts (failed_then c.read_bytes.new.bits c.take-3.new.self c.read_zeros.new.bits c.in_ok-audio.ensures.reading.counts (failed_then c.take-3.new.self c.take-4.new.self c.read_zeros.new.bits c.in_ok-pre_emphasis.ensures.reading.counts c.in_err-read_zeros.ensures.reading.counts))));
-      reads = told_then c.args.bits.now c.take.new.self c.read_zeros.new.bits _ c.in_ok-offset.ensures.reading.counts c.in_ok-offset.ensures.reading.reads (told_then c.take.new.self c.take-2.new.self c.read_zeros.new.bits _ c.in_ok-number.ensures.reading.counts c.in_ok-number.ensures.reading.reads (told_then c.take-2.new.self c.read_bytes.new.bits c.read_zeros.new.bits _ c.in_ok-read_bytes.ensures.reading.counts c.in_ok-read_bytes.ensures.reading.reads (told_then c.read_bytes.new.bits c.take-3.new.self c.read_zeros.new.bits _ c.in_ok-audio.ensures.reading.counts c.in_ok-audio.ensures.reading.reads (told_then c.take-3.new.self c.take-4.new.self c.read_zeros.new.bits _ c.in_ok-pre_emphasis.ensures.reading.counts c.in_ok-pre_emphasis.ensures.reading.reads (told_fault c.take-4.new.self c.read_zeros.new.bits _ (told_reserved 110 c.take-4.new.self c.read_zeros.new.bits c.in_err-read_zeros.ensures.reading.reads))))));
-    } })
+    rw (p.1, p.2) (record {
+      reading = record {
+        spends = tt;
+        counts = failed_then c.args.bits.now c.take.new.self c.read_zeros.new.bits c.in_ok-offset.ensures.reading.counts (failed_then c.take.new.self c.take-2.new.self c.read_zeros.new.bits c.in_ok-number.ensures.reading.counts (failed_then c.take-2.new.self c.read_bytes.new.bits c.read_zeros.new.bits c.in_ok-read_bytes.ensures.reading.counts (failed_then c.read_bytes.new.bits c.take-3.new.self c.read_zeros.new.bits c.in_ok-audio.ensures.reading.counts (failed_then c.take-3.new.self c.take-4.new.self c.read_zeros.new.bits c.in_ok-pre_emphasis.ensures.reading.counts c.in_err-read_zeros.ensures.reading.counts))));
+        reads = told_then c.args.bits.now c.take.new.self c.read_zeros.new.bits _ c.in_ok-offset.ensures.reading.counts c.in_ok-offset.ensures.reading.reads (told_then c.take.new.self c.take-2.new.self c.read_zeros.new.bits _ c.in_ok-number.ensures.reading.counts c.in_ok-number.ensures.reading.reads (told_then c.take-2.new.self c.read_bytes.new.bits c.read_zeros.new.bits _ c.in_ok-read_bytes.ensures.reading.counts c.in_ok-read_bytes.ensures.reading.reads (told_then c.read_bytes.new.bits c.take-3.new.self c.read_zeros.new.bits _ c.in_ok-audio.ensures.reading.counts c.in_ok-audio.ensures.reading.reads (told_then c.take-3.new.self c.take-4.new.self c.read_zeros.new.bits _ c.in_ok-pre_emphasis.ensures.reading.counts c.in_ok-pre_emphasis.ensures.reading.reads (told_fault c.take-4.new.self c.read_zeros.new.bits _ (told_reserved 110 c.take-4.new.self c.read_zeros.new.bits c.in_err-read_zeros.ensures.reading.reads))))));
+      };
+    })
 
 pub returns : goal.returns
 unfolding Rattle.flac_meta.specs.CueSheet.track_front Rattle.flac_meta.specs.Fields.reserved
-returns g c = record { reading = record {
-      spends = search rules;
-      counts = answered_then c.args.bits.now c.take.new.self c.read_zeros.new.bits c.in_ok-offset.ensures.reading.counts (answered_then c.take.new.self c.take-2.new.self c.read_zeros.new.bits c.in_ok-number.ensures.reading.counts (answered_then c.take-2.new.self c.read_bytes.new.bits c.read_zeros.new.bits c.in_ok-read_bytes.ensures.reading.counts (answered_then c.read_bytes.new.bits c.take-3.new.self c.read_zeros.new.bits c.in_ok-audio.ensures.reading.counts (answered_then c.take-3.new.self c.take-4.new.self c.read_zeros.new.bits c.in_ok-pre_emphasis.ensures.reading.counts c.in_ok-read_zeros.ensures.reading.counts))));
-      reads = grind (arith, common_steps);
-    } }
+returns g c = record {
+  reading = record {
+    spends = search rules;
+    counts = answered_then c.args.bits.now c.take.new.self c.read_zeros.new.bits c.in_ok-offset.ensures.reading.counts (answered_then c.take.new.self c.take-2.new.self c.read_zeros.new.bits c.in_ok-number.ensures.reading.counts (answered_then c.take-2.new.self c.read_bytes.new.bits c.read_zeros.new.bits c.in_ok-read_bytes.ensures.reading.counts (answered_then c.read_bytes.new.bits c.take-3.new.self c.read_zeros.new.bits c.in_ok-audio.ensures.reading.counts (answered_then c.take-3.new.self c.take-4.new.self c.read_zeros.new.bits c.in_ok-pre_emphasis.ensures.reading.counts c.in_ok-read_zeros.ensures.reading.counts))));
+    reads = grind (arith, common_steps);
+  };
+}
 
 pub returns-in_err-offset : goal.returns-in_err-offset
 unfolding track_front
 returns-in_err-offset g c =
     let p = err_from_is_err_and c.from_residual.result c.from_residual.ensures.1 in
-    rw (p.1, p.2) (record { reading = record {
-      spends = tt;
-      counts = search rules;
-      reads = told_fault c.args.bits.now c.take.new.self _ c.in_err-offset.ensures.reading.reads;
-    } })
+    rw (p.1, p.2) (record {
+      reading = record {
+        spends = tt;
+        counts = search rules;
+        reads = told_fault c.args.bits.now c.take.new.self _ c.in_err-offset.ensures.reading.reads;
+      };
+    })

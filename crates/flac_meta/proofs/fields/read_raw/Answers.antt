@@ -28,7 +28,7 @@ returns-in_err-push-clause-reading g c =
 
 pub returns-clause-reading : goal.returns-clause-reading
 returns-clause-reading g c = record {
-      spends = search rules;
-      counts = gone c.loop-i.invariant.2;
-      reads = grind (arith, common_steps, list_more, list_end, list_start);
-    }
+  spends = search rules;
+  counts = gone c.loop-i.invariant.2;
+  reads = grind (arith, common_steps, list_more, list_end, list_start);
+}

@@ -23,16 +23,20 @@ loop-i-preserved g c =
 pub returns-in_err-word : goal.returns-in_err-word
 returns-in_err-word g c =
     let p = err_from_is_err_and c.from_residual-in_err-word.result c.from_residual-in_err-word.ensures.1 in
-    rw (p.1, p.2) (record { reading = record {
-      spends = tt;
-      counts = failed_then c.args.bits.now c.loop-i.bits c.take-in-loop-i.new.self (gone c.loop-i.invariant.1) c.in_err-word.ensures.reading.counts;
-      reads = (gone_fault c.args.bits.now c.loop-i.bits c.take-in-loop-i.new.self _ c.loop-i.invariant.1
-      (zeros_more (c.args.count / 64) c.loop-i.i c.loop-i.clear c.loop-i.bits.cursor c.loop-i-test.true) c.in_err-word.ensures.reading.reads);
-    } })
+    rw (p.1, p.2) (record {
+      reading = record {
+        spends = tt;
+        counts = failed_then c.args.bits.now c.loop-i.bits c.take-in-loop-i.new.self (gone c.loop-i.invariant.1) c.in_err-word.ensures.reading.counts;
+        reads = (gone_fault c.args.bits.now c.loop-i.bits c.take-in-loop-i.new.self _ c.loop-i.invariant.1
+            (zeros_more (c.args.count / 64) c.loop-i.i c.loop-i.clear c.loop-i.bits.cursor c.loop-i-test.true) c.in_err-word.ensures.reading.reads);
+      };
+    })
 
 pub returns : goal.returns
-returns g c = record { reading = record {
-      spends = search rules;
-      counts = gone c.loop-i.invariant.1;
-      reads = grind (arith, common_steps, zeros_first, zeros_more, zeros_end);
-    } }
+returns g c = record {
+  reading = record {
+    spends = search rules;
+    counts = gone c.loop-i.invariant.1;
+    reads = grind (arith, common_steps, zeros_first, zeros_more, zeros_end);
+  };
+}

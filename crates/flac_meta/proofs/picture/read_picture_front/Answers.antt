@@ -28,10 +28,10 @@ returns-in_err-text-clause-reading g c =
 pub returns-clause-reading : goal.returns-clause-reading
 unfolding picture_front
 returns-clause-reading g c = record {
-      spends = search rules;
-      counts = answered_then c.args.bits.now c.read_number_32.new.bits c.read_sized-2.new.bits c.in_ok-kind.ensures.reading.counts (answered_then c.read_number_32.new.bits c.read_sized.new.bits c.read_sized-2.new.bits c.in_ok-media.ensures.reading.counts c.in_ok-text.ensures.reading.counts);
-      reads = search rules;
-    }
+  spends = search rules;
+  counts = answered_then c.args.bits.now c.read_number_32.new.bits c.read_sized-2.new.bits c.in_ok-kind.ensures.reading.counts (answered_then c.read_number_32.new.bits c.read_sized.new.bits c.read_sized-2.new.bits c.in_ok-media.ensures.reading.counts c.in_ok-text.ensures.reading.counts);
+  reads = search rules;
+}
 
 pub returns-in_err-kind-clause-reading : goal.returns-in_err-kind-clause-reading
 unfolding picture_front

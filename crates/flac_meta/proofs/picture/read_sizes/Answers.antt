@@ -38,10 +38,10 @@ returns-in_err-colours-clause-reading g c =
 pub returns-clause-reading : goal.returns-clause-reading
 unfolding sizes
 returns-clause-reading g c = record {
-      spends = search rules;
-      counts = answered_then c.args.bits.now c.read_number_32.new.bits c.read_number_32-4.new.bits c.in_ok-width.ensures.reading.counts (answered_then c.read_number_32.new.bits c.read_number_32-2.new.bits c.read_number_32-4.new.bits c.in_ok-height.ensures.reading.counts (answered_then c.read_number_32-2.new.bits c.read_number_32-3.new.bits c.read_number_32-4.new.bits c.in_ok-depth.ensures.reading.counts c.in_ok-colours.ensures.reading.counts));
-      reads = told_then c.args.bits.now c.read_number_32.new.bits c.read_number_32-4.new.bits _ c.in_ok-width.ensures.reading.counts c.in_ok-width.ensures.reading.reads (told_then c.read_number_32.new.bits c.read_number_32-2.new.bits c.read_number_32-4.new.bits _ c.in_ok-height.ensures.reading.counts c.in_ok-height.ensures.reading.reads (told_then c.read_number_32-2.new.bits c.read_number_32-3.new.bits c.read_number_32-4.new.bits _ c.in_ok-depth.ensures.reading.counts c.in_ok-depth.ensures.reading.reads (told_then c.read_number_32-3.new.bits c.read_number_32-4.new.bits c.read_number_32-4.new.bits _ c.in_ok-colours.ensures.reading.counts c.in_ok-colours.ensures.reading.reads (λ known same. refl))));
-    }
+  spends = search rules;
+  counts = answered_then c.args.bits.now c.read_number_32.new.bits c.read_number_32-4.new.bits c.in_ok-width.ensures.reading.counts (answered_then c.read_number_32.new.bits c.read_number_32-2.new.bits c.read_number_32-4.new.bits c.in_ok-height.ensures.reading.counts (answered_then c.read_number_32-2.new.bits c.read_number_32-3.new.bits c.read_number_32-4.new.bits c.in_ok-depth.ensures.reading.counts c.in_ok-colours.ensures.reading.counts));
+  reads = told_then c.args.bits.now c.read_number_32.new.bits c.read_number_32-4.new.bits _ c.in_ok-width.ensures.reading.counts c.in_ok-width.ensures.reading.reads (told_then c.read_number_32.new.bits c.read_number_32-2.new.bits c.read_number_32-4.new.bits _ c.in_ok-height.ensures.reading.counts c.in_ok-height.ensures.reading.reads (told_then c.read_number_32-2.new.bits c.read_number_32-3.new.bits c.read_number_32-4.new.bits _ c.in_ok-depth.ensures.reading.counts c.in_ok-depth.ensures.reading.reads (told_then c.read_number_32-3.new.bits c.read_number_32-4.new.bits c.read_number_32-4.new.bits _ c.in_ok-colours.ensures.reading.counts c.in_ok-colours.ensures.reading.reads (λ known same. refl))));
+}
 
 pub returns-in_err-width-clause-reading : goal.returns-in_err-width-clause-reading
 unfolding sizes

@@ -38,10 +38,10 @@ returns-in_err-total-clause-reading g c =
 pub returns-clause-reading : goal.returns-clause-reading
 unfolding info_format
 returns-clause-reading g c = record {
-      spends = search rules;
-      counts = answered_then c.args.bits.now c.take.new.self c.take-4.new.self c.in_ok-rate.ensures.reading.counts (answered_then c.take.new.self c.take-2.new.self c.take-4.new.self c.in_ok-channels.ensures.reading.counts (answered_then c.take-2.new.self c.take-3.new.self c.take-4.new.self c.in_ok-depth.ensures.reading.counts c.in_ok-total.ensures.reading.counts));
-      reads = told_then c.args.bits.now c.take.new.self c.take-4.new.self _ c.in_ok-rate.ensures.reading.counts c.in_ok-rate.ensures.reading.reads (told_then c.take.new.self c.take-2.new.self c.take-4.new.self _ c.in_ok-channels.ensures.reading.counts c.in_ok-channels.ensures.reading.reads (told_then c.take-2.new.self c.take-3.new.self c.take-4.new.self _ c.in_ok-depth.ensures.reading.counts c.in_ok-depth.ensures.reading.reads (told_then c.take-3.new.self c.take-4.new.self c.take-4.new.self _ c.in_ok-total.ensures.reading.counts c.in_ok-total.ensures.reading.reads (λ known same. refl))));
-    }
+  spends = search rules;
+  counts = answered_then c.args.bits.now c.take.new.self c.take-4.new.self c.in_ok-rate.ensures.reading.counts (answered_then c.take.new.self c.take-2.new.self c.take-4.new.self c.in_ok-channels.ensures.reading.counts (answered_then c.take-2.new.self c.take-3.new.self c.take-4.new.self c.in_ok-depth.ensures.reading.counts c.in_ok-total.ensures.reading.counts));
+  reads = told_then c.args.bits.now c.take.new.self c.take-4.new.self _ c.in_ok-rate.ensures.reading.counts c.in_ok-rate.ensures.reading.reads (told_then c.take.new.self c.take-2.new.self c.take-4.new.self _ c.in_ok-channels.ensures.reading.counts c.in_ok-channels.ensures.reading.reads (told_then c.take-2.new.self c.take-3.new.self c.take-4.new.self _ c.in_ok-depth.ensures.reading.counts c.in_ok-depth.ensures.reading.reads (told_then c.take-3.new.self c.take-4.new.self c.take-4.new.self _ c.in_ok-total.ensures.reading.counts c.in_ok-total.ensures.reading.reads (λ known same. refl))));
+}
 
 pub returns-in_err-rate-clause-reading : goal.returns-in_err-rate-clause-reading
 unfolding info_format

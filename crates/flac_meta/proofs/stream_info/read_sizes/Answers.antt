@@ -38,10 +38,10 @@ returns-in_err-greatest_frame-clause-reading g c =
 pub returns-clause-reading : goal.returns-clause-reading
 unfolding info_sizes
 returns-clause-reading g c = record {
-      spends = search rules;
-      counts = answered_then c.args.bits.now c.take.new.self c.take-4.new.self c.in_ok-least_block.ensures.reading.counts (answered_then c.take.new.self c.take-2.new.self c.take-4.new.self c.in_ok-greatest_block.ensures.reading.counts (answered_then c.take-2.new.self c.take-3.new.self c.take-4.new.self c.in_ok-least_frame.ensures.reading.counts c.in_ok-greatest_frame.ensures.reading.counts));
-      reads = told_then c.args.bits.now c.take.new.self c.take-4.new.self _ c.in_ok-least_block.ensures.reading.counts c.in_ok-least_block.ensures.reading.reads (told_then c.take.new.self c.take-2.new.self c.take-4.new.self _ c.in_ok-greatest_block.ensures.reading.counts c.in_ok-greatest_block.ensures.reading.reads (told_then c.take-2.new.self c.take-3.new.self c.take-4.new.self _ c.in_ok-least_frame.ensures.reading.counts c.in_ok-least_frame.ensures.reading.reads (told_then c.take-3.new.self c.take-4.new.self c.take-4.new.self _ c.in_ok-greatest_frame.ensures.reading.counts c.in_ok-greatest_frame.ensures.reading.reads (λ known same. refl))));
-    }
+  spends = search rules;
+  counts = answered_then c.args.bits.now c.take.new.self c.take-4.new.self c.in_ok-least_block.ensures.reading.counts (answered_then c.take.new.self c.take-2.new.self c.take-4.new.self c.in_ok-greatest_block.ensures.reading.counts (answered_then c.take-2.new.self c.take-3.new.self c.take-4.new.self c.in_ok-least_frame.ensures.reading.counts c.in_ok-greatest_frame.ensures.reading.counts));
+  reads = told_then c.args.bits.now c.take.new.self c.take-4.new.self _ c.in_ok-least_block.ensures.reading.counts c.in_ok-least_block.ensures.reading.reads (told_then c.take.new.self c.take-2.new.self c.take-4.new.self _ c.in_ok-greatest_block.ensures.reading.counts c.in_ok-greatest_block.ensures.reading.reads (told_then c.take-2.new.self c.take-3.new.self c.take-4.new.self _ c.in_ok-least_frame.ensures.reading.counts c.in_ok-least_frame.ensures.reading.reads (told_then c.take-3.new.self c.take-4.new.self c.take-4.new.self _ c.in_ok-greatest_frame.ensures.reading.counts c.in_ok-greatest_frame.ensures.reading.reads (λ known same. refl))));
+}
 
 pub returns-in_err-least_block-clause-reading : goal.returns-in_err-least_block-clause-reading
 unfolding info_sizes

@@ -9,36 +9,44 @@ pub returns-in_err-rate : goal.returns-in_err-rate
 unfolding stream_info
 returns-in_err-rate g c =
     let p = err_from_is_err_and c.from_residual-in_err-rate.result c.from_residual-in_err-rate.ensures.1 in
-    rw (p.1, p.2) (record { reading = record {
-      spends = tt;
-      counts = failed_then c.args.bits.now c.read_sizes.new.bits c.read_format.new.bits c.in_ok-least_block.ensures.reading.counts c.in_err-rate.ensures.reading.counts;
-      reads = told_then c.args.bits.now c.read_sizes.new.bits c.read_format.new.bits _ c.in_ok-least_block.ensures.reading.counts c.in_ok-least_block.ensures.reading.reads (told_fault c.read_sizes.new.bits c.read_format.new.bits _ c.in_err-rate.ensures.reading.reads);
-    } })
+    rw (p.1, p.2) (record {
+      reading = record {
+        spends = tt;
+        counts = failed_then c.args.bits.now c.read_sizes.new.bits c.read_format.new.bits c.in_ok-least_block.ensures.reading.counts c.in_err-rate.ensures.reading.counts;
+        reads = told_then c.args.bits.now c.read_sizes.new.bits c.read_format.new.bits _ c.in_ok-least_block.ensures.reading.counts c.in_ok-least_block.ensures.reading.reads (told_fault c.read_sizes.new.bits c.read_format.new.bits _ c.in_err-rate.ensures.reading.reads);
+      };
+    })
 
 pub returns-in_err-read_bytes : goal.returns-in_err-read_bytes
 unfolding stream_info
 returns-in_err-read_bytes g c =
     let p = err_from_is_err_and c.from_residual-in_err-read_bytes.result c.from_residual-in_err-read_bytes.ensures.1 in
-    rw (p.1, p.2) (record { reading = record {
-      spends = tt;
-      counts = failed_then c.args.bits.now c.read_sizes.new.bits c.read_bytes.new.bits c.in_ok-least_block.ensures.reading.counts (failed_then c.read_sizes.new.bits c.read_format.new.bits c.read_bytes.new.bits c.in_ok-rate.ensures.reading.counts c.in_err-read_bytes.ensures.reading.counts);
-      reads = told_then c.args.bits.now c.read_sizes.new.bits c.read_bytes.new.bits _ c.in_ok-least_block.ensures.reading.counts c.in_ok-least_block.ensures.reading.reads (told_then c.read_sizes.new.bits c.read_format.new.bits c.read_bytes.new.bits _ c.in_ok-rate.ensures.reading.counts c.in_ok-rate.ensures.reading.reads (told_fault c.read_format.new.bits c.read_bytes.new.bits _ c.in_err-read_bytes.ensures.reading.reads));
-    } })
+    rw (p.1, p.2) (record {
+      reading = record {
+        spends = tt;
+        counts = failed_then c.args.bits.now c.read_sizes.new.bits c.read_bytes.new.bits c.in_ok-least_block.ensures.reading.counts (failed_then c.read_sizes.new.bits c.read_format.new.bits c.read_bytes.new.bits c.in_ok-rate.ensures.reading.counts c.in_err-read_bytes.ensures.reading.counts);
+        reads = told_then c.args.bits.now c.read_sizes.new.bits c.read_bytes.new.bits _ c.in_ok-least_block.ensures.reading.counts c.in_ok-least_block.ensures.reading.reads (told_then c.read_sizes.new.bits c.read_format.new.bits c.read_bytes.new.bits _ c.in_ok-rate.ensures.reading.counts c.in_ok-rate.ensures.reading.reads (told_fault c.read_format.new.bits c.read_bytes.new.bits _ c.in_err-read_bytes.ensures.reading.reads));
+      };
+    })
 
 pub returns : goal.returns
 unfolding stream_info
-returns g c = record { reading = record {
-      spends = search rules;
-      counts = answered_then c.args.bits.now c.read_sizes.new.bits c.read_bytes.new.bits c.in_ok-least_block.ensures.reading.counts (answered_then c.read_sizes.new.bits c.read_format.new.bits c.read_bytes.new.bits c.in_ok-rate.ensures.reading.counts c.in_ok-read_bytes.ensures.reading.counts);
-      reads = search rules;
-    } }
+returns g c = record {
+  reading = record {
+    spends = search rules;
+    counts = answered_then c.args.bits.now c.read_sizes.new.bits c.read_bytes.new.bits c.in_ok-least_block.ensures.reading.counts (answered_then c.read_sizes.new.bits c.read_format.new.bits c.read_bytes.new.bits c.in_ok-rate.ensures.reading.counts c.in_ok-read_bytes.ensures.reading.counts);
+    reads = search rules;
+  };
+}
 
 pub returns-in_err-least_block : goal.returns-in_err-least_block
 unfolding stream_info
 returns-in_err-least_block g c =
     let p = err_from_is_err_and c.from_residual.result c.from_residual.ensures.1 in
-    rw (p.1, p.2) (record { reading = record {
-      spends = tt;
-      counts = search rules;
-      reads = told_fault c.args.bits.now c.read_sizes.new.bits _ c.in_err-least_block.ensures.reading.reads;
-    } })
+    rw (p.1, p.2) (record {
+      reading = record {
+        spends = tt;
+        counts = search rules;
+        reads = told_fault c.args.bits.now c.read_sizes.new.bits _ c.in_err-least_block.ensures.reading.reads;
+      };
+    })

@@ -25,6 +25,6 @@ returns-in-Err-end-clause-broken g c = λ p at out. elim out [ inl e ↦ absurd 
 
 pub returns-in-Err-end-clause-counts : goal.returns-in-Err-end-clause-counts
 returns-in-Err-end-clause-counts g c =
-    let went = rw c.lift.ensures at c.in-Ok-true.ensures.reading.counts in
+    let went = rw c.lift.ensures at c.in-Ok-true.ensures.counts in
     let ended = c.in-Err-end.ensures in
     (omega (arith, went.1), λ known same. went.3 known, λ known read. absurd (ended.quiet read), went.4, λ read. absurd (ended.quiet read), ended.sinkless)

@@ -7,7 +7,7 @@ use Rattle.flac_ogg.proofs.packets.block_here.Goals as goal
 
 pub returns-clause-reading : goal.returns-clause-reading
 returns-clause-reading g c = record {
-      spends = search rules;
-      counts = search rules;
-      reads = (λ room. reads (λ _. kept c.next_block.new.self) (layout_in Blocks (stand_of c.args.track.now)) c.args.bits.now c.next_block.new.bits c.next_block.result (c.next_block.ensures.reading.reads room));
-    }
+  spends = search rules;
+  counts = search rules;
+  reads = (λ room. reads (λ _. kept c.next_block.new.self) (layout_in Blocks (stand_of c.args.track.now)) c.args.bits.now c.next_block.new.bits c.next_block.result (c.next_block.ensures.reading.reads room));
+}

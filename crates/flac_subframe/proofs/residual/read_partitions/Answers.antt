@@ -22,18 +22,26 @@ returns-in_err-read_partition g c =
     let so = c.loop-i.invariant in
     let within = cuts_within c.args.order c.args.size c.args.count (length c.loop-i.out) c.loop-i.start c.loop-i.end c.loop-i.i c.loop-i-test.true so.cuts in
     let p = err_from_is_err_and c.from_residual.result c.from_residual.ensures.1 in
-    rw (p.1, p.2) (record { fits = tt; reading = record { spends = tt; counts = failed_then c.args.bits.now c.loop-i.bits c.read_partition.new.bits (gone so.goes) c.in_err-read_partition.ensures.reading.counts; memory = c.in_err-read_partition.ensures.reading.memory; reads = λ known same.
-          let fails = c.in_err-read_partition.ensures.reading.reads (so.goes.known known) (same ∙ sym so.goes.errors) in
-          parts_fail c.args.parameter_bits c.args.order c.args.size c.args.count c.args.bits.now c.loop-i.bits c.read_partition.new.bits c.loop-i.out c.read_partition.new.out c.loop-i.start c.loop-i.end c.loop-i.i
-          (length (mid_of c.loop-i.start (c.loop-i.end - c.loop-i.start) c.loop-i.out)) c.loop-i-test.true so (length_mid c.loop-i.start c.loop-i.end c.loop-i.out so.cuts.ordered within) _ fails known }; })
+    rw (p.1, p.2) (record {
+      fits = tt;
+      reading = record {
+        spends = tt;
+        counts = failed_then c.args.bits.now c.loop-i.bits c.read_partition.new.bits (gone so.goes) c.in_err-read_partition.ensures.reading.counts;
+        memory = c.in_err-read_partition.ensures.reading.memory;
+        reads = λ known same.
+            let fails = c.in_err-read_partition.ensures.reading.reads (so.goes.known known) (same ∙ sym so.goes.errors) in
+            parts_fail c.args.parameter_bits c.args.order c.args.size c.args.count c.args.bits.now c.loop-i.bits c.read_partition.new.bits c.loop-i.out c.read_partition.new.out c.loop-i.start c.loop-i.end c.loop-i.i
+            (length (mid_of c.loop-i.start (c.loop-i.end - c.loop-i.start) c.loop-i.out)) c.loop-i-test.true so (length_mid c.loop-i.start c.loop-i.end c.loop-i.out so.cuts.ordered within) _ fails known;
+      };
+    })
 
 pub returns-clause-fits : goal.returns-clause-fits
 returns-clause-fits g c = parts_fit c.args.parameter_bits c.args.order c.args.size c.args.count c.args.bits.now c.loop-i.bits c.loop-i.out c.loop-i.start c.loop-i.end c.loop-i.i (omega (arith, c.requires.some, c.loop-i-test.false)) c.loop-i-test.false c.loop-i.invariant
 
 pub returns-clause-reading : goal.returns-clause-reading
 returns-clause-reading g c = record {
-      spends = search rules;
-      counts = search rules;
-      memory = search rules;
-      reads = (λ known same. parts_read c.args.parameter_bits c.args.order c.args.size c.args.count c.args.bits.now c.loop-i.bits c.loop-i.out c.loop-i.start c.loop-i.end c.loop-i.i (omega (arith, c.requires.some, c.loop-i-test.false)) c.loop-i-test.false c.loop-i.invariant known);
-    }
+  spends = search rules;
+  counts = search rules;
+  memory = search rules;
+  reads = (λ known same. parts_read c.args.parameter_bits c.args.order c.args.size c.args.count c.args.bits.now c.loop-i.bits c.loop-i.out c.loop-i.start c.loop-i.end c.loop-i.i (omega (arith, c.requires.some, c.loop-i-test.false)) c.loop-i-test.false c.loop-i.invariant known);
+}

@@ -11,7 +11,7 @@ use Rattle.flac_subframe.proofs.writing.write_residual.Goals as goal
 
 pub returns : goal.returns
 returns g c =
-    let f = codings_lent c.args.coded.now in
+    let f = codings_lent c.args.choice.now in
     let rs = c.args.values.now in
     let size : ℕ = (length rs + c.args.order) / 2 ^ f.halvings in
     let field : ℕ = (f.parameter_bits - 4) * 16 + f.halvings in
@@ -21,7 +21,7 @@ returns g c =
 
 pub returns-in_err-put : goal.returns-in_err-put
 returns-in_err-put g c =
-    let f = codings_lent c.args.coded.now in
+    let f = codings_lent c.args.choice.now in
     let rs = c.args.values.now in
     let size : ℕ = (length rs + c.args.order) / 2 ^ f.halvings in
     let field : ℕ = (f.parameter_bits - 4) * 16 + f.halvings in

@@ -50,8 +50,8 @@ okay y = Ok y
 
 pub returns-clause-reading : goal.returns-clause-reading
 returns-clause-reading g c = record {
-      spends = search rules;
-      counts = gone c.loop-i.invariant.goes;
-      memory = search rules;
-      reads = (λ known same. sym (c.loop-i.invariant.goes.reads known) ∙ list_end (length c.args.values.now) c.loop-i.i (signed_field c.args.n) c.loop-i.self.cursor (take c.loop-i.i c.loop-i.values) c.loop-i-test.false ∙ ap (λ front. okay (front, c.loop-i.self.cursor)) (take_all c.loop-i.i c.loop-i.values (omega (arith, c.loop-i.auto.values, c.loop-i-test.false))));
-    }
+  spends = search rules;
+  counts = gone c.loop-i.invariant.goes;
+  memory = search rules;
+  reads = (λ known same. sym (c.loop-i.invariant.goes.reads known) ∙ list_end (length c.args.values.now) c.loop-i.i (signed_field c.args.n) c.loop-i.self.cursor (take c.loop-i.i c.loop-i.values) c.loop-i-test.false ∙ ap (λ front. okay (front, c.loop-i.self.cursor)) (take_all c.loop-i.i c.loop-i.values (omega (arith, c.loop-i.auto.values, c.loop-i-test.false))));
+}

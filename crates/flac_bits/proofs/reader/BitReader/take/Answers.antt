@@ -6,8 +6,8 @@ returns-clause-small g c = search rules
 
 pub returns-clause-reading : goal.returns-clause-reading
 returns-clause-reading g c = record {
-      spends = search rules;
-      counts = search rules;
-      memory = search rules;
-      reads = search rules;
-    }
+  spends = search rules;
+  counts = search rules;
+  memory = search rules;
+  reads = search rules;
+}

@@ -9,11 +9,11 @@ returns-clause-small g c = halves_fit c.args.n c.in_ok-high.high c.in_ok-low.low
 
 pub returns-clause-reading : goal.returns-clause-reading
 returns-clause-reading g c = record {
-      spends = search rules;
-      counts = answered_then c.args.self.now c.take_few-2.new.self c.take_few-3.new.self c.in_ok-high.ensures.reading.counts c.in_ok-low.ensures.reading.counts;
-      memory = search rules;
-      reads = (λ known same.
+  spends = search rules;
+  counts = answered_then c.args.self.now c.take_few-2.new.self c.take_few-3.new.self c.in_ok-high.ensures.reading.counts c.in_ok-low.ensures.reading.counts;
+  memory = search rules;
+  reads = (λ known same.
       let high = c.in_ok-high.ensures in
       let low = c.in_ok-low.ensures in
       rw (number_halves c.args.n c.args.self.now.cursor (omega (arith, c.if-n-le32.false)), high.reading.reads known high.reading.counts.1, low.reading.reads (high.reading.counts.0 known) low.reading.counts.1, halves_joined c.args.n c.in_ok-high.high c.in_ok-low.low c.requires high.small) refl);
-    }
+}

@@ -3,8 +3,8 @@ use Rattle.flac_bits.proofs.reader.BitReader.unary.Goals as goal
 
 pub returns-clause-reading : goal.returns-clause-reading
 returns-clause-reading g c = record {
-      spends = search rules;
-      counts = search rules;
-      memory = search rules;
-      reads = search rules;
-    }
+  spends = search rules;
+  counts = search rules;
+  memory = search rules;
+  reads = search rules;
+}

@@ -18,26 +18,26 @@ returns-in_err-bit-clause-reading g c =
 pub returns-then-branch-clause-reading : goal.returns-then-branch-clause-reading
 unfolding Rattle.flac_bits.specs.Layout.zeros_at Rattle.flac_bits.specs.Layout.zeros_from
 returns-then-branch-clause-reading g c = record {
-      spends = search rules;
-      counts = answered_then c.args.self.now c.loop-zeros.self c.bit.new.self (gone c.loop-zeros.invariant.goes) c.in_ok-bit.ensures.reading.counts;
-      memory = search rules;
-      reads = search rules;
-    }
+  spends = search rules;
+  counts = answered_then c.args.self.now c.loop-zeros.self c.bit.new.self (gone c.loop-zeros.invariant.goes) c.in_ok-bit.ensures.reading.counts;
+  memory = search rules;
+  reads = search rules;
+}
 
 pub returns-then-branch-2-clause-reading : goal.returns-then-branch-2-clause-reading
 unfolding Rattle.flac_bits.specs.Layout.zeros_at Rattle.flac_bits.specs.Layout.zeros_from
 returns-then-branch-2-clause-reading g c = record {
-      spends = search rules;
-      counts = answered_then c.args.self.now c.loop-zeros.self c.bit-2.new.self (gone c.loop-zeros.invariant.goes) c.in_ok-bit-2.ensures.reading.counts;
-      memory = search rules;
-      reads = search rules;
-    }
+  spends = search rules;
+  counts = answered_then c.args.self.now c.loop-zeros.self c.bit-2.new.self (gone c.loop-zeros.invariant.goes) c.in_ok-bit-2.ensures.reading.counts;
+  memory = search rules;
+  reads = search rules;
+}
 
 pub returns-clause-reading : goal.returns-clause-reading
 unfolding Rattle.flac_bits.specs.Layout.zeros_at Rattle.flac_bits.specs.Layout.zeros_from
 returns-clause-reading g c = record {
-      spends = search rules;
-      counts = answered_then c.args.self.now c.loop-zeros.self c.bit-2.new.self (gone c.loop-zeros.invariant.goes) c.in_ok-bit-2.ensures.reading.counts;
-      memory = search rules;
-      reads = search rules;
-    }
+  spends = search rules;
+  counts = answered_then c.args.self.now c.loop-zeros.self c.bit-2.new.self (gone c.loop-zeros.invariant.goes) c.in_ok-bit-2.ensures.reading.counts;
+  memory = search rules;
+  reads = search rules;
+}

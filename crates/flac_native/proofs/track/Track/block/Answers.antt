@@ -6,7 +6,7 @@ use Rattle.flac_native.proofs.track.Track.block.Goals as goal
 
 pub returns-clause-reading : goal.returns-clause-reading
 returns-clause-reading g c = record {
-      spends = search rules;
-      counts = search rules;
-      reads = (λ room. means (λ x. x) (block (stand_of c.args.self.now).seen) c.args.bits.now c.block_here.new.bits c.block_here.result (c.block_here.ensures.reading.reads room));
-    }
+  spends = search rules;
+  counts = search rules;
+  reads = (λ room. means (λ x. x) (block (stand_of c.args.self.now).seen) c.args.bits.now c.block_here.new.bits c.block_here.result (c.block_here.ensures.reading.reads room));
+}

@@ -6,9 +6,9 @@ use Rattle.flac_native.proofs.track.Track.next_frame.Goals as goal
 
 pub returns-clause-reading : goal.returns-clause-reading
 returns-clause-reading g c = record {
-      spends = search rules;
-      counts = search rules;
-      memory = search rules;
-      reads = (let s = stand_of c.args.self.now in
+  spends = search rules;
+  counts = search rules;
+  memory = search rules;
+  reads = (let s = stand_of c.args.self.now in
       means_within (Some 16777215) (λ _. shown c.next_frame_here.new.self) (frame_behind s.profile s.info s.before) c.args.bits.now c.next_frame_here.new.bits c.next_frame_here.result c.next_frame_here.ensures.reading.reads);
-    }
+}
