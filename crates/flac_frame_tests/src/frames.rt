@@ -6,7 +6,7 @@ use flac_bits::{BitReader, BitWriter, Collected, Memory, Target, Why};
 use flac_frame::{
     Audio, EncodeBuffers, FrameBuffers, FrameChoice, FrameView, SetupFault, channels_are_joined,
     choose_frame, encode_frame, encodings_are_frames, format_fault, forms_stand_for_samples,
-    frames_are_spelled, frames_follow, samples_fit, write_frame,
+    frames_are_spelled, frames_follow, samples_fault, samples_fit, write_frame,
 };
 use flac_header::Profile;
 use flac_meta::StreamInfo;
@@ -235,6 +235,21 @@ fn samples_of_eight_bits(rt: HostRuntime) -> Result<(), Fail> {
     assert!(rt; samples_fit(&[127, -128], 8));
     assert!(rt; !samples_fit(&[0, 128], 8));
     assert!(rt; !samples_fit(&[-129, 0], 8));
+    Ok(())
+}
+
+/// The first fault of samples: their lengths, then their sizes. How many channels there are is not judged.
+#[test]
+fn faults_of_samples(rt: HostRuntime) -> Result<(), Fail> {
+    let left = [127, -128];
+    let large = [0, 128];
+    let short = [-129];
+    assert!(rt; samples_fault(&[], 8).is_none());
+    assert!(rt; samples_fault(&[left.as_slice(), left.as_slice()], 8).is_none());
+    let lengths = samples_fault(&[large.as_slice(), short.as_slice()], 8);
+    assert!(rt; lengths == Some(SetupFault::LengthsDiffer));
+    let sizes = samples_fault(&[left.as_slice(), large.as_slice()], 8);
+    assert!(rt; sizes == Some(SetupFault::SampleTooLarge));
     Ok(())
 }
 
