@@ -69,7 +69,8 @@ fn send_frame<W: Target>(frame: &FrameView<'_>, width: usize, target: &mut W) ->
 }
 
 /// A [`Sink`] that sends the samples of each frame to a target: interleaved, signed little-endian, each sign-extended
-/// to whole bytes. It holds no bytes from one frame to the next.
+/// to whole bytes, or without its higher bytes if the width asked for is too small. It holds no bytes from one frame to
+/// the next.
 ///
 /// ```
 /// let mut sink = SampleWriter::new(Collected::new(rt.alloc()), 0);

@@ -27,7 +27,8 @@ use std::alloc::Global;
 use std::io;
 
 /// Makes a decoder of an Ogg stream, whose first page begins at the source's next byte (RFC 9639, section 10.1). It has
-/// the calls of [`Decoder`], and lends a block or a frame once its packet has ended.
+/// the calls of [`Decoder`], and lends a block or a frame once its packet has ended. They report [`Why::Read`] at the
+/// page that was being read ([`crate::calls_break_at_pages`]).
 ///
 /// It allocates 65025 bytes for a page here. When it reads metadata, it allocates for each block, and at STREAMINFO for
 /// one frame.
