@@ -19,7 +19,6 @@ struct FirstFrame {
     least: u32,
     greatest: u32,
     info: StreamInfo,
-    samples: usize,
     room: Room,
 }
 
@@ -36,16 +35,13 @@ fn chosen(
     let _size = plan.block_size();
     let frames = ChosenFrames::new(alloc, plan, audio, buffers)?;
     let mut room = frames.room(alloc)?;
-    let mut samples = 0;
     if !audio.is_empty() {
-        samples = plan.range(audio, 0).len();
         room = frames.write(plan, audio, 0, buffers, room);
     }
     Ok(FirstFrame {
         least: frames.least(),
         greatest: frames.greatest(),
         info: frames.info(plan, audio),
-        samples,
         room,
     })
 }
@@ -70,7 +66,6 @@ fn comes_of(alloc: Global, plan: &Plan, audio: &Audio, stream: &str, len: u32) -
     Ok(
         (chosen.least, chosen.greatest) == (len, len)
             && is_info_of(&chosen.info, len)
-            && chosen.samples == audio.len()
             && Some(chosen.info.digest().as_slice()) == stream.get(26..42)
             && Some(chosen.room.bytes()) == stream.get(42..),
     )

@@ -73,7 +73,13 @@ fn format() -> StreamFormat {
 
 /// The block of the stream above as a frame by itself, if the format, the block and the list have no fault.
 fn one_frame(alloc: Global) -> Result<Option<Vec<u8>>, Fail> {
-    let format = format();
+    let format = StreamFormat {
+        profile: Profile::Subset,
+        rate: 44100,
+        bits: 16,
+        channels: 2,
+        block_size: 4096,
+    };
     let (left, right) = ([25588], [10416]);
     let block = [left.as_slice(), right.as_slice()];
     let list: [LinearPredictor; 0] = [];
