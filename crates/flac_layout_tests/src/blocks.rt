@@ -575,13 +575,13 @@ fn lists_are_given_back(rt: HostRuntime) -> Result<(), Fail> {
 
 /// The sum of the sample numbers of a table's points, by its iterator and by a loop over the table.
 fn sums_of_samples(table: &SeekTable) -> (u64, u64) {
-    let mut by_loop = 0;
+    let mut by_loop: u64 = 0;
     for point in table {
-        by_loop += point.sample & 0xFFFF;
+        by_loop = by_loop.wrapping_add(point.sample & 0xFFFF);
     }
-    let mut by_iterator = 0;
+    let mut by_iterator: u64 = 0;
     for point in table.iter() {
-        by_iterator += point.sample & 0xFFFF;
+        by_iterator = by_iterator.wrapping_add(point.sample & 0xFFFF);
     }
     (by_iterator, by_loop)
 }
