@@ -227,18 +227,32 @@ def at_fault(sources, edits, lines):
     return found
 
 
+def cited(crate, room):
+    """The folders below proofs/ whose answers or invariants a file of another folder imports: there a function's proof rests on that of
+    another."""
+    found, of_a_proof = set(), re.compile(rf"\bRattle\.{crate.name}\.proofs\.([\w.+-]+)\.(?:Answers|Invariants|Proof)\b")
+    for folder, _, names in os.walk(f"{room}/proofs"):
+        for name in names:
+            with open(f"{folder}/{name}", encoding="utf-8") as it:
+                places = {f"{room}/proofs/{place.replace('.', '/')}" for place in of_a_proof.findall(it.read())}
+            found |= places - {folder}
+    return found
+
+
 @contextlib.contextmanager
 def without_proofs(rt, crate, sources, edits):
     """A copy of the crate in which the functions that no edit changes have no proof, so that a check from nothing does not spend its time
-    on them. It says nothing of them, and of the others what it says with these proofs: they are proved from contracts alone."""
+    on them. It says nothing of them, and of the others what it says with these proofs: they are proved from contracts alone, but for
+    those that cite the proof of another, which keeps it."""
     changed = {it for edit in edits for it in edit.functions}
     with tempfile.TemporaryDirectory(prefix="flac-bare-") as room:
         for part in rt.rtlib.PARTS:
             if os.path.isdir(f"{crate.folder}/{part}"):
                 shutil.copytree(f"{crate.folder}/{part}", f"{room}/{part}")
+        kept = cited(crate, room)
         for folder, _, names in [*os.walk(f"{room}/proofs")]:
             symbol = "::".join([crate.name, *os.path.relpath(folder, f"{room}/proofs").split(os.sep)])
-            if not PROOFS.isdisjoint(names) and "+" not in symbol and not any(sources.may_be(it, crate.name, symbol) for it in changed):
+            if folder not in kept and not PROOFS.isdisjoint(names) and "+" not in symbol and not any(sources.may_be(it, crate.name, symbol) for it in changed):
                 for name in PROOFS.intersection(names):
                     os.remove(f"{folder}/{name}")
                 with open(f"{folder}/Proof.antt", "w", encoding="utf-8") as it:

@@ -1,35 +1,49 @@
 -- What a reading call does.
-use Rattle.std.specs.Prelude.{◌≡◌, ◌<◌, ◌≤◌, Bool, true, List, ◌++◌, Result, Ok, Err, IfOk, IfErr, IsOkAnd, IsErrAnd, ◌⊎◌}
+use Rattle.std.specs.Prelude.{◌≡◌, ◌≢◌, ◌<◌, ◌≤◌, ◌+◌, ℕ, Bool, true, List, ◌++◌, Result, Ok, Err, OnOk, IfOk, IfErr, IsOkAnd, IsErrAnd, ◌⊎◌}
 use Rattle.flac_bits.specs.State.{Cursor, State, Rises, Consumes}
 use Rattle.flac_bits.specs.Layout.{Layout, Reason, because, run}
 use Rattle.flac_bits.specs.Meaning.{Spells, Shows, IsCut}
 use Rattle.flac_bits.specs.declared.why.Why.{Why}
 use Rattle.flac_bits.specs.declared.why.Why.TheVariants.{Memory, Read, Sink}
 
--- Errors of the source are counted: a call that answers a value met none, and one that answers Read met one.
--- No reading call answers Sink. What stands behind the bytes to come stays, and the references that the source goes through.
+-- Errors of the source are counted: a call that returns a value met none, and one that returns Read met one.
+-- No reading call returns Sink. What comes after the bytes still to come stays, and so do the references that the source goes through.
 abbrev pub Counts : {X : Type 0} → State → State → Result X Why → Type 0
 Counts old new (Ok x) = (old.known ≡ true → new.known ≡ true) × (new.errors ≡ old.errors) × (new.raised ≡ old.raised) × (old.known ≡ true → new.behind ≡ old.behind) × (new.names ≡ old.names)
 Counts old new (Err e) = (old.errors ≤ new.errors) × (old.known ≡ true → new.errors ≡ old.errors → new.behind ≡ old.behind) × (old.known ≡ true → e ≡ Read → old.raised < new.raised) × (new.names ≡ old.names) × (e ≡ Read → Rises old.raised new.raised) × (e ≡ Sink → ⊥)
 
--- what was returned, seen by view, and where the reader stands then, is what is read
+-- What was returned, seen by view, and the position of the reader after the call are what is read.
 abbrev pub Answers : {X Y : Type 0} → (X → Y) → Result (Y × Cursor) Reason → Cursor → Result X Why → Type 0
 Answers view read at (Ok x) = read ≡ Ok (view x, at)
 Answers view read at (Err e) = read ≡ Err (because e)
 
--- so it is where the source tells its bytes and did not fail in the call
+-- This holds if the bytes of the source are known and it returned no error in the call.
 abbrev pub Gives : {X Y : Type 0} → (X → Y) → Result (Y × Cursor) Reason → State → State → Result X Why → Type 0
 Gives view read old new result = old.known ≡ true → new.errors ≡ old.errors → Answers view read new.cursor result
 
 abbrev pub Reads : {X Y : Type 0} → (X → Y) → Layout Y → State → State → Result X Why → Type 0
 Reads view layout old new result = Gives view (run layout old.cursor) old new result
 
--- the same where no growth was refused
+-- the same unless memory ran out
 abbrev pub ReadsInRoom : {X Y : Type 0} → (X → Y) → Layout Y → State → State → Result X Why → Type 0
 ReadsInRoom view layout old new result = (result ≡ Err Memory → ⊥) → Reads view layout old new result
 
--- what was returned is told by the meaning of the layout alone: a value is the one that the front of the input spells, and the reader stands behind
--- just these bits; a reason is one that a front of the input shows, or the input ends inside
+-- What each call that reads a layout promises: a value takes at least this number of the bits that can still come, errors of the source are counted, and the
+-- call's own promise holds of the reader before and after it and of the result, such as Reads of a layout.
+pub record Call {X : Type 0} (least : ℕ) (says : State → State → Result X Why → Type 0) (old new : State) (result : Result X Why) : Type 0 where
+  pub spends : OnOk result (new.most + least ≤ old.most)
+  pub counts : Counts old new result
+  pub reads : says old new result
+
+-- The same of a call that allocates nothing: memory never runs out.
+pub record CallInPlace {X : Type 0} (least : ℕ) (says : State → State → Result X Why → Type 0) (old new : State) (result : Result X Why) : Type 0 where
+  pub spends : OnOk result (new.most + least ≤ old.most)
+  pub counts : Counts old new result
+  pub memory : IfErr result (λ e. e ≢ Memory)
+  pub reads : says old new result
+
+-- What was returned follows from the meaning of the layout alone: a value is the one that a prefix of the input spells, and the reader is after exactly these
+-- bits; a reason is one that a prefix of the input shows, or the input ends inside.
 pub record Decodes {X Y : Type 0} (view : X → Y) (layout : Layout Y) (old new : Cursor) (result : Result X Why) : Type 0 where
   pub found : IfOk result (λ x. (text : List Bool) × Consumes text old new × Spells layout old.mark text (view x))
   pub only : (text rest : List Bool) (y : Y) → old.left ≡ text ++ rest → Spells layout old.mark text y → IsOkAnd result (λ x. (view x ≡ y) × (new.left ≡ rest))
@@ -39,3 +53,7 @@ pub record Decodes {X Y : Type 0} (view : X → Y) (layout : Layout Y) (old new 
 
 abbrev pub Means : {X Y : Type 0} → (X → Y) → Layout Y → State → State → Result X Why → Type 0
 Means view layout old new result = old.known ≡ true → new.errors ≡ old.errors → Decodes view layout old.cursor new.cursor result
+
+-- the same unless memory ran out
+abbrev pub MeansInRoom : {X Y : Type 0} → (X → Y) → Layout Y → State → State → Result X Why → Type 0
+MeansInRoom view layout old new result = (result ≡ Err Memory → ⊥) → Means view layout old new result

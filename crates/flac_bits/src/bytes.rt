@@ -1,9 +1,9 @@
 //! Reading of whole slices of bytes.
 
-ghost use Rattle.std.specs.Prelude.{◌≢◌, ◌≤◌, ◌+◌, ◌*◌, length, OnOk, IfErr};
+ghost use Rattle.std.specs.Prelude.{◌*◌, length};
 ghost use Rattle.flac_bits.specs.Layout.{bits as number, run};
 ghost use Rattle.flac_bits.specs.Lists.{list_of};
-ghost use Rattle.flac_bits.specs.Reading.{Counts, Gives, Reads};
+ghost use Rattle.flac_bits.specs.Reading.{Gives, Reads, CallInPlace};
 ghost use Rattle.flac_bits.specs.Unchecked.{begun_anew};
 
 use crate::reader::BitReader;
@@ -16,10 +16,7 @@ use crate::why::Why;
 /// Those of [`BitReader`], if fewer bytes are left: [`Why::Truncated`] at the end of the input, [`Why::FrameTooLong`]
 /// at a fence, [`Why::Read`] if the source fails. What `out` has then is not specified.
 pub fn read_bytes<R: Source>(bits: &mut BitReader<R>, out: &mut [u8]) -> Result<(), Why>
-    ensures spends { OnOk result (bits.new.most + 8 * length out.old ≤ bits.old.most) }
-    ensures counts { Counts bits.old bits.new result }
-    ensures memory { IfErr result (λ e. e ≢ Why.Memory) }
-    ensures reads { Reads (λ _. out.new) (list_of (length out.old) (number 8)) bits.old bits.new result }
+    ensures reading { CallInPlace (8 * length out.old) (Reads (λ _. out.new) (list_of (length out.old) (number 8))) bits.old bits.new result }
 {
     if bits.unread() > 0 {
         return read_each(bits, out);
@@ -39,10 +36,7 @@ pub fn read_bytes<R: Source>(bits: &mut BitReader<R>, out: &mut [u8]) -> Result<
 #[inline(never)]
 #[tactic(auto, using(crate::proofs::Lists::list_more, crate::proofs::Lists::list_end, crate::proofs::Lists::list_start))]
 fn read_each<R: Source>(bits: &mut BitReader<R>, out: &mut [u8]) -> Result<(), Why>
-    ensures spends { OnOk result (bits.new.most + 8 * length out.old ≤ bits.old.most) }
-    ensures counts { Counts bits.old bits.new result }
-    ensures memory { IfErr result (λ e. e ≢ Why.Memory) }
-    ensures reads { Reads (λ _. out.new) (list_of (length out.old) (number 8)) bits.old bits.new result }
+    ensures reading { CallInPlace (8 * length out.old) (Reads (λ _. out.new) (list_of (length out.old) (number 8))) bits.old bits.new result }
 {
     for i in 0..out.len() {
         out[i] = bits.take(8)? as u8;
@@ -56,10 +50,7 @@ fn read_each<R: Source>(bits: &mut BitReader<R>, out: &mut [u8]) -> Result<(), W
 /// # Errors
 /// Those of [`read_bytes`].
 pub fn read_unchecked<R: Source>(bits: &mut BitReader<R>, out: &mut [u8]) -> Result<(), Why>
-    ensures spends { OnOk result (bits.new.most + 8 * length out.old ≤ bits.old.most) }
-    ensures counts { Counts bits.old bits.new result }
-    ensures memory { IfErr result (λ e. e ≢ Why.Memory) }
-    ensures reads { Gives (λ _. out.new) (begun_anew (run (list_of (length out.old) (number 8)) bits.old.cursor)) bits.old bits.new result }
+    ensures reading { CallInPlace (8 * length out.old) (Gives (λ _. out.new) (begun_anew (run (list_of (length out.old) (number 8)) bits.old.cursor))) bits.old bits.new result }
 {
     if bits.unread() > 0 {
         read_each(bits, out)?;

@@ -1,8 +1,8 @@
 //! Numbers whose lowest byte comes first.
 
-ghost use Rattle.std.specs.Prelude.{◌≢◌, ◌≤◌, ◌+◌, OnOk, IfErr};
+ghost use Rattle.std.specs.Prelude.{◌+◌};
 ghost use Rattle.flac_bits.specs.LittleEndian.{little_32, little_64, little_bits};
-ghost use Rattle.flac_bits.specs.Reading.{Counts, Reads};
+ghost use Rattle.flac_bits.specs.Reading.{Reads, CallInPlace};
 ghost use Rattle.flac_bits.specs.Written.{Writes};
 
 use crate::bytes::read_bytes;
@@ -19,10 +19,7 @@ use byteorder::{ByteOrder, LittleEndian};
 /// Those of [`BitReader`].
 #[tactic(auto, using(crate::proofs::LittleNumbers::bytes_are_little_32))]
 pub fn read_little_32<R: Source>(bits: &mut BitReader<R>) -> Result<u32, Why>
-    ensures spends { OnOk result (bits.new.most + 32 ≤ bits.old.most) }
-    ensures counts { Counts bits.old bits.new result }
-    ensures memory { IfErr result (λ e. e ≢ Why.Memory) }
-    ensures reads { Reads (λ v. v) little_32 bits.old bits.new result }
+    ensures reading { CallInPlace 32 (Reads (λ v. v) little_32) bits.old bits.new result }
 {
     let mut bytes = [0; 4];
     read_bytes(bits, &mut bytes)?;
@@ -35,10 +32,7 @@ pub fn read_little_32<R: Source>(bits: &mut BitReader<R>) -> Result<u32, Why>
 /// Those of [`BitReader`].
 #[tactic(auto, unfolding(crate::specs::LittleEndian::little_64))]
 pub fn read_little_64<R: Source>(bits: &mut BitReader<R>) -> Result<u64, Why>
-    ensures spends { OnOk result (bits.new.most + 64 ≤ bits.old.most) }
-    ensures counts { Counts bits.old bits.new result }
-    ensures memory { IfErr result (λ e. e ≢ Why.Memory) }
-    ensures reads { Reads (λ v. v) little_64 bits.old bits.new result }
+    ensures reading { CallInPlace 64 (Reads (λ v. v) little_64) bits.old bits.new result }
 {
     let low = read_little_32(bits)?;
     let high = read_little_32(bits)?;

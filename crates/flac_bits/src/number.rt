@@ -1,9 +1,9 @@
 //! Reading of coded numbers.
 
-ghost use Rattle.std.specs.Prelude.{◌≡◌, ◌≢◌, ◌≤◌, ◌<◌, ◌^◌, ◌+◌, ◌*◌, cond, nat_lt, IfOk, IfErr, OnOk, IfSome};
+ghost use Rattle.std.specs.Prelude.{◌≡◌, ◌≤◌, ◌<◌, ◌^◌, ◌+◌, ◌*◌, cond, nat_lt, IfOk, IfSome};
 ghost use Rattle.flac_bits.specs.Coded.{IsNumber};
 ghost use Rattle.flac_bits.specs.Number.{lead_form, continued, number};
-ghost use Rattle.flac_bits.specs.Reading.{Counts, Reads, Means};
+ghost use Rattle.flac_bits.specs.Reading.{Reads, Means, CallInPlace};
 
 use crate::reader::BitReader;
 use crate::source::Source;
@@ -33,11 +33,8 @@ fn lead_form(max_bits: u32, lead: u64) -> Option<(u32, u64, u64)>
 fn continued<R: Source>(bits: &mut BitReader<R>, count: u32, high: u64) -> Result<u64, Why>
     requires few { count ≤ 6 }
     requires small { high < 2 ^ 5 }
-    ensures spends { OnOk result (bits.new.most ≤ bits.old.most) }
+    ensures reading { CallInPlace 0 (Reads (λ v. v) (continued count high)) bits.old bits.new result }
     ensures room { IfOk result (λ v. v < (high + 1) * 64 ^ count) }
-    ensures counts { Counts bits.old bits.new result }
-    ensures memory { IfErr result (λ e. e ≢ Why.Memory) }
-    ensures reads { Reads (λ v. v) (continued count high) bits.old bits.new result }
 {
     let mut value = high;
     for i in 0..count {
@@ -64,10 +61,7 @@ fn continued<R: Source>(bits: &mut BitReader<R>, count: u32, high: u64) -> Resul
 /// the errors of [`BitReader`].
 pub fn read_number<R: Source>(bits: &mut BitReader<R>, max_bits: u32) -> Result<u64, Why>
     ensures fits { IfOk result (λ v. IsNumber max_bits v) }
-    ensures spends { OnOk result (bits.new.most + 8 ≤ bits.old.most) }
-    ensures counts { Counts bits.old bits.new result }
-    ensures memory { IfErr result (λ e. e ≢ Why.Memory) }
-    ensures means { Means (λ v. v) (number max_bits) bits.old bits.new result }
+    ensures reading { CallInPlace 8 (Means (λ v. v) (number max_bits)) bits.old bits.new result }
 {
     number_here(bits, max_bits)
 }
@@ -76,10 +70,7 @@ pub fn read_number<R: Source>(bits: &mut BitReader<R>, max_bits: u32) -> Result<
 #[tactic(auto, unfolding(crate::specs::Number::number))]
 fn number_here<R: Source>(bits: &mut BitReader<R>, max_bits: u32) -> Result<u64, Why>
     ensures fits { IfOk result (λ v. IsNumber max_bits v) }
-    ensures spends { OnOk result (bits.new.most + 8 ≤ bits.old.most) }
-    ensures counts { Counts bits.old bits.new result }
-    ensures memory { IfErr result (λ e. e ≢ Why.Memory) }
-    ensures reads { Reads (λ v. v) (number max_bits) bits.old bits.new result }
+    ensures reading { CallInPlace 8 (Reads (λ v. v) (number max_bits)) bits.old bits.new result }
 {
     let lead = bits.take(8)?;
     if lead < 128 {

@@ -13,7 +13,7 @@ ghost use Rattle.std.specs.Prelude.{All};
 ghost use Rattle.flac_bits.specs.Lists.{list_of, behind};
 ghost use Rattle.flac_bits.specs.Rice.{rice, rice_value, IsResidual};
 ghost use Rattle.flac_bits.specs.Signed.{signed_field, FitsBits};
-ghost use Rattle.flac_bits.specs.Reading.{Counts, Gives, Reads};
+ghost use Rattle.flac_bits.specs.Reading.{Counts, Gives, Reads, CallInPlace};
 ghost use Rattle.flac_bits.specs.inner.Unchecked.{Fills, started_unless};
 
 use crate::held::Held;
@@ -127,10 +127,7 @@ impl<R: Source> BitReader<R> {
 
     /// Reads one bit.
     fn bit(&mut self) -> Result<bool, Why>
-        ensures spends { OnOk result (self.new.most + 1 ≤ self.old.most) }
-        ensures counts { Counts self.old self.new result }
-        ensures memory { IfErr result (λ e. e ≢ Why.Memory) }
-        ensures reads { Gives (λ b. b) (next_bit self.old.cursor) self.old self.new result }
+        ensures reading { CallInPlace 1 (Gives (λ b. b) (next_bit self.old.cursor)) self.old self.new result }
     {
         match fill(&mut self.held, &mut self.source) {
             Ok(true) => Ok(self.held.take(1) == 1),
@@ -145,10 +142,7 @@ impl<R: Source> BitReader<R> {
     fn take_slow(&mut self, n: u32) -> Result<u64, Why>
         requires { n ≤ 64 }
         ensures small { IfOk result (λ v. v < 2 ^ n) }
-        ensures spends { OnOk result (self.new.most + n ≤ self.old.most) }
-        ensures counts { Counts self.old self.new result }
-        ensures memory { IfErr result (λ e. e ≢ Why.Memory) }
-        ensures reads { Gives (λ v. v) (number_at n self.old.cursor) self.old self.new result }
+        ensures reading { CallInPlace n (Gives (λ v. v) (number_at n self.old.cursor)) self.old self.new result }
     {
         let mut value = 0u64;
         for i in 0..n {
@@ -166,10 +160,7 @@ impl<R: Source> BitReader<R> {
     pub fn take(&mut self, n: u32) -> Result<u64, Why>
         requires { n ≤ 64 }
         ensures small { IfOk result (λ v. v < 2 ^ n) }
-        ensures spends { OnOk result (self.new.most + n ≤ self.old.most) }
-        ensures counts { Counts self.old self.new result }
-        ensures memory { IfErr result (λ e. e ≢ Why.Memory) }
-        ensures reads { Gives (λ v. v) (number_at n self.old.cursor) self.old self.new result }
+        ensures reading { CallInPlace n (Gives (λ v. v) (number_at n self.old.cursor)) self.old self.new result }
     {
         if let Some(value) = self.ready(n) {
             return Ok(value);
@@ -183,10 +174,7 @@ impl<R: Source> BitReader<R> {
     fn take_more(&mut self, n: u32) -> Result<u64, Why>
         requires { n ≤ 64 }
         ensures small { IfOk result (λ v. v < 2 ^ n) }
-        ensures spends { OnOk result (self.new.most + n ≤ self.old.most) }
-        ensures counts { Counts self.old self.new result }
-        ensures memory { IfErr result (λ e. e ≢ Why.Memory) }
-        ensures reads { Gives (λ v. v) (number_at n self.old.cursor) self.old self.new result }
+        ensures reading { CallInPlace n (Gives (λ v. v) (number_at n self.old.cursor)) self.old self.new result }
     {
         if n <= 32 {
             return self.take_few(n);
@@ -200,10 +188,7 @@ impl<R: Source> BitReader<R> {
     fn take_few(&mut self, n: u32) -> Result<u64, Why>
         requires { n ≤ 32 }
         ensures small { IfOk result (λ v. v < 2 ^ n) }
-        ensures spends { OnOk result (self.new.most + n ≤ self.old.most) }
-        ensures counts { Counts self.old self.new result }
-        ensures memory { IfErr result (λ e. e ≢ Why.Memory) }
-        ensures reads { Gives (λ v. v) (number_at n self.old.cursor) self.old self.new result }
+        ensures reading { CallInPlace n (Gives (λ v. v) (number_at n self.old.cursor)) self.old self.new result }
     {
         self.top_up();
         if let Some(value) = self.ready(n) {
@@ -227,10 +212,7 @@ impl<R: Source> BitReader<R> {
     #[tactic(auto, unfolding(crate::specs::Layout::zeros_at, crate::specs::Layout::zeros_from), using(crate::proofs::Loops::zeros_more, crate::proofs::Loops::zeros_last))]
     fn unary_slow(&mut self, limit: u64) -> Result<Option<u64>, Why>
         ensures within { IfOk result (λ o. IfSome o (λ q. q ≤ limit)) }
-        ensures spends { OnOk result (self.new.most ≤ self.old.most) }
-        ensures counts { Counts self.old self.new result }
-        ensures memory { IfErr result (λ e. e ≢ Why.Memory) }
-        ensures reads { Gives (λ v. v) (zeros_at limit self.old.cursor) self.old self.new result }
+        ensures reading { CallInPlace 0 (Gives (λ v. v) (zeros_at limit self.old.cursor)) self.old self.new result }
     {
         for zeros in 0..limit {
             if self.bit()? {
@@ -251,10 +233,7 @@ impl<R: Source> BitReader<R> {
     #[inline(always)]
     pub fn unary(&mut self, limit: u64) -> Result<Option<u64>, Why>
         ensures within { IfOk result (λ o. IfSome o (λ q. q ≤ limit)) }
-        ensures spends { OnOk result (self.new.most ≤ self.old.most) }
-        ensures counts { Counts self.old self.new result }
-        ensures memory { IfErr result (λ e. e ≢ Why.Memory) }
-        ensures reads { Gives (λ v. v) (zeros_at limit self.old.cursor) self.old self.new result }
+        ensures reading { CallInPlace 0 (Gives (λ v. v) (zeros_at limit self.old.cursor)) self.old self.new result }
     {
         self.top_up();
         if let Some(zeros) = self.ready_unary(limit) {
@@ -282,10 +261,7 @@ impl<R: Source> BitReader<R> {
     fn rice_slow(&mut self, k: u32, limit: u64) -> Result<u64, Why>
         requires k { k ≤ 30 }
         requires limit { limit < 2 ^ 32 }
-        ensures spends { OnOk result (self.new.most ≤ self.old.most) }
-        ensures counts { Counts self.old self.new result }
-        ensures memory { IfErr result (λ e. e ≢ Why.Memory) }
-        ensures reads { Reads (λ v. v) (rice k limit) self.old self.new result }
+        ensures reading { CallInPlace 0 (Reads (λ v. v) (rice k limit)) self.old self.new result }
     {
         let Some(zeros) = self.unary(limit)? else {
             return Err(Why::ResidualRange);
@@ -299,10 +275,7 @@ impl<R: Source> BitReader<R> {
     fn folded_more(&mut self, k: u32, limit: u64) -> Result<u64, Why>
         requires k { k ≤ 30 }
         requires limit { limit < 2 ^ 32 }
-        ensures spends { OnOk result (self.new.most ≤ self.old.most) }
-        ensures counts { Counts self.old self.new result }
-        ensures memory { IfErr result (λ e. e ≢ Why.Memory) }
-        ensures reads { Reads (λ v. v) (rice k limit) self.old self.new result }
+        ensures reading { CallInPlace 0 (Reads (λ v. v) (rice k limit)) self.old self.new result }
     {
         self.top_up();
         if let Some(value) = self.ready_rice(k, limit) {
@@ -316,10 +289,7 @@ impl<R: Source> BitReader<R> {
     fn folded_value(&mut self, k: u32, limit: u64) -> Result<u64, Why>
         requires k { k ≤ 30 }
         requires limit { limit < 2 ^ 32 }
-        ensures spends { OnOk result (self.new.most ≤ self.old.most) }
-        ensures counts { Counts self.old self.new result }
-        ensures memory { IfErr result (λ e. e ≢ Why.Memory) }
-        ensures reads { Reads (λ v. v) (rice k limit) self.old self.new result }
+        ensures reading { CallInPlace 0 (Reads (λ v. v) (rice k limit)) self.old self.new result }
     {
         if let Some(value) = self.ready_rice(k, limit) {
             return Ok(value);
@@ -333,10 +303,7 @@ impl<R: Source> BitReader<R> {
     fn rice_value(&mut self, k: u32) -> Result<i64, Why>
         requires { k ≤ 30 }
         ensures fits { IfOk result IsResidual }
-        ensures spends { OnOk result (self.new.most ≤ self.old.most) }
-        ensures counts { Counts self.old self.new result }
-        ensures memory { IfErr result (λ e. e ≢ Why.Memory) }
-        ensures reads { Reads (λ v. v) (rice_value k) self.old self.new result }
+        ensures reading { CallInPlace 0 (Reads (λ v. v) (rice_value k)) self.old self.new result }
     {
         let folded = self.folded_value(k, MOST_FOLDED >> k)?;
         if folded > MOST_FOLDED {
@@ -372,10 +339,7 @@ impl<R: Source> BitReader<R> {
     pub fn rice_partition(&mut self, k: u32, values: &mut [i64]) -> Result<(), Why>
         requires { k ≤ 30 }
         ensures fits { OnOk result (All IsResidual values.new) }
-        ensures spends { OnOk result (self.new.most ≤ self.old.most) }
-        ensures counts { Counts self.old self.new result }
-        ensures memory { IfErr result (λ e. e ≢ Why.Memory) }
-        ensures reads { Reads (λ _. values.new) (list_of (length values.old) (rice_value k)) self.old self.new result }
+        ensures reading { CallInPlace 0 (Reads (λ _. values.new) (list_of (length values.old) (rice_value k))) self.old self.new result }
     {
         let mut i = 0;
         while i < values.len() {
@@ -401,10 +365,7 @@ impl<R: Source> BitReader<R> {
         requires some { 1 ≤ n }
         requires few { n ≤ 64 }
         ensures fits { IfOk result (FitsBits n) }
-        ensures spends { OnOk result (self.new.most + n ≤ self.old.most) }
-        ensures counts { Counts self.old self.new result }
-        ensures memory { IfErr result (λ e. e ≢ Why.Memory) }
-        ensures reads { Reads (λ v. v) (signed_field n) self.old self.new result }
+        ensures reading { CallInPlace n (Reads (λ v. v) (signed_field n)) self.old self.new result }
     {
         let value = self.take(n)?;
         Ok(to_signed(value, n))
@@ -420,10 +381,7 @@ impl<R: Source> BitReader<R> {
         requires some { 1 ≤ n }
         requires few { n ≤ 64 }
         ensures fits { OnOk result (All (FitsBits n) values.new) }
-        ensures spends { OnOk result (self.new.most ≤ self.old.most) }
-        ensures counts { Counts self.old self.new result }
-        ensures memory { IfErr result (λ e. e ≢ Why.Memory) }
-        ensures reads { Reads (λ _. values.new) (list_of (length values.old) (signed_field n)) self.old self.new result }
+        ensures reading { CallInPlace 0 (Reads (λ _. values.new) (list_of (length values.old) (signed_field n))) self.old self.new result }
     {
         for i in 0..values.len() {
             values[i] = self.take_signed(n)?;
@@ -605,10 +563,7 @@ impl<R: Source> BitReader<R> {
     /// # Errors
     /// Those of [`BitReader`].
     pub fn align(&mut self) -> Result<bool, Why>
-        ensures spends { OnOk result (self.new.most ≤ self.old.most) }
-        ensures counts { Counts self.old self.new result }
-        ensures memory { IfErr result (λ e. e ≢ Why.Memory) }
-        ensures reads { Reads (λ b. b) to_byte self.old self.new result }
+        ensures reading { CallInPlace 0 (Reads (λ b. b) to_byte) self.old self.new result }
     {
         let unread = self.held.unread();
         let bits = self.take(unread)?;

@@ -12,7 +12,7 @@ use Rattle.flac_native.specs.Given.{plan_fault}
 use Rattle.flac_native.specs.Message.{sample_width}
 use Rattle.flac_native.proofs.Planned.{planned}
 use Rattle.flac_ogg.specs.RoundTrip.{EncodedBytes}
-use Rattle.flac_c.specs.Bound.{text_bytes, texts_bytes, raw_bytes, parts_of, table_bytes, native_bytes, bytes_among, bound_of, IsEnough}
+use Rattle.flac_c.specs.Bound.{text_bytes, texts_bytes, raw_bytes, most_parts, table_bytes, native_bound, bytes_among, bound_of, IsEnough}
 use Rattle.flac_c.specs.Encoded.{sound_of, plan_of, blocks_of, stream_fault, IsEncoded}
 use Rattle.flac_c.specs.declared.tags.FlacProvedTags.{FlacProvedTags}
 use Rattle.flac_c.specs.declared.encoding.FlacProvedSettings.{FlacProvedSettings}
@@ -40,13 +40,13 @@ module _ (s : FlacProvedSettings) (t : FlacProvedTags) (samples : List ℤ) (str
   each = length samples / s.channels
 
   abbrev native : ℕ
-  native = native_bytes s (length samples) each t
+  native = native_bound s (length samples) each t
 
   block_some : 16 ≤ s.block_size
   block_some = (planned (plan_of s (sound_of s samples)) (no_fault s t (sound_of s samples) is.none).0).least
 
   by_container : (b : Bool) → EncodedBytes (cond b None (Some s.serial)) (plan_of s (sound_of s samples)) (blocks_of t) (sound_of s samples) stream
-      → length stream ≤ native + cond b 0 (native / 200 + 64 * (parts_of each s.block_size + 2))
+      → length stream ≤ native + cond b 0 (native / 200 + 64 * (most_parts each s.block_size + 2))
   by_container true e =
       let few = native_few s t samples is.can block_some (no_fault s t (sound_of s samples) is.none).1 e.encodes.least e.encodes.greatest e.encodes.frames e.encodes.are e.encodes.are_least in
       let long = ap (λ (b : List Bool). length b) e.encodes.written in
@@ -75,14 +75,14 @@ among_most : (s : FlacProvedSettings) (t : FlacProvedTags) (samples : List ℤ) 
 among_most s t samples stream is =
     let each : ℕ = length samples / s.channels in
     let count : ℕ = length samples in
-    let parts : ℕ = parts_of each s.block_size in
-    let native : ℕ = native_bytes s count each t in
+    let parts : ℕ = most_parts each s.block_size in
+    let native : ℕ = native_bound s count each t in
     let comments = comments_counted t (no_fault s t (sound_of s samples) is.none).1 in
     let short : each < 2 ^ 36 = let k = is.can.sound.short in omega (arith, k, each_is s samples is.can) in
     let rows : each * s.channels ≤ each * 8 = let k = mul-le each s.channels each 8 (omega arith) (some_channels s samples is.can).1 in k in
     let samples_few : count ≤ 8 * each = omega (arith, all_are s samples is.can, rows) in
-    let parts_few : (size : ℕ) → parts_of each size ≤ each + 1 = λ size. omega (arith, mul-le-mul_right, div-le_self each (max size 1)) in
-    let table : table_bytes each s.seek_every ≤ 4 + 18 * (each + 1) = omega (arith, either (nat_eq s.seek_every 0) (4 + 18 * parts_of each s.seek_every), parts_few s.seek_every) in
+    let parts_few : (size : ℕ) → most_parts each size ≤ each + 1 = λ size. omega (arith, mul-le-mul_right, div-le_self each (max size 1)) in
+    let table : table_bytes each s.seek_every ≤ 4 + 18 * (each + 1) = omega (arith, either (nat_eq s.seek_every 0) (4 + 18 * most_parts each s.seek_every), parts_few s.seek_every) in
     let raw : raw_bytes s.bits count ≤ 4 * count = raw_most s.bits count in
     bytes_most native (text_bytes t.vendor + texts_bytes t.list.now) (table_bytes each s.seek_every) (raw_bytes s.bits count) parts each count (cond (nat_eq s.ogg 0) 0 (native / 200 + 64 * (parts + 2)))
     (omega arith) (omega (arith, comments.0, comments.1)) table raw samples_few (parts_few s.block_size) (either (nat_eq s.ogg 0) (native / 200 + 64 * (parts + 2))) short

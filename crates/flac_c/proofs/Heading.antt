@@ -245,8 +245,15 @@ block_was_refused seen old begun new why known is reads quiet other =
     let ran = reads (other_error {A = Bool × Block} why other) told same in
     stops_of (block_layout seen) old.cursor.left (fresh old.cursor.mark) why (ap (λ (k : Cursor). run (block_layout seen) k) (sym place) ∙ ran)
 
-pub marker_was_read : (start new : State) (sample : ℕ) (found : Metadata) (u : ⊤) → start.known ≡ true → Reads (λ x. x) marker (started start) new (Ok u) → Counts {X = ⊤} start new (Ok u) → IsFound sample [] found → BlocksCome start new sample found nothing_seen 0
-marker_was_read start new sample found u known reads counts none = marker_read start new sample found u (reads known counts.1) none (counts.0 known) counts.1
+pub marker_was_read : (start begun new : State) (sample : ℕ) (found : Metadata) (u : ⊤) → begun ≡ started start → start.known ≡ true → Reads (λ x. x) marker begun new (Ok u) → Counts {X = ⊤} begun new (Ok u) → IsFound sample [] found
+    → BlocksCome start new sample found nothing_seen 0
+marker_was_read start begun new sample found u is known reads counts none =
+    let read = subst (λ (s : State). Reads {X = ⊤} (λ x. x) marker s new (Ok u)) is reads in
+    let counted = subst (λ (s : State). Counts {X = ⊤} s new (Ok u)) is counts in
+    marker_read start new sample found u (read known counted.1) none (counted.0 known) counted.1
 
-pub marker_was_refused : (start new : State) (why : Why) → start.known ≡ true → Reads {X = ⊤} (λ x. x) marker (started start) new (Err why) → new.errors ≡ start.errors → IsRefusedAt start (record { at = place.Marker; why = why })
-marker_was_refused start new why known reads quiet = marker_refused start why (reads known quiet)
+pub marker_was_refused : (start begun new : State) (why : Why) → begun ≡ started start → start.known ≡ true → Reads {X = ⊤} (λ x. x) marker begun new (Err why) → new.errors ≡ start.errors
+    → IsRefusedAt start (record { at = place.Marker; why = why })
+marker_was_refused start begun new why is known reads quiet =
+    let read = subst (λ (s : State). Reads {X = ⊤} (λ x. x) marker s new (Err why)) is reads in
+    marker_refused start why (read known quiet)

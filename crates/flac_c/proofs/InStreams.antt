@@ -13,21 +13,20 @@ use Rattle.flac_bits.proofs.Fencing.{take_bits}
 use Rattle.flac_bits.proofs.Handing.{Joined-append, after-append}
 use Rattle.flac_bits.proofs.Holding.{length-bits_of, bits_of-append}
 use Rattle.flac_bits.proofs.ItemSpellings.{fresh_unread, fresh_check8, fresh_check16, behind_whole}
-use Rattle.flac_meta.specs.Info.{Info, KeepsRules}
+use Rattle.flac_meta.specs.Info.{Info, KeepsRules, without_totals}
 use Rattle.flac_header.specs.declared.subset.Profile.TheVariants.{Subset}
 use Rattle.flac_frame.specs.Frame.{Frame, frame, header_rules}
 use Rattle.flac_frame.specs.Spelling.{FrameForm}
 use Rattle.flac_frame.specs.declared.before.Before.{Before}
 use Rattle.flac_frame.proofs.FrameTie.{frames_spelled}
 use Rattle.flac_native.specs.Decoding.{beginning}
-use Rattle.flac_native.specs.Resuming.{untold}
 use Rattle.flac_native.specs.Stream.{Piece, framed, Stand, Progress, grammar, opening, next, layout, room_in}
 use Rattle.flac_native.specs.declared.track.Phase.{Phase}
 use Rattle.flac_native.specs.declared.track.Phase.TheVariants.{Opening, Blocks, Frames}
 use Rattle.flac_native.proofs.Blocks.{block_there, marker_there}
 use Rattle.flac_native.proofs.OneHead.{heads}
-use Rattle.flac_native.proofs.Onwards.{Told, nothing_told, step_of, frame_there, same_info, untold_rules, after_profile}
-use Rattle.flac_c.specs.Cursors.{info_of, passed, IsFrameAt, HandsOver, StandsIn, GoesOn}
+use Rattle.flac_native.proofs.Onwards.{Told, nothing_told, step_of, frame_there, same_info, without_totals_rules, after_profile}
+use Rattle.flac_c.specs.Cursors.{info_from_c, passed, IsFrameAt, HandsOver, StandsIn, GoesOn}
 use Rattle.flac_c.specs.declared.cursor.FlacProvedCursor.{FlacProvedCursor}
 use Rattle.flac_c.proofs.FramesRead.{frame_whole, left_behind}
 
@@ -38,15 +37,15 @@ at_most true greatest least first size before e = grind (arith, nat_tests)
 at_most false greatest least first size before e = grind (arith, nat_tests)
 
 -- what keeps the rules behind other frames keeps them as the first
-first_kept : (i : Info) (before : Option Before) (g : FrameForm) → AllKept (header_rules Subset i before g.header) → AllKept (header_rules Subset (untold i) None g.header)
+first_kept : (i : Info) (before : Option Before) (g : FrameForm) → AllKept (header_rules Subset i before g.header) → AllKept (header_rules Subset (without_totals i) None g.header)
 first_kept i None g k = k
 first_kept i (Some b) g k = (k.0, (k.1.0, (refl, (at_most g.header.variable i.greatest_block i.least_block b.first_size g.header.size b.size k.1.1.1.0, tt))))
 
-frame_alone : (i : Info) (before : Option Before) (m : Mark) (text : List Bool) (f : Frame) → KeepsRules i → m.unread ≡ 0 → Spells (frame Subset i before) (fresh m) text f → Spells (frame Subset (untold i) None) (beginning Truncated) text f
+frame_alone : (i : Info) (before : Option Before) (m : Mark) (text : List Bool) (f : Frame) → KeepsRules i → m.unread ≡ 0 → Spells (frame Subset i before) (fresh m) text f → Spells (frame Subset (without_totals i) None) (beginning Truncated) text f
 frame_alone i before m text f rules u h =
     let s = (frames_spelled Subset i before (fresh m) text f rules (fresh_unread m u) (fresh_check8 m u) (fresh_check16 m u)).0 h in
     let v = s.valid in
-    (frames_spelled Subset (untold i) None (beginning Truncated) text f (untold_rules i rules) refl refl refl).1 (record {
+    (frames_spelled Subset (without_totals i) None (beginning Truncated) text f (without_totals_rules i rules) refl refl refl).1 (record {
       form = s.form;
       valid = record { header = v.header; follows = first_kept i before s.form v.follows; many = v.many; subframes = v.subframes };
       spelling = s.spelling;
@@ -112,8 +111,8 @@ front_is bytes text left n split long = sym (take-append_seam text left) ∙ ap 
 -- The next frame is there.
 pub record NextIn (bytes : List ℕ) (c : FlacProvedCursor) (front more : List Piece) (f : Frame) : Type 0 where
   pub n : ℕ
-  pub rules : KeepsRules (info_of c.info)
-  pub at : IsFrameAt (info_of c.info) (drop c.offset bytes) f n
+  pub rules : KeepsRules (info_from_c c.info)
+  pub at : IsFrameAt (info_from_c c.info) (drop c.offset bytes) f n
   pub behind : StandsIn bytes (passed c f (c.offset + n)) (front ++ framed f ∷ []) more
 
 pub next_in : (bytes : List ℕ) (c : FlacProvedCursor) (front more : List Piece) (f : Frame) → StandsIn bytes c front (framed f ∷ more) → NextIn bytes c front more f
@@ -131,9 +130,9 @@ next_in bytes c front more f h =
     let judged = subst (λ k. Spells (frame k t.info s.before) (fresh m) q.here t.is) (after_profile (opening Subset) front) t.spelled in
     let spelled = subst (λ (g : Frame). Spells (frame Subset h.info s.before) (fresh m) q.here g) frame_is (subst (λ (i : Info). Spells (frame Subset i s.before) (fresh m) q.here t.is) info_is judged) in
     let rules : KeepsRules h.info = q.told h.info h.told in
-    let rules' : KeepsRules (untold h.info) = untold_rules h.info rules in
+    let rules' : KeepsRules (without_totals h.info) = without_totals_rules h.info rules in
     let alone = frame_alone h.info s.before m q.here f rules q.whole spelled in
-    let whole : length q.here % 8 ≡ 0 = frame_whole (untold h.info) q.here f rules' alone in
+    let whole : length q.here % 8 ≡ 0 = frame_whole (without_totals h.info) q.here f rules' alone in
     let n : ℕ = length q.here / 8 in
     let long : length q.here ≡ 8 * n = omega (arith, whole) in
     let rest_is : q.rest ≡ bits_of (drop n (drop o bytes)) = left_behind (drop o bytes) q.here q.rest n (sym left_is) long in
@@ -144,7 +143,7 @@ next_in bytes c front more f h =
     let fence : InRoom (Some 16777215) (fresh m) q.here = subst (λ k. InRoom (room_in k) (fresh m) q.here) phase q.fits in
     let z : (fresh m).unread ≡ 0 = fresh_unread m q.whole in
     let room : InRoom (Some 16777215) (beginning Truncated) q.here = omega (arith, z, fence) in
-    let at : IsFrameAt (untold h.info) (drop o bytes) f n = record { text = q.here; split = sym left_is ∙ ap (λ l. q.here ++ l) rest_is; within = within; spelled = alone; room = room } in
+    let at : IsFrameAt (without_totals h.info) (drop o bytes) f n = record { text = q.here; split = sym left_is ∙ ap (λ l. q.here ++ l) rest_is; within = within; spelled = alone; room = room } in
     let heads_are : bits_of bytes ≡ (q.head ++ q.here) ++ q.rest = q.split ∙ sym (append_assoc q.head q.here q.rest) in
     let total : 8 * length bytes ≡ length q.head + length q.here + length q.rest =
     sym (length-bits_of bytes) ∙ ap (λ (l : List Bool). length l) heads_are ∙ length-append (q.head ++ q.here) q.rest ∙ ap (λ k. k + length q.rest) (length-append q.head q.here) in
@@ -169,7 +168,7 @@ next_in bytes c front more f h =
 
 -- A call that hands over each frame that is there goes on in a stream.
 pub goes_on : (bytes : List ℕ) (old new : FlacProvedCursor) (out written : List ℤ) (len result : ℕ)
-    → (KeepsRules (info_of old.info) → (f : Frame) (n : ℕ) → IsFrameAt (info_of old.info) (drop old.offset bytes) f n → (result ≡ 2) ⊎ ((result ≡ 0) × HandsOver f (old.offset + n) old new out written len))
+    → (KeepsRules (info_from_c old.info) → (f : Frame) (n : ℕ) → IsFrameAt (info_from_c old.info) (drop old.offset bytes) f n → (result ≡ 2) ⊎ ((result ≡ 0) × HandsOver f (old.offset + n) old new out written len))
     → (front more : List Piece) (f : Frame) → StandsIn bytes old front (framed f ∷ more) → (result ≡ 2) ⊎ ((result ≡ 0) × GoesOn bytes old new out written len front more f)
 goes_on bytes old new out written len result frames front more f h =
     let x = next_in bytes old front more f h in

@@ -1,5 +1,5 @@
 -- How long the least frame of a block is at most: that of the channels each by itself and verbatim is no shorter (RFC 9639, sections 9.1.3, 9.2.1 and 9.2.4).
-use Rattle.std.proofs.Common.{◌≡◌, ◌∙◌, refl, sym, ap, subst, ℕ, suc, ◌+◌, ◌-◌, ◌*◌, ◌^◌, ◌≤◌, ◌<◌, arith, mul-add, mul_assoc, mul-le-mul_left, mul-suc, map-id, ℤ, Bool, true, false, cond, ◌||◌, nat_lt, nat_le, List, [], ◌∷◌, ◌++◌, length, length-append, get_or, map, take, drop, Option, Some, None, All}
+use Rattle.std.proofs.Common.{◌≡◌, ◌∙◌, refl, sym, ap, subst, ℕ, suc, ◌+◌, ◌-◌, ◌*◌, ◌^◌, ◌≤◌, ◌<◌, arith, mul-add, mul_assoc, mul-le-mul_left, mul-suc, ℤ, Bool, true, false, cond, ◌||◌, nat_lt, nat_le, List, [], ◌∷◌, ◌++◌, length, length-append, get_or, map, take, drop, Option, Some, None, All}
 use Rattle.std.proofs.lemmas.Bool.Decides.{nat_tests}
 use Rattle.std.proofs.lemmas.List.{length-map}
 use Rattle.flac_bits.specs.Forms.{joined}
@@ -137,12 +137,9 @@ module _ (p : Cut) (a : Sound) (good : IsSound a) (some : 16 ≤ p.block_size) w
       let within : start + size ≤ total = omega (arith, here) in
       let reach : All (λ c. start + size ≤ length c) a.channels = λ k d h. omega (arith, good.long k d h, within) in
       let block : List (List ℤ) = block_of start size a.channels in
-      let facts = is_block (λ (c : List ℤ). c) a.bits start size deep.0 size_some a.channels (reach, good.small) in
-      let same : block_of start size (map (λ (c : List ℤ). c) a.channels) ≡ block = ap (block_of start size) (map-id a.channels) in
-      let long = subst (λ b. All (λ s. length s ≡ size) b) same facts.0 in
-      let fits = subst (λ b. All (λ s. All (FitsBits a.bits) s) b) same facts.1 in
+      let facts = is_block a.bits start size deep.0 size_some a.channels reach good.small in
       let many : length block ≡ length a.channels = length-map a.channels (λ c. take size (drop start c)) in
-      let cost = least_cost p.predictors a size number block spells.form deep.0 size_some (omega (arith, many, good.some)) (omega (arith, many, good.few)) long fits spells.least in
+      let cost = least_cost p.predictors a size number block spells.form deep.0 size_some (omega (arith, many, good.some)) (omega (arith, many, good.few)) facts.0 facts.1 spells.least in
       let bound : length (frame_spelling a.bits spells.form) ≤ 151 + length block * (8 + a.bits * size) = frame_long a.bits spells.form (length block * (8 + a.bits * size)) cost in
       let bound' : length (frame_spelling a.bits spells.form) ≤ 151 + length a.channels * (8 + a.bits * size) = subst (λ n. length (frame_spelling a.bits spells.form) ≤ 151 + n * (8 + a.bits * size)) many bound in
       subst (λ (t : List Bool). length t ≤ 151 + length a.channels * (8 + a.bits * size)) (sym spells.spelling) bound'

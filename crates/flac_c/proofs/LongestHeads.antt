@@ -18,7 +18,7 @@ use Rattle.flac_native.specs.Seeking.{points_of, table_of}
 use Rattle.flac_native.specs.Writing.{blocks_spelling}
 use Rattle.flac_native.proofs.Tables.{counted, no_points}
 use Rattle.flac_native.proofs.WholeBytes.{length-joined, header_long}
-use Rattle.flac_c.specs.Bound.{text_bytes, texts_bytes, parts_of, table_bytes}
+use Rattle.flac_c.specs.Bound.{text_bytes, texts_bytes, most_parts, table_bytes}
 use Rattle.flac_c.specs.Encoded.{texts_of, comments_of, blocks_of}
 use Rattle.flac_c.specs.declared.tags.FlacProvedText.{FlacProvedText}
 use Rattle.flac_c.specs.declared.tags.FlacProvedTags.{FlacProvedTags}
@@ -88,7 +88,7 @@ parts_few size total some =
     let lt : blocks_in size total < total / size + 2 = div_below (total + (size - 1)) size (total / size + 2) (omega (arith, some)) below in
     omega (arith, lt)
 
-pub parts_are : (size total : ℕ) → 1 ≤ size → parts_of total size ≡ total / size + 1
+pub parts_are : (size total : ℕ) → 1 ≤ size → most_parts total size ≡ total / size + 1
 parts_are size total some = let e : max size 1 ≡ size = omega (arith, some) in ap (λ n. total / n + 1) e
 
 -- ---- how many points there are

@@ -24,7 +24,7 @@ use Rattle.flac_ogg.specs.Native.{mapping_spelling}
 use Rattle.flac_ogg.specs.Writing.{ArePackets, header_count}
 use Rattle.flac_ogg.proofs.Packing.{mapping_long}
 use Rattle.flac_ogg.proofs.Whole.{block_long}
-use Rattle.flac_c.specs.Bound.{parts_of, native_bytes}
+use Rattle.flac_c.specs.Bound.{most_parts, native_bound}
 use Rattle.flac_c.specs.Encoded.{sound_of, plan_of, comments_of, blocks_of, CanBeEncoded}
 use Rattle.flac_c.specs.declared.tags.FlacProvedTags.{FlacProvedTags}
 use Rattle.flac_c.specs.declared.encoding.FlacProvedSettings.{FlacProvedSettings}
@@ -117,7 +117,7 @@ close whole packets parts frames many bytes h e few le = omega (arith, h, e, few
 pub ogg_few : (s : FlacProvedSettings) (t : FlacProvedTags) (samples : List ℤ) (can : CanBeEncoded s samples) → 16 ≤ s.block_size → list_fault info_seen (blocks_of t) ≡ None
     → (serial : ℕ) (packets : List Placed) → ArePackets (plan_of s (sound_of s samples)) (blocks_of t) (sound_of s samples) packets
     → (bytes : ℕ) → 8 * bytes ≡ length (stream_spelling serial packets)
-    → bytes ≤ native_bytes s (length samples) (length samples / s.channels) t + (native_bytes s (length samples) (length samples / s.channels) t / 200 + 64 * (parts_of (length samples / s.channels) s.block_size + 2))
+    → bytes ≤ native_bound s (length samples) (length samples / s.channels) t + (native_bound s (length samples) (length samples / s.channels) t / 200 + 64 * (most_parts (length samples / s.channels) s.block_size + 2))
 ogg_few s t samples can some none serial packets are bytes long =
     let a : Sound = sound_of s samples in
     let p : Cut = plan_of s a in
@@ -140,8 +140,8 @@ ogg_few s t samples can some none serial packets are bytes long =
       block_long false i (digest_is_bytes (sound_message a)),
       comment_long true (comments_of t),
     ) in
-    let whole : ℕ = native_bytes s (length samples) each t in
+    let whole : ℕ = native_bound s (length samples) each t in
     let short : bytes_in packets ≤ whole + 1 = omega (arith, texts_long packets, all, inner, few, comments.1) in
-    let blocks : length are.frames ≤ parts_of each s.block_size = omega (arith, are.are.many, parts_few s.block_size (samples_each a.channels) (omega (arith, some)), parts_are s.block_size each (omega (arith, some)), ap (λ k. k / s.block_size) (each_is s samples can)) in
+    let blocks : length are.frames ≤ most_parts each s.block_size = omega (arith, are.are.many, parts_few s.block_size (samples_each a.channels) (omega (arith, some)), parts_are s.block_size each (omega (arith, some)), ap (λ k. k / s.block_size) (each_is s samples can)) in
     let paged : 200 * bytes ≤ 201 * bytes_in packets + 5600 * length packets = omega (arith, paged_long serial packets, long) in
-    close whole (bytes_in packets) (parts_of each s.block_size) (length are.frames) (length packets) bytes paged (sym (texts_many packets) ∙ many) blocks short
+    close whole (bytes_in packets) (most_parts each s.block_size) (length are.frames) (length packets) bytes paged (sym (texts_many packets) ∙ many) blocks short

@@ -19,7 +19,7 @@ use Rattle.flac_native.specs.Seeking.{points_of, table_of}
 use Rattle.flac_native.specs.Writing.{AreFrames, AreLeastFrames, blocks_spelling, stream_spelling}
 use Rattle.flac_native.proofs.Digests.{digest_is_bytes}
 use Rattle.flac_ogg.proofs.Whole.{block_long}
-use Rattle.flac_c.specs.Bound.{raw_bytes, parts_of, table_bytes, native_bytes}
+use Rattle.flac_c.specs.Bound.{raw_bytes, most_parts, table_bytes, native_bound}
 use Rattle.flac_c.specs.Encoded.{sound_of, plan_of, comments_of, blocks_of, CanBeEncoded}
 use Rattle.flac_c.specs.Interleaved.{channel_at, channels_at}
 use Rattle.flac_c.specs.declared.tags.FlacProvedTags.{FlacProvedTags}
@@ -85,14 +85,14 @@ module _ (s : FlacProvedSettings) (samples : List ℤ) (can : CanBeEncoded s sam
 
   -- 215 bits of each frame are beside its samples
   pub frames_few : (frames : List (List Bool)) → 16 ≤ s.block_size → AreFrames (plan_of s sound) sound frames → AreLeastFrames (plan_of s sound) sound frames
-      → length (joined frames) ≤ 215 * parts_of each s.block_size + 8 * raw_bytes s.bits (length samples)
+      → length (joined frames) ≤ 215 * most_parts each s.block_size + 8 * raw_bytes s.bits (length samples)
   frames_few frames some are least =
       let good = can.sound in
       let n : ℕ = length sound.channels in
       let total : ℕ = samples_each sound.channels in
       let all = frames_long (plan_of s sound) sound frames good some are least in
-      let blocks : blocks_in s.block_size total ≤ parts_of each s.block_size = omega (arith, parts_few s.block_size total (omega (arith, some)), parts_are s.block_size each (omega (arith, some)), ap (λ k. k / s.block_size) each_is) in
-      let around = mul-le (151 + 8 * n) (blocks_in s.block_size total) 215 (parts_of each s.block_size) (omega (arith, good.few)) blocks in
+      let blocks : blocks_in s.block_size total ≤ most_parts each s.block_size = omega (arith, parts_few s.block_size total (omega (arith, some)), parts_are s.block_size each (omega (arith, some)), ap (λ k. k / s.block_size) each_is) in
+      let around = mul-le (151 + 8 * n) (blocks_in s.block_size total) 215 (most_parts each s.block_size) (omega (arith, good.few)) blocks in
       let product : total * n ≡ length samples = ap (λ k. k * n) each_is ∙ ap (λ k. each * k) many_channels ∙ all_are in
       let same : n * s.bits * total ≡ s.bits * length samples = turned n s.bits total (length samples) product in
       omega (arith, all, around, same, raw_enough s.bits (length samples) (depth_small Subset s.bits good.bits).1)
@@ -115,7 +115,7 @@ head_long i c more rest digest =
 pub native_few : (s : FlacProvedSettings) (t : FlacProvedTags) (samples : List ℤ) (can : CanBeEncoded s samples) → 16 ≤ s.block_size → list_fault info_seen (blocks_of t) ≡ None
     → (least greatest : ℕ) (frames : List (List Bool)) → AreFrames (plan_of s (sound_of s samples)) (sound_of s samples) frames → AreLeastFrames (plan_of s (sound_of s samples)) (sound_of s samples) frames
     → length (stream_spelling (plan_of s (sound_of s samples)) (blocks_of t ++ table_of (points_of (plan_of s (sound_of s samples)) frames)) (sound_of s samples) least greatest frames)
-    ≤ 8 * native_bytes s (length samples) (length samples / s.channels) t
+    ≤ 8 * native_bound s (length samples) (length samples / s.channels) t
 native_few s t samples can some none least greatest frames are are_least =
     let a : Sound = sound_of s samples in
     let p : Cut = plan_of s a in

@@ -1,9 +1,10 @@
 -- What a call answers in C: a number, and where a stream was refused.
-use Rattle.std.specs.Prelude.{◌≡◌, ℕ, min, List, [], ◌++◌, length, take, drop, slice_index_or, ◌∷◌, Option, Some, None, codes}
+use Rattle.std.specs.Prelude.{◌≡◌, ℕ, min, List, [], ◌++◌, length, take, drop, slice_index_or, ◌∷◌, Option, Some, None}
 use Rattle.flac_bits.specs.declared.why.Why.{Why}
 use Rattle.flac_bits.specs.Reasons.{number_of}
 use Rattle.flac_native.specs.declared.fault.Place.{Place}
 use Rattle.flac_native.specs.declared.fault.Place.TheVariants.{Marker, Block, Frame, Page, End}
+use Rattle.flac_native.specs.Places.{kind_name}
 use Rattle.flac_c.specs.declared.fault.FlacProvedFault.{FlacProvedFault}
 
 -- which kind of place it is
@@ -41,7 +42,7 @@ IsCopied text old new told = (new ≡ copied text old) × (told ≡ length text)
 
 -- the names of the kinds of places, in the order of their numbers
 abbrev pub place_texts : List (List ℕ)
-place_texts = [] ∷ codes "marker" ∷ codes "block" ∷ codes "frame" ∷ codes "page" ∷ codes "end" ∷ []
+place_texts = [] ∷ kind_name Marker ∷ kind_name (Block 0) ∷ kind_name (Frame 0) ∷ kind_name (Page 0) ∷ kind_name End ∷ []
 
 -- the name of a kind of place, empty if there is no such kind
 abbrev pub place_text : ℕ → List ℕ

@@ -19,23 +19,23 @@ abbrev pub raw_bytes : (bits count : ℕ) → ℕ
 raw_bytes bits count = sample_width (max 1 (min bits 32)) * count
 
 -- how many parts of `size` samples there are at most; 0 stands for 1
-abbrev pub parts_of : (each size : ℕ) → ℕ
-parts_of each size = each / max size 1 + 1
+abbrev pub most_parts : (each size : ℕ) → ℕ
+most_parts each size = each / max size 1 + 1
 
 -- a seek table of points of 18 bytes
 abbrev pub table_bytes : (each every : ℕ) → ℕ
-table_bytes each every = cond (nat_eq every 0) 0 (4 + 18 * parts_of each every)
+table_bytes each every = cond (nat_eq every 0) 0 (4 + 18 * most_parts each every)
 
 -- the marker, STREAMINFO and the comments have 58 bytes beside the texts; a frame has 28 beside its samples
-abbrev pub native_bytes : FlacProvedSettings → (count each : ℕ) → FlacProvedTags → ℕ
-native_bytes s count each t = 58 + text_bytes t.vendor + texts_bytes t.list.now + table_bytes each s.seek_every + raw_bytes s.bits count + 28 * parts_of each s.block_size
+abbrev pub native_bound : FlacProvedSettings → (count each : ℕ) → FlacProvedTags → ℕ
+native_bound s count each t = 58 + text_bytes t.vendor + texts_bytes t.list.now + table_bytes each s.seek_every + raw_bytes s.bits count + 28 * most_parts each s.block_size
 
 -- and pages
 abbrev pub page_bytes : FlacProvedSettings → (each whole : ℕ) → ℕ
-page_bytes s each whole = cond (nat_eq s.ogg 0) 0 (whole / 200 + 64 * (parts_of each s.block_size + 2))
+page_bytes s each whole = cond (nat_eq s.ogg 0) 0 (whole / 200 + 64 * (most_parts each s.block_size + 2))
 
 abbrev pub bytes_among : FlacProvedSettings → (count each : ℕ) → FlacProvedTags → ℕ
-bytes_among s count each t = native_bytes s count each t + page_bytes s each (native_bytes s count each t)
+bytes_among s count each t = native_bound s count each t + page_bytes s each (native_bound s count each t)
 
 abbrev pub bound_of : FlacProvedSettings → (count : ℕ) → FlacProvedTags → ℕ
 bound_of s count t = min (bytes_among s count (count / max s.channels 1) t) 18446744073709551615

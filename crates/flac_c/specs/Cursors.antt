@@ -6,12 +6,11 @@ use Rattle.flac_bits.specs.Meaning.{Spells}
 use Rattle.flac_bits.specs.Fence.{InRoom, StopsIn}
 use Rattle.flac_bits.specs.declared.why.Why.{Why}
 use Rattle.flac_bits.specs.declared.why.Why.TheVariants.{Memory, Truncated, BadStreamInfo}
-use Rattle.flac_meta.specs.Info.{Info, KeepsRules}
+use Rattle.flac_meta.specs.Info.{Info, KeepsRules, without_totals}
 use Rattle.flac_header.specs.declared.subset.Profile.TheVariants.{Subset}
 use Rattle.flac_frame.specs.Frame.{Frame, frame, first_sample}
 use Rattle.flac_frame.specs.Interleaved.{interleaved}
 use Rattle.flac_native.specs.Decoding.{beginning}
-use Rattle.flac_native.specs.Resuming.{untold}
 use Rattle.flac_native.specs.Stream.{Piece, framed, grammar, opening}
 use Rattle.flac_native.specs.declared.fault.Place.{Place}
 use Rattle.flac_native.specs.declared.fault.Place.TheVariants as place
@@ -23,8 +22,8 @@ use Rattle.flac_c.specs.declared.cursor.FlacProvedCursor.{FlacProvedCursor}
 -- ---- a cursor
 
 -- STREAMINFO by which frames are read from a cursor on: it states neither the number of samples nor their digest
-abbrev pub info_of : FlacProvedInfo → Info
-info_of i = record {
+abbrev pub info_from_c : FlacProvedInfo → Info
+info_from_c i = record {
   least_block = i.least_block;
   greatest_block = i.greatest_block;
   least_frame = i.least_frame;
@@ -72,13 +71,13 @@ pub record HandsOver (f : Frame) (end : ℕ) (old new : FlacProvedCursor) (out w
 abbrev pub GivesNext : List ℕ → (old new : FlacProvedCursor) → (out written : List ℤ) → ℕ → Type 0
 GivesNext bytes old new out written len =
     ((old.offset ≡ length bytes) × (new ≡ old) × (written ≡ out) × (len ≡ 0))
-    ⊎ ((f : Frame) × (n : ℕ) × IsFrameAt (info_of old.info) (drop old.offset bytes) f n × HandsOver f (old.offset + n) old new out written len)
+    ⊎ ((f : Frame) × (n : ℕ) × IsFrameAt (info_from_c old.info) (drop old.offset bytes) f n × HandsOver f (old.offset + n) old new out written len)
 
 -- No frame is there: memory ran out, or the cursor has no STREAMINFO, or this is why.
 abbrev pub RefusesNext : List ℕ → FlacProvedCursor → Option (Place × Why) → Type 0
 RefusesNext bytes c outcome =
     (why : Why) × (outcome ≡ Some (place.Frame c.frames, why))
-    × ((why ≡ Memory) ⊎ (((why ≡ BadStreamInfo) × (KeepsRules (info_of c.info) → ⊥)) ⊎ NoFrameAt (info_of c.info) (drop c.offset bytes) why))
+    × ((why ≡ Memory) ⊎ (((why ≡ BadStreamInfo) × (KeepsRules (info_from_c c.info) → ⊥)) ⊎ NoFrameAt (info_from_c c.info) (drop c.offset bytes) why))
 
 -- ---- in a stream
 
@@ -89,7 +88,7 @@ pub record StandsIn (bytes : List ℕ) (c : FlacProvedCursor) (front more : List
   pub spelled : Joined grammar (opening Subset) (beginning Truncated) front (bits_of (take c.offset bytes))
   pub info : Info
   pub told : (after grammar (opening Subset) front).stand.info ≡ Some info
-  pub same : info_of c.info ≡ untold info
+  pub same : info_from_c c.info ≡ without_totals info
 
 -- The bytes are a native stream of these items, and the cursor is at its first frame, right after the metadata.
 abbrev pub StartsIn : List ℕ → FlacProvedCursor → List Piece → Type 0

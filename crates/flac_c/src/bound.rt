@@ -1,7 +1,7 @@
 //! How much room an encoded stream needs.
 
 ghost use Rattle.std.specs.Prelude.{◌≡◌, ◌≤◌, ◌*◌, length};
-ghost use Rattle.flac_c.specs.Bound.{text_bytes, texts_bytes, raw_bytes, parts_of, table_bytes, native_bytes, bytes_among, bound_of, IsEnough};
+ghost use Rattle.flac_c.specs.Bound.{text_bytes, texts_bytes, raw_bytes, most_parts, table_bytes, native_bound, bytes_among, bound_of, IsEnough};
 
 use crate::encoding::FlacProvedSettings;
 use crate::tags::{FlacProvedTags, FlacProvedText};
@@ -36,8 +36,8 @@ fn raw_bytes(bits: u32, count: u64) -> u128
 }
 
 /// An upper bound of how many parts of this size there are.
-fn parts_of(each: u64, size: u32) -> u128
-    ensures value { result ≡ parts_of each size }
+fn most_parts(each: u64, size: u32) -> u128
+    ensures value { result ≡ most_parts each size }
     ensures few { result ≤ 18446744073709551616 }
 {
     u128::from(each / u64::from(size.max(1))) + 1
@@ -51,23 +51,26 @@ fn table_bytes(each: u64, every: u32) -> u128
     if every == 0 {
         0
     } else {
-        4 + 18 * parts_of(each, every)
+        4 + 18 * most_parts(each, every)
     }
 }
 
 /// An upper bound of the bytes of a native stream.
-fn native_bytes(
+fn native_bound(
     settings: &FlacProvedSettings,
     count: u64,
     each: u64,
     tags: &FlacProvedTags<'_>,
 ) -> u128
-    ensures value { result ≡ native_bytes settings.now count each tags.now }
+    ensures value { result ≡ native_bound settings.now count each tags.now }
     ensures few { result ≤ 618970019642690137449562112 }
 {
     let texts = u128::from(text_bytes(&tags.vendor)) + texts_bytes(tags.list);
     let table = table_bytes(each, settings.seek_every);
-    58 + texts + table + raw_bytes(settings.bits, count) + 28 * parts_of(each, settings.block_size)
+    58 + texts
+        + table
+        + raw_bytes(settings.bits, count)
+        + 28 * most_parts(each, settings.block_size)
 }
 
 /// Bytes of a stream at most.
@@ -79,11 +82,11 @@ fn bytes_among(
 ) -> u128
     ensures { result ≡ bytes_among settings.now count each tags.now }
 {
-    let whole = native_bytes(settings, count, each, tags);
+    let whole = native_bound(settings, count, each, tags);
     if settings.ogg == 0 {
         whole
     } else {
-        whole + (whole / 200 + 64 * (parts_of(each, settings.block_size) + 2))
+        whole + (whole / 200 + 64 * (most_parts(each, settings.block_size) + 2))
     }
 }
 

@@ -1,9 +1,9 @@
 //! A place in a native stream that is read frame by frame.
 
-ghost use Rattle.std.specs.Prelude.{◌≡◌, ◌≤◌, IfOk, IfErr, drop};
+ghost use Rattle.std.specs.Prelude.{◌≡◌, ◌≤◌, IfOk, IfErr};
 ghost use Rattle.flac_meta.specs.Info.{KeepsRules};
 ghost use Rattle.flac_frame.specs.Lent.{frame_of};
-ghost use Rattle.flac_c.specs.Cursors.{info_of, passed};
+ghost use Rattle.flac_c.specs.Cursors.{info_from_c, passed};
 
 use crate::info::FlacProvedInfo;
 use flac_bits::Why;
@@ -27,10 +27,10 @@ pub struct FlacProvedCursor {
 
 /// The STREAMINFO by which frames are read: without the number of all samples and their MD5. Its only error is
 /// `BadStreamInfo`: a field is out of its range.
-pub(crate) fn info_of(info: &FlacProvedInfo) -> Result<StreamInfo, Why>
-    ensures value { IfOk result (λ i. i ≡ info_of info.now) }
+pub(crate) fn info_from_c(info: &FlacProvedInfo) -> Result<StreamInfo, Why>
+    ensures value { IfOk result (λ i. i ≡ info_from_c info.now) }
     ensures rules { IfOk result (λ i. KeepsRules i) }
-    ensures refused { IfErr result (λ e. (e ≡ Why.BadStreamInfo) × (KeepsRules (info_of info.now) → ⊥)) }
+    ensures refused { IfErr result (λ e. (e ≡ Why.BadStreamInfo) × (KeepsRules (info_from_c info.now) → ⊥)) }
 {
     if info.least_block > 65535
         || info.greatest_block > 65535
@@ -53,17 +53,6 @@ pub(crate) fn info_of(info: &FlacProvedInfo) -> Result<StreamInfo, Why>
     // Read only for the proof, which then knows what the model of a `StreamInfo` keeps to.
     let _rules = found.rate();
     Ok(found)
-}
-
-/// The bytes from an offset on; none if there are not as many.
-pub(crate) fn bytes_from(bytes: &[u8], offset: u64) -> &[u8]
-    ensures { result.now ≡ drop offset bytes.now }
-{
-    if offset < bytes.len() as u64 {
-        &bytes[offset as usize..]
-    } else {
-        &bytes[bytes.len()..]
-    }
 }
 
 /// The cursor after a frame that ends at an offset.

@@ -1,94 +1,20 @@
 //! Decodes a stream to bytes.
 
-ghost use Rattle.std.specs.Prelude.{◌≡◌, ◌≢◌, ◌≤◌, ◌++◌, [], nat_lt, length, min, true, List, OnOk, IfErr, Some, None};
+ghost use Rattle.std.specs.Prelude.{◌≡◌, ◌≢◌, min, true, List, OnOk, IfErr, Some, None};
 ghost use Rattle.flac_bits.specs.Handing.{TakesAll};
 ghost use Rattle.flac_native.specs.Decoding.{taken};
 ghost use Rattle.flac_native.specs.Item.{told};
-ghost use Rattle.flac_native.specs.Message.{rows_bytes};
+ghost use Rattle.flac_native.specs.Samples.{samples_from};
 ghost use Rattle.flac_native.specs.Stream.{Piece};
-ghost use Rattle.flac_frame.specs.Lent.{frame_of};
 ghost use Rattle.flac_ogg.specs.Verifying.{Verifies, bytes_reading};
 ghost use Rattle.flac_c.specs.Answers.{IsAnswered, IsCopied, in_c};
-ghost use Rattle.flac_c.specs.Sampled.{samples_from};
-ghost use Rattle.flac_c.specs.inner.Sampled.{depth_behind, samples_in};
 
-use crate::failures::Failures;
 use crate::fault::{FlacProvedFault, in_c};
 use crate::texts::copy;
-use flac_bits::{Memory, Why};
-use flac_frame::FrameView;
-use flac_meta::Block;
-use flac_native::{Fault, Profile, Sink, SinkFault, put_rows, sample_width};
+use flac_bits::{Collected, Memory, Why};
+use flac_native::{Fault, Profile, SampleWriter, Sink};
 use flac_ogg::decode_any;
-use std::alloc::{AllocError, Global};
-
-/// The most bytes that are written at once.
-const ROOM: usize = 32768;
-
-/// The most inter-channel samples that are written at once. Each has at most 8 samples of 4 bytes.
-const ROWS: usize = 1024;
-
-/// Collects the samples of each frame.
-#[derive(Drop)]
-struct Samples {
-    bytes: Vec<u8>,
-    /// Bytes per sample; 0 for the fewest that hold its bits.
-    asked: usize,
-    /// Bits per sample, as STREAMINFO states them; 0 before it.
-    depth: u8,
-    failures: Failures,
-    ghost range: { depth ≤ 32 },
-    ghost few: { asked ≤ 4 },
-}
-
-/// Adds the samples of a frame.
-fn push_frame(frame: &FrameView<'_>, width: usize, bytes: &mut Vec<u8>) -> Result<(), AllocError>
-    requires { width ≤ 4 }
-    ensures { OnOk result (bytes.new.items ≡ bytes.old.items ++ rows_bytes width (frame_of frame.now).channels (frame_of frame.now).size 0) }
-{
-    let mut buffer = [0u8; ROOM];
-    let mut start = 0;
-    while start < frame.len() {
-        let count = (frame.len() - start).min(ROWS);
-        let end = put_rows(frame, width, start, count, &mut buffer);
-        bytes.extend_from_slice(&buffer[..end])?;
-        start += count;
-    }
-    Ok(())
-}
-
-impl Sink for Samples {
-    ghost takes = { λ old item new. record {
-      asked : new.asked ≡ old.asked;
-      depth : new.depth ≡ depth_behind old.depth item;
-      bytes : new.bytes.items ≡ old.bytes.items ++ samples_in old.asked old.depth item;
-    } };
-
-    ghost known = { λ s. nat_lt s.failures.count 18446744073709551615 };
-
-    ghost errors = { λ s. s.failures.count };
-
-    ghost names = { λ _. [] };
-
-    fn block(&mut self, block: &Block) -> Result<(), SinkFault> {
-        if let Block::StreamInfo(info) = block {
-            self.depth = info.depth();
-        }
-        Ok(())
-    }
-
-    fn frame(&mut self, frame: &FrameView<'_>) -> Result<(), SinkFault> {
-        let width = if self.asked == 0 {
-            sample_width(u32::from(self.depth))
-        } else {
-            self.asked
-        };
-        match push_frame(frame, width, &mut self.bytes) {
-            Ok(()) => Ok(()),
-            Err(_) => self.failures.fail(),
-        }
-    }
-}
+use std::alloc::Global;
 
 /// The reason for which a decoding is refused whose sink fails only if an allocation fails.
 fn of_memory(why: Why) -> Why
@@ -140,17 +66,13 @@ pub extern "C" fn flac_proved_decode(
     ensures number { result ≡ fault.new.number }
     ensures clear { result ≡ 0 → fault.new ≡ in_c None }
 {
-    let mut sink = Samples {
-        bytes: Vec::new(alloc),
-        asked: width.min(4) as usize,
-        depth: 0,
-        failures: Failures { count: 0 },
-    };
+    let mut sink = SampleWriter::new(Collected::new(alloc), width.min(4) as usize);
     if let Err(told) = collect(alloc, bytes, &mut sink) {
         *fault = in_c(Err(told));
         return fault.number;
     }
     *fault = in_c(Ok(()));
-    *len = copy(sink.bytes.as_slice(), out);
+    let target = sink.into_target();
+    *len = copy(target.bytes(), out);
     0
 }

@@ -7,11 +7,10 @@ ghost use Rattle.flac_ogg.specs.Verifying.{Verifies, bytes_reading};
 ghost use Rattle.flac_c.specs.Heads.{info_from, BeginsBy, EndsBy, Begins, Lacks};
 ghost use Rattle.flac_c.specs.inner.Heads.{info_behind, comments_behind, frames_behind};
 
-use crate::failures::Failures;
 use flac_bits::{Memory, Why};
 use flac_frame::FrameView;
 use flac_meta::{Block, Comments, StreamInfo};
-use flac_native::{Fault, Place, Profile, Sink, SinkFault};
+use flac_native::{Failures, Fault, Place, Profile, Sink, SinkFault};
 use flac_ogg::decode_any;
 use std::alloc::Global;
 

@@ -12,7 +12,6 @@ mod channels;
 mod cursor;
 mod decoding;
 mod encoding;
-mod failures;
 mod fault;
 mod head;
 mod info;

@@ -2,15 +2,13 @@
 
 ghost use Rattle.std.specs.Prelude.{◌≡◌, ◌≢◌, true, [], None, Some, OnOk, IfOk, IfErr};
 ghost use Rattle.flac_bits.specs.Fence.{StopsIn};
-ghost use Rattle.flac_bits.specs.Reading.{Counts, Reads};
-ghost use Rattle.flac_bits.specs.State.{fresh, started};
+ghost use Rattle.flac_bits.specs.State.{fresh};
 ghost use Rattle.flac_meta.specs.Block.{block as block_layout};
-ghost use Rattle.flac_native.specs.Stream.{marker};
 ghost use Rattle.flac_c.specs.inner.Blocks.{Noted, IsFound, BlockRead, HeadRead, IsRefusedAt};
 
 use flac_bits::{BitReader, Memory, Why};
 use flac_meta::{Block, SeekPoint, Seen, StreamInfo, read_block};
-use flac_native::{Fault, Place};
+use flac_native::{Fault, Place, read_marker};
 use std::alloc::Global;
 
 /// What a cursor needs of the metadata.
@@ -50,19 +48,6 @@ impl Metadata {
     }
 }
 
-/// Reads the four bytes `fLaC`, with which a native stream begins (RFC 9639, section 6).
-#[tactic(auto, unfolding(flac_native::specs::Stream::marker))]
-fn read_marker(bits: &mut BitReader<Memory<'_>>) -> Result<(), Why>
-    ensures counts { Counts bits.old bits.new result }
-    ensures reads { Reads (λ u. u) marker (started bits.old) bits.new result }
-{
-    bits.start_checks();
-    if bits.take(32)? != 0x664C6143 {
-        return Err(Why::BadMarker);
-    }
-    Ok(())
-}
-
 /// Reads the next block, and returns whether it is marked last.
 fn next_block(
     alloc: Global,
@@ -96,6 +81,7 @@ pub(crate) fn read_parts(
     ensures read { OnOk result (HeadRead bits.old bits.new found.old.sample found.new) }
     ensures refused { IfErr result (λ f. bits.new.errors ≡ bits.old.errors → f.why ≢ Why.Memory → IsRefusedAt bits.old f) }
 {
+    bits.start_checks();
     match read_marker(bits) {
         Ok(()) => {}
         Err(why) => {

@@ -10,12 +10,11 @@ ghost use Rattle.flac_c.specs.Sampled.{numbers_from};
 ghost use Rattle.flac_c.specs.inner.Sampled.{numbers_in};
 
 use crate::decoding::collect;
-use crate::failures::Failures;
 use crate::fault::{FlacProvedFault, in_c};
 use crate::texts::copy;
 use flac_frame::FrameView;
 use flac_meta::Block;
-use flac_native::{Profile, Sink, SinkFault};
+use flac_native::{Failures, Profile, Sink, SinkFault};
 use std::alloc::{AllocError, Global};
 
 /// Collects the samples of each frame.

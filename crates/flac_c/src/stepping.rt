@@ -6,14 +6,14 @@ ghost use Rattle.flac_frame.specs.Frame.{Frame};
 ghost use Rattle.flac_frame.specs.Lent.{frame_of};
 ghost use Rattle.flac_native.specs.Stream.{Piece, framed};
 ghost use Rattle.flac_c.specs.Answers.{IsAnswered, in_c};
-ghost use Rattle.flac_c.specs.Cursors.{info_of, IsFrameAt, NoFrameAt, HandsOver, GivesNext, RefusesNext, StandsIn, GoesOn};
+ghost use Rattle.flac_c.specs.Cursors.{info_from_c, IsFrameAt, NoFrameAt, HandsOver, GivesNext, RefusesNext, StandsIn, GoesOn};
 
-use crate::cursor::{FlacProvedCursor, bytes_from, info_of, passed};
+use crate::cursor::{FlacProvedCursor, info_from_c, passed};
 use crate::fault::{FlacProvedFault, in_c};
 use flac_bits::{BitReader, Memory, Why};
 use flac_frame::{FrameBuffers, FrameView};
 use flac_meta::StreamInfo;
-use flac_native::{Fault, LONGEST_FRAME, Place, Profile};
+use flac_native::{Fault, LONGEST_FRAME, Place, Profile, bytes_from};
 use std::alloc::Global;
 
 /// Reads the frame with which these bytes begin, whatever its number is, and returns how many bytes it has.
@@ -95,14 +95,14 @@ fn step_alone(
     cursor: &mut FlacProvedCursor,
     out: &mut [i32],
 ) -> Result<usize, Why>
-    ensures found { IfOk result (λ len. (f : Frame) × (n : ℕ) × IsFrameAt (info_of cursor.old.info) (drop cursor.old.offset bytes.now) f n
+    ensures found { IfOk result (λ len. (f : Frame) × (n : ℕ) × IsFrameAt (info_from_c cursor.old.info) (drop cursor.old.offset bytes.now) f n
         × HandsOver f (cursor.old.offset + n) cursor.old cursor.new out.old out.new len) }
-    ensures fault { IfErr result (λ why. (why ≡ Why.Memory) ⊎ (((why ≡ Why.BadStreamInfo) × (KeepsRules (info_of cursor.old.info) → ⊥)) ⊎ NoFrameAt (info_of cursor.old.info) (drop cursor.old.offset bytes.now) why)) }
+    ensures fault { IfErr result (λ why. (why ≡ Why.Memory) ⊎ (((why ≡ Why.BadStreamInfo) × (KeepsRules (info_from_c cursor.old.info) → ⊥)) ⊎ NoFrameAt (info_from_c cursor.old.info) (drop cursor.old.offset bytes.now) why)) }
     ensures kept { IfErr result (λ _. (cursor.new ≡ cursor.old) × (out.new ≡ out.old)) }
-    ensures only { KeepsRules (info_of cursor.old.info) → (f : Frame) → (n : ℕ) → IsFrameAt (info_of cursor.old.info) (drop cursor.old.offset bytes.now) f n
+    ensures only { KeepsRules (info_from_c cursor.old.info) → (f : Frame) → (n : ℕ) → IsFrameAt (info_from_c cursor.old.info) (drop cursor.old.offset bytes.now) f n
         → (result ≡ Err Why.Memory) ⊎ IsOkAnd result (λ len. HandsOver f (cursor.old.offset + n) cursor.old cursor.new out.old out.new len) }
 {
-    let info = info_of(&cursor.info)?;
+    let info = info_from_c(&cursor.info)?;
     let mut buffers = FrameBuffers::new(
         alloc,
         u32::from(info.channels()),
@@ -132,7 +132,7 @@ pub extern "C" fn flac_proved_next(
 ) -> u32
     ensures given { result ≡ 0 → GivesNext bytes.now cursor.old cursor.new out.old out.new len.new }
     ensures refused { result ≢ 0 → IsAnswered (RefusesNext bytes.now cursor.old) fault.new }
-    ensures frames { KeepsRules (info_of cursor.old.info) → (f : Frame) → (n : ℕ) → IsFrameAt (info_of cursor.old.info) (drop cursor.old.offset bytes.now) f n
+    ensures frames { KeepsRules (info_from_c cursor.old.info) → (f : Frame) → (n : ℕ) → IsFrameAt (info_from_c cursor.old.info) (drop cursor.old.offset bytes.now) f n
         → (result ≡ 2) ⊎ ((result ≡ 0) × HandsOver f (cursor.old.offset + n) cursor.old cursor.new out.old out.new len.new) }
     ensures streams { (front : List Piece) → (more : List Piece) → (f : Frame) → StandsIn bytes.now cursor.old front (framed f ∷ more)
         → (result ≡ 2) ⊎ ((result ≡ 0) × GoesOn bytes.now cursor.old cursor.new out.old out.new len.new front more f) }

@@ -7,6 +7,7 @@ ghost use Rattle.flac_c.specs.Answers.{copied, place_text, IsCopied};
 
 use flac_bits::Why;
 use flac_frame::SetupFault;
+use flac_native::Place;
 
 /// Copies bytes or samples to the front of a buffer, as far as there is room, and returns how many there are.
 pub(crate) fn copy<T: Copy>(items: &[T], out: &mut [T]) -> usize
@@ -122,19 +123,19 @@ pub extern "C" fn flac_proved_place(kind: u32, out: &mut [u8]) -> usize
     ensures { IsCopied (place_text kind) out.old out.new result }
 {
     if kind == 1 {
-        return copy(b"marker", out);
+        return copy(Place::Marker.kind_name().as_bytes(), out);
     }
     if kind == 2 {
-        return copy(b"block", out);
+        return copy(Place::Block(0).kind_name().as_bytes(), out);
     }
     if kind == 3 {
-        return copy(b"frame", out);
+        return copy(Place::Frame(0).kind_name().as_bytes(), out);
     }
     if kind == 4 {
-        return copy(b"page", out);
+        return copy(Place::Page(0).kind_name().as_bytes(), out);
     }
     if kind == 5 {
-        return copy(b"end", out);
+        return copy(Place::End.kind_name().as_bytes(), out);
     }
     copy(&[], out)
 }

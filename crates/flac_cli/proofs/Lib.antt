@@ -8,6 +8,4 @@ pub mod Planning
 pub mod Refused
 pub mod Reported
 pub mod Rows
-pub mod Sent
 pub mod Wide
-pub mod Written

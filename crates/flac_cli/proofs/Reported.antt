@@ -20,7 +20,6 @@ use Rattle.flac_native.specs.declared.retagging.RetagFault.{RetagFault}
 use Rattle.flac_cli.specs.Encoded.{comments_of}
 use Rattle.flac_cli.specs.Lined.{text_at}
 use Rattle.flac_cli.specs.inner.Lined.{at_place}
-use Rattle.flac_cli.specs.Outcomes as outcomes
 use Rattle.flac_cli.specs.inner.Outcomes as inner_outcomes
 use Rattle.flac_cli.specs.Outcomes.{Outcome, reason_text, input_reading, Reads, IsRetagged, IsOutOfMemory, IsRetagOutOfMemory, IsUnlisted, Fits}
 use Rattle.flac_cli.specs.inner.Outcomes.{at_some_place}

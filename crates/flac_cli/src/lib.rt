@@ -4,8 +4,6 @@
 mod counts;
 mod decoding;
 mod encoding;
-mod failures;
-mod frames;
 mod lines;
 mod list;
 mod listing;
@@ -13,7 +11,6 @@ mod predictors;
 mod raw;
 mod retagging;
 mod runs;
-mod samples;
 mod texts;
 
 pub use flac_jobs::{ContainerKind, Job, LineFault, RawFormat};

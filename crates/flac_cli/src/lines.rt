@@ -157,12 +157,13 @@ impl<W: Target> Lines<W> {
     fn put_place(&mut self, place: Place) -> Result<(), Why>
         ensures { Adds W.Target (place_text place) self.old.target self.new.target (take self.old.held self.old.bytes) (take self.new.held self.new.bytes) result }
     {
+        self.put(place.kind_name())?;
         match place {
-            Place::Marker => self.put("marker"),
-            Place::Block(index) => self.put_counted("block ", index),
-            Place::Frame(index) => self.put_counted("frame ", index),
-            Place::Page(index) => self.put_counted("page ", index),
-            Place::End => self.put("end"),
+            Place::Block(index) => self.put_counted(" ", index),
+            Place::Frame(index) => self.put_counted(" ", index),
+            Place::Page(index) => self.put_counted(" ", index),
+            Place::Marker => Ok(()),
+            Place::End => Ok(()),
         }
     }
 

@@ -2,13 +2,12 @@
 
 ghost use Rattle.std.specs.Prelude.{◌≡◌, [], ⊤, nat_lt};
 
-use crate::failures::Failures;
 use crate::lines::Lines;
 use crate::list::write_block;
 use flac_bits::Target;
 use flac_frame::FrameView;
 use flac_meta::Block;
-use flac_native::{Sink, SinkFault};
+use flac_native::{Failures, Sink, SinkFault};
 
 /// Writes the lines of each metadata block, those of one block at once.
 #[derive(Drop)]

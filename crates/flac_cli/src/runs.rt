@@ -3,6 +3,7 @@
 ghost use Rattle.std.specs.Prelude.{◌≡◌, ◌≢◌, ◌≤◌, ◌<◌, ◌++◌, true, cond, map, List, [], Some, IfOk, IfErr, OnOk, OnErr};
 ghost use Rattle.flac_bits.specs.Handing.{outcome_of};
 ghost use Rattle.flac_native.specs.Retag.{not_written};
+ghost use Rattle.flac_native.specs.Samples.{samples_from};
 ghost use Rattle.flac_native.specs.Stream.{Piece};
 ghost use Rattle.flac_cli.specs.Streams.{IsStream, Tells, profile_of};
 ghost use Rattle.flac_jobs.specs.Asks.{AsksDecode, AsksStream, asks_lax};
@@ -23,11 +24,10 @@ use crate::encoding::{Encoding, Refusal, encode_raw};
 use crate::lines::{At, Lines, write_line};
 use crate::listing::Listing;
 use crate::retagging::retag_with;
-use crate::samples::SampleWriter;
 use flac_bits::{Source, Target, Why};
 use flac_frame::SetupFault;
 use flac_jobs::Job;
-use flac_native::{EncodeFault, Fault, Place, Profile, RetagFault};
+use flac_native::{EncodeFault, Fault, Place, Profile, RetagFault, SampleWriter};
 use std::alloc::Global;
 
 /// Decodes a stream into a writer of samples.
@@ -40,15 +40,15 @@ fn decode_into<R: Source, W: Target>(
     requires none { sink.old.failures.count ≡ 0 }
     requires began { sink.old.began.value ≡ sink.old.target }
     ensures stream { Tells R.Source source.old source.new → OnOk result ((parts : List Piece) × IsStream profile parts (R.coming source.old) (R.behind source.old)) }
-    ensures written { Tells R.Source source.old source.new → W.known sink.old.target ≡ true → OnOk result ((parts : List Piece) × IsStream profile parts (R.coming source.old) (R.behind source.old) × (W.sent sink.new.target ≡ W.sent sink.old.target ++ all_samples sink.old.depth parts)) }
+    ensures written { Tells R.Source source.old source.new → W.known sink.old.target ≡ true → OnOk result ((parts : List Piece) × IsStream profile parts (R.coming source.old) (R.behind source.old) × (W.sent sink.new.target ≡ W.sent sink.old.target ++ samples_from sink.old.asked sink.old.depth parts)) }
     ensures outcome { Tells R.Source source.old source.new → Serves W.Target sink.old.target sink.new.target →
         Fits IsOutOfMemory (Reads profile (R.coming source.old) (R.behind source.old)) (outcome_of at_place result) }
     ensures served { Serves W.Target sink.old.target sink.new.target → IfErr result (λ f. f.why ≢ Why.Sink) }
     ensures names { W.names sink.new.target ≡ W.names sink.old.target }
 {
     let outcome = decode_stream(alloc, source, profile, sink);
-    // Read only for the proof, which then knows what the model of a `SampleWriter` keeps to.
-    let _failures = sink.failures.count;
+    // Asked only for the proof, which then knows that each failure is an error of the target.
+    let _failures = sink.failures();
     outcome
 }
 
@@ -65,7 +65,7 @@ fn decode_samples<R: Source, W: Target>(
         Fits IsOutOfMemory (Reads profile (R.coming source.old) (R.behind source.old)) (outcome_of at_place result) }
     ensures served { Serves W.Target target.old target.new → IfErr result (λ f. f.why ≢ Why.Sink) }
 {
-    let mut sink = SampleWriter::new(target);
+    let mut sink = SampleWriter::new(target, 0);
     let outcome = decode_into(alloc, source, profile, &mut sink);
     // Given back only for the proof: the clauses are about the target.
     let _target = sink.into_target();

@@ -1,5 +1,5 @@
 -- Channel assignments by their codes.
-use Rattle.std.proofs.Common.{◌≡◌, ℕ, ◌-◌, ◌≤◌, false, nat_eq, nat_lt, refl, subst, arith}
+use Rattle.std.proofs.Common.{◌≡◌, ℕ, ◌≤◌, false, nat_eq, nat_lt, refl, subst, arith}
 use Rattle.std.proofs.lemmas.Bool.Decides.{nat_tests}
 use Rattle.flac_header.specs.Assignment.{code_of, IsAssignment}
 use Rattle.flac_header.specs.declared.channel_assignment.ChannelAssignment.{ChannelAssignment}

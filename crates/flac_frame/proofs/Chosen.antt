@@ -1,6 +1,6 @@
 -- The subframes of a block, chosen one after another, and then written.
-use Rattle.std.proofs.Common.{◌≡◌, ◌∙◌, refl, sym, ap, subst, ℕ, zero, suc, ◌+◌, ◌≤◌, ◌<◌, arith, ℤ, Bool, List, [], ◌∷◌, ◌++◌, length, length-append, take, drop, map, get_or, set, Some, All, flat_map}
-use Rattle.std.proofs.lemmas.List.{append-nil, take_more_set, length-take-le}
+use Rattle.std.proofs.Common.{◌≡◌, ◌∙◌, refl, sym, ap, subst, ℕ, zero, suc, ◌+◌, ◌≤◌, ◌<◌, arith, ℤ, Bool, List, [], ◌∷◌, ◌++◌, length, length-append, take, drop, get_or, set, Some, All, flat_map}
+use Rattle.std.proofs.lemmas.List.{append-nil, take_more_set, length-take-le, get_or_default}
 use Rattle.std.proofs.lemmas.Grind.{flat_map-append}
 use Rattle.flac_subframe.specs.declared.linear.LinearPredictor.{LinearPredictor}
 use Rattle.flac_subframe.specs.Handed.{AreWithin}
@@ -109,28 +109,29 @@ drop_none [] (suc n) h = refl
 drop_none (x ∷ xs) zero h = absurd (omega (arith, h))
 drop_none (x ∷ xs) (suc n) h = drop_none xs n (omega (arith, h))
 
-module _ (ps : List LinearPredictor) {V : Type 0} (items : V → List ℤ) (depth start size : ℕ) (cs : List WideChoice) (xs : List V) where
-  abbrev pub block_behind : ℕ → List (List ℤ)
-  block_behind i = block_of start size (map items (drop i xs))
-
+-- the subframes of the channels from one on
+module _ (ps : List LinearPredictor) (depth start size : ℕ) (cs : List WideChoice) (xs : List (List ℤ)) where
   abbrev pub text_behind : ℕ → List Bool
-  text_behind i = flat_map (subframe_spelling depth) (forms_of ps (drop i cs) (block_behind i))
+  text_behind i = flat_map (subframe_spelling depth) (forms_of ps (drop i cs) (block_of start size (drop i xs)))
 
-  module _ (i : ℕ) (c : WideChoice) (x : V) (few : i < length cs) (lt : i < length xs) (is_c : c ≡ get_or cs i c) (is_x : x ≡ get_or xs i x) where
-    pub made_next : AreMade ps (drop i cs) (block_behind i) → IsMadeIn ps c (take size (drop start (items x))) × AreMade ps (drop (i + 1) cs) (block_behind (i + 1))
-    made_next h = subst (λ ds. AreMade ps ds (block_of start size (map items (x ∷ drop (i + 1) xs)))) (drop_is cs i c few is_c) (subst (λ ys. AreMade ps (drop i cs) (block_of start size (map items ys))) (drop_is xs i x lt is_x) h)
+  module _ (i : ℕ) (c : WideChoice) (few : i < length cs) (lt : i < length xs) (is_c : c ≡ get_or cs i c) where
+    first_channel : drop i xs ≡ get_or xs i [] ∷ drop (i + 1) xs
+    first_channel = drop_is xs i (get_or xs i []) lt (get_or_default xs i [] (get_or xs i []) lt)
 
-    pub text_next : text_behind i ≡ subframe_spelling depth (form_in ps c (take size (drop start (items x)))) ++ text_behind (i + 1)
-    text_next = ap (λ ds. flat_map (subframe_spelling depth) (forms_of ps ds (block_behind i))) (drop_is cs i c few is_c) ∙ ap (λ ys. flat_map (subframe_spelling depth) (forms_of ps (c ∷ drop (i + 1) cs) (block_of start size (map items ys)))) (drop_is xs i x lt is_x)
+    pub made_next : AreMade ps (drop i cs) (block_of start size (drop i xs)) → IsMadeIn ps c (take size (drop start (get_or xs i []))) × AreMade ps (drop (i + 1) cs) (block_of start size (drop (i + 1) xs))
+    made_next h = subst (λ ds. AreMade ps ds (block_of start size (get_or xs i [] ∷ drop (i + 1) xs))) (drop_is cs i c few is_c) (subst (λ ys. AreMade ps (drop i cs) (block_of start size ys)) first_channel h)
+
+    pub text_next : text_behind i ≡ subframe_spelling depth (form_in ps c (take size (drop start (get_or xs i [])))) ++ text_behind (i + 1)
+    text_next = ap (λ ds. flat_map (subframe_spelling depth) (forms_of ps ds (block_of start size (drop i xs)))) (drop_is cs i c few is_c) ∙ ap (λ ys. flat_map (subframe_spelling depth) (forms_of ps (c ∷ drop (i + 1) cs) (block_of start size ys))) first_channel
 
   pub text_last : (i : ℕ) → length xs ≤ i → text_behind i ≡ []
-  text_last i h = ap (λ ys. flat_map (subframe_spelling depth) (forms_of ps (drop i cs) (block_of start size (map items ys)))) (drop_none xs i h)
+  text_last i h = ap (λ ys. flat_map (subframe_spelling depth) (forms_of ps (drop i cs) (block_of start size ys))) (drop_none xs i h)
 
--- the texts of all, whose choices and channels are the same, at a depth that is the same
-pub texts_same : (ps : List LinearPredictor) (depth own start size : ℕ) (cs items : List WideChoice) (xs channels : List (List ℤ)) → depth ≡ own → cs ≡ items → xs ≡ channels
-    → flat_map (subframe_spelling depth) (forms_of ps cs (block_of start size xs)) ≡ flat_map (subframe_spelling own) (forms_of ps items (block_of start size channels))
-texts_same ps depth own start size cs items xs channels d c x =
-    ap (λ k. flat_map (subframe_spelling k) (forms_of ps cs (block_of start size xs))) d ∙ ap (λ k. flat_map (subframe_spelling own) (forms_of ps k (block_of start size xs))) c ∙ ap (λ k. flat_map (subframe_spelling own) (forms_of ps items (block_of start size k))) x
+-- the texts of all, whose choices are the same, at a depth that is the same
+pub texts_same : (ps : List LinearPredictor) (depth own start size : ℕ) (cs items : List WideChoice) (xs : List (List ℤ)) → depth ≡ own → cs ≡ items
+    → flat_map (subframe_spelling depth) (forms_of ps cs (block_of start size xs)) ≡ flat_map (subframe_spelling own) (forms_of ps items (block_of start size xs))
+texts_same ps depth own start size cs items xs d c =
+    ap (λ k. flat_map (subframe_spelling k) (forms_of ps cs (block_of start size xs))) d ∙ ap (λ k. flat_map (subframe_spelling own) (forms_of ps k (block_of start size xs))) c
 
 -- ---- two subframes
 

@@ -1,8 +1,7 @@
 -- How long a frame is that is not written yet.
 use Rattle.std.proofs.Common.{◌≡◌, ◌∙◌, ap, subst, ℕ, ◌+◌, ◌*◌, ◌-◌, ◌/◌, ◌%◌, ◌^◌, ◌≤◌, arith, Bool, true, false, cond, ◌||◌, nat_eq, nat_lt, nat_le, List, [], ◌++◌, length, length-append, Option, Some, None, IfSome, refl}
 use Rattle.std.proofs.lemmas.Bool.Decides.{nat_tests}
-use Rattle.flac_bits.specs.Bits.{unsigned}
-use Rattle.flac_bits.specs.Coded.{six_bits, in_bytes, number_spelling}
+use Rattle.flac_bits.specs.Coded.{number_spelling}
 use Rattle.flac_bits.proofs.Words.{length-unsigned}
 use Rattle.flac_header.specs.Header.{Header}
 use Rattle.flac_header.specs.Choice.{size_choice, rate_choice_in, depth_choice_in, stated_rate, with_codes, chosen_header}
@@ -10,35 +9,13 @@ use Rattle.flac_header.specs.declared.subset.Profile.{Profile}
 use Rattle.flac_header.specs.Spelling.{size_spelling, rate_spelling, header_spelling}
 use Rattle.flac_frame.specs.Encoding.{subframes_cost}
 use Rattle.flac_frame.specs.Spelling.{FrameForm, frame_spelling, subframes_spelling}
-use Rattle.flac_frame.proofs.Short.{six_long, header_long, whole_long}
+use Rattle.flac_frame.proofs.Short.{header_long, whole_long}
 
 -- ---- the fields of a header
 
 either_long : (b : Bool) (xs ys : List Bool) (n m : ℕ) → length xs ≡ 8 * n → length ys ≡ 8 * m → length (cond b xs ys) ≡ 8 * cond b n m
 either_long true xs ys n m h k = h
 either_long false xs ys n m h k = k
-
-bytes_long : (lead n k v : ℕ) → k ≡ n + 1 → length (in_bytes lead n v) ≡ 8 * k
-bytes_long lead n k v e = omega (arith, length-append (unsigned 8 (lead + v / 64 ^ n)) (six_bits n v), length-unsigned 8 (lead + v / 64 ^ n), six_long n v, e)
-
--- the bytes of a coded number
-abbrev pub number_bytes : ℕ → ℕ
-number_bytes v = cond (nat_lt v (2 ^ 7)) 1 (cond (nat_lt v (2 ^ 11)) 2 (cond (nat_lt v (2 ^ 16)) 3 (cond (nat_lt v (2 ^ 21)) 4 (cond (nat_lt v (2 ^ 26)) 5 (cond (nat_lt v (2 ^ 31)) 6 7)))))
-
-pub number_long : (v : ℕ) → length (number_spelling v) ≡ 8 * number_bytes v
-unfolding number_spelling
-number_long v =
-    let one : length (unsigned 8 v) ≡ 8 * 1 = length-unsigned 8 v in
-    let a5 = either_long (nat_lt v (2 ^ 31)) _ _ 6 7 (bytes_long 0xFC 5 6 v refl) (bytes_long 0xFE 6 7 v refl) in
-    let a4 = either_long (nat_lt v (2 ^ 26)) _ _ 5 _ (bytes_long 0xF8 4 5 v refl) a5 in
-    let a3 = either_long (nat_lt v (2 ^ 21)) _ _ 4 _ (bytes_long 0xF0 3 4 v refl) a4 in
-    let a2 = either_long (nat_lt v (2 ^ 16)) _ _ 3 _ (bytes_long 0xE0 2 3 v refl) a3 in
-    let a1 = either_long (nat_lt v (2 ^ 11)) _ _ 2 _ (bytes_long 0xC0 1 2 v refl) a2 in
-    either_long (nat_lt v (2 ^ 7)) _ _ 1 _ one a1
-
--- so many of them, where they are so many
-pub number_is : (v n : ℕ) → number_bytes v ≡ n → length (number_spelling v) ≡ 8 * n
-number_is v n e = number_long v ∙ ap (λ k. 8 * k) e
 
 abbrev nothing : List Bool
 nothing = []

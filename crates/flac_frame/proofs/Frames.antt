@@ -1,8 +1,7 @@
--- A frame of channels each by itself, as it is written.
-use Rattle.std.proofs.Common.{◌≡◌, ◌∙◌, refl, sym, ap, subst, ℕ, ◌+◌, ◌-◌, ◌≤◌, ◌<◌, ◌^◌, arith, ℤ, Bool, true, nat_lt, List, [], ◌∷◌, length, map, Option, Some, None, is_some, All, IfSome, flat_map, take, drop, get_or}
+-- A frame of channels each by itself, as it is written; and the samples of a block.
+use Rattle.std.proofs.Common.{◌≡◌, ◌∙◌, refl, sym, ap, subst, ℕ, ◌+◌, ◌≤◌, ◌<◌, ◌^◌, arith, ℤ, Bool, true, nat_lt, List, [], ◌∷◌, length, map, Option, Some, None, is_some, All, IfSome, flat_map, take, drop, get_or}
 use Rattle.std.proofs.lemmas.Bool.Decides.{nat_tests}
-use Rattle.std.proofs.lemmas.List.Elements.{All-nil, All-cons, All-head, All-tail}
-use Rattle.std.proofs.lemmas.List.{length-map}
+use Rattle.std.proofs.lemmas.List.{length-map, get_or-map}
 use Rattle.flac_subframe.specs.declared.linear.LinearPredictor.{LinearPredictor}
 use Rattle.flac_subframe.specs.Handed.{AreWithin}
 use Rattle.flac_bits.specs.Signed.{FitsBits}
@@ -12,7 +11,6 @@ use Rattle.flac_header.specs.Choice.{size_choice, rate_choice_in, depth_choice_i
 use Rattle.flac_subframe.specs.declared.limits.Limits.{Limits}
 use Rattle.flac_subframe.specs.Spelling.{subframe_spelling}
 use Rattle.flac_subframe.specs.Subframe.{Form}
-use Rattle.flac_subframe.proofs.Family.{fits_more}
 use Rattle.flac_frame.specs.Audio.{Sound, IsSound, samples_each}
 use Rattle.flac_frame.specs.Frame.{limits_at}
 use Rattle.flac_frame.specs.Stereo.{joined, kept_as}
@@ -62,54 +60,47 @@ frame_encoded ps sound within code size number block fs h other independent smal
     } in
     rw is (encoding, independent_least ps sound size number block (record { header = h; subframes = fs }) other (omega (arith, independent, each)) encoding least, short, ap (λ (t : List Bool). length t) (sym parts_are))
 
--- ---- the samples of vectors
+-- ---- samples that can be encoded
 
-from_map : {V X : Type 0} (P : X → Type 0) (f : V → X) (xs : List V) → All P (map f xs) → All (λ v. P (f v)) xs
-from_map P f [] h = All-nil (λ v. P (f v))
-from_map P f (x ∷ xs) h = All-cons (λ v. P (f v)) x xs (All-head P (f x) (map f xs) h) (from_map P f xs (All-tail P (f x) (map f xs) h))
-
+-- in vectors
 module _ {V : Type 0} (items : V → List ℤ) (xs : List V) (sound : Sound) (good : IsSound sound) (are : map items xs ≡ sound.channels) where
+  pub many_channels : length xs ≡ length sound.channels
+  many_channels = sym (length-map xs items) ∙ ap (λ (l : List (List ℤ)). length l) are
+
   pub few_channels : (1 ≤ length xs) × (length xs ≤ 8)
-  few_channels =
-      let e : length xs ≡ length sound.channels = sym (length-map xs items) ∙ ap (λ (l : List (List ℤ)). length l) are in
-      (omega (arith, e, good.some), omega (arith, e, good.few))
-
-  pub each_long : (start size : ℕ) → start + size ≤ samples_each sound.channels → All (λ v. start + size ≤ length (items v)) xs
-  each_long start size within =
-      let all = from_map (λ c. length c ≡ samples_each sound.channels) items xs (subst (λ k. All (λ c. length c ≡ samples_each sound.channels) k) (sym are) good.long) in
-      λ k d lt. omega (arith, all k d lt, within)
-
-  pub each_fits_in : (bits : ℕ) → bits ≡ sound.bits → All (λ v. All (FitsBits bits) (items v)) xs
-  each_fits_in bits e = from_map (λ c. All (FitsBits bits) c) items xs (subst (λ k. All (λ c. All (FitsBits bits) c) k) (sym are) (subst (λ b. All (λ c. All (FitsBits b) c) sound.channels) (sym e) good.small))
+  few_channels = (omega (arith, many_channels, good.some), omega (arith, many_channels, good.few))
 
   pub one_long : (start size i : ℕ) (x : V) → start + size ≤ samples_each sound.channels → i < length xs → x ≡ get_or xs i x → start + size ≤ length (items x)
-  one_long start size i x within lt is = subst (λ v. start + size ≤ length (items v)) (sym is) (each_long start size within i x lt)
+  one_long start size i x within lt is =
+      let same : get_or sound.channels i [] ≡ items x = ap (λ (l : List (List ℤ)). get_or l i []) (sym are) ∙ get_or-map items xs i x [] lt ∙ ap items (sym is) in
+      omega (arith, within, good.long i [] (omega (arith, lt, many_channels)), ap (λ (l : List ℤ). length l) same)
 
-  pub one_fits : (start size i bits : ℕ) (x : V) → bits ≡ sound.bits → i < length xs → x ≡ get_or xs i x → All (FitsBits bits) (take size (drop start (items x)))
-  one_fits start size i bits x e lt is = part_fits items bits start size (items x) (subst (λ v. All (FitsBits bits) (items v)) (sym is) (each_fits_in bits e i x lt))
-
+module _ (sound : Sound) (good : IsSound sound) where
   pub bits_small : (bits : ℕ) → bits ≡ sound.bits → (1 ≤ bits) × (bits ≤ 32)
   bits_small bits e = depth_small sound.profile bits (ap (λ b. is_some (depth_choice_in sound.profile b)) e ∙ good.bits)
 
+  pub part_small : (start size i bits : ℕ) → bits ≡ sound.bits → i < length sound.channels → All (FitsBits bits) (take size (drop start (get_or sound.channels i [])))
+  part_small start size i bits e lt = part_fits bits start size (get_or sound.channels i []) (subst (λ b. All (FitsBits b) (get_or sound.channels i [])) (sym e) (good.small i [] lt))
+
+  each_long : (start size : ℕ) → start + size ≤ samples_each sound.channels → All (λ c. start + size ≤ length c) sound.channels
+  each_long start size within = λ k d lt. omega (arith, good.long k d lt, within)
+
   -- what was chosen of each channel by itself makes a frame
   pub apart_choice : (ps : List LinearPredictor) → AreWithin (limits_at sound.profile sound.rate).linear ps → (start size number : ℕ) (profile : Profile) (rate code bits : ℕ) (o : Option Header) (c : FrameChoice) → profile ≡ sound.profile → rate ≡ sound.rate → bits ≡ sound.bits
-      → (length sound.channels ≡ 2 → ⊥) → code ≡ length xs - 1 → c.code ≡ code → 1 ≤ size → size ≤ 65535 → start + size ≤ samples_each sound.channels → number < 2 ^ 31 → o ≡ chosen_header profile size rate code bits number → IfSome o IsHeader
+      → (length sound.channels ≡ 2 → ⊥) → code + 1 ≡ length sound.channels → c.code ≡ code → 1 ≤ size → size ≤ 65535 → start + size ≤ samples_each sound.channels → number < 2 ^ 31 → o ≡ chosen_header profile size rate code bits number → IfSome o IsHeader
       → AreChosen (partition_limit sound) ps sound.bits size c.subframes.items (block_of start size sound.channels) → c.bits ≡ length (flat_map (subframe_spelling sound.bits) (forms_of ps c.subframes.items (block_of start size sound.channels)))
       → IsChoiceWith ps sound size number (block_of start size sound.channels) c
   apart_choice ps orders start size number profile rate code bits None c p r b other n coded some few within small is valid chose cost =
-      absurd (header_never sound good profile size rate code bits number p r b (omega (arith, n, few_channels.1)) some few small (sym is))
+      absurd (header_never sound good profile size rate code bits number p r b (omega (arith, n, good.few)) some few small (sym is))
   apart_choice ps orders start size number profile rate code bits (Some h) c p r b other n coded some few within small is valid chose cost =
       let deep = bits_small sound.bits refl in
       let chosen : chosen_header sound.profile size sound.rate code sound.bits number ≡ Some h = header_at sound profile size rate code bits number (Some h) h p r b is refl in
-      let block = is_block items sound.bits start size deep.0 some xs (each_long start size within, each_fits_in sound.bits refl) in
       let all : List (List ℤ) = block_of start size sound.channels in
-      let fits = subst (λ k. All (λ s. All (FitsBits sound.bits) s) (block_of start size k)) are block.1 in
-      let long = subst (λ k. All (λ s. length s ≡ size) (block_of start size k)) are block.0 in
-      let lengths_are : length sound.channels ≡ length xs = ap (λ (l : List (List ℤ)). length l) (sym are) ∙ length-map xs items in
+      let block = is_block sound.bits start size deep.0 some sound.channels (each_long start size within) good.small in
       let block_long : length all ≡ length sound.channels = length-map sound.channels (λ c. take size (drop start c)) in
-      let low : code ≤ 7 = omega (arith, n, few_channels.1) in
+      let low : code ≤ 7 = omega (arith, n, good.few) in
       let form : FrameForm = record { header = h; subframes = forms_of ps c.subframes.items all } in
-      let made = frame_encoded ps sound orders code size number all (forms_of ps c.subframes.items all) h (λ e. other (sym block_long ∙ e)) low small deep some few long chosen valid (omega (arith, n, few_channels.0, block_long, lengths_are)) fits chose.are chose.least form refl in
+      let made = frame_encoded ps sound orders code size number all (forms_of ps c.subframes.items all) h (λ e. other (sym block_long ∙ e)) low small deep some few block.0 chosen valid (omega (arith, n, block_long)) block.1 chose.are chose.least form refl in
       let keeps : kept_as c.code all ≡ all = kept_same c.code all (omega (arith, coded, low)) in
       record {
         form = form;
@@ -122,28 +113,9 @@ module _ {V : Type 0} (items : V → List ℤ) (xs : List V) (sound : Sound) (go
         cost = cost ∙ sym made.3;
       }
 
--- ---- two channels of vectors
-
-two_of : {V : Type 0} (xs : List V) (x y : V) → length xs ≡ 2 → x ≡ get_or xs 0 x → y ≡ get_or xs 1 y → xs ≡ x ∷ y ∷ []
-two_of [] x y e p q = absurd (omega (arith, e))
-two_of (a ∷ []) x y e p q = absurd (omega (arith, e))
-two_of (a ∷ b ∷ []) x y e p q = ap (λ k. k ∷ b ∷ []) (sym p) ∙ ap (λ k. x ∷ k ∷ []) (sym q)
-two_of (a ∷ b ∷ d ∷ ds) x y e p q = absurd (omega (arith, e))
-
-module _ {V : Type 0} (items : V → List ℤ) (xs : List V) (sound : Sound) (good : IsSound sound) (are : map items xs ≡ sound.channels) where
-  pub two_blocks : (start size : ℕ) (x y : V) → length sound.channels ≡ 2 → x ≡ get_or xs 0 x → y ≡ get_or xs 1 y → take size (drop start (items x)) ∷ take size (drop start (items y)) ∷ [] ≡ block_of start size sound.channels
-  two_blocks start size x y two p q =
-      let many : length xs ≡ 2 = sym (length-map xs items) ∙ ap (λ (l : List (List ℤ)). length l) are ∙ two in
-      ap (λ k. block_of start size (map items k)) (sym (two_of xs x y many p q)) ∙ ap (block_of start size) are
-
-  pub part_small : (start size i : ℕ) (x : V) → length sound.channels ≡ 2 → i < 2 → x ≡ get_or xs i x → All (FitsBits sound.bits) (take size (drop start (items x)))
-  part_small start size i x two low is =
-      let many : length xs ≡ 2 = sym (length-map xs items) ∙ ap (λ (l : List (List ℤ)). length l) are ∙ two in
-      let all = each_fits_in items xs sound good are sound.bits refl in
-      part_fits items sound.bits start size (items x) (subst (λ v. All (FitsBits sound.bits) (items v)) (sym is) (all i x (omega (arith, many, low))))
-
-  pub part_wide : (start size i : ℕ) (x : V) → length sound.channels ≡ 2 → i < 2 → x ≡ get_or xs i x → All (FitsBits 34) (take size (drop start (items x)))
-  part_wide start size i x two low is =
-      let few = (bits_small items xs sound good are sound.bits refl).1 in
-      let all = part_small start size i x two low is in
-      λ k d h. fits_more sound.bits 34 _ (omega (arith, few)) (all k d h)
+-- a block of two channels
+pub two_parts : (start size : ℕ) (cs : List (List ℤ)) → length cs ≡ 2 → take size (drop start (get_or cs 0 [])) ∷ take size (drop start (get_or cs 1 [])) ∷ [] ≡ block_of start size cs
+two_parts start size [] e = absurd (omega (arith, e))
+two_parts start size (a ∷ []) e = absurd (omega (arith, e))
+two_parts start size (a ∷ b ∷ []) e = refl
+two_parts start size (a ∷ b ∷ d ∷ ds) e = absurd (omega (arith, e))

@@ -1,12 +1,12 @@
 -- Samples that can be encoded.
-use Rattle.std.proofs.Common.{◌≡◌, ℕ, ◌<◌, ◌≤◌, ◌^◌, Bool, true, false, cond, ◌||◌, nat_eq, nat_lt, nat_le, ℤ, List, [], ◌∷◌, map, length, get_or, Option, Some, None, is_some, is_none, ◌-◌, pos, negsuc, not, All, ◌&&◌, refl, sym, ap, ◌∙◌, arith}
+use Rattle.std.proofs.Common.{◌≡◌, ℕ, ◌<◌, ◌≤◌, ◌^◌, Bool, true, false, cond, ◌||◌, nat_eq, nat_lt, nat_le, ℤ, List, [], ◌∷◌, map, length, take, set, ◌+◌, ◌++◌, get_or, Option, Some, None, is_some, is_none, ◌-◌, pos, negsuc, not, All, ◌&&◌, refl, sym, ap, ◌∙◌, arith}
 use Rattle.std.specs.List.{list_all}
-use Rattle.std.proofs.lemmas.List.{length-map}
+use Rattle.std.proofs.lemmas.List.{take_more, take_more_set, map-append}
 use Rattle.std.proofs.lemmas.List.Folds.{list_all-map}
 use Rattle.flac_subframe.specs.Numbers.{fits}
 use Rattle.std.specs.Option.{option_or}
 use Rattle.flac_frame.specs.Setup.{format_fault}
-use Rattle.flac_frame.specs.Audio.{samples_each, as_long, each_small, channels_fault, audio_fault, IsSound}
+use Rattle.flac_frame.specs.Audio.{samples_each, as_long, each_small, samples_fault, channels_fault, audio_fault, IsSound}
 use Rattle.flac_frame.specs.declared.setup.SetupFault.{SetupFault}
 use Rattle.flac_frame.specs.declared.setup.SetupFault.TheVariants.{BadRate, BadDepth, BadChannels, LengthsDiffer, SampleTooLarge, TooLong}
 use Rattle.std.proofs.lemmas.Int.{ints}
@@ -32,29 +32,57 @@ pub small_of : {X : Type 0} (f : X → List ℤ) (xs : List X) (bits : ℕ) (b :
 small_of f xs bits b e = e ∙ sym (list_all-map (λ c. list_all (fits bits) c) f xs)
 
 -- what is refused, and what is not
-module _ {X : Type 0} (f : X → List ℤ) (xs : List X) (bits : ℕ) (some : 1 ≤ length xs) (few : length xs ≤ 8) where
-  counted : (nat_eq (length (map f xs)) 0 || nat_lt 8 (length (map f xs))) ≡ false
-  counted = rw (length-map xs f) (grind (arith, nat_tests))
+module _ {X : Type 0} (f : X → List ℤ) (xs : List X) (bits : ℕ) (n : ℕ) (b : Bool) (e : b ≡ list_all (λ c. nat_eq (length (f c)) n) xs) (is : n ≡ samples_each (map f xs)) where
+  pub differ : b ≡ false → samples_fault bits (map f xs) ≡ Some LengthsDiffer
+  unfolding samples_fault
+  differ bad = rw (sym (long_of f xs n b e is) ∙ bad) refl
 
-  pub differ : (n : ℕ) (b : Bool) → b ≡ list_all (λ c. nat_eq (length (f c)) n) xs → n ≡ samples_each (map f xs) → b ≡ false → channels_fault bits (map f xs) ≡ Some LengthsDiffer
-  unfolding channels_fault
-  differ n b e is bad = rw (counted, sym (long_of f xs n b e is) ∙ bad) refl
+  pub large : b ≡ true → (d : Bool) → d ≡ list_all (λ c. list_all (fits bits) (f c)) xs → d ≡ false → samples_fault bits (map f xs) ≡ Some SampleTooLarge
+  unfolding samples_fault
+  large all d h bad = rw (sym (long_of f xs n b e is) ∙ all, sym (small_of f xs bits d h) ∙ bad) refl
 
-  pub large : (n : ℕ) (b d : Bool) → b ≡ list_all (λ c. nat_eq (length (f c)) n) xs → n ≡ samples_each (map f xs) → b ≡ true → d ≡ list_all (λ c. list_all (fits bits) (f c)) xs → d ≡ false
-      → channels_fault bits (map f xs) ≡ Some SampleTooLarge
-  unfolding channels_fault
-  large n b d e is all h bad = rw (counted, sym (long_of f xs n b e is) ∙ all, sym (small_of f xs bits d h) ∙ bad) refl
+  pub faultless : b ≡ true → (d : Bool) → d ≡ list_all (λ c. list_all (fits bits) (f c)) xs → d ≡ true → samples_fault bits (map f xs) ≡ None
+  unfolding samples_fault
+  faultless all d h good = rw (sym (long_of f xs n b e is) ∙ all, sym (small_of f xs bits d h) ∙ good) refl
 
-  pub rest : (n : ℕ) (b d : Bool) → b ≡ list_all (λ c. nat_eq (length (f c)) n) xs → n ≡ samples_each (map f xs) → b ≡ true → d ≡ list_all (λ c. list_all (fits bits) (f c)) xs → d ≡ true
-      → channels_fault bits (map f xs) ≡ cond (nat_le (2 ^ 36) n) (Some TooLong) None
-  unfolding channels_fault
-  rest n b d e is all h good = rw (counted, sym (long_of f xs n b e is) ∙ all, sym (small_of f xs bits d h) ∙ good, is) refl
+samples_first : (a b : Bool) (x y : SetupFault) (rest : Option SetupFault) → cond a (Some x) (cond b (Some y) rest) ≡ option_or (cond a (Some x) (cond b (Some y) None)) rest
+samples_first true b x y rest = refl
+samples_first false true x y rest = refl
+samples_first false false x y rest = refl
 
-pub too_long : (n : ℕ) → 2 ^ 36 ≤ n → cond (nat_le (2 ^ 36) n) (Some TooLong) None ≡ Some TooLong
+-- of 1 to 8 channels, what is wrong with their samples comes first
+by_samples : (bits : ℕ) (cs : List (List ℤ)) → 1 ≤ length cs → length cs ≤ 8 → channels_fault bits cs ≡ option_or (samples_fault bits cs) (cond (nat_le (2 ^ 36) (samples_each cs)) (Some TooLong) None)
+unfolding channels_fault samples_fault
+by_samples bits cs some few =
+    let counted : (nat_eq (length cs) 0 || nat_lt 8 (length cs)) ≡ false = grind (arith, nat_tests) in
+    rw counted (samples_first (not (as_long cs)) (not (each_small bits cs)) LengthsDiffer SampleTooLarge _)
+
+too_long : (n : ℕ) → 2 ^ 36 ≤ n → cond (nat_le (2 ^ 36) n) (Some TooLong) None ≡ Some TooLong
 too_long n h = let e : nat_le (2 ^ 36) n ≡ true = grind (arith, nat_tests) in rw e refl
 
-pub not_long : (n : ℕ) → n < 2 ^ 36 → cond (nat_le (2 ^ 36) n) (Some TooLong) None ≡ None
+not_long : (n : ℕ) → n < 2 ^ 36 → cond (nat_le (2 ^ 36) n) (Some TooLong) None ≡ None
 not_long n h = let e : nat_le (2 ^ 36) n ≡ false = grind (arith, nat_tests) in rw e refl
+
+-- the fault of 1 to 8 channels whose samples are those of slices
+module _ (bits : ℕ) (cs slices : List (List ℤ)) (some : 1 ≤ length cs) (few : length cs ≤ 8) (same : slices ≡ cs) where
+  judged : (o : Option SetupFault) → o ≡ samples_fault bits slices → channels_fault bits cs ≡ option_or o (cond (nat_le (2 ^ 36) (samples_each cs)) (Some TooLong) None)
+  judged o is = by_samples bits cs some few ∙ ap (λ k. option_or k (cond (nat_le (2 ^ 36) (samples_each cs)) (Some TooLong) None)) (sym (is ∙ ap (samples_fault bits) same))
+
+  pub samples_wrong : (x : SetupFault) → Some x ≡ samples_fault bits slices → Some x ≡ channels_fault bits cs
+  samples_wrong x is = sym (judged (Some x) is)
+
+  pub samples_many : (n : ℕ) → n ≡ samples_each cs → None ≡ samples_fault bits slices → 2 ^ 36 ≤ n → Some TooLong ≡ channels_fault bits cs
+  samples_many n e is h = sym (judged None is ∙ too_long (samples_each cs) (rw (← e) h))
+
+  pub samples_right : (n : ℕ) → n ≡ samples_each cs → None ≡ samples_fault bits slices → n < 2 ^ 36 → None ≡ channels_fault bits cs
+  samples_right n e is h = sym (judged None is ∙ not_long (samples_each cs) (rw (← e) h))
+
+-- one more slice, of the same samples as a vector
+pub slice_more : {X Y : Type 0} (f : X → List ℤ) (g : Y → List ℤ) (xs : List X) (ys : List Y) (i : ℕ) (x : X) (y : Y) → i < length xs → i < length ys → y ≡ get_or ys i y → f x ≡ g y → map f (take i xs) ≡ map g (take i ys)
+    → map f (take (i + 1) (set xs i x)) ≡ map g (take (i + 1) ys)
+slice_more f g xs ys i x y few lt is one same =
+    ap (λ l. map f l) (take_more_set xs i x few) ∙ map-append f (take i xs) (x ∷ []) ∙ ap (λ l. l ++ f x ∷ []) same ∙ ap (λ z. map g (take i ys) ++ z ∷ []) one
+    ∙ sym (ap (λ l. map g l) (take_more ys i y lt ∙ ap (λ z. take i ys ++ z ∷ []) (sym is)) ∙ map-append g (take i ys) (y ∷ []))
 
 -- the faults of the format come first
 first_faults : (a b d : Bool) (x y z : SetupFault) (rest : Option SetupFault)

@@ -23,29 +23,33 @@ use Rattle.flac_frame.specs.Audio.{Sound, IsSound}
 use Rattle.flac_frame.specs.Frame.{side_bit, each_fits}
 use Rattle.flac_frame.specs.Stereo.{joined}
 use Rattle.flac_frame.specs.Spelling.{frame_spelling, subframes_spelling, filled, checked, AreSubframes, HaveSamples}
-use Rattle.flac_frame.specs.inner.Encoding.{AreForms, end_spelling, behind_header}
+use Rattle.flac_frame.specs.inner.Encoding.{AreForms, end_spelling}
 use Rattle.flac_frame.proofs.FrameTie.{end_is}
 use Rattle.flac_frame.proofs.Encoded.{failed}
 
 -- ---- header, subframes and end, one after another
 
+-- the header of a frame, its subframes, zeros up to a whole byte, and the check
+abbrev pub frame_parts : Header → List Bool → Mark → List Bool
+frame_parts h parts m = header_spelling h ++ (parts ++ end_spelling (past parts (past (header_spelling h) (fresh m))))
+
 -- what stands behind the header was written, and then the end
 pub ends : {X : Type 0} (h : Header) (parts : List Bool) (old mid end new : Written) (result : Result X Why) → Adds (header_spelling h) (restarted old) mid → Adds parts mid end → Writes (end_spelling end.mark) end new result
-    → Writes (behind_header h parts old.mark) (restarted old) new result
+    → Writes (frame_parts h parts old.mark) (restarted old) new result
 ends h parts old mid end new result adds more last =
     let is : end.mark ≡ past parts (past (header_spelling h) (fresh old.mark)) = more.mark ∙ ap (past parts) adds.mark in
     writes_then _ new result adds (writes_then _ new result more (subst (λ m. Writes (end_spelling m) end new result) is last))
 
 -- the header was not written
-pub header_stops : (h : Header) (parts : List Bool) (old new : Written) (e : Why) → Fails ((restarted old).bits ++ header_spelling h) (restarted old) new e → Writes (behind_header h parts old.mark) (restarted old) new (failed e)
+pub header_stops : (h : Header) (parts : List Bool) (old new : Written) (e : Why) → Fails ((restarted old).bits ++ header_spelling h) (restarted old) new e → Writes (frame_parts h parts old.mark) (restarted old) new (failed e)
 header_stops h parts old new e fails = fails_first (header_spelling h) (parts ++ end_spelling (past parts (past (header_spelling h) (fresh old.mark)))) fails
 
 -- what stands behind it was not written
-pub parts_stop : (h : Header) (parts : List Bool) (old mid new : Written) (e : Why) → Adds (header_spelling h) (restarted old) mid → Fails (mid.bits ++ parts) mid new e → Writes (behind_header h parts old.mark) (restarted old) new (failed e)
+pub parts_stop : (h : Header) (parts : List Bool) (old mid new : Written) (e : Why) → Adds (header_spelling h) (restarted old) mid → Fails (mid.bits ++ parts) mid new e → Writes (frame_parts h parts old.mark) (restarted old) new (failed e)
 parts_stop h parts old mid new e adds fails = fails_then _ adds (fails_first parts _ fails)
 
 -- it is the spelling of a frame
-pub text_is : (depth : ℕ) (h : Header) (parts : List Bool) (fs : List Form) (m : Mark) → m.unread ≡ 0 → parts ≡ subframes_spelling depth h.channel_code 0 fs → behind_header h parts m ≡ frame_spelling depth (record { header = h; subframes = fs })
+pub text_is : (depth : ℕ) (h : Header) (parts : List Bool) (fs : List Form) (m : Mark) → m.unread ≡ 0 → parts ≡ subframes_spelling depth h.channel_code 0 fs → frame_parts h parts m ≡ frame_spelling depth (record { header = h; subframes = fs })
 unfolding frame_spelling
 text_is depth h parts fs old whole is =
     let body : List Bool = header_spelling h ++ parts in

@@ -11,14 +11,13 @@ use Rattle.flac_subframe.specs.Subframe.{Form}
 use Rattle.flac_frame.specs.Audio.{Sound}
 use Rattle.flac_frame.specs.Chosen.{forms_of, AreMade, IsChoiceWith}
 use Rattle.flac_frame.specs.Encoding.{WritesFrameWith}
-use Rattle.flac_frame.specs.inner.Encoding.{behind_header}
 use Rattle.flac_frame.specs.inner.Pair.{IsPairCode}
 use Rattle.flac_frame.specs.Spelling.{FrameForm, frame_spelling, subframes_spelling}
 use Rattle.flac_frame.specs.Stereo.{kept_as}
 use Rattle.flac_frame.specs.declared.frame_choice.FrameChoice.{FrameChoice}
 use Rattle.flac_frame.proofs.Family.{coded_as, code_once, kept_same}
 use Rattle.flac_frame.proofs.PairLeast.{pair_codes}
-use Rattle.flac_frame.proofs.Wholes.{text_is, texts_are}
+use Rattle.flac_frame.proofs.Wholes.{frame_parts, text_is, texts_are}
 
 inner : (a b : Header) → Some a ≡ Some b → a ≡ b
 inner a b e = cc
@@ -64,7 +63,7 @@ module _ (ps : List LinearPredictor) (sound : Sound) (size number : ℕ) (block 
     form_is = ap (λ k. made_form k forms) (sym header_is) ∙ ap (made_form is.form.header) (sym is.subframes)
 
     -- the frame was written where its parts were, one after another
-    pub frame_written : {X : Type 0} (old new : Written) (result : Result X Why) → old.mark.unread ≡ 0 → Writes (behind_header h (subframes_spelling sound.bits c.code 0 forms) old.mark) (restarted old) new result
+    pub frame_written : {X : Type 0} (old new : Written) (result : Result X Why) → old.mark.unread ≡ 0 → Writes (frame_parts h (subframes_spelling sound.bits c.code 0 forms) old.mark) (restarted old) new result
         → WritesFrameWith ps sound size number block old new result
     frame_written old new result whole writes = (
       is.form,

@@ -26,6 +26,10 @@ as_long channels = list_all (λ c. nat_eq (length c) (samples_each channels)) ch
 abbrev pub each_small : ℕ → List (List ℤ) → Bool
 each_small bits channels = list_all (λ c. list_all (fits bits) c) channels
 
+-- Why the samples of channels cannot be encoded, if so: the channels differ in length, or a sample does not fit its bits.
+unfoldable pub samples_fault : (bits : ℕ) → List (List ℤ) → Option SetupFault
+samples_fault bits channels = cond (not (as_long channels)) (Some LengthsDiffer) (cond (not (each_small bits channels)) (Some SampleTooLarge) None)
+
 -- Why channels cannot be encoded, if so: there are 1 to 8 (RFC 9639, section 9.1.3), of one length; a sample does not fit its bits; or STREAMINFO
 -- cannot tell how many samples they have (section 8.2).
 unfoldable pub channels_fault : (bits : ℕ) → List (List ℤ) → Option SetupFault

@@ -107,9 +107,6 @@ pub record IsLeastWith (ps : List LinearPredictor) (sound : Sound) (size number 
   pub fewest : (g : FrameForm) → IsOfWidened ps sound size number block g → subframes_cost sound.bits f ≤ subframes_cost sound.bits g
   pub first : (g : FrameForm) → IsOfWidened ps sound size number block g → g.header.channel_code < f.header.channel_code → subframes_cost sound.bits f < subframes_cost sound.bits g
 
-abbrev pub IsLeastFrame : Sound → (size number : ℕ) → List (List ℤ) → FrameForm → Type 0
-IsLeastFrame sound size number block f = IsLeastWith [] sound size number block f
-
 -- at a whole byte, where the checks begin, the spelling of such a frame was written, the least of the family, and short
 abbrev pub WritesFrameWith : {X : Type 0} → List LinearPredictor → Sound → (size number : ℕ) → List (List ℤ) → Written → Written → Result X Why → Type 0
 WritesFrameWith ps sound size number block old new result = (f : FrameForm) × IsEncoding sound size number block f × (IsLeastWith ps sound size number block f × IsShort sound.bits f) × Writes (frame_spelling sound.bits f) (restarted old) new result

@@ -1,11 +1,9 @@
 //! Samples to be encoded.
 
 ghost use Rattle.std.specs.Prelude.{◌≡◌, ◌≤◌, ◌<◌, ◌+◌, ◌^◌, [], map, length, take, drop, slice_index_or, nat_eq, MatchResult, Some, None};
-ghost use Rattle.std.specs.List.{list_all};
-ghost use Rattle.flac_subframe.specs.Numbers.{fits};
 ghost use Rattle.flac_frame.specs.Audio.{samples_each, channels_fault, audio_fault, IsSound};
 
-use crate::samples::samples_fit;
+use crate::samples::samples_fault;
 use crate::setup::{SetupFault, format_fault};
 use flac_header::Profile;
 use std::marker::Model;
@@ -46,36 +44,30 @@ fn samples_each(channels: &[Vec<i32>]) -> usize
     channels[0].len()
 }
 
-/// Whether each channel has `len` samples.
-fn are_long(channels: &[Vec<i32>], len: usize) -> bool
-    ensures { result ≡ list_all (λ c. nat_eq (length c.items) len) channels.now }
+/// The samples of at most 8 channels, in the first of these places.
+fn slices_of(channels: &[Vec<i32>]) -> [&[i32]; 8]
+    requires { length channels.now ≤ 8 }
+    ensures { map (λ c. c.now) (take (length channels.now) result) ≡ map (λ c. c.items) channels.now }
 {
-    channels.iter().all(|c| c.len() == len)
-}
-
-/// Whether each sample of each channel fits into `bits` bits.
-fn each_small(channels: &[Vec<i32>], bits: u32) -> bool
-    requires { (1 ≤ bits) × (bits ≤ 32) }
-    ensures { result ≡ list_all (λ c. list_all (fits bits) c.items) channels.now }
-{
-    channels.iter().all(|c| samples_fit(c, bits))
+    let mut slices: [&[i32]; 8] = [&[]; 8];
+    for i in 0..channels.len() {
+        slices[i] = channels[i].as_slice();
+    }
+    slices
 }
 
 /// Why 1 to 8 channels cannot be encoded, or `None` if they can.
-#[tactic(auto, unfolding(crate::specs::Audio::channels_fault))]
 fn channels_fault(channels: &[Vec<i32>], bits: u32) -> Option<SetupFault>
     requires bits { (1 ≤ bits) × (bits ≤ 32) }
     requires some { 1 ≤ length channels.now }
     requires few { length channels.now ≤ 8 }
     ensures { result ≡ channels_fault bits (map (λ c. c.items) channels.now) }
 {
+    let slices = slices_of(channels);
+    if let Some(fault) = samples_fault(&slices[..channels.len()], bits) {
+        return Some(fault);
+    }
     let len = samples_each(channels);
-    if !are_long(channels, len) {
-        return Some(SetupFault::LengthsDiffer);
-    }
-    if !each_small(channels, bits) {
-        return Some(SetupFault::SampleTooLarge);
-    }
     if len as u64 >= 1 << 36 {
         return Some(SetupFault::TooLong);
     }

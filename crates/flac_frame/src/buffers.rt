@@ -1,7 +1,7 @@
 //! Buffers for the samples of a frame.
 
-ghost use Rattle.std.specs.Prelude.{◌≡◌, ◌≢◌, ◌≤◌, ◌<◌, ◌+◌, ◌*◌, length, min, Some, None, Err, OnOk, OnErr, IfOk, IfErr, ⊤, []};
-ghost use Rattle.flac_bits.specs.Reading.{Counts, Reads, Means};
+ghost use Rattle.std.specs.Prelude.{◌≡◌, ◌≤◌, ◌<◌, ◌*◌, length, min, Some, None, Err, OnOk, OnErr, IfOk, IfErr, ⊤, []};
+ghost use Rattle.flac_bits.specs.Reading.{Reads, Means, CallInPlace};
 ghost use Rattle.flac_bits.specs.State.{started};
 ghost use Rattle.flac_header.specs.Header.{greatest_in};
 ghost use Rattle.flac_frame.specs.Frame.{frame, after};
@@ -128,10 +128,7 @@ impl FrameBuffers {
         ensures room { (self.new.channels ≡ self.old.channels) × (self.new.max_block ≡ self.old.max_block) }
         ensures before { OnOk result (self.new.before ≡ Some (after self.old.before self.new.held)) }
         ensures refused { OnErr result ((self.new.before ≡ self.old.before) × (self.new.held ≡ nothing)) }
-        ensures spends { OnOk result (bits.new.most + 40 ≤ bits.old.most) }
-        ensures counts { Counts bits.old bits.new result }
-        ensures memory { IfErr result (λ e. e ≢ Why.Memory) }
-        ensures means { Means (λ _. self.new.held) (frame profile info.now self.old.before) (started bits.old) bits.new result }
+        ensures reading { CallInPlace 40 (λ old. Means (λ _. self.new.held) (frame profile info.now self.old.before) (started old)) bits.old bits.new result }
     {
         self.read_in(bits, info, profile)
     }
@@ -148,10 +145,7 @@ impl FrameBuffers {
         ensures room { (self.new.channels ≡ self.old.channels) × (self.new.max_block ≡ self.old.max_block) }
         ensures before { OnOk result (self.new.before ≡ Some (after self.old.before self.new.held)) }
         ensures refused { OnErr result ((self.new.before ≡ self.old.before) × (self.new.held ≡ nothing)) }
-        ensures spends { OnOk result (bits.new.most + 40 ≤ bits.old.most) }
-        ensures counts { Counts bits.old bits.new result }
-        ensures memory { IfErr result (λ e. e ≢ Why.Memory) }
-        ensures reads { Reads (λ _. self.new.held) (frame profile info.now self.old.before) (started bits.old) bits.new result }
+        ensures reading { CallInPlace 40 (λ old. Reads (λ _. self.new.held) (frame profile info.now self.old.before) (started old)) bits.old bits.new result }
     {
         self.strategy = BlockingStrategy::Fixed;
         self.number = 0;
@@ -199,10 +193,7 @@ impl FrameBuffers {
     ) -> Result<FrameView<'_>, Why>
         requires channels { info.now.channels ≤ self.old.channels }
         requires block { min info.now.greatest_block (greatest_in profile info.now.rate) ≤ self.old.max_block }
-        ensures spends { OnOk result (bits.new.most + 40 ≤ bits.old.most) }
-        ensures counts { Counts bits.old bits.new result }
-        ensures memory { IfErr result (λ e. e ≢ Why.Memory) }
-        ensures means { Means frame_of (frame profile info.now self.old.before) (started bits.old) bits.new result }
+        ensures reading { CallInPlace 40 (λ old. Means frame_of (frame profile info.now self.old.before) (started old)) bits.old bits.new result }
         ensures* after { sem 𝓛 (follows_so the_row the_row self.entry.ghost_name none (λ _ _. ⊤) (λ last. Leaves self.old last frame_of result)) }
     {
         self.fill(bits, info, profile)?;

@@ -1,8 +1,8 @@
 //! Reads the subframes of a frame.
 
-ghost use Rattle.std.specs.Prelude.{◌≡◌, ◌≢◌, ◌≤◌, ◌<◌, ◌+◌, ◌*◌, OnOk, IfOk, length, cond, Some, None, [], nat_le, All, IsTrue, IfErr};
+ghost use Rattle.std.specs.Prelude.{◌≡◌, ◌≤◌, ◌<◌, ◌+◌, ◌*◌, IfOk, length, cond, Some, None, [], nat_le, All, IsTrue};
 ghost use Rattle.flac_bits.specs.Signed.{FitsBits};
-ghost use Rattle.flac_bits.specs.Reading.{Counts, Reads};
+ghost use Rattle.flac_bits.specs.Reading.{Reads, CallInPlace};
 ghost use Rattle.flac_header.specs.Assignment.{code_of, IsAssignment};
 ghost use Rattle.flac_frame.specs.Frame.{side_bit, subframes};
 ghost use Rattle.flac_frame.specs.View.{chunks};
@@ -42,10 +42,7 @@ fn subframe_here<R: Source>(
     requires places { length samples.old ≡ block }
     requires limits { (limits.now.partition ≤ 15) × (limits.now.linear ≤ 32) }
     ensures small { IfOk result (λ fits. IsTrue fits → All (FitsBits 34) samples.new) }
-    ensures spends { OnOk result (bits.new.most + 8 ≤ bits.old.most) }
-    ensures counts { Counts bits.old bits.new result }
-    ensures memory { IfErr result (λ e. e ≢ Why.Memory) }
-    ensures reads { Reads (λ fits. cond fits (Some samples.new) None) (subframe_samples depth block limits.now) bits.old bits.new result }
+    ensures reading { CallInPlace 8 (Reads (λ fits. cond fits (Some samples.new) None) (subframe_samples depth block limits.now)) bits.old bits.new result }
 {
     read_subframe(bits, depth, block, limits, samples)
 }
@@ -62,10 +59,7 @@ pub(crate) fn read_subframes<R: Source>(
     requires assignment { IsAssignment assignment }
     requires places { length samples.old ≡ shape.now.channels * shape.now.block }
     ensures small { IfOk result (λ fits. IsTrue fits → All (FitsBits 34) samples.new) }
-    ensures spends { OnOk result (bits.new.most ≤ bits.old.most) }
-    ensures counts { Counts bits.old bits.new result }
-    ensures memory { IfErr result (λ e. e ≢ Why.Memory) }
-    ensures reads { Reads (λ fits. cond fits (Some (chunks shape.now.channels shape.now.block samples.new)) None) (subframes shape.now.depth (code_of assignment) shape.now.block shape.now.limits (Some []) 0 shape.now.channels) bits.old bits.new result }
+    ensures reading { CallInPlace 0 (Reads (λ fits. cond fits (Some (chunks shape.now.channels shape.now.block samples.new)) None) (subframes shape.now.depth (code_of assignment) shape.now.block shape.now.limits (Some []) 0 shape.now.channels)) bits.old bits.new result }
 {
     let size = shape.block as usize;
     let mut fits = true;

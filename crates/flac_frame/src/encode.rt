@@ -36,15 +36,6 @@ pub(crate) fn widen(samples: &[i32], out: &mut [i64])
     }
 }
 
-/// `size` samples of a channel from `start` on.
-pub(crate) fn part_of(channel: &[i32], start: usize, size: usize) -> &[i32]
-    requires { start + size ≤ length channel.now }
-    ensures part { result.now ≡ take size (drop start channel.now) }
-    ensures long { length result.now ≡ size }
-{
-    &channel[start..start + size]
-}
-
 /// Chooses a shortest subframe of each channel by itself, and returns how many bits they take.
 fn choose_channels(
     subject: &Subject<'_>,
@@ -70,7 +61,7 @@ fn choose_channels(
     let channels = audio.channels();
     let mut bits = 0;
     for i in 0..channels.len() {
-        widen(part_of(&channels[i], start, size), samples);
+        widen(audio.part(i, start, size), samples);
         let choice = &mut subframes[i];
         choose_plane(samples, depth, subject, workspace, choice);
         bits += choice.bits();
@@ -165,7 +156,7 @@ fn write_channels<W: Target>(
     let channels = audio.channels();
     let subframes = choice.subframes.as_slice();
     for i in 0..channels.len() {
-        widen(part_of(&channels[i], start, size), samples);
+        widen(audio.part(i, start, size), samples);
         write_subframe_in(
             &subframes[i],
             subject.predictors,
@@ -278,16 +269,9 @@ pub fn choose_frame(
 {
     // read for the invariant of the buffers
     let _places = buffers.places.len();
-    let first = range.start;
-    let subject = Subject {
-        audio,
-        start: first,
-        size: range.end - first,
-        number,
-        predictors,
-    };
+    let block = Subject::of(audio, range, number, predictors);
     choose_first(
-        &subject,
+        &block,
         &mut buffers.places,
         &mut buffers.choices,
         &mut buffers.workspace,
@@ -327,16 +311,9 @@ pub fn write_frame<W: Target>(
 {
     // read for the invariant of the buffers
     let _places = buffers.places.len();
-    let begin = range.start;
-    let subject = Subject {
-        audio,
-        start: begin,
-        size: range.end - begin,
-        number,
-        predictors,
-    };
+    let frame = Subject::of(audio, range, number, predictors);
     write_first(
-        &subject,
+        &frame,
         choice,
         &mut buffers.places,
         &mut buffers.workspace,
@@ -402,15 +379,7 @@ pub fn encode_frame_with<W: Target>(
     let before = writer.bytes_written();
     // read for the invariant of the buffers
     let _places = buffers.places.len();
-    let start = range.start;
-    let size = range.end - range.start;
-    let subject = Subject {
-        audio,
-        start,
-        size,
-        number,
-        predictors,
-    };
+    let subject = Subject::of(audio, range, number, predictors);
     choose_first(
         &subject,
         &mut buffers.places,

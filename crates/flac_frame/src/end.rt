@@ -1,7 +1,7 @@
 //! The end of a frame.
 
-ghost use Rattle.std.specs.Prelude.{◌≡◌, ◌≢◌, ◌≤◌, OnOk, IfErr};
-ghost use Rattle.flac_bits.specs.Reading.{Counts, Reads};
+ghost use Rattle.std.specs.Prelude.{◌≡◌};
+ghost use Rattle.flac_bits.specs.Reading.{Reads, CallInPlace};
 ghost use Rattle.flac_frame.specs.Frame.{frame_end};
 
 use flac_bits::{BitReader, Source, Why};
@@ -9,10 +9,7 @@ use flac_bits::{BitReader, Source, Why};
 /// Reads the zeros up to a whole byte, and compares CRC-16 (RFC 9639, section 9.3).
 #[tactic(auto, unfolding(crate::specs::Frame::frame_end))]
 pub(crate) fn read_end<R: Source>(bits: &mut BitReader<R>) -> Result<(), Why>
-    ensures spends { OnOk result (bits.new.most ≤ bits.old.most) }
-    ensures counts { Counts bits.old bits.new result }
-    ensures memory { IfErr result (λ e. e ≢ Why.Memory) }
-    ensures reads { Reads (λ u. u) frame_end bits.old bits.new result }
+    ensures reading { CallInPlace 0 (Reads (λ u. u) frame_end) bits.old bits.new result }
 {
     if !bits.align()? {
         return Err(Why::NonzeroPadding);

@@ -1,7 +1,7 @@
 //! What follows the header of a frame.
 
-ghost use Rattle.std.specs.Prelude.{◌≡◌, ◌≢◌, ◌≤◌, ◌<◌, ◌+◌, ◌*◌, ◌^◌, length, min, take, OnOk, IfOk, IfErr};
-ghost use Rattle.flac_bits.specs.Reading.{Counts, Reads};
+ghost use Rattle.std.specs.Prelude.{◌≡◌, ◌≤◌, ◌<◌, ◌*◌, ◌^◌, length, min, take, IfOk};
+ghost use Rattle.flac_bits.specs.Reading.{Reads, CallInPlace};
 ghost use Rattle.flac_frame.specs.Frame.{frame_body, frame};
 ghost use Rattle.flac_bits.specs.State.{started};
 ghost use Rattle.flac_header.specs.Header.{greatest_in, channels_of};
@@ -31,10 +31,7 @@ fn read_body<R: Source>(
     requires channels { channels_of header.now.channel_code ≡ info.now.channels }
     requires wide { length wide.old ≡ info.now.channels * header.now.size }
     requires out { length out.old ≡ info.now.channels * header.now.size }
-    ensures spends { OnOk result (bits.new.most ≤ bits.old.most) }
-    ensures counts { Counts bits.old bits.new result }
-    ensures memory { IfErr result (λ e. e ≢ Why.Memory) }
-    ensures reads { Reads (λ _. frame_in info.now.channels header.now out.new) (frame_body profile info.now header.now) bits.old bits.new result }
+    ensures reading { CallInPlace 0 (Reads (λ _. frame_in info.now.channels header.now out.new) (frame_body profile info.now header.now)) bits.old bits.new result }
 {
     let shape = Shape {
         channels: info.channels() as usize,
@@ -66,10 +63,7 @@ pub(crate) fn read_into<R: Source>(
     requires wide { info.now.channels * min info.now.greatest_block (greatest_in profile info.now.rate) ≤ length wide.old }
     requires out { length out.old ≡ length wide.old }
     ensures size { IfOk result (λ h. h.size ≤ min info.now.greatest_block (greatest_in profile info.now.rate)) }
-    ensures spends { OnOk result (bits.new.most + 40 ≤ bits.old.most) }
-    ensures counts { Counts bits.old bits.new result }
-    ensures memory { IfErr result (λ e. e ≢ Why.Memory) }
-    ensures reads { Reads (λ h. frame_in info.now.channels h (take (info.now.channels * h.size) out.new)) (frame profile info.now before.now) (started bits.old) bits.new result }
+    ensures reading { CallInPlace 40 (λ old. Reads (λ h. frame_in info.now.channels h (take (info.now.channels * h.size) out.new)) (frame profile info.now before.now) (started old)) bits.old bits.new result }
 {
     let header = read_start(bits, info, profile, before)?;
     let places = info.channels() as usize * header.size() as usize;

@@ -1,7 +1,6 @@
 //! How a block of samples is written as a frame.
 
 ghost use Rattle.std.specs.Prelude.{◌≡◌, ◌≤◌, ◌*◌, ℕ, List, ℤ, length, IfOk, IfErr, IfSome};
-ghost use Rattle.flac_bits.specs.Coded.{number_spelling};
 ghost use Rattle.flac_header.specs.Assignment.{code_of, IsAssignment};
 ghost use Rattle.flac_header.specs.Choice.{size_choice, rate_choice_in, stated_rate};
 ghost use Rattle.flac_header.specs.Spelling.{size_spelling, rate_spelling};
@@ -14,7 +13,7 @@ ghost use Rattle.flac_frame.specs.inner.Pair.{IsPairCode};
 
 use crate::audio::Audio;
 use crate::limits::limits_at;
-use flac_bits::Why;
+use flac_bits::{Why, number_len};
 use flac_header::{ChannelAssignment, Profile, rate_code_in};
 use flac_subframe::WideChoice;
 use std::alloc::Global;
@@ -28,32 +27,6 @@ pub struct FrameChoice {
     pub(crate) code: u8,
     pub(crate) bits: u64,
     pub(crate) subframes: Vec<WideChoice>,
-}
-
-/// How many bytes a frame number takes in a header (RFC 9639, section 9.1.5).
-fn number_bytes(number: u64) -> u64
-    ensures long { length (number_spelling number) ≡ 8 * result }
-    ensures few { result ≤ 7 }
-{
-    if number < 0x80 {
-        return 1;
-    }
-    if number < 0x800 {
-        return 2;
-    }
-    if number < 0x1_0000 {
-        return 3;
-    }
-    if number < 0x20_0000 {
-        return 4;
-    }
-    if number < 0x400_0000 {
-        return 5;
-    }
-    if number < 0x8000_0000 {
-        return 6;
-    }
-    7
 }
 
 /// How many bytes a block size takes in a header: none if a code names it (RFC 9639, section 9.1.6).
@@ -166,7 +139,7 @@ impl FrameChoice {
         ensures bytes { (ps : List LinearPredictor) (block : List (List ℤ)) (is : IsChoiceWith ps audio.now size number block self.now) → length (frame_spelling audio.now.bits is.form) ≡ 8 * result }
         ensures few { (1 ≤ result) × (result ≤ 16777215) }
     {
-        let coded = number_bytes(number);
+        let coded = number_len(number) as u64;
         let sized = size_bytes(size as u32);
         let rated = rate_bytes(audio.profile(), audio.rate());
         let header = 5 + coded + sized + rated;

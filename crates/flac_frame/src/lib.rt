@@ -44,6 +44,6 @@ pub use promises::{
     channels_are_joined, encodings_are_frames, forms_stand_for_samples, frame_family_is_plain,
     frame_widened_is_plain, frames_are_spelled, frames_follow,
 };
-pub use samples::samples_fit;
+pub use samples::{samples_fault, samples_fit};
 pub use setup::{SetupFault, format_fault};
 pub use view::FrameView;

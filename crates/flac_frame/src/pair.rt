@@ -17,7 +17,7 @@ ghost use Rattle.flac_frame.specs.Stereo.{side_of, middle_of, kept_as};
 
 use crate::audio::Audio;
 use crate::channels::side_bit;
-use crate::encode::{part_of, widen};
+use crate::encode::widen;
 use crate::frame_choice::FrameChoice;
 use crate::pair_choices::PairChoices;
 use crate::plane::choose_plane;
@@ -159,10 +159,11 @@ fn split_pair(
     ensures left_fits { All (FitsBits audio.now.bits) left.new }
     ensures right_fits { All (FitsBits audio.now.bits) right.new }
 {
-    let channels = audio.channels();
+    // called for its clauses, that the samples can be encoded
+    let _channels = audio.channels();
     let size = left.len();
-    let lefts = part_of(&channels[0], start, size);
-    let rights = part_of(&channels[1], start, size);
+    let lefts = audio.part(0, start, size);
+    let rights = audio.part(1, start, size);
     widen(lefts, left);
     widen(rights, right);
     split_channels(lefts, rights, side, middle);
@@ -271,10 +272,11 @@ fn keep_pair(
     ensures first_fits { All (FitsBits (audio.now.bits + side_bit (code_of assignment) 0)) first.new }
     ensures second_fits { All (FitsBits (audio.now.bits + side_bit (code_of assignment) 1)) second.new }
 {
-    let channels = audio.channels();
+    // called for its clauses, that the samples can be encoded
+    let _channels = audio.channels();
     let size = first.len();
-    let left = part_of(&channels[0], start, size);
-    let right = part_of(&channels[1], start, size);
+    let left = audio.part(0, start, size);
+    let right = audio.part(1, start, size);
     put_kept(assignment, left, right, first, second);
 }
 

@@ -1,7 +1,7 @@
 //! Reads the header of a frame of a stream.
 
-ghost use Rattle.std.specs.Prelude.{◌≡◌, ◌≢◌, ◌≤◌, ◌<◌, ◌+◌, ◌^◌, nat_eq, IfOk, OnOk, IfErr};
-ghost use Rattle.flac_bits.specs.Reading.{Counts, Reads};
+ghost use Rattle.std.specs.Prelude.{◌≡◌, ◌≤◌, ◌<◌, ◌^◌, nat_eq, IfOk};
+ghost use Rattle.flac_bits.specs.Reading.{Reads, CallInPlace};
 ghost use Rattle.flac_bits.specs.State.{started};
 ghost use Rattle.flac_header.specs.Header.{allowed, channels_of, greatest_in, IsHeader, header as header_layout};
 ghost use Rattle.flac_frame.specs.Frame.{differs, rate_in, depth_in, breaks_sequence, breaks_size, stream_header};
@@ -85,10 +85,7 @@ fn breaks_size(info: &StreamInfo, before: &Option<Before>, header: &FrameHeader)
 
 /// What [`read_header`] does, proved by the reading of the layout.
 fn header_here<R: Source>(bits: &mut BitReader<R>) -> Result<FrameHeader, Why>
-    ensures spends { OnOk result (bits.new.most + 40 ≤ bits.old.most) }
-    ensures counts { Counts bits.old bits.new result }
-    ensures memory { IfErr result (λ e. e ≢ Why.Memory) }
-    ensures reads { Reads (λ h. h) header_layout (started bits.old) bits.new result }
+    ensures reading { CallInPlace 40 (λ old. Reads (λ h. h) header_layout (started old)) bits.old bits.new result }
 {
     read_header(bits)
 }
@@ -105,10 +102,7 @@ pub(crate) fn read_start<R: Source>(
     ensures code { IfOk result (λ h. h.channel_code < 11) }
     ensures channels { IfOk result (λ h. channels_of h.channel_code ≡ info.now.channels) }
     ensures size { IfOk result (λ h. (h.size ≤ info.now.greatest_block) × (h.size ≤ greatest_in profile info.now.rate)) }
-    ensures spends { OnOk result (bits.new.most + 40 ≤ bits.old.most) }
-    ensures counts { Counts bits.old bits.new result }
-    ensures memory { IfErr result (λ e. e ≢ Why.Memory) }
-    ensures reads { Reads (λ h. h) (stream_header profile info.now before.now) (started bits.old) bits.new result }
+    ensures reading { CallInPlace 40 (λ old. Reads (λ h. h) (stream_header profile info.now before.now) (started old)) bits.old bits.new result }
 {
     let header = header_here(bits)?;
     if !allows(profile, &header) {

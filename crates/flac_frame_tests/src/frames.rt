@@ -6,7 +6,7 @@ use flac_bits::{BitReader, BitWriter, Collected, Memory, Target, Why};
 use flac_frame::{
     Audio, EncodeBuffers, FrameBuffers, FrameChoice, FrameView, SetupFault, channels_are_joined,
     choose_frame, encode_frame, encodings_are_frames, format_fault, forms_stand_for_samples,
-    frames_are_spelled, frames_follow, samples_fit, write_frame,
+    frames_are_spelled, frames_follow, samples_fault, samples_fit, write_frame,
 };
 use flac_header::Profile;
 use flac_meta::StreamInfo;
@@ -198,6 +198,28 @@ fn audio(rt: HostRuntime) -> Result<(), Fail> {
     Ok(())
 }
 
+/// Whether the samples of a channel from one on are these; false if the channel has fewer, or is none.
+fn has_part(audio: &Audio, channel: usize, start: usize, wanted: &[i32]) -> bool {
+    let size = wanted.len();
+    let len = audio.len();
+    if channel >= audio.channels().len() || start > len || size > len - start {
+        return false;
+    }
+    audio.part(channel, start, size) == wanted
+}
+
+/// Parts inside channels, at their ends, whole, and empty.
+#[test]
+fn parts_of_channels(rt: HostRuntime) -> Result<(), Fail> {
+    let audio = Audio::new(7000, 12, channels_of(rt.alloc(), ";1 2 3 4;-1 -2 -3 -4")?)?;
+    assert!(rt; has_part(&audio, 1, 1, &[-2, -3]));
+    assert!(rt; has_part(&audio, 0, 2, &[3, 4]));
+    assert!(rt; has_part(&audio, 1, 0, &[-1, -2, -3, -4]));
+    assert!(rt; has_part(&audio, 1, 0, &[]));
+    assert!(rt; has_part(&audio, 0, 4, &[]));
+    Ok(())
+}
+
 /// The first fault of a format: the rate, then the depth, then the channels.
 #[test]
 fn faults_of_formats(rt: HostRuntime) -> Result<(), Fail> {
@@ -213,6 +235,21 @@ fn samples_of_eight_bits(rt: HostRuntime) -> Result<(), Fail> {
     assert!(rt; samples_fit(&[127, -128], 8));
     assert!(rt; !samples_fit(&[0, 128], 8));
     assert!(rt; !samples_fit(&[-129, 0], 8));
+    Ok(())
+}
+
+/// The first fault of samples: their lengths, then their sizes. How many channels there are is not judged.
+#[test]
+fn faults_of_samples(rt: HostRuntime) -> Result<(), Fail> {
+    let left = [127, -128];
+    let large = [0, 128];
+    let short = [-129];
+    assert!(rt; samples_fault(&[], 8).is_none());
+    assert!(rt; samples_fault(&[left.as_slice(), left.as_slice()], 8).is_none());
+    let lengths = samples_fault(&[large.as_slice(), short.as_slice()], 8);
+    assert!(rt; lengths == Some(SetupFault::LengthsDiffer));
+    let sizes = samples_fault(&[left.as_slice(), large.as_slice()], 8);
+    assert!(rt; sizes == Some(SetupFault::SampleTooLarge));
     Ok(())
 }
 

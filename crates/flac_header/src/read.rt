@@ -1,7 +1,7 @@
 //! Reading of frame headers.
 
-ghost use Rattle.std.specs.Prelude.{◌≡◌, ◌≢◌, ◌<◌, ◌≤◌, ◌+◌, ◌^◌, IfOk, IfErr, OnOk};
-ghost use Rattle.flac_bits.specs.Reading.{Counts, Reads, Means};
+ghost use Rattle.std.specs.Prelude.{◌≡◌, ◌<◌, ◌+◌, ◌^◌, IfOk};
+ghost use Rattle.flac_bits.specs.Reading.{Reads, Means, CallInPlace};
 ghost use Rattle.flac_bits.specs.State.{started};
 ghost use Rattle.flac_bits.specs.Number.{number};
 ghost use Rattle.flac_bits.specs.Coded.{IsNumber};
@@ -17,10 +17,7 @@ fn read_size<R: Source>(bits: &mut BitReader<R>, code: u8) -> Result<u32, Why>
     requires chosen { 0 < code }
     requires small { code < 16 }
     ensures fits { IfOk result (λ v. IsSize code v) }
-    ensures spends { OnOk result (bits.new.most ≤ bits.old.most) }
-    ensures counts { Counts bits.old bits.new result }
-    ensures memory { IfErr result (λ e. e ≢ Why.Memory) }
-    ensures reads { Reads (λ v. v) (size_field code) bits.old bits.new result }
+    ensures reading { CallInPlace 0 (Reads (λ v. v) (size_field code)) bits.old bits.new result }
 {
     let size = match code {
         1 => 192,
@@ -65,10 +62,7 @@ fn named_rate(code: u8) -> u32
 fn read_rate<R: Source>(bits: &mut BitReader<R>, code: u8) -> Result<u32, Why>
     requires { code < 15 }
     ensures fits { IfOk result (λ v. IsRate code v) }
-    ensures spends { OnOk result (bits.new.most ≤ bits.old.most) }
-    ensures counts { Counts bits.old bits.new result }
-    ensures memory { IfErr result (λ e. e ≢ Why.Memory) }
-    ensures reads { Reads (λ v. v) (rate_field code) bits.old bits.new result }
+    ensures reading { CallInPlace 0 (Reads (λ v. v) (rate_field code)) bits.old bits.new result }
 {
     let rate = match code {
         12 => bits.take(8)? as u32 * 1000,
@@ -82,10 +76,7 @@ fn read_rate<R: Source>(bits: &mut BitReader<R>, code: u8) -> Result<u32, Why>
 /// What [`read_number`] does, proved by the reading of the layout.
 fn number_here<R: Source>(bits: &mut BitReader<R>, max_bits: u32) -> Result<u64, Why>
     ensures fits { IfOk result (λ v. IsNumber max_bits v) }
-    ensures spends { OnOk result (bits.new.most + 8 ≤ bits.old.most) }
-    ensures counts { Counts bits.old bits.new result }
-    ensures memory { IfErr result (λ e. e ≢ Why.Memory) }
-    ensures reads { Reads (λ v. v) (number max_bits) bits.old bits.new result }
+    ensures reading { CallInPlace 8 (Reads (λ v. v) (number max_bits)) bits.old bits.new result }
 {
     read_number(bits, max_bits)
 }
@@ -93,10 +84,7 @@ fn number_here<R: Source>(bits: &mut BitReader<R>, max_bits: u32) -> Result<u64,
 /// Reads a header from its first bit on; the checks began there.
 #[tactic(auto, unfolding(crate::specs::Header::header))]
 fn read_fields<R: Source>(bits: &mut BitReader<R>) -> Result<FrameHeader, Why>
-    ensures spends { OnOk result (bits.new.most + 40 ≤ bits.old.most) }
-    ensures counts { Counts bits.old bits.new result }
-    ensures memory { IfErr result (λ e. e ≢ Why.Memory) }
-    ensures reads { Reads (λ h. h) header bits.old bits.new result }
+    ensures reading { CallInPlace 40 (Reads (λ h. h) header) bits.old bits.new result }
 {
     if bits.take(15)? != 0x7FFC {
         return Err(Why::BadSync);
@@ -158,10 +146,7 @@ fn read_fields<R: Source>(bits: &mut BitReader<R>) -> Result<FrameHeader, Why>
 /// - [`Why::HeaderCheck`] if the CRC-8 differs.
 /// - Those of [`BitReader`].
 pub fn read_header<R: Source>(bits: &mut BitReader<R>) -> Result<FrameHeader, Why>
-    ensures spends { OnOk result (bits.new.most + 40 ≤ bits.old.most) }
-    ensures counts { Counts bits.old bits.new result }
-    ensures memory { IfErr result (λ e. e ≢ Why.Memory) }
-    ensures means { Means (λ h. h) header (started bits.old) bits.new result }
+    ensures reading { CallInPlace 40 (λ old. Means (λ h. h) header (started old)) bits.old bits.new result }
 {
     bits.start_checks();
     read_fields(bits)

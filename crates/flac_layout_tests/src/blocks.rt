@@ -20,7 +20,8 @@ const INFO: &str =
 const LAST_INFO: &str =
     "80000022 1000 1000 00000e 00000f 0ac442f000000001 0102030405060708090a0b0c0d0e0f10";
 
-/// Blocks that come after STREAMINFO: the number of bytes of the content of each, which is written again as it was read, or why it is refused.
+/// Blocks that come after STREAMINFO: the number of bytes of the content of each, which is written again as it was
+/// read, or why it is refused.
 const BLOCKS: &str = "# Refused at the header.
 ff000000 | ForbiddenType
 83000011 | BlockLength
@@ -47,7 +48,8 @@ ff000000 | ForbiddenType
 /// The longest content that a block may have.
 const LONGEST: &str = "82ffffff 01020304 07*16777211 | 16777215";
 
-/// Blocks that announce more than comes: a length, a count of comments or a length of a text, whether it fits the block or not.
+/// Blocks that announce more than comes: a length, a count of comments or a length of a text, whether it fits the block
+/// or not.
 const CLAIMS: &str = "84000008 00000000 ffffffff | BlockLength
 82ffffff 01020304 | Truncated
 83fffff6 | Truncated
@@ -60,7 +62,8 @@ const CLAIMS: &str = "84000008 00000000 ffffffff | BlockLength
 const THREE_COMMENTS: &str =
     "0400001f 00000000 03000000 05000000 413d623d63 02000000 3d78 04000000 6e6f6e65";
 
-/// One block of each kind after STREAMINFO, kinds 1 to 7 in their order: the cue sheet of a disc has one track with one place, the picture is a front cover.
+/// One block of each kind after STREAMINFO, kinds 1 to 7 in their order: the cue sheet of a disc has one track with one
+/// place, the picture is a front cover.
 const KINDS: &str = "01000004 00000000
 02000006 466c6163 7879
 03000012 0000000000001000 000000000000000e 1000
@@ -567,5 +570,28 @@ fn lists_are_given_back(rt: HostRuntime) -> Result<(), Fail> {
     assert!(rt; sheet_taken_apart(rt.alloc())? == (1, 1));
     let (count, bytes) = comments_taken_apart(rt.alloc())?;
     assert!(rt; count == 3 && bytes.as_slice() == b"A=b=c=xnone".as_slice());
+    Ok(())
+}
+
+/// The sum of the sample numbers of a table's points, by its iterator and by a loop over the table.
+fn sums_of_samples(table: &SeekTable) -> (u64, u64) {
+    let mut by_loop: u64 = 0;
+    for point in table {
+        by_loop = by_loop.wrapping_add(point.sample & 0xFFFF);
+    }
+    let mut by_iterator: u64 = 0;
+    for point in table.iter() {
+        by_iterator = by_iterator.wrapping_add(point.sample & 0xFFFF);
+    }
+    (by_iterator, by_loop)
+}
+
+#[test]
+fn lists_are_gone_over(rt: HostRuntime) -> Result<(), Fail> {
+    let table = SeekTable::from_vec(Vec::from_slice(rt.alloc(), &[OTHER_POINT, POINT])?);
+    let empty = Texts::from_vec(Vec::new(rt.alloc()));
+    assert!(rt; sums_of_samples(&table) == (4097, 4097));
+    assert!(rt; table.len() == 2 && !table.is_empty());
+    assert!(rt; empty.len() == 0 && empty.is_empty());
     Ok(())
 }

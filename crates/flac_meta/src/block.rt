@@ -5,7 +5,7 @@ ghost use Rattle.flac_meta.specs.Spelling.{kind_of, length_of, header_spelling, 
 ghost use Rattle.flac_meta.specs.Listed.{is_forbidden, block_fault, has_bad_sheet};
 ghost use Rattle.flac_meta.specs.Header.{nothing_seen, is_repeated, block_header};
 ghost use Rattle.flac_meta.specs.Block.{seen_after, application, content, block, MemoryAsked};
-ghost use Rattle.flac_bits.specs.Reading.{Counts, Reads, ReadsInRoom, Means};
+ghost use Rattle.flac_bits.specs.Reading.{Reads, ReadsInRoom, Call, MeansInRoom};
 ghost use Rattle.flac_bits.specs.State.{Cursor};
 ghost use Rattle.flac_bits.specs.Layout.{run};
 ghost use Rattle.flac_meta.specs.declared.block.BlockHeader.{BlockHeader};
@@ -181,9 +181,7 @@ pub(crate) fn read_block_header<R: Source>(
 ) -> Result<BlockHeader, Why>
     ensures small { IfOk result (λ h. h.length < 2 ^ 24) }
     ensures id { IfOk result (λ h. h.kind ≡ 2 → 4 ≤ h.length) }
-    ensures spends { OnOk result (bits.new.most + 32 ≤ bits.old.most) }
-    ensures counts { Counts bits.old bits.new result }
-    ensures reads { Reads (λ h. h) (block_header seen.now) bits.old bits.new result }
+    ensures reading { Call 32 (Reads (λ h. h) (block_header seen.now)) bits.old bits.new result }
 {
     let last = bits.take(1)? == 1;
     let kind = bits.take(7)? as u8;
@@ -217,9 +215,7 @@ fn read_application<R: Source>(
     length: u32,
 ) -> Result<Block, Why>
     requires { 4 ≤ length }
-    ensures spends { OnOk result (bits.new.most ≤ bits.old.most) }
-    ensures counts { Counts bits.old bits.new result }
-    ensures reads { ReadsInRoom (λ b. b) (application length) bits.old bits.new result }
+    ensures reading { Call 0 (ReadsInRoom (λ b. b) (application length)) bits.old bits.new result }
 {
     let mut id = [0u8; 4];
     read_bytes(bits, &mut id)?;
@@ -237,9 +233,7 @@ fn read_content<R: Source>(
 ) -> Result<Block, Why>
     requires small { length < 2 ^ 24 }
     requires id { kind ≡ 2 → 4 ≤ length }
-    ensures spends { OnOk result (bits.new.most ≤ bits.old.most) }
-    ensures counts { Counts bits.old bits.new result }
-    ensures reads { ReadsInRoom (λ b. b) (content kind length) bits.old bits.new result }
+    ensures reading { Call 0 (ReadsInRoom (λ b. b) (content kind length)) bits.old bits.new result }
     ensures spare { result ≡ Err Why.Memory → bits.old.known ≡ true → bits.new.errors ≡ bits.old.errors → (bits.old.cursor.mark.short ≡ Why.Memory → ⊥) → 1 < kind }
 {
     match kind {
@@ -267,9 +261,7 @@ fn next_block<R: Source>(
     bits: &mut BitReader<R>,
     seen: &Seen,
 ) -> Result<(bool, Block), Why>
-    ensures spends { OnOk result (bits.new.most + 32 ≤ bits.old.most) }
-    ensures counts { Counts bits.old bits.new result }
-    ensures reads { ReadsInRoom (λ x. x) (block seen.now) bits.old bits.new result }
+    ensures reading { Call 32 (ReadsInRoom (λ x. x) (block seen.now)) bits.old bits.new result }
     ensures spare { MemoryAsked seen.now bits.old bits.new result }
 {
     let header = read_block_header(bits, seen)?;
@@ -301,9 +293,7 @@ pub fn read_block<R: Source>(
     bits: &mut BitReader<R>,
     seen: &mut Seen,
 ) -> Result<(bool, Block), Why>
-    ensures spends { OnOk result (bits.new.most + 32 ≤ bits.old.most) }
-    ensures counts { Counts bits.old bits.new result }
-    ensures means { (result ≡ Err Why.Memory → ⊥) → Means (λ x. x) (block seen.old) bits.old bits.new result }
+    ensures reading { Call 32 (MeansInRoom (λ x. x) (block seen.old)) bits.old bits.new result }
     ensures spare { MemoryAsked seen.old bits.old bits.new result }
     ensures seen { IfOk result (λ x. seen.new ≡ seen_after seen.old x.1) }
     ensures unseen { OnErr result (seen.new ≡ seen.old) }

@@ -266,7 +266,8 @@ impl BlockList {
     /// ```
     ///
     /// # Errors
-    /// [`Why::BlockLength`] if the comments have more bytes than a block may have; [`Why::Memory`] if an allocation fails.
+    /// [`Why::BlockLength`] if the comments have more bytes than a block may have; [`Why::Memory`] if an allocation
+    /// fails.
     pub fn of_comments(alloc: Global, comments: Comments) -> Result<BlockList, Why>
         ensures list { IfOk result (λ list. list ≡ Block.VorbisComment comments ∷ []) }
         ensures good { OnOk result (list_fault info_seen (Block.VorbisComment comments ∷ []) ≡ None) }

@@ -5,7 +5,7 @@ ghost use Rattle.std.specs.Iterator.{YieldsFirstRef, item_count};
 ghost use Rattle.flac_meta.specs.Parts.{HasNoEquals, LacksParts, AreParts};
 ghost use Rattle.flac_meta.specs.Named.{value_under, values_of, IsFirstOf};
 ghost use Rattle.flac_meta.specs.Spelling.{texts_length, comments_length, each_spelled, little_sized, comments_spelling};
-ghost use Rattle.flac_bits.specs.Reading.{Counts, ReadsInRoom};
+ghost use Rattle.flac_bits.specs.Reading.{ReadsInRoom, Call};
 ghost use Rattle.flac_meta.specs.Comments.{texts, comments};
 ghost use Rattle.flac_bits.specs.Written.{Writes};
 
@@ -229,9 +229,7 @@ fn read_texts<R: Source>(
     left: u32,
 ) -> Result<Texts, Why>
     requires { left < 2 ^ 24 }
-    ensures spends { OnOk result (bits.new.most ≤ bits.old.most) }
-    ensures counts { Counts bits.old bits.new result }
-    ensures reads { ReadsInRoom (λ t. t) (texts count left) bits.old bits.new result }
+    ensures reading { Call 0 (ReadsInRoom (λ t. t) (texts count left)) bits.old bits.new result }
 {
     let mut list = Vec::new(alloc);
     let mut left = left;
@@ -255,9 +253,7 @@ pub(crate) fn read_comments<R: Source>(
     left: u32,
 ) -> Result<Comments, Why>
     requires { left < 2 ^ 24 }
-    ensures spends { OnOk result (bits.new.most ≤ bits.old.most) }
-    ensures counts { Counts bits.old bits.new result }
-    ensures reads { ReadsInRoom (λ c. c) (comments left) bits.old bits.new result }
+    ensures reading { Call 0 (ReadsInRoom (λ c. c) (comments left)) bits.old bits.new result }
 {
     let vendor = read_sized_little(alloc, bits, left)?;
     let rest = left - (4 + vendor.len() as u32);

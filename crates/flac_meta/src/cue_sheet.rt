@@ -1,22 +1,20 @@
 //! Cue sheets (RFC 9639, section 8.7).
 
 ghost use Rattle.std.specs.Prelude.{◌≡◌, ◌+◌, ◌≤◌, min, false, OnOk, IfOk, ◌*◌, ◌<◌, ◌^◌, length, ◌∷◌, [], not};
-ghost use Rattle.std.specs.Cmp.{partial_equiv_from_equiv};
-ghost use Rattle.std.specs.Cmp.Lexicographic.{pointwise, lists_equiv};
 ghost use Rattle.flac_meta.specs.Spelling.{tracks_length, zero_bits, each_spelled, index_spelling, track_spelling, sheet_spelling};
 ghost use Rattle.flac_meta.specs.Listed.{overflows, is_bad_sheet};
 ghost use Rattle.flac_bits.specs.Lists.{list_of};
-ghost use Rattle.flac_bits.specs.Reading.{Counts, Reads, ReadsInRoom};
+ghost use Rattle.flac_bits.specs.Reading.{Reads, ReadsInRoom, Call};
 ghost use Rattle.flac_meta.specs.CueSheet.{cue_count, cue_index, track_front, cue_track, cue_tracks, sheet_front, cue_sheet};
 ghost use Rattle.flac_bits.specs.Bits.{unsigned, bits_of, bit_value};
 ghost use Rattle.flac_bits.specs.Forms.{joined};
 ghost use Rattle.flac_bits.specs.Written.{Writes};
 
 use crate::fields::{Field, capped, flag, read_zeros, too_short};
+use crate::lists::Entries;
 use crate::put::{put_fields, put_zeros};
 use flac_bits::{BitReader, BitWriter, Source, Target, Why, read_bytes};
 use std::alloc::{AllocError, Global};
-use std::marker::Model;
 
 /// An index point of a track (RFC 9639, section 8.7.1.1).
 #[derive(Clone, Copy, Debug, PartialEq, Eq)]
@@ -28,69 +26,13 @@ pub struct CueIndex {
 }
 
 /// The index points of a track.
-#[derive(Debug, Drop)]
-pub struct CueIndices {
-    items: Vec<CueIndex>,
-}
-
-impl Model for CueIndices {
-    ghost use Rattle.std.specs.Prelude.{List};
-    ghost use Rattle.flac_meta.specs.declared.cue_sheet.CueIndex.{CueIndex};
-
-    ghost Value = { List CueIndex };
-
-    ghost view = { λ t. t.items.items };
-}
+pub type CueIndices = Entries<CueIndex>;
 
 impl Clone for CueIndices {
     ghost is_clone = { λ a b. b ≡ a };
 
     fn clone(&self) -> Result<CueIndices, AllocError> {
-        Ok(CueIndices {
-            items: self.items.clone()?,
-        })
-    }
-}
-
-impl PartialEq for CueIndices {
-    ghost use Rattle.flac_meta.specs.contracts.cue_sheet.CueIndexPartialEq.TheImpl as item;
-    ghost use Rattle.flac_meta.specs.contracts.cue_sheet.CueIndexEq.TheImpl.Laws.{laws-law};
-
-    ghost eq = { pointwise (item.ghosts).eq };
-
-    ghost laws = { partial_equiv_from_equiv (lists_equiv laws-law) };
-
-    fn eq(&self, other: &CueIndices) -> bool {
-        self.items == other.items
-    }
-}
-
-impl Eq for CueIndices {
-    ghost use Rattle.flac_meta.specs.contracts.cue_sheet.CueIndexEq.TheImpl.Laws.{laws-law};
-
-    ghost laws = { lists_equiv laws-law };
-}
-
-impl CueIndices {
-    /// Makes index points of a vector.
-    pub fn from_vec(items: Vec<CueIndex>) -> CueIndices
-        ensures { result ≡ items.items }
-    {
-        CueIndices { items }
-    }
-
-    /// Returns the index points as a vector.
-    pub fn into_vec(self) -> Vec<CueIndex>
-        ensures { result.items ≡ self }
-    {
-        self.items
-    }
-
-    /// The index points.
-    pub fn as_slice(&self) -> &[CueIndex]
-        ensures { result.now ≡ self.now }
-    {
-        self.items.as_slice()
+        self.copied()
     }
 }
 
@@ -112,69 +54,13 @@ pub struct CueTrack {
 }
 
 /// The tracks of a cue sheet.
-#[derive(Debug, Drop)]
-pub struct CueTracks {
-    tracks: Vec<CueTrack>,
-}
-
-impl Model for CueTracks {
-    ghost use Rattle.std.specs.Prelude.{List};
-    ghost use Rattle.flac_meta.specs.declared.cue_sheet.CueTrack.{CueTrack};
-
-    ghost Value = { List CueTrack };
-
-    ghost view = { λ t. t.tracks.items };
-}
+pub type CueTracks = Entries<CueTrack>;
 
 impl Clone for CueTracks {
     ghost is_clone = { λ a b. b ≡ a };
 
     fn clone(&self) -> Result<CueTracks, AllocError> {
-        Ok(CueTracks {
-            tracks: self.tracks.clone()?,
-        })
-    }
-}
-
-impl PartialEq for CueTracks {
-    ghost use Rattle.flac_meta.specs.contracts.cue_sheet.CueTrackPartialEq.TheImpl as item;
-    ghost use Rattle.flac_meta.specs.contracts.cue_sheet.CueTrackEq.TheImpl.Laws.{laws-law};
-
-    ghost eq = { pointwise (item.ghosts).eq };
-
-    ghost laws = { partial_equiv_from_equiv (lists_equiv laws-law) };
-
-    fn eq(&self, other: &CueTracks) -> bool {
-        self.tracks == other.tracks
-    }
-}
-
-impl Eq for CueTracks {
-    ghost use Rattle.flac_meta.specs.contracts.cue_sheet.CueTrackEq.TheImpl.Laws.{laws-law};
-
-    ghost laws = { lists_equiv laws-law };
-}
-
-impl CueTracks {
-    /// Makes tracks of a vector.
-    pub fn from_vec(tracks: Vec<CueTrack>) -> CueTracks
-        ensures { result ≡ tracks.items }
-    {
-        CueTracks { tracks }
-    }
-
-    /// Returns the tracks as a vector.
-    pub fn into_vec(self) -> Vec<CueTrack>
-        ensures { result.items ≡ self }
-    {
-        self.tracks
-    }
-
-    /// The tracks.
-    pub fn as_slice(&self) -> &[CueTrack]
-        ensures { result.now ≡ self.now }
-    {
-        self.tracks.as_slice()
+        self.copied()
     }
 }
 
@@ -231,9 +117,7 @@ pub(crate) fn is_bad(sheet: &CueSheet) -> bool
 /// Reads an index point of a track (RFC 9639, section 8.7.1.1).
 #[tactic(auto, unfolding(crate::specs::CueSheet::cue_index, crate::specs::Fields::reserved))]
 fn read_index<R: Source>(bits: &mut BitReader<R>) -> Result<CueIndex, Why>
-    ensures spends { OnOk result (bits.new.most ≤ bits.old.most) }
-    ensures counts { Counts bits.old bits.new result }
-    ensures reads { Reads (λ i. i) cue_index bits.old bits.new result }
+    ensures reading { Call 0 (Reads (λ i. i) cue_index) bits.old bits.new result }
 {
     let offset = bits.take(64)?;
     let number = bits.take(8)? as u8;
@@ -251,9 +135,7 @@ fn read_indices<R: Source>(
     count: u8,
 ) -> Result<CueIndices, Why>
     ensures count { IfOk result (λ t. length t ≡ count) }
-    ensures spends { OnOk result (bits.new.most ≤ bits.old.most) }
-    ensures counts { Counts bits.old bits.new result }
-    ensures reads { ReadsInRoom (λ t. t) (list_of count cue_index) bits.old bits.new result }
+    ensures reading { Call 0 (ReadsInRoom (λ t. t) (list_of count cue_index)) bits.old bits.new result }
 {
     let mut items = Vec::new(alloc);
     for i in 0..count {
@@ -269,9 +151,7 @@ fn read_indices<R: Source>(
 fn read_track_front<R: Source>(
     bits: &mut BitReader<R>,
 ) -> Result<(u64, u8, [u8; 12], bool, bool), Why>
-    ensures spends { OnOk result (bits.new.most ≤ bits.old.most) }
-    ensures counts { Counts bits.old bits.new result }
-    ensures reads { Reads (λ f. f) track_front bits.old bits.new result }
+    ensures reading { Call 0 (Reads (λ f. f) track_front) bits.old bits.new result }
 {
     let offset = bits.take(64)?;
     let number = bits.take(8)? as u8;
@@ -290,9 +170,7 @@ fn read_track_front<R: Source>(
 fn read_track<R: Source>(alloc: Global, bits: &mut BitReader<R>, left: u32) -> Result<CueTrack, Why>
     requires { left < 2 ^ 24 }
     ensures fits { IfOk result (λ t. 36 + 12 * length t.indices ≤ left) }
-    ensures spends { OnOk result (bits.new.most ≤ bits.old.most) }
-    ensures counts { Counts bits.old bits.new result }
-    ensures reads { ReadsInRoom (λ t. t) (cue_track left) bits.old bits.new result }
+    ensures reading { Call 0 (ReadsInRoom (λ t. t) (cue_track left)) bits.old bits.new result }
 {
     if left < 35 {
         return Err(too_short(bits, left));
@@ -318,9 +196,7 @@ fn read_track<R: Source>(alloc: Global, bits: &mut BitReader<R>, left: u32) -> R
 fn read_count<R: Source>(bits: &mut BitReader<R>, left: u32) -> Result<u8, Why>
     requires { left < 2 ^ 24 }
     ensures fits { OnOk result (1 ≤ left) }
-    ensures spends { OnOk result (bits.new.most ≤ bits.old.most) }
-    ensures counts { Counts bits.old bits.new result }
-    ensures reads { Reads (λ n. n) (cue_count left) bits.old bits.new result }
+    ensures reading { Call 0 (Reads (λ n. n) (cue_count left)) bits.old bits.new result }
 {
     if left < 1 {
         return Err(too_short(bits, left));
@@ -337,9 +213,7 @@ fn read_tracks<R: Source>(
     left: u32,
 ) -> Result<CueTracks, Why>
     requires { left < 2 ^ 24 }
-    ensures spends { OnOk result (bits.new.most ≤ bits.old.most) }
-    ensures counts { Counts bits.old bits.new result }
-    ensures reads { ReadsInRoom (λ t. t) (cue_tracks count left) bits.old bits.new result }
+    ensures reading { Call 0 (ReadsInRoom (λ t. t) (cue_tracks count left)) bits.old bits.new result }
 {
     let mut tracks = Vec::new(alloc);
     let mut left = left;
@@ -358,9 +232,7 @@ fn read_tracks<R: Source>(
 /// Reads the fields of a cue sheet before its tracks.
 #[tactic(auto, unfolding(crate::specs::CueSheet::sheet_front, crate::specs::Fields::reserved))]
 fn read_sheet_front<R: Source>(bits: &mut BitReader<R>) -> Result<([u8; 128], u64, bool), Why>
-    ensures spends { OnOk result (bits.new.most ≤ bits.old.most) }
-    ensures counts { Counts bits.old bits.new result }
-    ensures reads { Reads (λ f. f) sheet_front bits.old bits.new result }
+    ensures reading { Call 0 (Reads (λ f. f) sheet_front) bits.old bits.new result }
 {
     let mut catalogue = [0u8; 128];
     read_bytes(bits, &mut catalogue)?;
@@ -380,9 +252,7 @@ pub(crate) fn read_cue_sheet<R: Source>(
     left: u32,
 ) -> Result<CueSheet, Why>
     requires { left < 2 ^ 24 }
-    ensures spends { OnOk result (bits.new.most ≤ bits.old.most) }
-    ensures counts { Counts bits.old bits.new result }
-    ensures reads { ReadsInRoom (λ s. s) (cue_sheet left) bits.old bits.new result }
+    ensures reading { Call 0 (ReadsInRoom (λ s. s) (cue_sheet left)) bits.old bits.new result }
 {
     if left < 395 {
         return Err(too_short(bits, left));

@@ -4,7 +4,7 @@ ghost use Rattle.std.specs.Prelude.{◌≡◌, ◌<◌, ◌≤◌, ◌^◌, OnOk
 ghost use Rattle.flac_bits.specs.Bits.{bit_value};
 ghost use Rattle.flac_bits.specs.Layout.{bits as number};
 ghost use Rattle.flac_bits.specs.Lists.{list_of};
-ghost use Rattle.flac_bits.specs.Reading.{Counts, Reads, ReadsInRoom};
+ghost use Rattle.flac_bits.specs.Reading.{Counts, Reads, ReadsInRoom, Call};
 ghost use Rattle.flac_meta.specs.Fields.{ends_short, sized, number_32, zeros};
 ghost use Rattle.flac_meta.specs.inner.Counted.{counted};
 ghost use Rattle.flac_meta.specs.Padding.{skipped};
@@ -35,9 +35,7 @@ pub(crate) fn flag(set: bool) -> u64
 #[tactic(auto, using(crate::proofs::Skips::skip_more, crate::proofs::Skips::skip_last))]
 pub(crate) fn skip_bytes<R: Source>(bits: &mut BitReader<R>, length: u32) -> Result<(), Why>
     requires { length < 2 ^ 24 }
-    ensures spends { OnOk result (bits.new.most ≤ bits.old.most) }
-    ensures counts { Counts bits.old bits.new result }
-    ensures reads { Reads (λ _. tt) (skipped (8 * length)) bits.old bits.new result }
+    ensures reading { Call 0 (Reads (λ _. tt) (skipped (8 * length))) bits.old bits.new result }
 {
     for i in 0..length / 8 {
         let _i = i;
@@ -68,9 +66,7 @@ pub(crate) fn read_raw<R: Source>(
     size: u32,
 ) -> Result<Bytes, Why>
     ensures size { IfOk result (λ b. length b ≡ size) }
-    ensures spends { OnOk result (bits.new.most ≤ bits.old.most) }
-    ensures counts { Counts bits.old bits.new result }
-    ensures reads { ReadsInRoom (λ b. b) (list_of size (number 8)) bits.old bits.new result }
+    ensures reading { Call 0 (ReadsInRoom (λ b. b) (list_of size (number 8))) bits.old bits.new result }
 {
     let mut bytes = Vec::new(alloc);
     for i in 0..size {
@@ -88,9 +84,7 @@ fn read_counted<R: Source>(
     left: u32,
 ) -> Result<Bytes, Why>
     ensures fits { IfOk result (λ b. length b ≤ left) }
-    ensures spends { OnOk result (bits.new.most ≤ bits.old.most) }
-    ensures counts { Counts bits.old bits.new result }
-    ensures reads { ReadsInRoom (λ b. b) (counted size left) bits.old bits.new result }
+    ensures reading { Call 0 (ReadsInRoom (λ b. b) (counted size left)) bits.old bits.new result }
 {
     if left < size {
         return Err(Why::BlockLength);
@@ -103,9 +97,7 @@ fn read_counted<R: Source>(
 pub(crate) fn read_number_32<R: Source>(bits: &mut BitReader<R>, left: u32) -> Result<u32, Why>
     requires { left < 2 ^ 24 }
     ensures fits { OnOk result (4 ≤ left) }
-    ensures spends { OnOk result (bits.new.most ≤ bits.old.most) }
-    ensures counts { Counts bits.old bits.new result }
-    ensures reads { Reads (λ v. v) (number_32 left) bits.old bits.new result }
+    ensures reading { Call 0 (Reads (λ v. v) (number_32 left)) bits.old bits.new result }
 {
     if left < 4 {
         return Err(too_short(bits, left));
@@ -121,9 +113,7 @@ pub(crate) fn read_sized<R: Source>(
 ) -> Result<Bytes, Why>
     requires { left < 2 ^ 24 }
     ensures fits { IfOk result (λ b. 4 + length b ≤ left) }
-    ensures spends { OnOk result (bits.new.most ≤ bits.old.most) }
-    ensures counts { Counts bits.old bits.new result }
-    ensures reads { ReadsInRoom (λ b. b) (sized (number 32) left) bits.old bits.new result }
+    ensures reading { Call 0 (ReadsInRoom (λ b. b) (sized (number 32) left)) bits.old bits.new result }
 {
     let size = read_number_32(bits, left)?;
     read_counted(alloc, bits, size, left - 4)
@@ -138,9 +128,7 @@ pub(crate) fn read_sized_little<R: Source>(
 ) -> Result<Bytes, Why>
     requires { left < 2 ^ 24 }
     ensures fits { IfOk result (λ b. 4 + length b ≤ left) }
-    ensures spends { OnOk result (bits.new.most ≤ bits.old.most) }
-    ensures counts { Counts bits.old bits.new result }
-    ensures reads { ReadsInRoom (λ b. b) (sized little_32 left) bits.old bits.new result }
+    ensures reading { Call 0 (ReadsInRoom (λ b. b) (sized little_32 left)) bits.old bits.new result }
 {
     if left < 4 {
         return Err(too_short(bits, left));
@@ -152,9 +140,7 @@ pub(crate) fn read_sized_little<R: Source>(
 /// Reads `count` bits, and returns whether all are zeros.
 #[tactic(auto, using(crate::proofs::Zeros::zeros_first, crate::proofs::Zeros::zeros_more, crate::proofs::Zeros::zeros_end))]
 pub(crate) fn read_zeros<R: Source>(bits: &mut BitReader<R>, count: u32) -> Result<bool, Why>
-    ensures spends { OnOk result (bits.new.most ≤ bits.old.most) }
-    ensures counts { Counts bits.old bits.new result }
-    ensures reads { Reads (λ z. z) (zeros count) bits.old bits.new result }
+    ensures reading { Call 0 (Reads (λ z. z) (zeros count)) bits.old bits.new result }
 {
     let mut clear = bits.take(count % 64)? == 0;
     for i in 0..count / 64 {

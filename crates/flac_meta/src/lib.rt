@@ -33,7 +33,7 @@ pub use comments::{Comments, Values};
 pub use cue_sheet::{CueIndex, CueIndices, CueSheet, CueTrack, CueTracks};
 pub use fields::MOST_BYTES;
 pub use laws::blocks_are_spelled;
-pub use lists::{Bytes, Texts};
+pub use lists::{Bytes, Entries, Texts};
 pub use picture::Picture;
 pub use seek_table::{SeekPoint, SeekTable};
 pub use stream_info::StreamInfo;

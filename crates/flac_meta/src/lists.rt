@@ -1,142 +1,140 @@
-//! Vectors of bytes and of texts, which contracts see as lists.
+//! Lists: vectors of bytes, texts, index points, tracks and seek points.
 
-ghost use Rattle.std.specs.Prelude.{◌≡◌, ◌++◌, ◌∷◌, [], ℕ, List, length, nat_eq, OnOk, OnErr};
-ghost use Rattle.std.specs.Cmp.{partial_equiv_from_equiv};
-ghost use Rattle.std.specs.Cmp.Lexicographic.{pointwise, lists_equiv, nat_list_eq_equiv};
+ghost use Rattle.std.specs.Prelude.{◌≡◌, ◌<◌, ◌^◌, ◌++◌, ◌∷◌, [], List, length, nat_eq, IfOk, OnOk, OnErr};
+ghost use Rattle.std.specs.Cmp.Lexicographic.{pointwise, lists_equiv, lists_per};
+ghost use Rattle.std.specs.Iterator.Runs.{EveryRun, ItemsMapTo};
+ghost use Rattle.std.specs.List.{AllZip};
+ghost use Rattle.std.specs.Slice.Iter.{iter_rest, iter_steps};
 
 use std::alloc::AllocError;
 use std::marker::Model;
+use std::slice;
 
-/// A vector of bytes.
+/// The entries of a list in a block: a vector, which contracts see as a list.
 #[derive(Debug, Drop)]
-pub struct Bytes {
-    items: Vec<u8>,
+pub struct Entries<T> {
+    items: Vec<T>,
 }
 
-impl Model for Bytes {
-    ghost Value = { List ℕ };
+impl<T> Model for Entries<T> {
+    ghost Value = { List T };
 
-    ghost view = { λ b. b.items.items };
+    ghost view = { λ i. i.items.items };
 }
 
-impl Clone for Bytes {
-    ghost is_clone = { λ a b. b ≡ a };
+impl<T: PartialEq> PartialEq for Entries<T> {
+    ghost eq = { pointwise T.eq };
 
-    fn clone(&self) -> Result<Bytes, AllocError> {
-        Ok(Bytes {
+    ghost laws = { lists_per T.laws };
+
+    fn eq(&self, other: &Entries<T>) -> bool {
+        self.items == other.items
+    }
+}
+
+impl<T: Eq> Eq for Entries<T> {
+    ghost laws = { lists_equiv T.Eq.laws };
+}
+
+impl<'a, T> IntoIterator for &'a Entries<T> {
+    type Item = &'a T;
+
+    type IntoIter = slice::Iter<'a, T>;
+
+    ghost into_iter_gives = { λ i it. (iter_rest it ≡ i.now) × (length (iter_rest it) < 2 ^ 64)
+        × EveryRun (iter_steps {A = T}) (λ p. ItemsMapTo p (λ x. x.now) (iter_rest p.from)) };
+
+    fn into_iter(self) -> slice::Iter<'a, T> {
+        self.as_slice().iter()
+    }
+}
+
+impl<T: Clone> Entries<T> {
+    /// Copies the items. `Clone` is written for each type of list, since its contract says that the copy equals the list,
+    /// and not of each item what the item's own `clone` says.
+    pub(crate) fn copied(&self) -> Result<Entries<T>, AllocError>
+        ensures { IfOk result (AllZip T.is_clone self.now) }
+    {
+        Ok(Entries {
             items: self.items.clone()?,
         })
     }
 }
 
-impl PartialEq for Bytes {
-    ghost eq = { pointwise nat_eq };
-
-    ghost laws = { partial_equiv_from_equiv nat_list_eq_equiv };
-
-    fn eq(&self, other: &Bytes) -> bool {
-        self.items == other.items
+impl<T: Drop> Entries<T> {
+    /// Adds an item after the others. After an error the list is as before.
+    pub(crate) fn push(&mut self, item: T) -> Result<(), AllocError>
+        ensures pushed { OnOk result (self.new ≡ self.old ++ item ∷ []) }
+        ensures kept { OnErr result (self.new ≡ self.old) }
+    {
+        self.items.push(item)?;
+        Ok(())
     }
 }
 
-impl Eq for Bytes {
-    ghost laws = { nat_list_eq_equiv };
-}
-
-impl Bytes {
-    /// Makes bytes of a vector.
-    pub fn from_vec(items: Vec<u8>) -> Bytes
+impl<T> Entries<T> {
+    /// Makes a list of these items.
+    pub fn from_vec(items: Vec<T>) -> Entries<T>
         ensures { result ≡ items.items }
     {
-        Bytes { items }
+        Entries { items }
     }
 
-    /// Returns the bytes as a vector.
-    pub fn into_vec(self) -> Vec<u8>
+    /// Returns the items as a vector.
+    pub fn into_vec(self) -> Vec<T>
         ensures { result.items ≡ self }
     {
-        self.items
+        let Entries { items } = self;
+        items
     }
 
-    /// The bytes.
-    pub fn as_slice(&self) -> &[u8]
+    /// The items.
+    pub fn as_slice(&self) -> &[T]
         ensures { result.now ≡ self.now }
     {
         self.items.as_slice()
     }
 
-    /// How many bytes there are.
+    /// How many items there are.
     pub fn len(&self) -> usize
         ensures { result ≡ length self.now }
     {
         self.items.len()
     }
+
+    /// Whether there is no item.
+    pub fn is_empty(&self) -> bool
+        ensures { result ≡ nat_eq (length self.now) 0 }
+    {
+        self.items.is_empty()
+    }
+
+    /// Goes over the items in their order.
+    pub fn iter(&self) -> slice::Iter<'_, T>
+        ensures { iter_rest result ≡ self.now }
+    {
+        self.items.iter()
+    }
+}
+
+/// A vector of bytes.
+pub type Bytes = Entries<u8>;
+
+impl Clone for Bytes {
+    ghost is_clone = { λ a b. b ≡ a };
+
+    fn clone(&self) -> Result<Bytes, AllocError> {
+        self.copied()
+    }
 }
 
 /// A vector of texts, each of bytes that need not be UTF-8.
-#[derive(Debug, Drop)]
-pub struct Texts {
-    texts: Vec<Bytes>,
-}
-
-impl Model for Texts {
-    ghost Value = { List (List ℕ) };
-
-    ghost view = { λ t. t.texts.items };
-}
+pub type Texts = Entries<Bytes>;
 
 impl Clone for Texts {
     ghost is_clone = { λ a b. b ≡ a };
 
     fn clone(&self) -> Result<Texts, AllocError> {
-        Ok(Texts {
-            texts: self.texts.clone()?,
-        })
-    }
-}
-
-impl PartialEq for Texts {
-    ghost eq = { pointwise (pointwise nat_eq) };
-
-    ghost laws = { partial_equiv_from_equiv (lists_equiv nat_list_eq_equiv) };
-
-    fn eq(&self, other: &Texts) -> bool {
-        self.texts == other.texts
-    }
-}
-
-impl Eq for Texts {
-    ghost laws = { lists_equiv nat_list_eq_equiv };
-}
-
-impl Texts {
-    /// Makes texts of a vector.
-    pub fn from_vec(texts: Vec<Bytes>) -> Texts
-        ensures { result ≡ texts.items }
-    {
-        Texts { texts }
-    }
-
-    /// Returns the texts as a vector.
-    pub fn into_vec(self) -> Vec<Bytes>
-        ensures { result.items ≡ self }
-    {
-        self.texts
-    }
-
-    /// Adds a text after the others. After an error they are as before.
-    pub(crate) fn push(&mut self, text: Bytes) -> Result<(), AllocError>
-        ensures pushed { OnOk result (self.new ≡ self.old ++ text ∷ []) }
-        ensures kept { OnErr result (self.new ≡ self.old) }
-    {
-        self.texts.push(text)?;
-        Ok(())
-    }
-
-    /// The texts.
-    pub fn as_slice(&self) -> &[Bytes]
-        ensures { result.now ≡ self.now }
-    {
-        self.texts.as_slice()
+        self.copied()
     }
 }

@@ -1,7 +1,7 @@
 //! Pictures (RFC 9639, section 8.8).
 
 ghost use Rattle.std.specs.Prelude.{OnOk, IfOk, ◌+◌, ◌<◌, ◌≤◌, ◌^◌, length};
-ghost use Rattle.flac_bits.specs.Reading.{Counts, Reads, ReadsInRoom};
+ghost use Rattle.flac_bits.specs.Reading.{Reads, ReadsInRoom, Call};
 ghost use Rattle.flac_meta.specs.Picture.{picture, picture_front, sizes};
 ghost use Rattle.flac_bits.specs.Written.{Writes};
 ghost use Rattle.flac_meta.specs.Spelling.{picture_spelling};
@@ -38,9 +38,7 @@ pub struct Picture {
 fn read_sizes<R: Source>(bits: &mut BitReader<R>, left: u32) -> Result<(u32, u32, u32, u32), Why>
     requires { left < 2 ^ 24 }
     ensures fits { OnOk result (16 ≤ left) }
-    ensures spends { OnOk result (bits.new.most ≤ bits.old.most) }
-    ensures counts { Counts bits.old bits.new result }
-    ensures reads { Reads (λ s. s) (sizes left) bits.old bits.new result }
+    ensures reading { Call 0 (Reads (λ s. s) (sizes left)) bits.old bits.new result }
 {
     let width = read_number_32(bits, left)?;
     let height = read_number_32(bits, left - 4)?;
@@ -58,9 +56,7 @@ fn read_picture_front<R: Source>(
 ) -> Result<(u32, Bytes, Bytes), Why>
     requires { left < 2 ^ 24 }
     ensures fits { IfOk result (λ f. 12 + length f.1 + length f.2 ≤ left) }
-    ensures spends { OnOk result (bits.new.most ≤ bits.old.most) }
-    ensures counts { Counts bits.old bits.new result }
-    ensures reads { ReadsInRoom (λ f. f) (picture_front left) bits.old bits.new result }
+    ensures reading { Call 0 (ReadsInRoom (λ f. f) (picture_front left)) bits.old bits.new result }
 {
     let kind = read_number_32(bits, left)?;
     let media = read_sized(alloc, bits, left - 4)?;
@@ -76,9 +72,7 @@ pub(crate) fn read_picture<R: Source>(
     left: u32,
 ) -> Result<Picture, Why>
     requires { left < 2 ^ 24 }
-    ensures spends { OnOk result (bits.new.most ≤ bits.old.most) }
-    ensures counts { Counts bits.old bits.new result }
-    ensures reads { ReadsInRoom (λ p. p) (picture left) bits.old bits.new result }
+    ensures reading { Call 0 (ReadsInRoom (λ p. p) (picture left)) bits.old bits.new result }
 {
     let (kind, media, text) = read_picture_front(alloc, bits, left)?;
     let rest = left - (12 + media.len() as u32 + text.len() as u32);

@@ -1,16 +1,14 @@
 //! Seek tables (RFC 9639, section 8.5).
 
-ghost use Rattle.std.specs.Prelude.{◌≡◌, OnOk, ◌<◌, ◌≤◌, length, None, false, nat_eq};
-ghost use Rattle.std.specs.Cmp.{partial_equiv_from_equiv};
-ghost use Rattle.std.specs.Cmp.Lexicographic.{pointwise, lists_equiv};
-ghost use Rattle.flac_bits.specs.Reading.{Counts, Reads, ReadsInRoom};
+ghost use Rattle.std.specs.Prelude.{◌≡◌, ◌<◌, length, None, false, nat_eq};
+ghost use Rattle.flac_bits.specs.Reading.{Reads, ReadsInRoom, Call};
 ghost use Rattle.flac_meta.specs.SeekTable.{placeholder, follows, seek_point, seek_points, in_order, last_before};
 ghost use Rattle.flac_bits.specs.Written.{Writes};
 ghost use Rattle.flac_meta.specs.Spelling.{each_spelled, point_spelling};
 
+use crate::lists::Entries;
 use flac_bits::{BitReader, BitWriter, Source, Target, Why};
 use std::alloc::{AllocError, Global};
-use std::marker::Model;
 
 /// A frame to which a player can jump (RFC 9639, section 8.5.1).
 #[derive(Clone, Copy, Debug, PartialEq, Eq)]
@@ -33,75 +31,28 @@ impl SeekPoint {
     }
 }
 
-/// A seek table (RFC 9639, section 8.5). If it is to be written, sample numbers rise strictly, and placeholders come
-/// last.
-#[derive(Debug, Drop)]
-pub struct SeekTable {
-    points: Vec<SeekPoint>,
-}
-
-impl Model for SeekTable {
-    ghost use Rattle.std.specs.Prelude.{List};
-    ghost use Rattle.flac_meta.specs.declared.seek_table.SeekPoint.{SeekPoint};
-
-    ghost Value = { List SeekPoint };
-
-    ghost view = { λ t. t.points.items };
-}
+/// A seek table (RFC 9639, section 8.5). That its sample numbers rise strictly, with placeholders last, is checked when
+/// it is read and when it is written.
+pub type SeekTable = Entries<SeekPoint>;
 
 impl Clone for SeekTable {
     ghost is_clone = { λ a b. b ≡ a };
 
     fn clone(&self) -> Result<SeekTable, AllocError> {
-        Ok(SeekTable {
-            points: self.points.clone()?,
-        })
+        self.copied()
     }
-}
-
-impl PartialEq for SeekTable {
-    ghost use Rattle.flac_meta.specs.contracts.seek_table.SeekPointPartialEq.TheImpl as item;
-    ghost use Rattle.flac_meta.specs.contracts.seek_table.SeekPointEq.TheImpl.Laws.{laws-law};
-
-    ghost eq = { pointwise (item.ghosts).eq };
-
-    ghost laws = { partial_equiv_from_equiv (lists_equiv laws-law) };
-
-    fn eq(&self, other: &SeekTable) -> bool {
-        self.points == other.points
-    }
-}
-
-impl Eq for SeekTable {
-    ghost use Rattle.flac_meta.specs.contracts.seek_table.SeekPointEq.TheImpl.Laws.{laws-law};
-
-    ghost laws = { lists_equiv laws-law };
 }
 
 impl SeekTable {
-    /// Makes a seek table of these points. Their order is not checked here, but when the table is written.
-    pub fn from_vec(points: Vec<SeekPoint>) -> SeekTable
-        ensures { result ≡ points.items }
-    {
-        SeekTable { points }
-    }
-
-    /// Returns the points as a vector.
-    pub fn into_vec(self) -> Vec<SeekPoint>
-        ensures { result.items ≡ self }
-    {
-        self.points
-    }
-
     /// The points.
     pub fn points(&self) -> &[SeekPoint]
         ensures { result.now ≡ self.now }
     {
-        self.points.as_slice()
+        self.as_slice()
     }
 
-    /// The last point whose frame begins at or before a sample: where to begin a search for it. `None` if there is no such
-    /// point. Placeholders name no frame (RFC 9639, section 8.5.1).
+    /// The last point whose frame begins at or before a sample: where to begin a search for it. `None` if there is no
+    /// such point. Placeholders name no frame (RFC 9639, section 8.5.1).
     ///
     /// ```
     /// let offset = match table.before(sample) {
@@ -137,9 +88,7 @@ pub(crate) fn may_follow(before: Option<u64>, point: &SeekPoint) -> bool
 /// Reads a seek point that comes after one of the sample number `before`.
 #[tactic(auto, unfolding(crate::specs::SeekTable::seek_point))]
 fn read_point<R: Source>(bits: &mut BitReader<R>, before: Option<u64>) -> Result<SeekPoint, Why>
-    ensures spends { OnOk result (bits.new.most ≤ bits.old.most) }
-    ensures counts { Counts bits.old bits.new result }
-    ensures reads { Reads (λ p. p) (seek_point before) bits.old bits.new result }
+    ensures reading { Call 0 (Reads (λ p. p) (seek_point before)) bits.old bits.new result }
 {
     let sample = bits.take(64)?;
     let offset = bits.take(64)?;
@@ -162,9 +111,7 @@ pub(crate) fn read_seek_table<R: Source>(
     bits: &mut BitReader<R>,
     count: u32,
 ) -> Result<SeekTable, Why>
-    ensures spends { OnOk result (bits.new.most ≤ bits.old.most) }
-    ensures counts { Counts bits.old bits.new result }
-    ensures reads { ReadsInRoom (λ t. t) (seek_points count None) bits.old bits.new result }
+    ensures reading { Call 0 (ReadsInRoom (λ t. t) (seek_points count None)) bits.old bits.new result }
 {
     let mut points = Vec::new(alloc);
     let mut before = None;

@@ -1,8 +1,8 @@
 //! STREAMINFO (RFC 9639, section 8.2).
 
-ghost use Rattle.std.specs.Prelude.{◌≡◌, IfOk, IfErr, OnOk, ◌<◌, ◌≤◌, ◌^◌};
+ghost use Rattle.std.specs.Prelude.{◌≡◌, IfOk, IfErr, ◌<◌, ◌≤◌, ◌^◌, ◌||◌, nat_eq, nat_lt};
 ghost use Rattle.flac_meta.specs.Info.{Info, KeepsRules, info_of_format, without_totals, info_sizes, info_format, stream_info};
-ghost use Rattle.flac_bits.specs.Reading.{Counts, Reads};
+ghost use Rattle.flac_bits.specs.Reading.{Reads, Call};
 ghost use Rattle.flac_bits.specs.Written.{Writes};
 ghost use Rattle.flac_meta.specs.Spelling.{info_spelling};
 
@@ -114,17 +114,14 @@ impl StreamInfo {
           digest = digest;
         }) → ⊥)) }
     {
-        let sizes_fit = least_block >= 16
-            && least_block <= greatest_block
-            && least_frame < 1 << 24
-            && greatest_frame < 1 << 24;
-        let rate_fits = rate >= 1 && rate < 1 << 20;
-        let samples_fit = channels >= 1
+        let each_fits = least_frame < 1 << 24
+            && greatest_frame < 1 << 24
+            && rate < 1 << 20
+            && channels >= 1
             && channels <= 8
-            && depth >= 4
             && depth <= 32
             && total < 1 << 36;
-        if !(sizes_fit && rate_fits && samples_fit) {
+        if !each_fits || is_out_of_range(least_block, greatest_block, rate, depth) {
             return Err(Why::BadStreamInfo);
         }
         Ok(StreamInfo {
@@ -140,8 +137,8 @@ impl StreamInfo {
         })
     }
 
-    /// The STREAMINFO of a format before the samples are known: all blocks have one size, and the sizes of the frames, the
-    /// number of samples and their MD5 are unknown. The ranges are those of [`StreamInfo::new`].
+    /// The STREAMINFO of a format before the samples are known: all blocks have one size, and the sizes of the frames,
+    /// the number of samples and their MD5 are unknown. The ranges are those of [`StreamInfo::new`].
     ///
     /// ```
     /// // blocks of 4096 samples, 44100 Hz, 2 channels, 16 bits
@@ -251,13 +248,18 @@ impl StreamInfo {
     }
 }
 
+/// Whether a value is out of its range, though it fits its field: the block sizes, the rate or the bits per sample.
+fn is_out_of_range(least_block: u16, greatest_block: u16, rate: u32, depth: u8) -> bool
+    ensures { result ≡ (nat_lt least_block 16 || nat_lt greatest_block least_block || nat_eq rate 0 || nat_lt depth 4) }
+{
+    least_block < 16 || greatest_block < least_block || rate == 0 || depth < 4
+}
+
 /// Smallest and largest block size in samples, smallest and largest frame size in bytes.
 #[tactic(auto, unfolding(crate::specs::Info::info_sizes))]
 fn read_sizes<R: Source>(bits: &mut BitReader<R>) -> Result<(u16, u16, u32, u32), Why>
     ensures fit { IfOk result (λ s. (s.2 < 2 ^ 24) × (s.3 < 2 ^ 24)) }
-    ensures spends { OnOk result (bits.new.most ≤ bits.old.most) }
-    ensures counts { Counts bits.old bits.new result }
-    ensures reads { Reads (λ s. s) info_sizes bits.old bits.new result }
+    ensures reading { Call 0 (Reads (λ s. s) info_sizes) bits.old bits.new result }
 {
     let least_block = bits.take(16)? as u16;
     let greatest_block = bits.take(16)? as u16;
@@ -270,9 +272,7 @@ fn read_sizes<R: Source>(bits: &mut BitReader<R>) -> Result<(u16, u16, u32, u32)
 #[tactic(auto, unfolding(crate::specs::Info::info_format))]
 fn read_format<R: Source>(bits: &mut BitReader<R>) -> Result<(u32, u8, u8, u64), Why>
     ensures fit { IfOk result (λ f. (f.0 < 2 ^ 20) × (1 ≤ f.1) × (f.1 ≤ 8) × (f.2 ≤ 32) × (f.3 < 2 ^ 36)) }
-    ensures spends { OnOk result (bits.new.most ≤ bits.old.most) }
-    ensures counts { Counts bits.old bits.new result }
-    ensures reads { Reads (λ f. f) info_format bits.old bits.new result }
+    ensures reading { Call 0 (Reads (λ f. f) info_format) bits.old bits.new result }
 {
     let rate = bits.take(20)? as u32;
     let channels = bits.take(3)? as u8 + 1;
@@ -284,15 +284,13 @@ fn read_format<R: Source>(bits: &mut BitReader<R>) -> Result<(u32, u8, u8, u64),
 /// Reads the content of a STREAMINFO block (RFC 9639, section 8.2).
 #[tactic(auto, unfolding(crate::specs::Info::stream_info))]
 pub(crate) fn read_stream_info<R: Source>(bits: &mut BitReader<R>) -> Result<StreamInfo, Why>
-    ensures spends { OnOk result (bits.new.most ≤ bits.old.most) }
-    ensures counts { Counts bits.old bits.new result }
-    ensures reads { Reads (λ i. i) stream_info bits.old bits.new result }
+    ensures reading { Call 0 (Reads (λ i. i) stream_info) bits.old bits.new result }
 {
     let (least_block, greatest_block, least_frame, greatest_frame) = read_sizes(bits)?;
     let (rate, channels, depth, total) = read_format(bits)?;
     let mut digest = [0u8; 16];
     read_bytes(bits, &mut digest)?;
-    if least_block < 16 || greatest_block < least_block || rate == 0 || depth < 4 {
+    if is_out_of_range(least_block, greatest_block, rate, depth) {
         return Err(Why::BadStreamInfo);
     }
     Ok(StreamInfo {

@@ -11,9 +11,9 @@ use Rattle.flac_frame.specs.Chosen.{IsChoiceWith}
 use Rattle.flac_frame.specs.Encoding.{IsEncoding, IsLeastWith, block_of}
 use Rattle.flac_frame.specs.Spelling.{frame_spelling}
 use Rattle.flac_frame.specs.declared.frame_choice.FrameChoice.{FrameChoice}
-use Rattle.flac_native.specs.Given.{Cut, blocks_in, size_of, frame_of}
+use Rattle.flac_native.specs.Given.{Cut, IsRange, blocks_in, size_of, frame_of}
 use Rattle.flac_native.specs.Writing.{SpellsFrame, SpellsLeast, AreSizes, AreCounted, IsChoiceOf, AreChoices}
-use Rattle.flac_native.specs.inner.Writing.{IsKept, IsRange}
+use Rattle.flac_native.specs.inner.Writing.{IsKept}
 use Rattle.flac_native.specs.Seeking.{point_at, points_of}
 use Rattle.flac_native.proofs.Encoded.{least_part, all_parts}
 use Rattle.flac_native.proofs.Planned.{Planned, Fit}

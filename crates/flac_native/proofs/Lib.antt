@@ -1,9 +1,12 @@
 pub mod Giving
+pub mod Passing
 pub mod Arriving
 pub mod Handed
 pub mod Received
 pub mod Bounds
 pub mod Messages
+pub mod SampleRows
+pub mod Sampled
 pub mod Advancing
 pub mod Deciding
 pub mod WholeBytes

@@ -1,8 +1,9 @@
 -- Samples that are written one after another.
-use Rattle.std.proofs.Common.{◌≡◌, ℕ, zero, suc, ℤ, pos, ◌+◌, ◌<◌, List, [], ◌∷◌, ◌++◌, length, take, get_or, All, ◌≤◌, sym, ap, ◌∙◌, append_assoc, subst, arith}
+use Rattle.std.proofs.Common.{◌≡◌, ℕ, zero, suc, ℤ, pos, ◌+◌, ◌<◌, List, [], ◌∷◌, ◌++◌, length, take, drop, refl, sym, ap, ◌∙◌, append_assoc, subst, arith}
 use Rattle.std.proofs.lemmas.List.{append-nil}
 use Rattle.std.specs.Prelude.{slice_index_or}
 use Rattle.flac_frame.specs.Audio.{Sound, samples_each}
+use Rattle.flac_frame.specs.Encoding.{block_of}
 use Rattle.flac_native.specs.Given.{sound_message}
 use Rattle.flac_native.specs.Message.{sample_width, sample_bytes, row_bytes, rows_bytes}
 use Rattle.md5.specs.Md5.{Holds}
@@ -64,6 +65,9 @@ pub fed_all : (a : Sound) (h : Md5) (start : ℕ) → start ≡ samples_each a.c
 unfolding sound_message
 fed_all a h start e held = subst (λ n. Holds h (fed_rows a n 0)) e held
 
--- a channel of vectors that are all so long
-pub long_of : {V : Type 0} (items : V → List ℤ) (xs : List V) (n i : ℕ) (x : V) → All (λ v. n ≤ length (items v)) xs → i < length xs → x ≡ get_or xs i x → n ≤ length (items x)
-long_of items xs n i x all lt is = subst (λ v. n ≤ length (items v)) (sym is) (all i x lt)
+-- a block of two channels
+pub two_parts : (start size : ℕ) (channels : List (List ℤ)) → length channels ≡ 2 → take size (drop start (slice_index_or channels 0 [])) ∷ take size (drop start (slice_index_or channels 1 [])) ∷ [] ≡ block_of start size channels
+two_parts start size [] two = absurd (omega (arith, two))
+two_parts start size (x ∷ []) two = absurd (omega (arith, two))
+two_parts start size (x ∷ y ∷ []) two = refl
+two_parts start size (x ∷ y ∷ z ∷ zs) two = absurd (omega (arith, two))

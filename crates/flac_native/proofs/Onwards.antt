@@ -10,14 +10,14 @@ use Rattle.flac_bits.specs.Items.{Joined, Stream, after}
 use Rattle.flac_bits.proofs.ItemSpellings.{fresh_unread, fresh_check8, fresh_check16, behind_whole}
 use Rattle.flac_header.specs.Header.{Header}
 use Rattle.flac_header.specs.declared.subset.Profile.{Profile}
-use Rattle.flac_meta.specs.Info.{Info, KeepsRules}
+use Rattle.flac_meta.specs.Info.{Info, KeepsRules, without_totals}
 use Rattle.flac_meta.specs.Valid.{FitsFields}
 use Rattle.flac_meta.specs.declared.block.Block.{Block}
 use Rattle.flac_meta.specs.declared.block.Block.TheVariants as block_of
 use Rattle.flac_frame.specs.Frame.{Frame, frame, header_rules, left_by, after as frame_after}
 use Rattle.flac_frame.specs.declared.before.Before.{Before}
 use Rattle.flac_frame.proofs.FrameTie.{frames_spelled, frames_bytes}
-use Rattle.flac_native.specs.Resuming.{untold, resumed, Resumes, FramesAreResumed}
+use Rattle.flac_native.specs.Resuming.{resumed, Resumes, FramesAreResumed}
 use Rattle.flac_native.specs.Stream.{Piece, marked, block, framed, Stand, Progress, grammar, opening, next, layout, layout_in, frame_behind, room_in, may_end_in, end_rules, info_after}
 use Rattle.flac_native.specs.declared.track.Phase.{Phase}
 use Rattle.flac_native.specs.declared.track.Phase.TheVariants.{Opening, Blocks, Frames}
@@ -63,7 +63,7 @@ same_first profile i new old h a k fixed =
     a.first (fixed_before h.variable old.variable _ k.1.1.0 fixed) (of_first h.variable i.greatest_block i.least_block old.first_size h.size old.size k.1.1.1.0 fixed)
 
 -- what keeps the rules behind more frames keeps them behind fewer
-rules_kept : (profile : Profile) (i : Info) (new old : Option Before) (h : Header) → AreAlike new old → AllKept (header_rules profile i old h) → AllKept (header_rules profile (untold i) new h)
+rules_kept : (profile : Profile) (i : Info) (new old : Option Before) (h : Header) → AreAlike new old → AllKept (header_rules profile i old h) → AllKept (header_rules profile (without_totals i) new h)
 rules_kept profile i None None h a k = k
 rules_kept profile i None (Some old) h a k = (k.0, (k.1.0, (refl, (at_most h.variable i.greatest_block i.least_block old.first_size h.size old.size k.1.1.1.0, tt))))
 rules_kept profile i (Some new) None h a k = absurd a
@@ -87,8 +87,8 @@ left_alike profile i (Some new) (Some old) h a k = record { variable = refl; num
 
 -- ---- a frame
 
-pub untold_rules : (i : Info) → KeepsRules i → KeepsRules (untold i)
-untold_rules i r = record {
+pub without_totals_rules : (i : Info) → KeepsRules i → KeepsRules (without_totals i)
+without_totals_rules i r = record {
   least_block = r.least_block;
   blocks = r.blocks;
   greatest_block = r.greatest_block;
@@ -104,7 +104,7 @@ untold_rules i r = record {
 }
 
 record Again (profile : Profile) (i : Info) (new old : Option Before) (k : Mark) (text : List Bool) (f : Frame) : Type 0 where
-  spelled : Spells (frame profile (untold i) new) (fresh k) text f
+  spelled : Spells (frame profile (without_totals i) new) (fresh k) text f
   alike : Alike (frame_after new f) (frame_after old f)
   whole : length text % 8 ≡ 0
 
@@ -115,7 +115,7 @@ frame_again profile i new old m k text f rules u z a h =
     let g = s.form.header in
     let left = left_alike profile i new old g a v.follows in
     record {
-      spelled = (frames_spelled profile (untold i) new (fresh k) text f (untold_rules i rules) (fresh_unread k z) (fresh_check8 k z) (fresh_check16 k z)).1 (record {
+      spelled = (frames_spelled profile (without_totals i) new (fresh k) text f (without_totals_rules i rules) (fresh_unread k z) (fresh_check8 k z) (fresh_check16 k z)).1 (record {
         form = s.form;
         valid = record { header = v.header; follows = rules_kept profile i new old g a v.follows; many = v.many; subframes = v.subframes };
         spelling = s.spelling;
@@ -171,7 +171,7 @@ record Onwards (i : Info) (new old : Progress) : Type 0 where
   phase : old.stand.phase ≡ Frames
   info : old.stand.info ≡ Some i
   phase_new : new.stand.phase ≡ Frames
-  info_new : new.stand.info ≡ Some (untold i)
+  info_new : new.stand.info ≡ Some (without_totals i)
   before : AreAlike new.stand.before old.stand.before
   judged : old.stand.profile ≡ new.stand.profile
 
@@ -186,7 +186,7 @@ same_info i j None e f = absurd cc
 same_info i j (Some k) e f = cc
 
 abbrev Runs : Progress → Mark → List Piece → List Bool → Type 0
-Runs new k items text = Joined grammar new k items text × ((after grammar new items).stand.phase ≡ Frames) × ((i : Info) × ((after grammar new items).stand.info ≡ Some (untold i)))
+Runs new k items text = Joined grammar new k items text × ((after grammar new items).stand.phase ≡ Frames) × ((i : Info) × ((after grammar new items).stand.info ≡ Some (without_totals i)))
 
 frames_again : (i : Info) (new old : Progress) (m k : Mark) (items : List Piece) (text : List Bool) → KeepsRules i → m.unread ≡ 0 → k.unread ≡ 0 → Onwards i new old → Joined grammar old m items text → Runs new k items text
 frames_again i new old m k [] text rules u z o j = (j, o.phase_new, (i, o.info_new))
@@ -198,8 +198,8 @@ frames_again i new old m k (x ∷ xs) text rules u z o (front, rest, split, spel
     let onwards : Onwards i (next new (framed f)) (next old (framed f)) = record { phase = o.phase; info = o.info; phase_new = o.phase_new; info_new = o.info_new; before = a.alike; judged = o.judged } in
     let more = frames_again i (next new (framed f)) (next old (framed f)) (past front (fresh m)) (past front (fresh k)) xs rest rules (behind_whole front (fresh m) (fresh_unread m u) a.whole) (behind_whole front (fresh k) (fresh_unread k z) a.whole) onwards
     (subst (λ y. Joined grammar (next old y) (past front (fresh m)) xs rest) t.part others) in
-    let spelled_new = subst (λ q. Spells (frame q (untold i) new.stand.before) (fresh k) front f) o.judged a.spelled in
-    let here = as_part new.stand (untold i) (fresh k) front f o.phase_new o.info_new spelled_new in
+    let spelled_new = subst (λ q. Spells (frame q (without_totals i) new.stand.before) (fresh k) front f) o.judged a.spelled in
+    let here = as_part new.stand (without_totals i) (fresh k) front f o.phase_new o.info_new spelled_new in
     let room = room_again new.stand.phase old.stand.phase (fresh m) (fresh k) front o.phase o.phase_new (fresh_unread m u) (fresh_unread k z) fits in
     let all : Runs new k (framed f ∷ xs) text = ((front, rest, split, here, room, more.0), more.1, more.2) in
     subst (λ y. Runs new k (y ∷ xs) text) (sym t.part) all
@@ -207,7 +207,7 @@ frames_again i new old m k (x ∷ xs) text rules u z o (front, rest, split, spel
 may_end : (p : Progress) (i : Info) → p.stand.phase ≡ Frames → p.stand.info ≡ Some i → may_end_in p.stand.phase p.stand.info ≡ true
 may_end p i e f = rw (e, f) refl
 
-pub ends_well : (info : Option Info) (i : Info) (samples : ℕ) (message : List ℕ) → info ≡ Some (untold i) → AllKept (end_rules info samples message)
+pub ends_well : (info : Option Info) (i : Info) (samples : ℕ) (message : List ℕ) → info ≡ Some (without_totals i) → AllKept (end_rules info samples message)
 unfolding end_rules
 ends_well info i samples message e = rw e (refl, (refl, tt))
 
@@ -293,7 +293,7 @@ resumed_at p m k [] more f text told u z j =
       only = λ head left e none. one_place p m [] head left [] text (sym e) none refl;
       info = i;
       told = t.told;
-      stream = record { spelled = r.0; ends = may_end q (untold r.2.0) r.1 r.2.1; kept = ends_well q.stand.info r.2.0 q.samples q.message r.2.1 };
+      stream = record { spelled = r.0; ends = may_end q (without_totals r.2.0) r.1 r.2.1; kept = ends_well q.stand.info r.2.0 q.samples q.message r.2.1 };
     }
 resumed_at p m k (x ∷ xs) more f text told u z (part, rest, split, spelled, fits, others) =
     let s = step_of p.stand m part x told u spelled in

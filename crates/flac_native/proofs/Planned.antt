@@ -1,5 +1,6 @@
 -- What holds of a plan.
 use Rattle.std.proofs.Common.{◌≡◌, ℕ, ◌^◌, ◌<◌, ◌≤◌, Bool, true, false, cond, ◌&&◌, ◌||◌, nat_eq, nat_lt, nat_le, length, Option, Some, None, is_none, List, refl, ap, subst, ◌∙◌, arith}
+use Rattle.std.specs.Option.{option_or}
 use Rattle.std.proofs.lemmas.Bool.Decides.{nat_tests}
 use Rattle.flac_meta.specs.Info.{KeepsRules}
 use Rattle.flac_header.specs.Header.{greatest_in}
@@ -11,9 +12,10 @@ use Rattle.flac_subframe.specs.Room.{Room}
 use Rattle.flac_subframe.specs.declared.linear.LinearPredictor.{LinearPredictor}
 use Rattle.flac_frame.specs.Encoding.{partition_limit, most_in}
 use Rattle.flac_frame.specs.Frame.{limits_at}
-use Rattle.flac_frame.specs.declared.setup.SetupFault.TheVariants.{BadRate, BadDepth, BadChannels, TooLong, BadBlockSize, TooManyPoints}
+use Rattle.flac_frame.specs.Setup.{format_fault}
+use Rattle.flac_frame.specs.declared.setup.SetupFault.TheVariants.{TooLong, BadBlockSize, TooManyPoints}
 use Rattle.flac_frame.specs.Audio.{Sound, samples_each}
-use Rattle.flac_native.specs.Given.{Cut, with_predictors, same_profile, fits_plan, room_of, blocks_in, points_before, predictors_fault, plan_fault, info_of}
+use Rattle.flac_native.specs.Given.{Cut, with_predictors, same_profile, fits_plan, room_of, blocks_in, points_before, predictors_fault, cutting_fault, plan_fault, info_of}
 use Rattle.flac_native.proofs.Predictors.{within, partition_is}
 
 -- ---- tests in a row
@@ -21,6 +23,10 @@ use Rattle.flac_native.proofs.Predictors.{within, partition_is}
 pub first_none : {A : Type 0} (b : Bool) (x : A) (rest : Option A) → cond b (Some x) rest ≡ None → (b ≡ false) × (rest ≡ None)
 first_none true x rest e = absurd cc
 first_none false x rest e = (refl, e)
+
+pub both_none : {A : Type 0} (o more : Option A) → option_or o more ≡ None → (o ≡ None) × (more ≡ None)
+both_none None more e = (refl, e)
+both_none (Some x) more e = absurd cc
 
 pub either_false : (a b : Bool) → (a || b) ≡ false → (a ≡ false) × (b ≡ false)
 either_false true b e = absurd cc
@@ -57,12 +63,13 @@ pub record Planned (p : Cut) : Type 0 where
   pub predictors : predictors_fault p.profile p.rate p.predictors ≡ None
 
 pub planned : (p : Cut) → plan_fault p ≡ None → Planned p
-unfolding plan_fault
+unfolding plan_fault cutting_fault format_fault
 planned p e =
-    let a = first_none _ _ _ e in
+    let both = both_none (format_fault p.profile p.rate p.bits p.channels) (cutting_fault p) e in
+    let a = first_none _ _ _ both.0 in
     let b = first_none _ _ _ a.1 in
     let c = first_none _ _ _ b.1 in
-    let d = first_none _ _ _ c.1 in
+    let d = first_none _ _ _ both.1 in
     let f = first_none _ _ _ d.1 in
     let g = first_none _ _ _ f.1 in
     let channels = either_false _ _ c.0 in
@@ -88,15 +95,15 @@ instead false x rest other f e = f e
 
 -- so it is with other predictors that can be tried
 pub still_planned : (p : Cut) (ps : List LinearPredictor) → plan_fault p ≡ None → predictors_fault p.profile p.rate ps ≡ None → plan_fault (with_predictors p ps) ≡ None
-unfolding plan_fault
+unfolding plan_fault cutting_fault
 still_planned p ps e new =
     let points = points_before p.block_size p.total p.seek_every (blocks_in p.block_size p.total) in
-    instead (is_none (rate_choice_in p.profile p.rate)) BadRate _ _
-    (instead (is_none (depth_choice_in p.profile p.bits)) BadDepth _ _
-    (instead (nat_eq p.channels 0 || nat_lt 8 p.channels) BadChannels _ _
-    (instead (nat_lt p.block_size 16 || nat_lt (greatest_in p.profile p.rate) p.block_size) BadBlockSize _ _
+    let both = both_none (format_fault p.profile p.rate p.bits p.channels) (cutting_fault p) e in
+    let cut =
+    instead (nat_lt p.block_size 16 || nat_lt (greatest_in p.profile p.rate) p.block_size) BadBlockSize _ _
     (instead (nat_le (2 ^ 36) p.total || nat_lt (2 ^ 31) (blocks_in p.block_size p.total)) TooLong _ _
-    (instead (nat_lt 932067 points) TooManyPoints (predictors_fault p.profile p.rate p.predictors) (predictors_fault p.profile p.rate ps) (λ old. new)))))) e
+    (instead (nat_lt 932067 points) TooManyPoints (predictors_fault p.profile p.rate p.predictors) (predictors_fault p.profile p.rate ps) (λ old. new))) both.1 in
+    rw both.0 cut
 
 -- these samples are those that the plan was made for
 pub record Fit (p : Cut) (a : Sound) : Type 0 where

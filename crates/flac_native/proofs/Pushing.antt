@@ -28,6 +28,7 @@ use Rattle.flac_bits.specs.declared.why.Why.{Why}
 use Rattle.flac_bits.specs.declared.target.Target as target
 use Rattle.flac_bits.proofs.Holding.{bits_of-append}
 use Rattle.flac_frame.specs.Audio.{Sound, IsSound, samples_each, as_long, each_small, channels_fault, audio_fault}
+use Rattle.flac_frame.specs.Setup.{format_fault}
 use Rattle.flac_frame.specs.declared.setup.SetupFault.{SetupFault}
 use Rattle.flac_frame.specs.declared.setup.SetupFault.TheVariants.{BadChannels, LengthsDiffer, SampleTooLarge, TooLong, BadBlockSize}
 use Rattle.flac_frame.specs.Encoding.{IsEncoding, IsLeastWith, IsShort, block_of as part_of}
@@ -47,7 +48,7 @@ use Rattle.flac_native.specs.declared.track.Phase.TheVariants.{Opening, Blocks, 
 use Rattle.flac_native.specs.Given.{closing}
 use Rattle.flac_native.specs.Whole.{head_parts}
 use Rattle.flac_native.specs.Writing.{blocks_spelling, head_spelling, SpellsFrame, SpellsLeast}
-use Rattle.flac_native.specs.Pushing.{Shape, shape_fault, open_info, Pushed, unpushed, behind_block, frames_in, due, StandsFor, sound_of, frame_with, block_fault, size_fault, push_fault, IsNext, Pushes, BeginsPush}
+use Rattle.flac_native.specs.Pushing.{Shape, shape_fault, open_info, Pushed, unpushed, behind_block, with_target, frames_in, due, StandsFor, sound_of, frame_with, block_fault, size_fault, push_fault, IsNext, Pushes, BeginsPush}
 use Rattle.flac_native.specs.declared.fault.EncodeFault.{EncodeFault}
 use Rattle.flac_native.specs.declared.fault.EncodeFault.TheVariants.{BlockSize, Spent, Write, Setup}
 use Rattle.flac_native.proofs.EachFrame.{same_three, follows_on, sized, full_before}
@@ -55,7 +56,7 @@ use Rattle.flac_native.proofs.Encoded.{Runs, one_more}
 use Rattle.flac_native.proofs.NewHead.{valid_after}
 use Rattle.flac_native.proofs.Onwards.{as_part, nothing_told, after_profile}
 use Rattle.flac_native.proofs.Ordered.{ends_whole}
-use Rattle.flac_native.proofs.Planned.{first_none, either_false, not_zero, not_less, rate_range, depth_range, greatest_small}
+use Rattle.flac_native.proofs.Planned.{first_none, both_none, either_false, not_zero, not_less, rate_range, depth_range, greatest_small}
 use Rattle.flac_native.proofs.Streams.{behind, info_run, marker_here}
 use Rattle.flac_native.proofs.Whole.{head_leaves}
 
@@ -75,12 +76,13 @@ pub record Shaped (s : Shape) : Type 0 where
   pub has_bits : is_none (depth_choice_in s.profile s.bits) ≡ false
 
 pub shaped : (s : Shape) → shape_fault s ≡ None → Shaped s
-unfolding shape_fault
+unfolding shape_fault format_fault
 shaped s e =
-    let a = first_none _ _ _ e in
+    let both = both_none (format_fault s.profile s.rate s.bits s.channels) _ e in
+    let a = first_none _ _ _ both.0 in
     let b = first_none _ _ _ a.1 in
     let c = first_none _ _ _ b.1 in
-    let d = first_none _ _ _ c.1 in
+    let d = first_none _ _ _ both.1 in
     let channels = either_false _ _ c.0 in
     let sizes = either_false _ _ d.0 in
     let greatest = not_less (greatest_in s.profile s.rate) s.block_size sizes.1 in
@@ -274,9 +276,9 @@ stands_on e t channels text fault many small going k items before h =
 
 -- ---- a block that is not refused
 
-both_none : (o : Option SetupFault) (more : Option EncodeFault) → option_or (option_map Setup o) more ≡ None → (o ≡ None) × (more ≡ None)
-both_none None more h = (refl, h)
-both_none (Some f) more h = absurd cc
+neither : (o : Option SetupFault) (more : Option EncodeFault) → option_or (option_map Setup o) more ≡ None → (o ≡ None) × (more ≡ None)
+neither None more h = (refl, h)
+neither (Some f) more h = absurd cc
 
 counts_fit : (n channels : ℕ) → not (nat_eq n channels) ≡ false → 1 ≤ channels → channels ≤ 8 → (n ≡ channels) × ((nat_eq n 0 || nat_lt 8 n) ≡ false)
 counts_fit n channels e some few = (grind (arith, nat_tests), grind (arith, nat_tests))
@@ -316,7 +318,7 @@ accepted e block shape h =
     let q = shaped e.shape shape in
     let n = samples_each block in
     let a = first_none e.spent _ _ h in
-    let b = both_none _ _ a.1 in
+    let b = neither _ _ a.1 in
     let c = first_none (not (nat_eq (length block) e.shape.channels)) _ _ b.0 in
     let d = first_none (not (as_long block)) _ _ c.1 in
     let f = first_none (not (each_small e.shape.bits block)) _ _ d.1 in
@@ -403,27 +405,55 @@ module _ {X : Type 0} (f : X → List ℤ) (xs : List X) (channels bits : ℕ) w
       let l : not (each_small bits (map f xs)) ≡ false = ap not (sym (small_of f xs bits d s) ∙ good) in
       rw (counted h, k, l) refl
 
--- ---- what was sent
+-- ---- the next frame
 
-module _ {S : Type 0} (g : target.Ghosts S) (old new : Pushed S) (block : List (List ℤ)) (bytes : List ℕ) (shape : shape_fault old.shape ≡ None) (accept : Accepted old block)
-    (frame_is : SpellsFrame (sound_of old.shape block) (frame_with old.number block) (bits_of bytes)) (least_is : SpellsLeast old.predictors (sound_of old.shape block) (frame_with old.number block) (bits_of bytes)) where
-  next_to : (to : Pushed S) → to ≡ behind_block old (samples_each block) to.target → IsNext old to block (bits_of bytes)
-  next_to to is = record {
-    spells = frame_is;
-    least = least_is;
-    stands = λ items before h. subst (λ (p : Pushed S). StandsFor p (items ++ framed (frame_with old.number block) ∷ []) (before ++ bits_of bytes)) (sym is)
-        (stands_on old to.target block (bits_of bytes) shape accept.many accept.most accept.going frame_is items before h);
+pub is_next : {S : Type 0} (old to : Pushed S) (block : List (List ℤ)) (text : List Bool) → shape_fault old.shape ≡ None → Accepted old block → SpellsFrame (sound_of old.shape block) (frame_with old.number block) text
+    → SpellsLeast old.predictors (sound_of old.shape block) (frame_with old.number block) text → to ≡ behind_block old (samples_each block) to.target → IsNext old to block text
+is_next old to block text shape accept frame_is least_is is = record {
+  spells = frame_is;
+  least = least_is;
+  stands = λ items before h. subst (λ (p : Pushed _). StandsFor p (items ++ framed (frame_with old.number block) ∷ []) (before ++ text)) (sym is)
+      (stands_on old to.target block text shape accept.many accept.most accept.going frame_is items before h);
+}
+
+-- ---- an encoder with a target, of one without
+
+module _ {R S : Type 0} (e : Pushed R) (t : S) where
+  pub same_fault : (block : List (List ℤ)) → push_fault (with_target e t) block ≡ push_fault e block
+  unfolding push_fault size_fault
+  same_fault block = refl
+
+  pub fault_seen : (now : Pushed S) (block : List (List ℤ)) → with_target e t ≡ now → push_fault e block ≡ push_fault now block
+  fault_seen now block is = sym (same_fault block) ∙ ap (λ (p : Pushed S). push_fault p block) is
+
+  pub stands_with : (items : List Piece) (text : List Bool) → StandsFor e items text → StandsFor (with_target e t) items text
+  stands_with items text h = record { stream = h.stream; info = h.info; frames = h.frames; samples = h.samples; before = h.before }
+
+  pub stands_without : (items : List Piece) (text : List Bool) → StandsFor (with_target e t) items text → StandsFor e items text
+  stands_without items text h = record { stream = h.stream; info = h.info; frames = h.frames; samples = h.samples; before = h.before }
+
+module _ {R S : Type 0} (g : target.Ghosts S) (old : Pushed R) (u : R) (s t : S) (block : List (List ℤ)) (bytes : List ℕ) (is : IsNext old (behind_block old (samples_each block) u) block (bits_of bytes)) where
+  next_with : IsNext (with_target old s) (behind_block (with_target old s) (samples_each block) t) block (bits_of bytes)
+  next_with = record {
+    spells = is.spells;
+    least = is.least;
+    stands = λ items before h. stands_with (behind_block old (samples_each block) u) t (items ++ framed (frame_with old.number block) ∷ []) (before ++ bits_of bytes) (is.stands items before (stands_without old s items before h));
   }
 
-  pub pushes : new ≡ behind_block old (samples_each block) new.target → g.sent new.target ≡ g.sent old.target ++ bytes → Pushes g block old new
-  pushes is sent = record { text = bits_of bytes; next = next_to new is; sent = ap bits_of sent ∙ bits_of-append (g.sent old.target) bytes }
+  pub pushes : (new : Pushed S) → new ≡ behind_block (with_target old s) (samples_each block) t → g.sent t ≡ g.sent s ++ bytes → Pushes g block (with_target old s) new
+  pushes new same sent = record {
+    text = bits_of bytes;
+    next = subst (λ (p : Pushed S). IsNext (with_target old s) p block (bits_of bytes)) (sym same) next_with;
+    sent = ap (λ (p : Pushed S). bits_of (g.sent p.target)) same ∙ ap bits_of sent ∙ bits_of-append (g.sent s) bytes;
+  }
 
-  pub begins_push : (front rest : List ℕ) → bytes ≡ front ++ rest → g.sent new.target ≡ g.sent old.target ++ front → BeginsPush g block old new
-  begins_push front rest cut sent = record {
+  pub begins_push : (new : Pushed S) (front rest : List ℕ) → new.target ≡ t → bytes ≡ front ++ rest → g.sent t ≡ g.sent s ++ front → BeginsPush g block (with_target old s) new
+  begins_push new front rest same cut sent = record {
     front = bits_of front;
     rest = bits_of rest;
-    next = subst (λ t. IsNext old (behind_block old (samples_each block) new.target) block t) (ap bits_of cut ∙ bits_of-append front rest) (next_to (behind_block old (samples_each block) new.target) refl);
-    sent = ap bits_of sent ∙ bits_of-append (g.sent old.target) front;
+    next = subst (λ x. IsNext (with_target old s) (behind_block (with_target old s) (samples_each block) x) block (bits_of front ++ bits_of rest)) (sym same)
+        (subst (λ x. IsNext (with_target old s) (behind_block (with_target old s) (samples_each block) t) block x) (ap bits_of cut ∙ bits_of-append front rest) next_with);
+    sent = ap (λ x. bits_of (g.sent x)) same ∙ ap bits_of sent ∙ bits_of-append (g.sent s) front;
   }
 
 -- ---- what is answered

@@ -9,7 +9,7 @@ use Rattle.flac_bits.specs.Items.{Joined, Stream, after}
 use Rattle.flac_bits.specs.declared.why.Why.TheVariants.{Truncated}
 use Rattle.flac_bits.proofs.ItemSpellings.{fresh_unread, behind_whole}
 use Rattle.flac_meta.specs.Header.{nothing_seen}
-use Rattle.flac_meta.specs.Info.{Info}
+use Rattle.flac_meta.specs.Info.{Info, without_totals}
 use Rattle.flac_meta.specs.declared.block.Seen.{Seen}
 use Rattle.flac_frame.specs.Audio.{Sound, samples_each}
 use Rattle.flac_frame.specs.Frame.{left_by}
@@ -22,12 +22,12 @@ use Rattle.flac_native.specs.Stream.{framed, Progress, grammar, raised, may_end_
 use Rattle.flac_native.specs.declared.track.Phase.TheVariants.{Frames}
 use Rattle.flac_native.specs.Given.{Cut, blocks_in, info_of, size_of, frame_of, frames_from}
 use Rattle.flac_native.specs.Writing.{SpellsFrame}
-use Rattle.flac_native.specs.Resuming.{untold, resumed, EncodedAreResumed}
+use Rattle.flac_native.specs.Resuming.{resumed, EncodedAreResumed}
 use Rattle.flac_native.proofs.Planned.{Planned, Fit, planned, fit, keeps_rules}
 use Rattle.flac_native.proofs.EachFrame.{Suits, Left, left_on, frame_here, at_frame, as_piece}
 use Rattle.flac_native.proofs.Encoded.{least_part}
 use Rattle.flac_native.proofs.Streams.{least_small}
-use Rattle.flac_native.proofs.Onwards.{untold_rules}
+use Rattle.flac_native.proofs.Onwards.{without_totals_rules}
 
 -- among the frames of this STREAMINFO
 pub record Among (i : Info) (s : Progress) : Type 0 where
@@ -61,7 +61,7 @@ may_end : (i : Info) (s : Progress) → Among i s → may_end_in s.stand.phase s
 may_end i s e = rw (e.phase, e.info) refl
 
 -- neither a number of samples nor a digest is judged
-ends_well : (i : Info) (s : Progress) → Among (untold i) s → AllKept (end_rules s.stand.info s.samples s.message)
+ends_well : (i : Info) (s : Progress) → Among (without_totals i) s → AllKept (end_rules s.stand.info s.samples s.message)
 unfolding end_rules
 ends_well i s e = rw e.info (refl, (refl, tt))
 
@@ -72,13 +72,13 @@ encoded_are_resumed p a least greatest frames number planned_is fits f s few =
     let small = least_small p a frames least greatest f s in
     let i = info_of p a least greatest in
     let b = p.block_size in
-    let suits : Suits p a (untold i) = record { least_block = refl; greatest_block = refl; rate = refl; channels = refl; depth = refl; rules = untold_rules i (keeps_rules p a least greatest q k small.0 small.1) } in
+    let suits : Suits p a (without_totals i) = record { least_block = refl; greatest_block = refl; rate = refl; channels = refl; depth = refl; rules = without_totals_rules i (keeps_rules p a least greatest q k small.0 small.1) } in
     let texts = drop number frames in
     let long : length texts ≡ length frames - number = length-drop number frames in
     let each : (j : ℕ) → j < length texts → SpellsFrame a (frame_of b a (number + j)) (slice_index_or texts j []) = λ j h.
     subst (λ t. SpellsFrame a (frame_of b a (number + j)) t) (sym (get_or-drop number frames j [])) (f.each (number + j) (omega (arith, h, long))) in
-    let r = frames_on p a (untold i) q k suits texts number 0 0 nothing_seen None [] (beginning Truncated) refl (omega (arith, long, few, f.many)) (λ more. inl refl) each in
+    let r = frames_on p a (without_totals i) q k suits texts number 0 0 nothing_seen None [] (beginning Truncated) refl (omega (arith, long, few, f.many)) (λ more. inl refl) each in
     let joins = subst (λ n. Joined grammar (resumed a.profile i) (beginning Truncated) (map framed (frames_from b a n number)) (joined texts)) long r.0 in
-    let among = subst (λ n. Among (untold i) (after grammar (resumed a.profile i) (map framed (frames_from b a n number)))) long r.1 in
+    let among = subst (λ n. Among (without_totals i) (after grammar (resumed a.profile i) (map framed (frames_from b a n number)))) long r.1 in
     subst (λ x. Stream grammar (resumed x i) (beginning Truncated) (map framed (frames_from b a (length frames - number) number)) (joined texts)) (sym k.profile)
-    (record { spelled = joins; ends = may_end (untold i) _ among; kept = ends_well i _ among })
+    (record { spelled = joins; ends = may_end (without_totals i) _ among; kept = ends_well i _ among })

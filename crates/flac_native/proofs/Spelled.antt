@@ -13,10 +13,10 @@ use Rattle.flac_frame.specs.Encoding.{block_of, IsEncoding, IsLeastWith, IsShort
 use Rattle.flac_frame.specs.Frame.{Frame}
 use Rattle.flac_subframe.specs.declared.linear.LinearPredictor.{LinearPredictor}
 use Rattle.flac_frame.specs.Spelling.{FrameForm, frame_spelling}
-use Rattle.flac_native.specs.Given.{Cut, size_of, frame_of}
+use Rattle.flac_native.specs.Given.{Cut, IsRange, size_of, frame_of}
 use Rattle.flac_native.specs.Seeking.{points_from, points_of, point_at}
 use Rattle.flac_native.specs.Writing.{SpellsLeast, AreFrames, AreLeastFrames, AreSizes, IsSpelled}
-use Rattle.flac_native.specs.inner.Writing.{SendsBits, IsRange, WritesChosen}
+use Rattle.flac_native.specs.inner.Writing.{SendsBits, WritesChosen}
 use Rattle.flac_native.proofs.Gathered.{nth}
 
 -- ---- least frames of a block are as long

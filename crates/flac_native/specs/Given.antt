@@ -1,13 +1,13 @@
 -- What is encoded: STREAMINFO, blocks, and samples that are cut into frames.
-use Rattle.std.specs.Prelude.{ℕ, zero, suc, ◌+◌, ◌-◌, ◌*◌, ◌/◌, ◌^◌, min, Bool, true, false, not, cond, ◌&&◌, ◌||◌, nat_eq, nat_lt, nat_le, List, [], ◌∷◌, ◌++◌, length, map, Option, Some, None, is_none, Vec}
+use Rattle.std.specs.Prelude.{◌≡◌, ◌<◌, ◌≤◌, ℕ, zero, suc, ◌+◌, ◌-◌, ◌*◌, ◌/◌, ◌^◌, min, Bool, true, false, not, cond, ◌&&◌, ◌||◌, nat_eq, nat_lt, nat_le, List, [], ◌∷◌, ◌++◌, length, map, Option, Some, None, Vec}
 use Rattle.std.specs.Global.{Global}
 use Rattle.std.specs.List.{list_all}
+use Rattle.std.specs.Option.{option_or}
 use Rattle.flac_bits.specs.Bits.{is_nil, bit_value}
 use Rattle.flac_meta.specs.Info.{Info}
 use Rattle.flac_meta.specs.declared.block.Block.{Block}
 use Rattle.flac_meta.specs.declared.block.Block.TheVariants as blocks
 use Rattle.flac_header.specs.Header.{greatest_in}
-use Rattle.flac_header.specs.Choice.{rate_choice_in, depth_choice_in}
 use Rattle.flac_header.specs.declared.subset.Profile.{Profile}
 use Rattle.flac_header.specs.declared.subset.Profile.TheVariants.{Subset, Lax}
 use Rattle.flac_subframe.specs.Room.{Room}
@@ -15,8 +15,9 @@ use Rattle.flac_subframe.specs.declared.linear.LinearPredictor.{LinearPredictor}
 use Rattle.flac_frame.specs.Frame.{Frame, limits_at}
 use Rattle.flac_frame.specs.Audio.{Sound, samples_each}
 use Rattle.flac_frame.specs.Encoding.{block_of, most_in}
+use Rattle.flac_frame.specs.Setup.{format_fault}
 use Rattle.flac_frame.specs.declared.setup.SetupFault.{SetupFault}
-use Rattle.flac_frame.specs.declared.setup.SetupFault.TheVariants.{BadRate, BadDepth, BadChannels, TooLong, BadBlockSize, TooManyPoints, PredictorOrder, TooManyPredictors}
+use Rattle.flac_frame.specs.declared.setup.SetupFault.TheVariants.{TooLong, BadBlockSize, TooManyPoints, PredictorOrder, TooManyPredictors}
 use Rattle.flac_native.specs.Message.{sample_width, rows_bytes}
 use Rattle.flac_native.specs.Stream.{Piece, marked, block, framed}
 use Rattle.md5.specs.Md5.{md5}
@@ -83,6 +84,15 @@ blocks_in block_size total = (total + (block_size - 1)) / block_size
 abbrev pub size_of : (block_size total number : ℕ) → ℕ
 size_of block_size total number = min block_size (total - block_size * number)
 
+-- Where the samples of the block of a number are in each channel: they begin at `from` and end before `to`.
+pub record IsRange (p : Cut) (a : Sound) (number from to : ℕ) : Type 0 where
+  pub start : from ≡ p.block_size * number
+  pub size : to - from ≡ size_of p.block_size (samples_each a.channels) number
+  pub some : from < to
+  pub within : to ≤ samples_each a.channels
+  pub room : to - from ≤ p.block_size
+  pub few : number < 2 ^ 31
+
 -- The frame of a number has a seek point: it holds a multiple of so many samples, since the first multiple at or behind its first sample is below its end.
 unfoldable pub has_point : (block_size total every number : ℕ) → Bool
 has_point block_size total every number =
@@ -103,19 +113,20 @@ unfoldable pub predictors_fault : Profile → (rate : ℕ) → List LinearPredic
 predictors_fault profile rate ps =
     cond (nat_lt 64 (length ps)) (Some TooManyPredictors) (cond (not (orders_fit (limits_at profile rate).linear ps)) (Some PredictorOrder) None)
 
--- Why samples of a format cannot be cut into blocks, if so. No frame header of the profile, or no STREAMINFO, tells the format, which is so of no samples that can
--- be encoded (RFC 9639, sections 7, 8.2 and 9.1); a block has 16 samples or more (section 8.2), and no more than the profile allows at the rate; a frame number
--- has 31 bits (section 9.1.5), and the number of samples 36; the points of a seek table, each of 18 bytes, stand in one block (sections 8.1 and 8.5); or the
--- predictors cannot be tried.
-unfoldable pub plan_fault : Cut → Option SetupFault
-plan_fault p =
-    cond (is_none (rate_choice_in p.profile p.rate)) (Some BadRate)
-    (cond (is_none (depth_choice_in p.profile p.bits)) (Some BadDepth)
-    (cond (nat_eq p.channels 0 || nat_lt 8 p.channels) (Some BadChannels)
-    (cond (nat_lt p.block_size 16 || nat_lt (greatest_in p.profile p.rate) p.block_size) (Some BadBlockSize)
+-- Why samples whose format can be encoded cannot be cut into blocks, if so. A block has 16 samples or more (RFC 9639, section 8.2), and no more than the profile
+-- allows at the rate (section 7); a frame number has 31 bits (section 9.1.5), and the number of samples 36 (section 8.2); the points of a seek table, each of 18
+-- bytes, stand in one block (sections 8.1 and 8.5); or the predictors cannot be tried.
+unfoldable pub cutting_fault : Cut → Option SetupFault
+cutting_fault p =
+    cond (nat_lt p.block_size 16 || nat_lt (greatest_in p.profile p.rate) p.block_size) (Some BadBlockSize)
     (cond (nat_le (2 ^ 36) p.total || nat_lt (2 ^ 31) (blocks_in p.block_size p.total)) (Some TooLong)
     (cond (nat_lt 932067 (points_before p.block_size p.total p.seek_every (blocks_in p.block_size p.total))) (Some TooManyPoints)
-    (predictors_fault p.profile p.rate p.predictors))))))
+    (predictors_fault p.profile p.rate p.predictors)))
+
+-- Why samples of a format cannot be cut into blocks, if so: no frame header of the profile, or no STREAMINFO, tells the format, which is so of no samples that can
+-- be encoded (sections 7, 8.2 and 9.1), or else the reason above.
+unfoldable pub plan_fault : Cut → Option SetupFault
+plan_fault p = option_or (format_fault p.profile p.rate p.bits p.channels) (cutting_fault p)
 
 -- ---- what is written
 

@@ -1,12 +1,12 @@
 -- What a decoder has still to give, and that each call gives the first of it.
-use Rattle.std.specs.Prelude.{◌≡◌, ◌≢◌, ◌≤◌, ◌<◌, ◌⊎◌, true, List, [], ◌∷◌, Option, Some, None, Result, Ok, Err, IfOk, IfErr, IfSome}
+use Rattle.std.specs.Prelude.{◌≡◌, ◌≢◌, ◌≤◌, ◌<◌, ◌⊎◌, true, List, [], ◌∷◌, ◌++◌, Option, Some, None, Result, Ok, Err, IfOk, IfErr, IfSome}
 use Rattle.flac_bits.specs.State.{Rises, without_fence}
 use Rattle.flac_bits.specs.Items.{after}
 use Rattle.flac_bits.specs.Handing.{TakesAll, reason_of, IsOutside}
 use Rattle.flac_bits.specs.declared.why.Why.{Why}
 use Rattle.flac_bits.specs.declared.why.Why.TheVariants.{Memory, Read, Sink, Spent}
 use Rattle.flac_frame.specs.Lent.{frame_of}
-use Rattle.flac_native.specs.Stream.{Piece, marked, block, framed, Progress, grammar, next}
+use Rattle.flac_native.specs.Stream.{Piece, marked, block, framed, Progress, grammar}
 use Rattle.flac_native.specs.Track.{IsAt, piece_of, stand_of}
 use Rattle.flac_native.specs.Item.{Item, metadata, frame, told}
 use Rattle.flac_native.specs.Coming.{Coming}
@@ -52,6 +52,16 @@ Gave g old parts new = TakesAll (λ c _ d. g.gave c d) old parts new
 abbrev pub BreaksBehind : {C : Type 0} → container.Ghosts C → Progress → C → C → List Piece → Place → Why → Type 0
 BreaksBehind {C} g p old new parts at why = g.breaks new (after grammar p parts) at why × ((there : C) × Gave g old parts there × g.broke there new why)
 
+-- Behind this progress a container gave these parts. Where its bytes are known they are the first of what was still to come, and the others still are.
+pub record PassesParts {C : Type 0} (g : container.Ghosts C) (p : Progress) (old : C) (parts : List Piece) (new : C) : Type 0 where
+  pub gave : Gave g old parts new
+  pub known : g.known old ≡ true → g.known new ≡ true
+  pub first : g.known old ≡ true → (all : List Piece) (end : Option (Place × Why)) → g.gives old p all end → (left : List Piece) × (all ≡ parts ++ left) × g.gives new (after grammar p parts) left end
+
+-- a container whose bytes are known has these parts first
+abbrev pub HasFirst : {C : Type 0} → container.Ghosts C → Progress → C → List Piece → Type 0
+HasFirst g p c parts = g.known c ≡ true → (all : List Piece) (end : Option (Place × Why)) → g.gives c p all end → (left : List Piece) × (all ≡ parts ++ left)
+
 -- ---- what a call answers
 
 -- nothing is left but the end
@@ -86,10 +96,25 @@ pub record CountsIn {C X : Type 0} (g : container.Ghosts C) (track : Track) (old
   pub behind : g.known old ≡ true → g.errors new ≡ g.errors old → g.behind new ≡ without_fence (g.behind old)
   pub names : g.names new ≡ g.names old
 
--- A call that gives the item behind this progress reports an error of the device, and that memory ran out, where a call does that reads the next part, and
--- where that is the marker, where one does that reads the first block too.
-abbrev pub BreaksAt : (Progress → Place → Why → Type 0) → Progress → Fault → Type 0
-BreaksAt breaks p f = breaks p f.at f.why ⊎ ((p.stand.phase ≡ Opening) × breaks (next p marked) f.at f.why)
+-- what a call reads before the part of its item: nothing, or where the stream begins the marker
+abbrev pub IsBeforeItem : Progress → List Piece → Type 0
+IsBeforeItem p parts = (parts ≡ []) ⊎ ((p.stand.phase ≡ Opening) × (parts ≡ marked ∷ []))
+
+-- A call that gave this item read its part, and the marker before it where the stream begins.
+pub record PassesItem {C : Type 0} (g : container.Ghosts C) (p : Progress) (old new : C) (track : Track) (item : Item) : Type 0 where
+  pub front : List Piece
+  pub before : IsBeforeItem p front
+  pub part : Piece
+  pub shown : handed part ≡ Some item
+  pub passes : PassesParts g p old (front ++ part ∷ []) new
+  pub at : IsAt track (after grammar p (front ++ part ∷ []))
+
+-- A call that was broken off, by an error of the device or for want of memory, read the marker at most: the place is that of the part behind.
+pub record BreaksOff {C : Type 0} (g : container.Ghosts C) (p : Progress) (old new : C) (f : Fault) : Type 0 where
+  pub front : List Piece
+  pub before : IsBeforeItem p front
+  pub first : HasFirst g p old front
+  pub behind : BreaksBehind g p old new front f.at f.why
 
 -- the item that stands in a track behind a call that read this part
 abbrev pub found : Track → Option Part → Option Item
@@ -122,7 +147,9 @@ held (course.Spent at) t = None
 pub record Goes {C X : Type 0} (g : container.Ghosts C) (old new : Stage C) (view : X → Option Item) (result : Result X Fault) : Type 0 where
   pub gives : (p : Progress) → IsAt old.track p → GivesFirst g p old.container new.container new.track view result
   pub counts : CountsIn g old.track old.container new.container result
-  pub broken : (p : Progress) → IsAt old.track p → IfErr result (λ f. IsOutside f.why → BreaksAt (g.breaks new.container) p f)
+  -- which parts it read
+  pub passes : (p : Progress) → IsAt old.track p → IfOk result (λ x. IfSome (view x) (λ item. PassesItem g p old.container new.container new.track item))
+  pub broken : (p : Progress) → IsAt old.track p → IfErr result (λ f. IsOutside f.why → BreaksOff g p old.container new.container f)
   -- no growth is refused behind the last block
   pub memory : (stand_of old.track).phase ≡ Frames → IfErr result (λ f. f.why ≢ Memory)
   pub going : IfOk result (λ x. IfSome (view x) (λ _. (part : Part) × (new.course ≡ course.Read part)))

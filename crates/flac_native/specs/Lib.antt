@@ -1,5 +1,6 @@
 pub mod Within
 pub mod Message
+pub mod Samples
 pub mod Stream
 pub mod Track
 pub mod Item
@@ -7,6 +8,7 @@ pub mod Decoding
 pub mod Ends
 pub mod Coming
 pub mod Giving
+pub mod Calls
 pub mod Given
 pub mod Seeking
 pub mod Writing

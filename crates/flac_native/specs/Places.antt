@@ -5,13 +5,21 @@ use Rattle.flac_native.specs.declared.fault.Place.{Place}
 use Rattle.flac_native.specs.declared.fault.Place.TheVariants as place
 use Rattle.flac_native.specs.declared.fault.Fault.{Fault}
 
--- what is at the place, and its index in decimal digits, if it has one
+-- the word for what is at the place
+abbrev pub kind_name : Place → List ℕ
+kind_name place.Marker = codes "marker"
+kind_name (place.Block index) = codes "block"
+kind_name (place.Frame index) = codes "frame"
+kind_name (place.Page index) = codes "page"
+kind_name place.End = codes "end"
+
+-- this word, and the index in decimal digits, if the place has one
 abbrev pub place_text : Place → List ℕ
-place_text place.Marker = codes "marker"
-place_text (place.Block index) = codes "block " ++ decimal index
-place_text (place.Frame index) = codes "frame " ++ decimal index
-place_text (place.Page index) = codes "page " ++ decimal index
-place_text place.End = codes "end"
+place_text place.Marker = kind_name place.Marker
+place_text (place.Block index) = kind_name (place.Block index) ++ (codes " " ++ decimal index)
+place_text (place.Frame index) = kind_name (place.Frame index) ++ (codes " " ++ decimal index)
+place_text (place.Page index) = kind_name (place.Page index) ++ (codes " " ++ decimal index)
+place_text place.End = kind_name place.End
 
 -- the place, and the number and the name of the reason
 abbrev pub fault_text : Fault → List ℕ

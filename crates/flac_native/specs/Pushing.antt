@@ -1,5 +1,5 @@
 -- An encoder that samples are pushed to, a block at a time, and the stream that it has written.
-use Rattle.std.specs.Prelude.{◌≡◌, ◌⊎◌, ℕ, suc, ◌+◌, ◌^◌, ℤ, Bool, true, false, not, cond, ◌||◌, nat_eq, nat_lt, nat_le, List, [], ◌∷◌, ◌++◌, length, replicate, Option, Some, None, is_none, option_map}
+use Rattle.std.specs.Prelude.{◌≡◌, ◌⊎◌, ℕ, suc, ◌+◌, ◌^◌, ℤ, Bool, true, false, not, cond, ◌||◌, nat_eq, nat_lt, nat_le, List, [], ◌∷◌, ◌++◌, length, replicate, Option, Some, None, option_map}
 use Rattle.std.specs.Option.{option_or}
 use Rattle.flac_bits.specs.Bits.{bits_of}
 use Rattle.flac_bits.specs.Items.{Stream, after}
@@ -8,19 +8,19 @@ use Rattle.flac_bits.specs.declared.why.Why.TheVariants.{Truncated}
 use Rattle.flac_header.specs.declared.subset.Profile.{Profile}
 use Rattle.flac_meta.specs.Info.{Info}
 use Rattle.flac_header.specs.Header.{greatest_in}
-use Rattle.flac_header.specs.Choice.{rate_choice_in, depth_choice_in}
 use Rattle.flac_subframe.specs.declared.linear.LinearPredictor.{LinearPredictor}
 use Rattle.flac_frame.specs.Audio.{Sound, samples_each, as_long, each_small}
 use Rattle.flac_frame.specs.Frame.{Frame}
 use Rattle.flac_frame.specs.declared.before.Before.{Before}
+use Rattle.flac_frame.specs.Setup.{format_fault}
 use Rattle.flac_frame.specs.declared.setup.SetupFault.{SetupFault}
-use Rattle.flac_frame.specs.declared.setup.SetupFault.TheVariants.{BadRate, BadDepth, BadChannels, LengthsDiffer, SampleTooLarge, TooLong, BadBlockSize}
+use Rattle.flac_frame.specs.declared.setup.SetupFault.TheVariants.{BadChannels, LengthsDiffer, SampleTooLarge, TooLong, BadBlockSize}
 use Rattle.flac_native.specs.Decoding.{beginning}
 use Rattle.flac_native.specs.Stream.{Piece, framed, grammar, opening}
 use Rattle.flac_native.specs.Stream as stream
 use Rattle.flac_native.specs.Writing.{SpellsFrame, SpellsLeast}
 use Rattle.flac_native.specs.declared.fault.EncodeFault.{EncodeFault}
-use Rattle.flac_native.specs.declared.stream_encoder.StreamFormat.{StreamFormat}
+use Rattle.flac_native.specs.declared.stream_format.StreamFormat.{StreamFormat}
 use Rattle.flac_native.specs.declared.fault.EncodeFault.TheVariants.{Memory, BlockSize, Spent, Write, Setup}
 
 -- ---- the format
@@ -33,14 +33,12 @@ pub record Shape : Type 0 where
   pub channels : ℕ
   pub block_size : ℕ
 
--- Why nothing of a format can be encoded, if so: a frame header of the profile has no code for the rate or for the depth (RFC 9639, sections 7, 9.1.2 and
--- 9.1.4); there are 1 to 8 channels (section 9.1.3); a block has 16 samples or more (section 8.2), and no more than the profile allows at the rate.
+-- Why nothing of a format can be encoded, if so: no samples of the rate, the depth and the channels can; or a block has fewer than 16 samples (RFC 9639, section
+-- 8.2), or more than the profile allows at the rate (section 7).
 unfoldable pub shape_fault : Shape → Option SetupFault
 shape_fault s =
-    cond (is_none (rate_choice_in s.profile s.rate)) (Some BadRate)
-    (cond (is_none (depth_choice_in s.profile s.bits)) (Some BadDepth)
-    (cond (nat_eq s.channels 0 || nat_lt 8 s.channels) (Some BadChannels)
-    (cond (nat_lt s.block_size 16 || nat_lt (greatest_in s.profile s.rate) s.block_size) (Some BadBlockSize) None)))
+    option_or (format_fault s.profile s.rate s.bits s.channels)
+    (cond (nat_lt s.block_size 16 || nat_lt (greatest_in s.profile s.rate) s.block_size) (Some BadBlockSize) None)
 
 abbrev pub shape_of : StreamFormat → Shape
 shape_of f = record { profile = f.profile; rate = f.rate; bits = f.bits; channels = f.channels; block_size = f.block_size }
@@ -88,6 +86,10 @@ spent_with e t = record { shape = e.shape; predictors = e.predictors; number = e
 -- these predictors are tried from now on
 abbrev pub trying : {S : Type 0} → Pushed S → List LinearPredictor → Pushed S
 trying e ps = record { shape = e.shape; predictors = ps; number = e.number; samples = e.samples; ended = e.ended; spent = e.spent; target = e.target }
+
+-- the same encoder with this target
+abbrev pub with_target : {R S : Type 0} → Pushed R → S → Pushed S
+with_target e t = record { shape = e.shape; predictors = e.predictors; number = e.number; samples = e.samples; ended = e.ended; spent = e.spent; target = t }
 
 -- Why a block does not have the format, if so: one list of samples for each channel, all of one length, and each sample a number of so many bits.
 unfoldable pub block_fault : (channels bits : ℕ) → List (List ℤ) → Option SetupFault

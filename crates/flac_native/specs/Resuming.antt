@@ -1,12 +1,12 @@
 -- Where a stream is read from one of its frames on.
-use Rattle.std.specs.Prelude.{◌≡◌, ℕ, ◌-◌, ◌≤◌, Bool, true, List, [], ◌∷◌, ◌++◌, length, map, drop, replicate, Some, None}
+use Rattle.std.specs.Prelude.{◌≡◌, ℕ, ◌-◌, ◌≤◌, Bool, true, List, [], ◌∷◌, ◌++◌, length, map, drop, Some, None}
 use Rattle.flac_bits.specs.State.{Mark}
 use Rattle.flac_bits.specs.Forms.{joined}
 use Rattle.flac_bits.specs.Items.{Joined, Stream, after}
 use Rattle.flac_bits.specs.declared.why.Why.TheVariants.{Truncated}
 use Rattle.flac_header.specs.declared.subset.Profile.{Profile}
 use Rattle.flac_meta.specs.Header.{nothing_seen}
-use Rattle.flac_meta.specs.Info.{Info}
+use Rattle.flac_meta.specs.Info.{Info, without_totals}
 use Rattle.flac_frame.specs.Audio.{Sound}
 use Rattle.flac_frame.specs.Frame.{Frame}
 use Rattle.flac_native.specs.Decoding.{beginning}
@@ -15,17 +15,13 @@ use Rattle.flac_native.specs.Given.{Cut, fits_plan, plan_fault, info_of, frames_
 use Rattle.flac_native.specs.Writing.{AreFrames, AreSizes}
 use Rattle.flac_native.specs.declared.track.Phase.TheVariants.{Frames}
 
--- STREAMINFO that states neither the number of samples nor their digest, and else the same (RFC 9639, section 8.2)
-abbrev pub untold : Info → Info
-untold i = record i { total = 0; digest = replicate 16 0 }
-
 -- Behind blocks of which STREAMINFO says this a frame comes next, whose number may be any. Frames and samples are counted from there.
 abbrev pub at_frames : Profile → Info → Progress
 at_frames profile i = record { stand = record { profile = profile; phase = Frames; index = 0; seen = nothing_seen; info = Some i; before = None }; samples = 0; message = [] }
 
--- so it is where decoding goes on at a frame
+-- So it is where decoding goes on at a frame, with a STREAMINFO that states neither the number of samples nor their digest.
 abbrev pub resumed : Profile → Info → Progress
-resumed profile i = at_frames profile (untold i)
+resumed profile i = at_frames profile (without_totals i)
 
 -- So what stands in an encoded stream from one of its frames on is, read so, just the frames from there on.
 abbrev pub EncodedAreResumed : Type 0

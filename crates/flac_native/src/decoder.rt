@@ -9,7 +9,7 @@ ghost use Rattle.flac_bits.specs.State.{short_of};
 ghost use Rattle.flac_bits.specs.Fencing.{lifted};
 ghost use Rattle.flac_native.specs.Stream.{opening};
 ghost use Rattle.flac_native.specs.Decoding.{beginning};
-ghost use Rattle.flac_native.specs.Resuming.{untold, resumed};
+ghost use Rattle.flac_native.specs.Resuming.{resumed};
 
 use crate::container::{Container, Part};
 use crate::fault::{Fault, Place};
@@ -240,27 +240,6 @@ impl<R: Source> Decoder<BitReader<R>> {
     }
 }
 
-/// The same STREAMINFO without the number of samples and the digest (RFC 9639, section 8.2).
-fn untold(info: &StreamInfo) -> StreamInfo
-    ensures { result ≡ untold info.now }
-{
-    let untold = StreamInfo::new(
-        info.least_block(),
-        info.greatest_block(),
-        info.least_frame(),
-        info.greatest_frame(),
-        info.rate(),
-        info.channels(),
-        info.depth(),
-        0,
-        [0; 16],
-    );
-    match untold {
-        Ok(info) => info,
-        Err(_) => unreachable!(),
-    }
-}
-
 impl<R: Source + Drop> Decoder<BitReader<R>> {
     /// Makes a decoder that begins at the first byte of a frame, in a stream with this STREAMINFO. The offset of a seek
     /// point says where such a byte is (RFC 9639, section 8.5). It allocates for one frame.
@@ -287,7 +266,7 @@ impl<R: Source + Drop> Decoder<BitReader<R>> {
         ensures cursor { IfOk result (λ d. (lifted d.container).cursor ≡ record { left = bits_of (R.coming source); mark = beginning (short_of ((R.behind source).fails)) }) }
         ensures memory { IfErr result (λ f. f ≡ record { at = Place.Marker; why = Why.Memory }) }
     {
-        match Track::resumed(alloc, profile, untold(info)) {
+        match Track::resumed(alloc, profile, info.without_totals()) {
             Ok(track) => Ok(Decoder::over(BitReader::new(source), track)),
             Err(why) => Err(Fault {
                 at: Place::Marker,

@@ -2,10 +2,9 @@
 
 ghost use Rattle.std.specs.Prelude.{◌≡◌, ◌≤◌, ◌<◌, ◌+◌, ◌*◌, ◌++◌, length, take, List, [], ℕ, ℤ, slice_index_or, pos, ◌∷◌, map, drop};
 ghost use Rattle.flac_native.specs.Message.{sample_bytes, row_bytes, rows_bytes, sample_width};
-ghost use Rattle.md5.specs.Md5.{Holds, md5};
+ghost use Rattle.md5.specs.Md5.{Holds};
 ghost use Rattle.flac_frame.specs.Lent.{frame_of};
 ghost use Rattle.flac_frame.specs.Audio.{samples_each};
-ghost use Rattle.flac_native.specs.Given.{sound_message};
 
 use flac_frame::{Audio, FrameView};
 use md5::{Digest, Md5};
@@ -299,15 +298,6 @@ impl<'a> Channels for Pair<'a> {
     }
 }
 
-/// The `size` samples of a channel from index `start` on.
-fn part_of(channel: &[i32], start: usize, size: usize) -> &[i32]
-    requires { start + size ≤ length channel.now }
-    ensures part { result.now ≡ take size (drop start channel.now) }
-    ensures long { length result.now ≡ size }
-{
-    &channel[start..start + size]
-}
-
 /// How many whole bytes a sample of `bits` bits takes, as raw samples and the MD5 digest have it (RFC 9639, section
 /// 8.2).
 ///
@@ -329,21 +319,11 @@ pub(crate) fn feed_block(hasher: &mut Md5, audio: &Audio, start: usize, size: us
     let width = sample_width(audio.bits());
     let channels = audio.channels();
     if channels.len() == 2 {
-        let left = part_of(&channels[0], start, size);
-        let right = part_of(&channels[1], start, size);
+        let left = audio.part(0, start, size);
+        let right = audio.part(1, start, size);
         let pair = Pair { left, right };
         feed_rows(hasher, &pair, 2, 0, size, width);
         return;
     }
     feed_rows(hasher, audio, channels.len(), start, size, width);
-}
-
-/// The digest of all samples, which STREAMINFO states (RFC 9639, section 8.2).
-#[tactic(auto, unfolding(crate::specs::Given::sound_message))]
-pub(crate) fn digest_of(audio: &Audio) -> [u8; 16]
-    ensures { result ≡ md5 (sound_message audio.now) }
-{
-    let mut hasher = Md5::new();
-    feed_block(&mut hasher, audio, 0, audio.len());
-    hasher.finalize()
 }

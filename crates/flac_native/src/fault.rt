@@ -1,7 +1,7 @@
 //! Where and why a stream is refused, and why encoding failed.
 
 ghost use Rattle.std.specs.Prelude.{Some, ◌≡◌};
-ghost use Rattle.flac_native.specs.Places.{place_text, fault_text};
+ghost use Rattle.flac_native.specs.Places.{kind_name, place_text, fault_text};
 ghost use Rattle.flac_native.specs.Numbers.{fault_number, text_of};
 
 use flac_bits::Why;
@@ -27,16 +27,32 @@ pub enum Place {
     End,
 }
 
+impl Place {
+    /// The word for what is at the place, by which it prints: `marker`, `block`, `frame`, `page` or `end`.
+    pub fn kind_name(self) -> &'static str
+        ensures { result.now ≡ kind_name self }
+    {
+        match self {
+            Place::Marker => "marker",
+            Place::Block(_) => "block",
+            Place::Frame(_) => "frame",
+            Place::Page(_) => "page",
+            Place::End => "end",
+        }
+    }
+}
+
 impl fmt::Display for Place {
     ghost output = { λ place. Some (place_text place) };
 
     fn fmt<W: fmt::Write>(&self, f: &mut fmt::Formatter<W>) -> fmt::Result {
+        let kind = self.kind_name();
         match *self {
-            Place::Marker => f.write_str("marker"),
-            Place::Block(index) => write!(f, "block {index}"),
-            Place::Frame(index) => write!(f, "frame {index}"),
-            Place::Page(index) => write!(f, "page {index}"),
-            Place::End => f.write_str("end"),
+            Place::Block(index) => write!(f, "{kind} {index}"),
+            Place::Frame(index) => write!(f, "{kind} {index}"),
+            Place::Page(index) => write!(f, "{kind} {index}"),
+            Place::Marker => f.write_str(kind),
+            Place::End => f.write_str(kind),
         }
     }
 }
@@ -79,7 +95,8 @@ pub enum EncodeFault {
     /// Not possible in an Ogg stream: the first block after STREAMINFO is no Vorbis comment, or a seek table is asked
     /// for (section 10.1).
     BadMapping,
-    /// The target returned an error in an earlier call, and nothing more is encoded.
+    /// The target returned an error in an earlier call, or [`crate::BlockEncoder::failed`] was called; nothing more is
+    /// encoded.
     Spent,
     /// The target returned an error in this call.
     Write,

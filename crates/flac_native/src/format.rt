@@ -1,7 +1,7 @@
 //! STREAMINFO, and the buffers for its frames.
 
-ghost use Rattle.std.specs.Prelude.{◌≡◌, ◌≢◌, ◌≤◌, ◌+◌, OnOk, OnErr, IfOk, IfErr, Some, None, min};
-ghost use Rattle.flac_bits.specs.Reading.{Counts, Reads};
+ghost use Rattle.std.specs.Prelude.{◌≡◌, ◌≤◌, OnOk, OnErr, IfOk, IfErr, Some, None, min};
+ghost use Rattle.flac_bits.specs.Reading.{Reads, CallInPlace};
 ghost use Rattle.flac_bits.specs.State.{started};
 ghost use Rattle.flac_frame.specs.Frame.{frame, after};
 ghost use Rattle.flac_frame.specs.Kept.{nothing};
@@ -28,10 +28,7 @@ fn fill_here<R: Source>(
     ensures room { (buffers.new.channels ≡ buffers.old.channels) × (buffers.new.max_block ≡ buffers.old.max_block) }
     ensures before { OnOk result (buffers.new.before ≡ Some (after buffers.old.before buffers.new.held)) }
     ensures refused { OnErr result ((buffers.new.before ≡ buffers.old.before) × (buffers.new.held ≡ nothing)) }
-    ensures spends { OnOk result (bits.new.most + 40 ≤ bits.old.most) }
-    ensures counts { Counts bits.old bits.new result }
-    ensures memory { IfErr result (λ e. e ≢ Why.Memory) }
-    ensures reads { Reads (λ _. buffers.new.held) (frame profile info.now buffers.old.before) (started bits.old) bits.new result }
+    ensures reading { CallInPlace 40 (λ old. Reads (λ _. buffers.new.held) (frame profile info.now buffers.old.before) (started old)) bits.old bits.new result }
 {
     buffers.fill(bits, info, profile)
 }
@@ -67,10 +64,7 @@ impl Format {
 
     /// Reads the next frame into the buffers. It has at most 16777215 bytes.
     pub(crate) fn fill<R: Source>(&mut self, bits: &mut BitReader<R>) -> Result<(), Why>
-        ensures spends { OnOk result (bits.new.most + 40 ≤ bits.old.most) }
-        ensures counts { Counts (lifted bits.old) bits.new result }
-        ensures memory { IfErr result (λ e. e ≢ Why.Memory) }
-        ensures reads { ReadsWithin (Some 16777215) (λ _. self.new.buffers.held) (frame self.old.profile self.old.info self.old.buffers.before) bits.old bits.new result }
+        ensures reading { CallInPlace 40 (λ _. ReadsWithin (Some 16777215) (λ _. self.new.buffers.held) (frame self.old.profile self.old.info self.old.buffers.before) bits.old) (lifted bits.old) bits.new result }
         ensures before { OnOk result (self.new.buffers.before ≡ Some (after self.old.buffers.before self.new.buffers.held)) }
         ensures info { self.new.info ≡ self.old.info }
         ensures profile { self.new.profile ≡ self.old.profile }

@@ -4,7 +4,7 @@ ghost use Rattle.std.specs.Prelude.{◌≡◌, ◌≢◌, IfOk, IfErr, IfSome, t
 ghost use Rattle.flac_bits.specs.Handing.{IsOutside};
 ghost use Rattle.flac_native.specs.Stream.{Progress};
 ghost use Rattle.flac_native.specs.Track.{IsAt, is_made, stand_of};
-ghost use Rattle.flac_native.specs.Giving.{GivesFirst, BreaksAt, CountsIn, found};
+ghost use Rattle.flac_native.specs.Giving.{GivesFirst, PassesItem, BreaksOff, CountsIn, found};
 
 use crate::container::{Container, Part};
 use crate::decoder::Course;
@@ -44,7 +44,8 @@ pub(crate) fn next_item<C: Container>(
     ensures memory { (stand_of track.old).phase ≡ Phase.Frames → IfErr result (λ f. f.why ≢ Why.Memory) }
     ensures made { IfOk result (λ o. IfSome o (λ part. is_made (Course.Read part) track.new ≡ true)) }
     ensures gives { (p : Progress) → IsAt track.old p → GivesFirst C.Container p container.old container.new track.new (λ o. found track.new o) result }
-    ensures broken { (p : Progress) → IsAt track.old p → IfErr result (λ f. IsOutside f.why → BreaksAt (C.breaks container.new) p f) }
+    ensures passes { (p : Progress) → IsAt track.old p → IfOk result (λ o. IfSome (found track.new o) (λ item. PassesItem C.Container p container.old container.new track.new item)) }
+    ensures broken { (p : Progress) → IsAt track.old p → IfErr result (λ f. IsOutside f.why → BreaksOff C.Container p container.old container.new f) }
 {
     let outcome = container.next(track);
     if is_marker(&outcome) {

@@ -11,6 +11,9 @@ ghost use Rattle.flac_native.specs.Points.{PointsNameFrames};
 ghost use Rattle.flac_native.specs.ReadBack.{EncodedAreReadBack};
 ghost use Rattle.flac_native.specs.Resuming.{FramesAreResumed, EncodedAreResumed};
 ghost use Rattle.flac_native.specs.Writing.{EncodedAreStreams};
+ghost use Rattle.flac_native.specs.Calls.{CallsBreakBehind};
+
+use crate::container::Container;
 
 /// No input has two readings: it is one stream, or it is refused at one place for one reason.
 pub fn only_one_way()
@@ -97,4 +100,11 @@ pub fn encoded_are_resumed()
 /// 9639, section 8.5).
 pub fn frames_are_resumed()
     ensures { FramesAreResumed }
+{}
+
+/// Calls of [`crate::Decoder::next`], one after another, read parts of the stream one after another: those of the items
+/// that they give, and the marker. If one then returns [`flac_bits::Why::Read`] or [`flac_bits::Why::Memory`], its place
+/// is what the container tells of these parts: in a native stream the place of the part after them.
+pub fn calls_break_behind<C: Container>()
+    ensures { CallsBreakBehind C.Container }
 {}

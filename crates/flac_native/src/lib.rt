@@ -10,12 +10,14 @@
 //! | try linear predictors of one's own | [`LinearPredictor`] and [`Plan::with_predictors`] |
 //! | encode a block at a time | [`StreamEncoder`] |
 //! | encode one block as a frame | [`StreamFormat::encode_block`] |
+//! | encode the blocks of a stream for a container of one's own | [`BlockEncoder`] |
 //! | replace the comments | [`retag`] |
 //!
 //! It re-exports what its users need from the crates below: sources and targets, metadata blocks, frames, and errors. A
 //! program names this crate alone.
 #![tactic(auto)]
 
+mod block_encoder;
 mod chosen_frames;
 mod container;
 mod decoder;
@@ -27,14 +29,18 @@ mod format;
 mod item;
 mod laws;
 mod native;
+mod offsets;
 mod plan;
 mod position;
 mod retagging;
+mod sinks;
 mod stream_encoder;
+mod stream_format;
 mod targets;
 mod track;
 
-pub use chosen_frames::{ChosenFrames, info_of};
+pub use block_encoder::BlockEncoder;
+pub use chosen_frames::ChosenFrames;
 pub use container::{Container, Part};
 pub use decoder::Decoder;
 pub use decoding::{Sink, SinkFault, decode, hand_out};
@@ -54,13 +60,17 @@ pub use flac_subframe::LinearPredictor;
 pub use format::LONGEST_FRAME;
 pub use item::Item;
 pub use laws::{
-    blocks_are_in_order, encoded_are_read_back, encoded_are_resumed, encoded_are_streams,
-    frames_are_resumed, nothing_is_outside_lax, only_one_head, only_one_way, points_name_frames,
-    retagged_are_read, some_way, streams_are_ordered, streams_are_whole, subset_is_lax,
+    blocks_are_in_order, calls_break_behind, encoded_are_read_back, encoded_are_resumed,
+    encoded_are_streams, frames_are_resumed, nothing_is_outside_lax, only_one_head, only_one_way,
+    points_name_frames, retagged_are_read, some_way, streams_are_ordered, streams_are_whole,
+    subset_is_lax,
 };
 pub use native::{MARKER, read_marker};
+pub use offsets::bytes_from;
 pub use plan::{Plan, predictors_fault};
 pub use retagging::{RetagFault, retag};
-pub use stream_encoder::{StreamEncoder, StreamFormat, block_len};
+pub use sinks::{Failures, SampleWriter};
+pub use stream_encoder::StreamEncoder;
+pub use stream_format::{StreamFormat, block_len};
 pub use targets::Room;
 pub use track::Track;

@@ -3,7 +3,7 @@
 ghost use Rattle.std.specs.Prelude.{◌≡◌, ◌≢◌, ◌≤◌, ◌+◌, ◌&&◌, true, OnOk, IfOk, IfErr, IfSome, MatchOption, ⊤};
 ghost use Rattle.flac_bits.specs.Bits.{is_nil};
 ghost use Rattle.flac_bits.specs.Fencing.{lifted};
-ghost use Rattle.flac_bits.specs.Reading.{Counts, Reads};
+ghost use Rattle.flac_bits.specs.Reading.{Counts, Reads, Call};
 ghost use Rattle.flac_bits.specs.inner.Items.{step_at};
 ghost use Rattle.flac_bits.specs.Handing.{reason_of, IsOutside};
 ghost use Rattle.flac_bits.specs.inner.Handing.{StepsTo};
@@ -27,9 +27,7 @@ pub const MARKER: u64 = 0x664C6143;
 /// [`Why::BadMarker`] if the next four bytes are others; those of [`BitReader`].
 #[tactic(auto, unfolding(crate::specs::Stream::marker))]
 pub fn read_marker<R: Source>(reader: &mut BitReader<R>) -> Result<(), Why>
-    ensures spends { OnOk result (reader.new.most + 32 ≤ reader.old.most) }
-    ensures counts { Counts reader.old reader.new result }
-    ensures reads { Reads (λ u. u) marker reader.old reader.new result }
+    ensures reading { Call 32 (Reads (λ u. u) marker) reader.old reader.new result }
 {
     if reader.take(32)? != MARKER {
         return Err(Why::BadMarker);

@@ -1,14 +1,13 @@
 //! How samples are divided into frames.
 
 ghost use Rattle.std.specs.Prelude.{◌≡◌, ◌<◌, ◌≤◌, ◌*◌, ◌^◌, ◌++◌, [], MatchResult, IfOk, OnOk, IfErr, true, Some, None};
-ghost use Rattle.flac_native.specs.Given.{blocks_in, has_point, points_before, cut_in, cut_of, with_predictors, fits_plan, predictors_fault, plan_fault};
+ghost use Rattle.flac_native.specs.Given.{IsRange, blocks_in, has_point, points_before, cut_in, cut_of, with_predictors, fits_plan, predictors_fault, cutting_fault, plan_fault};
 ghost use Rattle.flac_native.specs.Seeking.{point_at};
-ghost use Rattle.flac_native.specs.inner.Writing.{IsRange};
 ghost use Rattle.flac_frame.specs.Audio.{samples_each};
 
 use flac_bits::Why;
-use flac_frame::{Audio, SetupFault, greatest_order};
-use flac_header::{Profile, depth_code_in, rate_code_in};
+use flac_frame::{Audio, SetupFault, format_fault, greatest_order};
+use flac_header::Profile;
 use flac_meta::SeekPoint;
 use flac_subframe::LinearPredictor;
 use std::marker::Model;
@@ -107,20 +106,11 @@ fn count_points(size: u64, total: u64, every: u64) -> u64
     count
 }
 
-/// Why samples of this format and length cannot be divided into blocks, or `None` if they can.
-#[tactic(auto, unfolding(crate::specs::Given::plan_fault, crate::specs::Given::predictors_fault))]
-fn fault_of(asked: &Asked) -> Option<SetupFault>
-    ensures { result ≡ plan_fault (record { profile = asked.now.profile; block_size = asked.now.block_size; rate = asked.now.rate; bits = asked.now.bits; channels = asked.now.channels; total = asked.now.total; seek_every = asked.now.seek_every; predictors = [] }) }
+/// Why samples whose format can be encoded cannot be divided into blocks, or `None` if they can.
+#[tactic(auto, unfolding(crate::specs::Given::cutting_fault, crate::specs::Given::predictors_fault))]
+fn cutting_fault(asked: &Asked) -> Option<SetupFault>
+    ensures { result ≡ cutting_fault (record { profile = asked.now.profile; block_size = asked.now.block_size; rate = asked.now.rate; bits = asked.now.bits; channels = asked.now.channels; total = asked.now.total; seek_every = asked.now.seek_every; predictors = [] }) }
 {
-    if rate_code_in(asked.profile, asked.rate).is_none() {
-        return Some(SetupFault::BadRate);
-    }
-    if depth_code_in(asked.profile, asked.bits).is_none() {
-        return Some(SetupFault::BadDepth);
-    }
-    if asked.channels < 1 || asked.channels > 8 {
-        return Some(SetupFault::BadChannels);
-    }
     if asked.block_size < 16 || asked.block_size > asked.profile.greatest_block(asked.rate) {
         return Some(SetupFault::BadBlockSize);
     }
@@ -133,6 +123,18 @@ fn fault_of(asked: &Asked) -> Option<SetupFault>
         return Some(SetupFault::TooManyPoints);
     }
     None
+}
+
+/// Why samples of this format and length cannot be divided into blocks, or `None` if they can.
+#[tactic(auto, unfolding(crate::specs::Given::plan_fault))]
+fn fault_of(asked: &Asked) -> Option<SetupFault>
+    ensures { result ≡ plan_fault (record { profile = asked.now.profile; block_size = asked.now.block_size; rate = asked.now.rate; bits = asked.now.bits; channels = asked.now.channels; total = asked.now.total; seek_every = asked.now.seek_every; predictors = [] }) }
+{
+    let channels = asked.channels as usize;
+    if let Some(fault) = format_fault(asked.profile, asked.rate, asked.bits, channels) {
+        return Some(fault);
+    }
+    cutting_fault(asked)
 }
 
 impl Plan {
@@ -265,7 +267,11 @@ impl Plan {
 
     /// The places of the samples of frame `number`, counted from 0, in each channel. The plan must fit the samples, and
     /// have such a frame.
-    pub(crate) fn range(&self, audio: &Audio, number: u64) -> Range<usize>
+    ///
+    /// ```
+    /// let range = plan.range(&audio, 1); // 4096..8192, in blocks of 4096
+    /// ```
+    pub fn range(&self, audio: &Audio, number: u64) -> Range<usize>
         requires fits { fits_plan self.now audio.now ≡ true }
         requires few { number < blocks_in self.now.block_size (samples_each audio.now.channels) }
         ensures range { IsRange self.now audio.now number result.start result.end }

@@ -1,7 +1,7 @@
 //! Where a stream is between two of its parts, and its metadata blocks.
 
-ghost use Rattle.std.specs.Prelude.{◌≡◌, ◌≤◌, ◌+◌, cond, OnOk, OnErr, IfOk};
-ghost use Rattle.flac_bits.specs.Reading.{Counts, ReadsInRoom};
+ghost use Rattle.std.specs.Prelude.{◌≡◌, cond, OnErr, IfOk};
+ghost use Rattle.flac_bits.specs.Reading.{ReadsInRoom, Call};
 ghost use Rattle.flac_meta.specs.Block.{block as block_layout, seen_after};
 ghost use Rattle.flac_meta.specs.Header.{nothing_seen};
 ghost use Rattle.flac_native.specs.Stream.{phase_behind, raised, place_in};
@@ -19,9 +19,7 @@ fn read_here<R: Source>(
     bits: &mut BitReader<R>,
     seen: &mut Seen,
 ) -> Result<(bool, Block), Why>
-    ensures spends { OnOk result (bits.new.most + 32 ≤ bits.old.most) }
-    ensures counts { Counts bits.old bits.new result }
-    ensures reads { ReadsInRoom (λ x. x) (block_layout seen.old) bits.old bits.new result }
+    ensures reading { Call 32 (ReadsInRoom (λ x. x) (block_layout seen.old)) bits.old bits.new result }
     ensures seen { IfOk result (λ x. seen.new ≡ seen_after seen.old x.1) }
     ensures unseen { OnErr result (seen.new ≡ seen.old) }
 {
@@ -81,9 +79,7 @@ impl Position {
         alloc: Global,
         bits: &mut BitReader<R>,
     ) -> Result<(bool, Block), Why>
-        ensures spends { OnOk result (bits.new.most + 32 ≤ bits.old.most) }
-        ensures counts { Counts bits.old bits.new result }
-        ensures reads { ReadsInRoom (λ x. x) (block_layout self.old.seen) bits.old bits.new result }
+        ensures reading { Call 32 (ReadsInRoom (λ x. x) (block_layout self.old.seen)) bits.old bits.new result }
         ensures phase { IfOk result (λ x. self.new.phase ≡ phase_behind x.0) }
         ensures index { IfOk result (λ x. self.new.index ≡ cond x.0 0 (raised self.old.index)) }
         ensures seen { IfOk result (λ x. self.new.seen ≡ seen_after self.old.seen x.1) }

@@ -3,7 +3,7 @@
 ghost use Rattle.std.specs.Prelude.{◌≡◌, ◌≢◌, ◌≤◌, ◌+◌, cond, OnOk, OnErr, IfOk, IfErr, Err, Some, is_some, true, ⊤, ℕ, List, [], min, false};
 ghost use Rattle.std.specs.Borrow.{sem, follows_so};
 ghost use mathlib.Core.Option.{none};
-ghost use Rattle.flac_bits.specs.Reading.{Counts, ReadsInRoom, Means};
+ghost use Rattle.flac_bits.specs.Reading.{ReadsInRoom, Call, CallInPlace, MeansInRoom};
 ghost use Rattle.flac_bits.specs.Fencing.{lifted};
 ghost use Rattle.flac_native.specs.Within.{ReadsWithin, MeansWithin};
 ghost use Rattle.flac_meta.specs.Block.{block as block_layout, seen_after};
@@ -137,9 +137,7 @@ impl Track {
     /// Those of [`flac_meta::read_block`], which depend on the blocks that this track read before; [`Why::Memory`] also
     /// if the allocation for a frame fails. The track must not be used to read on then.
     pub fn block<R: Source>(&mut self, bits: &mut BitReader<R>) -> Result<(bool, Block), Why>
-        ensures spends { OnOk result (bits.new.most + 32 ≤ bits.old.most) }
-        ensures counts { Counts bits.old bits.new result }
-        ensures means { (result ≡ Err Why.Memory → ⊥) → Means (λ x. x) (block_layout (stand_of self.old).seen) bits.old bits.new result }
+        ensures reading { Call 32 (MeansInRoom (λ x. x) (block_layout (stand_of self.old).seen)) bits.old bits.new result }
         ensures next { IfOk result (λ x. (p : Progress) → IsAt self.old p → IsAt self.new (next p (block_piece x.0 x.1))) }
         // The block that Track::next_block keeps does not change.
         ensures last { self.new.last ≡ self.old.last }
@@ -150,9 +148,7 @@ impl Track {
 
     /// What [`Track::block`] does, proved by the reading of the layout.
     fn block_here<R: Source>(&mut self, bits: &mut BitReader<R>) -> Result<(bool, Block), Why>
-        ensures spends { OnOk result (bits.new.most + 32 ≤ bits.old.most) }
-        ensures counts { Counts bits.old bits.new result }
-        ensures reads { ReadsInRoom (λ x. x) (block_layout (stand_of self.old).seen) bits.old bits.new result }
+        ensures reading { Call 32 (ReadsInRoom (λ x. x) (block_layout (stand_of self.old).seen)) bits.old bits.new result }
         ensures next { IfOk result (λ x. (p : Progress) → IsAt self.old p → IsAt self.new (next p (block_piece x.0 x.1))) }
         ensures last { self.new.last ≡ self.old.last }
         ensures kept { self.new.block ≡ self.old.block }
@@ -168,9 +164,7 @@ impl Track {
     /// # Errors
     /// Those of [`Track::block`].
     pub fn next_block<R: Source>(&mut self, bits: &mut BitReader<R>) -> Result<(), Why>
-        ensures spends { OnOk result (bits.new.most + 32 ≤ bits.old.most) }
-        ensures counts { Counts bits.old bits.new result }
-        ensures means { (result ≡ Err Why.Memory → ⊥) → Means (λ _. kept self.new) (layout_in Blocks (stand_of self.old)) bits.old bits.new result }
+        ensures reading { Call 32 (MeansInRoom (λ _. kept self.new) (layout_in Blocks (stand_of self.old))) bits.old bits.new result }
         ensures next { OnOk result ((p : Progress) → IsAt self.old p → IsAt self.new (next p (kept self.new))) }
         ensures made { OnOk result (is_some self.new.block ≡ true) }
     {
@@ -179,9 +173,7 @@ impl Track {
 
     /// What [`Track::next_block`] does, proved by the reading of the layout.
     pub(crate) fn next_block_here<R: Source>(&mut self, bits: &mut BitReader<R>) -> Result<(), Why>
-        ensures spends { OnOk result (bits.new.most + 32 ≤ bits.old.most) }
-        ensures counts { Counts bits.old bits.new result }
-        ensures reads { ReadsInRoom (λ _. kept self.new) (layout_in Blocks (stand_of self.old)) bits.old bits.new result }
+        ensures reading { Call 32 (ReadsInRoom (λ _. kept self.new) (layout_in Blocks (stand_of self.old))) bits.old bits.new result }
         ensures next { OnOk result ((p : Progress) → IsAt self.old p → IsAt self.new (next p (kept self.new))) }
         ensures made { OnOk result (is_some self.new.block ≡ true) }
     {
@@ -200,10 +192,7 @@ impl Track {
     /// [`Why::NotStreamInfoFirst`] if no STREAMINFO was read. Never [`Why::Memory`]. The track must not be used to read
     /// on then.
     pub fn next_frame<R: Source>(&mut self, bits: &mut BitReader<R>) -> Result<(), Why>
-        ensures spends { OnOk result (bits.new.most + 40 ≤ bits.old.most) }
-        ensures counts { Counts (lifted bits.old) bits.new result }
-        ensures memory { IfErr result (λ e. e ≢ Why.Memory) }
-        ensures means { MeansWithin (Some 16777215) (λ _. shown self.new) (frame_behind (stand_of self.old).profile (stand_of self.old).info (stand_of self.old).before) bits.old bits.new result }
+        ensures reading { CallInPlace 40 (λ _. MeansWithin (Some 16777215) (λ _. shown self.new) (frame_behind (stand_of self.old).profile (stand_of self.old).info (stand_of self.old).before) bits.old) (lifted bits.old) bits.new result }
         ensures next { OnOk result ((p : Progress) → IsAt self.old p → IsAt self.new (next p (framed (shown self.new)))) }
         ensures made { OnOk result (is_some (stand_of self.new).info ≡ true) }
         // The block that Track::next_block keeps does not change.
@@ -216,10 +205,7 @@ impl Track {
     /// What [`Track::next_frame`] does, proved by the reading of the layout.
     #[tactic(auto, unfolding(crate::specs::Stream::frame_behind))]
     pub(crate) fn next_frame_here<R: Source>(&mut self, bits: &mut BitReader<R>) -> Result<(), Why>
-        ensures spends { OnOk result (bits.new.most + 40 ≤ bits.old.most) }
-        ensures counts { Counts (lifted bits.old) bits.new result }
-        ensures memory { IfErr result (λ e. e ≢ Why.Memory) }
-        ensures reads { ReadsWithin (Some 16777215) (λ _. shown self.new) (frame_behind (stand_of self.old).profile (stand_of self.old).info (stand_of self.old).before) bits.old bits.new result }
+        ensures reading { CallInPlace 40 (λ _. ReadsWithin (Some 16777215) (λ _. shown self.new) (frame_behind (stand_of self.old).profile (stand_of self.old).info (stand_of self.old).before) bits.old) (lifted bits.old) bits.new result }
         ensures next { OnOk result ((p : Progress) → IsAt self.old p → IsAt self.new (next p (framed (shown self.new)))) }
         ensures made { OnOk result (is_some (stand_of self.new).info ≡ true) }
         ensures last { self.new.last ≡ self.old.last }
@@ -254,10 +240,7 @@ impl Track {
     /// # Errors
     /// Those of [`Track::next_frame`].
     pub fn frame<R: Source>(&mut self, bits: &mut BitReader<R>) -> Result<FrameView<'_>, Why>
-        ensures spends { OnOk result (bits.new.most + 40 ≤ bits.old.most) }
-        ensures counts { Counts (lifted bits.old) bits.new result }
-        ensures memory { IfErr result (λ e. e ≢ Why.Memory) }
-        ensures means { MeansWithin (Some 16777215) frame_of (frame_behind (stand_of self.old).profile (stand_of self.old).info (stand_of self.old).before) bits.old bits.new result }
+        ensures reading { CallInPlace 40 (λ _. MeansWithin (Some 16777215) frame_of (frame_behind (stand_of self.old).profile (stand_of self.old).info (stand_of self.old).before) bits.old) (lifted bits.old) bits.new result }
         ensures* after { sem 𝓛 (follows_so the_row the_row self.entry.ghost_name none (λ _ _. ⊤)
             (λ last. IfOk result (λ v. (p : Progress) → IsAt self.old p → IsAt last (next p (framed (frame_of v)))))) }
     {

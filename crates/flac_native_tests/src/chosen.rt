@@ -6,7 +6,7 @@ ghost use Rattle.flac_native.specs.Given.{fits_plan, room_of};
 
 use flac_bits::{Target, send_all};
 use flac_frame::{Audio, EncodeBuffers};
-use flac_native::{ChosenFrames, Plan, Profile, Room, Why};
+use flac_native::{ChosenFrames, Plan, Profile, Room, StreamInfo, Why};
 use flac_testing::{list_of, sample, wave};
 use flac_vectors::{ONE_SAMPLE, WAVE, WAVE_PREDICTED};
 use std::alloc::Global;
@@ -18,7 +18,7 @@ use std::test::Fail;
 struct FirstFrame {
     least: u32,
     greatest: u32,
-    digest: [u8; 16],
+    info: StreamInfo,
     room: Room,
 }
 
@@ -41,9 +41,16 @@ fn chosen(
     Ok(FirstFrame {
         least: frames.least(),
         greatest: frames.greatest(),
-        digest: frames.info(plan, audio).digest(),
+        info: frames.info(plan, audio),
         room,
     })
+}
+
+/// Whether STREAMINFO is that of frames of so many bytes, at 44100 Hz and 16 bits.
+fn is_info_of(info: &StreamInfo, len: u32) -> bool {
+    (info.least_frame(), info.greatest_frame()) == (len, len)
+        && (info.rate(), info.depth()) == (44100, 16)
+        && info.least_block() == info.greatest_block()
 }
 
 /// Whether samples by a plan, which are one frame, have the digest and the frame of a stream, of `len` bytes.
@@ -58,7 +65,8 @@ fn comes_of(alloc: Global, plan: &Plan, audio: &Audio, stream: &str, len: u32) -
     let chosen = chosen?;
     Ok(
         (chosen.least, chosen.greatest) == (len, len)
-            && Some(chosen.digest.as_slice()) == stream.get(26..42)
+            && is_info_of(&chosen.info, len)
+            && Some(chosen.info.digest().as_slice()) == stream.get(26..42)
             && Some(chosen.room.bytes()) == stream.get(42..),
     )
 }

@@ -15,5 +15,6 @@ mod parts;
 mod pushing;
 #[cfg(test)]
 mod retagging;
+mod samples;
 #[cfg(test)]
 mod seeking;

@@ -1,20 +1,17 @@
 //! Calls beside whole streams: a stream read part by part, what is given back, numbers and texts of faults.
 
 use flac_native::{
-    BitReader, Block, Decoder, EncodeFault, Fault, FrameView, Item, Memory, Place, Plan, Profile,
-    RetagFault, SetupFault, StreamInfo, Track, Why, info_of, put_rows, read_marker, sample_width,
+    BitReader, Block, Decoder, EncodeFault, Failures, Fault, FrameView, Item, Memory, Place,
+    Profile, RetagFault, SetupFault, SinkFault, StreamInfo, Track, Why, bytes_from, put_rows,
+    read_marker, sample_width,
 };
 use flac_testing::sample;
+use flac_vectors::EXAMPLE;
 use std::alloc::Global;
 use std::fmt::Display;
 use std::mem::drop;
 use std::process::Abort;
 use std::test::Fail;
-
-/// The example of RFC 9639, appendix D.1, its digest unknown: one frame of one sample of two channels.
-const PARTS: &str =
-    "664c6143800000221000100000000f00000f0ac442f00000000100000000000000000000000000000000\
-    fff869180000bf0358fd03128baa9a";
 
 /// The digest that the example states.
 const DIGEST: [u8; 16] = [
@@ -71,29 +68,11 @@ fn reads_all(rt: &impl Abort, bits: &mut BitReader<Memory<'_>>, track: &mut Trac
 /// A stream read part by part: the marker, a block, a frame, and what STREAMINFO states of all samples.
 #[test]
 fn reads_parts(rt: HostRuntime) -> Result<(), Fail> {
-    let stream = hex::decode(rt.alloc(), PARTS)?;
+    let stream = hex::decode(rt.alloc(), EXAMPLE)?;
     let mut bits = BitReader::new(Memory::new(&stream));
     let mut track = Track::new(rt.alloc(), Profile::Subset);
     reads_all(&rt, &mut bits, &mut track);
     drop(track);
-    Ok(())
-}
-
-/// STREAMINFO of the example, for frames of at most 15 bytes.
-fn info(alloc: Global, least: u32) -> Result<StreamInfo, Fail> {
-    let audio = sample(alloc)?;
-    let plan = Plan::new(4096, &audio, 0)?;
-    Ok(info_of(&plan, &audio, least.min(15), 15))
-}
-
-#[test]
-fn states_the_digest(rt: HostRuntime) -> Result<(), Fail> {
-    let info = info(rt.alloc(), 14)?;
-    assert!(rt; (info.least_block(), info.greatest_block()) == (4096, 4096));
-    assert!(rt; (info.least_frame(), info.greatest_frame()) == (14, 15));
-    assert!(rt; (info.rate(), info.channels(), info.depth()) == (44100, 2, 16));
-    assert!(rt; info.total() == 1);
-    assert!(rt; info.digest() == DIGEST);
     Ok(())
 }
 
@@ -108,9 +87,9 @@ fn is_last_frame(decoder: Decoder<BitReader<Memory<'_>>>) -> bool {
 /// A decoder gives its source back, here one that was read to its end.
 #[test]
 fn gives_its_source_back(rt: HostRuntime) -> Result<(), Fail> {
-    let info = info(rt.alloc(), 15)?;
-    let stream = hex::decode(rt.alloc(), PARTS)?;
-    let source = Memory::new(stream.get(42..).unwrap_or(&[]));
+    let info = StreamInfo::of_format(4096, 44100, 2, 16);
+    let stream = hex::decode(rt.alloc(), EXAMPLE)?;
+    let source = Memory::new(bytes_from(&stream, 42));
     let decoder = Decoder::resume(rt.alloc(), source, &info, Profile::Subset)?;
     assert!(rt; is_last_frame(decoder));
     Ok(())
@@ -207,6 +186,35 @@ fn prints_faults(rt: HostRuntime) -> Result<(), Fail> {
     let (at, why) = (None, Why::BlockLength);
     prints(&rt, alloc, &RetagFault { at, why }, "7 BlockLength")?;
     prints(&rt, alloc, &SetupFault::SampleTooLarge, "44 SampleTooLarge")
+}
+
+#[test]
+fn kinds_of_places(rt: HostRuntime) {
+    assert!(rt; Place::Marker.kind_name() == "marker");
+    assert!(rt; Place::Block(0).kind_name() == "block");
+    assert!(rt; Place::Frame(3).kind_name() == "frame");
+    assert!(rt; Place::Page(7).kind_name() == "page");
+    assert!(rt; Place::End.kind_name() == "end");
+}
+
+/// A stream has no bytes from an offset behind its end on.
+#[test]
+fn bytes_from_an_offset(rt: HostRuntime) {
+    assert!(rt; bytes_from(b"fLaC", 0) == b"fLaC".as_slice());
+    assert!(rt; bytes_from(b"fLaC", 3) == b"C".as_slice());
+    assert!(rt; bytes_from(b"fLaC", 4).is_empty());
+    assert!(rt; bytes_from(b"fLaC", u64::MAX).is_empty());
+}
+
+/// A count of failures stops at the greatest number.
+#[test]
+fn counts_failures(rt: HostRuntime) {
+    let mut failures = Failures {
+        count: u64::MAX - 1,
+    };
+    assert!(rt; failures.fail() == Err(SinkFault));
+    assert!(rt; failures.fail() == Err(SinkFault));
+    assert!(rt; failures.count == u64::MAX);
 }
 
 /// A sample takes whole bytes.

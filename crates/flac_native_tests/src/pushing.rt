@@ -3,10 +3,10 @@
 use flac_bits::{Collected, Counted, Memory, Target};
 use flac_meta::BlockList;
 use flac_native::{
-    Decoder, EncodeBuffers, EncodeFault, LinearPredictor, Profile, SetupFault, StreamEncoder,
-    StreamFormat, block_len, predictors_fault,
+    BlockEncoder, Decoder, EncodeBuffers, EncodeFault, LinearPredictor, Profile, SetupFault,
+    StreamEncoder, StreamFormat, block_len, predictors_fault,
 };
-use flac_testing::{Narrow, Recorder, count_rising, number_of};
+use flac_testing::{Narrow, Recorder, count_rising, number_of, setup_number};
 use std::alloc::Global;
 use std::mem::drop;
 use std::test::Fail;
@@ -60,6 +60,17 @@ fn one_sample(rt: HostRuntime) -> Result<(), Fail> {
     Ok(())
 }
 
+/// The format of the stream above.
+fn format() -> StreamFormat {
+    StreamFormat {
+        profile: Profile::Subset,
+        rate: 44100,
+        bits: 16,
+        channels: 2,
+        block_size: 4096,
+    }
+}
+
 /// The block of the stream above as a frame by itself, if the format, the block and the list have no fault.
 fn one_frame(alloc: Global) -> Result<Option<Vec<u8>>, Fail> {
     let format = StreamFormat {
@@ -102,6 +113,66 @@ fn one_block(rt: HostRuntime) -> Result<(), Fail> {
         return Ok(());
     };
     assert!(rt; is_frame_of(&frame, &wanted));
+    Ok(())
+}
+
+/// Encodes a block, and counts its frame: the number of the fault, or 0, and the bytes of the frame.
+fn encode_sent(encoder: &mut BlockEncoder, block: &[&[i32]]) -> (u8, usize) {
+    match encoder.encode(block) {
+        Ok(frame) => {
+            encoder.sent(block);
+            (0, frame.len())
+        }
+        Err(fault) => (fault.number(), 0),
+    }
+}
+
+/// Whether a block is encoded as this frame, twice as long as it is not counted.
+fn is_encoded_twice(encoder: &mut BlockEncoder, block: &[&[i32]], stream: &[u8]) -> bool {
+    let first = encoder.encode(block).is_ok_and(|f| is_frame_of(&f, stream));
+    let second = encoder.encode(block).is_ok_and(|f| is_frame_of(&f, stream));
+    first && second && encoder.samples() == 0
+}
+
+/// Whether a short block is the last once it is counted, and nothing is encoded after a failure.
+fn is_last(encoder: &mut BlockEncoder, block: &[&[i32]]) -> bool {
+    let counted = encode_sent(encoder, block) == (0, 15) && encoder.samples() == 1;
+    let ended = encode_sent(encoder, block) == (19, 0) && !encoder.is_spent();
+    encoder.failed();
+    let spent = encode_sent(encoder, block) == (38, 0) && encoder.is_spent();
+    counted && ended && spent
+}
+
+/// Blocks are encoded without a target: what was not counted is encoded again.
+#[test]
+fn blocks_alone(rt: HostRuntime) -> Result<(), Fail> {
+    let wanted = hex::decode(rt.alloc(), ONE)?;
+    let (left, right) = ([25588], [10416]);
+    let block = [left.as_slice(), right.as_slice()];
+    let mut encoder = BlockEncoder::new(rt.alloc(), &format())?;
+    let again = is_encoded_twice(&mut encoder, &block, &wanted);
+    let last = is_last(&mut encoder, &block);
+    drop(encoder);
+    assert!(rt; again && last);
+    Ok(())
+}
+
+/// The number of the fault for which an encoder of blocks refuses a predictor of this many coefficients, or else 0.
+fn order_refused(alloc: Global, coefficients: &[i32]) -> Result<u8, Fail> {
+    let mut list = Vec::new(alloc);
+    if let Some(predictor) = LinearPredictor::new(2, 0, coefficients) {
+        list.push(predictor)?;
+    }
+    let mut encoder = BlockEncoder::new(alloc, &format())?;
+    let outcome = encoder.set_predictors(list);
+    drop(encoder);
+    Ok(setup_number(outcome))
+}
+
+#[test]
+fn orders_of_blocks(rt: HostRuntime) -> Result<(), Fail> {
+    assert!(rt; order_refused(rt.alloc(), &[1; 12])? == 0);
+    assert!(rt; order_refused(rt.alloc(), &[1; 13])? == 51);
     Ok(())
 }
 

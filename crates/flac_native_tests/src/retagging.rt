@@ -4,20 +4,27 @@ use flac_native::{
     Block, Bytes, Collected, Comments, Container, Decoder, Fault, Item, Memory, Pieces, Place,
     Profile, RetagFault, SinkFault, Texts, Why, only_one_head, retag,
 };
-use flac_vectors::{CUT_COMMENTS, EXAMPLE_INFO, EXAMPLE_TAGGED, TWO_INFOS, fields_of};
+use flac_vectors::{CUT_COMMENTS, EXAMPLE, EXAMPLE_INFO, EXAMPLE_TAGGED, TWO_INFOS};
 use std::alloc::Global;
 use std::error::Error;
 use std::mem::drop;
 use std::process::Abort;
 use std::test::Fail;
 
-/// Streams: the comment; the stream; and what is written.
-const RETAGGED: &str = "# A comment is added to one frame of one sample of two channels.
-TITLE=x | 664c6143800000221000100000000f00000f0ac442f00000000100000000000000000000000000000000fff869180000bf0358fd03128baa9a | 664c6143000000221000100000000f00000f0ac442f00000000100000000000000000000000000000000840000210e000000666c61632070726f66696c65203101000000070000005449544c453d78fff869180000bf0358fd03128baa9a
-# A comment block is replaced.
-TITLE=y | 664c6143000000221000100000000f00000f0ac442f00000000100000000000000000000000000000000840000210e000000666c61632070726f66696c65203101000000070000005449544c453d78fff869180000bf0358fd03128baa9a | 664c6143000000221000100000000f00000f0ac442f00000000100000000000000000000000000000000840000210e000000666c61632070726f66696c65203101000000070000005449544c453d79fff869180000bf0358fd03128baa9a
-# Two bytes of padding are before an old comment, and after the new one.
-TITLE=x | 664c6143000000221000100000000f00000f0ac442f00000000100000000000000000000000000000000010000020000840000210e000000666c61632070726f66696c65203101000000070000005449544c453d78fff869180000bf0358fd03128baa9a | 664c6143000000221000100000000f00000f0ac442f00000000100000000000000000000000000000000040000210e000000666c61632070726f66696c65203101000000070000005449544c453d78810000020000fff869180000bf0358fd03128baa9a";
+/// The example with the comment TITLE=y.
+const EXAMPLE_RETAGGED: &str =
+    "664c6143000000221000100000000f00000f0ac442f00000000100000000000000000000000000000000840000210e000000666c61\
+    632070726f66696c65203101000000070000005449544c453d79fff869180000bf0358fd03128baa9a";
+
+/// The example with the comment TITLE=x, after two bytes of padding.
+const PADDED: &str =
+    "664c6143000000221000100000000f00000f0ac442f00000000100000000000000000000000000000000010000020000840000210e\
+    000000666c61632070726f66696c65203101000000070000005449544c453d78fff869180000bf0358fd03128baa9a";
+
+/// The same with the padding after the comment.
+const PADDED_RETAGGED: &str =
+    "664c6143000000221000100000000f00000f0ac442f00000000100000000000000000000000000000000040000210e000000666c61\
+    632070726f66696c65203101000000070000005449544c453d78810000020000fff869180000bf0358fd03128baa9a";
 
 /// Comments of one text.
 fn comments(alloc: Global, text: &[u8]) -> Result<Comments, Why> {
@@ -46,24 +53,28 @@ fn tagged(alloc: Global, text: &str, stream: &str) -> Result<Vec<u8>, Fail> {
     Ok(retagged(alloc, &stream, comments)?)
 }
 
-/// Sets the comment of a row, and compares what is written.
-fn check_row(rt: &impl Abort, alloc: Global, row: &str) -> Result<(), Fail> {
-    let (text, stream, wanted) = fields_of(row);
+/// Sets a comment, and compares what is written.
+fn is_set(
+    rt: &impl Abort,
+    alloc: Global,
+    text: &str,
+    stream: &str,
+    wanted: &str,
+) -> Result<(), Fail> {
     let found = tagged(alloc, text, stream)?;
     let wanted = hex::decode(alloc, wanted)?;
-    assert!(rt; found.as_slice() == wanted.as_slice(), "{row}");
+    assert!(rt; found.as_slice() == wanted.as_slice());
     Ok(())
 }
 
+/// A comment is added, and replaced; new ones stand before padding.
 #[test]
 fn comments_are_set(rt: HostRuntime) -> Result<(), Fail> {
     only_one_head();
-    for row in RETAGGED.lines() {
-        if !row.starts_with('#') {
-            check_row(&rt, rt.alloc(), row)?;
-        }
-    }
-    Ok(())
+    let alloc = rt.alloc();
+    is_set(&rt, alloc, "TITLE=x", EXAMPLE, EXAMPLE_TAGGED)?;
+    is_set(&rt, alloc, "TITLE=y", EXAMPLE_TAGGED, EXAMPLE_RETAGGED)?;
+    is_set(&rt, alloc, "TITLE=x", PADDED, PADDED_RETAGGED)
 }
 
 /// Bytes that are no frames.

@@ -23,8 +23,8 @@ fn table(alloc: Global, points: Vec<SeekPoint>) -> Result<BlockList, Fail> {
     Ok(BlockList::new(blocks)?)
 }
 
-/// Encodes those samples with a seek table in the list, and a seek point each `every` samples: the outcome, and how many
-/// bytes are written.
+/// Encodes those samples with a seek table in the list, and a seek point each `every` samples: the outcome, and how
+/// many bytes are written.
 fn encoded_with_table(alloc: Global, every: u32) -> Result<(Result<(), EncodeFault>, usize), Fail> {
     let audio = seventeen(alloc)?;
     let list = table(alloc, Vec::new(alloc))?;

@@ -1,17 +1,20 @@
 -- The items of packets come one after another.
-use Rattle.std.proofs.Common.{◌≡◌, ◌≢◌, ◌<◌, ◌≤◌, ℕ, zero, suc, ◌*◌, arith, Bool, true, false, List, [], ◌∷◌, ◌++◌, Option, Some, None, Result, Ok, Err, refl, sym, ap, subst, ◌∙◌, inl, inr, ◌⊎◌}
+use Rattle.std.proofs.Common.{◌≡◌, ◌≢◌, ◌<◌, ◌≤◌, ℕ, zero, suc, ◌*◌, arith, Bool, true, List, [], ◌∷◌, ◌++◌, Option, Some, None, Result, Ok, Err, refl, sym, ap, subst, ◌∙◌, inl, inr, ◌⊎◌}
 use Rattle.std.specs.Prelude.{OnOk, IfOk, IfErr, IfSome}
 use Rattle.std.specs.Borrow.{GName}
 use Rattle.flac_bits.specs.State.{Mark, State, Rises, short_of}
 use Rattle.flac_bits.specs.Fencing.{lifted}
 use Rattle.flac_bits.specs.Reading.{Counts}
 use Rattle.flac_bits.specs.Items.{after}
-use Rattle.flac_bits.specs.Handing.{TakesAll, Hands, Decides, reason_of}
+use Rattle.flac_bits.specs.Handing.{TakesAll, Hands, Decides, reason_of, IsOutside}
 use Rattle.flac_bits.specs.declared.why.Why.{Why}
 use Rattle.flac_bits.specs.declared.why.Why.TheVariants.{Memory, Read, Sink, Truncated}
 use Rattle.flac_native.specs.Stream.{Piece, Progress, Stand, grammar, next}
 use Rattle.flac_native.specs.Track.{IsAt, stand_of}
-use Rattle.flac_native.specs.Item.{told}
+use Rattle.flac_native.specs.Item.{Item, told}
+use Rattle.flac_native.specs.Giving.{items_of, Gave, Stage}
+use Rattle.flac_native.specs.Calls.{Answers, GivesAll}
+use Rattle.flac_native.specs.declared.container.Container as container
 use Rattle.flac_native.specs.Decoding.{beginning}
 use Rattle.flac_native.specs.Coming.{ReadAs, IsNext, HandsFirst}
 use Rattle.flac_native.specs.declared.fault.Place.{Place}
@@ -23,7 +26,7 @@ use Rattle.flac_pages.specs.Packets.{Place as Stands, Ahead, OnPage, ahead, at_f
 use Rattle.flac_pages.specs.Items.{IsAtPacket, GoesBehind}
 use Rattle.flac_ogg.specs.Stream.{start, packet_start, closed_packet, OggStream, OggRefused}
 use Rattle.flac_ogg.specs.Steps.{PacketStep, item, over, refused, packet_step, Goes}
-use Rattle.flac_ogg.specs.Decoding.{IsBrokenAt, PassesNext, BreaksInNext, ogg_reading}
+use Rattle.flac_ogg.specs.Decoding.{BeginsWith, IsBrokenAt, BreaksAtPage, PassesNext, BreaksInNext, IsFront, ogg_reading}
 use Rattle.flac_ogg.specs.Telling.{IsUnderWay}
 use Rattle.flac_ogg.specs.inner.Telling.{MeetsIn, StepIs}
 use Rattle.flac_ogg.specs.Coming.{final, ItemsCome, Foretells, IsClear}
@@ -34,6 +37,7 @@ use Rattle.flac_ogg.proofs.MeaningReadings.{some_ogg_reading}
 use Rattle.flac_ogg.proofs.MeaningErrors.{stops_read, fault_read, stop_read}
 use Rattle.flac_ogg.proofs.PagesRead.{reads_to}
 use Rattle.flac_ogg.proofs.UnderWay.{started, goes_on}
+use Rattle.flac_native.proofs.Passing.{calls_break_behind}
 use Rattle.flac_native.proofs.Received.{Fronts, hands_of, decides_of, none_some, same_end}
 use Rattle.flac_header.specs.declared.subset.Profile.{Profile}
 
@@ -279,27 +283,28 @@ abbrev BreaksOff : {C : Type 0} → (C → Stands) → Profile → C → C → L
 BreaksOff {C} pages profile first last items at why =
     IsBrokenAt (pages last).count (after grammar (start profile) items) at why × ((there : C) × TakesAll (λ (a : C) (x : Piece) (b : C). PassesNext (pages a) (pages b)) first items there × BreaksInNext (pages there) (pages last) why)
 
--- which is at the input's front
-pub record BeginsAt (mark : Mark) (text : List Bool) (p : Stands) : Type 0 where
-  pub known : p.known ≡ true
-  pub lacing : p.lacing ≡ []
-  pub last : p.last ≡ false
-  pub before : p.before ≡ None
-  pub count : p.count ≡ 0
-  pub cursor : p.cursor ≡ record { left = text; mark = mark }
-
-pub begins_at : (p : Stands) (known : Bool) (errors raised most : ℕ) (names : List GName) (text : List Bool) (short : Why) → p ≡ at_front known errors raised most names text short → known ≡ true → BeginsAt (beginning short) text p
+pub begins_at : (p : Stands) (known : Bool) (errors raised most : ℕ) (names : List GName) (text : List Bool) (short : Why) → p ≡ at_front known errors raised most names text short → known ≡ true → IsFront (beginning short) text p
 begins_at p known errors raised most names text short e told = record {
   known = ap (λ (q : Stands). q.known) e ∙ told;
   lacing = ap (λ (q : Stands). q.lacing) e;
+  body = ap (λ (q : Stands). q.body) e;
   last = ap (λ (q : Stands). q.last) e;
   before = ap (λ (q : Stands). q.before) e;
   count = ap (λ (q : Stands). q.count) e;
   cursor = ap (λ (q : Stands). q.cursor) e;
 }
 
+-- the pages of these items were read
+breaks_there : {C : Type 0} (pages : C → Stands) (profile : Profile) (mark : Mark) (text : List Bool) (items : List Piece) (first last : C) (at : Place) (why : Why) → IsFront mark text (pages first) → BeginsWith profile mark items text → BreaksOff pages profile first last items at why
+    → BreaksAtPage profile mark items text at why
+breaks_there pages profile mark text items first last at why front begins b = (
+  (pages last).count,
+  b.0,
+  λ read. reads_to pages profile mark text items first b.1.0 (pages last).count front.known front.lacing front.last front.before front.count front.cursor begins b.1.1 (λ known. b.1.2 read known),
+)
+
 pub hands_ogg : {K C : Type 0} (profile : Profile) (first last : C) (pages : C → Stands) (takes : K → Piece → K → Type 0) (errors : K → ℕ) (mark : Mark) (text : List Bool) (items : List Piece) (end : Option (Place × Why)) (calm : Type 0) (old new : K) (outcome : Option (Place × Why))
-    → BeginsAt mark text (pages first) → ItemsCome (start profile) (ahead_of mark text) items end → HandsFirst takes errors (start profile) items end calm (BreaksOff pages profile first last) old new outcome → Hands (ogg_reading profile mark text) takes errors calm old new outcome
+    → IsFront mark text (pages first) → ItemsCome (start profile) (ahead_of mark text) items end → HandsFirst takes errors (start profile) items end calm (BreaksOff pages profile first last) old new outcome → Hands (ogg_reading profile mark text) takes errors calm old new outcome
 hands_ogg {K} {C} profile first last pages takes errors mark text items end calm old new outcome at come h =
     let front = fronts profile mark text items end come in
     let there : HandsFirst takes errors (start profile) items end calm (λ xs to why. (ogg_reading profile mark text).breaks xs to why) old new outcome = record {
@@ -312,18 +317,34 @@ hands_ogg {K} {C} profile first last pages takes errors mark text items end calm
       done = h.done;
       refused = h.refused;
       broken = λ to why is out.
-          let b = h.broken to why is out in (
-            b.0,
-            inl (
-              (pages last).count,
-              b.1.0,
-              λ read.
-                  reads_to pages profile mark text h.taken first b.1.1.0 (pages last).count at.known at.lacing at.last at.before at.count at.cursor (front.begins h.taken h.left h.split) b.1.1.1 (λ known. b.1.1.2 read known),
-            ),
-          );
+          let b = h.broken to why is out in
+          (b.0, inl (breaks_there pages profile mark text h.taken first last to why at (front.begins h.taken h.left h.split) b.1));
       failed = h.failed;
     } in
     hands_of (ogg_reading profile mark text) takes errors (start profile) items end calm (λ xs to why. (ogg_reading profile mark text).breaks xs to why) old new outcome (read_as profile mark text items end come) front (λ xs to why b. b) there
+
+-- calls of a decoder one after another
+pub calls_at_pages : {C : Type 0} (g : container.Ghosts C) (pages : C → Stands) → ((c : C) → (pages c).known ≡ true → g.known c ≡ true) → ((c : C) (p : Progress) (items : List Piece) (end : Option (Place × Why)) → ItemsCome p (ahead (pages c)) items end → g.gives c p items end)
+    → ((c : C) (p : Progress) (at : Place) (why : Why) → g.breaks c p at why → IsBrokenAt (pages c).count p at why) → ((a b : C) → g.gave a b → PassesNext (pages a) (pages b)) → ((a b : C) (why : Why) → g.broke a b why → BreaksInNext (pages a) (pages b) why)
+    → (profile : Profile) (mark : Mark) (text : List Bool) (first now last : Stage C) (items : List Item) (f : Fault) → IsAt first.track (start profile) → IsFront mark text (pages first.container) → GivesAll g first items now → Answers g now (Err f) last → IsOutside f.why
+    → (parts : List Piece) × (items ≡ items_of parts) × BeginsWith profile mark parts text × BreaksAtPage profile mark parts text f.at f.why
+calls_at_pages {C} g pages knows gives breaks gave broke = λ profile mark text first now last items f at front gives_all off out.
+    let c = first.container in
+    let there = some_come profile mark text in
+    let same : ahead (pages c) ≡ ahead_of mark text = begins_ahead mark text (pages c) front.lacing front.body front.last front.before front.count front.cursor in
+    let come : ItemsCome (start profile) (ahead (pages c)) there.items there.end = subst (λ (a : Ahead). ItemsCome (start profile) a there.items there.end) (sym same) there.come in
+    let b = calls_break_behind g (start profile) first now last items f at gives_all off out in
+    let left = b.2 (knows c front.known) there.items there.end (gives c (start profile) there.items there.end come) in
+    let begins = (fronts profile mark text there.items there.end there.come).begins b.0 left.0 left.1 in
+    let told : BreaksOff pages profile c last.container b.0 f.at f.why = (
+      breaks last.container (after grammar (start profile) b.0) f.at f.why b.3.0,
+      (b.3.1.0, all_passed g pages gave c b.3.1.0 b.0 b.3.1.1, broke b.3.1.0 last.container f.why b.3.1.2),
+    ) in
+    (b.0, b.1, begins, breaks_there pages profile mark text b.0 c last.container f.at f.why front begins told)
+  where
+    all_passed : {C : Type 0} (g : container.Ghosts C) (pages : C → Stands) → ((a b : C) → g.gave a b → PassesNext (pages a) (pages b)) → (old new : C) (parts : List Piece) → Gave g old parts new → TakesAll (λ (a : C) (x : Piece) (b : C). PassesNext (pages a) (pages b)) old parts new
+    all_passed g pages gave old new [] same = same
+    all_passed g pages gave old new (x ∷ xs) (mid, one, more) = (mid, gave old mid one, all_passed g pages gave mid new xs more)
 
 pub decides_ogg : {K : Type 0} (profile : Profile) (breaks : List Piece → Place → Why → Type 0) (takes : K → Piece → K → Type 0) (errors : K → ℕ) (mark : Mark) (text : List Bool) (calm : Type 0) (old new : K) (outcome : Option (Place × Why))
     → ((items : List Piece) (end : Option (Place × Why)) → ItemsCome (start profile) (ahead_of mark text) items end → HandsFirst takes errors (start profile) items end calm breaks old new outcome) → calm → errors new ≡ errors old → Decides (ogg_reading profile mark text) outcome

@@ -19,7 +19,6 @@ use Rattle.flac_meta.specs.Valid.{AllAre, FitsFields, IsInfo}
 use Rattle.flac_meta.specs.declared.block.Block.{Block}
 use Rattle.flac_meta.specs.declared.block.Block.TheVariants as block_of
 use Rattle.flac_header.specs.Header.{channels_of, greatest_in}
-use Rattle.flac_header.specs.declared.subset.Profile.TheVariants.{Subset}
 use Rattle.flac_subframe.specs.declared.linear.LinearPredictor.{LinearPredictor}
 use Rattle.flac_frame.specs.Audio.{samples_each}
 use Rattle.flac_frame.specs.Frame.{Frame, frame, header_rules, rate_in, depth_in}
@@ -31,8 +30,7 @@ use Rattle.flac_native.specs.Stream.{Piece, marked, framed, Progress, grammar, n
 use Rattle.flac_native.specs.declared.track.Phase.{Phase}
 use Rattle.flac_native.specs.declared.track.Phase.TheVariants.{Opening, Blocks, Frames}
 use Rattle.flac_native.specs.Given.{closing}
-use Rattle.flac_native.specs.Pushing.{Shape, shape_fault, open_info, Pushed, unpushed, behind_block, push_fault, due, StandsFor, sound_of, frame_with}
-use Rattle.flac_native.specs.declared.fault.EncodeFault.{EncodeFault}
+use Rattle.flac_native.specs.Pushing.{Shape, shape_fault, open_info, Pushed, unpushed, behind_block, due, StandsFor, sound_of, frame_with}
 use Rattle.flac_native.specs.Writing.{blocks_spelling, head_spelling, SpellsFrame, SpellsLeast}
 use Rattle.flac_native.proofs.EachFrame.{same_three, follows_on, sized, full_before}
 use Rattle.flac_native.proofs.Onwards.{as_part, after_profile}
@@ -61,24 +59,20 @@ bytes_of packets = map (λ q. q.packet) packets
 
 -- what was written and what is held are an Ogg stream of the items
 pub stands_for : {S : Type 0} (e : PushedOgg S) (items : List Piece) (q : Placed) (qs : List Placed) (written : List Bool) → ArePages e.serial (q ∷ qs) written (bits_of e.middle) (bits_of e.last) e.sequence
-    → StandsFor e.pushed (marked ∷ items) (native_text (bytes_of (q ∷ qs))) → e.pushed.shape.profile ≡ Subset → AreStream e.pushed.shape.profile (bytes_of (q ∷ qs)) items → All IsPlaced (q ∷ qs) → e.serial < 2 ^ 32 → length q.packet ≡ 51 → StandsForOgg e items (q ∷ qs) written
-stands_for e items q qs written pages plain subset are good small long =
-    let these : AreStream Subset (bytes_of (q ∷ qs)) items = subst (λ k. AreStream k (bytes_of (q ∷ qs)) items) subset are in
-    record {
-      subset = subset;
-      pages = pages;
-      stream = subst (λ t. OggStream Subset (beginning Truncated) items t) (sym pages.last_is) (ogg_stream Subset e.serial q qs items small long good these);
-      plain = plain;
-      are = these;
-      good = good;
-      small = small;
-      first = (q, qs, refl, long);
-    }
+    → StandsFor e.pushed (marked ∷ items) (native_text (bytes_of (q ∷ qs))) → AreStream e.pushed.shape.profile (bytes_of (q ∷ qs)) items → All IsPlaced (q ∷ qs) → e.serial < 2 ^ 32 → length q.packet ≡ 51 → StandsForOgg e items (q ∷ qs) written
+stands_for e items q qs written pages plain are good small long = record {
+  pages = pages;
+  stream = subst (λ t. OggStream e.pushed.shape.profile (beginning Truncated) items t) (sym pages.last_is) (ogg_stream e.pushed.shape.profile e.serial q qs items small long good are);
+  plain = plain;
+  are = are;
+  good = good;
+  small = small;
+  first = (q, qs, refl, long);
+}
 
 -- so they are whatever predictors are tried next
 pub stands_trying : {S : Type 0} (e : PushedOgg S) (ps : List LinearPredictor) (items : List Piece) (packets : List Placed) (written : List Bool) → StandsForOgg e items packets written → StandsForOgg (trying_ogg e ps) items packets written
 stands_trying e ps items packets written h = record {
-  subset = h.subset;
   pages = h.pages;
   stream = h.stream;
   plain = record { stream = h.plain.stream; info = h.plain.info; frames = h.plain.frames; samples = h.plain.samples; before = h.plain.before };
@@ -119,10 +113,10 @@ module _ (info : Info) (list : List Block) (digest : IsBytes 16 info.digest) whe
       let here : bits_of (drop 13 q.packet) ≡ block = sym (behind_mapping q.packet mapping block first (mapping_long (header_count (length list)))) in
       ap (λ t. unsigned 32 0x664C6143 ++ (t ++ joined (texts_of qs))) here ∙ ap (λ t. unsigned 32 0x664C6143 ++ (block ++ t)) (ap joined others ∙ joined_blocks list)
 
-pub opened_ogg : {S : Type 0} (g : target.Ghosts S) (s : Shape) (list : List Block) (old : S) (h : Headers) (e : PushedOgg S) → s.profile ≡ Subset → shape_fault s ≡ None → list_fault info_seen list ≡ None → AllAre FitsFields list → e.serial < 2 ^ 32
+pub opened_ogg : {S : Type 0} (g : target.Ghosts S) (s : Shape) (list : List Block) (old : S) (h : Headers) (e : PushedOgg S) → shape_fault s ≡ None → list_fault info_seen list ≡ None → AllAre FitsFields list → e.serial < 2 ^ 32
     → h.serial ≡ e.serial → AreHeaders (packet_spellings (header_count (length list)) (open_info s) list []) h → e.pushed ≡ unpushed s e.pushed.target → e.sequence ≡ h.held.next → e.middle ≡ h.held.middle.items
     → e.last ≡ h.held.last.items → (g.known old ≡ true → g.sent e.pushed.target ≡ g.sent old ++ h.sent.items) → Opens g list old e
-opened_ogg g s list old h e subset shape good fits small serial are pushed sequence middle last sent = go are.packets are.texts_are are.kinds_are are.good are.pages
+opened_ogg g s list old h e shape good fits small serial are pushed sequence middle last sent = go are.packets are.texts_are are.kinds_are are.good are.pages
   where
     info : Info
     info = open_info s
@@ -154,7 +148,7 @@ opened_ogg g s list old h e subset shape good fits small serial are pushed seque
         let told : open_info e.pushed.shape ≡ info = ap (λ (p : Pushed _). open_info p.shape) pushed in
         let shaped_as : s.profile ≡ e.pushed.shape.profile = sym (ap (λ (p : Pushed _). p.shape.profile) pushed) in
         let same_stream = subst (λ k. AreStream k (bytes_of (q ∷ qs)) items) shaped_as are_stream in
-        let stands = stands_for e items q qs (bits_of h.sent.items) held there (sym shaped_as ∙ subset) same_stream placed small (first_long info list zero_bytes q.packet first) in
+        let stands = stands_for e items q qs (bits_of h.sent.items) held there same_stream placed small (first_long info list zero_bytes q.packet first) in
         record {
           packets = q ∷ qs;
           text = bits_of h.sent.items;
@@ -165,10 +159,6 @@ opened_ogg g s list old h e subset shape good fits small serial are pushed seque
         }
 
 -- ---- one more frame
-
--- the first fault of a block, of the encoder as its fields are and as its calls see it
-pub fault_here : {S : Type 0} (view now : PushedOgg S) (block : List (List ℤ)) (o : Option EncodeFault) → view ≡ now → o ≡ push_fault now.pushed block → (o ≡ push_fault view.pushed block) × (o ≡ push_fault now.pushed block)
-fault_here view now block o same is = (is ∙ ap (λ (v : PushedOgg _). push_fault v.pushed block) (sym same), is)
 
 items_more : (p : Progress) (packets : List (List ℕ)) (items : List Piece) (packet : List ℕ) (x : Piece) → AreItems p packets items
     → IsItem (room_in (after grammar p items).stand.phase) (packet_layout (after grammar p items).stand) (packet_start None) (closed_packet packet) x → AreItems p (packets ++ packet ∷ []) (items ++ x ∷ [])
@@ -278,7 +268,7 @@ module _ {S : Type 0} (old new : PushedOgg S) (t : S) (block : List (List ℤ)) 
           (stands_on old.pushed t block (bits_of packet) shape accept.many accept.most accept.going text_is (marked ∷ items) (native_text (bytes_of (p ∷ ps))) plain))
 
       there : AreItems (start old.pushed.shape.profile) (bytes_of packets) items
-      there = subst (λ k. AreItems (start k) (bytes_of packets) items) (sym h.subset) h.are.spelled
+      there = h.are.spelled
 
       spelled : AreItems (start old.pushed.shape.profile) (bytes_of (p ∷ (ps ++ q ∷ []))) (items ++ framed f ∷ [])
       spelled = subst (λ l. AreItems (start old.pushed.shape.profile) (p.packet ∷ l) (items ++ framed f ∷ [])) (sym (bytes_more ps q))
@@ -302,7 +292,7 @@ module _ {S : Type 0} (old new : PushedOgg S) (t : S) (block : List (List ℤ)) 
       spelled_now = subst (λ k. AreItems (start k) (bytes_of (p ∷ (ps ++ q ∷ []))) (items ++ framed f ∷ [])) (sym format) spelled
 
       whole : StandsForOgg new (items ++ framed f ∷ []) (p ∷ (ps ++ q ∷ [])) (written ++ bits_of old.middle)
-      whole = stands_for new (items ++ framed f ∷ []) p (ps ++ q ∷ []) (written ++ bits_of old.middle) pages more (format ∙ h.subset) (record { spelled = spelled_now; ends = more.stream.ends; kept = more.stream.kept }) good
+      whole = stands_for new (items ++ framed f ∷ []) p (ps ++ q ∷ []) (written ++ bits_of old.middle) pages more (record { spelled = spelled_now; ends = more.stream.ends; kept = more.stream.kept }) good
           (omega (arith, serial, h.small)) h.first.3
 
   pub next_packet : SpellsLeast old.pushed.predictors (sound_of old.pushed.shape block) f (bits_of packet) → AreBytes packet → new.pushed ≡ behind_block old.pushed (samples_each block) t → new.serial ≡ old.serial → new.sequence ≡ sequence_behind old.sequence packet

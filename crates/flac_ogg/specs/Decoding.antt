@@ -1,5 +1,5 @@
 -- How an input is read as an Ogg stream.
-use Rattle.std.specs.Prelude.{◌≡◌, ◌≢◌, ◌⊎◌, ℕ, Bool, true, List, [], ◌++◌, length}
+use Rattle.std.specs.Prelude.{◌≡◌, ◌≢◌, ◌⊎◌, ℕ, Bool, true, false, List, [], ◌++◌, length, None}
 use Rattle.flac_bits.specs.State.{Mark}
 use Rattle.flac_bits.specs.Items.{after}
 use Rattle.flac_bits.specs.Handing.{Reading}
@@ -40,6 +40,10 @@ pub record ReadsTo (profile : Profile) (mark : Mark) (items : List Piece) (text 
 abbrev pub IsBrokenAt : ℕ → Progress → Place → Why → Type 0
 IsBrokenAt n p at why = (why ≡ Read → at ≡ place.Page n) × (why ≡ Memory → (p.stand.phase ≢ Frames) × (at ≡ grammar.place p))
 
+-- Reading was broken off behind these items, n pages of the input having been read; an error of the device is told at the page behind those of the items.
+abbrev pub BreaksAtPage : Profile → Mark → List Piece → List Bool → Place → Why → Type 0
+BreaksAtPage profile mark items text at why = (n : ℕ) × IsBrokenAt n (after grammar (start profile) items) at why × (why ≡ Read → ReadsTo profile mark items text n)
+
 -- it is an Ogg stream of these items, or is refused behind them, or its first packets are these items; the next one stands where it would in a native stream.
 -- An error of the device is told at the page behind those that were read, which are the pages of these items. Before the first item either may be told at the
 -- marker too
@@ -49,8 +53,20 @@ ogg_reading profile mark text = record {
   refused = λ items at why. OggRefused profile mark items text at why;
   begins = λ items. BeginsWith profile mark items text;
   place = λ items. grammar.place (after grammar (start profile) items);
-  breaks = λ items at why. ((n : ℕ) × IsBrokenAt n (after grammar (start profile) items) at why × (why ≡ Read → ReadsTo profile mark items text n)) ⊎ ((items ≡ []) × (at ≡ place.Marker));
+  breaks = λ items at why. BreaksAtPage profile mark items text at why ⊎ ((items ≡ []) × (at ≡ place.Marker));
 }
+
+-- ---- where pages begin
+
+-- a reader of pages stands before this input, whose bytes are known, and has read nothing of it
+pub record IsFront (mark : Mark) (text : List Bool) (p : Stands) : Type 0 where
+  pub known : p.known ≡ true
+  pub lacing : p.lacing ≡ []
+  pub body : p.body ≡ []
+  pub last : p.last ≡ false
+  pub before : p.before ≡ None
+  pub count : p.count ≡ 0
+  pub cursor : p.cursor ≡ record { left = text; mark = mark }
 
 -- ---- one packet
 

@@ -7,7 +7,6 @@ use Rattle.flac_bits.specs.declared.target.Target as target
 use Rattle.flac_bits.specs.declared.why.Why.TheVariants.{Truncated}
 use Rattle.flac_meta.specs.declared.block.Block.{Block}
 use Rattle.flac_meta.specs.declared.block.Block.TheVariants as blocks
-use Rattle.flac_header.specs.declared.subset.Profile.TheVariants.{Subset}
 use Rattle.flac_subframe.specs.declared.linear.LinearPredictor.{LinearPredictor}
 use Rattle.flac_frame.specs.Audio.{samples_each}
 use Rattle.flac_native.specs.Decoding.{beginning}
@@ -71,11 +70,10 @@ listed_fault other listed = cond listed other BadMapping
 -- The encoder stands for this Ogg stream: of what was written and of the packet that is held back, marked last. Its packets are these, the first with the 51 bytes of
 -- FLAC's first one, and each is one of these items. The items are those of the native stream that the encoder's state stands for.
 pub record StandsForOgg {S : Type 0} (e : PushedOgg S) (items : List Piece) (packets : List Placed) (written : List Bool) : Type 0 where
-  pub subset : e.pushed.shape.profile ≡ Subset
   pub pages : ArePages e.serial packets written (bits_of e.middle) (bits_of e.last) e.sequence
-  pub stream : OggStream Subset (beginning Truncated) items (written ++ bits_of e.last)
+  pub stream : OggStream e.pushed.shape.profile (beginning Truncated) items (written ++ bits_of e.last)
   pub plain : StandsFor e.pushed (marked ∷ items) (native_text (map (λ q. q.packet) packets))
-  pub are : AreStream Subset (map (λ q. q.packet) packets) items
+  pub are : AreStream e.pushed.shape.profile (map (λ q. q.packet) packets) items
   pub good : All IsPlaced packets
   pub small : e.serial < 2 ^ 32
   pub first : (q : Placed) × (qs : List Placed) × (packets ≡ q ∷ qs) × (length q.packet ≡ 51)
@@ -121,4 +119,4 @@ pub record BeginsPushOgg {S : Type 0} (g : target.Ghosts S) (block : List (List 
 pub record EndsOgg {S : Type 0} (g : target.Ghosts S) (e : PushedOgg S) (new : S) : Type 0 where
   pub sent : bits_of (g.sent new) ≡ bits_of (g.sent e.pushed.target) ++ bits_of e.last
   pub whole : (items : List Piece) (packets : List Placed) (written : List Bool) → StandsForOgg e items packets written
-      → (written ++ bits_of e.last ≡ stream_spelling e.serial packets) × OggStream Subset (beginning Truncated) items (written ++ bits_of e.last)
+      → (written ++ bits_of e.last ≡ stream_spelling e.serial packets) × OggStream e.pushed.shape.profile (beginning Truncated) items (written ++ bits_of e.last)

@@ -15,7 +15,7 @@ ghost use Rattle.flac_pages.specs.Packets.{ahead};
 ghost use Rattle.flac_ogg.specs.Coming.{ItemsCome, IsClear};
 ghost use Rattle.flac_bits.specs.Handing.{Hands, Decides, outcome_of};
 ghost use Rattle.flac_native.specs.Item.{told};
-ghost use Rattle.flac_ogg.specs.Decoding.{ogg_reading};
+ghost use Rattle.flac_ogg.specs.Decoding.{IsFront, ogg_reading};
 ghost use Rattle.flac_ogg.specs.Fronts.{front_bytes, front_count};
 ghost use Rattle.flac_ogg.specs.Either.{begins_page, read_either};
 
@@ -27,7 +27,8 @@ use std::alloc::Global;
 use std::io;
 
 /// Makes a decoder of an Ogg stream, whose first page begins at the source's next byte (RFC 9639, section 10.1). It has
-/// the calls of [`Decoder`], and lends a block or a frame once its packet has ended.
+/// the calls of [`Decoder`], and lends a block or a frame once its packet has ended. They report [`Why::Read`] at the
+/// page that was being read ([`crate::calls_break_at_pages`]).
 ///
 /// It allocates 65025 bytes for a page here. When it reads metadata, it allocates for each block, and at STREAMINFO for
 /// one frame.
@@ -52,6 +53,8 @@ pub fn ogg_decoder<R: Source + Drop>(
     // What is still to come is what the input is.
     ensures stream { IfOk result (λ d. (items : List Piece) → OggStream profile (beginning (short_of ((R.behind source).fails))) items (bits_of (R.coming source)) → ItemsCome (start profile) (ahead (stage_of d).container.pages) items None) }
     ensures refused { IfOk result (λ d. (items : List Piece) (at : Where) (why : Reason) → OggRefused profile (beginning (short_of ((R.behind source).fails))) items (bits_of (R.coming source)) at why → ItemsCome (start profile) (ahead (stage_of d).container.pages) items (Some (at, why))) }
+    // No page was read.
+    ensures front { IfOk result (λ d. R.known source ≡ true → IsFront (beginning (short_of ((R.behind source).fails))) (bits_of (R.coming source)) (stage_of d).container.pages) }
     // Read is returned only if the source returns an error in the call, unless one is announced.
     ensures clear { IfOk result (λ d. (R.behind source).fails ≡ None → IsClear (stage_of d).container.pages (stage_of d).track) }
     ensures memory { IfErr result (λ f. f.why ≡ Why.Memory) }
@@ -170,7 +173,7 @@ impl<S: Source> Source for Fronted<S> {
 
 /// Whether this byte begins a page, so that the stream is in Ogg (RFC 3533, section 6); false if there is none. For
 /// readers of either container.
-pub fn is_page(front: Option<u8>) -> bool
+pub fn begins_page(front: Option<u8>) -> bool
     ensures { result ≡ begins_page (front_bytes front) }
 {
     match front {
@@ -180,7 +183,7 @@ pub fn is_page(front: Option<u8>) -> bool
 }
 
 /// Pulls the first byte of a source, if there is one: `None` at its end. For readers of either container, which ask
-/// [`is_page`] about it, and put it in front of the source again by [`Fronted`].
+/// [`begins_page`] about it, and put it in front of the source again by [`Fronted`].
 ///
 /// # Errors
 /// [`Why::Read`] at the marker if the source returns an error.
@@ -273,7 +276,7 @@ pub fn decode_any<R: Source, S: Sink>(
 {
     let front = pull_front(source)?;
     let mut fronted = Fronted { front, source };
-    let outcome = decode_as(alloc, is_page(front), &mut fronted, profile, sink);
+    let outcome = decode_as(alloc, begins_page(front), &mut fronted, profile, sink);
     let _source = fronted.into_source();
     outcome
 }

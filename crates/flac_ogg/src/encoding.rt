@@ -262,7 +262,7 @@ fn send_frames<W: Target>(
         audio,
         frames,
     } = *planned;
-    let size = plan.block_size() as usize;
+    let _size = plan.block_size(); // for the proof alone: what holds of every plan
     let total = audio.len();
     let mut room = room;
     let mut pages = pages;
@@ -270,7 +270,7 @@ fn send_frames<W: Target>(
     let mut number = 0;
     let mut start = 0;
     while start < total {
-        let end = start + size.min(total - start);
+        let end = plan.range(audio, number).end;
         room = frames.write(plan, audio, number, buffers, room);
         let marks = PacketMarks {
             serial: headers.serial,

@@ -1,9 +1,13 @@
 //! Laws: what holds of the definitions. Calling them does nothing; a proof may name them.
 
-ghost use Rattle.flac_ogg.specs.Laws.{OggIsReadOnce, OggIsRead};
+ghost use Rattle.flac_ogg.specs.Laws.{OggIsReadOnce, OggIsRead, CallsBreakAtPages};
 ghost use Rattle.flac_ogg.specs.Native.{OggStreamsAreStreams, EncodedAreOggItems};
 ghost use Rattle.flac_ogg.specs.RoundTrip.{EncodedOggIsRead};
 ghost use Rattle.flac_ogg.specs.Wider.{SubsetOggIsLax};
+
+use crate::packets::OggPackets;
+use flac_bits::Source;
+use flac_native::Container;
 
 /// No input has two readings: it is one Ogg stream of FLAC, or it is refused at one place for one reason.
 pub fn only_one_way()
@@ -37,4 +41,12 @@ pub fn encoded_are_read()
 /// same items.
 pub fn subset_is_lax()
     ensures { SubsetOggIsLax }
+{}
+
+/// A decoder of known bytes, as [`crate::ogg_decoder`] makes it, gave some items, and then a call of
+/// [`crate::Decoder::next`] returned [`crate::Why::Read`] or [`crate::Why::Memory`]. The items are those of the first
+/// packets. The place of `Read` is the page after the first n good pages, in which exactly these packets end; that of
+/// `Memory` is the next metadata block, never a frame.
+pub fn calls_break_at_pages<R: Source>()
+    ensures { CallsBreakAtPages ⟦<OggPackets<R> as Container>⟧ }
 {}

@@ -25,7 +25,7 @@ mod ogg_encoder;
 mod packets;
 mod verifying;
 
-pub use decoding::{Fronted, decode_any, decode_ogg, is_page, ogg_decoder, pull_front};
+pub use decoding::{Fronted, begins_page, decode_any, decode_ogg, ogg_decoder, pull_front};
 pub use encoding::encode_ogg;
 pub use flac_bits::{Collected, Counted, Memory, Pieces, Source, Target, Why};
 pub use flac_frame::{Audio, FrameView, SetupFault};
@@ -35,11 +35,12 @@ pub use flac_meta::{
 };
 pub use flac_native::{
     Decoder, EncodeFault, Fault, Item, LinearPredictor, Place, Plan, Profile, Sink, SinkFault,
-    decode,
+    StreamFormat, decode,
 };
 pub use flac_pages::{PacketBytes, Pages};
 pub use laws::{
-    encoded_are_read, encoded_items, only_one_way, same_items, some_way, subset_is_lax,
+    calls_break_at_pages, encoded_are_read, encoded_items, only_one_way, same_items, some_way,
+    subset_is_lax,
 };
 pub use ogg_encoder::OggEncoder;
 pub use packets::OggPackets;

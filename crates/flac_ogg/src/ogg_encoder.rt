@@ -7,7 +7,7 @@ ghost use Rattle.flac_bits.specs.State.{Rises};
 ghost use Rattle.flac_frame.specs.Audio.{samples_each};
 ghost use Rattle.flac_native.specs.Given.{predictors_fault};
 ghost use Rattle.flac_native.specs.Stream.{Piece};
-ghost use Rattle.flac_native.specs.Pushing.{shape_of, shape_fault, open_info, unpushed, behind_block, spent_with, size_fault, push_fault, IsFirst};
+ghost use Rattle.flac_native.specs.Pushing.{shape_of, shape_fault, open_info, unpushed, behind_block, spent_with, push_fault, IsFirst};
 ghost use Rattle.flac_native.specs.Writing.{head_spelling};
 ghost use Rattle.flac_native.specs.declared.fault.EncodeFault.TheVariants.{Spent, Setup};
 ghost use Rattle.flac_pages.specs.Placed.{Placed, sequence_behind};
@@ -20,19 +20,19 @@ use crate::headers::headers_of;
 use crate::held_packet::HeldPacket;
 use crate::verifying::{bytes_fit, in_memory};
 use flac_bits::{Collected, Target, Why, send_all};
-use flac_frame::{EncodeBuffers, SetupFault};
+use flac_frame::SetupFault;
 use flac_meta::BlockList;
 use flac_native::{
-    EncodeFault, LinearPredictor, Profile, StreamEncoder, StreamFormat, block_len, predictors_fault,
+    BlockEncoder, EncodeFault, LinearPredictor, Profile, StreamEncoder, StreamFormat, block_len,
 };
 use flac_pages::{PacketKind, PacketMarks};
 use std::alloc::Global;
 use std::marker::Model;
 
-/// Encodes an Ogg stream of the streamable subset a block at a time, as a recorder does whose samples are not all there
-/// yet (RFC 9639, sections 7 and 10.1). [`OggEncoder::new`] writes the header packets, of STREAMINFO and the metadata
-/// blocks, [`OggEncoder::push`] makes a packet of one frame, and [`OggEncoder::finish`] ends the stream and returns the
-/// target.
+/// Encodes an Ogg stream a block at a time, as a recorder does whose samples are not all there yet (RFC 9639, section
+/// 10.1). [`OggEncoder::new`] writes the header packets, of STREAMINFO and the metadata blocks, [`OggEncoder::push`]
+/// makes a packet of one frame, and [`OggEncoder::finish`] ends the stream and returns the target.
+/// [`OggEncoder::new_in`] does so for a profile.
 ///
 /// The last packet is held back until the next one comes or the stream ends, since the last page of a stream is marked.
 /// STREAMINFO states neither the number of samples nor the sizes of the frames nor the digest, since they are not known
@@ -47,48 +47,23 @@ use std::marker::Model;
 pub struct OggEncoder<W: Target> {
     alloc: Global,
     serial: u32,
-    format: StreamFormat,
-    predictors: Vec<LinearPredictor>,
-    number: u64,
-    samples: u64,
-    ended: bool,
-    spent: bool,
-    buffers: EncodeBuffers,
+    blocks: BlockEncoder,
     held: HeldPacket,
     target: W,
 }
 
 impl<W: Target> Model for OggEncoder<W> {
-    ghost use Rattle.std.specs.Prelude.{◌≡◌, ◌<◌, ◌≤◌, ◌^◌, None};
-    ghost use Rattle.flac_frame.specs.Encoding.{most_in};
-    ghost use Rattle.flac_native.specs.Given.{predictors_fault};
-    ghost use Rattle.flac_native.specs.Pushing.{shape_of, shape_fault};
+    ghost use Rattle.flac_native.specs.Pushing.{with_target};
     ghost use Rattle.flac_ogg.specs.Pushing.{PushedOgg};
 
     ghost Value = { PushedOgg W };
 
     ghost view = { λ e. record {
-      pushed = record {
-        shape = shape_of e.format;
-        predictors = e.predictors.items;
-        number = e.number;
-        samples = e.samples;
-        ended = e.ended;
-        spent = e.spent;
-        target = e.target;
-      };
+      pushed = with_target e.blocks e.target;
       serial = e.serial;
       sequence = e.held.next;
       middle = e.held.middle.items;
       last = e.held.last.items;
-    } };
-
-    ghost invariant = { λ e. record {
-      shape : shape_fault (shape_of e.format) ≡ None;
-      predictors : predictors_fault e.format.profile e.format.rate e.predictors.items ≡ None;
-      buffers : e.buffers ≡ record { block = e.format.block_size; most = most_in e.format.profile };
-      number : e.number ≤ 2 ^ 31;
-      samples : e.samples < 2 ^ 36;
     } };
 }
 
@@ -175,20 +150,12 @@ fn hold_frame(
 }
 
 impl<W: Target + Drop> OggEncoder<W> {
-    /// Makes an encoder for this format, and writes the header packets: the mapping with STREAMINFO, and one for each
-    /// block of the list (RFC 9639, section 10.1; RFC 3533). It holds the last of them back. Their pages have granule
-    /// position 0. No linear predictors are tried yet: see [`OggEncoder::set_predictors`].
-    ///
-    /// - `serial` is the serial number of the stream.
-    /// - The sample rate in Hz, bits per sample, channels and block size are those of
-    ///   [`StreamEncoder::new`](flac_native::StreamEncoder::new).
-    /// - The first block of the list must be a Vorbis comment.
+    /// Makes an encoder for the streamable subset, and writes the header packets, as [`OggEncoder::new_in`] does for
+    /// [`Profile::Subset`]: with a sample rate in Hz, bits per sample, a number of channels, and a block size in samples
+    /// of each channel ([`StreamFormat`] has their ranges).
     ///
     /// # Errors
-    /// [`EncodeFault::Setup`] with `BadRate`, `BadDepth`, `BadChannels` or `BadBlockSize`, or
-    /// [`EncodeFault::BadMapping`] if the list does not begin with a Vorbis comment, the first that applies. Else
-    /// [`EncodeFault::Memory`] if an allocation fails, or [`EncodeFault::Write`] if the target returns an error. The
-    /// target is not returned then.
+    /// Those of [`OggEncoder::new_in`].
     pub fn new(
         alloc: Global,
         serial: u32,
@@ -215,11 +182,43 @@ impl<W: Target + Drop> OggEncoder<W> {
             channels,
             block_size,
         };
-        let head = open_head(alloc, &format, list)?;
+        OggEncoder::new_in(alloc, serial, &format, list, target)
+    }
+
+    /// Makes an encoder for this format, and writes the header packets: the mapping with STREAMINFO, and one for each
+    /// block of the list (RFC 9639, section 10.1; RFC 3533). It holds the last of them back. Their pages have granule
+    /// position 0. No linear predictors are tried yet: see [`OggEncoder::set_predictors`].
+    ///
+    /// `serial` is the serial number of the stream. The first block of the list must be a Vorbis comment.
+    ///
+    /// ```
+    /// let format = StreamFormat { profile: Profile::Lax, rate: 1000000, bits: 14, channels: 1, block_size: 32768 };
+    /// let mut encoder = OggEncoder::new_in(alloc, serial, &format, &blocks, file)?;
+    /// ```
+    ///
+    /// # Errors
+    /// [`EncodeFault::Setup`] with the fault of the format ([`StreamFormat::fault`]), or [`EncodeFault::BadMapping`] if
+    /// the list does not begin with a Vorbis comment, the first that applies. Else [`EncodeFault::Memory`] if an
+    /// allocation fails, or [`EncodeFault::Write`] if the target returns an error. The target is not returned then.
+    pub fn new_in(
+        alloc: Global,
+        serial: u32,
+        format: &StreamFormat,
+        list: &BlockList,
+        target: W,
+    ) -> Result<OggEncoder<W>, EncodeFault>
+        ensures made { IfOk result (λ e. e.pushed ≡ unpushed (shape_of format.now) e.pushed.target) }
+        ensures serial { IfOk result (λ e. e.serial ≡ serial) }
+        ensures opens { IfOk result (λ e. Opens W.Target list.now target e) }
+        ensures known { IfOk result (λ e. W.known target ≡ true → W.known e.pushed.target ≡ true) }
+        ensures counted { IfOk result (λ e. W.errors e.pushed.target ≡ W.errors target) }
+        ensures names { IfOk result (λ e. W.names e.pushed.target ≡ W.names target) }
+        ensures accepted { OnOk result (open_fault (shape_of format.now) list.now ≡ None) }
+        ensures refused { IfErr result (λ e. IsFirst (open_fault (shape_of format.now) list.now) e) }
+    {
+        let head = open_head(alloc, format, list)?;
         let _blocks = list.blocks(); // for the proof alone: what holds of every list
-        let Ok(buffers) = EncodeBuffers::new(alloc, block_size) else {
-            return Err(EncodeFault::Memory);
-        };
+        let blocks = BlockEncoder::new(alloc, format)?;
         let Ok(headers) = headers_of(alloc, serial, head.as_slice(), list) else {
             return Err(EncodeFault::Memory);
         };
@@ -228,13 +227,7 @@ impl<W: Target + Drop> OggEncoder<W> {
             Ok(()) => Ok(OggEncoder {
                 alloc,
                 serial,
-                format,
-                predictors: Vec::new(alloc),
-                number: 0,
-                samples: 0,
-                ended: false,
-                spent: false,
-                buffers,
+                blocks,
                 held: headers.held,
                 target,
             }),
@@ -262,43 +255,7 @@ impl<W: Target + Drop> OggEncoder<W> {
         ensures refused { IfErr result (λ e. predictors_fault self.old.pushed.shape.profile self.old.pushed.shape.rate predictors.items ≡ Some e) }
         ensures kept { IfErr result (λ e. self.new ≡ self.old) }
     {
-        let StreamFormat { profile, rate, .. } = self.format;
-        if let Some(fault) = predictors_fault(profile, rate, predictors.as_slice()) {
-            return Err(fault);
-        }
-        self.predictors = predictors;
-        Ok(())
-    }
-
-    /// Why a block of `len` samples cannot be the next frame, or `None` if it can.
-    #[tactic(auto, unfolding(flac_native::specs::Pushing::size_fault))]
-    fn size_fault(&self, len: u64) -> Option<EncodeFault>
-        ensures { result ≡ size_fault self.now.pushed len }
-    {
-        if len >= (1 << 36) - self.samples || self.number >= 1 << 31 {
-            return Some(EncodeFault::Setup(SetupFault::TooLong));
-        }
-        if len == 0 || len > self.format.block_size as u64 {
-            return Some(EncodeFault::Setup(SetupFault::BadBlockSize));
-        }
-        if self.ended {
-            return Some(EncodeFault::BlockSize);
-        }
-        None
-    }
-
-    /// The first reason for which a block is refused, or `None`.
-    #[tactic(auto, unfolding(flac_native::specs::Pushing::push_fault))]
-    fn push_fault(&self, block: &[&[i32]]) -> Option<EncodeFault>
-        ensures { result ≡ push_fault self.now.pushed (map (λ c. c.now) block.now) }
-    {
-        if self.spent {
-            return Some(EncodeFault::Spent);
-        }
-        if let Some(fault) = self.format.block_fault(block) {
-            return Some(EncodeFault::Setup(fault));
-        }
-        self.size_fault(block_len(block) as u64)
+        self.blocks.set_predictors(predictors)
     }
 
     /// Makes a block the next frame, as [`StreamEncoder::push`] does, but holds its packet back, and writes the packet
@@ -326,21 +283,8 @@ impl<W: Target + Drop> OggEncoder<W> {
         ensures risen { IfErr result (λ e. e ≡ EncodeFault.Write → Rises (W.errors self.old.pushed.target) (W.errors self.new.pushed.target)) }
         ensures names { W.names self.new.pushed.target ≡ W.names self.old.pushed.target }
     {
-        if let Some(fault) = self.push_fault(block) {
-            return Err(fault);
-        }
-        let len = block_len(block) as u64;
-        let Ok(packet) = self.format.encode_block(
-            self.alloc,
-            self.predictors.as_slice(),
-            block,
-            self.number,
-            &mut self.buffers,
-        )
-        else {
-            return Err(EncodeFault::Memory);
-        };
-        let end = self.samples + len;
+        let packet = self.blocks.encode(block)?;
+        let end = self.blocks.samples() + block_len(block) as u64;
         let Ok(held) = hold_frame(
             self.alloc,
             self.serial,
@@ -352,14 +296,12 @@ impl<W: Target + Drop> OggEncoder<W> {
         };
         match send_all(&mut self.target, self.held.middle.as_slice()) {
             Ok(()) => {
-                self.number += 1;
-                self.samples = end;
-                self.ended = len < self.format.block_size as u64;
+                self.blocks.sent(block);
                 self.held = held;
                 Ok(())
             }
             Err(_) => {
-                self.spent = true;
+                self.blocks.failed();
                 Err(EncodeFault::Write)
             }
         }
@@ -379,7 +321,7 @@ impl<W: Target + Drop> OggEncoder<W> {
         ensures spent { (result ≡ Err EncodeFault.Spent) ↔ (self.pushed.spent ≡ true) }
         ensures only { IfErr result (λ e. (e ≡ EncodeFault.Spent) ⊎ (e ≡ EncodeFault.Write)) }
     {
-        if self.spent {
+        if self.blocks.is_spent() {
             return Err(EncodeFault::Spent);
         }
         let OggEncoder { held, target, .. } = self;

@@ -1,7 +1,7 @@
 //! The packets of an Ogg stream as a container.
 
 ghost use Rattle.std.specs.Prelude.{◌≡◌, ◌≢◌, ◌≤◌, ◌+◌, OnOk, IfErr, ◌<◌, IfOk, Some, true, false, length, None, Err, ℕ, cond, IfSome, ◌&&◌, not, nat_eq, is_some};
-ghost use Rattle.flac_bits.specs.Reading.{Counts, Reads, ReadsInRoom};
+ghost use Rattle.flac_bits.specs.Reading.{Counts, Reads, ReadsInRoom, Call, CallInPlace};
 ghost use Rattle.flac_ogg.specs.Mapping.{mapping, is_first_block, page_place, item_place, packet_place, packet_layout};
 ghost use Rattle.flac_native.specs.Stream.{Stand, place_in, Progress, next, room_in, layout_in, framed, frame_behind};
 ghost use Rattle.flac_native.specs.Track.{stand_of, IsAt, IsMadeAs, piece_of, kept, shown};
@@ -21,23 +21,20 @@ ghost use Rattle.flac_bits.specs.State.{the_end};
 ghost use Rattle.flac_ogg.specs.Coming.{ItemsCome, IsClear};
 
 use flac_bits::{BitReader, Source, Why};
-use flac_native::{Container, Fault, Part, Place, Track};
+use flac_native::{Container, Fault, MARKER, Part, Place, Track};
 use flac_pages::{PacketBytes, PacketFault, Pages, end_item, packet_bits};
 
 /// Reads what the first packet has before STREAMINFO: the byte 7F and `FLAC`, version 1.0, the number of header
 /// packets, which may be any, and `fLaC` (RFC 9639, section 10.1).
 #[tactic(auto, unfolding(crate::specs::Mapping::mapping))]
 pub(crate) fn read_mapping<R: Source>(bits: &mut BitReader<R>) -> Result<(), Why>
-    ensures spends { OnOk result (bits.new.most + 104 ≤ bits.old.most) }
-    ensures counts { Counts bits.old bits.new result }
-    ensures memory { IfErr result (λ e. e ≢ Why.Memory) }
-    ensures reads { Reads (λ u. u) mapping bits.old bits.new result }
+    ensures reading { CallInPlace 104 (Reads (λ u. u) mapping) bits.old bits.new result }
 {
     let name = bits.take(40)?;
     let version = bits.take(16)?;
     let _count = bits.take(16)?;
     let marker = bits.take(32)?;
-    if name != 0x7F464C4143 || version != 0x0100 || marker != 0x664C6143 {
+    if name != 0x7F464C4143 || version != 0x0100 || marker != MARKER {
         return Err(Why::BadMapping);
     }
     Ok(())
@@ -98,9 +95,7 @@ pub(crate) fn packet_fault(at: Place, told: PacketFault) -> Fault
 
 /// What [`Track::next_block`] does, proved by the reading of the layout.
 fn block_here<R: Source>(bits: &mut BitReader<R>, track: &mut Track) -> Result<(), Why>
-    ensures spends { OnOk result (bits.new.most + 32 ≤ bits.old.most) }
-    ensures counts { Counts bits.old bits.new result }
-    ensures reads { ReadsInRoom (λ _. kept track.new) (layout_in Blocks (stand_of track.old)) bits.old bits.new result }
+    ensures reading { Call 32 (ReadsInRoom (λ _. kept track.new) (layout_in Blocks (stand_of track.old))) bits.old bits.new result }
     ensures next { OnOk result ((p : Progress) → IsAt track.old p → IsAt track.new (next p (kept track.new))) }
     ensures made { OnOk result (is_some track.new.block ≡ true) }
 {
@@ -133,10 +128,7 @@ fn read_first_block<R: Source>(bits: &mut BitReader<R>, track: &mut Track) -> Re
 
 /// What [`Track::next_frame`] does, proved by the reading of the layout.
 fn frame_here<R: Source>(bits: &mut BitReader<R>, track: &mut Track) -> Result<(), Why>
-    ensures spends { OnOk result (bits.new.most + 40 ≤ bits.old.most) }
-    ensures counts { Counts (lifted bits.old) bits.new result }
-    ensures memory { IfErr result (λ e. e ≢ Why.Memory) }
-    ensures reads { ReadsWithin (Some 16777215) (λ _. shown track.new) (frame_behind (stand_of track.old).profile (stand_of track.old).info (stand_of track.old).before) bits.old bits.new result }
+    ensures reading { CallInPlace 40 (λ _. ReadsWithin (Some 16777215) (λ _. shown track.new) (frame_behind (stand_of track.old).profile (stand_of track.old).info (stand_of track.old).before) bits.old) (lifted bits.old) bits.new result }
     ensures next { OnOk result ((p : Progress) → IsAt track.old p → IsAt track.new (next p (framed (shown track.new)))) }
     ensures made { OnOk result (is_some (stand_of track.new).info ≡ true) }
     ensures last { track.new.last ≡ track.old.last }

@@ -9,7 +9,7 @@ use flac_bits::Collected;
 use flac_frame::Audio;
 use flac_meta::BlockList;
 use flac_native::{Plan, Profile, StreamEncoder, StreamFormat};
-use flac_ogg::{encode_and_decode, encode_ogg};
+use flac_ogg::{OggEncoder, encode_and_decode, encode_ogg};
 use flac_testing::{encoded, encoded_by, no_comments, number_of};
 use flac_vectors::{OUTSIDE, OUTSIDE_PAGES, OUTSIDE_PUSHED, bursts, fields_of, pair_of};
 use std::alloc::Global;
@@ -18,8 +18,7 @@ use std::test::Fail;
 
 /// Rate and depth; the block size, which is also the number of samples; and the stream of zeros.
 const SILENT: &str =
-    "65537 5 | 16 | 664c6143800000220010001000000b00000b10001040000000104ae71336e44bf9bf79d2752e234818a5fff86000000fc700000572
-44100 16 | 8192 | 664c6143800000222000200000000b00000b0ac440f000002000ce338fe6899778aacfc28414f2d9498bfff8d90800371003c0914d
+    "44100 16 | 8192 | 664c6143800000222000200000000b00000b0ac440f000002000ce338fe6899778aacfc28414f2d9498bfff8d90800371003c0914d
 44100 16 | 65535 | 664c614380000022ffffffff00000d00000d0ac440f00000ffff265197b2885675ec535ec13c1bb7fea0fff8790800fffe421003c0e665";
 
 /// That many zeros of one channel.
@@ -117,6 +116,7 @@ fn are_outside(alloc: Global, digits: &str) -> Result<bool, Fail> {
 /// Sixteen zeros of 5 bits at 65537 Hz, in both containers.
 #[test]
 fn in_both_containers(rt: HostRuntime) -> Result<(), Fail> {
+    assert!(rt; are_outside(rt.alloc(), OUTSIDE)?);
     assert!(rt; are_outside(rt.alloc(), OUTSIDE_PAGES)?);
     let audio = zeros(rt.alloc(), "65537 5", 16)?;
     let plan = Plan::new(16, &audio, 0)?;
@@ -273,6 +273,37 @@ fn block_by_block(rt: HostRuntime) -> Result<(), Fail> {
     let wanted = hex::decode(rt.alloc(), OUTSIDE_PUSHED)?;
     assert!(rt; answers == [0, 44, 0]);
     assert!(rt; target.bytes() == wanted.as_slice());
+    assert!(rt; is_outside(rt.alloc(), target.bytes())?);
+    Ok(())
+}
+
+/// Pushes 16 zeros and a sample of 6 bits.
+fn push_pages(encoder: &mut OggEncoder<Collected>) -> [u8; 2] {
+    let (zeros, large) = ([0; 16], [16; 16]);
+    [
+        number_of(encoder.push(&[zeros.as_slice()])),
+        number_of(encoder.push(&[large.as_slice()])),
+    ]
+}
+
+/// What an encoder of Ogg streams writes of these, of 5 bits at 65537 Hz.
+fn pushed_pages(alloc: Global) -> Result<([u8; 2], Collected), Fail> {
+    let format = format_of("lax 65537 5 1 16")?;
+    let list = no_comments(alloc)?;
+    let made = OggEncoder::new_in(alloc, 1, &format, &list, Collected::new(alloc));
+    drop(list);
+    let mut encoder = made?;
+    let answers = push_pages(&mut encoder);
+    Ok((answers, encoder.finish()?))
+}
+
+/// The pages behind the first one, of 79 bytes, whose STREAMINFO states neither total nor digest.
+#[test]
+fn pages_block_by_block(rt: HostRuntime) -> Result<(), Fail> {
+    let (answers, target) = pushed_pages(rt.alloc())?;
+    let wanted = hex::decode(rt.alloc(), OUTSIDE_PAGES)?;
+    assert!(rt; answers == [0, 44]);
+    assert!(rt; target.bytes().get(79..) == wanted.get(79..));
     assert!(rt; is_outside(rt.alloc(), target.bytes())?);
     Ok(())
 }

@@ -1,5 +1,5 @@
-//! Tests of Ogg streams, and of streams in both containers: outside the streamable subset, and by predictors that are handed in. What fails, or comes in pieces, is
-//! tested in `flac_failure_tests`.
+//! Tests of Ogg streams, and of streams in both containers: outside the streamable subset, and by predictors that are
+//! handed in. What fails, or comes in pieces, is tested in `flac_failure_tests`.
 #![tactic(auto)]
 
 #[cfg(test)]

@@ -78,7 +78,8 @@ fn no_stream_in_ogg(rt: HostRuntime) -> Result<(), Fail> {
     is_refused(&rt, rt.alloc(), 1, 1)
 }
 
-/// One sample with that block behind paddings, encoded and decoded again in one call: in pages if there is a serial number.
+/// One sample with that block behind paddings, encoded and decoded again in one call: in pages if there is a serial
+/// number.
 fn both_ways(
     alloc: Global,
     serial: Option<u32>,

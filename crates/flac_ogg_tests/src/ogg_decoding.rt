@@ -1,5 +1,5 @@
-//! An Ogg stream item by item, and either container by one call: the stream of RFC 9639, appendix D.1, with an empty list of comments, each packet in a page of
-//! its own.
+//! An Ogg stream item by item, and either container by one call: the stream of RFC 9639, appendix D.1, with an empty
+//! list of comments, each packet in a page of its own.
 
 ghost use Rattle.std.specs.Prelude.{⊤, [], true};
 

@@ -1,4 +1,5 @@
-//! Ogg streams that are encoded a block at a time, as the samples come. The sums of the pages were worked out apart from this project.
+//! Ogg streams that are encoded a block at a time, as the samples come. The sums of the pages were worked out apart
+//! from this project.
 
 use flac_bits::{Collected, Counted, Memory, Target};
 use flac_frame::Audio;
@@ -15,7 +16,8 @@ use std::test::Fail;
 const NO_FRAME: &str =
     "4f676753000200000000000000000100000000000000bb6e652301337f464c414301000001664c614300000022100010000000000000000ac442f000000000000000000000000000000000000000004f67675300040000000000000000010000000100000099fee768010c840000080000000000000000";
 
-/// A block of no vendor and no comments, and behind it this many paddings; or, if it is not asked for, the paddings alone.
+/// A block of no vendor and no comments, and behind it this many paddings; or, if it is not asked for, the paddings
+/// alone.
 fn list_of(alloc: Global, comments: bool, paddings: usize) -> Result<BlockList, Fail> {
     let mut blocks = Vec::new(alloc);
     if comments {
@@ -179,7 +181,8 @@ fn two_with_room(alloc: Global, room: usize) -> Result<[u8; 3], Fail> {
     Ok(two_and_finish(encoder))
 }
 
-/// A target that fails in the second header packet, which the first frame is held behind, and one that fails at the end.
+/// A target that fails in the second header packet, which the first frame is held behind, and one that fails at the
+/// end.
 #[test]
 fn spent(rt: HostRuntime) -> Result<(), Fail> {
     assert!(rt; two_with_room(rt.alloc(), 100)? == [39, 38, 38]);
@@ -233,8 +236,8 @@ fn at_once(alloc: Global) -> Result<Collected, Fail> {
     Ok(target)
 }
 
-/// Whether two streams differ at most in the first page, of 79 bytes, which has STREAMINFO: its sum is at 22, and the frames' sizes, the number of samples and the
-/// digest are from 53 on.
+/// Whether two streams differ at most in the first page, of 79 bytes, which has STREAMINFO: its sum is at 22, and the
+/// frames' sizes, the number of samples and the digest are from 53 on.
 fn differ_in_info(a: &[u8], b: &[u8]) -> bool {
     a.len() == b.len()
         && a.len() > 79

@@ -19,7 +19,7 @@ mod writing;
 
 pub use item::{end_item, packet_bits, read_packet};
 pub use packet_bytes::PacketBytes;
-pub use page::{Before, Head, MOST_BODY, MOST_PAGE, PacketFault, PageFault};
+pub use page::{Before, CAPTURE_PATTERN, Head, MOST_BODY, MOST_PAGE, PacketFault, PageFault};
 pub use pages::Pages;
 pub use promises::{
     packet_list_is_given, packets_are_given, packets_are_placed, packets_tell_one, pages_are_runs,

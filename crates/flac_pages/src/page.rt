@@ -11,6 +11,14 @@ pub const MOST_BODY: usize = 65025;
 /// The most bytes that a page has: 27 in its fixed fields, 255 lacing values, and those of its segments.
 pub const MOST_PAGE: usize = 65307;
 
+/// What each page begins with: `OggS` (RFC 3533, section 6, field 1).
+pub const CAPTURE_PATTERN: [u8; 4] = [0x4F, 0x67, 0x67, 0x53];
+
+/// The last three bytes of [`CAPTURE_PATTERN`], as a number of 24 bits.
+pub(crate) const CAPTURE_END: u64 = (CAPTURE_PATTERN[1] as u64) * 65536
+    + (CAPTURE_PATTERN[2] as u64) * 256
+    + CAPTURE_PATTERN[3] as u64;
+
 /// The flag of a page that begins inside a packet.
 pub(crate) const CONTINUED: u8 = 1;
 

@@ -67,8 +67,8 @@ impl<R: Source> Model for Pages<R> {
 }
 
 impl<R: Source + Drop> Pages<R> {
-    /// Makes a reader of the pages of a source, from its first byte on. It allocates 65025 bytes, the most that a page
-    /// can have.
+    /// Makes a reader of the pages of a source, from its first byte on. It allocates 65025 bytes, the most that the
+    /// segments of a page can have.
     ///
     /// ```
     /// let mut pages = Pages::new(rt.alloc(), Memory::new(&stream))?;

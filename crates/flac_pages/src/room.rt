@@ -4,7 +4,7 @@ ghost use Rattle.std.specs.Prelude.{◌≡◌, ◌≢◌, ◌≤◌, ◌<◌, �
 ghost use Rattle.std.specs.List.{sum};
 ghost use Rattle.flac_bits.specs.Layout.{bits as number, run};
 ghost use Rattle.flac_bits.specs.Lists.{list_of};
-ghost use Rattle.flac_bits.specs.Reading.{Counts, Reads, Gives};
+ghost use Rattle.flac_bits.specs.Reading.{Counts, Reads, Gives, CallInPlace};
 ghost use Rattle.flac_bits.specs.Unchecked.{begun_anew};
 ghost use Rattle.flac_pages.specs.Pages.{between, next_page};
 ghost use Rattle.flac_pages.specs.Page.{page_sum, page_behind, end_rules, first_broken};
@@ -153,11 +153,8 @@ impl PageRoom {
         before: Option<Before>,
         first: u8,
     ) -> Result<(), Why>
-        ensures spends { OnOk result (reader.new.most + length self.new.body ≤ reader.old.most) }
+        ensures reading { CallInPlace (length self.new.body) (Gives (λ _. self.new) (begun_anew (run (page_behind before first) reader.old.cursor))) reader.old reader.new result }
         ensures whole { OnOk result ((length self.new.body ≡ sum self.new.lacing) × (length self.new.body ≤ 65025) × (length self.new.lacing ≤ 255)) }
-        ensures counts { Counts reader.old reader.new result }
-        ensures memory { IfErr result (λ e. e ≢ Why.Memory) }
-        ensures reads { Gives (λ _. self.new) (begun_anew (run (page_behind before first) reader.old.cursor)) reader.old reader.new result }
     {
         self.head = read_head(reader, first)?;
         self.count = reader.take(8)? as u8;
@@ -194,10 +191,7 @@ fn total(values: &[u8; 255], count: u8) -> u32
 /// Fills the first n bytes of `out` with the next bytes.
 fn read_some<R: Source>(reader: &mut BitReader<R>, out: &mut [u8], n: usize) -> Result<(), Why>
     requires { n ≤ length out.now }
-    ensures spends { OnOk result (reader.new.most + n ≤ reader.old.most) }
-    ensures counts { Counts reader.old reader.new result }
-    ensures memory { IfErr result (λ e. e ≢ Why.Memory) }
-    ensures reads { Reads (λ _. take n out.new) (list_of n (number 8)) reader.old reader.new result }
+    ensures reading { CallInPlace n (Reads (λ _. take n out.new) (list_of n (number 8))) reader.old reader.new result }
 {
     read_bytes(reader, &mut out[..n])
 }
@@ -209,10 +203,7 @@ fn read_unchecked_some<R: Source>(
     n: usize,
 ) -> Result<(), Why>
     requires { n ≤ length out.now }
-    ensures spends { OnOk result (reader.new.most + n ≤ reader.old.most) }
-    ensures counts { Counts reader.old reader.new result }
-    ensures memory { IfErr result (λ e. e ≢ Why.Memory) }
-    ensures reads { Gives (λ _. take n out.new) (begun_anew (run (list_of n (number 8)) reader.old.cursor)) reader.old reader.new result }
+    ensures reading { CallInPlace n (Gives (λ _. take n out.new) (begun_anew (run (list_of n (number 8)) reader.old.cursor))) reader.old reader.new result }
 {
     read_unchecked(reader, &mut out[..n])
 }
@@ -221,10 +212,7 @@ fn read_unchecked_some<R: Source>(
 fn read_body<R: Source>(reader: &mut BitReader<R>, out: &mut Vec<u8>, n: usize) -> Result<(), Why>
     requires { n ≤ vec_len out.now }
     ensures room { vec_len out.new ≡ vec_len out.old }
-    ensures spends { OnOk result (reader.new.most + n ≤ reader.old.most) }
-    ensures counts { Counts reader.old reader.new result }
-    ensures memory { IfErr result (λ e. e ≢ Why.Memory) }
-    ensures reads { Gives (λ _. take n out.new.items) (begun_anew (run (list_of n (number 8)) reader.old.cursor)) reader.old reader.new result }
+    ensures reading { CallInPlace n (Gives (λ _. take n out.new.items) (begun_anew (run (list_of n (number 8)) reader.old.cursor))) reader.old reader.new result }
 {
     read_unchecked_some(reader, out, n)
 }
@@ -274,12 +262,9 @@ pub(crate) fn next_page_here<R: Source>(
     room: &mut PageRoom,
     before: Option<Before>,
 ) -> Result<(), Why>
-    ensures spends { OnOk result (reader.new.most + 8 + length room.new.body ≤ reader.old.most) }
+    ensures reading { CallInPlace (8 + length room.new.body) (Gives (λ _. room.new) (begun_anew (next_page before reader.old.cursor))) reader.old reader.new result }
     ensures whole { OnOk result ((length room.new.body ≡ sum room.new.lacing) × (length room.new.body ≤ 65025) × (length room.new.lacing ≤ 255)) }
     ensures cleared { OnErr result ((room.new.lacing ≡ []) × (room.new.body ≡ [])) }
-    ensures counts { Counts reader.old reader.new result }
-    ensures memory { IfErr result (λ e. e ≢ Why.Memory) }
-    ensures reads { Gives (λ _. room.new) (begun_anew (next_page before reader.old.cursor)) reader.old reader.new result }
 {
     match reader.take(8) {
         Ok(first) => match room.read_behind(reader, before, first as u8) {

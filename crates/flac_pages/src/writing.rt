@@ -8,7 +8,7 @@ ghost use Rattle.flac_pages.specs.Placed.{AreInOrder, placed_in, stream_spelling
 ghost use Rattle.flac_pages.specs.inner.Heads.{head_bytes};
 ghost use Rattle.flac_pages.specs.Written.{granule_at, summed, head_at, packet_spelling};
 
-use crate::page::{CONTINUED, FIRST, Head, LAST, MOST_BODY};
+use crate::page::{CAPTURE_PATTERN, CONTINUED, FIRST, Head, LAST, MOST_BODY};
 use flac_bits::{BitWriter, Target, Why, crc32_sum};
 
 /// What a packet is (RFC 9639, section 10.1).
@@ -66,13 +66,14 @@ pub struct PacketAt {
 fn head_bytes(head: Head, sum: u32, count: u8) -> [u8; 27]
     ensures { result ≡ head_bytes head sum count }
 {
+    let [o, g, h, s] = CAPTURE_PATTERN;
     let [g0, g1, g2, g3, g4, g5, g6, g7] = head.granule.to_le_bytes();
     let [a0, a1, a2, a3] = head.serial.to_le_bytes();
     let [n0, n1, n2, n3] = head.sequence.to_le_bytes();
     let [c0, c1, c2, c3] = sum.to_le_bytes();
     [
-        0x4F, 0x67, 0x67, 0x53, 0, head.flags, g0, g1, g2, g3, g4, g5, g6, g7, a0, a1, a2, a3, n0,
-        n1, n2, n3, c0, c1, c2, c3, count,
+        o, g, h, s, 0, head.flags, g0, g1, g2, g3, g4, g5, g6, g7, a0, a1, a2, a3, n0, n1, n2, n3,
+        c0, c1, c2, c3, count,
     ]
 }
 

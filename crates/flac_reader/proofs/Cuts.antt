@@ -8,14 +8,14 @@ use Rattle.flac_bits.specs.Items.{Joined, Stream, after}
 use Rattle.flac_bits.specs.declared.why.Why.{Why}
 use Rattle.flac_bits.specs.declared.why.Why.TheVariants.{Truncated}
 use Rattle.flac_bits.proofs.Holding.{bits_of-append}
-use Rattle.flac_meta.specs.Info.{Info}
+use Rattle.flac_meta.specs.Info.{Info, without_totals}
 use Rattle.flac_header.specs.declared.subset.Profile.{Profile}
 use Rattle.flac_frame.specs.Frame.{Frame}
 use Rattle.flac_native.specs.Decoding.{beginning}
 use Rattle.flac_native.specs.Item.{frame, told}
 use Rattle.flac_native.specs.Giving.{items_of}
 use Rattle.flac_native.specs.Stream.{framed, grammar, opening}
-use Rattle.flac_native.specs.Resuming.{untold, resumed}
+use Rattle.flac_native.specs.Resuming.{resumed}
 use Rattle.flac_native.specs.declared.fault.Place.{Place}
 use Rattle.flac_native.specs.declared.fault.Fault.{Fault}
 use Rattle.flac_native.specs.declared.container.Container as container
@@ -42,7 +42,7 @@ rest_is : (profile : Profile) (stream : List ℕ) (info : Info) (at : ℕ) (fram
 rest_is profile stream info at [] c =
     let all : Joined grammar (opening profile) first c.front (bits_of stream) = subst (λ k. Joined grammar (opening profile) first k (bits_of stream)) (append-nil c.front) c.whole.spelled in
     let none : bits_of (drop at stream) ≡ [] = sym (one_place (opening profile) first c.front (bits_of stream) [] (bits_of (take at stream)) (bits_of (drop at stream)) (append-nil (bits_of stream) ∙ split at stream) all c.before) in
-    record { spelled = none; ends = refl; kept = ends_well (Some (untold info)) info 0 [] refl }
+    record { spelled = none; ends = refl; kept = ends_well (Some (without_totals info)) info 0 [] refl }
 rest_is profile stream info at (f ∷ more) c =
     let r = frames_are_resumed profile first first c.front (map framed more) f (bits_of stream) refl refl c.whole in
     let here : bits_of (drop at stream) ≡ r.rest = r.only (bits_of (take at stream)) (bits_of (drop at stream)) (split at stream) c.before in

@@ -14,7 +14,7 @@ use crate::opening::{open_native, open_ogg};
 use crate::reader::Reader;
 use flac_bits::BitReader;
 use flac_native::{Fault, Profile, Source, Why};
-use flac_ogg::{Fronted, OggPackets, is_page, pull_front};
+use flac_ogg::{Fronted, OggPackets, begins_page, pull_front};
 use std::alloc::Global;
 
 /// A reader of a native stream or of an Ogg stream: what [`open`] returns.
@@ -79,7 +79,7 @@ pub fn open<R: Source + Drop>(
     match pull_front(&mut source) {
         Ok(front) => open_as(
             alloc,
-            is_page(front),
+            begins_page(front),
             Fronted { front, source },
             profile,
             keep,

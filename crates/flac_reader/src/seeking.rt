@@ -1,6 +1,6 @@
 //! Finds the frame that holds a sample.
 
-ghost use Rattle.std.specs.Prelude.{◌≡◌, List, Option, IfOk, IfSome, drop, map, true};
+ghost use Rattle.std.specs.Prelude.{◌≡◌, List, Option, IfOk, IfSome, map, true};
 ghost use Rattle.flac_frame.specs.Frame.{Frame};
 ghost use Rattle.flac_frame.specs.Lent.{frame_of};
 ghost use Rattle.flac_native.specs.Item.{frame as framed};
@@ -10,17 +10,6 @@ ghost use Rattle.flac_reader.specs.Seeking.{number_of};
 ghost use Rattle.flac_reader.specs.inner.Seeking.{FirstIfHeld, Passes, Searches};
 
 use flac_native::{Container, Decoder, Fault, FrameView, Item, Place, StreamInfo, Why};
-
-/// The bytes from an offset on; none if there are not as many.
-pub(crate) fn bytes_from(bytes: &[u8], offset: u64) -> &[u8]
-    ensures { result.now ≡ drop offset bytes.now }
-{
-    if offset < bytes.len() as u64 {
-        &bytes[offset as usize..]
-    } else {
-        &bytes[bytes.len()..]
-    }
-}
 
 /// The number of the frame's first sample, if the frame holds the sample.
 fn first_if_held(info: &StreamInfo, frame: &FrameView<'_>, sample: u64) -> Option<u64>

@@ -16,9 +16,9 @@ ghost use Rattle.flac_reader.specs.Seeking.{offset_before, search_start, number_
 
 use crate::head::Head;
 use crate::reader::Reader;
-use crate::seeking::{bytes_from, find_frame};
+use crate::seeking::find_frame;
 use flac_bits::BitReader;
-use flac_native::{Counted, Decoder, Fault, Memory, Place, Profile, Source, Why};
+use flac_native::{Counted, Decoder, Fault, Memory, Place, Profile, Source, Why, bytes_from};
 use std::alloc::Global;
 use std::io::{Read, Seek, SeekFrom};
 

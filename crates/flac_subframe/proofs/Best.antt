@@ -7,7 +7,7 @@ use Rattle.flac_subframe.specs.inner.Cost.{residual_cost}
 use Rattle.flac_subframe.specs.declared.linear.LinearPredictor.{LinearPredictor}
 use Rattle.flac_subframe.specs.Handed.{predictor_of, handed_at}
 use Rattle.flac_subframe.specs.Bodies.{fields_cost, Chooses, fixed, coefficients_of, shift_of, order_of, differences, Among, Body, constant, verbatim, predicted, StandsFor}
-use Rattle.flac_subframe.specs.Chosen.{IsHeld, body_held, body_under, fixed_below}
+use Rattle.flac_subframe.specs.Chosen.{HasPredictor, body_as, body_under, fixed_below}
 use Rattle.flac_subframe.specs.inner.Chosen.{Way, IsBest, IsLeastOf, HasNone}
 use Rattle.flac_subframe.proofs.Bodies.{among_more, among_split, least_kept, least_taken, body_stands, body_costs, body_least, none_stands, residual_is, length-predicted, method_bits}
 
@@ -15,7 +15,7 @@ module _ (hs : List LinearPredictor) (most d : ℕ) (s : List ℤ) (ps : List Ch
   pub best_none : HasNone (coefficients_of p) (shift_of p) s → IsBest hs most d s (ps ++ p ∷ []) best
   best_none none = record {
     within = so.within;
-    least = least_kept most d s ps p (body_held hs best.kind best.codings s) so.least (λ ws f rs stands. absurd (none_stands most d s ps p none ws f rs stands));
+    least = least_kept most d s ps p (body_as hs best.content best.codings s) so.least (λ ws f rs stands. absurd (none_stands most d s ps p none ws f rs stands));
     priced = so.priced;
     small = so.small;
   }
@@ -23,15 +23,15 @@ module _ (hs : List LinearPredictor) (most d : ℕ) (s : List ℤ) (ps : List Ch
   pub best_kept : (f : Codings) (n : ℕ) → IsLeastOf most (coefficients_of p) (shift_of p) s f n → best.bits ≤ d * order_of p + fields_cost p + n → IsBest hs most d s (ps ++ p ∷ []) best
   best_kept f n is less = record {
     within = so.within;
-    least = least_kept most d s ps p (body_held hs best.kind best.codings s) so.least (λ ws g rs stands. omega (arith, body_least most d s ps p f n is ws g rs stands, body_costs most d s ps p f n is, so.priced));
+    least = least_kept most d s ps p (body_as hs best.content best.codings s) so.least (λ ws g rs stands. omega (arith, body_least most d s ps p f n is ws g rs stands, body_costs most d s ps p f n is, so.priced));
     priced = so.priced;
     small = so.small;
   }
 
-  pub best_taken : (f : Codings) (n : ℕ) (new : Way) → IsLeastOf most (coefficients_of p) (shift_of p) s f n → new.bits ≡ d * order_of p + fields_cost p + n → new.bits ≤ best.bits → IsHeld hs new.kind → body_held hs new.kind new.codings s ≡ body_under p f s → IsBest hs most d s (ps ++ p ∷ []) new
+  pub best_taken : (f : Codings) (n : ℕ) (new : Way) → IsLeastOf most (coefficients_of p) (shift_of p) s f n → new.bits ≡ d * order_of p + fields_cost p + n → new.bits ≤ best.bits → HasPredictor hs new.content → body_as hs new.content new.codings s ≡ body_under p f s → IsBest hs most d s (ps ++ p ∷ []) new
   best_taken f n new is bits less within body = record {
     within = within;
-    least = rw body (least_taken most d s ps p (body_held hs best.kind best.codings s) (take (order_of p) s) f (differences (coefficients_of p) (shift_of p) s) so.least
+    least = rw body (least_taken most d s ps p (body_as hs best.content best.codings s) (take (order_of p) s) f (differences (coefficients_of p) (shift_of p) s) so.least
         (body_stands most d s ps p f n is) (omega (arith, body_costs most d s ps p f n is, so.priced)) (body_least most d s ps p f n is));
     priced = rw body (bits ∙ sym (body_costs most d s ps p f n is));
     small = omega (arith, so.small);
@@ -44,7 +44,7 @@ module _ (hs : List LinearPredictor) (most d : ℕ) (s : List ℤ) (ps : List Ch
       IsBest hs most d s (ps ++ p ∷ []) best
   best_above n less each = record {
     within = so.within;
-    least = least_kept most d s ps p (body_held hs best.kind best.codings s) so.least (λ ws f rs stands.
+    least = least_kept most d s ps p (body_as hs best.content best.codings s) so.least (λ ws f rs stands.
         let e = residual_is (coefficients_of p) (shift_of p) s ws rs stands.long stands.restored in
         let may : MayWrite most (order_of p) (differences (coefficients_of p) (shift_of p) s) f = rw e at stands.written in
         rw (← so.priced, length-predicted d p ws f rs (method_bits f.parameter_bits stands.written.method) stands.long, stands.long, e) (omega (arith, each f may)));
@@ -66,7 +66,7 @@ stands_by most ps qs to (predicted p ws f rs) s h = (to p h.0, h.1)
 same_best : (hs : List LinearPredictor) (most d : ℕ) (s : List ℤ) (ps qs : List Chooses) (best : Way) → ((p : Chooses) → Among p ps → Among p qs) → ((p : Chooses) → Among p qs → Among p ps) → IsBest hs most d s ps best → IsBest hs most d s qs best
 same_best hs most d s ps qs best to from so = record {
   within = so.within;
-  least = record { member = stands_by most ps qs to (body_held hs best.kind best.codings s) s so.least.member; least = λ b h. so.least.least b (stands_by most qs ps from b s h) };
+  least = record { member = stands_by most ps qs to (body_as hs best.content best.codings s) s so.least.member; least = λ b h. so.least.least b (stands_by most qs ps from b s h) };
   priced = so.priced;
   small = so.small;
 }

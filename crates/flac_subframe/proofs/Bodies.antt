@@ -9,7 +9,9 @@ use Rattle.flac_subframe.specs.Numbers.{sample_at}
 use Rattle.flac_subframe.specs.Prediction.{Restored}
 use Rattle.flac_subframe.specs.Least.{IsLeast}
 use Rattle.flac_bits.specs.Signed.{signed}
-use Rattle.flac_subframe.specs.Cost.{MayWrite, Codings}
+use Rattle.flac_subframe.specs.declared.coding_method.CodingMethod.{CodingMethod}
+use Rattle.flac_subframe.specs.declared.coding_method.CodingMethod.TheVariants.{FourBits, FiveBits}
+use Rattle.flac_subframe.specs.Cost.{MayWrite, Codings, parameter_bits_of}
 use Rattle.flac_subframe.specs.inner.Cost.{residual_cost}
 use Rattle.flac_subframe.proofs.Lengths.{length-residual, length-signed, length-samples, length-predictor, length-two, length-three}
 use Rattle.flac_subframe.specs.Spelling.{content_spelling, residual_spelling, predictor_spelling}
@@ -23,6 +25,10 @@ use Rattle.flac_subframe.proofs.Differences.{first_all}
 pub method_bits : (w : ℕ) → (w ≡ 4) ⊎ (w ≡ 5) → 4 + (w - 4) ≡ w
 method_bits w (inl e) = rw e refl
 method_bits w (inr e) = rw e refl
+
+pub four_or_five : (m : CodingMethod) → (parameter_bits_of m ≡ 4) ⊎ (parameter_bits_of m ≡ 5)
+four_or_five FourBits = inl refl
+four_or_five FiveBits = inr refl
 
 pub length-constant : (d : ℕ) (v : ℤ) → length (spelled d (constant v)) ≡ d
 unfolding content_spelling

@@ -1,7 +1,7 @@
 -- The forms up to a partition order, and those of the finer ones.
 use Rattle.std.proofs.Common.{◌≡◌, inl, inr, ℕ, ◌≤◌, ◌<◌, arith, ℤ, List, Option, Some, None, IfSome, IfNone}
 use Rattle.std.proofs.lemmas.Bool.{cases_lt}
-use Rattle.flac_subframe.specs.declared.halving.Found.{Found}
+use Rattle.flac_subframe.specs.declared.residual_form.ResidualForm.{ResidualForm}
 use Rattle.flac_subframe.specs.Least.{IsLeast}
 use Rattle.flac_subframe.specs.Cost.{Codings, MayWrite, codings_in}
 use Rattle.flac_subframe.specs.inner.Cost.{residual_cost}
@@ -28,16 +28,16 @@ module _ (order low high : ℕ) (rs : List ℤ) where
     ]
 
     -- the same of what was found
-    pub found_still : (found : Option Found) (bytes : List ℕ) → IfSome found (λ f. IsLeast (MayWrite low order rs) (residual_cost order rs) (codings_in f bytes)) → IfSome found (λ f. f.bits ≡ residual_cost order rs (codings_in f bytes)) → IfSome found (λ f. f.bits ≤ below)
+    pub found_still : (found : Option ResidualForm) (bytes : List ℕ) → IfSome found (λ f. IsLeast (MayWrite low order rs) (residual_cost order rs) (codings_in f bytes)) → IfSome found (λ f. f.bits ≡ residual_cost order rs (codings_in f bytes)) → IfSome found (λ f. f.bits ≤ below)
         → IfSome found (λ f. IsLeast (MayWrite high order rs) (residual_cost order rs) (codings_in f bytes))
     found_still (Some f) bytes least is small = least_still (codings_in f bytes) least (omega (arith, is, small))
     found_still None bytes least is small = tt
 
     -- what no form up to a partition order undercuts, none at all does
-    pub none_finer : (found : Option Found) → IfNone found ((f : Codings) → MayWrite low order rs f → below ≤ residual_cost order rs f) → IfNone found ((f : Codings) → MayWrite high order rs f → 8 < f.halvings → below ≤ residual_cost order rs f)
+    pub none_finer : (found : Option ResidualForm) → IfNone found ((f : Codings) → MayWrite low order rs f → below ≤ residual_cost order rs f) → IfNone found ((f : Codings) → MayWrite high order rs f → 8 < f.halvings → below ≤ residual_cost order rs f)
     none_finer (Some f) none = tt
     none_finer None none = λ f may b. none_still none f may
 
-    pub none_after : (found : Option Found) (least : ℕ) → IfNone found (below ≡ least) → IfNone found ((f : Codings) → MayWrite low order rs f → least ≤ residual_cost order rs f) → IfNone found ((f : Codings) → MayWrite high order rs f → least ≤ residual_cost order rs f)
+    pub none_after : (found : Option ResidualForm) (least : ℕ) → IfNone found (below ≡ least) → IfNone found ((f : Codings) → MayWrite low order rs f → least ≤ residual_cost order rs f) → IfNone found ((f : Codings) → MayWrite high order rs f → least ≤ residual_cost order rs f)
     none_after (Some f) least is none = tt
     none_after None least is none = λ f may. omega (arith, is, none_still (λ g m. omega (arith, is, none g m)) f may)

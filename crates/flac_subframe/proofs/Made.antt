@@ -1,15 +1,17 @@
 -- A choice that was made of samples.
 use Rattle.std.proofs.Common.{◌≡◌, inl, inr, refl, sym, subst, ℕ, suc, ◌+◌, ◌≤◌, ◌<◌, arith, ℤ, List, [], ◌∷◌, length, take, map, get_or}
 use Rattle.std.proofs.lemmas.List.{length-take-le, get_or_default}
-use Rattle.flac_subframe.specs.declared.held.HeldKind.{HeldKind}
-use Rattle.flac_subframe.specs.declared.held.HeldKind.TheVariants.{AsConstant, AsVerbatim, AsFixed, AsLinear}
+use Rattle.flac_subframe.specs.declared.content.Content.{Content}
+use Rattle.flac_subframe.specs.declared.content.Content.TheVariants.{Constant, Verbatim, Predicted}
+use Rattle.flac_subframe.specs.declared.content.SubframeForm.{SubframeForm}
+use Rattle.flac_subframe.specs.declared.content.PredictorKind.TheVariants.{Fixed, Linear}
 use Rattle.flac_subframe.specs.declared.linear.LinearPredictor.{LinearPredictor}
 use Rattle.flac_subframe.specs.Bodies.{Chooses, fixed, linear, order_of, Among, Body, constant, verbatim, predicted, StandsFor, content_of}
-use Rattle.flac_subframe.specs.Cost.{Codings, MayWrite}
-use Rattle.flac_subframe.specs.Chosen.{body_under, body_held, IsHeld, offered}
+use Rattle.flac_subframe.specs.Cost.{Codings, MayWrite, codings_of}
+use Rattle.flac_subframe.specs.Chosen.{body_under, body_as, HasPredictor, offered}
 use Rattle.flac_subframe.specs.Handed.{predictor_of, handed_at, AreWithin}
 use Rattle.flac_subframe.specs.Family.{IsMadeAs}
-use Rattle.flac_subframe.specs.inner.Family.{OrderIsFew, kind_number}
+use Rattle.flac_subframe.specs.inner.Family.{type_number}
 use Rattle.flac_subframe.specs.Wasted.{shortened}
 use Rattle.flac_subframe.specs.Spelling.{type_of}
 use Rattle.flac_subframe.specs.Prediction.{fixed_coefficients}
@@ -65,29 +67,23 @@ one_few (q ∷ qs) i within =
     subst (λ (x : Chooses). order_of x ≤ 32) (sym (at_place (q ∷ qs) i p within (get_or_default (q ∷ qs) i q p within))) p.few
 
 module _ (hs : List LinearPredictor) where
-  pub order_few : (most : ℕ) (k : HeldKind) (f : Codings) (t : List ℤ) → StandsFor most (offered hs) (body_held hs k f t) t → OrderIsFew k
-  order_few most AsConstant f t h = tt
-  order_few most AsVerbatim f t h = tt
-  order_few most (AsFixed order) f t h = among_few order hs h.0
-  order_few most (AsLinear index) f t h = tt
-
-  pub kind_is : (most : ℕ) (k : HeldKind) (f : Codings) (t : List ℤ) → IsHeld hs k → StandsFor most (offered hs) (body_held hs k f t) t → kind_number hs k ≡ type_of (content_of (body_held hs k f t))
-  kind_is most AsConstant f t within h = refl
-  kind_is most AsVerbatim f t within h = refl
-  kind_is most (AsFixed order) f t within h =
-      let few = length-fixed order (among_few order hs h.0) in
+  pub type_is : (most : ℕ) (c : Content) (f : Codings) (t : List ℤ) → HasPredictor hs c → StandsFor most (offered hs) (body_as hs c f t) t → type_number hs c ≡ type_of (content_of (body_as hs c f t))
+  type_is most Constant f t has h = refl
+  type_is most Verbatim f t has h = refl
+  type_is most (Predicted (Fixed order)) f t has h =
+      let few = length-fixed order has in
       let room = h.1.room in
       let e : length (take (length (fixed_coefficients order)) t) ≡ length (fixed_coefficients order) = length-take-le (length (fixed_coefficients order)) t (omega (arith, room)) in
       omega (arith, e, few)
-  kind_is most (AsLinear index) f t within h =
+  type_is most (Predicted (Linear index)) f t has h =
       let room = h.1.room in
-      one_type hs index f t within (omega (arith, room))
+      one_type hs index f t has (omega (arith, room))
 
-  pub kind_few : (k : HeldKind) → OrderIsFew k → IsHeld hs k → kind_number hs k < 64
-  kind_few AsConstant h within = omega arith
-  kind_few AsVerbatim h within = omega arith
-  kind_few (AsFixed order) h within = omega (arith, h)
-  kind_few (AsLinear index) h within = omega (arith, one_few hs index within)
+  pub type_few : (c : Content) → HasPredictor hs c → type_number hs c < 64
+  type_few Constant has = omega arith
+  type_few Verbatim has = omega arith
+  type_few (Predicted (Fixed order)) has = omega (arith, has)
+  type_few (Predicted (Linear index)) has = omega (arith, one_few hs index has)
 
 -- what stands with few partition orders stands with more
 pub fewer_orders : (most more : ℕ) (ps : List Chooses) (b : Body) (t : List ℤ) → most ≤ more → StandsFor most ps b t → StandsFor more ps b t
@@ -104,10 +100,10 @@ pub all_within : (ps : List LinearPredictor) → AreWithin 32 ps
 all_within ps = λ i d lt. (get_or ps i d).few
 
 -- a choice that was made with few partition orders is one with more
-pub made_of_fewer : (most more : ℕ) (ps : List LinearPredictor) (k : ℕ) (kind : HeldKind) (f : Codings) (s : List ℤ) → most ≤ more → IsMadeAs most ps k kind f s → IsMadeAs more ps k kind f s
-made_of_fewer most more ps k kind f s le made = record {
+pub made_of_fewer : (most more : ℕ) (ps : List LinearPredictor) (c : SubframeForm) (bytes : List ℕ) (s : List ℤ) → most ≤ more → IsMadeAs most ps c bytes s → IsMadeAs more ps c bytes s
+made_of_fewer most more ps c bytes s le made = record {
   wasted = made.wasted;
   times = made.times;
   within = made.within;
-  stands = fewer_orders most more (offered ps) (body_held ps kind f (shortened k s)) (shortened k s) le made.stands;
+  stands = fewer_orders most more (offered ps) (body_as ps c.content (codings_of c.residual bytes) (shortened c.wasted s)) (shortened c.wasted s) le made.stands;
 }

@@ -1,15 +1,13 @@
 -- One predictor more, with what the code knows of it.
-use Rattle.std.proofs.Common.{◌≡◌, refl, inl, inr, ℕ, ◌+◌, ◌-◌, ◌*◌, ◌≤◌, ◌<◌, ◌^◌, arith, ℤ, List, [], ◌∷◌, ◌++◌, length, take, All}
+use Rattle.std.proofs.Common.{◌≡◌, inl, inr, ℕ, ◌+◌, ◌-◌, ◌*◌, ◌≤◌, ◌<◌, ◌^◌, arith, ℤ, List, [], ◌∷◌, ◌++◌, length, take, All}
 use Rattle.std.proofs.lemmas.List.FromFn.{length-map-range_with_len}
 use Rattle.flac_bits.specs.Rice.{IsResidual}
-use Rattle.flac_subframe.specs.declared.held.PredictorKind.{PredictorKind}
-use Rattle.flac_subframe.specs.declared.held.PredictorKind.TheVariants.{Fixed, Linear}
 use Rattle.flac_subframe.specs.declared.linear.LinearPredictor.{LinearPredictor}
 use Rattle.flac_subframe.specs.Bodies.{Chooses, coefficients_of, shift_of, order_of, fields_cost, difference, differences}
-use Rattle.flac_subframe.specs.Chosen.{IsHeld, body_held, body_under}
+use Rattle.flac_subframe.specs.Chosen.{HasPredictor, body_as, body_under}
 use Rattle.flac_subframe.specs.Cost.{Codings, MayWrite}
 use Rattle.flac_subframe.specs.Least.{IsLeast}
-use Rattle.flac_subframe.specs.inner.Chosen.{Way, IsBest, IsLeastOf, IsNamed, predictor_named, kind_held, residual_by}
+use Rattle.flac_subframe.specs.inner.Chosen.{Way, IsBest, IsLeastOf, residual_by}
 use Rattle.flac_subframe.specs.inner.Halves.{HasResidual}
 use Rattle.flac_subframe.specs.inner.Cost.{residual_cost}
 use Rattle.flac_subframe.proofs.Best.{best_none, best_above, best_taken}
@@ -31,7 +29,7 @@ module _ (hs : List LinearPredictor) (most d : ℕ) (s : List ℤ) (ps : List Ch
 
   pub better : (f : Codings) (n : ℕ) (new : Way) → order < length s → All IsResidual (differences (coefficients_of p) (shift_of p) s) →
       IsLeast (MayWrite most order (differences (coefficients_of p) (shift_of p) s)) (residual_cost order (differences (coefficients_of p) (shift_of p) s)) f → n ≡ residual_cost order (differences (coefficients_of p) (shift_of p) s) f → n ≤ 2 ^ 49 →
-      new.bits ≡ before + n → new.bits ≤ best.bits → IsHeld hs new.kind → body_held hs new.kind new.codings s ≡ body_under p f s → IsBest hs most d s (ps ++ p ∷ []) new
+      new.bits ≡ before + n → new.bits ≤ best.bits → HasPredictor hs new.content → body_as hs new.content new.codings s ≡ body_under p f s → IsBest hs most d s (ps ++ p ∷ []) new
   better f n new room range least bits small is less within body =
       let of : IsLeastOf most (coefficients_of p) (shift_of p) s f n = record { room = omega (arith, long); range = range; least = rw long at least; bits = rw long at bits; small = small } in
       best_taken hs most d s ps p best so f n new of (omega (arith, fields)) less within body
@@ -41,12 +39,3 @@ pub residual_taken : (p : Chooses) (s : List ℤ) (order : ℕ) (values : List �
 residual_taken p s order values folds e so =
     let long : length (residual_by p s) ≡ length s - order = rw e (length-map-range_with_len (difference (coefficients_of p) (shift_of p) s) 0 (length s - length (coefficients_of p))) in
     rw (← long) so.begins
-
--- what the content of a named predictor stands for
-pub named_body : (hs : List LinearPredictor) (k : PredictorKind) (f : Codings) (s : List ℤ) → body_held hs (kind_held k) f s ≡ body_under (predictor_named hs k) f s
-named_body hs (Fixed order) f s = refl
-named_body hs (Linear index) f s = refl
-
-pub named_held : (hs : List LinearPredictor) (k : PredictorKind) → IsNamed hs k → IsHeld hs (kind_held k)
-named_held hs (Fixed order) h = tt
-named_held hs (Linear index) h = h

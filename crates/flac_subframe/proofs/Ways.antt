@@ -3,36 +3,44 @@ use Rattle.std.proofs.Common.{◌≡◌, sym, ℕ, ◌+◌, ◌-◌, ◌≤◌, 
 use Rattle.flac_bits.specs.Signed.{FitsBits}
 use Rattle.flac_subframe.specs.declared.limits.Limits.{Limits}
 use Rattle.flac_subframe.specs.declared.linear.LinearPredictor.{LinearPredictor}
-use Rattle.flac_subframe.specs.Chosen.{body_held, offered}
-use Rattle.flac_subframe.specs.inner.Chosen.{Way, IsBest}
+use Rattle.flac_subframe.specs.declared.content.SubframeForm.{SubframeForm}
+use Rattle.flac_subframe.specs.Bodies.{Body, content_of}
+use Rattle.flac_subframe.specs.Cost.{codings_of}
+use Rattle.flac_subframe.specs.Chosen.{body_as, offered}
+use Rattle.flac_subframe.specs.inner.Chosen.{IsBest}
 use Rattle.flac_subframe.specs.Family.{Stands, IsMadeAs, form_as}
 use Rattle.flac_subframe.specs.Handed.{AreWithin}
 use Rattle.flac_subframe.specs.Least.{IsLeast}
 use Rattle.flac_subframe.specs.Spelling.{subframe_spelling, IsSubframe}
 use Rattle.flac_subframe.specs.Subframe.{samples_of}
 use Rattle.flac_subframe.specs.Wasted.{IsWasted, times_power, shortened}
-use Rattle.flac_subframe.proofs.Made.{fewer_orders}
+use Rattle.flac_subframe.proofs.Powers.{shortened_is}
 use Rattle.flac_subframe.proofs.Valid.{may_be, are_samples}
 use Rattle.flac_subframe.proofs.WholeLeast.{whole_least, length-subframe}
 
-module _ (most d k : ℕ) (ps : List LinearPredictor) (s : List ℤ) (w : Way) (wasted : IsWasted k s) (some : k < d) (times : s ≡ map (times_power k) (shortened k s))
-    (so : IsBest ps most (d - k) (shortened k s) (offered ps) w) where
-  pub way_least : IsLeast (λ f. Stands most (offered ps) f s) (λ f. length (subframe_spelling d f)) (form_as ps k w.kind w.codings s)
-  way_least = whole_least most d k (offered ps) s (shortened k s) (body_held ps w.kind w.codings (shortened k s)) wasted times so.least
+module _ (most d : ℕ) (ps : List LinearPredictor) (s t : List ℤ) (c : SubframeForm) (bytes : List ℕ) (bits : ℕ) (wasted : IsWasted c.wasted s) (times : s ≡ map (times_power c.wasted) t)
+    (so : IsBest ps most (d - c.wasted) t (offered ps) (record { content = c.content; codings = codings_of c.residual bytes; bits = bits })) where
+  same : shortened c.wasted s ≡ t
+  same = shortened_is c.wasted s t times
 
-  pub way_bits : 8 + k + w.bits ≡ length (subframe_spelling d (form_as ps k w.kind w.codings s))
-  way_bits = rw so.priced (sym (length-subframe d (form_as ps k w.kind w.codings s)))
+  abbrev body : Body
+  body = body_as ps c.content (codings_of c.residual bytes) t
 
-  pub way_made : (more : ℕ) → most ≤ more → IsMadeAs more ps k w.kind w.codings s
-  way_made more few = record {
-    wasted = wasted;
-    times = times;
-    within = so.within;
-    stands = fewer_orders most more (offered ps) (body_held ps w.kind w.codings (shortened k s)) (shortened k s) few so.least.member;
-  }
+  pub way_least : IsLeast (λ f. Stands most (offered ps) f s) (λ f. length (subframe_spelling d f)) (form_as ps c bytes s)
+  way_least = rw same (whole_least most d c.wasted (offered ps) s t body wasted times so.least)
 
-  pub way_valid : most ≤ 15 → 0 < length s → All (FitsBits d) s → (limits : Limits) → most ≤ limits.partition → AreWithin limits.linear ps → IsSubframe d (length s) limits (form_as ps k w.kind w.codings s)
-  way_valid few any fits limits le within = may_be most d k s (shortened k s) some times fits limits ps (body_held ps w.kind w.codings (shortened k s)) any le few within so.least.member
+  pub way_bits : 8 + c.wasted + bits ≡ length (subframe_spelling d (form_as ps c bytes s))
+  way_bits = rw so.priced (rw same (sym (length-subframe d (record { wasted = c.wasted; content = content_of body }))))
 
-  pub way_restored : All (FitsBits d) s → samples_of d (length s) (form_as ps k w.kind w.codings s) ≡ Some s
-  way_restored fits = are_samples most d k s (shortened k s) some times fits ps (body_held ps w.kind w.codings (shortened k s)) so.least.member
+  pub way_made : IsMadeAs most ps c bytes s
+  way_made = record { wasted = wasted; times = rw same times; within = so.within; stands = rw same so.least.member }
+
+module _ (most d : ℕ) (ps : List LinearPredictor) (c : SubframeForm) (bytes : List ℕ) (s : List ℤ) (made : IsMadeAs most ps c bytes s) (some : c.wasted < d) (fits : All (FitsBits d) s) where
+  abbrev body_made : Body
+  body_made = body_as ps c.content (codings_of c.residual bytes) (shortened c.wasted s)
+
+  pub made_valid : most ≤ 15 → 0 < length s → (limits : Limits) → most ≤ limits.partition → AreWithin limits.linear ps → IsSubframe d (length s) limits (form_as ps c bytes s)
+  made_valid few any limits le within = may_be most d c.wasted s (shortened c.wasted s) some made.times fits limits ps body_made any le few within made.stands
+
+  pub made_restored : samples_of d (length s) (form_as ps c bytes s) ≡ Some s
+  made_restored = are_samples most d c.wasted s (shortened c.wasted s) some made.times fits ps body_made made.stands

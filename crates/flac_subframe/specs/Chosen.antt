@@ -1,9 +1,11 @@
 -- What a choice of the code stands for.
-use Rattle.std.specs.Prelude.{ℕ, ℤ, List, ◌++◌, take, length, map, ◌<◌}
+use Rattle.std.specs.Prelude.{ℕ, ℤ, List, ◌++◌, take, length, map, ◌<◌, ◌≤◌}
 use Rattle.std.specs.List.{range_with_len}
 use Rattle.flac_subframe.specs.Cost.{Codings}
-use Rattle.flac_subframe.specs.declared.held.HeldKind.{HeldKind}
-use Rattle.flac_subframe.specs.declared.held.HeldKind.TheVariants.{AsConstant, AsVerbatim, AsFixed, AsLinear}
+use Rattle.flac_subframe.specs.declared.content.Content.{Content}
+use Rattle.flac_subframe.specs.declared.content.Content.TheVariants.{Constant, Verbatim, Predicted}
+use Rattle.flac_subframe.specs.declared.content.PredictorKind.{PredictorKind}
+use Rattle.flac_subframe.specs.declared.content.PredictorKind.TheVariants.{Fixed, Linear}
 use Rattle.flac_subframe.specs.declared.linear.LinearPredictor.{LinearPredictor}
 use Rattle.flac_subframe.specs.Handed.{predictor_of, handed_at}
 use Rattle.flac_subframe.specs.Numbers.{sample_at}
@@ -21,16 +23,24 @@ offered ps = fixed_below 5 ++ map predictor_of ps
 abbrev pub body_under : Chooses → Codings → List ℤ → Body
 body_under p f s = predicted p (take (length (coefficients_of p)) s) f (differences (coefficients_of p) (shift_of p) s)
 
--- the body of a kind, whose linear predictor is one of a list, and of the codings of its residual
-abbrev pub body_held : List LinearPredictor → HeldKind → Codings → List ℤ → Body
-body_held ps AsConstant f s = constant (sample_at s 0)
-body_held ps AsVerbatim f s = verbatim s
-body_held ps (AsFixed order) f s = body_under (fixed order) f s
-body_held ps (AsLinear index) f s = body_under (handed_at ps index) f s
+-- the predictor that is named, whose linear ones are those of a list
+abbrev pub predictor_named : List LinearPredictor → PredictorKind → Chooses
+predictor_named ps (Fixed order) = fixed order
+predictor_named ps (Linear index) = handed_at ps index
 
--- the linear predictor of a kind has a place in the list
-abbrev pub IsHeld : List LinearPredictor → HeldKind → Type 0
-IsHeld ps AsConstant = Unit {0}
-IsHeld ps AsVerbatim = Unit {0}
-IsHeld ps (AsFixed order) = Unit {0}
-IsHeld ps (AsLinear index) = index < length ps
+-- there is such a predictor
+abbrev pub IsNamed : List LinearPredictor → PredictorKind → Type 0
+IsNamed ps (Fixed order) = order ≤ 4
+IsNamed ps (Linear index) = index < length ps
+
+-- the body of a content, whose linear predictor is one of a list, and of the codings of its residual
+abbrev pub body_as : List LinearPredictor → Content → Codings → List ℤ → Body
+body_as ps Constant f s = constant (sample_at s 0)
+body_as ps Verbatim f s = verbatim s
+body_as ps (Predicted kind) f s = body_under (predictor_named ps kind) f s
+
+-- there is the predictor of a content, if it has one
+abbrev pub HasPredictor : List LinearPredictor → Content → Type 0
+HasPredictor ps Constant = Unit {0}
+HasPredictor ps Verbatim = Unit {0}
+HasPredictor ps (Predicted kind) = IsNamed ps kind

@@ -2,7 +2,9 @@
 use Rattle.std.specs.Prelude.{ℕ, ℤ, ◌≡◌, ◌+◌, ◌-◌, ◌/◌, ◌%◌, ◌^◌, ◌<◌, ◌≤◌, ◌⊎◌, cond, nat_lt, List, [], ◌∷◌, length, map, take, drop, All}
 use Rattle.flac_subframe.specs.declared.coding.Coding.{Coding}
 use Rattle.flac_subframe.specs.declared.coding.Coding.TheVariants.{Rice, Escape}
-use Rattle.flac_subframe.specs.declared.halving.Found.{Found}
+use Rattle.flac_subframe.specs.declared.coding_method.CodingMethod.{CodingMethod}
+use Rattle.flac_subframe.specs.declared.coding_method.CodingMethod.TheVariants.{FourBits, FiveBits}
+use Rattle.flac_subframe.specs.declared.residual_form.ResidualForm.{ResidualForm}
 use Rattle.flac_subframe.specs.Spelling.{FitsWidth}
 
 -- the codings that a partition may have
@@ -34,10 +36,15 @@ pub record MayWrite (most order : ℕ) (rs : List ℤ) (f : Codings) : Type 0 wh
 unfoldable pub coding_of : ℕ → Coding
 coding_of n = cond (nat_lt n 32) (Rice n) (Escape (n - 32))
 
+-- how many bits a Rice parameter has under a coding method (RFC 9639, section 9.2.7)
+abbrev pub parameter_bits_of : CodingMethod → ℕ
+parameter_bits_of FourBits = 4
+parameter_bits_of FiveBits = 5
+
 -- the form of a residual and the bytes of its codings
-abbrev pub codings_of : Found → List ℕ → Codings
-codings_of f bytes = record { parameter_bits = f.parameter_bits; halvings = f.halvings; codings = map coding_of bytes }
+abbrev pub codings_of : ResidualForm → List ℕ → Codings
+codings_of f bytes = record { parameter_bits = parameter_bits_of f.method; halvings = f.halvings; codings = map coding_of bytes }
 
 -- the same of bytes in an array, which may have more places
-abbrev pub codings_in : Found → List ℕ → Codings
+abbrev pub codings_in : ResidualForm → List ℕ → Codings
 codings_in f bytes = codings_of f (take (2 ^ f.halvings) bytes)

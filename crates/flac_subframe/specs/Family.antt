@@ -1,12 +1,12 @@
 -- The forms of a subframe for some samples, and the form that a choice stands for.
-use Rattle.std.specs.Prelude.{ℕ, ℤ, ◌≡◌, ◌≤◌, ◌^◌, List, [], length, map}
+use Rattle.std.specs.Prelude.{ℕ, ℤ, ◌≡◌, ◌≤◌, ◌^◌, List, [], length, map, take}
 use Rattle.flac_subframe.specs.declared.chosen.Choice.{Choice}
 use Rattle.flac_subframe.specs.Bodies.{Chooses, Body, content_of, StandsFor}
-use Rattle.flac_subframe.specs.declared.held.HeldKind.{HeldKind}
+use Rattle.flac_subframe.specs.declared.content.SubframeForm.{SubframeForm}
 use Rattle.flac_subframe.specs.declared.wide.WideChoice.{WideChoice}
 use Rattle.flac_subframe.specs.declared.linear.LinearPredictor.{LinearPredictor}
-use Rattle.flac_subframe.specs.Chosen.{body_held, IsHeld, offered}
-use Rattle.flac_subframe.specs.Cost.{Codings, codings_of, codings_in}
+use Rattle.flac_subframe.specs.Chosen.{body_as, HasPredictor, offered}
+use Rattle.flac_subframe.specs.Cost.{codings_of}
 use Rattle.flac_subframe.specs.Subframe.{Form}
 use Rattle.flac_subframe.specs.Wasted.{IsWasted, times_power, shortened}
 
@@ -16,26 +16,26 @@ pub record Stands (most : ℕ) (predictors : List Chooses) (f : Form) (s : List 
   pub wasted : IsWasted f.wasted s
   pub body : (b : Body) × (t : List ℤ) × (f.content ≡ content_of b) × (s ≡ map (times_power f.wasted) t) × StandsFor most predictors b t
 
--- the form of a subframe without its lowest k bits, by its kind, whose linear predictor is one of a list, and the codings of its residual
-abbrev pub form_as : List LinearPredictor → ℕ → HeldKind → Codings → List ℤ → Form
-form_as ps k kind f s = record { wasted = k; content = content_of (body_held ps kind f (shortened k s)) }
+-- the form that was chosen, whose linear predictor is one of a list, with the bytes of the codings of its residual
+abbrev pub form_as : List LinearPredictor → SubframeForm → List ℕ → List ℤ → Form
+form_as ps c bytes s = record { wasted = c.wasted; content = content_of (body_as ps c.content (codings_of c.residual bytes) (shortened c.wasted s)) }
 
--- they were chosen of these samples, with partition orders up to the greatest, and by a fixed predictor or by a linear one of a list if there is one
-pub record IsMadeAs (most : ℕ) (ps : List LinearPredictor) (k : ℕ) (kind : HeldKind) (f : Codings) (s : List ℤ) : Type 0 where
-  pub wasted : IsWasted k s
-  pub times : s ≡ map (times_power k) (shortened k s)
-  pub within : IsHeld ps kind
-  pub stands : StandsFor most (offered ps) (body_held ps kind f (shortened k s)) (shortened k s)
+-- it was chosen of these samples, with partition orders up to the greatest, and by a fixed predictor or by a linear one of a list if there is one
+pub record IsMadeAs (most : ℕ) (ps : List LinearPredictor) (c : SubframeForm) (bytes : List ℕ) (s : List ℤ) : Type 0 where
+  pub wasted : IsWasted c.wasted s
+  pub times : s ≡ map (times_power c.wasted) (shortened c.wasted s)
+  pub within : HasPredictor ps c.content
+  pub stands : StandsFor most (offered ps) (body_as ps c.content (codings_of c.residual bytes) (shortened c.wasted s)) (shortened c.wasted s)
 
 -- ---- a choice with partition orders up to 8
 
 -- the form that a choice stands for, whose linear predictor is one of a list
 abbrev pub form_with : List LinearPredictor → Choice → List ℤ → Form
-form_with ps c s = form_as ps c.wasted c.kind (codings_of c.found c.codings.items) s
+form_with ps c s = form_as ps c.form c.codings.items s
 
 -- the choice was made of these samples, by a fixed predictor or by a linear one of a list if it has one
 abbrev pub IsMadeWith : List LinearPredictor → Choice → List ℤ → Type 0
-IsMadeWith ps c s = IsMadeAs 8 ps c.wasted c.kind (codings_of c.found c.codings.items) s
+IsMadeWith ps c s = IsMadeAs 8 ps c.form c.codings.items s
 
 -- the same where no linear predictor is handed in
 abbrev pub form_of : Choice → List ℤ → Form
@@ -46,16 +46,16 @@ IsMadeOf c s = IsMadeWith [] c s
 
 -- ---- one in a place that is used again, with partition orders up to 15
 
--- the codings of a choice, the first of its places
-abbrev pub codings_kept : WideChoice → Codings
-codings_kept c = codings_in c.found c.codings.items
+-- the bytes of a choice's codings, the first of its places
+abbrev pub bytes_kept : WideChoice → List ℕ
+bytes_kept c = take (2 ^ c.form.residual.halvings) c.codings.items
 
 -- the form that a choice stands for, whose linear predictor is one of a list
 abbrev pub form_in : List LinearPredictor → WideChoice → List ℤ → Form
-form_in ps c s = form_as ps c.wasted c.kind (codings_kept c) s
+form_in ps c s = form_as ps c.form (bytes_kept c) s
 
 -- the choice was made of these samples, by a fixed predictor or by a linear one of a list if it has one
 pub record IsMadeIn (ps : List LinearPredictor) (c : WideChoice) (s : List ℤ) : Type 0 where
-  pub made : IsMadeAs 15 ps c.wasted c.kind (codings_kept c) s
-  pub few : c.found.halvings ≤ 15
-  pub places : 2 ^ c.found.halvings ≤ length c.codings.items
+  pub made : IsMadeAs 15 ps c.form (bytes_kept c) s
+  pub few : c.form.residual.halvings ≤ 15
+  pub places : 2 ^ c.form.residual.halvings ≤ length c.codings.items

@@ -3,31 +3,40 @@ ghost use Rattle.std.specs.Prelude.{◌≡◌, ◌<◌, ◌≤◌, ◌^◌, ◌+
 ghost use Rattle.flac_bits.specs.Signed.{FitsBits};
 ghost use Rattle.flac_subframe.specs.Numbers.{sample_at};
 ghost use Rattle.flac_subframe.specs.Prediction.{fixed_coefficients};
-ghost use Rattle.flac_subframe.specs.Spelling.{folded};
 ghost use Rattle.flac_bits.specs.Rice.{IsResidual};
 ghost use Rattle.flac_subframe.specs.Bodies.{Chooses, coefficients_of, differences};
-ghost use Rattle.flac_subframe.specs.Chosen.{fixed_below, offered};
+ghost use Rattle.flac_subframe.specs.Chosen.{IsNamed, fixed_below, offered, predictor_named};
 ghost use Rattle.flac_subframe.specs.Cost.{MayWrite, Codings, codings_in};
+ghost use Rattle.flac_subframe.specs.Family.{IsMadeAs, Stands, form_as};
 ghost use Rattle.flac_subframe.specs.Least.{IsLeast};
-ghost use Rattle.flac_subframe.specs.inner.Chosen.{IsBest, IsNamed, predictor_named, residual_by, way_held};
+ghost use Rattle.flac_subframe.specs.Spelling.{folded, subframe_spelling};
+ghost use Rattle.flac_subframe.specs.inner.Chosen.{IsBest, residual_by, way_of};
 ghost use Rattle.flac_subframe.specs.inner.Cost.{residual_cost};
 ghost use Rattle.flac_subframe.specs.inner.Halves.{HasPlaces, HasResidual, HasRoom};
-ghost use Rattle.flac_subframe.specs.Wasted.{IsWasted, times_power, shortened};
 ghost use Rattle.flac_subframe.specs.declared.linear.LinearPredictor.{LinearPredictor};
 
+use crate::content::{Content, PredictorKind, SubframeForm};
 use crate::folding::fold_each;
-use crate::halving::Found;
-use crate::held::{Held, HeldKind, PredictorKind, Sought};
 use crate::leaving::{take_differences, take_weighed};
 use crate::linear::LinearPredictor;
 use crate::narrowed::{narrow, peak, take_narrow};
 use crate::numbers::power;
 use crate::products::take_products;
+use crate::residual_form::ResidualForm;
 use crate::survey::{greatest_halvings, least_residual};
 use crate::tables::{SearchArrays, Tables};
 use crate::view::{ResidualView, SampleView, Task};
 use crate::wasted::drop_wasted;
 use crate::wide_products::take_wide_products;
+
+/// The best content so far, and how many bits it takes. The codings of its residual stay in their array and are overwritten only by better
+/// ones.
+#[derive(Clone, Copy)]
+pub(crate) struct Best {
+    pub(crate) content: Content,
+    pub(crate) residual: ResidualForm,
+    pub(crate) bits: u64,
+}
 
 /// Whether all samples are the first one.
 pub(crate) fn all_equal(samples: &[i64]) -> bool
@@ -43,12 +52,13 @@ pub(crate) fn all_equal(samples: &[i64]) -> bool
 
 /// The number of bits that a predictor must stay below to replace the best so far: of two fixed ones that take as many, the one of the
 /// lower order is kept.
-fn limit(best: &Held, kind: PredictorKind) -> u64
+fn limit(best: &Best, kind: PredictorKind) -> u64
     requires { best.now.bits ≤ 2 ^ 60 }
     ensures { (best.now.bits ≤ result) × (result ≤ best.now.bits + 1) }
 {
-    match (best.kind, kind) {
-        (HeldKind::AsFixed(held), PredictorKind::Fixed(order)) if order < held => best.bits + 1,
+    match (best.content, kind) {
+        (Content::Predicted(PredictorKind::Fixed(higher)), PredictorKind::Fixed(order))
+            if order < higher => best.bits + 1,
         _ => best.bits,
     }
 }
@@ -203,7 +213,7 @@ fn least_form(
     folds: &[u32],
     tables: &mut Tables<'_>,
     below: u64,
-) -> Option<Found>
+) -> Option<ResidualForm>
     requires order { order < length subject.now.samples.now }
     requires values { length subject.now.samples.now ≤ length values.now }
     requires residual { HasResidual (take (length subject.now.samples.now - order) values.now) values.now folds.now }
@@ -238,15 +248,15 @@ fn improve(
     kind: PredictorKind,
     arrays: &mut SearchArrays<'_>,
     tables: &mut Tables<'_>,
-    best: &mut Held,
+    best: &mut Best,
 )
     requires named { IsNamed subject.now.predictors.now kind }
     requires arrays { HasRoom (length subject.now.samples.now) arrays.old }
     requires tables { HasPlaces subject.now.most tables.old }
     requires small { best.old.bits ≤ 2 ^ 60 }
-    ensures best { (tried : List Chooses) → IsBest subject.now.predictors.now subject.now.most subject.now.bits subject.now.samples.now tried (way_held best.old tables.old.codings.now) → IsBest subject.now.predictors.now subject.now.most subject.now.bits subject.now.samples.now (tried ++ predictor_named subject.now.predictors.now kind ∷ []) (way_held best.new tables.new.codings.now) }
+    ensures best { (tried : List Chooses) → IsBest subject.now.predictors.now subject.now.most subject.now.bits subject.now.samples.now tried (way_of best.old tables.old.codings.now) → IsBest subject.now.predictors.now subject.now.most subject.now.bits subject.now.samples.now (tried ++ predictor_named subject.now.predictors.now kind ∷ []) (way_of best.new tables.new.codings.now) }
     ensures less { best.new.bits ≤ best.old.bits }
-    ensures within { best.old.found.halvings ≤ subject.now.most → best.new.found.halvings ≤ subject.now.most }
+    ensures within { best.old.residual.halvings ≤ subject.now.most → best.new.residual.halvings ≤ subject.now.most }
     ensures arrays { HasRoom (length subject.now.samples.now) arrays.new }
     ensures tables { HasPlaces subject.now.most tables.new }
     ensures same { tables.new.codings.ghost_name ≡ tables.old.codings.ghost_name }
@@ -266,35 +276,35 @@ fn improve(
     if !take_residual(subject, kind, wide, values, folds) {
         return;
     }
-    if let Some(found) = least_form(subject, order, values, folds, tables, limit - before) {
-        *best = Held {
-            kind: kind.held(),
-            found,
-            bits: before + found.bits,
+    if let Some(residual) = least_form(subject, order, values, folds, tables, limit - before) {
+        *best = Best {
+            content: Content::Predicted(kind),
+            residual,
+            bits: before + residual.bits,
         };
     }
 }
 
 /// The first choice to compare with.
-fn begin(samples: &[i64], bits: u32) -> Held
+fn begin(samples: &[i64], bits: u32) -> Best
     requires some { 0 < length samples.now }
     requires few { length samples.now ≤ 65535 }
     requires bits { bits ≤ 33 }
-    ensures best { (handed : List LinearPredictor) (most : ℕ) (codings : List ℕ) → IsBest handed most bits samples.now (fixed_below 0) (way_held result codings) }
-    ensures none { result.found.halvings ≡ 0 }
+    ensures best { (handed : List LinearPredictor) (most : ℕ) (codings : List ℕ) → IsBest handed most bits samples.now (fixed_below 0) (way_of result codings) }
+    ensures none { result.residual.halvings ≡ 0 }
 {
-    let found = Found::none();
+    let residual = ResidualForm::none();
     let width = u64::from(bits);
     if all_equal(samples) {
-        Held {
-            kind: HeldKind::AsConstant,
-            found,
+        Best {
+            content: Content::Constant,
+            residual,
             bits: width,
         }
     } else {
-        Held {
-            kind: HeldKind::AsVerbatim,
-            found,
+        Best {
+            content: Content::Verbatim,
+            residual,
             bits: width * samples.len() as u64,
         }
     }
@@ -302,12 +312,12 @@ fn begin(samples: &[i64], bits: u32) -> Held
 
 /// The content of the fewest bits: constant, verbatim, a fixed predictor or one of the linear ones, with a partition order up to the
 /// greatest. The codings of its residual are in their array.
-fn search(subject: &SampleView<'_>, arrays: &mut SearchArrays<'_>, tables: &mut Tables<'_>) -> Held
+fn search(subject: &SampleView<'_>, arrays: &mut SearchArrays<'_>, tables: &mut Tables<'_>) -> Best
     requires some { 0 < length subject.now.samples.now }
     requires arrays { HasRoom (length subject.now.samples.now) arrays.old }
     requires tables { HasPlaces subject.now.most tables.old }
-    ensures best { IsBest subject.now.predictors.now subject.now.most subject.now.bits subject.now.samples.now (offered subject.now.predictors.now) (way_held result tables.new.codings.now) }
-    ensures within { result.found.halvings ≤ subject.now.most }
+    ensures best { IsBest subject.now.predictors.now subject.now.most subject.now.bits subject.now.samples.now (offered subject.now.predictors.now) (way_of result tables.new.codings.now) }
+    ensures within { result.residual.halvings ≤ subject.now.most }
     ensures same { tables.new.codings.ghost_name ≡ tables.old.codings.ghost_name }
 {
     let mut best = begin(subject.samples, subject.bits);
@@ -349,14 +359,14 @@ fn search_within(
     tables: &mut [u64],
     widths: &mut [u8],
     codings: &mut [u8],
-) -> Held
+) -> Best
     requires some { 0 < length subject.now.samples.now }
     requires arrays { HasRoom (length subject.now.samples.now) arrays.old }
     requires tables { 5 * 2 ^ subject.now.most ≤ length tables.old }
     requires widths { 2 * 2 ^ subject.now.most ≤ length widths.old }
     requires codings { 2 ^ subject.now.most ≤ length codings.old }
-    ensures best { IsBest subject.now.predictors.now subject.now.most subject.now.bits subject.now.samples.now (offered subject.now.predictors.now) (way_held result codings.new) }
-    ensures within { result.found.halvings ≤ subject.now.most }
+    ensures best { IsBest subject.now.predictors.now subject.now.most subject.now.bits subject.now.samples.now (offered subject.now.predictors.now) (way_of result codings.new) }
+    ensures within { result.residual.halvings ≤ subject.now.most }
 {
     let count = power(subject.most);
     let (sums, rest) = tables.split_at_mut(count);
@@ -371,27 +381,27 @@ fn search_within(
     search(subject, arrays, &mut tables)
 }
 
-/// The wasted bits of some samples and the content of the fewest bits for the rest, whose codings are put into the first of their places.
+/// The subframe of the fewest bits and how many it takes. The codings of its residual are the first of the bytes; the places behind those for
+/// the codings are for the widths of partitions.
 pub(crate) fn choose_in_places(
     task: &Task<'_>,
     longs: &mut [i64],
     shorts: &mut [i32],
     folds: &mut [u32],
     tables: &mut [u64],
-    widths: &mut [u8],
-    codings: &mut [u8],
-) -> Sought
+    bytes: &mut [u8],
+) -> (SubframeForm, u64)
     requires longs { 2 * length task.now.samples.now ≤ length longs.old }
     requires shorts { 2 * length task.now.samples.now ≤ length shorts.old }
     requires folds { length task.now.samples.now ≤ length folds.old }
     requires tables { 5 * 2 ^ task.now.most ≤ length tables.old }
-    requires widths { 2 * 2 ^ task.now.most ≤ length widths.old }
-    requires codings { 2 ^ task.now.most ≤ length codings.old }
-    ensures wasted { IsWasted result.wasted task.now.samples.now }
-    ensures some { result.wasted < task.now.depth }
-    ensures times { task.now.samples.now ≡ map (times_power result.wasted) (shortened result.wasted task.now.samples.now) }
-    ensures best { IsBest task.now.predictors.now task.now.most (task.now.depth - result.wasted) (shortened result.wasted task.now.samples.now) (offered task.now.predictors.now) (way_held result.held codings.new) }
-    ensures within { result.held.found.halvings ≤ task.now.most }
+    requires bytes { 3 * 2 ^ task.now.most ≤ length bytes.old }
+    ensures least { IsLeast (λ f. Stands task.now.most (offered task.now.predictors.now) f task.now.samples.now) (λ f. length (subframe_spelling task.now.depth f)) (form_as task.now.predictors.now result.0 (take (2 ^ result.0.residual.halvings) bytes.new) task.now.samples.now) }
+    ensures bits { result.1 ≡ length (subframe_spelling task.now.depth (form_as task.now.predictors.now result.0 (take (2 ^ result.0.residual.halvings) bytes.new) task.now.samples.now)) }
+    ensures made { IsMadeAs task.now.most task.now.predictors.now result.0 (take (2 ^ result.0.residual.halvings) bytes.new) task.now.samples.now }
+    ensures some { result.0.wasted < task.now.depth }
+    ensures within { result.0.residual.halvings ≤ task.now.most }
+    ensures small { result.1 ≤ 2 ^ 61 }
 {
     let samples = task.samples;
     let (shortened, wide) = longs.split_at_mut(samples.len());
@@ -413,6 +423,12 @@ pub(crate) fn choose_in_places(
         values,
         folds,
     };
-    let held = search_within(&subject, &mut arrays, tables, widths, codings);
-    Sought { wasted, held }
+    let (codings, widths) = bytes.split_at_mut(power(task.most));
+    let best = search_within(&subject, &mut arrays, tables, widths, codings);
+    let form = SubframeForm {
+        wasted,
+        content: best.content,
+        residual: best.residual,
+    };
+    (form, 8 + u64::from(wasted) + best.bits)
 }

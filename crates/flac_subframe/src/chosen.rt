@@ -1,11 +1,9 @@
 //! The shortest subframe of some samples.
 
-ghost use Rattle.std.specs.Prelude.{◌≡◌, ◌+◌, ◌<◌, ◌≤◌, ◌^◌, length, All};
+ghost use Rattle.std.specs.Prelude.{◌≡◌, ◌<◌, ◌≤◌, ◌^◌, length, take, All};
 ghost use Rattle.flac_bits.specs.Signed.{FitsBits};
-ghost use Rattle.flac_subframe.specs.Cost.{codings_of, codings_in};
 ghost use Rattle.flac_subframe.specs.Least.{IsLeast};
 ghost use Rattle.flac_subframe.specs.Chosen.{fixed_below, offered};
-ghost use Rattle.flac_subframe.specs.inner.Cost.{codings_lent};
 ghost use Rattle.flac_subframe.specs.Family.{Stands, IsMadeOf, IsMadeWith, form_of, form_with};
 ghost use Rattle.flac_subframe.specs.Handed.{AreWithin};
 ghost use Rattle.flac_subframe.specs.Spelling.{subframe_spelling, IsSubframe};
@@ -13,50 +11,40 @@ ghost use Rattle.flac_subframe.specs.Subframe.{samples_of};
 ghost use Rattle.flac_subframe.specs.declared.limits.Limits.{Limits};
 
 use crate::choice::choose_in_places;
-use crate::halving::Found;
-use crate::held::{HeldKind, Sought};
+use crate::content::SubframeForm;
 use crate::limits::Limits;
 use crate::linear::LinearPredictor;
 use crate::numbers::power;
 use crate::tables::filled;
-use crate::view::{ChosenView, CodedView, Task};
+use crate::view::{ChoiceView, Task};
 use arrayvec::ArrayVec;
 
-/// How a subframe is written: how many lowest bits are left out, how the rest is written, with the codings that are in use, each as a byte,
-/// and how many bits it all takes.
+/// How a subframe is written, with the codings that are in use, each as a byte, and how many bits it takes.
 ///
 /// A linear predictor is named by its place in the list that was handed in, so a choice takes no more memory where there are such lists.
 /// Two choices are equal if they are written in the same way with the same list.
 #[derive(Drop, Clone, Debug, PartialEq, Eq)]
 pub struct Choice {
-    pub(crate) wasted: u32,
-    pub(crate) kind: HeldKind,
-    pub(crate) found: Found,
+    pub(crate) form: SubframeForm,
     pub(crate) codings: ArrayVec<u8, 256>,
     bits: u64,
 }
 
 impl Choice {
-    /// What was found, with its codings, which are the first of an array.
-    fn gathered(sought: Sought, codings: &[u8]) -> Choice
-        requires wasted { sought.wasted ≤ 33 }
-        requires small { sought.held.bits ≤ 2 ^ 60 }
-        requires few { sought.held.found.halvings ≤ 8 }
-        requires places { 2 ^ sought.held.found.halvings ≤ length codings.now }
-        ensures wasted { result.wasted ≡ sought.wasted }
-        ensures kind { result.kind ≡ sought.held.kind }
-        ensures codings { codings_of result.found result.codings.items ≡ codings_in sought.held.found codings.now }
-        ensures bits { result.bits ≡ 8 + sought.wasted + sought.held.bits }
+    /// A form with its codings, which are the first of an array, and how many bits it takes.
+    fn gathered(form: SubframeForm, codings: &[u8], bits: u64) -> Choice
+        requires few { form.residual.halvings ≤ 8 }
+        requires places { 2 ^ form.residual.halvings ≤ length codings.now }
+        ensures form { result.form ≡ form }
+        ensures codings { result.codings.items ≡ take (2 ^ form.residual.halvings) codings.now }
+        ensures bits { result.bits ≡ bits }
     {
-        let found = sought.held.found;
         let mut copy = ArrayVec::new();
-        let _ = copy.try_extend_from_slice(&codings[..power(found.halvings)]);
+        let _ = copy.try_extend_from_slice(&codings[..power(form.residual.halvings)]);
         Choice {
-            wasted: sought.wasted,
-            kind: sought.held.kind,
-            found,
+            form,
             codings: copy,
-            bits: sought.bits(),
+            bits,
         }
     }
 
@@ -68,19 +56,13 @@ impl Choice {
     }
 
     /// The same with its codings lent.
-    pub(crate) fn lent(&self) -> ChosenView<'_>
-        ensures wasted { result.wasted ≡ self.now.wasted }
-        ensures kind { result.kind ≡ self.now.kind }
-        ensures codings { codings_lent result.residual ≡ codings_of self.now.found self.now.codings.items }
+    pub(crate) fn lent(&self) -> ChoiceView<'_>
+        ensures form { result.form ≡ self.now.form }
+        ensures codings { result.codings.now ≡ self.now.codings.items }
     {
-        ChosenView {
-            wasted: self.wasted,
-            kind: self.kind,
-            residual: CodedView {
-                parameter_bits: self.found.parameter_bits,
-                halvings: self.found.halvings,
-                codings: self.codings.as_slice(),
-            },
+        ChoiceView {
+            form: self.form,
+            codings: self.codings.as_slice(),
         }
     }
 }
@@ -148,22 +130,20 @@ pub fn choose_with(
     let mut shorts: [i32; 2 * MOST_SAMPLES] = filled(0);
     let mut folds: [u32; MOST_SAMPLES] = filled(0);
     let mut tables = [0; 1280];
-    let mut widths = [0; 512];
-    let mut codings = [0; 256];
+    let mut bytes = [0; 768];
     let task = Task {
         samples,
         depth,
         most: limits.partition as u8,
         predictors,
     };
-    let sought = choose_in_places(
+    let (form, bits) = choose_in_places(
         &task,
         &mut longs,
         &mut shorts,
         &mut folds,
         &mut tables,
-        &mut widths,
-        &mut codings,
+        &mut bytes,
     );
-    Choice::gathered(sought, &codings)
+    Choice::gathered(form, &bytes, bits)
 }

@@ -1,11 +1,12 @@
 //! The coding method of a residual.
 
 ghost use Rattle.std.specs.Prelude.{◌≡◌, ◌<◌, ◌+◌, ◌⊎◌, IfSome, IfNone};
+ghost use Rattle.flac_subframe.specs.Cost.{parameter_bits_of};
 ghost use Rattle.flac_subframe.specs.inner.Codes.{method_code};
 
 /// The coding method of a residual, by the bits of its Rice parameters (RFC 9639, section 9.2.7).
-#[derive(Clone, Copy)]
-pub(crate) enum CodingMethod {
+#[derive(Clone, Copy, Debug, PartialEq, Eq)]
+pub enum CodingMethod {
     /// Parameters of 4 bits.
     FourBits,
     /// Parameters of 5 bits.
@@ -30,6 +31,7 @@ impl CodingMethod {
     /// How many bits a parameter has, 4 or 5.
     pub(crate) fn parameter_bits(self) -> u32
         ensures value { result ≡ 4 + method_code self }
+        ensures bits { result ≡ parameter_bits_of self }
         ensures either { (result ≡ 4) ⊎ (result ≡ 5) }
     {
         match self {

@@ -1,10 +1,10 @@
 //! Reads a residual, to the places of the samples that it restores.
 
-ghost use Rattle.std.specs.Prelude.{◌≡◌, ◌≢◌, ◌≤◌, ◌<◌, ◌+◌, ◌-◌, ◌*◌, ◌^◌, ◌/◌, ◌⊎◌, OnOk, IfOk, IfSome, length, All, IfErr};
+ghost use Rattle.std.specs.Prelude.{◌≡◌, ◌≤◌, ◌<◌, ◌+◌, ◌-◌, ◌*◌, ◌^◌, ◌/◌, ◌⊎◌, OnOk, IfOk, IfSome, length, All};
 ghost use Rattle.flac_bits.specs.Layout.{bind, done, zeros_at};
 ghost use Rattle.flac_bits.specs.Lists.{list_of};
 ghost use Rattle.flac_bits.specs.Rice.{rice_value, unfolded};
-ghost use Rattle.flac_bits.specs.Reading.{Counts, Gives, Reads};
+ghost use Rattle.flac_bits.specs.Reading.{Reads, CallInPlace};
 ghost use Rattle.flac_bits.specs.Signed.{FitsBits};
 ghost use Rattle.flac_subframe.specs.inner.Codes.{method_code};
 ghost use Rattle.flac_subframe.specs.Residual.{partition, partitions, residual_header, residual, all_values, residual_values, can_halve};
@@ -22,10 +22,7 @@ fn read_partition<R: Source>(
 ) -> Result<(), Why>
     requires { (parameter_bits ≡ 4) ⊎ (parameter_bits ≡ 5) }
     ensures fits { OnOk result (All (FitsBits 32) out.new) }
-    ensures spends { OnOk result (bits.new.most ≤ bits.old.most) }
-    ensures counts { Counts bits.old bits.new result }
-    ensures memory { IfErr result (λ e. e ≢ Why.Memory) }
-    ensures reads { Reads (λ _. out.new) (bind (partition parameter_bits (length out.old)) (λ p. done p.values)) bits.old bits.new result }
+    ensures reading { CallInPlace 0 (Reads (λ _. out.new) (bind (partition parameter_bits (length out.old)) (λ p. done p.values))) bits.old bits.new result }
 {
     let parameter = bits.take(parameter_bits)? as u32;
     if parameter == (1 << parameter_bits) - 1 {
@@ -59,10 +56,7 @@ fn read_partitions<R: Source>(
     requires small { size ≤ 65535 }
     requires cut { length out.old + order ≡ count * size }
     ensures fits { OnOk result (All (FitsBits 32) out.new) }
-    ensures spends { OnOk result (bits.new.most ≤ bits.old.most) }
-    ensures counts { Counts bits.old bits.new result }
-    ensures memory { IfErr result (λ e. e ≢ Why.Memory) }
-    ensures reads { Reads (λ _. out.new) (bind (partitions parameter_bits (size - order) size count) (λ ps. done (all_values ps))) bits.old bits.new result }
+    ensures reading { CallInPlace 0 (Reads (λ _. out.new) (bind (partitions parameter_bits (size - order) size count) (λ ps. done (all_values ps)))) bits.old bits.new result }
 {
     let mut start = 0;
     let mut end = size - order;
@@ -86,10 +80,7 @@ fn read_residual_header<R: Source>(
     ensures times { IfOk result (λ h. h.1 ≤ 15) }
     ensures whole { IfOk result (λ h. block ≡ 2 ^ h.1 * (block / 2 ^ h.1)) }
     ensures room { IfOk result (λ h. order < block / 2 ^ h.1) }
-    ensures spends { OnOk result (bits.new.most ≤ bits.old.most) }
-    ensures counts { Counts bits.old bits.new result }
-    ensures memory { IfErr result (λ e. e ≢ Why.Memory) }
-    ensures reads { Reads (λ h. (method_code h.0, h.1)) (residual_header limit order block) bits.old bits.new result }
+    ensures reading { CallInPlace 0 (Reads (λ h. (method_code h.0, h.1)) (residual_header limit order block)) bits.old bits.new result }
 {
     let code = bits.take(2)?;
     let Some(method) = CodingMethod::of_code(code) else {
@@ -118,10 +109,7 @@ pub(crate) fn read_residual<R: Source>(
     requires limit { limit ≤ 15 }
     requires few { length out.old + order ≤ 65535 }
     ensures fits { OnOk result (All (FitsBits 32) out.new) }
-    ensures spends { OnOk result (bits.new.most ≤ bits.old.most) }
-    ensures counts { Counts bits.old bits.new result }
-    ensures memory { IfErr result (λ e. e ≢ Why.Memory) }
-    ensures reads { Reads (λ _. out.new) (bind (residual limit order (length out.old + order)) (λ r. done (residual_values r))) bits.old bits.new result }
+    ensures reading { CallInPlace 0 (Reads (λ _. out.new) (bind (residual limit order (length out.old + order)) (λ r. done (residual_values r)))) bits.old bits.new result }
 {
     let block = out.len() + order;
     let (method, times) = read_residual_header(bits, limit, order, block)?;

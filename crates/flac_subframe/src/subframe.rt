@@ -1,7 +1,7 @@
 //! Reads a subframe.
 
-ghost use Rattle.std.specs.Prelude.{◌≡◌, ◌≢◌, ◌≤◌, ◌<◌, ◌+◌, ◌-◌, OnOk, IfOk, IfSome, length, cond, Some, None, All, IsTrue, map, replicate, ℤ, pos, ◌*ℤ◌, ◌^◌, IfErr};
-ghost use Rattle.flac_bits.specs.Reading.{Counts, Gives, Reads, Means};
+ghost use Rattle.std.specs.Prelude.{◌≡◌, ◌≤◌, ◌<◌, ◌+◌, ◌-◌, OnOk, IfOk, IfSome, length, cond, Some, None, All, IsTrue, map, replicate, ℤ, pos, ◌*ℤ◌, ◌^◌};
+ghost use Rattle.flac_bits.specs.Reading.{Reads, Means, CallInPlace};
 ghost use Rattle.flac_bits.specs.Signed.{FitsBits};
 ghost use Rattle.flac_subframe.specs.inner.Codes.{IsType, type_code, type_order};
 ghost use Rattle.flac_subframe.specs.Subframe.{constant, verbatim, fixed, predictor, linear, fitting, content_samples, wasted_bits, header, scaled, subframe_samples};
@@ -30,10 +30,7 @@ fn read_wasted<R: Source>(bits: &mut BitReader<R>, flag: u64, depth: u32) -> Res
     requires room { flag ≡ 1 → 2 ≤ depth }
     requires flag { flag < 2 }
     ensures left { IfOk result (λ k. k < depth) }
-    ensures spends { OnOk result (bits.new.most ≤ bits.old.most) }
-    ensures counts { Counts bits.old bits.new result }
-    ensures memory { IfErr result (λ e. e ≢ Why.Memory) }
-    ensures reads { Reads (λ k. k) (wasted_bits flag depth) bits.old bits.new result }
+    ensures reading { CallInPlace 0 (Reads (λ k. k) (wasted_bits flag depth)) bits.old bits.new result }
 {
     if flag == 0 {
         return Ok(0);
@@ -56,10 +53,7 @@ fn read_header<R: Source>(
     ensures kind { IfOk result (λ h. IsType h.kind) }
     ensures order { IfOk result (λ h. type_order h.kind < block) }
     ensures left { IfOk result (λ h. h.wasted < depth) }
-    ensures spends { OnOk result (bits.new.most + 8 ≤ bits.old.most) }
-    ensures counts { Counts bits.old bits.new result }
-    ensures memory { IfErr result (λ e. e ≢ Why.Memory) }
-    ensures reads { Reads (λ h. record { kind = type_code h.kind; wasted = h.wasted }) (header depth block limits.now) bits.old bits.new result }
+    ensures reading { CallInPlace 8 (Reads (λ h. record { kind = type_code h.kind; wasted = h.wasted }) (header depth block limits.now)) bits.old bits.new result }
 {
     let zero = bits.take(1)?;
     let code = bits.take(6)?;
@@ -89,11 +83,7 @@ fn read_constant<R: Source>(
 ) -> Result<bool, Why>
     requires depth { (1 ≤ depth) × (depth ≤ 33) }
     ensures fits { IfOk result (λ fits. IsTrue fits → All (FitsBits depth) samples.new) }
-    ensures spends { OnOk result (bits.new.most ≤ bits.old.most) }
-    ensures counts { Counts bits.old bits.new result }
-    ensures memory { IfErr result (λ e. e ≢ Why.Memory) }
-    ensures reads { Reads (λ fits. cond fits (Some samples.new) None)
-        (bind (constant depth) (λ c. done (fitting depth (length samples.old) c))) bits.old bits.new result }
+    ensures reading { CallInPlace 0 (Reads (λ fits. cond fits (Some samples.new) None) (bind (constant depth) (λ c. done (fitting depth (length samples.old) c)))) bits.old bits.new result }
 {
     let sample = bits.take_signed(depth)?;
     repeat(sample, samples);
@@ -109,11 +99,7 @@ fn read_verbatim<R: Source>(
 ) -> Result<bool, Why>
     requires depth { (1 ≤ depth) × (depth ≤ 33) }
     ensures fits { IfOk result (λ fits. IsTrue fits → All (FitsBits depth) samples.new) }
-    ensures spends { OnOk result (bits.new.most ≤ bits.old.most) }
-    ensures counts { Counts bits.old bits.new result }
-    ensures memory { IfErr result (λ e. e ≢ Why.Memory) }
-    ensures reads { Reads (λ fits. cond fits (Some samples.new) None)
-        (bind (verbatim depth (length samples.old)) (λ c. done (fitting depth (length samples.old) c))) bits.old bits.new result }
+    ensures reading { CallInPlace 0 (Reads (λ fits. cond fits (Some samples.new) None) (bind (verbatim depth (length samples.old)) (λ c. done (fitting depth (length samples.old) c)))) bits.old bits.new result }
 {
     bits.signed_partition(depth, samples)?;
     Ok(true)
@@ -133,11 +119,7 @@ fn read_fixed<R: Source>(
     requires order { order ≤ 4 }
     requires places { (order < length samples.old) × (length samples.old ≤ 65535) }
     ensures fits { IfOk result (λ fits. IsTrue fits → All (FitsBits depth) samples.new) }
-    ensures spends { OnOk result (bits.new.most ≤ bits.old.most) }
-    ensures counts { Counts bits.old bits.new result }
-    ensures memory { IfErr result (λ e. e ≢ Why.Memory) }
-    ensures reads { Reads (λ fits. cond fits (Some samples.new) None)
-        (bind (fixed depth (length samples.old) limit order) (λ c. done (fitting depth (length samples.old) c))) bits.old bits.new result }
+    ensures reading { CallInPlace 0 (Reads (λ fits. cond fits (Some samples.new) None) (bind (fixed depth (length samples.old) limit order) (λ c. done (fitting depth (length samples.old) c)))) bits.old bits.new result }
 {
     let places = order as usize;
     bits.signed_partition(depth, &mut samples[..places])?;
@@ -153,10 +135,7 @@ fn read_predictor<R: Source>(
 ) -> Result<(u32, u32), Why>
     ensures shift { IfOk result (λ p. p.1 < 16) }
     ensures fits { OnOk result (All (FitsBits 15) coefficients.new) }
-    ensures spends { OnOk result (bits.new.most ≤ bits.old.most) }
-    ensures counts { Counts bits.old bits.new result }
-    ensures memory { IfErr result (λ e. e ≢ Why.Memory) }
-    ensures reads { Reads (λ p. record { precision = p.0; shift = p.1; coefficients = coefficients.new }) (predictor (length coefficients.old)) bits.old bits.new result }
+    ensures reading { CallInPlace 0 (Reads (λ p. record { precision = p.0; shift = p.1; coefficients = coefficients.new }) (predictor (length coefficients.old))) bits.old bits.new result }
 {
     let low = bits.take(4)? as u32;
     if low == 15 {
@@ -184,11 +163,7 @@ fn read_linear_into<R: Source>(
     requires order { (1 ≤ length coefficients.old) × (length coefficients.old ≤ 32) }
     requires places { (length coefficients.old < length samples.old) × (length samples.old ≤ 65535) }
     ensures fits { IfOk result (λ fits. IsTrue fits → All (FitsBits depth) samples.new) }
-    ensures spends { OnOk result (bits.new.most ≤ bits.old.most) }
-    ensures counts { Counts bits.old bits.new result }
-    ensures memory { IfErr result (λ e. e ≢ Why.Memory) }
-    ensures reads { Reads (λ fits. cond fits (Some samples.new) None)
-        (bind (linear depth (length samples.old) limit (length coefficients.old)) (λ c. done (fitting depth (length samples.old) c))) bits.old bits.new result }
+    ensures reading { CallInPlace 0 (Reads (λ fits. cond fits (Some samples.new) None) (bind (linear depth (length samples.old) limit (length coefficients.old)) (λ c. done (fitting depth (length samples.old) c)))) bits.old bits.new result }
 {
     let order = coefficients.len();
     bits.signed_partition(depth, &mut samples[..order])?;
@@ -210,11 +185,7 @@ fn read_linear<R: Source>(
     requires order { (1 ≤ order) × (order ≤ 32) }
     requires places { (order < length samples.old) × (length samples.old ≤ 65535) }
     ensures fits { IfOk result (λ fits. IsTrue fits → All (FitsBits depth) samples.new) }
-    ensures spends { OnOk result (bits.new.most ≤ bits.old.most) }
-    ensures counts { Counts bits.old bits.new result }
-    ensures memory { IfErr result (λ e. e ≢ Why.Memory) }
-    ensures reads { Reads (λ fits. cond fits (Some samples.new) None)
-        (bind (linear depth (length samples.old) limit order) (λ c. done (fitting depth (length samples.old) c))) bits.old bits.new result }
+    ensures reading { CallInPlace 0 (Reads (λ fits. cond fits (Some samples.new) None) (bind (linear depth (length samples.old) limit order) (λ c. done (fitting depth (length samples.old) c)))) bits.old bits.new result }
 {
     let mut coefficients: ArrayVec<i64, 32> = ArrayVec::from([0; 32]);
     coefficients.truncate(order as usize);
@@ -235,10 +206,7 @@ fn read_content<R: Source>(
     requires kind { IsType kind }
     requires places { (type_order kind < length samples.old) × (length samples.old ≤ 65535) }
     ensures fits { IfOk result (λ fits. IsTrue fits → All (FitsBits depth) samples.new) }
-    ensures spends { OnOk result (bits.new.most ≤ bits.old.most) }
-    ensures counts { Counts bits.old bits.new result }
-    ensures memory { IfErr result (λ e. e ≢ Why.Memory) }
-    ensures reads { Reads (λ fits. cond fits (Some samples.new) None) (content_samples (type_code kind) depth (length samples.old) limit) bits.old bits.new result }
+    ensures reading { CallInPlace 0 (Reads (λ fits. cond fits (Some samples.new) None) (content_samples (type_code kind) depth (length samples.old) limit)) bits.old bits.new result }
 {
     match kind {
         SubframeType::Constant => read_constant(bits, depth, samples),
@@ -301,10 +269,7 @@ pub fn read_subframe<R: Source>(
     requires places { length samples.old ≡ block }
     requires limits { (limits.now.partition ≤ 15) × (limits.now.linear ≤ 32) }
     ensures small { IfOk result (λ fits. IsTrue fits → All (FitsBits 34) samples.new) }
-    ensures spends { OnOk result (bits.new.most + 8 ≤ bits.old.most) }
-    ensures counts { Counts bits.old bits.new result }
-    ensures memory { IfErr result (λ e. e ≢ Why.Memory) }
-    ensures means { Means (λ fits. cond fits (Some samples.new) None) (subframe_samples depth block limits.now) bits.old bits.new result }
+    ensures reading { CallInPlace 8 (Means (λ fits. cond fits (Some samples.new) None) (subframe_samples depth block limits.now)) bits.old bits.new result }
 {
     read_here(bits, depth, block, limits, samples)
 }
@@ -322,11 +287,7 @@ fn read_here<R: Source>(
     requires places { length samples.old ≡ block }
     requires limits { (limits.now.partition ≤ 15) × (limits.now.linear ≤ 32) }
     ensures small { IfOk result (λ fits. IsTrue fits → All (FitsBits 34) samples.new) }
-    ensures spends { OnOk result (bits.new.most + 8 ≤ bits.old.most) }
-    ensures counts { Counts bits.old bits.new result }
-    ensures memory { IfErr result (λ e. e ≢ Why.Memory) }
-    ensures reads { Reads (λ fits. cond fits (Some samples.new) None)
-        (bind (header depth block limits.now) (λ h. bind (content_samples h.kind (depth - h.wasted) block limits.now.partition) (λ o. done (scaled h.wasted o)))) bits.old bits.new result }
+    ensures reading { CallInPlace 8 (Reads (λ fits. cond fits (Some samples.new) None) (bind (header depth block limits.now) (λ h. bind (content_samples h.kind (depth - h.wasted) block limits.now.partition) (λ o. done (scaled h.wasted o))))) bits.old bits.new result }
 {
     let header = read_header(bits, depth, block, limits)?;
     let fits = read_content(

@@ -1,20 +1,22 @@
 //! The search for the form of a residual with the fewest bits: tables have the cost of each partition, and only the
 //! codings of the best form are listed.
 
-ghost use Rattle.std.specs.Prelude.{◌≡◌, ◌≢◌, ◌<◌, ◌≤◌, ◌^◌, ◌+◌, ◌-◌, ◌*◌, ◌/◌, ℕ, length, map, take, All, IsTrue, ◌⊎◌, IfSome, IfNone};
+ghost use Rattle.std.specs.Prelude.{◌≡◌, ◌<◌, ◌≤◌, ◌^◌, ◌+◌, ◌-◌, ◌*◌, ◌/◌, ℕ, length, map, take, All, IsTrue, IfSome, IfNone};
 ghost use Rattle.flac_bits.specs.Rice.{IsResidual};
+ghost use Rattle.flac_subframe.specs.declared.coding_method.CodingMethod.{CodingMethod};
 ghost use Rattle.flac_subframe.specs.Least.{IsLeast};
 ghost use Rattle.flac_subframe.specs.inner.Least.{IsLeastCost};
-ghost use Rattle.flac_subframe.specs.Cost.{MayCode, MayWrite, Codings, coding_of, codings_in};
+ghost use Rattle.flac_subframe.specs.Cost.{MayCode, MayWrite, Codings, coding_of, codings_in, parameter_bits_of};
 ghost use Rattle.flac_subframe.specs.inner.Cost.{HalvedTo, ByMethod, coding_cost, partitions_cost, residual_cost, Partitioned};
 ghost use Rattle.flac_subframe.specs.inner.Halves.{Halves, HasEntries, HasPlaces, LeastBelow, IsWidth, HasWidths};
 
 use crate::coding::Coding;
+use crate::coding_method::CodingMethod;
 use crate::cost::Priced;
 use crate::halves::{clear, compare, compare_down, copy};
-use crate::halving::Found;
 use crate::numbers::power;
 use crate::pruning::{COARSE, finest_in_doubt, is_too_dear};
+use crate::residual_form::ResidualForm;
 use crate::tables::Tables;
 use crate::view::ResidualView;
 use crate::widths::measure;
@@ -38,14 +40,13 @@ pub(crate) fn greatest_halvings(values: &[i32], order: usize, most: u8) -> u8
 }
 
 /// The coding of a partition with the fewest bits, from its entry in the table and its width.
-fn finish(values: &[i32], parameter_bits: u8, best: u64, width: u8) -> Priced
+fn finish(values: &[i32], method: CodingMethod, best: u64, width: u8) -> Priced
     requires few { length values.now ≤ 65535 }
     requires range { All IsResidual values.now }
-    requires method { (parameter_bits ≡ 4) ⊎ (parameter_bits ≡ 5) }
-    requires best { LeastBelow (2 ^ parameter_bits - 1) values.now best }
+    requires best { LeastBelow (2 ^ parameter_bits_of method - 1) values.now best }
     requires small_width { width ≤ 32 }
     requires width { IsWidth values.now width }
-    ensures least { IsLeast (MayCode parameter_bits values.now) (λ c. coding_cost c values.now) result.coding }
+    ensures least { IsLeast (MayCode (parameter_bits_of method) values.now) (λ c. coding_cost c values.now) result.coding }
     ensures bits { result.bits ≡ coding_cost result.coding values.now }
     ensures small { result.bits ≤ 2 ^ 33 * length values.now + 5 }
 {
@@ -68,28 +69,28 @@ fn finish(values: &[i32], parameter_bits: u8, best: u64, width: u8) -> Priced
 fn total(
     residual: &ResidualView<'_>,
     halvings: u8,
-    parameter_bits: u8,
+    method: CodingMethod,
     table: &[u64],
     widths: &[u8],
 ) -> u64
-    requires method { (parameter_bits ≡ 4) ⊎ (parameter_bits ≡ 5) }
     requires within { halvings ≤ residual.now.halvings }
     requires table { 2 * 2 ^ residual.now.halvings ≤ length table.now }
-    requires entries { HasEntries (2 ^ parameter_bits - 1) residual.now.order residual.now.values.now residual.now.halvings table.now }
+    requires entries { HasEntries (2 ^ parameter_bits_of method - 1) residual.now.order residual.now.values.now residual.now.halvings table.now }
     requires widths { HasWidths residual.now.order residual.now.values.now 0 residual.now.halvings widths.now }
     requires places { 2 * 2 ^ residual.now.halvings ≤ length widths.now }
-    ensures least { let size = (length residual.now.values.now + residual.now.order) / 2 ^ halvings in IsLeastCost (Partitioned parameter_bits (size - residual.now.order) size (2 ^ halvings) residual.now.values.now) (partitions_cost parameter_bits (size - residual.now.order) size residual.now.values.now) result }
+    ensures least { let size = (length residual.now.values.now + residual.now.order) / 2 ^ halvings in IsLeastCost (Partitioned (parameter_bits_of method) (size - residual.now.order) size (2 ^ halvings) residual.now.values.now) (partitions_cost (parameter_bits_of method) (size - residual.now.order) size residual.now.values.now) result }
     ensures small { result ≤ 2 ^ 33 * 65535 + 10 * 2 ^ 15 }
 {
     let size = (residual.values.len() + residual.order) >> halvings;
     let count = power(halvings);
+    let parameter_bits = u64::from(method.parameter_bits());
     let mut bits = 0;
     let mut rest = residual.values;
     let mut long = size - residual.order;
     for j in 0..count {
         let (front, after) = rest.split_at(long);
-        let best = finish(front, parameter_bits, table[count + j], widths[count + j]);
-        bits += u64::from(parameter_bits) + best.bits;
+        let best = finish(front, method, table[count + j], widths[count + j]);
+        bits += parameter_bits + best.bits;
         rest = after;
         long = size;
     }
@@ -100,31 +101,31 @@ fn total(
 fn gather(
     residual: &ResidualView<'_>,
     halvings: u8,
-    parameter_bits: u8,
+    method: CodingMethod,
     table: &[u64],
     widths: &[u8],
     codings: &mut [u8],
 ) -> u64
-    requires method { (parameter_bits ≡ 4) ⊎ (parameter_bits ≡ 5) }
     requires within { halvings ≤ residual.now.halvings }
     requires table { 2 * 2 ^ residual.now.halvings ≤ length table.now }
-    requires entries { HasEntries (2 ^ parameter_bits - 1) residual.now.order residual.now.values.now residual.now.halvings table.now }
+    requires entries { HasEntries (2 ^ parameter_bits_of method - 1) residual.now.order residual.now.values.now residual.now.halvings table.now }
     requires widths { HasWidths residual.now.order residual.now.values.now 0 residual.now.halvings widths.now }
     requires places { 2 * 2 ^ residual.now.halvings ≤ length widths.now }
     requires codings { 2 ^ halvings ≤ length codings.old }
-    ensures least { let size = (length residual.now.values.now + residual.now.order) / 2 ^ halvings in IsLeast (Partitioned parameter_bits (size - residual.now.order) size (2 ^ halvings) residual.now.values.now) (partitions_cost parameter_bits (size - residual.now.order) size residual.now.values.now) (map coding_of (take (2 ^ halvings) codings.new)) }
-    ensures bits { let size = (length residual.now.values.now + residual.now.order) / 2 ^ halvings in result ≡ partitions_cost parameter_bits (size - residual.now.order) size residual.now.values.now (map coding_of (take (2 ^ halvings) codings.new)) }
+    ensures least { let size = (length residual.now.values.now + residual.now.order) / 2 ^ halvings in IsLeast (Partitioned (parameter_bits_of method) (size - residual.now.order) size (2 ^ halvings) residual.now.values.now) (partitions_cost (parameter_bits_of method) (size - residual.now.order) size residual.now.values.now) (map coding_of (take (2 ^ halvings) codings.new)) }
+    ensures bits { let size = (length residual.now.values.now + residual.now.order) / 2 ^ halvings in result ≡ partitions_cost (parameter_bits_of method) (size - residual.now.order) size residual.now.values.now (map coding_of (take (2 ^ halvings) codings.new)) }
     ensures small { result ≤ 2 ^ 33 * 65535 + 10 * 2 ^ 15 }
 {
     let size = (residual.values.len() + residual.order) >> halvings;
     let count = power(halvings);
+    let parameter_bits = u64::from(method.parameter_bits());
     let mut bits = 0;
     let mut rest = residual.values;
     let mut long = size - residual.order;
     for j in 0..count {
         let (front, after) = rest.split_at(long);
-        let best = finish(front, parameter_bits, table[count + j], widths[count + j]);
-        bits += u64::from(parameter_bits) + best.bits;
+        let best = finish(front, method, table[count + j], widths[count + j]);
+        bits += parameter_bits + best.bits;
         codings[j] = best.coding.byte();
         rest = after;
         long = size;
@@ -135,31 +136,30 @@ fn gather(
 /// The best partition order of a coding method.
 fn best_order(
     residual: &ResidualView<'_>,
-    parameter_bits: u8,
+    method: CodingMethod,
     table: &[u64],
     widths: &[u8],
-) -> Found
-    requires method { (parameter_bits ≡ 4) ⊎ (parameter_bits ≡ 5) }
+) -> ResidualForm
     requires table { 2 * 2 ^ residual.now.halvings ≤ length table.now }
-    requires entries { HasEntries (2 ^ parameter_bits - 1) residual.now.order residual.now.values.now residual.now.halvings table.now }
+    requires entries { HasEntries (2 ^ parameter_bits_of method - 1) residual.now.order residual.now.values.now residual.now.halvings table.now }
     requires widths { HasWidths residual.now.order residual.now.values.now 0 residual.now.halvings widths.now }
     requires places { 2 * 2 ^ residual.now.halvings ≤ length widths.now }
-    ensures method { result.parameter_bits ≡ parameter_bits }
+    ensures method { result.method ≡ method }
     ensures within { result.halvings ≤ residual.now.halvings }
-    ensures least { IsLeastCost (ByMethod parameter_bits residual.now.halvings residual.now.order residual.now.values.now) (residual_cost residual.now.order residual.now.values.now) result.bits }
-    ensures here { IsLeastCost (HalvedTo parameter_bits result.halvings residual.now.halvings residual.now.order residual.now.values.now) (residual_cost residual.now.order residual.now.values.now) result.bits }
+    ensures least { IsLeastCost (ByMethod (parameter_bits_of method) residual.now.halvings residual.now.order residual.now.values.now) (residual_cost residual.now.order residual.now.values.now) result.bits }
+    ensures here { IsLeastCost (HalvedTo (parameter_bits_of method) result.halvings residual.now.halvings residual.now.order residual.now.values.now) (residual_cost residual.now.order residual.now.values.now) result.bits }
     ensures small { result.bits ≤ 2 ^ 33 * 2 ^ 16 }
 {
-    let mut best = Found {
-        parameter_bits,
+    let mut best = ResidualForm {
+        method,
         halvings: 0,
-        bits: 6 + total(residual, 0, parameter_bits, table, widths),
+        bits: 6 + total(residual, 0, method, table, widths),
     };
     for p in 1..residual.halvings + 1 {
-        let bits = 6 + total(residual, p, parameter_bits, table, widths);
+        let bits = 6 + total(residual, p, method, table, widths);
         if bits < best.bits {
-            best = Found {
-                parameter_bits,
+            best = ResidualForm {
+                method,
                 halvings: p,
                 bits,
             };
@@ -216,26 +216,25 @@ fn survey(
     four: &mut [u64],
     five: &mut [u64],
     widths: &[u8],
-) -> Found
+) -> ResidualForm
     requires sums { 2 ^ residual.now.halvings ≤ length sums.old }
     requires four { 2 * 2 ^ residual.now.halvings ≤ length four.old }
     requires five { 2 * 2 ^ residual.now.halvings ≤ length five.old }
     requires widths { HasWidths residual.now.order residual.now.values.now 0 residual.now.halvings widths.now }
     requires places { 2 * 2 ^ residual.now.halvings ≤ length widths.now }
-    ensures method { (result.parameter_bits ≡ 4) ⊎ (result.parameter_bits ≡ 5) }
     ensures within { result.halvings ≤ residual.now.halvings }
     ensures least { IsLeastCost (MayWrite residual.now.halvings residual.now.order residual.now.values.now) (residual_cost residual.now.order residual.now.values.now) result.bits }
-    ensures here { IsLeastCost (HalvedTo result.parameter_bits result.halvings residual.now.halvings residual.now.order residual.now.values.now) (residual_cost residual.now.order residual.now.values.now) result.bits }
+    ensures here { IsLeastCost (HalvedTo (parameter_bits_of result.method) result.halvings residual.now.halvings residual.now.order residual.now.values.now) (residual_cost residual.now.order residual.now.values.now) result.bits }
     ensures small { result.bits ≤ 2 ^ 33 * 2 ^ 16 }
     ensures entries { HasEntries 15 residual.now.order residual.now.values.now residual.now.halvings four.new }
-    ensures more { result.parameter_bits ≢ 4 → HasEntries 31 residual.now.order residual.now.values.now residual.now.halvings five.new }
+    ensures more { result.method ≡ CodingMethod.FiveBits → HasEntries 31 residual.now.order residual.now.values.now residual.now.halvings five.new }
 {
     let same = tabulate(residual, widths[1], sums, four, five);
-    let first = best_order(residual, 4, four, widths);
+    let first = best_order(residual, CodingMethod::FourBits, four, widths);
     if same {
         return first;
     }
-    let second = best_order(residual, 5, five, widths);
+    let second = best_order(residual, CodingMethod::FiveBits, five, widths);
     if second.bits < first.bits {
         second
     } else {
@@ -246,63 +245,57 @@ fn survey(
 /// Puts the codings at a method and a partition order into the first places, and says how many bits the residual takes.
 fn take_up(
     residual: &ResidualView<'_>,
-    found: Found,
+    form: ResidualForm,
     table: &[u64],
     widths: &[u8],
     codings: &mut [u8],
 ) -> u64
-    requires method { (found.parameter_bits ≡ 4) ⊎ (found.parameter_bits ≡ 5) }
-    requires within { found.halvings ≤ residual.now.halvings }
+    requires within { form.halvings ≤ residual.now.halvings }
     requires table { 2 * 2 ^ residual.now.halvings ≤ length table.now }
-    requires entries { HasEntries (2 ^ found.parameter_bits - 1) residual.now.order residual.now.values.now residual.now.halvings table.now }
+    requires entries { HasEntries (2 ^ parameter_bits_of form.method - 1) residual.now.order residual.now.values.now residual.now.halvings table.now }
     requires widths { HasWidths residual.now.order residual.now.values.now 0 residual.now.halvings widths.now }
     requires places { 2 * 2 ^ residual.now.halvings ≤ length widths.now }
     requires codings { 2 ^ residual.now.halvings ≤ length codings.old }
-    ensures least { IsLeast (HalvedTo found.parameter_bits found.halvings residual.now.halvings residual.now.order residual.now.values.now) (residual_cost residual.now.order residual.now.values.now) (codings_in found codings.new) }
-    ensures bits { result ≡ residual_cost residual.now.order residual.now.values.now (codings_in found codings.new) }
+    ensures least { IsLeast (HalvedTo (parameter_bits_of form.method) form.halvings residual.now.halvings residual.now.order residual.now.values.now) (residual_cost residual.now.order residual.now.values.now) (codings_in form codings.new) }
+    ensures bits { result ≡ residual_cost residual.now.order residual.now.values.now (codings_in form codings.new) }
 {
-    let bits = gather(
-        residual,
-        found.halvings,
-        found.parameter_bits,
-        table,
-        widths,
-        codings,
-    );
+    let bits = gather(residual, form.halvings, form.method, table, widths, codings);
     6 + bits
 }
 
 /// The same at the method that was found, from the table of that method.
 fn take_found(
     residual: &ResidualView<'_>,
-    found: Found,
+    form: ResidualForm,
     four: &[u64],
     five: &[u64],
     widths: &[u8],
     codings: &mut [u8],
 ) -> u64
-    requires method { (found.parameter_bits ≡ 4) ⊎ (found.parameter_bits ≡ 5) }
-    requires within { found.halvings ≤ residual.now.halvings }
+    requires within { form.halvings ≤ residual.now.halvings }
     requires four { 2 * 2 ^ residual.now.halvings ≤ length four.now }
     requires five { 2 * 2 ^ residual.now.halvings ≤ length five.now }
     requires entries { HasEntries 15 residual.now.order residual.now.values.now residual.now.halvings four.now }
-    requires more { found.parameter_bits ≢ 4 → HasEntries 31 residual.now.order residual.now.values.now residual.now.halvings five.now }
+    requires more { form.method ≡ CodingMethod.FiveBits → HasEntries 31 residual.now.order residual.now.values.now residual.now.halvings five.now }
     requires widths { HasWidths residual.now.order residual.now.values.now 0 residual.now.halvings widths.now }
     requires places { 2 * 2 ^ residual.now.halvings ≤ length widths.now }
     requires codings { 2 ^ residual.now.halvings ≤ length codings.old }
-    ensures least { IsLeast (HalvedTo found.parameter_bits found.halvings residual.now.halvings residual.now.order residual.now.values.now) (residual_cost residual.now.order residual.now.values.now) (codings_in found codings.new) }
-    ensures bits { result ≡ residual_cost residual.now.order residual.now.values.now (codings_in found codings.new) }
+    ensures least { IsLeast (HalvedTo (parameter_bits_of form.method) form.halvings residual.now.halvings residual.now.order residual.now.values.now) (residual_cost residual.now.order residual.now.values.now) (codings_in form codings.new) }
+    ensures bits { result ≡ residual_cost residual.now.order residual.now.values.now (codings_in form codings.new) }
 {
-    if found.parameter_bits == 4 {
-        take_up(residual, found, four, widths, codings)
-    } else {
-        take_up(residual, found, five, widths, codings)
+    match form.method {
+        CodingMethod::FourBits => take_up(residual, form, four, widths, codings),
+        CodingMethod::FiveBits => take_up(residual, form, five, widths, codings),
     }
 }
 
 /// The residual form of the fewest bits, if it takes fewer bits than `below`, with its codings in their array. Cheap lower bounds come
 /// first, so that most predictors are refused before their parameters are tried.
-fn least_at_once(residual: &ResidualView<'_>, tables: &mut Tables<'_>, below: u64) -> Option<Found>
+fn least_at_once(
+    residual: &ResidualView<'_>,
+    tables: &mut Tables<'_>,
+    below: u64,
+) -> Option<ResidualForm>
     requires places { HasPlaces residual.now.halvings tables.old }
     ensures least { IfSome result (λ f. IsLeast (MayWrite residual.now.halvings residual.now.order residual.now.values.now) (residual_cost residual.now.order residual.now.values.now) (codings_in f tables.new.codings.now)) }
     ensures bits { IfSome result (λ f. f.bits ≡ residual_cost residual.now.order residual.now.values.now (codings_in f tables.new.codings.now)) }
@@ -323,12 +316,12 @@ fn least_at_once(residual: &ResidualView<'_>, tables: &mut Tables<'_>, below: u6
     if is_too_dear(residual, sums, widths, below) {
         return None;
     }
-    let found = survey(residual, sums, four, five, widths);
-    if found.bits >= below {
+    let form = survey(residual, sums, four, five, widths);
+    if form.bits >= below {
         return None;
     }
-    let bits = take_found(residual, found, four, five, widths, codings);
-    Some(Found { bits, ..found })
+    let bits = take_found(residual, form, four, five, widths, codings);
+    Some(ResidualForm { bits, ..form })
 }
 
 /// The same with partition orders up to `halvings` alone.
@@ -337,7 +330,7 @@ fn least_up_to(
     halvings: u8,
     tables: &mut Tables<'_>,
     below: u64,
-) -> Option<Found>
+) -> Option<ResidualForm>
     requires within { halvings ≤ residual.now.halvings }
     requires places { HasPlaces residual.now.halvings tables.old }
     ensures least { IfSome result (λ f. IsLeast (MayWrite halvings residual.now.order residual.now.values.now) (residual_cost residual.now.order residual.now.values.now) (codings_in f tables.new.codings.now)) }
@@ -355,7 +348,11 @@ fn least_up_to(
 
 /// The same for the finer partition orders: none if each form of these takes `below` bits or more, which bounds mostly show before
 /// their tables are made.
-fn least_of_finer(residual: &ResidualView<'_>, tables: &mut Tables<'_>, below: u64) -> Option<Found>
+fn least_of_finer(
+    residual: &ResidualView<'_>,
+    tables: &mut Tables<'_>,
+    below: u64,
+) -> Option<ResidualForm>
     requires fine { 8 ≤ residual.now.halvings }
     requires places { HasPlaces residual.now.halvings tables.old }
     ensures least { IfSome result (λ f. IsLeast (MayWrite residual.now.halvings residual.now.order residual.now.values.now) (residual_cost residual.now.order residual.now.values.now) (codings_in f tables.new.codings.now)) }
@@ -379,16 +376,18 @@ fn least_of_finer(residual: &ResidualView<'_>, tables: &mut Tables<'_>, below: u
 
 /// The number of bits that a finer form must stay below. Of two forms that take as many, that of the first method comes first, and
 /// then that of the lower partition order.
-fn bits_to_beat(found: Option<Found>, below: u64) -> u64
+fn bits_to_beat(found: Option<ResidualForm>, below: u64) -> u64
     requires less { IfSome found (λ f. f.bits < below) }
     ensures none { IfNone found (result ≡ below) }
     ensures some { IfSome found (λ f. f.bits ≤ result) }
     ensures within { result ≤ below }
 {
-    match found {
-        Some(first) if first.parameter_bits == 4 => first.bits,
-        Some(first) => first.bits + 1,
-        None => below,
+    let Some(first) = found else {
+        return below;
+    };
+    match first.method {
+        CodingMethod::FourBits => first.bits,
+        CodingMethod::FiveBits => first.bits + 1,
     }
 }
 
@@ -398,7 +397,7 @@ pub(crate) fn least_residual(
     residual: &ResidualView<'_>,
     tables: &mut Tables<'_>,
     below: u64,
-) -> Option<Found>
+) -> Option<ResidualForm>
     requires places { HasPlaces residual.now.halvings tables.old }
     ensures least { IfSome result (λ f. IsLeast (MayWrite residual.now.halvings residual.now.order residual.now.values.now) (residual_cost residual.now.order residual.now.values.now) (codings_in f tables.new.codings.now)) }
     ensures bits { IfSome result (λ f. f.bits ≡ residual_cost residual.now.order residual.now.values.now (codings_in f tables.new.codings.now)) }

@@ -8,7 +8,7 @@ ghost use Rattle.flac_subframe.specs.Numbers.{sample_at};
 ghost use Rattle.flac_subframe.specs.Spelling.{folded};
 ghost use Rattle.flac_subframe.specs.inner.Halves.{Halves};
 
-use crate::held::{HeldKind, PredictorKind};
+use crate::content::{PredictorKind, SubframeForm};
 use crate::linear::LinearPredictor;
 
 /// What is searched for: the subframe of the fewest bits for samples of a depth, with partition orders up to the greatest and with linear
@@ -86,7 +86,7 @@ pub(crate) struct SampleView<'a> {
 impl SampleView<'_> {
     ghost use Rattle.std.specs.Prelude.{◌≡◌, ◌≤◌, length};
     ghost use Rattle.flac_subframe.specs.Bodies.{coefficients_of, fields_cost};
-    ghost use Rattle.flac_subframe.specs.inner.Chosen.{IsNamed, predictor_named};
+    ghost use Rattle.flac_subframe.specs.Chosen.{IsNamed, predictor_named};
 
     /// The order of a predictor.
     pub(crate) fn order(&self, kind: PredictorKind) -> usize
@@ -113,19 +113,9 @@ impl SampleView<'_> {
     }
 }
 
-/// The form of a residual as it is written: the bits of a Rice parameter, the partition order, and the coding of each partition as a
-/// byte.
+/// A choice as it is written: its form, and the coding of each partition of its residual as a byte.
 #[derive(Clone, Copy)]
-pub(crate) struct CodedView<'a> {
-    pub(crate) parameter_bits: u8,
-    pub(crate) halvings: u8,
+pub(crate) struct ChoiceView<'a> {
+    pub(crate) form: SubframeForm,
     pub(crate) codings: &'a [u8],
-}
-
-/// A choice as it is written: its kind, and the form of its residual, which a kind without one does not use.
-#[derive(Clone, Copy)]
-pub(crate) struct ChosenView<'a> {
-    pub(crate) wasted: u32,
-    pub(crate) kind: HeldKind,
-    pub(crate) residual: CodedView<'a>,
 }

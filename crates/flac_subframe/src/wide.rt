@@ -6,8 +6,7 @@ ghost use Rattle.flac_bits.specs.Written.{Writes};
 ghost use Rattle.flac_bits.specs.declared.why.Why.{Why};
 ghost use Rattle.flac_subframe.specs.Least.{IsLeast};
 ghost use Rattle.flac_subframe.specs.Chosen.{offered};
-ghost use Rattle.flac_subframe.specs.inner.Cost.{codings_lent};
-ghost use Rattle.flac_subframe.specs.Family.{Stands, IsMadeIn, codings_kept, form_in};
+ghost use Rattle.flac_subframe.specs.Family.{Stands, IsMadeIn, bytes_kept, form_in};
 ghost use Rattle.flac_subframe.specs.Handed.{AreWithin};
 ghost use Rattle.flac_subframe.specs.Spelling.{subframe_spelling, IsSubframe};
 ghost use Rattle.flac_subframe.specs.Subframe.{samples_of};
@@ -15,12 +14,12 @@ ghost use Rattle.flac_subframe.specs.declared.limits.Limits.{Limits};
 ghost use Rattle.flac_subframe.specs.declared.linear.LinearPredictor.{LinearPredictor};
 
 use crate::choice::choose_in_places;
-use crate::halving::Found;
-use crate::held::HeldKind;
+use crate::content::{Content, SubframeForm};
 use crate::limits::Limits;
 use crate::linear::LinearPredictor;
 use crate::numbers::power;
-use crate::view::{ChosenView, CodedView, Task};
+use crate::residual_form::ResidualForm;
+use crate::view::{ChoiceView, Task};
 use crate::workspace::Workspace;
 use crate::writing::write_chosen;
 use flac_bits::{BitWriter, Target, Why};
@@ -32,9 +31,7 @@ use std::alloc::Global;
 /// A linear predictor is named by its place in the list that was handed in.
 #[derive(Drop)]
 pub struct WideChoice {
-    pub(crate) wasted: u32,
-    pub(crate) kind: HeldKind,
-    pub(crate) found: Found,
+    pub(crate) form: SubframeForm,
     pub(crate) codings: Vec<u8>,
     bits: u64,
 }
@@ -53,9 +50,11 @@ impl WideChoice {
     {
         let codings = vec![in alloc; 0u8; power(limits.partition as u8)]?;
         Ok(WideChoice {
-            wasted: 0,
-            kind: HeldKind::AsConstant,
-            found: Found::none(),
+            form: SubframeForm {
+                wasted: 0,
+                content: Content::Constant,
+                residual: ResidualForm::none(),
+            },
             codings,
             bits: 9,
         })
@@ -70,14 +69,14 @@ impl WideChoice {
 
     /// The codings that the choice has, the first of its places.
     fn codings_used(&self) -> &[u8]
-        ensures same { take (2 ^ self.now.found.halvings) result.now ≡ take (2 ^ self.now.found.halvings) self.now.codings.items }
-        ensures exact { self.now.found.halvings ≤ 15 → 2 ^ self.now.found.halvings ≤ vec_len self.now.codings → length result.now ≡ 2 ^ self.now.found.halvings }
+        ensures same { take (2 ^ self.now.form.residual.halvings) result.now ≡ take (2 ^ self.now.form.residual.halvings) self.now.codings.items }
+        ensures exact { self.now.form.residual.halvings ≤ 15 → 2 ^ self.now.form.residual.halvings ≤ vec_len self.now.codings → length result.now ≡ 2 ^ self.now.form.residual.halvings }
     {
         let places = self.codings.len();
-        if self.found.halvings > 15 {
+        if self.form.residual.halvings > 15 {
             return &self.codings;
         }
-        &self.codings[..power(self.found.halvings).min(places)]
+        &self.codings[..power(self.form.residual.halvings).min(places)]
     }
 
     /// A copy of the choice with places for just its own codings, one byte for each partition. A copy of which the rest is not needed
@@ -89,39 +88,40 @@ impl WideChoice {
         ensures same { IfOk result (λ c. (predictors : List LinearPredictor) (samples : List ℤ) → form_in predictors c samples ≡ form_in predictors self.now samples) }
         ensures made { IfOk result (λ c. (predictors : List LinearPredictor) (samples : List ℤ) → IsMadeIn predictors self.now samples → IsMadeIn predictors c samples) }
         ensures bits { IfOk result (λ c. c.bits ≡ self.now.bits) }
-        ensures exact { IfOk result (λ c. self.now.found.halvings ≤ 15 → 2 ^ self.now.found.halvings ≤ vec_len self.now.codings → vec_len c.codings ≡ 2 ^ self.now.found.halvings) }
+        ensures exact { IfOk result (λ c. self.now.form.residual.halvings ≤ 15 → 2 ^ self.now.form.residual.halvings ≤ vec_len self.now.codings → vec_len c.codings ≡ 2 ^ self.now.form.residual.halvings) }
         ensures memory { IfErr result (λ e. e ≡ Why.Memory) }
     {
         let used = self.codings_used();
         let mut codings = vec![in alloc; 0u8; used.len()]?;
         codings.copy_from_slice(used);
         Ok(WideChoice {
-            wasted: self.wasted,
-            kind: self.kind,
-            found: self.found,
+            form: self.form,
             codings,
             bits: self.bits,
         })
     }
 
     /// The same with its codings lent.
-    fn lent(&self) -> ChosenView<'_>
-        requires few { self.now.found.halvings ≤ 15 }
-        requires places { 2 ^ self.now.found.halvings ≤ vec_len self.now.codings }
-        ensures wasted { result.wasted ≡ self.now.wasted }
-        ensures kind { result.kind ≡ self.now.kind }
-        ensures codings { codings_lent result.residual ≡ codings_kept self.now }
+    fn lent(&self) -> ChoiceView<'_>
+        requires few { self.now.form.residual.halvings ≤ 15 }
+        requires places { 2 ^ self.now.form.residual.halvings ≤ vec_len self.now.codings }
+        ensures form { result.form ≡ self.now.form }
+        ensures codings { result.codings.now ≡ bytes_kept self.now }
     {
-        ChosenView {
-            wasted: self.wasted,
-            kind: self.kind,
-            residual: CodedView {
-                parameter_bits: self.found.parameter_bits,
-                halvings: self.found.halvings,
-                codings: &self.codings[..power(self.found.halvings)],
-            },
+        ChoiceView {
+            form: self.form,
+            codings: &self.codings[..power(self.form.residual.halvings)],
         }
     }
+}
+
+/// Copies the first bytes of an array to the first places.
+fn copy_first(bytes: &[u8], count: usize, places: &mut [u8])
+    requires some { count ≤ length bytes.now }
+    requires room { count ≤ length places.old }
+    ensures { take count places.new ≡ take count bytes.now }
+{
+    places[..count].copy_from_slice(&bytes[..count]);
 }
 
 /// Chooses the subframe of the fewest bits for samples of a depth of 1 to 33 bits, with partition orders up to that of the limits, at
@@ -163,19 +163,18 @@ pub fn choose_in(
         most: limits.partition as u8,
         predictors,
     };
-    let sought = choose_in_places(
+    let (form, bits) = choose_in_places(
         &task,
         &mut workspace.longs,
         &mut workspace.shorts,
         &mut workspace.folds,
         &mut workspace.tables,
-        &mut workspace.widths,
-        &mut choice.codings,
+        &mut workspace.bytes,
     );
-    choice.wasted = sought.wasted;
-    choice.kind = sought.held.kind;
-    choice.found = sought.held.found;
-    choice.bits = sought.bits();
+    let count = power(form.residual.halvings);
+    copy_first(&workspace.bytes, count, &mut choice.codings);
+    choice.form = form;
+    choice.bits = bits;
 }
 
 /// Writes the subframe that [`choose_in`] chose for samples of a depth (RFC 9639, section 9.2).

@@ -18,7 +18,7 @@ pub struct Workspace {
     pub(crate) shorts: Vec<i32>,
     pub(crate) folds: Vec<u32>,
     pub(crate) tables: Vec<u64>,
-    pub(crate) widths: Vec<u8>,
+    pub(crate) bytes: Vec<u8>,
     max_block: usize,
     pub(crate) most: u32,
 }
@@ -36,7 +36,7 @@ impl Model for Workspace {
       shorts : vec_len w.shorts ≡ 2 * w.max_block;
       folds : vec_len w.folds ≡ w.max_block;
       tables : vec_len w.tables ≡ 5 * 2 ^ w.most;
-      widths : vec_len w.widths ≡ 2 * 2 ^ w.most;
+      bytes : vec_len w.bytes ≡ 3 * 2 ^ w.most;
       block : w.max_block ≤ 65535;
       most : w.most ≤ 15;
     } };
@@ -60,13 +60,13 @@ impl Workspace {
         let shorts = vec![in alloc; 0i32; 2 * max_block]?;
         let folds = vec![in alloc; 0u32; max_block]?;
         let tables = vec![in alloc; 0u64; 5 * count]?;
-        let widths = vec![in alloc; 0u8; 2 * count]?;
+        let bytes = vec![in alloc; 0u8; 3 * count]?;
         Ok(Workspace {
             longs,
             shorts,
             folds,
             tables,
-            widths,
+            bytes,
             max_block,
             most,
         })

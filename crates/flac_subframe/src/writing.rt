@@ -5,9 +5,9 @@ ghost use Rattle.flac_bits.specs.Rice.{IsResidual};
 ghost use Rattle.flac_bits.specs.Signed.{signed, FitsBits};
 ghost use Rattle.flac_bits.specs.Written.{Writes};
 ghost use Rattle.flac_subframe.specs.Bodies.{cut, residual_of, content_of, Predicts, fixed, order_of, coefficients_of, shift_of, differences, StandsFor};
-ghost use Rattle.flac_subframe.specs.Chosen.{body_under, body_held, IsHeld, offered};
+ghost use Rattle.flac_subframe.specs.Chosen.{body_under, body_as, HasPredictor, offered};
 ghost use Rattle.flac_subframe.specs.Family.{form_as, form_of, form_with, IsMadeAs, IsMadeOf, IsMadeWith};
-ghost use Rattle.flac_subframe.specs.inner.Family.{OrderIsFew, kind_number};
+ghost use Rattle.flac_subframe.specs.inner.Family.{type_number};
 ghost use Rattle.flac_subframe.specs.Handed.{predictor_of, handed};
 ghost use Rattle.flac_subframe.specs.Cost.{MayCode, MayCodeEach, MayWrite, coding_of};
 ghost use Rattle.flac_subframe.specs.inner.Cost.{codings_lent};
@@ -15,14 +15,14 @@ ghost use Rattle.flac_subframe.specs.Spelling.{value_spelling, coding_spelling, 
 
 use crate::chosen::{Choice, MOST_SAMPLES};
 use crate::coding::Coding;
+use crate::content::{Content, PredictorKind};
 use crate::folding::fold;
-use crate::held::HeldKind;
 use crate::leaving::{take_fixed, take_linear};
 use crate::linear::LinearPredictor;
 use crate::numbers::power;
 use crate::predictors::fixed_coefficients;
 use crate::tables::filled;
-use crate::view::{ChosenView, CodedView};
+use crate::view::ChoiceView;
 use crate::wasted::drop_wasted;
 use flac_bits::{BitWriter, Target, Why};
 
@@ -119,25 +119,26 @@ fn write_partitions<W: Target>(
 /// Writes the residual of a predictor of an order.
 fn write_residual<W: Target>(
     writer: &mut BitWriter<W>,
-    coded: &CodedView<'_>,
+    choice: &ChoiceView<'_>,
     order: usize,
     values: &[i64],
 ) -> Result<(), Why>
     requires few { length values.now + order ≤ 65535 }
-    requires may { MayWrite 15 order values.now (codings_lent coded.now) }
+    requires may { MayWrite 15 order values.now (codings_lent choice.now) }
     requires range { All IsResidual values.now }
-    ensures { Writes (residual_spelling (residual_of order values.now (codings_lent coded.now))) writer.old writer.new result }
+    ensures { Writes (residual_spelling (residual_of order values.now (codings_lent choice.now))) writer.old writer.new result }
 {
-    let size = (values.len() + order) / power(coded.halvings);
-    let parameter_bits = coded.parameter_bits as u32;
-    let field = (parameter_bits as u64 - 4) * 16 + coded.halvings as u64;
+    let form = choice.form.residual;
+    let size = (values.len() + order) / power(form.halvings);
+    let parameter_bits = form.method.parameter_bits();
+    let field = (parameter_bits as u64 - 4) * 16 + form.halvings as u64;
     writer.put(6, field)?;
     write_partitions(
         writer,
         parameter_bits,
         size - order,
         size,
-        coded.codings,
+        choice.codings,
         values,
     )
 }
@@ -146,7 +147,7 @@ fn write_residual<W: Target>(
 fn write_fixed<W: Target>(
     writer: &mut BitWriter<W>,
     order: usize,
-    residual: &CodedView<'_>,
+    choice: &ChoiceView<'_>,
     depth: u32,
     samples: &[i64],
     values: &mut [i64],
@@ -156,15 +157,15 @@ fn write_fixed<W: Target>(
     requires depth { (1 ≤ depth) × (depth ≤ 33) }
     requires fits { All (FitsBits 33) samples.now }
     requires places { length samples.now ≤ length values.old }
-    requires predicts { Predicts 15 (fixed order) (take (order_of (fixed order)) samples.now) (codings_lent residual.now) (differences (coefficients_of (fixed order)) 0 samples.now) samples.now }
-    ensures { Writes (content_spelling depth (content_of (body_under (fixed order) (codings_lent residual.now) samples.now))) writer.old writer.new result }
+    requires predicts { Predicts 15 (fixed order) (take (order_of (fixed order)) samples.now) (codings_lent choice.now) (differences (coefficients_of (fixed order)) 0 samples.now) samples.now }
+    ensures { Writes (content_spelling depth (content_of (body_under (fixed order) (codings_lent choice.now) samples.now))) writer.old writer.new result }
 {
     let coefficients = fixed_coefficients(order as u32);
     let count = coefficients.len();
     let places = &mut values[..samples.len() - count];
     take_fixed(order, samples, places);
     write_signed(writer, depth, &samples[..count])?;
-    write_residual(writer, residual, count, places)
+    write_residual(writer, choice, count, places)
 }
 
 /// Writes coefficients of n bits each.
@@ -201,23 +202,23 @@ fn write_predictor<W: Target>(
 fn write_rest<W: Target>(
     writer: &mut BitWriter<W>,
     predictor: &LinearPredictor,
-    residual: &CodedView<'_>,
+    choice: &ChoiceView<'_>,
     values: &[i64],
 ) -> Result<(), Why>
     requires few { length values.now + length predictor.now.coefficients.items ≤ 65535 }
-    requires may { MayWrite 15 (length predictor.now.coefficients.items) values.now (codings_lent residual.now) }
+    requires may { MayWrite 15 (length predictor.now.coefficients.items) values.now (codings_lent choice.now) }
     requires range { All IsResidual values.now }
-    ensures { Writes (predictor_spelling (handed predictor.now) ++ residual_spelling (residual_of (length predictor.now.coefficients.items) values.now (codings_lent residual.now))) writer.old writer.new result }
+    ensures { Writes (predictor_spelling (handed predictor.now) ++ residual_spelling (residual_of (length predictor.now.coefficients.items) values.now (codings_lent choice.now))) writer.old writer.new result }
 {
     write_predictor(writer, predictor)?;
-    write_residual(writer, residual, predictor.order(), values)
+    write_residual(writer, choice, predictor.order(), values)
 }
 
 /// Writes the content of a linear predictor; the places are overwritten.
 fn write_linear<W: Target>(
     writer: &mut BitWriter<W>,
     predictor: &LinearPredictor,
-    residual: &CodedView<'_>,
+    choice: &ChoiceView<'_>,
     depth: u32,
     samples: &[i64],
     values: &mut [i64],
@@ -226,20 +227,20 @@ fn write_linear<W: Target>(
     requires depth { (1 ≤ depth) × (depth ≤ 33) }
     requires fits { All (FitsBits 33) samples.now }
     requires places { length samples.now ≤ length values.old }
-    requires predicts { let p = predictor_of predictor.now in Predicts 15 p (take (order_of p) samples.now) (codings_lent residual.now) (differences (coefficients_of p) (shift_of p) samples.now) samples.now }
-    ensures { Writes (content_spelling depth (content_of (body_under (predictor_of predictor.now) (codings_lent residual.now) samples.now))) writer.old writer.new result }
+    requires predicts { let p = predictor_of predictor.now in Predicts 15 p (take (order_of p) samples.now) (codings_lent choice.now) (differences (coefficients_of p) (shift_of p) samples.now) samples.now }
+    ensures { Writes (content_spelling depth (content_of (body_under (predictor_of predictor.now) (codings_lent choice.now) samples.now))) writer.old writer.new result }
 {
     let order = predictor.order();
     let places = &mut values[..samples.len() - order];
     take_linear(predictor.coefficients(), predictor.shift(), samples, places);
     write_signed(writer, depth, &samples[..order])?;
-    write_rest(writer, predictor, residual, places)
+    write_rest(writer, predictor, choice, places)
 }
 
 /// Writes the content of a subframe; the places are overwritten.
 fn write_content<W: Target>(
     writer: &mut BitWriter<W>,
-    chosen: &ChosenView<'_>,
+    choice: &ChoiceView<'_>,
     predictors: &[LinearPredictor],
     depth: u32,
     samples: &[i64],
@@ -250,19 +251,22 @@ fn write_content<W: Target>(
     requires depth { (1 ≤ depth) × (depth ≤ 33) }
     requires fits { All (FitsBits 33) samples.now }
     requires places { length samples.now ≤ length values.old }
-    requires handed { IsHeld predictors.now chosen.now.kind }
-    requires stands { StandsFor 15 (offered predictors.now) (body_held predictors.now chosen.now.kind (codings_lent chosen.now.residual) samples.now) samples.now }
-    ensures { Writes (content_spelling depth (content_of (body_held predictors.now chosen.now.kind (codings_lent chosen.now.residual) samples.now))) writer.old writer.new result }
+    requires handed { HasPredictor predictors.now choice.now.form.content }
+    requires stands { StandsFor 15 (offered predictors.now) (body_as predictors.now choice.now.form.content (codings_lent choice.now) samples.now) samples.now }
+    ensures { Writes (content_spelling depth (content_of (body_as predictors.now choice.now.form.content (codings_lent choice.now) samples.now))) writer.old writer.new result }
 {
-    let residual = &chosen.residual;
-    match chosen.kind {
-        HeldKind::AsConstant => writer.put_signed(depth, samples[0]),
-        HeldKind::AsVerbatim => write_signed(writer, depth, samples),
-        HeldKind::AsFixed(order) => write_fixed(writer, order, residual, depth, samples, values),
-        HeldKind::AsLinear(index) => {
-            let predictor = &predictors[index];
-            write_linear(writer, predictor, residual, depth, samples, values)
-        }
+    match choice.form.content {
+        Content::Constant => writer.put_signed(depth, samples[0]),
+        Content::Verbatim => write_signed(writer, depth, samples),
+        Content::Predicted(kind) => match kind {
+            PredictorKind::Fixed(order) => {
+                write_fixed(writer, order, choice, depth, samples, values)
+            }
+            PredictorKind::Linear(index) => {
+                let predictor = &predictors[index];
+                write_linear(writer, predictor, choice, depth, samples, values)
+            }
+        },
     }
 }
 
@@ -280,26 +284,27 @@ fn write_header<W: Target>(writer: &mut BitWriter<W>, kind: u64, wasted: u32) ->
 }
 
 /// The type of a subframe (RFC 9639, section 9.2.1).
-fn type_of_kind(kind: HeldKind, predictors: &[LinearPredictor]) -> u64
-    requires order { OrderIsFew kind }
-    requires handed { IsHeld predictors.now kind }
-    ensures { result ≡ kind_number predictors.now kind }
+fn type_of_content(content: Content, predictors: &[LinearPredictor]) -> u64
+    requires handed { HasPredictor predictors.now content }
+    ensures { result ≡ type_number predictors.now content }
 {
-    match kind {
-        HeldKind::AsConstant => 0,
-        HeldKind::AsVerbatim => 1,
-        HeldKind::AsFixed(order) => 8 + order as u64,
-        HeldKind::AsLinear(index) => {
-            let predictor = &predictors[index];
-            31 + predictor.order() as u64
-        }
+    match content {
+        Content::Constant => 0,
+        Content::Verbatim => 1,
+        Content::Predicted(kind) => match kind {
+            PredictorKind::Fixed(order) => 8 + order as u64,
+            PredictorKind::Linear(index) => {
+                let predictor = &predictors[index];
+                31 + predictor.order() as u64
+            }
+        },
     }
 }
 
 /// Writes a subframe as it was chosen, with places for the samples and for the residual one after another, which are
 /// overwritten.
 pub(crate) fn write_chosen<W: Target>(
-    chosen: &ChosenView<'_>,
+    choice: &ChoiceView<'_>,
     predictors: &[LinearPredictor],
     samples: &[i64],
     depth: u32,
@@ -311,15 +316,19 @@ pub(crate) fn write_chosen<W: Target>(
     requires depth { (1 ≤ depth) × (depth ≤ 33) }
     requires fits { All (FitsBits depth) samples.now }
     requires places { 2 * length samples.now ≤ length places.old }
-    requires made { IsMadeAs 15 predictors.now chosen.now.wasted chosen.now.kind (codings_lent chosen.now.residual) samples.now }
-    ensures { Writes (subframe_spelling depth (form_as predictors.now chosen.now.wasted chosen.now.kind (codings_lent chosen.now.residual) samples.now)) writer.old writer.new result }
+    requires made { IsMadeAs 15 predictors.now choice.now.form choice.now.codings.now samples.now }
+    ensures { Writes (subframe_spelling depth (form_as predictors.now choice.now.form choice.now.codings.now samples.now)) writer.old writer.new result }
 {
     let (shortened, values) = places.split_at_mut(samples.len());
     let wasted = drop_wasted(samples, depth, shortened);
-    write_header(writer, type_of_kind(chosen.kind, predictors), wasted)?;
+    write_header(
+        writer,
+        type_of_content(choice.form.content, predictors),
+        wasted,
+    )?;
     write_content(
         writer,
-        chosen,
+        choice,
         predictors,
         depth - wasted,
         shortened,

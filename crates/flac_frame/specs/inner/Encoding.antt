@@ -1,9 +1,7 @@
 -- For proofs of the search and of writing: the shortest forms of subframes, and the end of a frame.
 use Rattle.std.specs.Prelude.{◌≡◌, ℕ, ◌≤◌, Bool, ℤ, List, [], ◌∷◌, ◌++◌, length, Some, ⊤}
 use Rattle.flac_bits.specs.Bits.{unsigned}
-use Rattle.flac_bits.specs.State.{Mark, past, fresh}
-use Rattle.flac_header.specs.Header.{Header}
-use Rattle.flac_header.specs.Spelling.{header_spelling}
+use Rattle.flac_bits.specs.State.{Mark, past}
 use Rattle.flac_subframe.specs.declared.limits.Limits.{Limits}
 use Rattle.flac_subframe.specs.declared.linear.LinearPredictor.{LinearPredictor}
 use Rattle.flac_subframe.specs.Chosen.{offered}
@@ -39,7 +37,3 @@ AreForms most ps depth size (f ∷ fs) (s ∷ ss) = ((limits : Limits) → most 
 -- zeros up to a whole byte behind a mark, and CRC-16
 abbrev pub end_spelling : Mark → List Bool
 end_spelling m = unsigned m.unread 0 ++ unsigned 16 (past (unsigned m.unread 0) m).check16
-
--- behind the header of a frame come its subframes, zeros up to a whole byte, and the check
-abbrev pub behind_header : Header → List Bool → Mark → List Bool
-behind_header h parts m = header_spelling h ++ (parts ++ end_spelling (past parts (past (header_spelling h) (fresh m))))

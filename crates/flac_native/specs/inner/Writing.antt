@@ -1,5 +1,5 @@
 -- For proofs of encoding: what was written or sent so far.
-use Rattle.std.specs.Prelude.{ℤ, ◌≡◌, ℕ, ◌-◌, ◌*◌, ◌^◌, ◌<◌, ◌≤◌, Bool, true, List, ◌++◌, length, Result, OnOk, OnErr, IfErr}
+use Rattle.std.specs.Prelude.{ℤ, ◌≡◌, ℕ, ◌<◌, ◌≤◌, Bool, true, List, ◌++◌, length, Result, OnOk, OnErr, IfErr}
 use Rattle.flac_bits.specs.Bits.{bits_of}
 use Rattle.flac_bits.specs.State.{Rises}
 use Rattle.flac_bits.specs.Written.{Written, Fails, Writes}
@@ -13,7 +13,7 @@ use Rattle.flac_subframe.specs.Room.{Room}
 use Rattle.flac_subframe.specs.declared.linear.LinearPredictor.{LinearPredictor}
 use Rattle.flac_frame.specs.Chosen.{IsChoiceWith}
 use Rattle.flac_frame.specs.declared.frame_choice.FrameChoice.{FrameChoice}
-use Rattle.flac_native.specs.Given.{Cut, fits_plan, blocks_in, size_of, room_of}
+use Rattle.flac_native.specs.Given.{Cut, fits_plan, blocks_in, room_of}
 use Rattle.flac_native.specs.Writing.{AreFrames, AreLeastFrames, AreChoices, IsSpelled}
 
 -- These bits were written and sent, at a whole byte, or else the target failed.
@@ -32,15 +32,6 @@ pub record WritesOn {X : Type 0} (text : List Bool) (old new : Written) (result 
   pub names : new.names ≡ old.names
   pub bits : OnOk result (old.known ≡ true → new.bits ≡ old.bits ++ text)
   pub whole : OnOk result (new.mark.unread ≡ 0)
-
--- where the samples of the frame of a number are
-pub record IsRange (p : Cut) (a : Sound) (number from to : ℕ) : Type 0 where
-  pub start : from ≡ p.block_size * number
-  pub size : to - from ≡ size_of p.block_size (samples_each a.channels) number
-  pub some : from < to
-  pub within : to ≤ samples_each a.channels
-  pub room : to - from ≤ p.block_size
-  pub few : number < 2 ^ 31
 
 -- The frame of a number can be written: it has samples, which fit the plan; these are the choices of the first frames; and the buffers were made for the plan.
 pub record IsReady (p : Cut) (a : Sound) (number : ℕ) (choices : List FrameChoice) (room : Room) : Type 0 where

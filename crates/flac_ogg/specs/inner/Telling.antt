@@ -1,12 +1,11 @@
 -- For proofs of decoding: what a track keeps of a packet, and what a call returns that reads the next one.
-use Rattle.std.specs.Prelude.{◌≡◌, ◌≢◌, ℕ, Bool, false, List, [], Option, Some, None, Result, Ok, Err}
-use Rattle.flac_bits.specs.State.{Mark}
+use Rattle.std.specs.Prelude.{◌≡◌, ◌≢◌, ℕ, Option, Some, None, Result, Ok, Err}
 use Rattle.flac_bits.specs.Layout.{Layout, ◌>>=◌}
 use Rattle.flac_bits.specs.declared.why.Why.TheVariants.{Memory}
 use Rattle.flac_native.specs.Stream.{Piece, Stand, layout_in}
 use Rattle.flac_native.specs.declared.fault.Fault.{Fault}
 use Rattle.flac_native.specs.declared.track.Phase.TheVariants.{Blocks}
-use Rattle.flac_pages.specs.Packets.{Ahead, Met, Place as Stands}
+use Rattle.flac_pages.specs.Packets.{Ahead, Met}
 use Rattle.flac_ogg.specs.Mapping.{mapping}
 use Rattle.flac_ogg.specs.Steps.{PacketStep, item, over, refused}
 
@@ -19,17 +18,6 @@ block_packet s = layout_in Blocks s
 -- and the first one
 abbrev pub first_packet : Stand → Layout Piece
 first_packet s = mapping >>= λ _. block_packet s
-
--- ---- where pages begin
-
--- a reader of pages stands before this text, and has read none
-pub record IsFront (mark : Mark) (text : List Bool) (p : Stands) : Type 0 where
-  pub lacing : p.lacing ≡ []
-  pub body : p.body ≡ []
-  pub last : p.last ≡ false
-  pub before : p.before ≡ None
-  pub count : p.count ≡ 0
-  pub cursor : p.cursor ≡ record { left = text; mark = mark }
 
 -- ---- what is read
 

@@ -5,50 +5,31 @@ use Rattle.flac_bits.specs.Rice.{IsResidual}
 use Rattle.flac_subframe.specs.Cost.{MayWrite}
 use Rattle.flac_subframe.specs.inner.Cost.{residual_cost}
 use Rattle.flac_subframe.specs.Cost.{Codings, codings_in}
-use Rattle.flac_subframe.specs.declared.held.HeldKind.{HeldKind}
-use Rattle.flac_subframe.specs.declared.held.HeldKind.TheVariants.{AsFixed, AsLinear}
-use Rattle.flac_subframe.specs.declared.held.Held.{Held}
-use Rattle.flac_subframe.specs.declared.held.PredictorKind.{PredictorKind}
-use Rattle.flac_subframe.specs.declared.held.PredictorKind.TheVariants.{Fixed, Linear}
+use Rattle.flac_subframe.specs.declared.content.Content.{Content}
+use Rattle.flac_subframe.specs.declared.choice.Best.{Best}
 use Rattle.flac_subframe.specs.declared.linear.LinearPredictor.{LinearPredictor}
-use Rattle.flac_subframe.specs.Bodies.{Chooses, fixed, coefficients_of, shift_of, differences, StandsFor, spelled}
-use Rattle.flac_subframe.specs.Handed.{handed_at}
-use Rattle.flac_subframe.specs.Chosen.{body_held, IsHeld}
-
--- the predictor that is named, whose linear ones are those of a list
-abbrev pub predictor_named : List LinearPredictor → PredictorKind → Chooses
-predictor_named ps (Fixed order) = fixed order
-predictor_named ps (Linear index) = handed_at ps index
+use Rattle.flac_subframe.specs.Bodies.{Chooses, coefficients_of, shift_of, differences, StandsFor, spelled}
+use Rattle.flac_subframe.specs.Chosen.{body_as, HasPredictor}
 
 -- what a predictor leaves of the samples
 abbrev pub residual_by : Chooses → List ℤ → List ℤ
 residual_by p s = differences (coefficients_of p) (shift_of p) s
 
--- there is such a predictor
-abbrev pub IsNamed : List LinearPredictor → PredictorKind → Type 0
-IsNamed ps (Fixed order) = order ≤ 4
-IsNamed ps (Linear index) = index < length ps
-
--- the content that is written by it
-abbrev pub kind_held : PredictorKind → HeldKind
-kind_held (Fixed order) = AsFixed order
-kind_held (Linear index) = AsLinear index
-
--- a way to write samples, and how many bits it takes; of the codings only a kind with a residual makes use
+-- a way to write samples, and how many bits it takes; of the codings only a content with a residual makes use
 pub record Way : Type 0 where
-  pub kind : HeldKind
+  pub content : Content
   pub codings : Codings
   pub bits : ℕ
 
 -- the best so far, and the bytes of its codings
-abbrev pub way_held : Held → List ℕ → Way
-way_held h bytes = record { kind = h.kind; codings = codings_in h.found bytes; bits = h.bits }
+abbrev pub way_of : Best → List ℕ → Way
+way_of b bytes = record { content = b.content; codings = codings_in b.residual bytes; bits = b.bits }
 
 -- a way, whose linear predictor is one of those that are handed in, is the least by the predictors that were tried
 pub record IsBest (handed : List LinearPredictor) (most bits : ℕ) (s : List ℤ) (tried : List Chooses) (w : Way) : Type 0 where
-  pub within : IsHeld handed w.kind
-  pub least : IsLeast (λ b. StandsFor most tried b s) (λ b. length (spelled bits b)) (body_held handed w.kind w.codings s)
-  pub priced : w.bits ≡ length (spelled bits (body_held handed w.kind w.codings s))
+  pub within : HasPredictor handed w.content
+  pub least : IsLeast (λ b. StandsFor most tried b s) (λ b. length (spelled bits b)) (body_as handed w.content w.codings s)
+  pub priced : w.bits ≡ length (spelled bits (body_as handed w.content w.codings s))
   pub small : w.bits ≤ 2 ^ 60
 
 -- codings are the least for what a predictor leaves, and take n bits

@@ -1,11 +1,11 @@
 -- For proofs of the search: what the codings of a residual cost, in bits, and which a residual may have.
-use Rattle.std.specs.Prelude.{ℕ, ℤ, ◌≡◌, ◌+◌, ◌-◌, ◌*◌, ◌/◌, ◌^◌, ◌<◌, List, [], ◌∷◌, length, map, take, drop}
+use Rattle.std.specs.Prelude.{ℕ, ℤ, ◌≡◌, ◌+◌, ◌-◌, ◌*◌, ◌/◌, ◌^◌, ◌<◌, List, [], ◌∷◌, length, take, drop}
 use Rattle.std.specs.List.{sum_by}
 use Rattle.flac_subframe.specs.declared.coding.Coding.{Coding}
 use Rattle.flac_subframe.specs.declared.coding.Coding.TheVariants.{Rice, Escape}
-use Rattle.flac_subframe.specs.declared.view.CodedView.{CodedView}
+use Rattle.flac_subframe.specs.declared.view.ChoiceView.{ChoiceView}
 use Rattle.flac_subframe.specs.Spelling.{folded}
-use Rattle.flac_subframe.specs.Cost.{MayCodeEach, Codings, MayWrite, coding_of}
+use Rattle.flac_subframe.specs.Cost.{MayCodeEach, Codings, MayWrite, codings_of}
 
 -- a folded number under a Rice parameter: its quotient in zeros, a one, and k bits
 abbrev pub folded_cost : ℕ → ℕ → ℕ
@@ -36,9 +36,9 @@ abbrev pub HasByte : Coding → Type 0
 HasByte (Rice k) = k < 32
 HasByte (Escape n) = n < 32
 
--- the same of bytes that are lent
-abbrev pub codings_lent : CodedView → Codings
-codings_lent c = record { parameter_bits = c.parameter_bits; halvings = c.halvings; codings = map coding_of c.codings.now }
+-- the codings of a choice that is lent
+abbrev pub codings_lent : ChoiceView → Codings
+codings_lent c = codings_of c.form.residual c.codings.now
 
 -- the forms of one method and partition order, and of one method
 abbrev pub HalvedTo : ℕ → ℕ → ℕ → ℕ → List ℤ → Codings → Type 0

@@ -1,4 +1,4 @@
-use Rattle.std.proofs.Common.{◌≡◌, ℕ, List, length, take, get_or, Fits, w8, Err, subst, sym, ap, ◌∙◌, arith}
+use Rattle.std.proofs.Common.{rules, ◌≡◌, ℕ, List, length, take, get_or, Fits, w8, Err, subst, sym, ap, ◌∙◌, arith}
 use Rattle.std.proofs.lemmas.List.{take_all, length-take}
 use Rattle.std.proofs.Math.Facts.{Fits-lt-pow}
 use Rattle.flac_bits.specs.Bits.{bits_of}
@@ -8,24 +8,45 @@ use Rattle.flac_bits.specs.declared.why.Why.{Why}
 use Rattle.flac_bits.proofs.Copied.{exact, missing, bits_cut}
 use Rattle.flac_bits.proofs.bytes.read_bytes.Goals as goal
 
-pub returns-then-n-out-clause-reads : goal.returns-then-n-out-clause-reads
-returns-then-n-out-clause-reads g c = λ known same.
-    let got = c.in-Ok.ensures in
-    let n = c.in-Ok.n in
-    let lt = c.if-n-out.true in
-    let over = got.over (omega (arith, lt, c.take_bytes.auto.out)) known in
-    missing (take n c.take_bytes.new.out) (length c.args.out.now) c.short.result c.args.bits.now.cursor c.take_bytes.new.self.cursor (omega (arith, lt, length-take {A = ℕ} n c.take_bytes.new.out, c.take_bytes.auto.out))
-    over.0 (c.short.ensures.short (got.counts.0 known) over.0 over.1) (got.taken known)
+pub returns-then-n-out : goal.returns-then-n-out
+returns-then-n-out g c = record {
+  reading = record {
+    spends = search rules;
+    counts = search rules;
+    memory = search rules;
+    reads = (λ known same.
+        let got = c.in-Ok.ensures in
+        let n = c.in-Ok.n in
+        let lt = c.if-n-out.true in
+        let over = got.over (omega (arith, lt, c.take_bytes.auto.out)) known in
+        missing (take n c.take_bytes.new.out) (length c.args.out.now) c.short.result c.args.bits.now.cursor c.take_bytes.new.self.cursor (omega (arith, lt, length-take {A = ℕ} n c.take_bytes.new.out, c.take_bytes.auto.out))
+        over.0 (c.short.ensures.short (got.counts.0 known) over.0 over.1) (got.taken known));
+  };
+}
 
-pub returns-else-n-out-clause-reads : goal.returns-else-n-out-clause-reads
-returns-else-n-out-clause-reads g c = λ known same.
-    let got = c.in-Ok.ensures in
-    let xs = c.take_bytes.new.out in
-    let all : take c.in-Ok.n xs ≡ xs = take_all c.in-Ok.n xs (omega (arith, c.if-n-out.false, c.take_bytes.auto.out)) in
-    exact xs (length c.args.out.now) c.args.bits.now.cursor c.take_bytes.new.self.cursor c.take_bytes.auto.out (λ k lt. let f : Fits w8 (get_or xs k 0) = c.type_inv.out k in Fits-lt-pow f) (let P : List ℕ → Type 0 = λ ys. Consumes (bits_of ys) c.args.bits.now.cursor c.take_bytes.new.self.cursor in subst P all (got.taken known))
+pub returns-else-n-out : goal.returns-else-n-out
+returns-else-n-out g c = record {
+  reading = record {
+    spends = search rules;
+    counts = search rules;
+    memory = search rules;
+    reads = (λ known same.
+        let got = c.in-Ok.ensures in
+        let xs = c.take_bytes.new.out in
+        let all : take c.in-Ok.n xs ≡ xs = take_all c.in-Ok.n xs (omega (arith, c.if-n-out.false, c.take_bytes.auto.out)) in
+        exact xs (length c.args.out.now) c.args.bits.now.cursor c.take_bytes.new.self.cursor c.take_bytes.auto.out (λ k lt. let f : Fits w8 (get_or xs k 0) = c.type_inv.out k in Fits-lt-pow f) (let P : List ℕ → Type 0 = λ ys. Consumes (bits_of ys) c.args.bits.now.cursor c.take_bytes.new.self.cursor in subst P all (got.taken known)));
+  };
+}
 
-pub returns-in-Err-clause-reads : goal.returns-in-Err-clause-reads
-returns-in-Err-clause-reads g c = λ known same.
-    let cut = c.in-Err.ensures.cut in
-    let few = cut.1 known same in
-    bits_cut (length c.args.out.now) c.args.bits.now.cursor.left c.args.bits.now.cursor.mark (omega (arith, few.0, c.take_bytes.auto.out)) ∙ ap (λ (w : Why). Err (because w)) (few.1 ∙ sym cut.0)
+pub returns-in-Err : goal.returns-in-Err
+returns-in-Err g c = record {
+  reading = record {
+    spends = search rules;
+    counts = search rules;
+    memory = search rules;
+    reads = (λ known same.
+        let cut = c.in-Err.ensures.cut in
+        let few = cut.1 known same in
+        bits_cut (length c.args.out.now) c.args.bits.now.cursor.left c.args.bits.now.cursor.mark (omega (arith, few.0, c.take_bytes.auto.out)) ∙ ap (λ (w : Why). Err (because w)) (few.1 ∙ sym cut.0));
+  };
+}

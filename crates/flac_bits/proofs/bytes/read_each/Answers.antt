@@ -1,4 +1,4 @@
-use Rattle.std.proofs.Common.{ℕ, ◌+◌, ◌-◌, List, [], ◌∷◌, ◌++◌, length, take, refl, sym, ap, arith, Result, Ok, ◌∙◌}
+use Rattle.std.proofs.Common.{rules, ℕ, ◌+◌, ◌-◌, List, [], ◌∷◌, ◌++◌, length, take, refl, sym, ap, arith, Result, Ok, ◌∙◌}
 use Rattle.std.proofs.lemmas.List.{take_all}
 use Rattle.std.proofs.lemmas.Grind.{take-set_at}
 use Rattle.flac_bits.specs.State.{Cursor}
@@ -16,23 +16,22 @@ loop-i-preserved g c =
     let i = c.loop-i.i in
     let more : ℕ → Cursor → _ = λ v d. and_then (run (list_of (n - (i + 1)) (bits 8)) d) (behind (take i c.loop-i.out ++ v ∷ [])) in
     record {
-      spent = omega (arith, c.in_ok-out.ensures.spends);
+      spent = omega (arith, c.in_ok-out.ensures.reading.spends);
       goes = goes_on c.args.bits.now c.loop-i.bits c.take.new.self (number_at 8 c.loop-i.bits.cursor) c.in_ok-out.field-0 more _ _ _
           c.loop-i.invariant.goes (list_more n i (bits 8) c.loop-i.bits.cursor (take i c.loop-i.out) c.loop-i-test.true)
           (ap (λ front. and_then (run (list_of (n - (i + 1)) (bits 8)) c.take.new.self.cursor) (behind front)) (sym (take-set_at c.loop-i.out i (i + 1) c.in_ok-out.field-0 refl (omega (arith, c.loop-i.auto.out, c.loop-i-test.true)))))
-          c.in_ok-out.ensures.counts c.in_ok-out.ensures.reads;
+          c.in_ok-out.ensures.reading.counts c.in_ok-out.ensures.reading.reads;
     }
 
 abbrev okay : List ℕ × Cursor → Result (List ℕ × Cursor) Reason
 okay y = Ok y
 
-pub returns-clause-reads : goal.returns-clause-reads
-returns-clause-reads g c = λ known same. sym (c.loop-i.invariant.goes.reads known) ∙ list_end (length c.args.out.now) c.loop-i.i (bits 8) c.loop-i.bits.cursor (take c.loop-i.i c.loop-i.out) c.loop-i-test.false ∙ ap (λ front. okay (front, c.loop-i.bits.cursor)) (take_all c.loop-i.i c.loop-i.out (omega (arith, c.loop-i.auto.out, c.loop-i-test.false)))
-
-pub returns-in_err-out-clause-counts : goal.returns-in_err-out-clause-counts
-returns-in_err-out-clause-counts g c =
-    let p = err_from_is_err_and c.from_residual.result c.from_residual.ensures.1 in
-    rw (p.1, p.2) (failed_then c.args.bits.now c.loop-i.bits c.take.new.self (gone c.loop-i.invariant.goes) c.in_err-out.ensures.counts)
-
-pub returns-clause-counts : goal.returns-clause-counts
-returns-clause-counts g c = gone c.loop-i.invariant.goes
+pub returns : goal.returns
+returns g c = record {
+  reading = record {
+    spends = search rules;
+    counts = gone c.loop-i.invariant.goes;
+    memory = search rules;
+    reads = (λ known same. sym (c.loop-i.invariant.goes.reads known) ∙ list_end (length c.args.out.now) c.loop-i.i (bits 8) c.loop-i.bits.cursor (take c.loop-i.i c.loop-i.out) c.loop-i-test.false ∙ ap (λ front. okay (front, c.loop-i.bits.cursor)) (take_all c.loop-i.i c.loop-i.out (omega (arith, c.loop-i.auto.out, c.loop-i-test.false))));
+  };
+}

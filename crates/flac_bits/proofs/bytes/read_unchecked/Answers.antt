@@ -1,4 +1,4 @@
-use Rattle.std.proofs.Common.{◌≡◌, ℕ, List, length, take, get_or, Fits, w8, subst, sym, ◌∙◌, arith}
+use Rattle.std.proofs.Common.{rules, ◌≡◌, ℕ, List, length, take, get_or, Fits, w8, subst, sym, ◌∙◌, arith}
 use Rattle.std.proofs.lemmas.List.{take_all, length-take}
 use Rattle.std.proofs.lemmas.Result.{err_from_is_err_and}
 use Rattle.std.proofs.Math.Facts.{Fits-lt-pow}
@@ -7,26 +7,47 @@ use Rattle.flac_bits.specs.Unchecked.{Passes}
 use Rattle.flac_bits.proofs.Unchecked.{exact_anew, missing_anew, cut_anew}
 use Rattle.flac_bits.proofs.bytes.read_unchecked.Goals as goal
 
-pub returns-then-count-out-clause-reads : goal.returns-then-count-out-clause-reads
-returns-then-count-out-clause-reads g c = λ known same.
-    let got = c.in_ok-count.ensures in
-    let n = c.in_ok-count.count in
-    let lt = c.if-count-out.true in
-    let over = got.over (omega (arith, lt, c.take_pieces.auto.out)) known in
-    missing_anew (take n c.take_pieces.new.out) (length c.args.out.now) c.short.result c.args.bits.now.cursor c.take_pieces.new.self.cursor (omega (arith, lt, length-take {A = ℕ} n c.take_pieces.new.out, c.take_pieces.auto.out))
-    over.0 (c.short.ensures.short (got.counts.0 known) over.0 over.1) (got.taken known)
+pub returns-then-count-out : goal.returns-then-count-out
+returns-then-count-out g c = record {
+  reading = record {
+    spends = search rules;
+    counts = search rules;
+    memory = search rules;
+    reads = (λ known same.
+        let got = c.in_ok-count.ensures in
+        let n = c.in_ok-count.count in
+        let lt = c.if-count-out.true in
+        let over = got.over (omega (arith, lt, c.take_pieces.auto.out)) known in
+        missing_anew (take n c.take_pieces.new.out) (length c.args.out.now) c.short.result c.args.bits.now.cursor c.take_pieces.new.self.cursor (omega (arith, lt, length-take {A = ℕ} n c.take_pieces.new.out, c.take_pieces.auto.out))
+        over.0 (c.short.ensures.short (got.counts.0 known) over.0 over.1) (got.taken known));
+  };
+}
 
-pub returns-else-count-out-clause-reads : goal.returns-else-count-out-clause-reads
-returns-else-count-out-clause-reads g c = λ known same.
-    let got = c.in_ok-count.ensures in
-    let xs = c.take_pieces.new.out in
-    let all : take c.in_ok-count.count xs ≡ xs = take_all c.in_ok-count.count xs (omega (arith, c.if-count-out.false, c.take_pieces.auto.out)) in
-    exact_anew xs (length c.args.out.now) c.args.bits.now.cursor c.take_pieces.new.self.cursor c.take_pieces.auto.out (λ k lt. let f : Fits w8 (get_or xs k 0) = c.type_inv.out k in Fits-lt-pow f) (let P : List ℕ → Type 0 = λ ys. Passes (bits_of ys) c.args.bits.now.cursor c.take_pieces.new.self.cursor in subst P all (got.taken known))
+pub returns-else-count-out : goal.returns-else-count-out
+returns-else-count-out g c = record {
+  reading = record {
+    spends = search rules;
+    counts = search rules;
+    memory = search rules;
+    reads = (λ known same.
+        let got = c.in_ok-count.ensures in
+        let xs = c.take_pieces.new.out in
+        let all : take c.in_ok-count.count xs ≡ xs = take_all c.in_ok-count.count xs (omega (arith, c.if-count-out.false, c.take_pieces.auto.out)) in
+        exact_anew xs (length c.args.out.now) c.args.bits.now.cursor c.take_pieces.new.self.cursor c.take_pieces.auto.out (λ k lt. let f : Fits w8 (get_or xs k 0) = c.type_inv.out k in Fits-lt-pow f) (let P : List ℕ → Type 0 = λ ys. Passes (bits_of ys) c.args.bits.now.cursor c.take_pieces.new.self.cursor in subst P all (got.taken known)));
+  };
+}
 
-pub returns-in_err-count-clause-reads : goal.returns-in_err-count-clause-reads
-returns-in_err-count-clause-reads g c =
+pub returns-in_err-count : goal.returns-in_err-count
+returns-in_err-count g c =
     let p = err_from_is_err_and c.from_residual-in_err-count.result c.from_residual-in_err-count.ensures.1 in
     let cut = c.in_err-count.ensures.cut in
-    rw (p.1, p.2) (λ known same.
-    let few = cut.1 known same in
-    cut_anew (length c.args.out.now) _ c.args.bits.now.cursor (omega (arith, few.0, c.take_pieces.auto.out)) (cut.0 ∙ sym few.1))
+    rw (p.1, p.2) (record {
+      reading = record {
+        spends = tt;
+        counts = search rules;
+        memory = search rules;
+        reads = (λ known same.
+            let few = cut.1 known same in
+            cut_anew (length c.args.out.now) _ c.args.bits.now.cursor (omega (arith, few.0, c.take_pieces.auto.out)) (cut.0 ∙ sym few.1));
+      };
+    })

@@ -1,11 +1,28 @@
+use Rattle.std.proofs.Common.{rules}
 use Rattle.std.proofs.lemmas.Result.{err_from_is_err_and}
 use Rattle.flac_bits.proofs.Counting.{answered_then, failed_then}
 use Rattle.flac_bits.proofs.little.read_little_64.Goals as goal
 
-pub returns-in_err-high-clause-counts : goal.returns-in_err-high-clause-counts
-returns-in_err-high-clause-counts g c =
+pub returns-in_err-high : goal.returns-in_err-high
+unfolding Rattle.flac_bits.specs.LittleEndian.little_64
+returns-in_err-high g c =
     let p = err_from_is_err_and c.from_residual-in_err-high.result c.from_residual-in_err-high.ensures.1 in
-    rw (p.1, p.2) (failed_then c.args.bits.now c.read_little_32.new.bits c.read_little_32-2.new.bits c.in_ok-low.ensures.counts c.in_err-high.ensures.counts)
+    rw (p.1, p.2) (record {
+      reading = record {
+        spends = tt;
+        counts = failed_then c.args.bits.now c.read_little_32.new.bits c.read_little_32-2.new.bits c.in_ok-low.ensures.reading.counts c.in_err-high.ensures.reading.counts;
+        memory = search rules;
+        reads = search rules;
+      };
+    })
 
-pub returns-clause-counts : goal.returns-clause-counts
-returns-clause-counts g c = answered_then c.args.bits.now c.read_little_32.new.bits c.read_little_32-2.new.bits c.in_ok-low.ensures.counts c.in_ok-high.ensures.counts
+pub returns : goal.returns
+unfolding Rattle.flac_bits.specs.LittleEndian.little_64
+returns g c = record {
+  reading = record {
+    spends = search rules;
+    counts = answered_then c.args.bits.now c.read_little_32.new.bits c.read_little_32-2.new.bits c.in_ok-low.ensures.reading.counts c.in_ok-high.ensures.reading.counts;
+    memory = search rules;
+    reads = search rules;
+  };
+}

@@ -5,12 +5,12 @@ use Rattle.flac_c.proofs.Heading.{marker_was_read, marker_was_refused, head_read
 use Rattle.flac_c.proofs.metadata.read_parts.Goals as goal
 
 pub returns-in-Err-clause-refused : goal.returns-in-Err-clause-refused
-returns-in-Err-clause-refused c = λ quiet other. marker_was_refused c.args.bits.now c.read_marker.new.bits c.in-Err.why c.requires.known c.in-Err.ensures.reads quiet
+returns-in-Err-clause-refused c = λ quiet other. marker_was_refused c.args.bits.now c.start_checks.new.self c.read_marker.new.reader c.in-Err.why c.start_checks.ensures c.requires.known c.in-Err.ensures.reading.reads quiet
 
 pub loop-index-init : goal.loop-index-init
 loop-index-init c =
-    let come = marker_was_read c.args.bits.now c.read_marker.new.bits c.args.found.now.sample c.args.found.now tt c.requires.known c.in-Ok.ensures.reads c.in-Ok.ensures.counts c.requires.none in
-    subst (λ (s : Seen). BlocksCome c.args.bits.now c.read_marker.new.bits c.args.found.now.sample c.args.found.now s 0) (sym c.new-seen.ensures) come
+    let come = marker_was_read c.args.bits.now c.start_checks.new.self c.read_marker.new.reader c.args.found.now.sample c.args.found.now tt c.start_checks.ensures c.requires.known c.in-Ok.ensures.reading.reads c.in-Ok.ensures.reading.counts c.requires.none in
+    subst (λ (s : Seen). BlocksCome c.args.bits.now c.read_marker.new.reader c.args.found.now.sample c.args.found.now s 0) (sym c.new-seen.ensures) come
 
 pub returns-in-Ok-true-clause-read : goal.returns-in-Ok-true-clause-read
 returns-in-Ok-true-clause-read c =

@@ -1,4 +1,4 @@
-use Rattle.std.proofs.Common.{ℤ, List, refl, subst, ◌∙◌}
+use Rattle.std.proofs.Common.{ℤ, List, subst, ◌∙◌}
 use Rattle.flac_c.specs.Answers.{IsCopied}
 use Rattle.flac_c.proofs.Kept.{then_ok}
 use Rattle.flac_c.proofs.Collecting.{numbers_from_none}

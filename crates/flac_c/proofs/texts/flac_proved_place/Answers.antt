@@ -1,4 +1,5 @@
+use Rattle.std.proofs.Common.{rules}
 use Rattle.flac_c.proofs.texts.flac_proved_place.Goals as goal
 
 pub returns-then-kind-eq4 : goal.returns-then-kind-eq4
-returns-then-kind-eq4 c = rw c.if-kind-eq4.true c.copy-then-kind-eq4.ensures
+returns-then-kind-eq4 c = search rules

@@ -1,7 +1,6 @@
 use Rattle.std.proofs.Common.{◌≡◌, ◌*◌, ◌%◌, Option, Some, None, ℤ, Vec, Global, true, length, map, rules, refl, subst, inr}
 use Rattle.std.specs.Prelude.{IfSome}
 use Rattle.std.proofs.lemmas.Result.{err_from_is_err_and}
-use Rattle.flac_native.specs.Message.{sample_width}
 use Rattle.flac_cli.specs.inner.Raw.{AreChannels}
 use Rattle.flac_cli.specs.Refusals.{format_fault}
 use Rattle.flac_cli.proofs.Rows.{raw_is}

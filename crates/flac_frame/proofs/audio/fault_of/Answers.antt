@@ -1,8 +1,7 @@
-use Rattle.std.proofs.Common.{◌≡◌, sym, ap, ◌∙◌, length, map, ℤ, List, Option, Some, None}
+use Rattle.std.proofs.Common.{sym, ap, ◌∙◌, length, map, ℤ, List}
 use Rattle.std.specs.Option.{option_or}
 use Rattle.std.proofs.lemmas.List.{length-map}
 use Rattle.flac_frame.specs.Audio.{channels_fault}
-use Rattle.flac_frame.specs.declared.setup.SetupFault.{SetupFault}
 use Rattle.flac_frame.proofs.Sounds.{by_format}
 use Rattle.flac_frame.proofs.audio.fault_of.Goals as goal
 

@@ -7,7 +7,7 @@ use Rattle.flac_frame.specs.Chosen.{forms_of, AllWide}
 use Rattle.flac_frame.specs.inner.Chosen.{AreChosen}
 use Rattle.flac_frame.specs.Encoding.{block_of, partition_limit}
 use Rattle.flac_frame.specs.declared.frame_choice.FrameChoice.{FrameChoice}
-use Rattle.flac_frame.proofs.Frames.{apart_choice}
+use Rattle.flac_frame.proofs.Frames.{many_channels, apart_choice}
 use Rattle.flac_frame.proofs.encode.choose_apart.Goals as goal
 
 pub returns-clause-chosen : goal.returns-clause-chosen
@@ -20,8 +20,9 @@ returns-clause-chosen c =
     let made : FrameChoice = record { code = code; bits = k.result; subframes = with_items c.args.choice.now.subframes k.new.subframes } in
     let long : length k.new.subframes ≡ c.args.choice.now.subframes.len = k.auto.subframes ∙ ap length c.deref_mut.ensures.value ∙ sym c.args.choice.now.subframes.ok.0 in
     let back : made.subframes.items ≡ k.new.subframes = with_items_is c.args.choice.now.subframes k.new.subframes long in
-    apart_choice (λ v. v.items) c.channels-channels.result.now a e.sound e.items s.predictors.now c.requires.orders s.start s.size s.number c.profile.result c.rate.result code c.bits-depth.result c.chosen_in-header.result made
-    c.profile.ensures c.rate.ensures c.bits-depth.ensures c.requires.other refl refl (omega (arith, s.some)) s.few s.within c.requires.number c.chosen_in-header.ensures.chosen c.chosen_in-header.ensures.valid
+    let many = many_channels (λ v. v.items) c.channels-channels.result.now a e.sound e.items in
+    apart_choice a e.sound s.predictors.now c.requires.orders s.start s.size s.number c.profile.result c.rate.result code c.bits-depth.result c.chosen_in-header.result made
+    c.profile.ensures c.rate.ensures c.bits-depth.ensures c.requires.other (omega (arith, many, e.sound.some)) refl (omega (arith, s.some)) s.few s.within c.requires.number c.chosen_in-header.ensures.chosen c.chosen_in-header.ensures.valid
     (subst (λ l. AreChosen (partition_limit a) s.predictors.now a.bits s.size l (block_of s.start s.size a.channels)) (sym back) k.ensures.chosen)
     (k.ensures.bits ∙ ap (λ l. length (flat_map (subframe_spelling a.bits) (forms_of s.predictors.now l (block_of s.start s.size a.channels)))) (sym back))
 

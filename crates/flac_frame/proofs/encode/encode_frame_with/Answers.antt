@@ -11,14 +11,14 @@ pub overflow_sub-result : goal.overflow_sub-result
 overflow_sub-result g c =
     let wrote = c.in_ok-write_first.ensures.wrote in
     let few : c.args.writer.now.mark.bytes < 2 ^ 64 = omega (arith, c.bytes_written-before.ensures, c.bytes_written-before.type_inv) in
-    let grows = bytes_grow (frame_spelling c.args.audio.now.bits wrote.0) c.args.writer.now c.write_first.new.writer c.requires.whole few wrote.3 in
+    let grows = bytes_grow (frame_spelling c.of-subject.result.audio.now.bits wrote.0) c.args.writer.now c.write_first.new.writer c.requires.whole few wrote.3 in
     omega (arith, grows, c.bytes_written-before.ensures, c.bytes_written.ensures)
 
 pub returns-clause-counted : goal.returns-clause-counted
 returns-clause-counted g c =
     let wrote = c.in_ok-write_first.ensures.wrote in
     let few : c.args.writer.now.mark.bytes < 2 ^ 64 = omega (arith, c.bytes_written-before.ensures, c.bytes_written-before.type_inv) in
-    let grows = bytes_grow (frame_spelling c.args.audio.now.bits wrote.0) c.args.writer.now c.write_first.new.writer c.requires.whole few wrote.3 in
+    let grows = bytes_grow (frame_spelling c.of-subject.result.audio.now.bits wrote.0) c.args.writer.now c.write_first.new.writer c.requires.whole few wrote.3 in
     omega (arith, grows, c.bytes_written-before.ensures, c.bytes_written.ensures)
 
 pub returns-clause-bytes : goal.returns-clause-bytes
@@ -26,9 +26,9 @@ returns-clause-bytes g c known exact =
     let wrote = c.in_ok-write_first.ensures.wrote in
     let bytes = c.bytes_written.result - c.bytes_written-before.result in
     let few : c.args.writer.now.mark.bytes < 2 ^ 64 = omega (arith, c.bytes_written-before.ensures, c.bytes_written-before.type_inv) in
-    let grows = bytes_grow (frame_spelling c.args.audio.now.bits wrote.0) c.args.writer.now c.write_first.new.writer c.requires.whole few wrote.3 in
+    let grows = bytes_grow (frame_spelling c.of-subject.result.audio.now.bits wrote.0) c.args.writer.now c.write_first.new.writer c.requires.whole few wrote.3 in
     let more : c.write_first.new.writer.mark.bytes ≡ c.args.writer.now.mark.bytes + bytes = omega (arith, grows, c.bytes_written-before.ensures, c.bytes_written.ensures) in
-    bits_more (frame_spelling c.args.audio.now.bits wrote.0) c.args.writer.now c.write_first.new.writer bytes c.requires.whole few (frames_bytes c.args.audio.now.bits wrote.0) wrote.3 more known exact
+    bits_more (frame_spelling c.of-subject.result.audio.now.bits wrote.0) c.args.writer.now c.write_first.new.writer bytes c.requires.whole few (frames_bytes c.of-subject.result.audio.now.bits wrote.0) wrote.3 more known exact
 
 pub invariant_of-buffers : goal.invariant_of-buffers
 invariant_of-buffers g c =

@@ -1,4 +1,4 @@
-use Rattle.std.proofs.Common.{◌≡◌, refl}
+use Rattle.std.proofs.Common.{rules, ◌≡◌, refl}
 use Rattle.std.proofs.lemmas.Result.{err_from_is_err_and}
 use Rattle.flac_bits.specs.declared.why.Why.TheVariants.{Memory, NonzeroPadding, FrameCheck}
 use Rattle.flac_bits.proofs.Counting.{answered_then, failed_then, refused_then}
@@ -16,38 +16,36 @@ pub returns-in_err-align : goal.returns-in_err-align
 unfolding frame_end
 returns-in_err-align g c =
     let p = err_from_is_err_and c.from_residual.result c.from_residual.ensures.1 in
-    rw (p.1, p.2) (record {
-      spends = tt;
-      counts = c.in_err-align.ensures.counts;
-      memory = c.in_err-align.ensures.memory;
-      reads = told_fault c.args.bits.now c.align.new.self _ c.in_err-align.ensures.reads;
-    })
+    rw (p.1, p.2) (record { reading = record { spends = tt; counts = c.in_err-align.ensures.reading.counts; memory = c.in_err-align.ensures.reading.memory; reads = told_fault c.args.bits.now c.align.new.self _ c.in_err-align.ensures.reading.reads } })
 
 pub returns-then-not-branch : goal.returns-then-not-branch
 unfolding frame_end
-returns-then-not-branch g c = record {
-  spends = tt;
-  counts = refused_then c.args.bits.now c.align.new.self c.in_ok-align.ensures.counts refl;
-  memory = padding_no_memory;
-  reads = told_then c.args.bits.now c.align.new.self c.align.new.self _ c.in_ok-align.ensures.counts c.in_ok-align.ensures.reads (λ known same. rw c.if-not-branch.true refl);
-}
+returns-then-not-branch g c = record { reading = record { spends = tt; counts = refused_then c.args.bits.now c.align.new.self c.in_ok-align.ensures.reading.counts refl; memory = padding_no_memory; reads = told_then c.args.bits.now c.align.new.self c.align.new.self _ c.in_ok-align.ensures.reading.counts c.in_ok-align.ensures.reading.reads (λ known same. rw c.if-not-branch.true refl) } }
 
 pub returns-in_err-take : goal.returns-in_err-take
 unfolding frame_end
 returns-in_err-take g c =
     let p = err_from_is_err_and c.from_residual-in_err-take.result c.from_residual-in_err-take.ensures.1 in
-    rw (p.1, p.2) (record {
-      spends = tt;
-      counts = failed_then c.args.bits.now c.align.new.self c.take.new.self c.in_ok-align.ensures.counts c.in_err-take.ensures.counts;
-      memory = c.in_err-take.ensures.memory;
-      reads = told_then c.args.bits.now c.align.new.self c.take.new.self _ c.in_ok-align.ensures.counts c.in_ok-align.ensures.reads (rw c.if-not-branch.false (told_fault c.align.new.self c.take.new.self _ c.in_err-take.ensures.reads));
-    })
+    rw (p.1, p.2) (record { reading = record { spends = tt; counts = failed_then c.args.bits.now c.align.new.self c.take.new.self c.in_ok-align.ensures.reading.counts c.in_err-take.ensures.reading.counts; memory = c.in_err-take.ensures.reading.memory; reads = told_then c.args.bits.now c.align.new.self c.take.new.self _ c.in_ok-align.ensures.reading.counts c.in_ok-align.ensures.reading.reads (rw c.if-not-branch.false (told_fault c.align.new.self c.take.new.self _ c.in_err-take.ensures.reading.reads)) } })
 
-pub returns-then-branch-from-clause-counts : goal.returns-then-branch-from-clause-counts
-returns-then-branch-from-clause-counts g c = refused_then c.args.bits.now c.take.new.self (answered_then c.args.bits.now c.align.new.self c.take.new.self c.in_ok-align.ensures.counts c.in_ok-take.ensures.counts) refl
+pub returns-then-branch-from : goal.returns-then-branch-from
+unfolding frame_end
+returns-then-branch-from g c = record {
+  reading = record {
+    spends = search rules;
+    counts = refused_then c.args.bits.now c.take.new.self (answered_then c.args.bits.now c.align.new.self c.take.new.self c.in_ok-align.ensures.reading.counts c.in_ok-take.ensures.reading.counts) refl;
+    memory = check_no_memory;
+    reads = search rules;
+  };
+}
 
-pub returns-then-branch-from-clause-memory : goal.returns-then-branch-from-clause-memory
-returns-then-branch-from-clause-memory g c = check_no_memory
-
-pub returns-clause-counts : goal.returns-clause-counts
-returns-clause-counts g c = answered_then c.args.bits.now c.align.new.self c.take.new.self c.in_ok-align.ensures.counts c.in_ok-take.ensures.counts
+pub returns : goal.returns
+unfolding frame_end
+returns g c = record {
+  reading = record {
+    spends = search rules;
+    counts = answered_then c.args.bits.now c.align.new.self c.take.new.self c.in_ok-align.ensures.reading.counts c.in_ok-take.ensures.reading.counts;
+    memory = search rules;
+    reads = search rules;
+  };
+}

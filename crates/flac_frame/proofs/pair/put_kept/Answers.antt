@@ -1,4 +1,4 @@
-use Rattle.std.proofs.Common.{◌≡◌, ◌≤◌, ◌∙◌, ap, sym, subst, ℤ, List, All, [], ◌∷◌}
+use Rattle.std.proofs.Common.{◌≤◌, ◌∙◌, ap, sym, subst, ℤ, List, All, [], ◌∷◌}
 use Rattle.flac_bits.specs.Signed.{FitsBits}
 use Rattle.flac_header.specs.Assignment.{code_of}
 use Rattle.flac_frame.specs.Frame.{side_bit}

@@ -1,4 +1,4 @@
-use Rattle.std.proofs.Common.{◌≡◌, refl, sym, ◌∙◌}
+use Rattle.std.proofs.Common.{rules, ◌≡◌, refl, sym, ◌∙◌}
 use Rattle.std.proofs.lemmas.Result.{err_from_is_err_and}
 use Rattle.flac_bits.specs.declared.why.Why.TheVariants.{Memory}
 use Rattle.flac_bits.proofs.Counting.{answered_then, failed_then}
@@ -12,45 +12,44 @@ pub returns-in_err-header-clause-spare : goal.returns-in_err-header-clause-spare
 returns-in_err-header-clause-spare g c = λ is known same firm.
     let p = err_from_is_err_and c.from_residual.result c.from_residual.ensures.1 in
     let e : c.in_err-header.field-0.0 ≡ Memory = cc in
-    absurd (firm (memory_short (block_header c.args.seen.now) c.args.bits.now.cursor c.in_err-header.field-0.0 (header_avoids c.args.seen.now) e (c.in_err-header.ensures.reads known same)))
+    absurd (firm (memory_short (block_header c.args.seen.now) c.args.bits.now.cursor c.in_err-header.field-0.0 (header_avoids c.args.seen.now) e (c.in_err-header.ensures.reading.reads known same)))
 
 pub returns-in_err-body-clause-spare : goal.returns-in_err-body-clause-spare
 returns-in_err-body-clause-spare g c = λ is known same firm.
     let p = err_from_is_err_and c.from_residual-in_err-body.result c.from_residual-in_err-body.ensures.1 in
     let e : c.in_err-body.field-0.0 ≡ Memory = cc in
     let h = c.in_ok-header.ensures in
-    let mid : c.read_block_header.new.bits.errors ≡ c.args.bits.now.errors = h.counts.1 in
-    let ran = h.reads known mid in
+    let mid : c.read_block_header.new.bits.errors ≡ c.args.bits.now.errors = h.reading.counts.1 in
+    let ran = h.reading.reads known mid in
     let stays = short_stays (block_header c.args.seen.now) c.args.bits.now.cursor c.read_block_header.new.bits.cursor c.in_ok-header.header ran in
-    (c.in_ok-header.header, c.read_block_header.new.bits.cursor, ran, c.in_err-body.ensures.spare (cc) (h.counts.0 known) (same ∙ sym mid) (λ q. firm (sym stays ∙ q)))
+    (c.in_ok-header.header, c.read_block_header.new.bits.cursor, ran, c.in_err-body.ensures.spare (cc) (h.reading.counts.0 known) (same ∙ sym mid) (λ q. firm (sym stays ∙ q)))
 
-pub returns-in_err-header-clause-counts : goal.returns-in_err-header-clause-counts
-returns-in_err-header-clause-counts g c =
-    let p = err_from_is_err_and c.from_residual.result c.from_residual.ensures.1 in
-    rw (p.1, p.2) c.in_err-header.ensures.counts
-
-pub returns-in_err-header-clause-reads : goal.returns-in_err-header-clause-reads
+pub returns-in_err-header-clause-reading : goal.returns-in_err-header-clause-reading
 unfolding block
-returns-in_err-header-clause-reads g c =
-    let p = err_from_is_err_and c.from_residual.result c.from_residual.ensures.1 in
-    rw (p.1, p.2) (λ room. told_fault c.args.bits.now c.read_block_header.new.bits _ c.in_err-header.ensures.reads)
+returns-in_err-header-clause-reading g c = record {
+  spends = search rules;
+  counts = (let p = err_from_is_err_and c.from_residual.result c.from_residual.ensures.1 in
+      rw (p.1, p.2) c.in_err-header.ensures.reading.counts);
+  reads = (let p = err_from_is_err_and c.from_residual.result c.from_residual.ensures.1 in
+      rw (p.1, p.2) (λ room. told_fault c.args.bits.now c.read_block_header.new.bits _ c.in_err-header.ensures.reading.reads));
+}
 
-pub returns-in_err-body-clause-counts : goal.returns-in_err-body-clause-counts
-returns-in_err-body-clause-counts g c =
+pub returns-in_err-body-clause-reading : goal.returns-in_err-body-clause-reading
+unfolding block
+returns-in_err-body-clause-reading g c =
     let p = err_from_is_err_and c.from_residual-in_err-body.result c.from_residual-in_err-body.ensures.1 in
-    rw (p.1, p.2) (failed_then c.args.bits.now c.read_block_header.new.bits c.read_content.new.bits c.in_ok-header.ensures.counts c.in_err-body.ensures.counts)
+    rw (p.1, p.2) (record {
+      spends = tt;
+      counts = failed_then c.args.bits.now c.read_block_header.new.bits c.read_content.new.bits c.in_ok-header.ensures.reading.counts c.in_err-body.ensures.reading.counts;
+      reads = (λ room. told_then c.args.bits.now c.read_block_header.new.bits c.read_content.new.bits _ c.in_ok-header.ensures.reading.counts c.in_ok-header.ensures.reading.reads
+          (told_fault c.read_block_header.new.bits c.read_content.new.bits _ (c.in_err-body.ensures.reading.reads (λ q. room cc))));
+    })
 
-pub returns-in_err-body-clause-reads : goal.returns-in_err-body-clause-reads
+pub returns-clause-reading : goal.returns-clause-reading
 unfolding block
-returns-in_err-body-clause-reads g c =
-    let p = err_from_is_err_and c.from_residual-in_err-body.result c.from_residual-in_err-body.ensures.1 in
-    rw (p.1, p.2) (λ room. told_then c.args.bits.now c.read_block_header.new.bits c.read_content.new.bits _ c.in_ok-header.ensures.counts c.in_ok-header.ensures.reads
-    (told_fault c.read_block_header.new.bits c.read_content.new.bits _ (c.in_err-body.ensures.reads (λ q. room cc))))
-
-pub returns-clause-counts : goal.returns-clause-counts
-returns-clause-counts g c = answered_then c.args.bits.now c.read_block_header.new.bits c.read_content.new.bits c.in_ok-header.ensures.counts c.in_ok-body.ensures.counts
-
-pub returns-clause-reads : goal.returns-clause-reads
-unfolding block
-returns-clause-reads g c = λ room. told_then c.args.bits.now c.read_block_header.new.bits c.read_content.new.bits _ c.in_ok-header.ensures.counts c.in_ok-header.ensures.reads
-    (told_then c.read_block_header.new.bits c.read_content.new.bits c.read_content.new.bits _ c.in_ok-body.ensures.counts (c.in_ok-body.ensures.reads (λ q. absurd cc)) (λ known same. refl))
+returns-clause-reading g c = record {
+  spends = search rules;
+  counts = answered_then c.args.bits.now c.read_block_header.new.bits c.read_content.new.bits c.in_ok-header.ensures.reading.counts c.in_ok-body.ensures.reading.counts;
+  reads = (λ room. told_then c.args.bits.now c.read_block_header.new.bits c.read_content.new.bits _ c.in_ok-header.ensures.reading.counts c.in_ok-header.ensures.reading.reads
+      (told_then c.read_block_header.new.bits c.read_content.new.bits c.read_content.new.bits _ c.in_ok-body.ensures.reading.counts (c.in_ok-body.ensures.reading.reads (λ q. absurd cc)) (λ known same. refl)));
+}

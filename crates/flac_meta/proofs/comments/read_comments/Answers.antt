@@ -4,35 +4,54 @@ use Rattle.std.proofs.lemmas.Result.{err_from_is_err_and}
 use Rattle.flac_bits.proofs.Counting.{answered_then, failed_then}
 use Rattle.flac_meta.proofs.comments.read_comments.Goals as goal
 
-pub returns-in_err-vendor-clause-reads : goal.returns-in_err-vendor-clause-reads
+pub returns-in_err-vendor : goal.returns-in_err-vendor
 unfolding comments
-returns-in_err-vendor-clause-reads g c = search rules
+returns-in_err-vendor g c = record {
+  reading = record {
+    spends = search rules;
+    counts = search rules;
+    reads = search rules;
+  };
+}
 
-pub returns-in_err-skip_bytes-clause-reads : goal.returns-in_err-skip_bytes-clause-reads
+pub returns-in_err-skip_bytes : goal.returns-in_err-skip_bytes
 unfolding comments
-returns-in_err-skip_bytes-clause-reads g c = search rules
+returns-in_err-skip_bytes g c = record {
+  reading = record {
+    spends = search rules;
+    counts = search rules;
+    reads = search rules;
+  };
+}
 
-pub returns-in_err-count-clause-reads : goal.returns-in_err-count-clause-reads
+pub returns-in_err-count : goal.returns-in_err-count
 unfolding comments
-returns-in_err-count-clause-reads g c = search rules
+returns-in_err-count g c = record {
+  reading = record {
+    spends = search rules;
+    counts = (let p = err_from_is_err_and c.from_residual-in_err-count.result c.from_residual-in_err-count.ensures.1 in
+        rw (p.1, p.2) (failed_then c.args.bits.now c.read_sized_little.new.bits c.read_little_32.new.bits c.in_ok-vendor.ensures.reading.counts c.in_err-count.ensures.reading.counts));
+    reads = search rules;
+  };
+}
 
-pub returns-in_err-list-clause-reads : goal.returns-in_err-list-clause-reads
+pub returns-in_err-list : goal.returns-in_err-list
 unfolding comments
-returns-in_err-list-clause-reads g c = search rules
+returns-in_err-list g c = record {
+  reading = record {
+    spends = search rules;
+    counts = (let p = err_from_is_err_and c.from_residual-in_err-list.result c.from_residual-in_err-list.ensures.1 in
+        rw (p.1, p.2) (failed_then c.args.bits.now c.read_sized_little.new.bits c.read_texts.new.bits c.in_ok-vendor.ensures.reading.counts (failed_then c.read_sized_little.new.bits c.read_little_32.new.bits c.read_texts.new.bits c.in_ok-count.ensures.reading.counts c.in_err-list.ensures.reading.counts)));
+    reads = search rules;
+  };
+}
 
-pub returns-clause-reads : goal.returns-clause-reads
+pub returns : goal.returns
 unfolding comments
-returns-clause-reads g c = search rules
-
-pub returns-in_err-count-clause-counts : goal.returns-in_err-count-clause-counts
-returns-in_err-count-clause-counts g c =
-    let p = err_from_is_err_and c.from_residual-in_err-count.result c.from_residual-in_err-count.ensures.1 in
-    rw (p.1, p.2) (failed_then c.args.bits.now c.read_sized_little.new.bits c.read_little_32.new.bits c.in_ok-vendor.ensures.counts c.in_err-count.ensures.counts)
-
-pub returns-in_err-list-clause-counts : goal.returns-in_err-list-clause-counts
-returns-in_err-list-clause-counts g c =
-    let p = err_from_is_err_and c.from_residual-in_err-list.result c.from_residual-in_err-list.ensures.1 in
-    rw (p.1, p.2) (failed_then c.args.bits.now c.read_sized_little.new.bits c.read_texts.new.bits c.in_ok-vendor.ensures.counts (failed_then c.read_sized_little.new.bits c.read_little_32.new.bits c.read_texts.new.bits c.in_ok-count.ensures.counts c.in_err-list.ensures.counts))
-
-pub returns-clause-counts : goal.returns-clause-counts
-returns-clause-counts g c = answered_then c.args.bits.now c.read_sized_little.new.bits c.read_texts.new.bits c.in_ok-vendor.ensures.counts (answered_then c.read_sized_little.new.bits c.read_little_32.new.bits c.read_texts.new.bits c.in_ok-count.ensures.counts c.in_ok-list.ensures.counts)
+returns g c = record {
+  reading = record {
+    spends = search rules;
+    counts = answered_then c.args.bits.now c.read_sized_little.new.bits c.read_texts.new.bits c.in_ok-vendor.ensures.reading.counts (answered_then c.read_sized_little.new.bits c.read_little_32.new.bits c.read_texts.new.bits c.in_ok-count.ensures.reading.counts c.in_ok-list.ensures.reading.counts);
+    reads = search rules;
+  };
+}

@@ -7,29 +7,14 @@ use Rattle.flac_meta.proofs.fields.read_number_32.Goals as goal
 
 pub returns-then-left-lt4 : goal.returns-then-left-lt4
 unfolding number_32
-returns-then-left-lt4 g c = record {
-  fits = tt;
-  spends = tt;
-  counts = c.too_short.ensures.counts;
-  reads = part_short 4 c.args.left (bits 32) c.args.bits.now c.too_short.new.bits c.if-left-lt4.true c.too_short.ensures.reads;
-}
+returns-then-left-lt4 g c = record { fits = tt; reading = record { spends = tt; counts = c.too_short.ensures.counts; reads = part_short 4 c.args.left (bits 32) c.args.bits.now c.too_short.new.bits c.if-left-lt4.true c.too_short.ensures.reads } }
 
 pub returns-in_err-take : goal.returns-in_err-take
 unfolding number_32
 returns-in_err-take g c =
     let p = err_from_is_err_and c.from_residual.result c.from_residual.ensures.1 in
-    rw (p.1, p.2) (record {
-      fits = tt;
-      spends = tt;
-      counts = c.in_err-take.ensures.counts;
-      reads = told_part 4 c.args.left (bits 32) c.args.bits.now c.take.new.self c.if-left-lt4.false c.in_err-take.ensures.reads;
-    })
+    rw (p.1, p.2) (record { fits = tt; reading = record { spends = tt; counts = c.in_err-take.ensures.reading.counts; reads = told_part 4 c.args.left (bits 32) c.args.bits.now c.take.new.self c.if-left-lt4.false c.in_err-take.ensures.reading.reads } })
 
 pub returns : goal.returns
 unfolding number_32
-returns g c = record {
-  fits = c.if-left-lt4.false;
-  spends = omega (arith, c.in_ok-take.ensures.spends);
-  counts = c.in_ok-take.ensures.counts;
-  reads = told_part 4 c.args.left (bits 32) c.args.bits.now c.take.new.self c.if-left-lt4.false c.in_ok-take.ensures.reads;
-}
+returns g c = record { fits = c.if-left-lt4.false; reading = record { spends = omega (arith, c.in_ok-take.ensures.reading.spends); counts = c.in_ok-take.ensures.reading.counts; reads = told_part 4 c.args.left (bits 32) c.args.bits.now c.take.new.self c.if-left-lt4.false c.in_ok-take.ensures.reading.reads } }

@@ -1,36 +1,52 @@
+use Rattle.std.proofs.Common.{rules}
 use Rattle.std.proofs.lemmas.Result.{err_from_is_err_and}
 use Rattle.flac_bits.proofs.Counting.{answered_then, failed_then}
 use Rattle.flac_bits.proofs.Telling.{told_then, told_fault}
 use Rattle.flac_meta.specs.Info.{stream_info}
 use Rattle.flac_meta.proofs.stream_info.read_stream_info.Goals as goal
 
-pub returns-in_err-rate-clause-counts : goal.returns-in_err-rate-clause-counts
-returns-in_err-rate-clause-counts g c =
-    let p = err_from_is_err_and c.from_residual-in_err-rate.result c.from_residual-in_err-rate.ensures.1 in
-    rw (p.1, p.2) (failed_then c.args.bits.now c.read_sizes.new.bits c.read_format.new.bits c.in_ok-least_block.ensures.counts c.in_err-rate.ensures.counts)
-
-pub returns-in_err-read_bytes-clause-counts : goal.returns-in_err-read_bytes-clause-counts
-returns-in_err-read_bytes-clause-counts g c =
-    let p = err_from_is_err_and c.from_residual-in_err-read_bytes.result c.from_residual-in_err-read_bytes.ensures.1 in
-    rw (p.1, p.2) (failed_then c.args.bits.now c.read_sizes.new.bits c.read_bytes.new.bits c.in_ok-least_block.ensures.counts (failed_then c.read_sizes.new.bits c.read_format.new.bits c.read_bytes.new.bits c.in_ok-rate.ensures.counts c.in_err-read_bytes.ensures.counts))
-
-pub returns-clause-counts : goal.returns-clause-counts
-returns-clause-counts g c = answered_then c.args.bits.now c.read_sizes.new.bits c.read_bytes.new.bits c.in_ok-least_block.ensures.counts (answered_then c.read_sizes.new.bits c.read_format.new.bits c.read_bytes.new.bits c.in_ok-rate.ensures.counts c.in_ok-read_bytes.ensures.counts)
-
-pub returns-in_err-least_block-clause-reads : goal.returns-in_err-least_block-clause-reads
+pub returns-in_err-rate : goal.returns-in_err-rate
 unfolding stream_info
-returns-in_err-least_block-clause-reads g c =
+returns-in_err-rate g c =
+    let p = err_from_is_err_and c.from_residual-in_err-rate.result c.from_residual-in_err-rate.ensures.1 in
+    rw (p.1, p.2) (record {
+      reading = record {
+        spends = tt;
+        counts = failed_then c.args.bits.now c.read_sizes.new.bits c.read_format.new.bits c.in_ok-least_block.ensures.reading.counts c.in_err-rate.ensures.reading.counts;
+        reads = told_then c.args.bits.now c.read_sizes.new.bits c.read_format.new.bits _ c.in_ok-least_block.ensures.reading.counts c.in_ok-least_block.ensures.reading.reads (told_fault c.read_sizes.new.bits c.read_format.new.bits _ c.in_err-rate.ensures.reading.reads);
+      };
+    })
+
+pub returns-in_err-read_bytes : goal.returns-in_err-read_bytes
+unfolding stream_info
+returns-in_err-read_bytes g c =
+    let p = err_from_is_err_and c.from_residual-in_err-read_bytes.result c.from_residual-in_err-read_bytes.ensures.1 in
+    rw (p.1, p.2) (record {
+      reading = record {
+        spends = tt;
+        counts = failed_then c.args.bits.now c.read_sizes.new.bits c.read_bytes.new.bits c.in_ok-least_block.ensures.reading.counts (failed_then c.read_sizes.new.bits c.read_format.new.bits c.read_bytes.new.bits c.in_ok-rate.ensures.reading.counts c.in_err-read_bytes.ensures.reading.counts);
+        reads = told_then c.args.bits.now c.read_sizes.new.bits c.read_bytes.new.bits _ c.in_ok-least_block.ensures.reading.counts c.in_ok-least_block.ensures.reading.reads (told_then c.read_sizes.new.bits c.read_format.new.bits c.read_bytes.new.bits _ c.in_ok-rate.ensures.reading.counts c.in_ok-rate.ensures.reading.reads (told_fault c.read_format.new.bits c.read_bytes.new.bits _ c.in_err-read_bytes.ensures.reading.reads));
+      };
+    })
+
+pub returns : goal.returns
+unfolding stream_info
+returns g c = record {
+  reading = record {
+    spends = search rules;
+    counts = answered_then c.args.bits.now c.read_sizes.new.bits c.read_bytes.new.bits c.in_ok-least_block.ensures.reading.counts (answered_then c.read_sizes.new.bits c.read_format.new.bits c.read_bytes.new.bits c.in_ok-rate.ensures.reading.counts c.in_ok-read_bytes.ensures.reading.counts);
+    reads = search rules;
+  };
+}
+
+pub returns-in_err-least_block : goal.returns-in_err-least_block
+unfolding stream_info
+returns-in_err-least_block g c =
     let p = err_from_is_err_and c.from_residual.result c.from_residual.ensures.1 in
-    rw (p.1, p.2) (told_fault c.args.bits.now c.read_sizes.new.bits _ c.in_err-least_block.ensures.reads)
-
-pub returns-in_err-rate-clause-reads : goal.returns-in_err-rate-clause-reads
-unfolding stream_info
-returns-in_err-rate-clause-reads g c =
-    let p = err_from_is_err_and c.from_residual-in_err-rate.result c.from_residual-in_err-rate.ensures.1 in
-    rw (p.1, p.2) (told_then c.args.bits.now c.read_sizes.new.bits c.read_format.new.bits _ c.in_ok-least_block.ensures.counts c.in_ok-least_block.ensures.reads (told_fault c.read_sizes.new.bits c.read_format.new.bits _ c.in_err-rate.ensures.reads))
-
-pub returns-in_err-read_bytes-clause-reads : goal.returns-in_err-read_bytes-clause-reads
-unfolding stream_info
-returns-in_err-read_bytes-clause-reads g c =
-    let p = err_from_is_err_and c.from_residual-in_err-read_bytes.result c.from_residual-in_err-read_bytes.ensures.1 in
-    rw (p.1, p.2) (told_then c.args.bits.now c.read_sizes.new.bits c.read_bytes.new.bits _ c.in_ok-least_block.ensures.counts c.in_ok-least_block.ensures.reads (told_then c.read_sizes.new.bits c.read_format.new.bits c.read_bytes.new.bits _ c.in_ok-rate.ensures.counts c.in_ok-rate.ensures.reads (told_fault c.read_format.new.bits c.read_bytes.new.bits _ c.in_err-read_bytes.ensures.reads)))
+    rw (p.1, p.2) (record {
+      reading = record {
+        spends = tt;
+        counts = search rules;
+        reads = told_fault c.args.bits.now c.read_sizes.new.bits _ c.in_err-least_block.ensures.reading.reads;
+      };
+    })

@@ -1,36 +1,27 @@
-use Rattle.std.proofs.Common.{◌≡◌, ◌∙◌, ◌+◌, ◌++◌, ◌≤◌, [], ◌∷◌, List, ℕ, ℤ, ap, sym, subst, refl, length, take, drop, arith}
+use Rattle.std.proofs.Common.{◌≡◌, ◌∙◌, ◌+◌, ◌++◌, [], ◌∷◌, List, ℕ, ℤ, ap, sym, subst, refl, length, take, drop, arith}
+use Rattle.std.specs.Prelude.{slice_index_or}
 use Rattle.std.proofs.lemmas.List.{length-map}
 use Rattle.flac_frame.specs.Encoding.{block_of}
-use Rattle.flac_frame.proofs.Frames.{few_channels, bits_small, each_long, two_blocks}
+use Rattle.flac_frame.proofs.Frames.{few_channels, bits_small}
 use Rattle.flac_native.specs.Message.{sample_width, rows_bytes}
 use Rattle.flac_native.proofs.Encoded.{part_rows}
-use Rattle.flac_native.proofs.Messages.{long_of}
+use Rattle.flac_native.proofs.Messages.{two_parts}
 use Rattle.md5.specs.Md5.{Holds}
 use Rattle.flac_native.proofs.digest.feed_block.Goals as goal
 
-pub part_of-left-requires : goal.part_of-left-requires
-part_of-left-requires c =
-    let e = c.channels-channels.ensures in
-    let n : ℕ = c.args.start + c.args.size in
-    let all = each_long (λ v. v.items) c.channels-channels.result.now c.args.audio.now e.sound e.items c.args.start c.args.size c.requires in
-    let long : n ≤ length c.index-channels-0.result.items = long_of (λ v. v.items) c.channels-channels.result.now n 0 c.index-channels-0.result all (omega (arith, c.if-channels-eq2.true)) c.index-channels-0.is in
-    omega (arith, long, ap length c.deref.ensures.value)
+pub part-left-requires-clause-channel : goal.part-left-requires-clause-channel
+part-left-requires-clause-channel c = omega (arith, length-map c.channels-channels.result.now (λ v. v.items), ap length c.channels-channels.ensures.items, c.if-channels-eq2.true)
 
-pub part_of-right-requires : goal.part_of-right-requires
-part_of-right-requires c =
-    let e = c.channels-channels.ensures in
-    let n : ℕ = c.args.start + c.args.size in
-    let all = each_long (λ v. v.items) c.channels-channels.result.now c.args.audio.now e.sound e.items c.args.start c.args.size c.requires in
-    let long : n ≤ length c.index-channels-1.result.items = long_of (λ v. v.items) c.channels-channels.result.now n 1 c.index-channels-1.result all (omega (arith, c.if-channels-eq2.true)) c.index-channels-1.is in
-    omega (arith, long, ap length c.deref-then-channels-eq2.ensures.value)
+pub part-right-requires-clause-channel : goal.part-right-requires-clause-channel
+part-right-requires-clause-channel c = omega (arith, length-map c.channels-channels.result.now (λ v. v.items), ap length c.channels-channels.ensures.items, c.if-channels-eq2.true)
 
 pub feed_rows-requires-clause-rows : goal.feed_rows-requires-clause-rows
-feed_rows-requires-clause-rows c = omega (arith, c.part_of-left.ensures.long)
+feed_rows-requires-clause-rows c = omega (arith, c.part-left.ensures.long)
 
 pub feed_rows-requires-clause-width : goal.feed_rows-requires-clause-width
 feed_rows-requires-clause-width c =
     let e = c.channels-channels.ensures in
-    let deep = bits_small (λ v. v.items) c.channels-channels.result.now c.args.audio.now e.sound e.items c.args.audio.now.bits refl in
+    let deep = bits_small c.args.audio.now e.sound c.args.audio.now.bits refl in
     omega (arith, deep.1, c.bits.ensures, c.sample_width-width.ensures)
 
 pub returns-then-channels-eq2 : goal.returns-then-channels-eq2
@@ -40,13 +31,12 @@ returns-then-channels-eq2 c = λ m holds.
     let n = c.args.size in
     let start = c.args.start in
     let width : ℕ = sample_width a.bits in
-    let l : List ℤ = c.part_of-left.result.now in
-    let r : List ℤ = c.part_of-right.result.now in
+    let l : List ℤ = c.part-left.result.now in
+    let r : List ℤ = c.part-right.result.now in
     let many : length a.channels ≡ 2 = ap length (sym e.items) ∙ length-map c.channels-channels.result.now (λ v. v.items) ∙ c.if-channels-eq2.true in
-    let left : l ≡ take n (drop start c.index-channels-0.result.items) = c.part_of-left.ensures.part ∙ ap (λ k. take n (drop start k)) c.deref.ensures.value in
-    let right : r ≡ take n (drop start c.index-channels-1.result.items) = c.part_of-right.ensures.part ∙ ap (λ k. take n (drop start k)) c.deref-then-channels-eq2.ensures.value in
-    let block = two_blocks (λ v. v.items) c.channels-channels.result.now a e.sound e.items start n c.index-channels-0.result c.index-channels-1.result many c.index-channels-0.is c.index-channels-1.is in
-    let both : l ∷ r ∷ [] ≡ block_of start n a.channels = ap (λ (k : List ℤ). k ∷ r ∷ []) left ∙ ap (λ (k : List ℤ). take n (drop start c.index-channels-0.result.items) ∷ k ∷ []) right ∙ block in
+    let left : l ≡ take n (drop start (slice_index_or a.channels 0 [])) = c.part-left.ensures.part in
+    let right : r ≡ take n (drop start (slice_index_or a.channels 1 [])) = c.part-right.ensures.part in
+    let both : l ∷ r ∷ [] ≡ block_of start n a.channels = ap (λ (k : List ℤ). k ∷ r ∷ []) left ∙ ap (λ (k : List ℤ). take n (drop start (slice_index_or a.channels 0 [])) ∷ k ∷ []) right ∙ two_parts start n a.channels many in
     let w : c.sample_width-width.result ≡ width = c.sample_width-width.ensures ∙ ap sample_width c.bits.ensures in
     let z : start + 0 ≡ start = omega arith in
     let rows : rows_bytes c.sample_width-width.result (l ∷ r ∷ []) n 0 ≡ rows_bytes width a.channels n start =
@@ -62,7 +52,7 @@ feed_rows-requires-2-clause-few c = let e = c.channels-channels.ensures in (few_
 pub feed_rows-requires-2-clause-width : goal.feed_rows-requires-2-clause-width
 feed_rows-requires-2-clause-width c =
     let e = c.channels-channels.ensures in
-    let deep = bits_small (λ v. v.items) c.channels-channels.result.now c.args.audio.now e.sound e.items c.args.audio.now.bits refl in
+    let deep = bits_small c.args.audio.now e.sound c.args.audio.now.bits refl in
     omega (arith, deep.1, c.bits.ensures, c.sample_width-width.ensures)
 
 pub feed_rows-requires-2-clause-end : goal.feed_rows-requires-2-clause-end

@@ -1,11 +1,14 @@
-use Rattle.std.proofs.Common.{◌≡◌, Ok, Some, inl, inr, sym, ap, subst, ◌∙◌}
-use Rattle.std.proofs.lemmas.Result.{IfErr-weaker}
+use Rattle.std.proofs.Common.{◌≡◌, true, [], ◌∷◌, Ok, Some, inl, inr, refl, sym, ap, subst, ◌∙◌}
+use Rattle.std.proofs.lemmas.Result.{IfOk-weaker}
 use Rattle.flac_native.specs.declared.track.Phase.TheVariants.{Opening}
 use Rattle.flac_native.specs.Stream.{Stand, marked, next}
-use Rattle.flac_bits.specs.Handing.{IsOutside}
-use Rattle.flac_native.specs.Giving.{IsFirst, BreaksAt, seen_by, found}
+use Rattle.flac_bits.specs.Handing.{IsOutside, reason_of}
+use Rattle.flac_native.specs.Item.{told}
+use Rattle.flac_native.specs.Giving.{IsFirst, BreaksOff, seen_by, found}
+use Rattle.flac_native.specs.declared.container.Part.TheVariants as part
 use Rattle.flac_native.proofs.Giving.{item_first, behind_marker, inside, made_as, made_behind}
 use Rattle.flac_native.proofs.Handed.{no_fault}
+use Rattle.flac_native.proofs.Passing.{passes_none, passes_one, passes_found, ok_inside, err_both}
 use Rattle.flac_native.proofs.item.next_item.Goals as goal
 
 pub returns-clause-gives : goal.returns-clause-gives
@@ -36,14 +39,54 @@ returns-then-is_marker-clause-gives g c = λ p at known same quiet room items en
     (inside result (λ y is noted. noted (next p marked) stands) second.next) later.0 end
     (second.gives (next p marked) stands told (same ∙ sym first.counts.1) (quiet ∙ sym first.counts.2) room later.0 end later.2))
 
+pub returns-clause-passes : goal.returns-clause-passes
+returns-clause-passes g c = λ p at.
+    let C = g.C.Container in
+    let old = c.args.container.now in
+    let now = c.next-outcome.new in
+    let result = c.next-outcome.result in
+    let ens = c.next-outcome.ensures in
+    passes_found C p [] old old now.self now.track result (inl refl) (passes_none C p old) ens.gave
+    (IfOk-weaker result _ (λ _. C.known old ≡ true → C.known now.self ≡ true) (λ o counts. counts.0) ens.counts)
+    (ok_inside result (λ o is counts known all end come. ens.gives p at known counts.1 counts.2 (λ e. no_fault o (ap (reason_of told) (sym is) ∙ e)) all end come) ens.counts)
+    (inside result (λ y is noted. noted p at) ens.next)
+
+pub returns-then-is_marker-clause-passes : goal.returns-then-is_marker-clause-passes
+returns-then-is_marker-clause-passes g c = λ p at.
+    let C = g.C.Container in
+    let old = c.args.container.now in
+    let first = rw (c.is_marker.ensures.is c.if-is_marker.true) at c.next-outcome.ensures in
+    let mid = c.next-outcome.new in
+    let now = c.next.new in
+    let result = c.next.result in
+    let ens = c.next.ensures in
+    let stands = first.next p at in
+    let opens : p.stand.phase ≡ Opening = ap (λ (s : Stand). s.phase) (sym at.stand) ∙ first.made.0 in
+    passes_found C p (marked ∷ []) old mid.self now.self now.track result (inr (opens, refl))
+    (passes_one C p old mid.self mid.track part.Marker first.gave first.counts.0 (λ known all end come. first.gives p at known first.counts.1 first.counts.2 (no_fault (Some part.Marker)) all end come)) ens.gave
+    (IfOk-weaker result _ (λ _. C.known mid.self ≡ true → C.known now.self ≡ true) (λ o counts. counts.0) ens.counts)
+    (ok_inside result (λ o is counts known all end come. ens.gives (next p marked) stands known counts.1 counts.2 (λ e. no_fault o (ap (reason_of told) (sym is) ∙ e)) all end come) ens.counts)
+    (inside result (λ y is noted. noted (next p marked) stands) ens.next)
+
 pub returns-clause-broken : goal.returns-clause-broken
 returns-clause-broken g c = λ p at.
-    let breaks = g.C.Container.breaks c.next-outcome.new.self in
-    IfErr-weaker c.next-outcome.result (λ f. IsOutside f.why → breaks p f.at f.why) (λ f. IsOutside f.why → BreaksAt breaks p f) (λ f told out. inl (told out)) (c.next-outcome.ensures.broken p at)
+    let C = g.C.Container in
+    let old = c.args.container.now in
+    let now = c.next-outcome.new.self in
+    let result = c.next-outcome.result in
+    err_both result (λ f. IsOutside f.why → C.breaks now p f.at f.why) (λ f. IsOutside f.why → C.broke old now f.why) (λ f. IsOutside f.why → BreaksOff C p old now f)
+    (λ f told broke out. record { front = []; before = inl refl; first = λ known all end come. (all, refl); behind = (told out, (old, refl, broke out)) })
+    (c.next-outcome.ensures.broken p at) c.next-outcome.ensures.broke
 
 pub returns-then-is_marker-clause-broken : goal.returns-then-is_marker-clause-broken
 returns-then-is_marker-clause-broken g c = λ p at.
+    let C = g.C.Container in
+    let old = c.args.container.now in
     let first = rw (c.is_marker.ensures.is c.if-is_marker.true) at c.next-outcome.ensures in
+    let mid = c.next-outcome.new in
+    let now = c.next.new.self in
     let opens : p.stand.phase ≡ Opening = ap (λ (s : Stand). s.phase) (sym at.stand) ∙ first.made.0 in
-    let breaks = g.C.Container.breaks c.next.new.self in
-    IfErr-weaker c.next.result (λ f. IsOutside f.why → breaks (next p marked) f.at f.why) (λ f. IsOutside f.why → BreaksAt breaks p f) (λ f told out. inr (opens, told out)) (c.next.ensures.broken (next p marked) (first.next p at))
+    let marker = passes_one C p old mid.self mid.track part.Marker first.gave first.counts.0 (λ known all end come. first.gives p at known first.counts.1 first.counts.2 (no_fault (Some part.Marker)) all end come) in
+    err_both c.next.result (λ f. IsOutside f.why → C.breaks now (next p marked) f.at f.why) (λ f. IsOutside f.why → C.broke mid.self now f.why) (λ f. IsOutside f.why → BreaksOff C p old now f)
+    (λ f told broke out. record { front = marked ∷ []; before = inr (opens, refl); first = λ known all end come. let k = marker.first known all end come in (k.0, k.1); behind = (told out, (mid.self, marker.gave, broke out)) })
+    (c.next.ensures.broken (next p marked) (first.next p at)) c.next.ensures.broke

@@ -4,7 +4,7 @@ use Rattle.flac_bits.specs.State.{short_of}
 use Rattle.flac_native.specs.Decoding.{beginning}
 use Rattle.flac_ogg.specs.Stream.{start}
 use Rattle.flac_ogg.specs.Coming.{ItemsCome}
-use Rattle.flac_ogg.proofs.Arriving.{front_ahead, stream_comes, refusal_comes, clear_start}
+use Rattle.flac_ogg.proofs.Arriving.{front_ahead, begins_at, stream_comes, refusal_comes, clear_start}
 use Rattle.flac_ogg.proofs.decoding.ogg_decoder.Goals as goal
 
 pub returns-in-Ok-clause-stream : goal.returns-in-Ok-clause-stream
@@ -24,6 +24,12 @@ returns-in-Ok-clause-refused g c = λ items at why r.
     let text = bits_of (R.coming source) in
     let front = front_ahead c.in-Ok.pages (R.known source) (R.errors source) (R.raised source) (8 * R.most source) _ text (short_of ((R.behind source).fails)) c.in-Ok.ensures.ok in
     rw (c.over-in-Ok.ensures.container, c.over.ensures) (subst (λ a. ItemsCome (start c.args.profile) a items (Some (at, why))) (sym front) (refusal_comes c.args.profile mark text items at why r))
+
+pub returns-in-Ok-clause-front : goal.returns-in-Ok-clause-front
+returns-in-Ok-clause-front g c = λ known.
+    let R = g.R.Source in
+    let source = c.args.source in
+    rw (c.over-in-Ok.ensures.container, c.over.ensures) (begins_at c.in-Ok.pages (R.known source) (R.errors source) (R.raised source) (8 * R.most source) _ (bits_of (R.coming source)) (short_of ((R.behind source).fails)) c.in-Ok.ensures.ok known)
 
 pub returns-in-Ok-clause-clear : goal.returns-in-Ok-clause-clear
 returns-in-Ok-clause-clear g c = λ none.

@@ -31,6 +31,16 @@ loop-start-init g c =
       few = omega arith;
     }
 
+pub range-end-requires-clause-few : goal.range-end-requires-clause-few
+range-end-requires-clause-few g c =
+    let p = c.args.planned.now.plan.now in
+    let b = p.block_size in
+    let n = c.loop-start.number in
+    let total = samples_each c.args.planned.now.audio.now.channels in
+    let q = planned p c.block_size-size.ensures.good in
+    let more : b * n < total = omega (arith, c.loop-start.invariant.start, c.loop-start-test.true, c.len-total.ensures) in
+    still_some b total n q.least more
+
 pub write-room-requires-clause-few : goal.write-room-requires-clause-few
 write-room-requires-clause-few g c =
     let p = c.args.planned.now.plan.now in
@@ -82,8 +92,8 @@ returns-in_err-send_all g c =
     let more : b * n < total = omega (arith, inv.start, c.loop-start-test.true, c.len-total.ensures) in
     let lt : n < blocks_in b total = still_some b total n q.least more in
     let up : b * suc n ≡ b * n + b = omega (arith, mul-suc b n) in
-    let end : ℕ = c.loop-start.start + c.min.result in
-    let end_is : end ≡ min total (b * suc n) = omega (arith, inv.start, c.min.ensures, up, more, c.block_size-size.ensures.value, c.len-total.ensures) in
+    let end : ℕ = c.range-end.result.end in
+    let end_is : end ≡ min total (b * suc n) = omega (arith, c.range-end.ensures.range.start, c.range-end.ensures.range.size, c.range-end.ensures.range.some, up, more) in
     let serial = c.args.headers.now.serial in
     let sequence = c.loop-start.sequence in
     let packet = c.bytes-packet.result.now in
@@ -114,8 +124,8 @@ loop-start-preserved g c =
     let more : b * n < total = omega (arith, inv.start, c.loop-start-test.true, c.len-total.ensures) in
     let lt : n < blocks_in b total = still_some b total n q.least more in
     let up : b * suc n ≡ b * n + b = omega (arith, mul-suc b n) in
-    let end : ℕ = c.loop-start.start + c.min.result in
-    let end_is : end ≡ min total (b * suc n) = omega (arith, inv.start, c.min.ensures, up, more, c.block_size-size.ensures.value, c.len-total.ensures) in
+    let end : ℕ = c.range-end.result.end in
+    let end_is : end ≡ min total (b * suc n) = omega (arith, c.range-end.ensures.range.start, c.range-end.ensures.range.size, c.range-end.ensures.range.some, up, more) in
     let serial = c.args.headers.now.serial in
     let sequence = c.loop-start.sequence in
     let packet = c.bytes-packet.result.now in
@@ -151,7 +161,8 @@ loop-start-preserved g c =
 pub loop-start-smaller : goal.loop-start-smaller
 loop-start-smaller g c =
     let q = planned c.args.planned.now.plan.now c.block_size-size.ensures.good in
-    omega (arith, c.min.ensures, c.loop-start-test.true, c.block_size-size.ensures.value, q.least)
+    let inv = c.loop-start.invariant in
+    omega (arith, c.range-end.ensures.range.start, c.range-end.ensures.range.some, c.range-end.ensures.range.within, inv.start, c.loop-start-test.true, c.len-total.ensures, q.least)
 
 pub returns : goal.returns
 returns g c =

@@ -23,9 +23,9 @@ returns-in-Ok-clause-refused g c =
     IfErr-weaker c.open_as.result _ _ (λ f p other.
     let q = p other in (
       q.0,
-      refuses_as (read_either c.args.profile c.is_page.result (beginning (short_of ((R.behind mid).fails))) (bits_of (front_bytes front ++ R.coming mid))) (read_either c.args.profile (begins_page (R.coming old)) (beginning (short_of ((R.behind old).fails))) (bits_of (R.coming old)))
+      refuses_as (read_either c.args.profile c.begins_page.result (beginning (short_of ((R.behind mid).fails))) (bits_of (front_bytes front ++ R.coming mid))) (read_either c.args.profile (begins_page (R.coming old)) (beginning (short_of ((R.behind old).fails))) (bits_of (R.coming old)))
           (R.known mid) (R.known old) (R.errors old) (R.raised old) (R.errors mid) (R.raised mid) (R.errors q.0) (R.raised q.0) f counted.0 counted.1 told.known
-          (λ known. front_read c.args.profile front (R.coming old) (R.coming mid) c.is_page.result (beginning (short_of ((R.behind old).fails))) (beginning (short_of ((R.behind mid).fails))) (told.bytes known) (λ none. told.end (ap answer none) known) c.is_page.ensures
+          (λ known. front_read c.args.profile front (R.coming old) (R.coming mid) c.begins_page.result (beginning (short_of ((R.behind old).fails))) (beginning (short_of ((R.behind mid).fails))) (told.bytes known) (λ none. told.end (ap answer none) known) c.begins_page.ensures
           (ap (λ (b : Behind). beginning (short_of b.fails)) (sym (told.behind known counted.0))))
           q.1,
     )) c.open_as.ensures.refused

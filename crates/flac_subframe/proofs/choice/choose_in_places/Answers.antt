@@ -1,12 +1,27 @@
-use Rattle.flac_subframe.proofs.Powers.{shortened_is}
+use Rattle.std.proofs.Common.{arith, ◌^◌, take}
+use Rattle.std.proofs.lemmas.List.{take-append-le}
+use Rattle.flac_subframe.specs.declared.content.SubframeForm.{SubframeForm}
+use Rattle.flac_subframe.proofs.Places.{power_le}
+use Rattle.flac_subframe.proofs.Ways.{way_least, way_bits, way_made}
 use Rattle.flac_subframe.proofs.choice.choose_in_places.Goals as goal
 
-pub returns-clause-times : goal.returns-clause-times
-returns-clause-times c =
-    let dropped = c.drop_wasted-wasted.ensures in
-    rw (shortened_is c.drop_wasted-wasted.result c.args.task.now.samples.now c.drop_wasted-wasted.new.shortened dropped.shortened) dropped.shortened
+pub returns-clause-least : goal.returns-clause-least
+returns-clause-least c =
+    let task = c.args.task.now in let dropped = c.drop_wasted-wasted in let best = c.search_within-best in
+    let form : SubframeForm = record { wasted = dropped.result; content = best.result.content; residual = best.result.residual } in
+    let same = take-append-le (2 ^ best.result.residual.halvings) best.new.codings best.new.widths (omega (arith, power_le best.result.residual.halvings task.most best.ensures.within, best.auto.codings, c.split_at_mut-codings.ensures.front_len, c.power.ensures)) in
+    rw same (way_least task.most task.depth task.predictors.now task.samples.now dropped.new.shortened form (take (2 ^ best.result.residual.halvings) best.new.codings) best.result.bits dropped.ensures.wasted dropped.ensures.shortened best.ensures.best)
 
-pub returns-clause-best : goal.returns-clause-best
-returns-clause-best c =
-    let dropped = c.drop_wasted-wasted.ensures in
-    rw (shortened_is c.drop_wasted-wasted.result c.args.task.now.samples.now c.drop_wasted-wasted.new.shortened dropped.shortened) c.search_within-held.ensures.best
+pub returns-clause-bits : goal.returns-clause-bits
+returns-clause-bits c =
+    let task = c.args.task.now in let dropped = c.drop_wasted-wasted in let best = c.search_within-best in
+    let form : SubframeForm = record { wasted = dropped.result; content = best.result.content; residual = best.result.residual } in
+    let same = take-append-le (2 ^ best.result.residual.halvings) best.new.codings best.new.widths (omega (arith, power_le best.result.residual.halvings task.most best.ensures.within, best.auto.codings, c.split_at_mut-codings.ensures.front_len, c.power.ensures)) in
+    rw (c.from.ensures, same) (way_bits task.most task.depth task.predictors.now task.samples.now dropped.new.shortened form (take (2 ^ best.result.residual.halvings) best.new.codings) best.result.bits dropped.ensures.wasted dropped.ensures.shortened best.ensures.best)
+
+pub returns-clause-made : goal.returns-clause-made
+returns-clause-made c =
+    let task = c.args.task.now in let dropped = c.drop_wasted-wasted in let best = c.search_within-best in
+    let form : SubframeForm = record { wasted = dropped.result; content = best.result.content; residual = best.result.residual } in
+    let same = take-append-le (2 ^ best.result.residual.halvings) best.new.codings best.new.widths (omega (arith, power_le best.result.residual.halvings task.most best.ensures.within, best.auto.codings, c.split_at_mut-codings.ensures.front_len, c.power.ensures)) in
+    rw same (way_made task.most task.depth task.predictors.now task.samples.now dropped.new.shortened form (take (2 ^ best.result.residual.halvings) best.new.codings) best.result.bits dropped.ensures.wasted dropped.ensures.shortened best.ensures.best)

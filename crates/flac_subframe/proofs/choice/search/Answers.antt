@@ -3,7 +3,7 @@ use Rattle.std.proofs.lemmas.List.{take_all, append-nil}
 use Rattle.flac_subframe.specs.Bodies.{fixed}
 use Rattle.flac_subframe.specs.Chosen.{fixed_below}
 use Rattle.flac_subframe.specs.Handed.{predictor_of}
-use Rattle.flac_subframe.specs.inner.Chosen.{IsBest, way_held}
+use Rattle.flac_subframe.specs.inner.Chosen.{IsBest, way_of}
 use Rattle.flac_subframe.proofs.Best.{next_tried, first_tried, all_tried, one_linear_more}
 use Rattle.flac_subframe.proofs.Complete.{among}
 use Rattle.flac_subframe.proofs.choice.search.Goals as goal
@@ -40,9 +40,9 @@ loop-order-preserved c =
           }
       | else-order-first w ↦
           let e : order ≡ first = omega arith in
-          let tried : IsBest hs most bits s (fixed order ∷ fixed_below order) (way_held c.loop-order.best c.loop-order.tables.codings.now) = rw (← e) at so.best in
+          let tried : IsBest hs most bits s (fixed order ∷ fixed_below order) (way_of c.loop-order.best c.loop-order.tables.codings.now) = rw (← e) at so.best in
           record {
-            best = rw (w.best-is, w.tables-is, ← e) (first_tried hs most bits s (way_held c.loop-order.best c.loop-order.tables.codings.now) order tried);
+            best = rw (w.best-is, w.tables-is, ← e) (first_tried hs most bits s (way_of c.loop-order.best c.loop-order.tables.codings.now) order tried);
             within = rw w.best-is so.within;
             arrays = rw w.arrays-is so.arrays;
             tables = rw w.tables-is so.tables;
@@ -53,7 +53,7 @@ loop-order-preserved c =
 pub loop-index-init : goal.loop-index-init
 loop-index-init c =
     let hs = c.args.subject.now.predictors.now in let most = c.args.subject.now.most in let bits = c.args.subject.now.bits in let s = c.args.subject.now.samples.now in let first = c.likely_order-first.result in
-    let way = way_held c.loop-order.best c.loop-order.tables.codings.now in
+    let way = way_of c.loop-order.best c.loop-order.tables.codings.now in
     let five : c.loop-order.order ≡ 5 = omega arith in
     let so : IsBest hs most bits s (fixed first ∷ fixed_below 5) way = rw five at c.loop-order.invariant.best in
     let was = c.loop-order.invariant in

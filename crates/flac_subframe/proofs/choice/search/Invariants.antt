@@ -2,14 +2,14 @@ use Rattle.std.proofs.Common.{◌≡◌, ◌≤◌, ◌∷◌, ◌++◌, length,
 use Rattle.flac_subframe.specs.Bodies.{fixed}
 use Rattle.flac_subframe.specs.Chosen.{fixed_below}
 use Rattle.flac_subframe.specs.Handed.{predictor_of}
-use Rattle.flac_subframe.specs.inner.Chosen.{IsBest, way_held}
+use Rattle.flac_subframe.specs.inner.Chosen.{IsBest, way_of}
 use Rattle.flac_subframe.specs.inner.Halves.{HasPlaces, HasRoom}
 use Rattle.flac_subframe.proofs.choice.search.Given as goal
 
 abbrev pub invariant-loop-order : goal.invariant-loop-order
 invariant-loop-order l = record {
-  best : IsBest l.subject.predictors.now l.subject.most l.subject.bits l.subject.samples.now (fixed l.first ∷ fixed_below l.order) (way_held l.best l.tables.codings.now);
-  within : l.best.found.halvings ≤ l.subject.most;
+  best : IsBest l.subject.predictors.now l.subject.most l.subject.bits l.subject.samples.now (fixed l.first ∷ fixed_below l.order) (way_of l.best l.tables.codings.now);
+  within : l.best.residual.halvings ≤ l.subject.most;
   arrays : HasRoom (length l.subject.samples.now) l.arrays;
   tables : HasPlaces l.subject.most l.tables;
   same : l.tables.codings.ghost_name ≡ l.fn.tables.codings.ghost_name;
@@ -17,8 +17,8 @@ invariant-loop-order l = record {
 
 abbrev pub invariant-loop-index : goal.invariant-loop-index
 invariant-loop-index l = record {
-  best : IsBest l.subject.predictors.now l.subject.most l.subject.bits l.subject.samples.now (fixed_below 5 ++ map predictor_of (take l.index l.subject.predictors.now)) (way_held l.best l.tables.codings.now);
-  within : l.best.found.halvings ≤ l.subject.most;
+  best : IsBest l.subject.predictors.now l.subject.most l.subject.bits l.subject.samples.now (fixed_below 5 ++ map predictor_of (take l.index l.subject.predictors.now)) (way_of l.best l.tables.codings.now);
+  within : l.best.residual.halvings ≤ l.subject.most;
   arrays : HasRoom (length l.subject.samples.now) l.arrays;
   tables : HasPlaces l.subject.most l.tables;
   same : l.tables.codings.ghost_name ≡ l.fn.tables.codings.ghost_name;

@@ -1,4 +1,4 @@
-use Rattle.std.proofs.Common.{length, arith, ◌-◌, sym, ◌∙◌}
+use Rattle.std.proofs.Common.{rules, length, arith, ◌-◌, sym, ◌∙◌}
 use borrow.Rule.Slice.PartMut.{mid_of, same_len_mid}
 use Rattle.std.proofs.lemmas.Result.{err_from_is_err_and}
 use Rattle.flac_bits.proofs.Counting.{failed_then, gone}
@@ -15,7 +15,7 @@ loop-i-preserved g c =
     parts_next c.args.parameter_bits c.args.order c.args.size c.args.count c.args.bits.now c.loop-i.bits c.read_partition.new.bits c.loop-i.out c.read_partition.new.out c.loop-i.start c.loop-i.end c.loop-i.i
     (length (mid_of c.loop-i.start (c.loop-i.end - c.loop-i.start) c.loop-i.out)) c.loop-i-test.true so (length_mid c.loop-i.start c.loop-i.end c.loop-i.out so.cuts.ordered within)
     c.read_partition.auto.out (same_len_mid c.loop-i.start (c.loop-i.end - c.loop-i.start) c.loop-i.out c.read_partition.new.out c.read_partition.auto.out)
-    c.in_ok-read_partition.ensures.fits c.in_ok-read_partition.ensures.spends c.in_ok-read_partition.ensures.counts c.in_ok-read_partition.ensures.reads
+    c.in_ok-read_partition.ensures.fits (omega (arith, c.in_ok-read_partition.ensures.reading.spends)) c.in_ok-read_partition.ensures.reading.counts c.in_ok-read_partition.ensures.reading.reads
 
 pub returns-in_err-read_partition : goal.returns-in_err-read_partition
 returns-in_err-read_partition g c =
@@ -24,17 +24,24 @@ returns-in_err-read_partition g c =
     let p = err_from_is_err_and c.from_residual.result c.from_residual.ensures.1 in
     rw (p.1, p.2) (record {
       fits = tt;
-      spends = tt;
-      counts = failed_then c.args.bits.now c.loop-i.bits c.read_partition.new.bits (gone so.goes) c.in_err-read_partition.ensures.counts;
-      memory = c.in_err-read_partition.ensures.memory;
-      reads = λ known same.
-          let fails = c.in_err-read_partition.ensures.reads (so.goes.known known) (same ∙ sym so.goes.errors) in
-          parts_fail c.args.parameter_bits c.args.order c.args.size c.args.count c.args.bits.now c.loop-i.bits c.read_partition.new.bits c.loop-i.out c.read_partition.new.out c.loop-i.start c.loop-i.end c.loop-i.i
-          (length (mid_of c.loop-i.start (c.loop-i.end - c.loop-i.start) c.loop-i.out)) c.loop-i-test.true so (length_mid c.loop-i.start c.loop-i.end c.loop-i.out so.cuts.ordered within) _ fails known;
+      reading = record {
+        spends = tt;
+        counts = failed_then c.args.bits.now c.loop-i.bits c.read_partition.new.bits (gone so.goes) c.in_err-read_partition.ensures.reading.counts;
+        memory = c.in_err-read_partition.ensures.reading.memory;
+        reads = λ known same.
+            let fails = c.in_err-read_partition.ensures.reading.reads (so.goes.known known) (same ∙ sym so.goes.errors) in
+            parts_fail c.args.parameter_bits c.args.order c.args.size c.args.count c.args.bits.now c.loop-i.bits c.read_partition.new.bits c.loop-i.out c.read_partition.new.out c.loop-i.start c.loop-i.end c.loop-i.i
+            (length (mid_of c.loop-i.start (c.loop-i.end - c.loop-i.start) c.loop-i.out)) c.loop-i-test.true so (length_mid c.loop-i.start c.loop-i.end c.loop-i.out so.cuts.ordered within) _ fails known;
+      };
     })
 
 pub returns-clause-fits : goal.returns-clause-fits
 returns-clause-fits g c = parts_fit c.args.parameter_bits c.args.order c.args.size c.args.count c.args.bits.now c.loop-i.bits c.loop-i.out c.loop-i.start c.loop-i.end c.loop-i.i (omega (arith, c.requires.some, c.loop-i-test.false)) c.loop-i-test.false c.loop-i.invariant
 
-pub returns-clause-reads : goal.returns-clause-reads
-returns-clause-reads g c = λ known same. parts_read c.args.parameter_bits c.args.order c.args.size c.args.count c.args.bits.now c.loop-i.bits c.loop-i.out c.loop-i.start c.loop-i.end c.loop-i.i (omega (arith, c.requires.some, c.loop-i-test.false)) c.loop-i-test.false c.loop-i.invariant known
+pub returns-clause-reading : goal.returns-clause-reading
+returns-clause-reading g c = record {
+  spends = search rules;
+  counts = search rules;
+  memory = search rules;
+  reads = (λ known same. parts_read c.args.parameter_bits c.args.order c.args.size c.args.count c.args.bits.now c.loop-i.bits c.loop-i.out c.loop-i.start c.loop-i.end c.loop-i.i (omega (arith, c.requires.some, c.loop-i-test.false)) c.loop-i-test.false c.loop-i.invariant known);
+}

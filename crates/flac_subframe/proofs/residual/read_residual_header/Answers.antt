@@ -20,57 +20,27 @@ pub returns-in_err-code : goal.returns-in_err-code
 unfolding residual_header
 returns-in_err-code g c =
     let p = err_from_is_err_and c.from_residual.result c.from_residual.ensures.1 in
-    rw (p.1, p.2) (record {
-      times = tt;
-      whole = tt;
-      room = tt;
-      spends = tt;
-      counts = c.in_err-code.ensures.counts;
-      memory = c.in_err-code.ensures.memory;
-      reads = told_fault c.args.bits.now c.take.new.self _ c.in_err-code.ensures.reads;
-    })
+    rw (p.1, p.2) (record { times = tt; whole = tt; room = tt; reading = record { spends = tt; counts = c.in_err-code.ensures.reading.counts; memory = c.in_err-code.ensures.reading.memory; reads = told_fault c.args.bits.now c.take.new.self _ c.in_err-code.ensures.reading.reads } })
 
 pub returns-in_err-times : goal.returns-in_err-times
 unfolding residual_header
 returns-in_err-times g c =
     let p = err_from_is_err_and c.from_residual-in_err-times.result c.from_residual-in_err-times.ensures.1 in
-    rw (p.1, p.2) (record {
-      times = tt;
-      whole = tt;
-      room = tt;
-      spends = tt;
-      counts = failed_then c.args.bits.now c.take.new.self c.take-2.new.self c.in_ok-code.ensures.counts c.in_err-times.ensures.counts;
-      memory = c.in_err-times.ensures.memory;
-      reads = told_then c.args.bits.now c.take.new.self c.take-2.new.self _ c.in_ok-code.ensures.counts c.in_ok-code.ensures.reads (told_past {read = judged c.in_ok-code.code c.take.new.self.cursor} c.take.new.self c.take-2.new.self c.take.new.self.cursor _ (search rules) (told_fault c.take.new.self c.take-2.new.self _ c.in_err-times.ensures.reads));
-    })
+    rw (p.1, p.2) (record { times = tt; whole = tt; room = tt; reading = record { spends = tt; counts = failed_then c.args.bits.now c.take.new.self c.take-2.new.self c.in_ok-code.ensures.reading.counts c.in_err-times.ensures.reading.counts; memory = c.in_err-times.ensures.reading.memory; reads = told_then c.args.bits.now c.take.new.self c.take-2.new.self _ c.in_ok-code.ensures.reading.counts c.in_ok-code.ensures.reading.reads (told_past {read = judged c.in_ok-code.code c.take.new.self.cursor} c.take.new.self c.take-2.new.self c.take.new.self.cursor _ (search rules) (told_fault c.take.new.self c.take-2.new.self _ c.in_err-times.ensures.reading.reads)) } })
 
 pub returns-then-times-limit : goal.returns-then-times-limit
 unfolding residual_header
-returns-then-times-limit g c = record {
-  times = tt;
-  whole = tt;
-  room = tt;
-  spends = tt;
-  counts = refused_then c.args.bits.now c.take-2.new.self (answered_then c.args.bits.now c.take.new.self c.take-2.new.self c.in_ok-code.ensures.counts c.in_ok-times.ensures.counts) refl;
-  memory = λ q. cc;
-  reads = told_then c.args.bits.now c.take.new.self c.take-2.new.self _ c.in_ok-code.ensures.counts c.in_ok-code.ensures.reads (told_past {read = judged c.in_ok-code.code c.take.new.self.cursor} c.take.new.self c.take-2.new.self c.take.new.self.cursor _ (search rules) (told_then c.take.new.self c.take-2.new.self c.take-2.new.self _ c.in_ok-times.ensures.counts c.in_ok-times.ensures.reads (told_broken {read = judged_order c.args.limit c.args.order c.args.block c.in_ok-times.field-0 c.take-2.new.self.cursor} c.take-2.new.self c.take-2.new.self _ (search rules))));
-}
+returns-then-times-limit g c = record { times = tt; whole = tt; room = tt; reading = record { spends = tt; counts = refused_then c.args.bits.now c.take-2.new.self (answered_then c.args.bits.now c.take.new.self c.take-2.new.self c.in_ok-code.ensures.reading.counts c.in_ok-times.ensures.reading.counts) refl; memory = λ q. cc; reads = told_then c.args.bits.now c.take.new.self c.take-2.new.self _ c.in_ok-code.ensures.reading.counts c.in_ok-code.ensures.reading.reads (told_past {read = judged c.in_ok-code.code c.take.new.self.cursor} c.take.new.self c.take-2.new.self c.take.new.self.cursor _ (search rules) (told_then c.take.new.self c.take-2.new.self c.take-2.new.self _ c.in_ok-times.ensures.reading.counts c.in_ok-times.ensures.reading.reads (told_broken {read = judged_order c.args.limit c.args.order c.args.block c.in_ok-times.field-0 c.take-2.new.self.cursor} c.take-2.new.self c.take-2.new.self _ (search rules)))) } }
 
 pub returns-then-block-count-ne0 : goal.returns-then-block-count-ne0
 unfolding residual_header
-returns-then-block-count-ne0 g c = record {
-  times = tt;
-  whole = tt;
-  room = tt;
-  spends = tt;
-  counts = refused_then c.args.bits.now c.take-2.new.self (answered_then c.args.bits.now c.take.new.self c.take-2.new.self c.in_ok-code.ensures.counts c.in_ok-times.ensures.counts) refl;
-  memory = λ q. cc;
-  reads = told_then c.args.bits.now c.take.new.self c.take-2.new.self _ c.in_ok-code.ensures.counts c.in_ok-code.ensures.reads (told_past {read = judged c.in_ok-code.code c.take.new.self.cursor} c.take.new.self c.take-2.new.self c.take.new.self.cursor _ (search rules) (told_then c.take.new.self c.take-2.new.self c.take-2.new.self _ c.in_ok-times.ensures.counts c.in_ok-times.ensures.reads (told_broken {read = judged_order c.args.limit c.args.order c.args.block c.in_ok-times.field-0 c.take-2.new.self.cursor} c.take-2.new.self c.take-2.new.self _ (search rules))));
-}
+returns-then-block-count-ne0 g c = record { times = tt; whole = tt; room = tt; reading = record { spends = tt; counts = refused_then c.args.bits.now c.take-2.new.self (answered_then c.args.bits.now c.take.new.self c.take-2.new.self c.in_ok-code.ensures.reading.counts c.in_ok-times.ensures.reading.counts) refl; memory = λ q. cc; reads = told_then c.args.bits.now c.take.new.self c.take-2.new.self _ c.in_ok-code.ensures.reading.counts c.in_ok-code.ensures.reading.reads (told_past {read = judged c.in_ok-code.code c.take.new.self.cursor} c.take.new.self c.take-2.new.self c.take.new.self.cursor _ (search rules) (told_then c.take.new.self c.take-2.new.self c.take-2.new.self _ c.in_ok-times.ensures.reading.counts c.in_ok-times.ensures.reading.reads (told_broken {read = judged_order c.args.limit c.args.order c.args.block c.in_ok-times.field-0 c.take-2.new.self.cursor} c.take-2.new.self c.take-2.new.self _ (search rules)))) } }
 
-pub returns-clause-counts : goal.returns-clause-counts
-returns-clause-counts g c = answered_then c.args.bits.now c.take.new.self c.take-2.new.self c.in_ok-code.ensures.counts c.in_ok-times.ensures.counts
-
-pub returns-clause-reads : goal.returns-clause-reads
+pub returns-clause-reading : goal.returns-clause-reading
 unfolding residual_header
-returns-clause-reads g c = told_then c.args.bits.now c.take.new.self c.take-2.new.self _ c.in_ok-code.ensures.counts c.in_ok-code.ensures.reads (told_past {read = judged c.in_ok-code.code c.take.new.self.cursor} c.take.new.self c.take-2.new.self c.take.new.self.cursor _ (search rules) (told_then c.take.new.self c.take-2.new.self c.take-2.new.self _ c.in_ok-times.ensures.counts c.in_ok-times.ensures.reads (told_past {read = judged_order c.args.limit c.args.order c.args.block c.in_ok-times.field-0 c.take-2.new.self.cursor} c.take-2.new.self c.take-2.new.self c.take-2.new.self.cursor _ (search rules) (λ known same. rw c.in-Some.ensures.code refl))))
+returns-clause-reading g c = record {
+  spends = search rules;
+  counts = answered_then c.args.bits.now c.take.new.self c.take-2.new.self c.in_ok-code.ensures.reading.counts c.in_ok-times.ensures.reading.counts;
+  memory = search rules;
+  reads = told_then c.args.bits.now c.take.new.self c.take-2.new.self _ c.in_ok-code.ensures.reading.counts c.in_ok-code.ensures.reading.reads (told_past {read = judged c.in_ok-code.code c.take.new.self.cursor} c.take.new.self c.take-2.new.self c.take.new.self.cursor _ (search rules) (told_then c.take.new.self c.take-2.new.self c.take-2.new.self _ c.in_ok-times.ensures.reading.counts c.in_ok-times.ensures.reading.reads (told_past {read = judged_order c.args.limit c.args.order c.args.block c.in_ok-times.field-0 c.take-2.new.self.cursor} c.take-2.new.self c.take-2.new.self c.take-2.new.self.cursor _ (search rules) (λ known same. rw c.in-Some.ensures.code refl))));
+}

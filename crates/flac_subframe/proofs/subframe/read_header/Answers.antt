@@ -20,97 +20,43 @@ pub returns-in_err-zero : goal.returns-in_err-zero
 unfolding header
 returns-in_err-zero g c =
     let p = err_from_is_err_and c.from_residual.result c.from_residual.ensures.1 in
-    rw (p.1, p.2) (record {
-      kind = tt;
-      order = tt;
-      left = tt;
-      spends = tt;
-      counts = c.in_err-zero.ensures.counts;
-      memory = c.in_err-zero.ensures.memory;
-      reads = told_fault c.args.bits.now c.take.new.self _ c.in_err-zero.ensures.reads;
-    })
+    rw (p.1, p.2) (record { kind = tt; order = tt; left = tt; reading = record { spends = tt; counts = c.in_err-zero.ensures.reading.counts; memory = c.in_err-zero.ensures.reading.memory; reads = told_fault c.args.bits.now c.take.new.self _ c.in_err-zero.ensures.reading.reads } })
 
 pub returns-in_err-code : goal.returns-in_err-code
 unfolding header
 returns-in_err-code g c =
     let p = err_from_is_err_and c.from_residual-in_err-code.result c.from_residual-in_err-code.ensures.1 in
-    rw (p.1, p.2) (record {
-      kind = tt;
-      order = tt;
-      left = tt;
-      spends = tt;
-      counts = failed_then c.args.bits.now c.take.new.self c.take-2.new.self c.in_ok-zero.ensures.counts c.in_err-code.ensures.counts;
-      memory = c.in_err-code.ensures.memory;
-      reads = told_then c.args.bits.now c.take.new.self c.take-2.new.self _ c.in_ok-zero.ensures.counts c.in_ok-zero.ensures.reads (told_fault c.take.new.self c.take-2.new.self _ c.in_err-code.ensures.reads);
-    })
+    rw (p.1, p.2) (record { kind = tt; order = tt; left = tt; reading = record { spends = tt; counts = failed_then c.args.bits.now c.take.new.self c.take-2.new.self c.in_ok-zero.ensures.reading.counts c.in_err-code.ensures.reading.counts; memory = c.in_err-code.ensures.reading.memory; reads = told_then c.args.bits.now c.take.new.self c.take-2.new.self _ c.in_ok-zero.ensures.reading.counts c.in_ok-zero.ensures.reading.reads (told_fault c.take.new.self c.take-2.new.self _ c.in_err-code.ensures.reading.reads) } })
 
 pub returns-in_err-flag : goal.returns-in_err-flag
 unfolding header
 returns-in_err-flag g c =
     let p = err_from_is_err_and c.from_residual-in_err-flag.result c.from_residual-in_err-flag.ensures.1 in
-    rw (p.1, p.2) (record {
-      kind = tt;
-      order = tt;
-      left = tt;
-      spends = tt;
-      counts = failed_then c.args.bits.now c.take.new.self c.take-3.new.self c.in_ok-zero.ensures.counts (failed_then c.take.new.self c.take-2.new.self c.take-3.new.self c.in_ok-code.ensures.counts c.in_err-flag.ensures.counts);
-      memory = c.in_err-flag.ensures.memory;
-      reads = told_then c.args.bits.now c.take.new.self c.take-3.new.self _ c.in_ok-zero.ensures.counts c.in_ok-zero.ensures.reads (told_then c.take.new.self c.take-2.new.self c.take-3.new.self _ c.in_ok-code.ensures.counts c.in_ok-code.ensures.reads (told_fault c.take-2.new.self c.take-3.new.self _ c.in_err-flag.ensures.reads));
-    })
+    rw (p.1, p.2) (record { kind = tt; order = tt; left = tt; reading = record { spends = tt; counts = failed_then c.args.bits.now c.take.new.self c.take-3.new.self c.in_ok-zero.ensures.reading.counts (failed_then c.take.new.self c.take-2.new.self c.take-3.new.self c.in_ok-code.ensures.reading.counts c.in_err-flag.ensures.reading.counts); memory = c.in_err-flag.ensures.reading.memory; reads = told_then c.args.bits.now c.take.new.self c.take-3.new.self _ c.in_ok-zero.ensures.reading.counts c.in_ok-zero.ensures.reading.reads (told_then c.take.new.self c.take-2.new.self c.take-3.new.self _ c.in_ok-code.ensures.reading.counts c.in_ok-code.ensures.reading.reads (told_fault c.take-2.new.self c.take-3.new.self _ c.in_err-flag.ensures.reading.reads)) } })
 
 pub returns-in_err-wasted : goal.returns-in_err-wasted
 unfolding header
 returns-in_err-wasted g c =
     let p = err_from_is_err_and c.from_residual-in_err-wasted.result c.from_residual-in_err-wasted.ensures.1 in
-    rw (p.1, p.2) (record {
-      kind = tt;
-      order = tt;
-      left = tt;
-      spends = tt;
-      counts = failed_then c.args.bits.now c.take.new.self c.read_wasted.new.bits c.in_ok-zero.ensures.counts (failed_then c.take.new.self c.take-2.new.self c.read_wasted.new.bits c.in_ok-code.ensures.counts (failed_then c.take-2.new.self c.take-3.new.self c.read_wasted.new.bits c.in_ok-flag.ensures.counts c.in_err-wasted.ensures.counts));
-      memory = c.in_err-wasted.ensures.memory;
-      reads = told_then c.args.bits.now c.take.new.self c.read_wasted.new.bits _ c.in_ok-zero.ensures.counts c.in_ok-zero.ensures.reads (told_then c.take.new.self c.take-2.new.self c.read_wasted.new.bits _ c.in_ok-code.ensures.counts c.in_ok-code.ensures.reads (told_then c.take-2.new.self c.take-3.new.self c.read_wasted.new.bits _ c.in_ok-flag.ensures.counts c.in_ok-flag.ensures.reads (told_past {read = judged c.in_ok-zero.zero c.in_ok-code.code c.in_ok-flag.flag c.args.depth c.args.block c.args.limits.now.linear c.take-3.new.self.cursor} c.take-3.new.self c.read_wasted.new.bits c.take-3.new.self.cursor _ (search rules) (told_fault c.take-3.new.self c.read_wasted.new.bits _ c.in_err-wasted.ensures.reads))));
-    })
+    rw (p.1, p.2) (record { kind = tt; order = tt; left = tt; reading = record { spends = tt; counts = failed_then c.args.bits.now c.take.new.self c.read_wasted.new.bits c.in_ok-zero.ensures.reading.counts (failed_then c.take.new.self c.take-2.new.self c.read_wasted.new.bits c.in_ok-code.ensures.reading.counts (failed_then c.take-2.new.self c.take-3.new.self c.read_wasted.new.bits c.in_ok-flag.ensures.reading.counts c.in_err-wasted.ensures.reading.counts)); memory = c.in_err-wasted.ensures.reading.memory; reads = told_then c.args.bits.now c.take.new.self c.read_wasted.new.bits _ c.in_ok-zero.ensures.reading.counts c.in_ok-zero.ensures.reading.reads (told_then c.take.new.self c.take-2.new.self c.read_wasted.new.bits _ c.in_ok-code.ensures.reading.counts c.in_ok-code.ensures.reading.reads (told_then c.take-2.new.self c.take-3.new.self c.read_wasted.new.bits _ c.in_ok-flag.ensures.reading.counts c.in_ok-flag.ensures.reading.reads (told_past {read = judged c.in_ok-zero.zero c.in_ok-code.code c.in_ok-flag.flag c.args.depth c.args.block c.args.limits.now.linear c.take-3.new.self.cursor} c.take-3.new.self c.read_wasted.new.bits c.take-3.new.self.cursor _ (search rules) (told_fault c.take-3.new.self c.read_wasted.new.bits _ c.in_err-wasted.ensures.reading.reads)))) } })
 
 pub returns-then-zero-eq1 : goal.returns-then-zero-eq1
 unfolding header
-returns-then-zero-eq1 g c = record {
-  kind = tt;
-  order = tt;
-  left = tt;
-  spends = tt;
-  counts = refused_then c.args.bits.now c.take-3.new.self (answered_then c.args.bits.now c.take.new.self c.take-3.new.self c.in_ok-zero.ensures.counts (answered_then c.take.new.self c.take-2.new.self c.take-3.new.self c.in_ok-code.ensures.counts c.in_ok-flag.ensures.counts)) refl;
-  memory = λ q. cc;
-  reads = told_then c.args.bits.now c.take.new.self c.take-3.new.self _ c.in_ok-zero.ensures.counts c.in_ok-zero.ensures.reads (told_then c.take.new.self c.take-2.new.self c.take-3.new.self _ c.in_ok-code.ensures.counts c.in_ok-code.ensures.reads (told_then c.take-2.new.self c.take-3.new.self c.take-3.new.self _ c.in_ok-flag.ensures.counts c.in_ok-flag.ensures.reads (told_broken {read = judged c.in_ok-zero.zero c.in_ok-code.code c.in_ok-flag.flag c.args.depth c.args.block c.args.limits.now.linear c.take-3.new.self.cursor} c.take-3.new.self c.take-3.new.self _ (search rules))));
-}
+returns-then-zero-eq1 g c = record { kind = tt; order = tt; left = tt; reading = record { spends = tt; counts = refused_then c.args.bits.now c.take-3.new.self (answered_then c.args.bits.now c.take.new.self c.take-3.new.self c.in_ok-zero.ensures.reading.counts (answered_then c.take.new.self c.take-2.new.self c.take-3.new.self c.in_ok-code.ensures.reading.counts c.in_ok-flag.ensures.reading.counts)) refl; memory = λ q. cc; reads = told_then c.args.bits.now c.take.new.self c.take-3.new.self _ c.in_ok-zero.ensures.reading.counts c.in_ok-zero.ensures.reading.reads (told_then c.take.new.self c.take-2.new.self c.take-3.new.self _ c.in_ok-code.ensures.reading.counts c.in_ok-code.ensures.reading.reads (told_then c.take-2.new.self c.take-3.new.self c.take-3.new.self _ c.in_ok-flag.ensures.reading.counts c.in_ok-flag.ensures.reading.reads (told_broken {read = judged c.in_ok-zero.zero c.in_ok-code.code c.in_ok-flag.flag c.args.depth c.args.block c.args.limits.now.linear c.take-3.new.self.cursor} c.take-3.new.self c.take-3.new.self _ (search rules)))) } }
 
 pub returns-then-linear_order-limits : goal.returns-then-linear_order-limits
 unfolding header
-returns-then-linear_order-limits g c = record {
-  kind = tt;
-  order = tt;
-  left = tt;
-  spends = tt;
-  counts = refused_then c.args.bits.now c.take-3.new.self (answered_then c.args.bits.now c.take.new.self c.take-3.new.self c.in_ok-zero.ensures.counts (answered_then c.take.new.self c.take-2.new.self c.take-3.new.self c.in_ok-code.ensures.counts c.in_ok-flag.ensures.counts)) refl;
-  memory = λ q. cc;
-  reads = told_then c.args.bits.now c.take.new.self c.take-3.new.self _ c.in_ok-zero.ensures.counts c.in_ok-zero.ensures.reads (told_then c.take.new.self c.take-2.new.self c.take-3.new.self _ c.in_ok-code.ensures.counts c.in_ok-code.ensures.reads (told_then c.take-2.new.self c.take-3.new.self c.take-3.new.self _ c.in_ok-flag.ensures.counts c.in_ok-flag.ensures.reads (told_broken {read = judged c.in_ok-zero.zero c.in_ok-code.code c.in_ok-flag.flag c.args.depth c.args.block c.args.limits.now.linear c.take-3.new.self.cursor} c.take-3.new.self c.take-3.new.self _ (search rules))));
-}
+returns-then-linear_order-limits g c = record { kind = tt; order = tt; left = tt; reading = record { spends = tt; counts = refused_then c.args.bits.now c.take-3.new.self (answered_then c.args.bits.now c.take.new.self c.take-3.new.self c.in_ok-zero.ensures.reading.counts (answered_then c.take.new.self c.take-2.new.self c.take-3.new.self c.in_ok-code.ensures.reading.counts c.in_ok-flag.ensures.reading.counts)) refl; memory = λ q. cc; reads = told_then c.args.bits.now c.take.new.self c.take-3.new.self _ c.in_ok-zero.ensures.reading.counts c.in_ok-zero.ensures.reading.reads (told_then c.take.new.self c.take-2.new.self c.take-3.new.self _ c.in_ok-code.ensures.reading.counts c.in_ok-code.ensures.reading.reads (told_then c.take-2.new.self c.take-3.new.self c.take-3.new.self _ c.in_ok-flag.ensures.reading.counts c.in_ok-flag.ensures.reading.reads (told_broken {read = judged c.in_ok-zero.zero c.in_ok-code.code c.in_ok-flag.flag c.args.depth c.args.block c.args.limits.now.linear c.take-3.new.self.cursor} c.take-3.new.self c.take-3.new.self _ (search rules)))) } }
 
 pub returns-then-order-block : goal.returns-then-order-block
 unfolding header
-returns-then-order-block g c = record {
-  kind = tt;
-  order = tt;
-  left = tt;
-  spends = tt;
-  counts = refused_then c.args.bits.now c.take-3.new.self (answered_then c.args.bits.now c.take.new.self c.take-3.new.self c.in_ok-zero.ensures.counts (answered_then c.take.new.self c.take-2.new.self c.take-3.new.self c.in_ok-code.ensures.counts c.in_ok-flag.ensures.counts)) refl;
-  memory = λ q. cc;
-  reads = told_then c.args.bits.now c.take.new.self c.take-3.new.self _ c.in_ok-zero.ensures.counts c.in_ok-zero.ensures.reads (told_then c.take.new.self c.take-2.new.self c.take-3.new.self _ c.in_ok-code.ensures.counts c.in_ok-code.ensures.reads (told_then c.take-2.new.self c.take-3.new.self c.take-3.new.self _ c.in_ok-flag.ensures.counts c.in_ok-flag.ensures.reads (told_broken {read = judged c.in_ok-zero.zero c.in_ok-code.code c.in_ok-flag.flag c.args.depth c.args.block c.args.limits.now.linear c.take-3.new.self.cursor} c.take-3.new.self c.take-3.new.self _ (search rules))));
-}
+returns-then-order-block g c = record { kind = tt; order = tt; left = tt; reading = record { spends = tt; counts = refused_then c.args.bits.now c.take-3.new.self (answered_then c.args.bits.now c.take.new.self c.take-3.new.self c.in_ok-zero.ensures.reading.counts (answered_then c.take.new.self c.take-2.new.self c.take-3.new.self c.in_ok-code.ensures.reading.counts c.in_ok-flag.ensures.reading.counts)) refl; memory = λ q. cc; reads = told_then c.args.bits.now c.take.new.self c.take-3.new.self _ c.in_ok-zero.ensures.reading.counts c.in_ok-zero.ensures.reading.reads (told_then c.take.new.self c.take-2.new.self c.take-3.new.self _ c.in_ok-code.ensures.reading.counts c.in_ok-code.ensures.reading.reads (told_then c.take-2.new.self c.take-3.new.self c.take-3.new.self _ c.in_ok-flag.ensures.reading.counts c.in_ok-flag.ensures.reading.reads (told_broken {read = judged c.in_ok-zero.zero c.in_ok-code.code c.in_ok-flag.flag c.args.depth c.args.block c.args.limits.now.linear c.take-3.new.self.cursor} c.take-3.new.self c.take-3.new.self _ (search rules)))) } }
 
-pub returns-clause-counts : goal.returns-clause-counts
-returns-clause-counts g c = answered_then c.args.bits.now c.take.new.self c.read_wasted.new.bits c.in_ok-zero.ensures.counts (answered_then c.take.new.self c.take-2.new.self c.read_wasted.new.bits c.in_ok-code.ensures.counts (answered_then c.take-2.new.self c.take-3.new.self c.read_wasted.new.bits c.in_ok-flag.ensures.counts c.in_ok-wasted.ensures.counts))
-
-pub returns-clause-reads : goal.returns-clause-reads
+pub returns-clause-reading : goal.returns-clause-reading
 unfolding header
-returns-clause-reads g c = told_then c.args.bits.now c.take.new.self c.read_wasted.new.bits _ c.in_ok-zero.ensures.counts c.in_ok-zero.ensures.reads (told_then c.take.new.self c.take-2.new.self c.read_wasted.new.bits _ c.in_ok-code.ensures.counts c.in_ok-code.ensures.reads (told_then c.take-2.new.self c.take-3.new.self c.read_wasted.new.bits _ c.in_ok-flag.ensures.counts c.in_ok-flag.ensures.reads (told_past {read = judged c.in_ok-zero.zero c.in_ok-code.code c.in_ok-flag.flag c.args.depth c.args.block c.args.limits.now.linear c.take-3.new.self.cursor} c.take-3.new.self c.read_wasted.new.bits c.take-3.new.self.cursor _ (search rules) (told_then c.take-3.new.self c.read_wasted.new.bits c.read_wasted.new.bits _ c.in_ok-wasted.ensures.counts c.in_ok-wasted.ensures.reads (λ known same. rw c.in-Some.ensures.code refl)))))
+returns-clause-reading g c = record {
+  spends = search rules;
+  counts = answered_then c.args.bits.now c.take.new.self c.read_wasted.new.bits c.in_ok-zero.ensures.reading.counts (answered_then c.take.new.self c.take-2.new.self c.read_wasted.new.bits c.in_ok-code.ensures.reading.counts (answered_then c.take-2.new.self c.take-3.new.self c.read_wasted.new.bits c.in_ok-flag.ensures.reading.counts c.in_ok-wasted.ensures.reading.counts));
+  memory = search rules;
+  reads = told_then c.args.bits.now c.take.new.self c.read_wasted.new.bits _ c.in_ok-zero.ensures.reading.counts c.in_ok-zero.ensures.reading.reads (told_then c.take.new.self c.take-2.new.self c.read_wasted.new.bits _ c.in_ok-code.ensures.reading.counts c.in_ok-code.ensures.reading.reads (told_then c.take-2.new.self c.take-3.new.self c.read_wasted.new.bits _ c.in_ok-flag.ensures.reading.counts c.in_ok-flag.ensures.reading.reads (told_past {read = judged c.in_ok-zero.zero c.in_ok-code.code c.in_ok-flag.flag c.args.depth c.args.block c.args.limits.now.linear c.take-3.new.self.cursor} c.take-3.new.self c.read_wasted.new.bits c.take-3.new.self.cursor _ (search rules) (told_then c.take-3.new.self c.read_wasted.new.bits c.read_wasted.new.bits _ c.in_ok-wasted.ensures.reading.counts c.in_ok-wasted.ensures.reading.reads (λ known same. rw c.in-Some.ensures.code refl)))));
+}

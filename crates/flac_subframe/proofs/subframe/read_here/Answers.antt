@@ -18,22 +18,18 @@ returns-then-fits-clause-small g c = λ yes.
 pub returns-in_err-header : goal.returns-in_err-header
 returns-in_err-header g c =
     let p = err_from_is_err_and c.from_residual.result c.from_residual.ensures.1 in
-    rw (p.1, p.2) (record {
-      small = tt;
-      spends = tt;
-      counts = c.in_err-header.ensures.counts;
-      memory = c.in_err-header.ensures.memory;
-      reads = told_fault c.args.bits.now c.read_header.new.bits _ c.in_err-header.ensures.reads;
-    })
+    rw (p.1, p.2) (record { small = tt; reading = record { spends = tt; counts = c.in_err-header.ensures.reading.counts; memory = c.in_err-header.ensures.reading.memory; reads = told_fault c.args.bits.now c.read_header.new.bits _ c.in_err-header.ensures.reading.reads } })
 
 pub returns-in_err-fits : goal.returns-in_err-fits
 returns-in_err-fits g c =
     let p = err_from_is_err_and c.from_residual-in_err-fits.result c.from_residual-in_err-fits.ensures.1 in
     rw (p.1, p.2) (record {
       small = tt;
-      spends = tt;
-      counts = failed_then c.args.bits.now c.read_header.new.bits c.read_content.new.bits c.in_ok-header.ensures.counts c.in_err-fits.ensures.counts;
-      memory = c.in_err-fits.ensures.memory;
-      reads = told_then c.args.bits.now c.read_header.new.bits c.read_content.new.bits _ c.in_ok-header.ensures.counts c.in_ok-header.ensures.reads
-          (told_fault c.read_header.new.bits c.read_content.new.bits _ (rw c.requires.places at c.in_err-fits.ensures.reads));
+      reading = record {
+        spends = tt;
+        counts = failed_then c.args.bits.now c.read_header.new.bits c.read_content.new.bits c.in_ok-header.ensures.reading.counts c.in_err-fits.ensures.reading.counts;
+        memory = c.in_err-fits.ensures.reading.memory;
+        reads = told_then c.args.bits.now c.read_header.new.bits c.read_content.new.bits _ c.in_ok-header.ensures.reading.counts c.in_ok-header.ensures.reading.reads
+            (told_fault c.read_header.new.bits c.read_content.new.bits _ (rw c.requires.places at c.in_err-fits.ensures.reading.reads));
+      };
     })

@@ -17,69 +17,36 @@ pub returns-in_err-low : goal.returns-in_err-low
 unfolding predictor
 returns-in_err-low g c =
     let p = err_from_is_err_and c.from_residual.result c.from_residual.ensures.1 in
-    rw (p.1, p.2) (record {
-      shift = tt;
-      fits = tt;
-      spends = tt;
-      counts = c.in_err-low.ensures.counts;
-      memory = c.in_err-low.ensures.memory;
-      reads = told_fault c.args.bits.now c.take.new.self _ c.in_err-low.ensures.reads;
-    })
+    rw (p.1, p.2) (record { shift = tt; fits = tt; reading = record { spends = tt; counts = c.in_err-low.ensures.reading.counts; memory = c.in_err-low.ensures.reading.memory; reads = told_fault c.args.bits.now c.take.new.self _ c.in_err-low.ensures.reading.reads } })
 
 pub returns-in_err-shift : goal.returns-in_err-shift
 unfolding predictor
 returns-in_err-shift g c =
     let p = err_from_is_err_and c.from_residual-in_err-shift.result c.from_residual-in_err-shift.ensures.1 in
-    rw (p.1, p.2) (record {
-      shift = tt;
-      fits = tt;
-      spends = tt;
-      counts = failed_then c.args.bits.now c.take.new.self c.take-2.new.self c.in_ok-low.ensures.counts c.in_err-shift.ensures.counts;
-      memory = c.in_err-shift.ensures.memory;
-      reads = told_then c.args.bits.now c.take.new.self c.take-2.new.self _ c.in_ok-low.ensures.counts c.in_ok-low.ensures.reads (told_past {read = judged (nat_eq c.in_ok-low.field-0 15) c.take.new.self.cursor} c.take.new.self c.take-2.new.self c.take.new.self.cursor _ (search rules) (told_fault c.take.new.self c.take-2.new.self _ c.in_err-shift.ensures.reads));
-    })
+    rw (p.1, p.2) (record { shift = tt; fits = tt; reading = record { spends = tt; counts = failed_then c.args.bits.now c.take.new.self c.take-2.new.self c.in_ok-low.ensures.reading.counts c.in_err-shift.ensures.reading.counts; memory = c.in_err-shift.ensures.reading.memory; reads = told_then c.args.bits.now c.take.new.self c.take-2.new.self _ c.in_ok-low.ensures.reading.counts c.in_ok-low.ensures.reading.reads (told_past {read = judged (nat_eq c.in_ok-low.field-0 15) c.take.new.self.cursor} c.take.new.self c.take-2.new.self c.take.new.self.cursor _ (search rules) (told_fault c.take.new.self c.take-2.new.self _ c.in_err-shift.ensures.reading.reads)) } })
 
 pub returns-in_err-signed_partition : goal.returns-in_err-signed_partition
 unfolding predictor
 returns-in_err-signed_partition g c =
     let p = err_from_is_err_and c.from_residual-in_err-signed_partition.result c.from_residual-in_err-signed_partition.ensures.1 in
-    rw (p.1, p.2) (record {
-      shift = tt;
-      fits = tt;
-      spends = tt;
-      counts = failed_then c.args.bits.now c.take.new.self c.signed_partition.new.self c.in_ok-low.ensures.counts (failed_then c.take.new.self c.take-2.new.self c.signed_partition.new.self c.in_ok-shift.ensures.counts c.in_err-signed_partition.ensures.counts);
-      memory = c.in_err-signed_partition.ensures.memory;
-      reads = told_then c.args.bits.now c.take.new.self c.signed_partition.new.self _ c.in_ok-low.ensures.counts c.in_ok-low.ensures.reads (told_past {read = judged (nat_eq c.in_ok-low.field-0 15) c.take.new.self.cursor} c.take.new.self c.signed_partition.new.self c.take.new.self.cursor _ (search rules) (told_then c.take.new.self c.take-2.new.self c.signed_partition.new.self _ c.in_ok-shift.ensures.counts c.in_ok-shift.ensures.reads (told_past {read = judged (nat_lt 15 c.in_ok-shift.field-0) c.take-2.new.self.cursor} c.take-2.new.self c.signed_partition.new.self c.take-2.new.self.cursor _ (search rules) (told_fault c.take-2.new.self c.signed_partition.new.self _ c.in_err-signed_partition.ensures.reads))));
-    })
+    rw (p.1, p.2) (record { shift = tt; fits = tt; reading = record { spends = tt; counts = failed_then c.args.bits.now c.take.new.self c.signed_partition.new.self c.in_ok-low.ensures.reading.counts (failed_then c.take.new.self c.take-2.new.self c.signed_partition.new.self c.in_ok-shift.ensures.reading.counts c.in_err-signed_partition.ensures.reading.counts); memory = c.in_err-signed_partition.ensures.reading.memory; reads = told_then c.args.bits.now c.take.new.self c.signed_partition.new.self _ c.in_ok-low.ensures.reading.counts c.in_ok-low.ensures.reading.reads (told_past {read = judged (nat_eq c.in_ok-low.field-0 15) c.take.new.self.cursor} c.take.new.self c.signed_partition.new.self c.take.new.self.cursor _ (search rules) (told_then c.take.new.self c.take-2.new.self c.signed_partition.new.self _ c.in_ok-shift.ensures.reading.counts c.in_ok-shift.ensures.reading.reads (told_past {read = judged (nat_lt 15 c.in_ok-shift.field-0) c.take-2.new.self.cursor} c.take-2.new.self c.signed_partition.new.self c.take-2.new.self.cursor _ (search rules) (told_fault c.take-2.new.self c.signed_partition.new.self _ c.in_err-signed_partition.ensures.reading.reads)))) } })
 
 pub returns-then-low-eq15 : goal.returns-then-low-eq15
 unfolding predictor
-returns-then-low-eq15 g c = record {
-  shift = tt;
-  fits = tt;
-  spends = tt;
-  counts = refused_then c.args.bits.now c.take.new.self c.in_ok-low.ensures.counts refl;
-  memory = λ q. cc;
-  reads = told_then c.args.bits.now c.take.new.self c.take.new.self _ c.in_ok-low.ensures.counts c.in_ok-low.ensures.reads (told_broken {read = judged (nat_eq c.in_ok-low.field-0 15) c.take.new.self.cursor} c.take.new.self c.take.new.self _ (search rules));
-}
+returns-then-low-eq15 g c = record { shift = tt; fits = tt; reading = record { spends = tt; counts = refused_then c.args.bits.now c.take.new.self c.in_ok-low.ensures.reading.counts refl; memory = λ q. cc; reads = told_then c.args.bits.now c.take.new.self c.take.new.self _ c.in_ok-low.ensures.reading.counts c.in_ok-low.ensures.reading.reads (told_broken {read = judged (nat_eq c.in_ok-low.field-0 15) c.take.new.self.cursor} c.take.new.self c.take.new.self _ (search rules)) } }
 
 pub returns-then-shift-gt15 : goal.returns-then-shift-gt15
 unfolding predictor
-returns-then-shift-gt15 g c = record {
-  shift = tt;
-  fits = tt;
-  spends = tt;
-  counts = refused_then c.args.bits.now c.take-2.new.self (answered_then c.args.bits.now c.take.new.self c.take-2.new.self c.in_ok-low.ensures.counts c.in_ok-shift.ensures.counts) refl;
-  memory = λ q. cc;
-  reads = told_then c.args.bits.now c.take.new.self c.take-2.new.self _ c.in_ok-low.ensures.counts c.in_ok-low.ensures.reads (told_past {read = judged (nat_eq c.in_ok-low.field-0 15) c.take.new.self.cursor} c.take.new.self c.take-2.new.self c.take.new.self.cursor _ (search rules) (told_then c.take.new.self c.take-2.new.self c.take-2.new.self _ c.in_ok-shift.ensures.counts c.in_ok-shift.ensures.reads (told_broken {read = judged (nat_lt 15 c.in_ok-shift.field-0) c.take-2.new.self.cursor} c.take-2.new.self c.take-2.new.self _ (search rules))));
-}
+returns-then-shift-gt15 g c = record { shift = tt; fits = tt; reading = record { spends = tt; counts = refused_then c.args.bits.now c.take-2.new.self (answered_then c.args.bits.now c.take.new.self c.take-2.new.self c.in_ok-low.ensures.reading.counts c.in_ok-shift.ensures.reading.counts) refl; memory = λ q. cc; reads = told_then c.args.bits.now c.take.new.self c.take-2.new.self _ c.in_ok-low.ensures.reading.counts c.in_ok-low.ensures.reading.reads (told_past {read = judged (nat_eq c.in_ok-low.field-0 15) c.take.new.self.cursor} c.take.new.self c.take-2.new.self c.take.new.self.cursor _ (search rules) (told_then c.take.new.self c.take-2.new.self c.take-2.new.self _ c.in_ok-shift.ensures.reading.counts c.in_ok-shift.ensures.reading.reads (told_broken {read = judged (nat_lt 15 c.in_ok-shift.field-0) c.take-2.new.self.cursor} c.take-2.new.self c.take-2.new.self _ (search rules)))) } }
 
-pub returns-clause-counts : goal.returns-clause-counts
-returns-clause-counts g c = answered_then c.args.bits.now c.take.new.self c.signed_partition.new.self c.in_ok-low.ensures.counts (answered_then c.take.new.self c.take-2.new.self c.signed_partition.new.self c.in_ok-shift.ensures.counts c.in_ok-signed_partition.ensures.counts)
-
-pub returns-clause-reads : goal.returns-clause-reads
+pub returns-clause-reading : goal.returns-clause-reading
 unfolding predictor
-returns-clause-reads g c = told_then c.args.bits.now c.take.new.self c.signed_partition.new.self _ c.in_ok-low.ensures.counts c.in_ok-low.ensures.reads (told_past {read = judged (nat_eq c.in_ok-low.field-0 15) c.take.new.self.cursor} c.take.new.self c.signed_partition.new.self c.take.new.self.cursor _ (search rules) (told_then c.take.new.self c.take-2.new.self c.signed_partition.new.self _ c.in_ok-shift.ensures.counts c.in_ok-shift.ensures.reads (told_past {read = judged (nat_lt 15 c.in_ok-shift.field-0) c.take-2.new.self.cursor} c.take-2.new.self c.signed_partition.new.self c.take-2.new.self.cursor _ (search rules) (told_then c.take-2.new.self c.signed_partition.new.self c.signed_partition.new.self _ c.in_ok-signed_partition.ensures.counts c.in_ok-signed_partition.ensures.reads (λ known same. refl)))))
+returns-clause-reading g c = record {
+  spends = search rules;
+  counts = answered_then c.args.bits.now c.take.new.self c.signed_partition.new.self c.in_ok-low.ensures.reading.counts (answered_then c.take.new.self c.take-2.new.self c.signed_partition.new.self c.in_ok-shift.ensures.reading.counts c.in_ok-signed_partition.ensures.reading.counts);
+  memory = search rules;
+  reads = told_then c.args.bits.now c.take.new.self c.signed_partition.new.self _ c.in_ok-low.ensures.reading.counts c.in_ok-low.ensures.reading.reads (told_past {read = judged (nat_eq c.in_ok-low.field-0 15) c.take.new.self.cursor} c.take.new.self c.signed_partition.new.self c.take.new.self.cursor _ (search rules) (told_then c.take.new.self c.take-2.new.self c.signed_partition.new.self _ c.in_ok-shift.ensures.reading.counts c.in_ok-shift.ensures.reading.reads (told_past {read = judged (nat_lt 15 c.in_ok-shift.field-0) c.take-2.new.self.cursor} c.take-2.new.self c.signed_partition.new.self c.take-2.new.self.cursor _ (search rules) (told_then c.take-2.new.self c.signed_partition.new.self c.signed_partition.new.self _ c.in_ok-signed_partition.ensures.reading.counts c.in_ok-signed_partition.ensures.reading.reads (λ known same. refl)))));
+}
 
 pub returns-clause-fits : goal.returns-clause-fits
 returns-clause-fits g c = all_fit_15 (c.in_ok-low.field-0 + 1) c.signed_partition.new.values (omega (arith, c.in_ok-low.ensures.small, c.if-low-eq15.false)) c.in_ok-signed_partition.ensures.fits

@@ -14,10 +14,4 @@ verbatim_fails depth block c w is = rw is refl
 pub returns-in_err-signed_partition : goal.returns-in_err-signed_partition
 returns-in_err-signed_partition g c =
     let p = err_from_is_err_and c.from_residual.result c.from_residual.ensures.1 in
-    rw (p.1, p.2) (record {
-      fits = tt;
-      spends = tt;
-      counts = c.in_err-signed_partition.ensures.counts;
-      memory = c.in_err-signed_partition.ensures.memory;
-      reads = λ known same. verbatim_fails c.args.depth (length c.args.samples.now) c.args.bits.now.cursor _ (c.in_err-signed_partition.ensures.reads known same);
-    })
+    rw (p.1, p.2) (record { fits = tt; reading = record { spends = tt; counts = c.in_err-signed_partition.ensures.reading.counts; memory = c.in_err-signed_partition.ensures.reading.memory; reads = λ known same. verbatim_fails c.args.depth (length c.args.samples.now) c.args.bits.now.cursor _ (c.in_err-signed_partition.ensures.reading.reads known same) } })

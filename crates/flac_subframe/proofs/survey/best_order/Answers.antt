@@ -1,4 +1,6 @@
 use Rattle.std.proofs.Common.{arith, refl, ◌+◌}
+use Rattle.flac_subframe.specs.Cost.{parameter_bits_of}
+use Rattle.flac_subframe.proofs.Bodies.{four_or_five}
 use Rattle.flac_subframe.proofs.Splits.{halves_at}
 use Rattle.flac_subframe.proofs.Orders.{halved_cost, first_order, order_kept, order_taken, all_orders}
 use Rattle.flac_subframe.proofs.survey.best_order.Goals as goal
@@ -6,9 +8,9 @@ use Rattle.flac_subframe.proofs.survey.best_order.Goals.{then-bits-best, else-bi
 
 pub loop-p-init : goal.loop-p-init
 loop-p-init c =
-    let w = c.args.parameter_bits in let rs = c.args.residual.now.values.now in let order = c.args.residual.now.order in let h = c.args.residual.now.halvings in
+    let w = parameter_bits_of c.args.method in let rs = c.args.residual.now.values.now in let order = c.args.residual.now.order in let h = c.args.residual.now.halvings in
     let halves = halves_at order rs h 0 (omega arith) c.args.residual.now.halves in
-    let here = halved_cost w 0 h order rs c.requires.method (omega arith) halves c.total.result c.total.ensures.least in
+    let here = halved_cost w 0 h order rs (four_or_five c.args.method) (omega arith) halves c.total.result c.total.ensures.least in
     record {
       method = refl;
       within = omega arith;
@@ -19,10 +21,10 @@ loop-p-init c =
 
 pub loop-p-preserved : goal.loop-p-preserved
 loop-p-preserved c =
-    let w = c.args.parameter_bits in let rs = c.args.residual.now.values.now in let order = c.args.residual.now.order in let h = c.args.residual.now.halvings in
+    let w = parameter_bits_of c.args.method in let rs = c.args.residual.now.values.now in let order = c.args.residual.now.order in let h = c.args.residual.now.halvings in
     let p = c.loop-p.p in let so = c.loop-p.invariant in
     let halves = halves_at order rs h p (omega arith) c.args.residual.now.halves in
-    let here = halved_cost w p h order rs c.requires.method (omega arith) halves c.total-bits.result c.total-bits.ensures.least in
+    let here = halved_cost w p h order rs (four_or_five c.args.method) (omega arith) halves c.total-bits.result c.total-bits.ensures.least in
     elim c.if-bits-best.branch [
       | then-bits-best x ↦ rw x.best-is (record {
         method = refl;
@@ -41,4 +43,4 @@ loop-p-preserved c =
     ]
 
 pub returns-clause-least : goal.returns-clause-least
-returns-clause-least c = all_orders c.args.parameter_bits c.args.residual.now.halvings c.args.residual.now.order c.args.residual.now.values.now c.loop-p.best.bits 0 c.loop-p.p (omega arith) c.loop-p.invariant.least
+returns-clause-least c = all_orders (parameter_bits_of c.args.method) c.args.residual.now.halvings c.args.residual.now.order c.args.residual.now.values.now c.loop-p.best.bits 0 c.loop-p.p (omega arith) c.loop-p.invariant.least

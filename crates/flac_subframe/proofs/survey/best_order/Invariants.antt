@@ -1,4 +1,5 @@
 use Rattle.std.proofs.Common.{◌≡◌, ◌≤◌, ◌*◌, ◌^◌}
+use Rattle.flac_subframe.specs.Cost.{parameter_bits_of}
 use Rattle.flac_subframe.specs.inner.Cost.{HalvedTo}
 use Rattle.flac_subframe.specs.inner.Cost.{residual_cost}
 use Rattle.flac_subframe.specs.inner.Least.{IsLeastCost}
@@ -7,9 +8,9 @@ use Rattle.flac_subframe.proofs.survey.best_order.Given as goal
 
 abbrev pub invariant-loop-p : goal.invariant-loop-p
 invariant-loop-p l = record {
-  method : l.best.parameter_bits ≡ l.parameter_bits;
+  method : l.best.method ≡ l.method;
   within : l.best.halvings ≤ l.residual.halvings;
-  least : IsLeastCost (BelowOrder l.parameter_bits l.residual.halvings l.residual.order l.residual.values.now l.p) (residual_cost l.residual.order l.residual.values.now) l.best.bits;
-  here : IsLeastCost (HalvedTo l.parameter_bits l.best.halvings l.residual.halvings l.residual.order l.residual.values.now) (residual_cost l.residual.order l.residual.values.now) l.best.bits;
+  least : IsLeastCost (BelowOrder (parameter_bits_of l.method) l.residual.halvings l.residual.order l.residual.values.now l.p) (residual_cost l.residual.order l.residual.values.now) l.best.bits;
+  here : IsLeastCost (HalvedTo (parameter_bits_of l.method) l.best.halvings l.residual.halvings l.residual.order l.residual.values.now) (residual_cost l.residual.order l.residual.values.now) l.best.bits;
   small : l.best.bits ≤ 2 ^ 33 * 2 ^ 16;
 }

@@ -3,6 +3,8 @@ use Rattle.std.proofs.lemmas.List.{drop-drop, length-set}
 use Rattle.std.proofs.lemmas.List.Elements.{All-take}
 use Rattle.flac_bits.specs.Rice.{IsResidual}
 use Rattle.flac_subframe.proofs.Bytes.{one_coding_more}
+use Rattle.flac_subframe.specs.Cost.{parameter_bits_of}
+use Rattle.flac_subframe.proofs.Bodies.{four_or_five}
 use Rattle.flac_subframe.proofs.Pricing.{priced_more, priced_least, priced_bits, priced_start}
 use Rattle.flac_subframe.specs.inner.Halves.{part, start}
 use Rattle.flac_subframe.proofs.Orders.{place_within}
@@ -19,7 +21,7 @@ loop-j-init c =
     let halves = halves_at order rs c.args.residual.now.halvings p c.requires.within c.args.residual.now.halves in
     let first : 0 ≡ start order (length rs + order) p 0 = omega arith in
     record {
-      priced = priced_start c.args.parameter_bits order p c.power-count.result _ rs halves c.args.residual.now.range c.power-count.ensures (omega arith);
+      priced = priced_start (parameter_bits_of c.args.method) order p c.power-count.result _ rs halves c.args.residual.now.range c.power-count.ensures (omega arith);
       places = refl;
       rest = ap (λ (k : ℕ). drop k rs) first;
       long = omega arith;
@@ -71,8 +73,8 @@ loop-j-preserved c =
     let front = c.split_at.ensures.front in
     let next : start c.args.residual.now.order n c.args.halvings j + c.loop-j.long ≡ start c.args.residual.now.order n c.args.halvings (j + 1) = omega (arith, start_rises c.args.residual.now.order n c.args.halvings j) in
     record {
-      priced = rw (one_coding_more j c.loop-j.codings c.byte.result c.finish-best.result.coding (omega arith) c.byte.ensures, c.from.ensures, c.split_at.ensures.back)
-          (priced_more _ _ _ _ _ _ _ _ m _ _ _ c.requires.method priced
+      priced = rw (one_coding_more j c.loop-j.codings c.byte.result c.finish-best.result.coding (omega arith) c.byte.ensures, c.from-parameter_bits.ensures, c.parameter_bits.ensures.bits, c.split_at.ensures.back)
+          (priced_more _ _ _ _ _ _ _ _ m _ _ _ (four_or_five c.args.method) priced
           (rw front at c.finish-best.ensures.least) (rw front at c.finish-best.ensures.bits) (rw front at c.finish-best.ensures.small));
       places = length-set c.loop-j.codings j c.byte.result ∙ so.places;
       rest = c.split_at.ensures.back ∙ rw so.rest (drop-drop c.loop-j.long (start c.args.residual.now.order n c.args.halvings j) c.args.residual.now.values.now) ∙ ap (λ (k : ℕ). drop k c.args.residual.now.values.now) next;

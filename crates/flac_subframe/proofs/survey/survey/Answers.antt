@@ -1,4 +1,4 @@
-use Rattle.std.proofs.Common.{arith, inl, inr}
+use Rattle.std.proofs.Common.{arith}
 use Rattle.flac_subframe.proofs.Bounded.{whole_bounded}
 use Rattle.flac_subframe.proofs.Settled.{first_alone, first_least, second_least}
 use Rattle.flac_subframe.proofs.Splits.{halves_at}
@@ -20,13 +20,12 @@ returns-then-same c =
     let so = c.tabulate-same.ensures in
     let best = c.best_order-first.ensures in
     record {
-      method = inl best.method;
       within = best.within;
       least = first_alone c.args.residual.now.order c.args.residual.now.halvings c.args.residual.now.values.now (λ p j le b. (_, so.entries p j le b, so.same c.if-same.true p j le b)) c.best_order-first.result.bits best.least;
       here = rw best.method best.here;
       small = best.small;
       entries = so.entries;
-      more = λ other. absurd (other best.method);
+      more = λ other. cc (other, best.method);
     }
 
 pub returns-then-second-first : goal.returns-then-second-first
@@ -34,7 +33,6 @@ returns-then-second-first c =
     let so = c.tabulate-same.ensures in
     let best = c.best_order-second.ensures in
     record {
-      method = inr best.method;
       within = best.within;
       least = second_least c.args.residual.now.order c.args.residual.now.halvings c.args.residual.now.values.now _ _ c.best_order-first.ensures.least best.least (omega arith);
       here = rw best.method best.here;
@@ -48,11 +46,10 @@ returns-else-second-first c =
     let so = c.tabulate-same.ensures in
     let best = c.best_order-first.ensures in
     record {
-      method = inl best.method;
       within = best.within;
       least = first_least c.args.residual.now.order c.args.residual.now.halvings c.args.residual.now.values.now _ _ best.least c.best_order-second.ensures.least (omega arith);
       here = rw best.method best.here;
       small = best.small;
       entries = so.entries;
-      more = λ other. absurd (other best.method);
+      more = λ other. cc (other, best.method);
     }

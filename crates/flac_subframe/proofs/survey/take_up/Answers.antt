@@ -1,4 +1,6 @@
 use Rattle.std.proofs.Common.{arith}
+use Rattle.flac_subframe.specs.Cost.{parameter_bits_of}
+use Rattle.flac_subframe.proofs.Bodies.{four_or_five}
 use Rattle.flac_subframe.proofs.Orders.{halved_least}
 use Rattle.flac_subframe.proofs.Places.{power_le}
 use Rattle.flac_subframe.proofs.Splits.{halves_at}
@@ -7,8 +9,8 @@ use Rattle.flac_subframe.proofs.survey.take_up.Goals as goal
 pub returns-clause-least : goal.returns-clause-least
 returns-clause-least c =
     let order = c.args.residual.now.order in let rs = c.args.residual.now.values.now in
-    let most = c.args.residual.now.halvings in let p = c.args.found.halvings in
-    halved_least c.args.found.parameter_bits p most order rs c.requires.method c.requires.within (halves_at order rs most p c.requires.within c.args.residual.now.halves) _ c.gather-bits.ensures.least
+    let most = c.args.residual.now.halvings in let p = c.args.form.halvings in
+    halved_least (parameter_bits_of c.args.form.method) p most order rs (four_or_five c.args.form.method) c.requires.within (halves_at order rs most p c.requires.within c.args.residual.now.halves) _ c.gather-bits.ensures.least
 
 pub gather-bits-requires-clause-codings : goal.gather-bits-requires-clause-codings
-gather-bits-requires-clause-codings c = omega (arith, power_le c.args.found.halvings c.args.residual.now.halvings c.requires.within, c.requires.codings)
+gather-bits-requires-clause-codings c = omega (arith, power_le c.args.form.halvings c.args.residual.now.halvings c.requires.within, c.requires.codings)

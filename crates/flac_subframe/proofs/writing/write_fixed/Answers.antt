@@ -19,7 +19,7 @@ pub returns-in_err-write_signed : goal.returns-in_err-write_signed
 returns-in_err-write_signed g c =
     let cs = fixed_coefficients c.args.order in
     let s = c.args.samples.now in
-    let r = residual_of (length cs) (differences cs 0 s) (codings_lent c.args.residual.now) in
+    let r = residual_of (length cs) (differences cs 0 s) (codings_lent c.args.choice.now) in
     let p = err_from_is_err_and c.from_residual.result c.from_residual.ensures.1 in
     let warm = rw c.fixed_coefficients-coefficients.ensures at c.in_err-write_signed.ensures in
     rw (p.1, p.2, fixed_text c.args.depth (take (length cs) s) r) (fails_first (flat_map (signed c.args.depth) (take (length cs) s)) (residual_spelling r) warm)
@@ -28,7 +28,7 @@ pub returns : goal.returns
 returns g c =
     let cs = fixed_coefficients c.args.order in
     let s = c.args.samples.now in
-    let r = residual_of (length cs) (differences cs 0 s) (codings_lent c.args.residual.now) in
+    let r = residual_of (length cs) (differences cs 0 s) (codings_lent c.args.choice.now) in
     let same = c.fixed_coefficients-coefficients.ensures in
     let all = c.take_fixed.ensures.all in
     let warm = rw same at c.in_ok-write_signed.ensures in

@@ -29,7 +29,7 @@ returns-in_err-write_signed g c =
     let q = c.args.predictor.now in
     let cs = q.coefficients.items in
     let s = c.args.samples.now in
-    let r = residual_of (length cs) (differences cs q.shift s) (codings_lent c.args.residual.now) in
+    let r = residual_of (length cs) (differences cs q.shift s) (codings_lent c.args.choice.now) in
     let p = err_from_is_err_and c.from_residual.result c.from_residual.ensures.1 in
     let warm = rw c.order-order.ensures.value at c.in_err-write_signed.ensures in
     rw (p.1, p.2, linear_text c.args.depth (take (length cs) s) (handed q) r) (fails_first (flat_map (signed c.args.depth) (take (length cs) s)) (predictor_spelling (handed q) ++ residual_spelling r) warm)
@@ -39,7 +39,7 @@ returns g c =
     let q = c.args.predictor.now in
     let cs = q.coefficients.items in
     let s = c.args.samples.now in
-    let r = residual_of (length cs) (differences cs q.shift s) (codings_lent c.args.residual.now) in
+    let r = residual_of (length cs) (differences cs q.shift s) (codings_lent c.args.choice.now) in
     let all = rw (c.coefficients.ensures.value, c.shift.ensures.value) at c.take_linear.ensures.all in
     let warm = rw c.order-order.ensures.value at c.in_ok-write_signed.ensures in
     let rest = rw all at c.write_rest.ensures in

@@ -1,5 +1,4 @@
 use Rattle.std.proofs.Common.{arith}
-use Rattle.flac_subframe.specs.Cost.{codings_of}
 use Rattle.flac_subframe.proofs.Made.{made_of_fewer}
 use Rattle.flac_subframe.proofs.writing.write_subframe_with.Goals as goal
 
@@ -10,9 +9,9 @@ pub write_chosen-requires-clause-made : goal.write_chosen-requires-clause-made
 write_chosen-requires-clause-made g c =
     let lent = c.lent.ensures in
     let choice = c.args.choice.now in
-    rw (lent.wasted, lent.kind, lent.codings) (made_of_fewer 8 15 c.args.predictors.now choice.wasted choice.kind (codings_of choice.found choice.codings.items) c.args.samples.now (omega arith) c.requires.made)
+    rw (lent.form, lent.codings) (made_of_fewer 8 15 c.args.predictors.now choice.form choice.codings.items c.args.samples.now (omega arith) c.requires.made)
 
 pub returns : goal.returns
 returns g c =
     let lent = c.lent.ensures in
-    rw (lent.wasted, lent.kind, lent.codings) at c.write_chosen.ensures
+    rw (lent.form, lent.codings) at c.write_chosen.ensures

@@ -1,5 +1,12 @@
 use Rattle.std.proofs.Common.{rules}
 use Rattle.flac_bits.proofs.reader.BitReader.align.Goals as goal
 
-pub returns-clause-reads : goal.returns-clause-reads
-returns-clause-reads g c = search rules
+pub returns : goal.returns
+returns g c = record {
+  reading = record {
+    spends = search rules;
+    counts = search rules;
+    memory = search rules;
+    reads = search rules;
+  };
+}

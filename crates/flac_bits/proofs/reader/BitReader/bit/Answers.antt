@@ -1,4 +1,4 @@
-use Rattle.std.proofs.Common.{◌++◌, Ok, Err, sym, ap, ◌∙◌}
+use Rattle.std.proofs.Common.{rules, ◌++◌, Ok, Err, sym, ap, ◌∙◌}
 use Rattle.flac_bits.specs.Bits.{bits_of}
 use Rattle.flac_bits.specs.Store.{allowed}
 use Rattle.flac_bits.specs.State.{State}
@@ -7,37 +7,58 @@ use Rattle.flac_bits.proofs.Fields.{bit_read, bit_none}
 use Rattle.flac_bits.proofs.Standing.{short_is, no_bytes, same_reason}
 use Rattle.flac_bits.proofs.reader.BitReader.bit.Goals as goal
 
-pub returns-in-Err-clause-reads : goal.returns-in-Err-clause-reads
-returns-in-Err-clause-reads g c = λ known same.
-    let known_is = ap (λ (s : State). s.known) c.self.view_is in
-    let errors_is = ap (λ (s : State). s.errors) c.self.view_is in
-    let pulls = c.in-Err.ensures.pulls in
-    let ends = pulls.ended (known_is ∙ known) (same ∙ sym errors_is) in
-    bit_none c.args.self.now.cursor _ c.self.inside.held (bits_of (allowed c.self.inside.held.fence.room (g.R.Source.coming c.self.inside.source))) (ap (λ (s : State). s.cursor) c.self.view_is) ends.left
-    ∙ ap (λ w. Err (because w)) (ends.reason ∙ sym pulls.read)
+pub returns-in-Err : goal.returns-in-Err
+returns-in-Err g c = record {
+  reading = record {
+    spends = search rules;
+    counts = search rules;
+    memory = search rules;
+    reads = (λ known same.
+        let known_is = ap (λ (s : State). s.known) c.self.view_is in
+        let errors_is = ap (λ (s : State). s.errors) c.self.view_is in
+        let pulls = c.in-Err.ensures.pulls in
+        let ends = pulls.ended (known_is ∙ known) (same ∙ sym errors_is) in
+        bit_none c.args.self.now.cursor _ c.self.inside.held (bits_of (allowed c.self.inside.held.fence.room (g.R.Source.coming c.self.inside.source))) (ap (λ (s : State). s.cursor) c.self.view_is) ends.left
+        ∙ ap (λ w. Err (because w)) (ends.reason ∙ sym pulls.read));
+  };
+}
 
-pub returns-in-Ok-false-clause-reads : goal.returns-in-Ok-false-clause-reads
-returns-in-Ok-false-clause-reads g c = λ known same.
-    let told = ap (λ (s : State). s.known) c.self.view_is ∙ known in
-    let ys = g.R.Source.coming c.fill.new.source in
-    let room = c.fill.new.held.fence.room in
-    let pulls = c.in-Ok-false.ensures.pulls in
-    let bits = pulls.moved.same told in
-    let over = pulls.over (ap Ok c.in-Ok-false.field-0-test) told in
-    let reason = same_reason c.self.inside.held c.fill.new.held (g.R.Source.coming c.self.inside.source) ys _ _ bits (pulls.foretold told pulls.moved.errors) in
-    let none = no_bytes (allowed room ys) (c.fill.new.held.word ++ bits_of c.fill.new.held.bytes) (bits.left ∙ over.0) in
-    let short = short_is room ys (g.R.Source.behind c.fill.new.source) c.short.result c.short.ensures.fence c.short.ensures.over none (λ e. over.1 (sym reason ∙ e)) in
-    bit_none c.args.self.now.cursor _ c.self.inside.held (bits_of (allowed c.self.inside.held.fence.room (g.R.Source.coming c.self.inside.source))) (ap (λ (s : State). s.cursor) c.self.view_is) over.0
-    ∙ ap (λ w. Err (because w)) (sym (short ∙ reason))
+pub returns-in-Ok-false : goal.returns-in-Ok-false
+returns-in-Ok-false g c = record {
+  reading = record {
+    spends = search rules;
+    counts = search rules;
+    memory = search rules;
+    reads = (λ known same.
+        let told = ap (λ (s : State). s.known) c.self.view_is ∙ known in
+        let ys = g.R.Source.coming c.fill.new.source in
+        let room = c.fill.new.held.fence.room in
+        let pulls = c.in-Ok-false.ensures.pulls in
+        let bits = pulls.moved.same told in
+        let over = pulls.over (ap Ok c.in-Ok-false.field-0-test) told in
+        let reason = same_reason c.self.inside.held c.fill.new.held (g.R.Source.coming c.self.inside.source) ys _ _ bits (pulls.foretold told pulls.moved.errors) in
+        let none = no_bytes (allowed room ys) (c.fill.new.held.word ++ bits_of c.fill.new.held.bytes) (bits.left ∙ over.0) in
+        let short = short_is room ys (g.R.Source.behind c.fill.new.source) c.short.result c.short.ensures.fence c.short.ensures.over none (λ e. over.1 (sym reason ∙ e)) in
+        bit_none c.args.self.now.cursor _ c.self.inside.held (bits_of (allowed c.self.inside.held.fence.room (g.R.Source.coming c.self.inside.source))) (ap (λ (s : State). s.cursor) c.self.view_is) over.0
+        ∙ ap (λ w. Err (because w)) (sym (short ∙ reason)));
+  };
+}
 
-pub returns-in-Ok-true-clause-reads : goal.returns-in-Ok-true-clause-reads
-returns-in-Ok-true-clause-reads g c = λ known same.
-    let told = ap (λ (s : State). s.known) c.self.view_is ∙ known in
-    let xs = g.R.Source.coming c.self.inside.source in
-    let ys = g.R.Source.coming c.fill.new.source in
-    let pulls = c.in-Ok-true.ensures.pulls in
-    let bits = pulls.moved.same told in
-    let reason = same_reason c.self.inside.held c.fill.new.held xs ys _ _ bits (pulls.foretold told pulls.moved.errors) in
-    let takes = c.take.ensures.0 in
-    rw takes.3 (bit_read c.take.result c.args.self.now.cursor _ _ c.self.inside.held c.fill.new.held c.take.new.self (bits_of (allowed c.fill.new.held.fence.room ys)) (bits_of (allowed c.self.inside.held.fence.room xs))
-    reason c.take.ensures.1 (ap (λ (s : State). s.cursor) c.self.view_is) pulls.mark bits.left takes)
+pub returns-in-Ok-true : goal.returns-in-Ok-true
+returns-in-Ok-true g c = record {
+  reading = record {
+    spends = search rules;
+    counts = search rules;
+    memory = search rules;
+    reads = (λ known same.
+        let told = ap (λ (s : State). s.known) c.self.view_is ∙ known in
+        let xs = g.R.Source.coming c.self.inside.source in
+        let ys = g.R.Source.coming c.fill.new.source in
+        let pulls = c.in-Ok-true.ensures.pulls in
+        let bits = pulls.moved.same told in
+        let reason = same_reason c.self.inside.held c.fill.new.held xs ys _ _ bits (pulls.foretold told pulls.moved.errors) in
+        let takes = c.take.ensures.0 in
+        rw takes.3 (bit_read c.take.result c.args.self.now.cursor _ _ c.self.inside.held c.fill.new.held c.take.new.self (bits_of (allowed c.fill.new.held.fence.room ys)) (bits_of (allowed c.self.inside.held.fence.room xs))
+        reason c.take.ensures.1 (ap (λ (s : State). s.cursor) c.self.view_is) pulls.mark bits.left takes));
+  };
+}

@@ -1,4 +1,4 @@
-use Rattle.std.proofs.Common.{◌≡◌, ◌+◌, ◌-◌, ◌<◌, List, [], ◌∷◌, ◌++◌, length, take, refl, sym, ap, arith, Result, Ok, ◌∙◌, ℤ, pos, below_more}
+use Rattle.std.proofs.Common.{rules, ◌≡◌, ◌+◌, ◌-◌, ◌<◌, List, [], ◌∷◌, ◌++◌, length, take, refl, sym, ap, arith, Result, Ok, ◌∙◌, ℤ, pos, below_more}
 use Rattle.std.proofs.lemmas.List.{take_all, get_or-set_same, get_or-set_other}
 use Rattle.std.proofs.lemmas.List.Elements.{All-from_get_or}
 use Rattle.std.proofs.lemmas.Grind.{take-set_at}
@@ -34,9 +34,9 @@ loop-i-preserved g c =
           (goes_same c.args.self.now c.loop-i.self mid _ _ _ c.loop-i.invariant.goes got.went.1 got.went.2 got.went.3 got.went.4 got.went.5 got.reads)
           (list_more n i field mid.cursor (take i values) within)
           (ap (λ front. and_then (run (list_of (n - (i + 1)) field) c.rice_value.new.self.cursor) (behind front)) (sym (take-set_at values i (i + 1) v refl short)))
-          c.in_ok-values.ensures.counts c.in_ok-values.ensures.reads;
+          c.in_ok-values.ensures.reading.counts c.in_ok-values.ensures.reading.reads;
       fits = below_more _ i (λ j h. rw (get_or-set_other values i j v (pos 0) (λ e. omega arith)) (got.fits c.loop-i.invariant.fits j h)) (rw last c.in_ok-values.ensures.fits);
-      spent = omega (arith, c.in_ok-values.ensures.spends, got.went.0, c.loop-i.invariant.spent);
+      spent = omega (arith, c.in_ok-values.ensures.reading.spends, got.went.0, c.loop-i.invariant.spent);
     })
 
 pub loop-i-init : goal.loop-i-init
@@ -55,8 +55,10 @@ returns-clause-fits g c = All-from_get_or (IsResidual) c.loop-i.values (pos 0) (
 abbrev okay : List ℤ × Cursor → Result (List ℤ × Cursor) Reason
 okay y = Ok y
 
-pub returns-clause-reads : goal.returns-clause-reads
-returns-clause-reads g c = λ known same. sym (c.loop-i.invariant.goes.reads known) ∙ list_end (length c.args.values.now) c.loop-i.i (rice_value c.args.k) c.loop-i.self.cursor (take c.loop-i.i c.loop-i.values) (omega (arith, c.loop-i-test.false, c.loop-i.auto.values)) ∙ ap (λ front. okay (front, c.loop-i.self.cursor)) (take_all c.loop-i.i c.loop-i.values (omega (arith, c.loop-i.auto.values, c.loop-i-test.false)))
-
-pub returns-clause-counts : goal.returns-clause-counts
-returns-clause-counts g c = gone c.loop-i.invariant.goes
+pub returns-clause-reading : goal.returns-clause-reading
+returns-clause-reading g c = record {
+  spends = search rules;
+  counts = gone c.loop-i.invariant.goes;
+  memory = search rules;
+  reads = (λ known same. sym (c.loop-i.invariant.goes.reads known) ∙ list_end (length c.args.values.now) c.loop-i.i (rice_value c.args.k) c.loop-i.self.cursor (take c.loop-i.i c.loop-i.values) (omega (arith, c.loop-i-test.false, c.loop-i.auto.values)) ∙ ap (λ front. okay (front, c.loop-i.self.cursor)) (take_all c.loop-i.i c.loop-i.values (omega (arith, c.loop-i.auto.values, c.loop-i-test.false))));
+}

@@ -1,15 +1,39 @@
-use Rattle.std.proofs.Common.{refl}
+use Rattle.std.proofs.Common.{rules, refl}
 use Rattle.std.proofs.lemmas.Result.{err_from_is_err_and}
 use Rattle.flac_bits.proofs.Counting.{answered_then, failed_then, refused_then}
 use Rattle.flac_bits.proofs.reader.BitReader.rice_slow.Goals as goal
 
-pub returns-in_default-clause-counts : goal.returns-in_default-clause-counts
-returns-in_default-clause-counts g c = refused_then c.args.self.now c.unary.new.self c.in_ok-zeros.ensures.counts refl
+pub returns-in_default : goal.returns-in_default
+unfolding Rattle.flac_bits.specs.Rice.rice
+returns-in_default g c = record {
+  reading = record {
+    spends = search rules;
+    counts = refused_then c.args.self.now c.unary.new.self c.in_ok-zeros.ensures.reading.counts refl;
+    memory = search rules;
+    reads = search rules;
+  };
+}
 
-pub returns-in_err-low-clause-counts : goal.returns-in_err-low-clause-counts
-returns-in_err-low-clause-counts g c =
+pub returns-in_err-low : goal.returns-in_err-low
+unfolding Rattle.flac_bits.specs.Rice.rice
+returns-in_err-low g c =
     let p = err_from_is_err_and c.from_residual-in_err-low.result c.from_residual-in_err-low.ensures.1 in
-    rw (p.1, p.2) (failed_then c.args.self.now c.unary.new.self c.take.new.self c.in_ok-zeros.ensures.counts c.in_err-low.ensures.counts)
+    rw (p.1, p.2) (record {
+      reading = record {
+        spends = tt;
+        counts = failed_then c.args.self.now c.unary.new.self c.take.new.self c.in_ok-zeros.ensures.reading.counts c.in_err-low.ensures.reading.counts;
+        memory = search rules;
+        reads = search rules;
+      };
+    })
 
-pub returns-clause-counts : goal.returns-clause-counts
-returns-clause-counts g c = answered_then c.args.self.now c.unary.new.self c.take.new.self c.in_ok-zeros.ensures.counts c.in_ok-low.ensures.counts
+pub returns : goal.returns
+unfolding Rattle.flac_bits.specs.Rice.rice
+returns g c = record {
+  reading = record {
+    spends = search rules;
+    counts = answered_then c.args.self.now c.unary.new.self c.take.new.self c.in_ok-zeros.ensures.reading.counts c.in_ok-low.ensures.reading.counts;
+    memory = search rules;
+    reads = search rules;
+  };
+}

@@ -1,4 +1,4 @@
-use Rattle.std.proofs.Common.{◌≡◌, ◌+◌, ◌-◌, List, [], ◌∷◌, ◌++◌, length, take, refl, sym, ap, arith, Result, Ok, ◌∙◌, ℤ, pos, below_more}
+use Rattle.std.proofs.Common.{rules, ◌≡◌, ◌+◌, ◌-◌, List, [], ◌∷◌, ◌++◌, length, take, refl, sym, ap, arith, Result, Ok, ◌∙◌, ℤ, pos, below_more}
 use Rattle.std.proofs.lemmas.List.{take_all, get_or-set_same, get_or-set_other}
 use Rattle.std.proofs.lemmas.List.Elements.{All-from_get_or}
 use Rattle.std.proofs.lemmas.Grind.{take-set_at}
@@ -27,9 +27,9 @@ loop-i-preserved g c =
       goes = goes_on c.args.self.now c.loop-i.self c.take_signed.new.self (run field c.loop-i.self.cursor) v more _ _ _
           c.loop-i.invariant.goes (list_more n i field c.loop-i.self.cursor (take i c.loop-i.values) c.loop-i-test.true)
           (ap (λ front. and_then (run (list_of (n - (i + 1)) field) c.take_signed.new.self.cursor) (behind front)) (sym (take-set_at c.loop-i.values i (i + 1) v refl (omega (arith, c.loop-i.auto.values, c.loop-i-test.true)))))
-          c.in_ok-values.ensures.counts c.in_ok-values.ensures.reads;
+          c.in_ok-values.ensures.reading.counts c.in_ok-values.ensures.reading.reads;
       fits = below_more _ i (λ j h. rw (get_or-set_other c.loop-i.values i j v (pos 0) (λ e. omega arith)) (c.loop-i.invariant.fits j h)) (rw last c.in_ok-values.ensures.fits);
-      spent = omega (arith, c.in_ok-values.ensures.spends);
+      spent = omega (arith, c.in_ok-values.ensures.reading.spends);
     })
 
 pub loop-i-init : goal.loop-i-init
@@ -48,13 +48,10 @@ returns-clause-fits g c = All-from_get_or (FitsBits c.args.n) c.loop-i.values (p
 abbrev okay : List ℤ × Cursor → Result (List ℤ × Cursor) Reason
 okay y = Ok y
 
-pub returns-clause-reads : goal.returns-clause-reads
-returns-clause-reads g c = λ known same. sym (c.loop-i.invariant.goes.reads known) ∙ list_end (length c.args.values.now) c.loop-i.i (signed_field c.args.n) c.loop-i.self.cursor (take c.loop-i.i c.loop-i.values) c.loop-i-test.false ∙ ap (λ front. okay (front, c.loop-i.self.cursor)) (take_all c.loop-i.i c.loop-i.values (omega (arith, c.loop-i.auto.values, c.loop-i-test.false)))
-
-pub returns-in_err-values-clause-counts : goal.returns-in_err-values-clause-counts
-returns-in_err-values-clause-counts g c =
-    let p = err_from_is_err_and c.from_residual.result c.from_residual.ensures.1 in
-    rw (p.1, p.2) (failed_then c.args.self.now c.loop-i.self c.take_signed.new.self (gone c.loop-i.invariant.goes) c.in_err-values.ensures.counts)
-
-pub returns-clause-counts : goal.returns-clause-counts
-returns-clause-counts g c = gone c.loop-i.invariant.goes
+pub returns-clause-reading : goal.returns-clause-reading
+returns-clause-reading g c = record {
+  spends = search rules;
+  counts = gone c.loop-i.invariant.goes;
+  memory = search rules;
+  reads = (λ known same. sym (c.loop-i.invariant.goes.reads known) ∙ list_end (length c.args.values.now) c.loop-i.i (signed_field c.args.n) c.loop-i.self.cursor (take c.loop-i.i c.loop-i.values) c.loop-i-test.false ∙ ap (λ front. okay (front, c.loop-i.self.cursor)) (take_all c.loop-i.i c.loop-i.values (omega (arith, c.loop-i.auto.values, c.loop-i-test.false))));
+}

@@ -1,4 +1,4 @@
-use Rattle.std.proofs.Common.{refl, arith}
+use Rattle.std.proofs.Common.{rules, refl, arith}
 use Rattle.flac_bits.proofs.Loops.{number_halves, halves_fit, halves_joined}
 use Rattle.std.proofs.lemmas.Result.{err_from_is_err_and}
 use Rattle.flac_bits.proofs.Counting.{answered_then, failed_then}
@@ -7,16 +7,13 @@ use Rattle.flac_bits.proofs.reader.BitReader.take_more.Goals as goal
 pub returns-clause-small : goal.returns-clause-small
 returns-clause-small g c = halves_fit c.args.n c.in_ok-high.high c.in_ok-low.low (omega (arith, c.if-n-le32.false)) c.requires c.in_ok-high.ensures.small c.in_ok-low.ensures.small
 
-pub returns-clause-reads : goal.returns-clause-reads
-returns-clause-reads g c = λ known same.
-    let high = c.in_ok-high.ensures in
-    let low = c.in_ok-low.ensures in
-    rw (number_halves c.args.n c.args.self.now.cursor (omega (arith, c.if-n-le32.false)), high.reads known high.counts.1, low.reads (high.counts.0 known) low.counts.1, halves_joined c.args.n c.in_ok-high.high c.in_ok-low.low c.requires high.small) refl
-
-pub returns-in_err-low-clause-counts : goal.returns-in_err-low-clause-counts
-returns-in_err-low-clause-counts g c =
-    let p = err_from_is_err_and c.from_residual-in_err-low.result c.from_residual-in_err-low.ensures.1 in
-    rw (p.1, p.2) (failed_then c.args.self.now c.take_few-2.new.self c.take_few-3.new.self c.in_ok-high.ensures.counts c.in_err-low.ensures.counts)
-
-pub returns-clause-counts : goal.returns-clause-counts
-returns-clause-counts g c = answered_then c.args.self.now c.take_few-2.new.self c.take_few-3.new.self c.in_ok-high.ensures.counts c.in_ok-low.ensures.counts
+pub returns-clause-reading : goal.returns-clause-reading
+returns-clause-reading g c = record {
+  spends = search rules;
+  counts = answered_then c.args.self.now c.take_few-2.new.self c.take_few-3.new.self c.in_ok-high.ensures.reading.counts c.in_ok-low.ensures.reading.counts;
+  memory = search rules;
+  reads = (λ known same.
+      let high = c.in_ok-high.ensures in
+      let low = c.in_ok-low.ensures in
+      rw (number_halves c.args.n c.args.self.now.cursor (omega (arith, c.if-n-le32.false)), high.reading.reads known high.reading.counts.1, low.reading.reads (high.reading.counts.0 known) low.reading.counts.1, halves_joined c.args.n c.in_ok-high.high c.in_ok-low.low c.requires high.small) refl);
+}

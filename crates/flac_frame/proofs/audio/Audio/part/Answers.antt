@@ -1,4 +1,4 @@
-use Rattle.std.proofs.Common.{◌≡◌, ◌<◌, ℤ, List, length, ap, arith}
+use Rattle.std.proofs.Common.{◌<◌, ℤ, List, length, ap, arith}
 use Rattle.std.proofs.lemmas.List.{length-map}
 use Rattle.flac_frame.proofs.Frames.{one_long}
 use Rattle.flac_frame.proofs.audio.Audio.part.Goals as goal

@@ -13,27 +13,15 @@ returns-in_err-fill g c =
     let was = c.in_err-fill.ensures in
     rw (p.1, p.2) (
       (refl, λ _. tt, (was.room.0, was.room.1, was.refused)),
-      record {
-        spends = tt;
-        counts = was.counts;
-        memory = was.memory;
-        means = means frame_of (frame c.args.profile c.args.info.now c.args.self.now.before) (started c.args.bits.now) c.fill.new.bits (Err c.in_err-fill.field-0.0) (reads {X = ⊤} {Y = Frame} (λ _. c.fill.new.self.held) (frame c.args.profile c.args.info.now c.args.self.now.before) (started c.args.bits.now) c.fill.new.bits _ was.means);
-        after = tt;
-      },
+      record { after = tt; reading = record { spends = tt; counts = was.reading.counts; memory = was.reading.memory; reads = means frame_of (frame c.args.profile c.args.info.now c.args.self.now.before) (started c.args.bits.now) c.fill.new.bits (Err c.in_err-fill.field-0.0) (reads {X = ⊤} {Y = Frame} (λ _. c.fill.new.self.held) (frame c.args.profile c.args.info.now c.args.self.now.before) (started c.args.bits.now) c.fill.new.bits _ was.reading.reads) } },
     )
 
 pub returns : goal.returns
 returns g c =
     let was = c.in_ok-fill.ensures in
     let held = sym c.view.ensures in
-    let read = reads {X = ⊤} {Y = Frame} (λ _. c.fill.new.self.held) (frame c.args.profile c.args.info.now c.args.self.now.before) (started c.args.bits.now) c.fill.new.bits (Ok tt) was.means in
+    let read = reads {X = ⊤} {Y = Frame} (λ _. c.fill.new.self.held) (frame c.args.profile c.args.info.now c.args.self.now.before) (started c.args.bits.now) c.fill.new.bits (Ok tt) was.reading.reads in
     let told = rw held at read in (
       (refl, λ _. tt, (was.room.0, was.room.1, (was.before ∙ ap (λ f. Some (after c.args.self.now.before f)) held, held))),
-      record {
-        spends = was.spends;
-        counts = was.counts;
-        memory = tt;
-        means = means frame_of (frame c.args.profile c.args.info.now c.args.self.now.before) (started c.args.bits.now) c.fill.new.bits (Ok c.view.result) told;
-        after = tt;
-      },
+      record { after = tt; reading = record { spends = was.reading.spends; counts = was.reading.counts; memory = tt; reads = means frame_of (frame c.args.profile c.args.info.now c.args.self.now.before) (started c.args.bits.now) c.fill.new.bits (Ok c.view.result) told } },
     )

@@ -7,6 +7,7 @@ returns-in-Ok-None g c =
     record {
       gives = λ p at known same quiet room items end still. found.gives p at known same quiet (λ e. absurd cc) items end still;
       counts = record { met = found.counts.met; kept = found.counts.kept; read = tt; risen = tt; sinkless = tt; behind = found.counts.behind; names = found.counts.names };
+      passes = λ p at. tt;
       broken = λ p at. tt;
       memory = λ phase. tt;
       going = tt;

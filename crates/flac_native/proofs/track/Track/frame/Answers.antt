@@ -15,26 +15,14 @@ returns-in_err-next_frame g c =
     let s = stand_of c.args.self.now in
     rw (p.1, p.2) (
       (refl, λ _. tt, tt),
-      record {
-        spends = tt;
-        counts = told.counts;
-        memory = told.memory;
-        means = means_within (Some 16777215) _ (frame_behind s.profile s.info s.before) c.args.bits.now c.next_frame.new.bits _ (reads_within {X = ⊤} {Y = Frame} (Some 16777215) (λ _. shown c.next_frame.new.self) (frame_behind s.profile s.info s.before) c.args.bits.now c.next_frame.new.bits _ told.means);
-        after = tt;
-      },
+      record { after = tt; reading = record { spends = tt; counts = told.reading.counts; memory = told.reading.memory; reads = means_within (Some 16777215) _ (frame_behind s.profile s.info s.before) c.args.bits.now c.next_frame.new.bits _ (reads_within {X = ⊤} {Y = Frame} (Some 16777215) (λ _. shown c.next_frame.new.self) (frame_behind s.profile s.info s.before) c.args.bits.now c.next_frame.new.bits _ told.reading.reads) } },
     )
 
 pub returns : goal.returns
 returns g c =
     let told = c.in_ok-next_frame.ensures in
     let s = stand_of c.args.self.now in
-    let read = reads_within {X = ⊤} {Y = Frame} (Some 16777215) (λ _. shown c.next_frame.new.self) (frame_behind s.profile s.info s.before) c.args.bits.now c.next_frame.new.bits (Ok tt) told.means in (
+    let read = reads_within {X = ⊤} {Y = Frame} (Some 16777215) (λ _. shown c.next_frame.new.self) (frame_behind s.profile s.info s.before) c.args.bits.now c.next_frame.new.bits (Ok tt) told.reading.reads in (
       (refl, λ _. tt, λ p at. subst (λ k. IsAt c.next_frame.new.self (next p (framed k))) (sym c.view.ensures) (told.next p at)),
-      record {
-        spends = told.spends;
-        counts = told.counts;
-        memory = tt;
-        means = means_within (Some 16777215) frame_of (frame_behind s.profile s.info s.before) c.args.bits.now c.next_frame.new.bits (Ok c.view.result) (rw c.view.ensures read);
-        after = tt;
-      },
+      record { after = tt; reading = record { spends = told.reading.spends; counts = told.reading.counts; memory = tt; reads = means_within (Some 16777215) frame_of (frame_behind s.profile s.info s.before) c.args.bits.now c.next_frame.new.bits (Ok c.view.result) (rw c.view.ensures read) } },
     )

@@ -1,8 +1,13 @@
+use Rattle.std.proofs.Common.{rules}
 use Rattle.flac_bits.proofs.Meaning.{means}
 use Rattle.flac_native.specs.Stream.{layout_in}
 use Rattle.flac_native.specs.Track.{stand_of, kept}
 use Rattle.flac_native.specs.declared.track.Phase.TheVariants.{Blocks}
 use Rattle.flac_native.proofs.track.Track.next_block.Goals as goal
 
-pub returns-clause-means : goal.returns-clause-means
-returns-clause-means g c = λ room. means (λ _. kept c.next_block_here.new.self) (layout_in Blocks (stand_of c.args.self.now)) c.args.bits.now c.next_block_here.new.bits c.next_block_here.result (c.next_block_here.ensures.reads room)
+pub returns-clause-reading : goal.returns-clause-reading
+returns-clause-reading g c = record {
+  spends = search rules;
+  counts = search rules;
+  reads = (λ room. means (λ _. kept c.next_block_here.new.self) (layout_in Blocks (stand_of c.args.self.now)) c.args.bits.now c.next_block_here.new.bits c.next_block_here.result (c.next_block_here.ensures.reading.reads room));
+}

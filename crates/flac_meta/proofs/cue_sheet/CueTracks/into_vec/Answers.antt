@@ -1,5 +1,0 @@
-use Rattle.std.proofs.Common.{rules}
-use Rattle.flac_meta.proofs.cue_sheet.CueTracks.into_vec.Goals as goal
-
-pub returns : goal.returns
-returns c = search rules

@@ -1,0 +1,5 @@
+use Rattle.std.proofs.Common.{rules}
+use Rattle.flac_meta.proofs.lists.Entries.is_empty.Goals as goal
+
+pub returns : goal.returns
+returns g c = search rules
