@@ -11,6 +11,7 @@ use flac_testing::{list_of, sample, wave};
 use flac_vectors::{ONE_SAMPLE, WAVE, WAVE_PREDICTED};
 use std::alloc::Global;
 use std::mem::drop;
+use std::ops::Range;
 use std::test::Fail;
 
 /// What is known of frames before they are written, and the first of them.
@@ -89,6 +90,29 @@ fn chosen_by_a_predictor(rt: HostRuntime) -> Result<(), Fail> {
     assert!(rt; comes_of(rt.alloc(), &plan, &audio, WAVE, 34)?);
     let plan = plan.with_predictors(list_of(rt.alloc(), 1, 0)?)?;
     assert!(rt; comes_of(rt.alloc(), &plan, &audio, WAVE_PREDICTED, 16)?);
+    Ok(())
+}
+
+/// Where the samples of the first frame are, if there is one.
+fn first_range(plan: &Plan, audio: &Audio) -> Range<usize>
+    requires { fits_plan plan.now audio.now ≡ true }
+{
+    let _size = plan.block_size();
+    if audio.is_empty() {
+        return 0..0;
+    }
+    plan.range(audio, 0)
+}
+
+/// A frame has as many samples as the block size, or those that are left.
+#[test]
+fn ranges_of_frames(rt: HostRuntime) -> Result<(), Fail> {
+    let one = sample(rt.alloc())?;
+    let plan = Plan::new(4096, &one, 0)?;
+    assert!(rt; first_range(&plan, &one) == (0..1));
+    let many = wave(rt.alloc(), Profile::Subset, 44100)?;
+    let plan = Plan::new(16, &many, 0)?;
+    assert!(rt; first_range(&plan, &many) == (0..16));
     Ok(())
 }
 
