@@ -207,9 +207,9 @@ fn partitions_bits(values: &[i64], order: usize, size: usize, parameter_bits: u3
 fn residual_bits(values: &[i64], order: usize, partition: u32) -> u64 {
     let block = values.len().wrapping_add(order);
     let mut best = u64::MAX;
-    for halvings in 0..partition.min(15) + 1 {
-        let size = block >> halvings;
-        if size << halvings == block && size > order {
+    for partition_order in 0..partition.min(15) + 1 {
+        let size = block >> partition_order;
+        if size << partition_order == block && size > order {
             best = best.min(partitions_bits(values, order, size, 4));
             best = best.min(partitions_bits(values, order, size, 5));
         }

@@ -45,8 +45,8 @@ cut first size rs (c ∷ cs) = record { coding = c; values = take first rs } ∷
 abbrev pub residual_of : ℕ → List ℤ → Codings → Residual
 residual_of order rs f = record {
   method = f.parameter_bits - 4;
-  order = f.halvings;
-  partitions = cut ((length rs + order) / 2 ^ f.halvings - order) ((length rs + order) / 2 ^ f.halvings) rs f.codings;
+  order = f.partition_order;
+  partitions = cut ((length rs + order) / 2 ^ f.partition_order - order) ((length rs + order) / 2 ^ f.partition_order) rs f.codings;
 }
 
 -- the content of a subframe that a body is

@@ -48,7 +48,7 @@ IsMadeOf c s = IsMadeWith [] c s
 
 -- the bytes of a choice's codings, the first of its places
 abbrev pub bytes_kept : WideChoice → List ℕ
-bytes_kept c = take (2 ^ c.form.residual.halvings) c.codings.items
+bytes_kept c = take (2 ^ c.form.residual.partition_order) c.codings.items
 
 -- the form that a choice stands for, whose linear predictor is one of a list
 abbrev pub form_in : List LinearPredictor → WideChoice → List ℤ → Form
@@ -57,5 +57,5 @@ form_in ps c s = form_as ps c.form (bytes_kept c) s
 -- the choice was made of these samples, by a fixed predictor or by a linear one of a list if it has one
 pub record IsMadeIn (ps : List LinearPredictor) (c : WideChoice) (s : List ℤ) : Type 0 where
   pub made : IsMadeAs 15 ps c.form (bytes_kept c) s
-  pub few : c.form.residual.halvings ≤ 15
-  pub places : 2 ^ c.form.residual.halvings ≤ length c.codings.items
+  pub few : c.form.residual.partition_order ≤ 15
+  pub places : 2 ^ c.form.residual.partition_order ≤ length c.codings.items

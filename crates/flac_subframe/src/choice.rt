@@ -23,7 +23,7 @@ use crate::narrowed::{narrow, peak, take_narrow};
 use crate::numbers::power;
 use crate::products::take_products;
 use crate::residual_form::ResidualForm;
-use crate::survey::{greatest_halvings, least_residual};
+use crate::survey::{greatest_partition_order, least_residual};
 use crate::tables::{SearchArrays, Tables};
 use crate::view::{ResidualView, SampleView, Task};
 use crate::wasted::drop_wasted;
@@ -221,7 +221,7 @@ fn least_form(
     requires tables { HasPlaces subject.now.most tables.old }
     ensures least { let rs = take (length subject.now.samples.now - order) values.now in IfSome result (λ f. IsLeast (MayWrite subject.now.most order rs) (residual_cost order rs) (codings_in f tables.new.codings.now)) }
     ensures bits { let rs = take (length subject.now.samples.now - order) values.now in IfSome result (λ f. f.bits ≡ residual_cost order rs (codings_in f tables.new.codings.now)) }
-    ensures within { IfSome result (λ f. f.halvings ≤ subject.now.most) }
+    ensures within { IfSome result (λ f. f.partition_order ≤ subject.now.most) }
     ensures less { IfSome result (λ f. f.bits < below) }
     ensures small { IfSome result (λ f. f.bits ≤ 2 ^ 49) }
     ensures kept { IfNone result (tables.new.codings.now ≡ tables.old.codings.now) }
@@ -232,12 +232,12 @@ fn least_form(
     let count = subject.samples.len() - order;
     let values = &values[..count];
     let folds = &folds[..count];
-    let halvings = greatest_halvings(values, order, subject.most);
+    let partition_order = greatest_partition_order(values, order, subject.most);
     let residual = ResidualView {
         values,
         folds,
         order,
-        halvings,
+        partition_order,
     };
     least_residual(&residual, tables, below)
 }
@@ -256,7 +256,7 @@ fn improve(
     requires small { best.old.bits ≤ 2 ^ 60 }
     ensures best { (tried : List Chooses) → IsBest subject.now.predictors.now subject.now.most subject.now.bits subject.now.samples.now tried (way_of best.old tables.old.codings.now) → IsBest subject.now.predictors.now subject.now.most subject.now.bits subject.now.samples.now (tried ++ predictor_named subject.now.predictors.now kind ∷ []) (way_of best.new tables.new.codings.now) }
     ensures less { best.new.bits ≤ best.old.bits }
-    ensures within { best.old.residual.halvings ≤ subject.now.most → best.new.residual.halvings ≤ subject.now.most }
+    ensures within { best.old.residual.partition_order ≤ subject.now.most → best.new.residual.partition_order ≤ subject.now.most }
     ensures arrays { HasRoom (length subject.now.samples.now) arrays.new }
     ensures tables { HasPlaces subject.now.most tables.new }
     ensures same { tables.new.codings.ghost_name ≡ tables.old.codings.ghost_name }
@@ -291,7 +291,7 @@ fn begin(samples: &[i64], bits: u32) -> Best
     requires few { length samples.now ≤ 65535 }
     requires bits { bits ≤ 33 }
     ensures best { (handed : List LinearPredictor) (most : ℕ) (codings : List ℕ) → IsBest handed most bits samples.now (fixed_below 0) (way_of result codings) }
-    ensures none { result.residual.halvings ≡ 0 }
+    ensures none { result.residual.partition_order ≡ 0 }
 {
     let residual = ResidualForm::none();
     let width = u64::from(bits);
@@ -317,7 +317,7 @@ fn search(subject: &SampleView<'_>, arrays: &mut SearchArrays<'_>, tables: &mut 
     requires arrays { HasRoom (length subject.now.samples.now) arrays.old }
     requires tables { HasPlaces subject.now.most tables.old }
     ensures best { IsBest subject.now.predictors.now subject.now.most subject.now.bits subject.now.samples.now (offered subject.now.predictors.now) (way_of result tables.new.codings.now) }
-    ensures within { result.residual.halvings ≤ subject.now.most }
+    ensures within { result.residual.partition_order ≤ subject.now.most }
     ensures same { tables.new.codings.ghost_name ≡ tables.old.codings.ghost_name }
 {
     let mut best = begin(subject.samples, subject.bits);
@@ -366,7 +366,7 @@ fn search_within(
     requires widths { 2 * 2 ^ subject.now.most ≤ length widths.old }
     requires codings { 2 ^ subject.now.most ≤ length codings.old }
     ensures best { IsBest subject.now.predictors.now subject.now.most subject.now.bits subject.now.samples.now (offered subject.now.predictors.now) (way_of result codings.new) }
-    ensures within { result.residual.halvings ≤ subject.now.most }
+    ensures within { result.residual.partition_order ≤ subject.now.most }
 {
     let count = power(subject.most);
     let (sums, rest) = tables.split_at_mut(count);
@@ -396,11 +396,11 @@ pub(crate) fn choose_in_places(
     requires folds { length task.now.samples.now ≤ length folds.old }
     requires tables { 5 * 2 ^ task.now.most ≤ length tables.old }
     requires bytes { 3 * 2 ^ task.now.most ≤ length bytes.old }
-    ensures least { IsLeast (λ f. Stands task.now.most (offered task.now.predictors.now) f task.now.samples.now) (λ f. length (subframe_spelling task.now.depth f)) (form_as task.now.predictors.now result.0 (take (2 ^ result.0.residual.halvings) bytes.new) task.now.samples.now) }
-    ensures bits { result.1 ≡ length (subframe_spelling task.now.depth (form_as task.now.predictors.now result.0 (take (2 ^ result.0.residual.halvings) bytes.new) task.now.samples.now)) }
-    ensures made { IsMadeAs task.now.most task.now.predictors.now result.0 (take (2 ^ result.0.residual.halvings) bytes.new) task.now.samples.now }
+    ensures least { IsLeast (λ f. Stands task.now.most (offered task.now.predictors.now) f task.now.samples.now) (λ f. length (subframe_spelling task.now.depth f)) (form_as task.now.predictors.now result.0 (take (2 ^ result.0.residual.partition_order) bytes.new) task.now.samples.now) }
+    ensures bits { result.1 ≡ length (subframe_spelling task.now.depth (form_as task.now.predictors.now result.0 (take (2 ^ result.0.residual.partition_order) bytes.new) task.now.samples.now)) }
+    ensures made { IsMadeAs task.now.most task.now.predictors.now result.0 (take (2 ^ result.0.residual.partition_order) bytes.new) task.now.samples.now }
     ensures some { result.0.wasted < task.now.depth }
-    ensures within { result.0.residual.halvings ≤ task.now.most }
+    ensures within { result.0.residual.partition_order ≤ task.now.most }
     ensures small { result.1 ≤ 2 ^ 61 }
 {
     let samples = task.samples;

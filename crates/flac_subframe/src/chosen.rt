@@ -33,14 +33,14 @@ pub struct Choice {
 impl Choice {
     /// A form with its codings, which are the first of an array, and how many bits it takes.
     fn gathered(form: SubframeForm, codings: &[u8], bits: u64) -> Choice
-        requires few { form.residual.halvings ≤ 8 }
-        requires places { 2 ^ form.residual.halvings ≤ length codings.now }
+        requires few { form.residual.partition_order ≤ 8 }
+        requires places { 2 ^ form.residual.partition_order ≤ length codings.now }
         ensures form { result.form ≡ form }
-        ensures codings { result.codings.items ≡ take (2 ^ form.residual.halvings) codings.now }
+        ensures codings { result.codings.items ≡ take (2 ^ form.residual.partition_order) codings.now }
         ensures bits { result.bits ≡ bits }
     {
         let mut copy = ArrayVec::new();
-        let _ = copy.try_extend_from_slice(&codings[..power(form.residual.halvings)]);
+        let _ = copy.try_extend_from_slice(&codings[..power(form.residual.partition_order)]);
         Choice {
             form,
             codings: copy,

@@ -14,10 +14,10 @@ use crate::view::ResidualView;
 pub(crate) fn price(residual: &ResidualView<'_>, width: u8, parameter: u8, sums: &mut [u64])
     requires bounded { All (λ n. n < 2 ^ width) residual.now.folds.now }
     requires parameter { parameter < 31 }
-    requires places { length sums.old ≡ 2 ^ residual.now.halvings }
-    ensures costs { (j : ℕ) → j < 2 ^ residual.now.halvings → slice_index sums.new j ≡ sum_by (value_cost parameter) (part residual.now.order residual.now.values.now residual.now.halvings j) }
+    requires places { length sums.old ≡ 2 ^ residual.now.partition_order }
+    ensures costs { (j : ℕ) → j < 2 ^ residual.now.partition_order → slice_index sums.new j ≡ sum_by (value_cost parameter) (part residual.now.order residual.now.values.now residual.now.partition_order j) }
 {
-    let size = (residual.values.len() + residual.order) >> residual.halvings;
+    let size = (residual.values.len() + residual.order) >> residual.partition_order;
     let mut rest = residual.folds;
     let mut long = size - residual.order;
     for sum in sums.iter_mut() {
@@ -52,16 +52,16 @@ fn note(sums: &[u64], best: &mut [u64], parameter: u8)
 }
 
 /// The same at one partition order, whose entries stand one after another in the table.
-fn note_level(sums: &[u64], table: &mut [u64], halvings: u8, parameter: u8)
+fn note_level(sums: &[u64], table: &mut [u64], partition_order: u8, parameter: u8)
     requires few { parameter < 32 }
-    requires most { halvings ≤ 15 }
-    requires sums { 2 ^ halvings ≤ length sums.now }
-    requires small { (j : ℕ) → j < 2 ^ halvings → slice_index sums.now j < 2 ^ 50 }
-    requires table { 2 * 2 ^ halvings ≤ length table.old }
-    ensures level { (j : ℕ) → j < 2 ^ halvings → entry table.new halvings j ≡ min (entry table.old halvings j) (priced parameter (slice_index sums.now j)) }
-    ensures others { (i : ℕ) → (i < 2 ^ halvings) ⊎ (2 * 2 ^ halvings ≤ i) → slice_index table.new i ≡ slice_index table.old i }
+    requires most { partition_order ≤ 15 }
+    requires sums { 2 ^ partition_order ≤ length sums.now }
+    requires small { (j : ℕ) → j < 2 ^ partition_order → slice_index sums.now j < 2 ^ 50 }
+    requires table { 2 * 2 ^ partition_order ≤ length table.old }
+    ensures level { (j : ℕ) → j < 2 ^ partition_order → entry table.new partition_order j ≡ min (entry table.old partition_order j) (priced parameter (slice_index sums.now j)) }
+    ensures others { (i : ℕ) → (i < 2 ^ partition_order) ⊎ (2 * 2 ^ partition_order ≤ i) → slice_index table.new i ≡ slice_index table.old i }
 {
-    let first = power(halvings);
+    let first = power(partition_order);
     note(sums, &mut table[first..2 * first], parameter);
 }
 
@@ -90,20 +90,20 @@ fn pass(
 ) -> bool
     requires bounded { All (λ n. n < 2 ^ width) residual.now.folds.now }
     requires parameter { parameter < 31 }
-    requires sums { length sums.old ≡ 2 ^ residual.now.halvings }
-    requires table { 2 * 2 ^ residual.now.halvings ≤ length table.old }
+    requires sums { length sums.old ≡ 2 ^ residual.now.partition_order }
+    requires table { 2 * 2 ^ residual.now.partition_order ≤ length table.old }
     ensures kept { length table.new ≡ length table.old }
-    ensures entries { IsTrue result → (p j : ℕ) → p ≤ residual.now.halvings → j < 2 ^ p → entry table.new p j ≡ min (entry table.old p j) (priced parameter (sum_by (value_cost parameter) (part residual.now.order residual.now.values.now p j))) }
+    ensures entries { IsTrue result → (p j : ℕ) → p ≤ residual.now.partition_order → j < 2 ^ p → entry table.new p j ≡ min (entry table.old p j) (priced parameter (sum_by (value_cost parameter) (part residual.now.order residual.now.values.now p j))) }
     ensures same { result ≡ false → table.new ≡ table.old }
-    ensures none { result ≡ false → (j : ℕ) → j < 2 ^ residual.now.halvings → entry table.old residual.now.halvings j ≤ priced parameter (sum_by (value_cost parameter) (part residual.now.order residual.now.values.now residual.now.halvings j)) }
+    ensures none { result ≡ false → (j : ℕ) → j < 2 ^ residual.now.partition_order → entry table.old residual.now.partition_order j ≤ priced parameter (sum_by (value_cost parameter) (part residual.now.order residual.now.values.now residual.now.partition_order j)) }
 {
     price(residual, width, parameter, sums);
-    let first = power(residual.halvings);
+    let first = power(residual.partition_order);
     if !gains(sums, &table[first..2 * first], parameter) {
         return false;
     }
-    note_level(sums, table, residual.halvings, parameter);
-    let mut level = residual.halvings;
+    note_level(sums, table, residual.partition_order, parameter);
+    let mut level = residual.partition_order;
     while level > 0 {
         level -= 1;
         pair(sums, power(level));
@@ -122,10 +122,10 @@ pub(crate) fn compare_down(
 )
     requires bounded { All (λ n. n < 2 ^ width) residual.now.folds.now }
     requires from { from ≤ 31 }
-    requires sums { length sums.old ≡ 2 ^ residual.now.halvings }
-    requires table { 2 * 2 ^ residual.now.halvings ≤ length table.old }
-    requires start { (p j : ℕ) → p ≤ residual.now.halvings → j < 2 ^ p → entry table.old p j ≡ 2 ^ 64 - 1 }
-    ensures entries { HasEntries from residual.now.order residual.now.values.now residual.now.halvings table.new }
+    requires sums { length sums.old ≡ 2 ^ residual.now.partition_order }
+    requires table { 2 * 2 ^ residual.now.partition_order ≤ length table.old }
+    requires start { (p j : ℕ) → p ≤ residual.now.partition_order → j < 2 ^ p → entry table.old p j ≡ 2 ^ 64 - 1 }
+    ensures entries { HasEntries from residual.now.order residual.now.values.now residual.now.partition_order table.new }
     ensures long { length table.new ≡ length table.old }
 {
     let mut low = from;
@@ -149,11 +149,11 @@ pub(crate) fn compare(
     requires bounded { All (λ n. n < 2 ^ width) residual.now.folds.now }
     requires from { from ≤ parameters }
     requires parameters { parameters ≤ 31 }
-    requires sums { length sums.old ≡ 2 ^ residual.now.halvings }
-    requires table { 2 * 2 ^ residual.now.halvings ≤ length table.old }
-    requires start { HasEntries from residual.now.order residual.now.values.now residual.now.halvings table.old }
-    ensures entries { HasEntries parameters residual.now.order residual.now.values.now residual.now.halvings table.new }
-    ensures settled { result ≡ true → HasEntries 31 residual.now.order residual.now.values.now residual.now.halvings table.new }
+    requires sums { length sums.old ≡ 2 ^ residual.now.partition_order }
+    requires table { 2 * 2 ^ residual.now.partition_order ≤ length table.old }
+    requires start { HasEntries from residual.now.order residual.now.values.now residual.now.partition_order table.old }
+    ensures entries { HasEntries parameters residual.now.order residual.now.values.now residual.now.partition_order table.new }
+    ensures settled { result ≡ true → HasEntries 31 residual.now.order residual.now.values.now residual.now.partition_order table.new }
     ensures long { length table.new ≡ length table.old }
 {
     for parameter in from..parameters {

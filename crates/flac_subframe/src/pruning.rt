@@ -129,15 +129,15 @@ fn bound_parts(
     closely: bool,
     below: u64,
 ) -> u64
-    requires places { 2 ^ residual.now.halvings ≤ length sums.now }
-    requires costs { (j : ℕ) → j < 2 ^ residual.now.halvings → slice_index sums.now j ≡ sum_by (value_cost 0) (part residual.now.order residual.now.values.now residual.now.halvings j) }
-    requires widths { HasWidths residual.now.order residual.now.values.now residual.now.halvings residual.now.halvings widths.now }
-    requires widths_long { 2 * 2 ^ residual.now.halvings ≤ length widths.now }
-    ensures all { (f : Codings) → MayWrite residual.now.halvings residual.now.order residual.now.values.now f → result ≤ residual_cost residual.now.order residual.now.values.now f }
-    ensures last { (f : Codings) → MayWrite residual.now.halvings residual.now.order residual.now.values.now f → f.halvings ≡ residual.now.halvings → result + (6 + 4 * 2 ^ residual.now.halvings) ≤ residual_cost residual.now.order residual.now.values.now f }
+    requires places { 2 ^ residual.now.partition_order ≤ length sums.now }
+    requires costs { (j : ℕ) → j < 2 ^ residual.now.partition_order → slice_index sums.now j ≡ sum_by (value_cost 0) (part residual.now.order residual.now.values.now residual.now.partition_order j) }
+    requires widths { HasWidths residual.now.order residual.now.values.now residual.now.partition_order residual.now.partition_order widths.now }
+    requires widths_long { 2 * 2 ^ residual.now.partition_order ≤ length widths.now }
+    ensures all { (f : Codings) → MayWrite residual.now.partition_order residual.now.order residual.now.values.now f → result ≤ residual_cost residual.now.order residual.now.values.now f }
+    ensures last { (f : Codings) → MayWrite residual.now.partition_order residual.now.order residual.now.values.now f → f.partition_order ≡ residual.now.partition_order → result + (6 + 4 * 2 ^ residual.now.partition_order) ≤ residual_cost residual.now.order residual.now.values.now f }
 {
-    let size = (residual.values.len() + residual.order) >> residual.halvings;
-    let count = power(residual.halvings);
+    let size = (residual.values.len() + residual.order) >> residual.partition_order;
+    let count = power(residual.partition_order);
     let mut bits = 0;
     let mut rest = residual.values;
     let mut left = residual.folds;
@@ -159,11 +159,11 @@ fn bound_parts(
 /// Whether the closer bound shows that the residual takes `below` bits or more. It is computed only if the rougher
 /// bound is at least half of that.
 fn reaches(residual: &ResidualView<'_>, sums: &[u64], widths: &[u8], bound: u64, below: u64) -> bool
-    requires sums { 2 ^ residual.now.halvings ≤ length sums.now }
-    requires costs { (j : ℕ) → j < 2 ^ residual.now.halvings → slice_index sums.now j ≡ sum_by (value_cost 0) (part residual.now.order residual.now.values.now residual.now.halvings j) }
-    requires widths { HasWidths residual.now.order residual.now.values.now 0 residual.now.halvings widths.now }
-    requires places { 2 * 2 ^ residual.now.halvings ≤ length widths.now }
-    ensures { IsTrue result → (f : Codings) → MayWrite residual.now.halvings residual.now.order residual.now.values.now f → below ≤ residual_cost residual.now.order residual.now.values.now f }
+    requires sums { 2 ^ residual.now.partition_order ≤ length sums.now }
+    requires costs { (j : ℕ) → j < 2 ^ residual.now.partition_order → slice_index sums.now j ≡ sum_by (value_cost 0) (part residual.now.order residual.now.values.now residual.now.partition_order j) }
+    requires widths { HasWidths residual.now.order residual.now.values.now 0 residual.now.partition_order widths.now }
+    requires places { 2 * 2 ^ residual.now.partition_order ≤ length widths.now }
+    ensures { IsTrue result → (f : Codings) → MayWrite residual.now.partition_order residual.now.order residual.now.values.now f → below ≤ residual_cost residual.now.order residual.now.values.now f }
 {
     if bound < below / 2 {
         return false;
@@ -179,11 +179,11 @@ pub(crate) fn is_too_dear(
     widths: &[u8],
     below: u64,
 ) -> bool
-    requires sums { 2 ^ residual.now.halvings ≤ length sums.now }
-    requires costs { (j : ℕ) → j < 2 ^ residual.now.halvings → slice_index sums.now j ≡ sum_by (value_cost 0) (part residual.now.order residual.now.values.now residual.now.halvings j) }
-    requires widths { HasWidths residual.now.order residual.now.values.now 0 residual.now.halvings widths.now }
-    requires places { 2 * 2 ^ residual.now.halvings ≤ length widths.now }
-    ensures { IsTrue result → (f : Codings) → MayWrite residual.now.halvings residual.now.order residual.now.values.now f → below ≤ residual_cost residual.now.order residual.now.values.now f }
+    requires sums { 2 ^ residual.now.partition_order ≤ length sums.now }
+    requires costs { (j : ℕ) → j < 2 ^ residual.now.partition_order → slice_index sums.now j ≡ sum_by (value_cost 0) (part residual.now.order residual.now.values.now residual.now.partition_order j) }
+    requires widths { HasWidths residual.now.order residual.now.values.now 0 residual.now.partition_order widths.now }
+    requires places { 2 * 2 ^ residual.now.partition_order ≤ length widths.now }
+    ensures { IsTrue result → (f : Codings) → MayWrite residual.now.partition_order residual.now.order residual.now.values.now f → below ≤ residual_cost residual.now.order residual.now.values.now f }
 {
     let bound = bound_parts(residual, sums, widths, false, below);
     if bound >= below {
@@ -209,14 +209,14 @@ fn digits(folds: &[u32]) -> u64
 
 /// A lower bound on the bits of the residual at one partition order, from the digits of its values: each partition has a
 /// parameter of four bits, and then one bit more for each value, or five for an escape.
-fn bound_by_digits(residual: &ResidualView<'_>, halvings: u8, digits: u64) -> u64
-    requires within { halvings ≤ residual.now.halvings }
+fn bound_by_digits(residual: &ResidualView<'_>, partition_order: u8, digits: u64) -> u64
+    requires within { partition_order ≤ residual.now.partition_order }
     requires sum { digits ≡ sum_by (λ n. 63 - count_leading_zeros 64 (2 * n + 1)) residual.now.folds.now }
     requires small { digits ≤ 64 * length residual.now.folds.now }
-    ensures { (f : Codings) → MayWrite residual.now.halvings residual.now.order residual.now.values.now f → f.halvings ≡ halvings → result ≤ residual_cost residual.now.order residual.now.values.now f }
+    ensures { (f : Codings) → MayWrite residual.now.partition_order residual.now.order residual.now.values.now f → f.partition_order ≡ partition_order → result ≤ residual_cost residual.now.order residual.now.values.now f }
 {
-    let size = (residual.values.len() + residual.order) >> halvings;
-    let fields = power(halvings) * (4 + size.min(5));
+    let size = (residual.values.len() + residual.order) >> partition_order;
+    let fields = power(partition_order) * (4 + size.min(5));
     (digits + 6 + fields as u64).saturating_sub(residual.order as u64)
 }
 
@@ -224,26 +224,26 @@ fn bound_by_digits(residual: &ResidualView<'_>, halvings: u8, digits: u64) -> u6
 /// values, or else by the bits of each partition. The arrays are then those of that partition order.
 fn is_order_too_dear(
     residual: &ResidualView<'_>,
-    halvings: u8,
+    partition_order: u8,
     digits: u64,
     sums: &mut [u64],
     widths: &mut [u8],
     below: u64,
 ) -> bool
-    requires within { halvings ≤ residual.now.halvings }
+    requires within { partition_order ≤ residual.now.partition_order }
     requires sum { digits ≡ sum_by (λ n. 63 - count_leading_zeros 64 (2 * n + 1)) residual.now.folds.now }
     requires small { digits ≤ 64 * length residual.now.folds.now }
-    requires sums { 2 ^ residual.now.halvings ≤ length sums.old }
-    requires widths { 2 * 2 ^ residual.now.halvings ≤ length widths.old }
-    ensures { IsTrue result → (f : Codings) → MayWrite residual.now.halvings residual.now.order residual.now.values.now f → f.halvings ≡ halvings → below ≤ residual_cost residual.now.order residual.now.values.now f }
+    requires sums { 2 ^ residual.now.partition_order ≤ length sums.old }
+    requires widths { 2 * 2 ^ residual.now.partition_order ≤ length widths.old }
+    ensures { IsTrue result → (f : Codings) → MayWrite residual.now.partition_order residual.now.order residual.now.values.now f → f.partition_order ≡ partition_order → below ≤ residual_cost residual.now.order residual.now.values.now f }
 {
-    let bound = bound_by_digits(residual, halvings, digits);
+    let bound = bound_by_digits(residual, partition_order, digits);
     if bound >= below {
         return true;
     }
-    let coarser = residual.at(halvings);
+    let coarser = residual.at(partition_order);
     lowest(&coarser, widths, sums);
-    let fields = 6 + 4 * power(halvings) as u64;
+    let fields = 6 + 4 * power(partition_order) as u64;
     let rest = below.saturating_sub(fields);
     let bound = bound_parts(&coarser, sums, widths, true, rest);
     bound >= rest
@@ -257,19 +257,19 @@ pub(crate) fn finest_in_doubt(
     widths: &mut [u8],
     below: u64,
 ) -> u8
-    requires fine { 8 ≤ residual.now.halvings }
-    requires sums { 2 ^ residual.now.halvings ≤ length sums.old }
-    requires widths { 2 * 2 ^ residual.now.halvings ≤ length widths.old }
-    ensures within { (8 ≤ result) × (result ≤ residual.now.halvings) }
-    ensures dear { (f : Codings) → MayWrite residual.now.halvings residual.now.order residual.now.values.now f → result < f.halvings → below ≤ residual_cost residual.now.order residual.now.values.now f }
+    requires fine { 8 ≤ residual.now.partition_order }
+    requires sums { 2 ^ residual.now.partition_order ≤ length sums.old }
+    requires widths { 2 * 2 ^ residual.now.partition_order ≤ length widths.old }
+    ensures within { (8 ≤ result) × (result ≤ residual.now.partition_order) }
+    ensures dear { (f : Codings) → MayWrite residual.now.partition_order residual.now.order residual.now.values.now f → result < f.partition_order → below ≤ residual_cost residual.now.order residual.now.values.now f }
 {
     let digits = digits(residual.folds);
-    let mut halvings = residual.halvings;
-    while halvings > COARSE {
-        if !is_order_too_dear(residual, halvings, digits, sums, widths, below) {
-            return halvings;
+    let mut partition_order = residual.partition_order;
+    while partition_order > COARSE {
+        if !is_order_too_dear(residual, partition_order, digits, sums, widths, below) {
+            return partition_order;
         }
-        halvings -= 1;
+        partition_order -= 1;
     }
-    halvings
+    partition_order
 }

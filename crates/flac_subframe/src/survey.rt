@@ -22,7 +22,7 @@ use crate::view::ResidualView;
 use crate::widths::measure;
 
 /// The largest partition order that fits the block, at most `most`.
-pub(crate) fn greatest_halvings(values: &[i32], order: usize, most: u8) -> u8
+pub(crate) fn greatest_partition_order(values: &[i32], order: usize, most: u8) -> u8
     requires few { length values.now + order ≤ 65535 }
     requires room { 0 < length values.now }
     requires most { most ≤ 15 }
@@ -68,21 +68,21 @@ fn finish(values: &[i32], method: CodingMethod, best: u64, width: u8) -> Priced
 /// How many bits the best codings at one partition order take.
 fn total(
     residual: &ResidualView<'_>,
-    halvings: u8,
+    partition_order: u8,
     method: CodingMethod,
     table: &[u64],
     widths: &[u8],
 ) -> u64
-    requires within { halvings ≤ residual.now.halvings }
-    requires table { 2 * 2 ^ residual.now.halvings ≤ length table.now }
-    requires entries { HasEntries (2 ^ parameter_bits_of method - 1) residual.now.order residual.now.values.now residual.now.halvings table.now }
-    requires widths { HasWidths residual.now.order residual.now.values.now 0 residual.now.halvings widths.now }
-    requires places { 2 * 2 ^ residual.now.halvings ≤ length widths.now }
-    ensures least { let size = (length residual.now.values.now + residual.now.order) / 2 ^ halvings in IsLeastCost (Partitioned (parameter_bits_of method) (size - residual.now.order) size (2 ^ halvings) residual.now.values.now) (partitions_cost (parameter_bits_of method) (size - residual.now.order) size residual.now.values.now) result }
+    requires within { partition_order ≤ residual.now.partition_order }
+    requires table { 2 * 2 ^ residual.now.partition_order ≤ length table.now }
+    requires entries { HasEntries (2 ^ parameter_bits_of method - 1) residual.now.order residual.now.values.now residual.now.partition_order table.now }
+    requires widths { HasWidths residual.now.order residual.now.values.now 0 residual.now.partition_order widths.now }
+    requires places { 2 * 2 ^ residual.now.partition_order ≤ length widths.now }
+    ensures least { let size = (length residual.now.values.now + residual.now.order) / 2 ^ partition_order in IsLeastCost (Partitioned (parameter_bits_of method) (size - residual.now.order) size (2 ^ partition_order) residual.now.values.now) (partitions_cost (parameter_bits_of method) (size - residual.now.order) size residual.now.values.now) result }
     ensures small { result ≤ 2 ^ 33 * 65535 + 10 * 2 ^ 15 }
 {
-    let size = (residual.values.len() + residual.order) >> halvings;
-    let count = power(halvings);
+    let size = (residual.values.len() + residual.order) >> partition_order;
+    let count = power(partition_order);
     let parameter_bits = u64::from(method.parameter_bits());
     let mut bits = 0;
     let mut rest = residual.values;
@@ -100,24 +100,24 @@ fn total(
 /// Puts the best codings at one partition order into the first places, from the table.
 fn gather(
     residual: &ResidualView<'_>,
-    halvings: u8,
+    partition_order: u8,
     method: CodingMethod,
     table: &[u64],
     widths: &[u8],
     codings: &mut [u8],
 ) -> u64
-    requires within { halvings ≤ residual.now.halvings }
-    requires table { 2 * 2 ^ residual.now.halvings ≤ length table.now }
-    requires entries { HasEntries (2 ^ parameter_bits_of method - 1) residual.now.order residual.now.values.now residual.now.halvings table.now }
-    requires widths { HasWidths residual.now.order residual.now.values.now 0 residual.now.halvings widths.now }
-    requires places { 2 * 2 ^ residual.now.halvings ≤ length widths.now }
-    requires codings { 2 ^ halvings ≤ length codings.old }
-    ensures least { let size = (length residual.now.values.now + residual.now.order) / 2 ^ halvings in IsLeast (Partitioned (parameter_bits_of method) (size - residual.now.order) size (2 ^ halvings) residual.now.values.now) (partitions_cost (parameter_bits_of method) (size - residual.now.order) size residual.now.values.now) (map coding_of (take (2 ^ halvings) codings.new)) }
-    ensures bits { let size = (length residual.now.values.now + residual.now.order) / 2 ^ halvings in result ≡ partitions_cost (parameter_bits_of method) (size - residual.now.order) size residual.now.values.now (map coding_of (take (2 ^ halvings) codings.new)) }
+    requires within { partition_order ≤ residual.now.partition_order }
+    requires table { 2 * 2 ^ residual.now.partition_order ≤ length table.now }
+    requires entries { HasEntries (2 ^ parameter_bits_of method - 1) residual.now.order residual.now.values.now residual.now.partition_order table.now }
+    requires widths { HasWidths residual.now.order residual.now.values.now 0 residual.now.partition_order widths.now }
+    requires places { 2 * 2 ^ residual.now.partition_order ≤ length widths.now }
+    requires codings { 2 ^ partition_order ≤ length codings.old }
+    ensures least { let size = (length residual.now.values.now + residual.now.order) / 2 ^ partition_order in IsLeast (Partitioned (parameter_bits_of method) (size - residual.now.order) size (2 ^ partition_order) residual.now.values.now) (partitions_cost (parameter_bits_of method) (size - residual.now.order) size residual.now.values.now) (map coding_of (take (2 ^ partition_order) codings.new)) }
+    ensures bits { let size = (length residual.now.values.now + residual.now.order) / 2 ^ partition_order in result ≡ partitions_cost (parameter_bits_of method) (size - residual.now.order) size residual.now.values.now (map coding_of (take (2 ^ partition_order) codings.new)) }
     ensures small { result ≤ 2 ^ 33 * 65535 + 10 * 2 ^ 15 }
 {
-    let size = (residual.values.len() + residual.order) >> halvings;
-    let count = power(halvings);
+    let size = (residual.values.len() + residual.order) >> partition_order;
+    let count = power(partition_order);
     let parameter_bits = u64::from(method.parameter_bits());
     let mut bits = 0;
     let mut rest = residual.values;
@@ -140,27 +140,27 @@ fn best_order(
     table: &[u64],
     widths: &[u8],
 ) -> ResidualForm
-    requires table { 2 * 2 ^ residual.now.halvings ≤ length table.now }
-    requires entries { HasEntries (2 ^ parameter_bits_of method - 1) residual.now.order residual.now.values.now residual.now.halvings table.now }
-    requires widths { HasWidths residual.now.order residual.now.values.now 0 residual.now.halvings widths.now }
-    requires places { 2 * 2 ^ residual.now.halvings ≤ length widths.now }
+    requires table { 2 * 2 ^ residual.now.partition_order ≤ length table.now }
+    requires entries { HasEntries (2 ^ parameter_bits_of method - 1) residual.now.order residual.now.values.now residual.now.partition_order table.now }
+    requires widths { HasWidths residual.now.order residual.now.values.now 0 residual.now.partition_order widths.now }
+    requires places { 2 * 2 ^ residual.now.partition_order ≤ length widths.now }
     ensures method { result.method ≡ method }
-    ensures within { result.halvings ≤ residual.now.halvings }
-    ensures least { IsLeastCost (ByMethod (parameter_bits_of method) residual.now.halvings residual.now.order residual.now.values.now) (residual_cost residual.now.order residual.now.values.now) result.bits }
-    ensures here { IsLeastCost (HalvedTo (parameter_bits_of method) result.halvings residual.now.halvings residual.now.order residual.now.values.now) (residual_cost residual.now.order residual.now.values.now) result.bits }
+    ensures within { result.partition_order ≤ residual.now.partition_order }
+    ensures least { IsLeastCost (ByMethod (parameter_bits_of method) residual.now.partition_order residual.now.order residual.now.values.now) (residual_cost residual.now.order residual.now.values.now) result.bits }
+    ensures here { IsLeastCost (HalvedTo (parameter_bits_of method) result.partition_order residual.now.partition_order residual.now.order residual.now.values.now) (residual_cost residual.now.order residual.now.values.now) result.bits }
     ensures small { result.bits ≤ 2 ^ 33 * 2 ^ 16 }
 {
     let mut best = ResidualForm {
         method,
-        halvings: 0,
+        partition_order: 0,
         bits: 6 + total(residual, 0, method, table, widths),
     };
-    for p in 1..residual.halvings + 1 {
+    for p in 1..residual.partition_order + 1 {
         let bits = 6 + total(residual, p, method, table, widths);
         if bits < best.bits {
             best = ResidualForm {
                 method,
-                halvings: p,
+                partition_order: p,
                 bits,
             };
         }
@@ -189,14 +189,14 @@ fn tabulate(
     five: &mut [u64],
 ) -> bool
     requires bounded { All (λ n. n < 2 ^ width) residual.now.folds.now }
-    requires sums { 2 ^ residual.now.halvings ≤ length sums.old }
-    requires four { 2 * 2 ^ residual.now.halvings ≤ length four.old }
-    requires five { 2 * 2 ^ residual.now.halvings ≤ length five.old }
-    ensures entries { HasEntries 15 residual.now.order residual.now.values.now residual.now.halvings four.new }
-    ensures same { IsTrue result → HasEntries 31 residual.now.order residual.now.values.now residual.now.halvings four.new }
-    ensures more { (IsTrue result → ⊥) → HasEntries 31 residual.now.order residual.now.values.now residual.now.halvings five.new }
+    requires sums { 2 ^ residual.now.partition_order ≤ length sums.old }
+    requires four { 2 * 2 ^ residual.now.partition_order ≤ length four.old }
+    requires five { 2 * 2 ^ residual.now.partition_order ≤ length five.old }
+    ensures entries { HasEntries 15 residual.now.order residual.now.values.now residual.now.partition_order four.new }
+    ensures same { IsTrue result → HasEntries 31 residual.now.order residual.now.values.now residual.now.partition_order four.new }
+    ensures more { (IsTrue result → ⊥) → HasEntries 31 residual.now.order residual.now.values.now residual.now.partition_order five.new }
 {
-    let count = power(residual.halvings);
+    let count = power(residual.partition_order);
     let row = &mut sums[..count];
     let middle = middle(row, residual.values.len());
     clear(four, 2 * count);
@@ -217,17 +217,17 @@ fn survey(
     five: &mut [u64],
     widths: &[u8],
 ) -> ResidualForm
-    requires sums { 2 ^ residual.now.halvings ≤ length sums.old }
-    requires four { 2 * 2 ^ residual.now.halvings ≤ length four.old }
-    requires five { 2 * 2 ^ residual.now.halvings ≤ length five.old }
-    requires widths { HasWidths residual.now.order residual.now.values.now 0 residual.now.halvings widths.now }
-    requires places { 2 * 2 ^ residual.now.halvings ≤ length widths.now }
-    ensures within { result.halvings ≤ residual.now.halvings }
-    ensures least { IsLeastCost (MayWrite residual.now.halvings residual.now.order residual.now.values.now) (residual_cost residual.now.order residual.now.values.now) result.bits }
-    ensures here { IsLeastCost (HalvedTo (parameter_bits_of result.method) result.halvings residual.now.halvings residual.now.order residual.now.values.now) (residual_cost residual.now.order residual.now.values.now) result.bits }
+    requires sums { 2 ^ residual.now.partition_order ≤ length sums.old }
+    requires four { 2 * 2 ^ residual.now.partition_order ≤ length four.old }
+    requires five { 2 * 2 ^ residual.now.partition_order ≤ length five.old }
+    requires widths { HasWidths residual.now.order residual.now.values.now 0 residual.now.partition_order widths.now }
+    requires places { 2 * 2 ^ residual.now.partition_order ≤ length widths.now }
+    ensures within { result.partition_order ≤ residual.now.partition_order }
+    ensures least { IsLeastCost (MayWrite residual.now.partition_order residual.now.order residual.now.values.now) (residual_cost residual.now.order residual.now.values.now) result.bits }
+    ensures here { IsLeastCost (HalvedTo (parameter_bits_of result.method) result.partition_order residual.now.partition_order residual.now.order residual.now.values.now) (residual_cost residual.now.order residual.now.values.now) result.bits }
     ensures small { result.bits ≤ 2 ^ 33 * 2 ^ 16 }
-    ensures entries { HasEntries 15 residual.now.order residual.now.values.now residual.now.halvings four.new }
-    ensures more { result.method ≡ CodingMethod.FiveBits → HasEntries 31 residual.now.order residual.now.values.now residual.now.halvings five.new }
+    ensures entries { HasEntries 15 residual.now.order residual.now.values.now residual.now.partition_order four.new }
+    ensures more { result.method ≡ CodingMethod.FiveBits → HasEntries 31 residual.now.order residual.now.values.now residual.now.partition_order five.new }
 {
     let same = tabulate(residual, widths[1], sums, four, five);
     let first = best_order(residual, CodingMethod::FourBits, four, widths);
@@ -250,16 +250,23 @@ fn take_up(
     widths: &[u8],
     codings: &mut [u8],
 ) -> u64
-    requires within { form.halvings ≤ residual.now.halvings }
-    requires table { 2 * 2 ^ residual.now.halvings ≤ length table.now }
-    requires entries { HasEntries (2 ^ parameter_bits_of form.method - 1) residual.now.order residual.now.values.now residual.now.halvings table.now }
-    requires widths { HasWidths residual.now.order residual.now.values.now 0 residual.now.halvings widths.now }
-    requires places { 2 * 2 ^ residual.now.halvings ≤ length widths.now }
-    requires codings { 2 ^ residual.now.halvings ≤ length codings.old }
-    ensures least { IsLeast (HalvedTo (parameter_bits_of form.method) form.halvings residual.now.halvings residual.now.order residual.now.values.now) (residual_cost residual.now.order residual.now.values.now) (codings_in form codings.new) }
+    requires within { form.partition_order ≤ residual.now.partition_order }
+    requires table { 2 * 2 ^ residual.now.partition_order ≤ length table.now }
+    requires entries { HasEntries (2 ^ parameter_bits_of form.method - 1) residual.now.order residual.now.values.now residual.now.partition_order table.now }
+    requires widths { HasWidths residual.now.order residual.now.values.now 0 residual.now.partition_order widths.now }
+    requires places { 2 * 2 ^ residual.now.partition_order ≤ length widths.now }
+    requires codings { 2 ^ residual.now.partition_order ≤ length codings.old }
+    ensures least { IsLeast (HalvedTo (parameter_bits_of form.method) form.partition_order residual.now.partition_order residual.now.order residual.now.values.now) (residual_cost residual.now.order residual.now.values.now) (codings_in form codings.new) }
     ensures bits { result ≡ residual_cost residual.now.order residual.now.values.now (codings_in form codings.new) }
 {
-    let bits = gather(residual, form.halvings, form.method, table, widths, codings);
+    let bits = gather(
+        residual,
+        form.partition_order,
+        form.method,
+        table,
+        widths,
+        codings,
+    );
     6 + bits
 }
 
@@ -272,15 +279,15 @@ fn take_found(
     widths: &[u8],
     codings: &mut [u8],
 ) -> u64
-    requires within { form.halvings ≤ residual.now.halvings }
-    requires four { 2 * 2 ^ residual.now.halvings ≤ length four.now }
-    requires five { 2 * 2 ^ residual.now.halvings ≤ length five.now }
-    requires entries { HasEntries 15 residual.now.order residual.now.values.now residual.now.halvings four.now }
-    requires more { form.method ≡ CodingMethod.FiveBits → HasEntries 31 residual.now.order residual.now.values.now residual.now.halvings five.now }
-    requires widths { HasWidths residual.now.order residual.now.values.now 0 residual.now.halvings widths.now }
-    requires places { 2 * 2 ^ residual.now.halvings ≤ length widths.now }
-    requires codings { 2 ^ residual.now.halvings ≤ length codings.old }
-    ensures least { IsLeast (HalvedTo (parameter_bits_of form.method) form.halvings residual.now.halvings residual.now.order residual.now.values.now) (residual_cost residual.now.order residual.now.values.now) (codings_in form codings.new) }
+    requires within { form.partition_order ≤ residual.now.partition_order }
+    requires four { 2 * 2 ^ residual.now.partition_order ≤ length four.now }
+    requires five { 2 * 2 ^ residual.now.partition_order ≤ length five.now }
+    requires entries { HasEntries 15 residual.now.order residual.now.values.now residual.now.partition_order four.now }
+    requires more { form.method ≡ CodingMethod.FiveBits → HasEntries 31 residual.now.order residual.now.values.now residual.now.partition_order five.now }
+    requires widths { HasWidths residual.now.order residual.now.values.now 0 residual.now.partition_order widths.now }
+    requires places { 2 * 2 ^ residual.now.partition_order ≤ length widths.now }
+    requires codings { 2 ^ residual.now.partition_order ≤ length codings.old }
+    ensures least { IsLeast (HalvedTo (parameter_bits_of form.method) form.partition_order residual.now.partition_order residual.now.order residual.now.values.now) (residual_cost residual.now.order residual.now.values.now) (codings_in form codings.new) }
     ensures bits { result ≡ residual_cost residual.now.order residual.now.values.now (codings_in form codings.new) }
 {
     match form.method {
@@ -296,14 +303,14 @@ fn least_at_once(
     tables: &mut Tables<'_>,
     below: u64,
 ) -> Option<ResidualForm>
-    requires places { HasPlaces residual.now.halvings tables.old }
-    ensures least { IfSome result (λ f. IsLeast (MayWrite residual.now.halvings residual.now.order residual.now.values.now) (residual_cost residual.now.order residual.now.values.now) (codings_in f tables.new.codings.now)) }
+    requires places { HasPlaces residual.now.partition_order tables.old }
+    ensures least { IfSome result (λ f. IsLeast (MayWrite residual.now.partition_order residual.now.order residual.now.values.now) (residual_cost residual.now.order residual.now.values.now) (codings_in f tables.new.codings.now)) }
     ensures bits { IfSome result (λ f. f.bits ≡ residual_cost residual.now.order residual.now.values.now (codings_in f tables.new.codings.now)) }
-    ensures within { IfSome result (λ f. f.halvings ≤ residual.now.halvings) }
+    ensures within { IfSome result (λ f. f.partition_order ≤ residual.now.partition_order) }
     ensures less { IfSome result (λ f. f.bits < below) }
     ensures small { IfSome result (λ f. f.bits ≤ 2 ^ 49) }
     ensures kept { IfNone result (tables.new.codings.now ≡ tables.old.codings.now) }
-    ensures none { IfNone result ((f : Codings) → MayWrite residual.now.halvings residual.now.order residual.now.values.now f → below ≤ residual_cost residual.now.order residual.now.values.now f) }
+    ensures none { IfNone result ((f : Codings) → MayWrite residual.now.partition_order residual.now.order residual.now.values.now f → below ≤ residual_cost residual.now.order residual.now.values.now f) }
     ensures places { (most : ℕ) → HasPlaces most tables.old → HasPlaces most tables.new }
     ensures same { tables.new.codings.ghost_name ≡ tables.old.codings.ghost_name }
 {
@@ -324,26 +331,26 @@ fn least_at_once(
     Some(ResidualForm { bits, ..form })
 }
 
-/// The same with partition orders up to `halvings` alone.
+/// The same with partition orders up to `partition_order` alone.
 fn least_up_to(
     residual: &ResidualView<'_>,
-    halvings: u8,
+    partition_order: u8,
     tables: &mut Tables<'_>,
     below: u64,
 ) -> Option<ResidualForm>
-    requires within { halvings ≤ residual.now.halvings }
-    requires places { HasPlaces residual.now.halvings tables.old }
-    ensures least { IfSome result (λ f. IsLeast (MayWrite halvings residual.now.order residual.now.values.now) (residual_cost residual.now.order residual.now.values.now) (codings_in f tables.new.codings.now)) }
+    requires within { partition_order ≤ residual.now.partition_order }
+    requires places { HasPlaces residual.now.partition_order tables.old }
+    ensures least { IfSome result (λ f. IsLeast (MayWrite partition_order residual.now.order residual.now.values.now) (residual_cost residual.now.order residual.now.values.now) (codings_in f tables.new.codings.now)) }
     ensures bits { IfSome result (λ f. f.bits ≡ residual_cost residual.now.order residual.now.values.now (codings_in f tables.new.codings.now)) }
-    ensures within { IfSome result (λ f. f.halvings ≤ halvings) }
+    ensures within { IfSome result (λ f. f.partition_order ≤ partition_order) }
     ensures less { IfSome result (λ f. f.bits < below) }
     ensures small { IfSome result (λ f. f.bits ≤ 2 ^ 49) }
     ensures kept { IfNone result (tables.new.codings.now ≡ tables.old.codings.now) }
-    ensures none { IfNone result ((f : Codings) → MayWrite halvings residual.now.order residual.now.values.now f → below ≤ residual_cost residual.now.order residual.now.values.now f) }
+    ensures none { IfNone result ((f : Codings) → MayWrite partition_order residual.now.order residual.now.values.now f → below ≤ residual_cost residual.now.order residual.now.values.now f) }
     ensures places { (most : ℕ) → HasPlaces most tables.old → HasPlaces most tables.new }
     ensures same { tables.new.codings.ghost_name ≡ tables.old.codings.ghost_name }
 {
-    least_at_once(&residual.at(halvings), tables, below)
+    least_at_once(&residual.at(partition_order), tables, below)
 }
 
 /// The same for the finer partition orders: none if each form of these takes `below` bits or more, which bounds mostly show before
@@ -353,15 +360,15 @@ fn least_of_finer(
     tables: &mut Tables<'_>,
     below: u64,
 ) -> Option<ResidualForm>
-    requires fine { 8 ≤ residual.now.halvings }
-    requires places { HasPlaces residual.now.halvings tables.old }
-    ensures least { IfSome result (λ f. IsLeast (MayWrite residual.now.halvings residual.now.order residual.now.values.now) (residual_cost residual.now.order residual.now.values.now) (codings_in f tables.new.codings.now)) }
+    requires fine { 8 ≤ residual.now.partition_order }
+    requires places { HasPlaces residual.now.partition_order tables.old }
+    ensures least { IfSome result (λ f. IsLeast (MayWrite residual.now.partition_order residual.now.order residual.now.values.now) (residual_cost residual.now.order residual.now.values.now) (codings_in f tables.new.codings.now)) }
     ensures bits { IfSome result (λ f. f.bits ≡ residual_cost residual.now.order residual.now.values.now (codings_in f tables.new.codings.now)) }
-    ensures within { IfSome result (λ f. f.halvings ≤ residual.now.halvings) }
+    ensures within { IfSome result (λ f. f.partition_order ≤ residual.now.partition_order) }
     ensures less { IfSome result (λ f. f.bits < below) }
     ensures small { IfSome result (λ f. f.bits ≤ 2 ^ 49) }
     ensures kept { IfNone result (tables.new.codings.now ≡ tables.old.codings.now) }
-    ensures none { IfNone result ((f : Codings) → MayWrite residual.now.halvings residual.now.order residual.now.values.now f → 8 < f.halvings → below ≤ residual_cost residual.now.order residual.now.values.now f) }
+    ensures none { IfNone result ((f : Codings) → MayWrite residual.now.partition_order residual.now.order residual.now.values.now f → 8 < f.partition_order → below ≤ residual_cost residual.now.order residual.now.values.now f) }
     ensures places { (most : ℕ) → HasPlaces most tables.old → HasPlaces most tables.new }
     ensures same { tables.new.codings.ghost_name ≡ tables.old.codings.ghost_name }
 {
@@ -398,18 +405,18 @@ pub(crate) fn least_residual(
     tables: &mut Tables<'_>,
     below: u64,
 ) -> Option<ResidualForm>
-    requires places { HasPlaces residual.now.halvings tables.old }
-    ensures least { IfSome result (λ f. IsLeast (MayWrite residual.now.halvings residual.now.order residual.now.values.now) (residual_cost residual.now.order residual.now.values.now) (codings_in f tables.new.codings.now)) }
+    requires places { HasPlaces residual.now.partition_order tables.old }
+    ensures least { IfSome result (λ f. IsLeast (MayWrite residual.now.partition_order residual.now.order residual.now.values.now) (residual_cost residual.now.order residual.now.values.now) (codings_in f tables.new.codings.now)) }
     ensures bits { IfSome result (λ f. f.bits ≡ residual_cost residual.now.order residual.now.values.now (codings_in f tables.new.codings.now)) }
-    ensures within { IfSome result (λ f. f.halvings ≤ residual.now.halvings) }
+    ensures within { IfSome result (λ f. f.partition_order ≤ residual.now.partition_order) }
     ensures less { IfSome result (λ f. f.bits < below) }
     ensures small { IfSome result (λ f. f.bits ≤ 2 ^ 49) }
     ensures kept { IfNone result (tables.new.codings.now ≡ tables.old.codings.now) }
-    ensures none { IfNone result ((f : Codings) → MayWrite residual.now.halvings residual.now.order residual.now.values.now f → below ≤ residual_cost residual.now.order residual.now.values.now f) }
+    ensures none { IfNone result ((f : Codings) → MayWrite residual.now.partition_order residual.now.order residual.now.values.now f → below ≤ residual_cost residual.now.order residual.now.values.now f) }
     ensures places { (most : ℕ) → HasPlaces most tables.old → HasPlaces most tables.new }
     ensures same { tables.new.codings.ghost_name ≡ tables.old.codings.ghost_name }
 {
-    if residual.halvings <= COARSE {
+    if residual.partition_order <= COARSE {
         return least_at_once(residual, tables, below);
     }
     let first = least_up_to(residual, COARSE, tables, below);

@@ -34,30 +34,30 @@ pub(crate) struct ResidualView<'a> {
     pub(crate) values: &'a [i32],
     pub(crate) folds: &'a [u32],
     pub(crate) order: usize,
-    pub(crate) halvings: u8,
+    pub(crate) partition_order: u8,
     ghost few: { length values.now + order ≤ 65535 },
     ghost range: { All IsResidual values.now },
     ghost unsigned: { folds.now ≡ map folded values.now },
     ghost small: { All (λ n. n < 2 ^ 32) folds.now },
     ghost long: { length folds.now ≡ length values.now },
-    ghost most: { halvings ≤ 15 },
-    ghost halves: { Halves order values.now halvings },
+    ghost most: { partition_order ≤ 15 },
+    ghost halves: { Halves order values.now partition_order },
 }
 
 impl ResidualView<'_> {
     /// The same at a coarser partition order.
-    pub(crate) fn at(&self, halvings: u8) -> ResidualView<'_>
-        requires { halvings ≤ self.now.halvings }
+    pub(crate) fn at(&self, partition_order: u8) -> ResidualView<'_>
+        requires { partition_order ≤ self.now.partition_order }
         ensures values { result.values.now ≡ self.now.values.now }
         ensures folds { result.folds.now ≡ self.now.folds.now }
         ensures order { result.order ≡ self.now.order }
-        ensures halvings { result.halvings ≡ halvings }
+        ensures partition_order { result.partition_order ≡ partition_order }
     {
         ResidualView {
             values: self.values,
             folds: self.folds,
             order: self.order,
-            halvings,
+            partition_order,
         }
     }
 }

@@ -69,14 +69,14 @@ impl WideChoice {
 
     /// The codings that the choice has, the first of its places.
     fn codings_used(&self) -> &[u8]
-        ensures same { take (2 ^ self.now.form.residual.halvings) result.now ≡ take (2 ^ self.now.form.residual.halvings) self.now.codings.items }
-        ensures exact { self.now.form.residual.halvings ≤ 15 → 2 ^ self.now.form.residual.halvings ≤ vec_len self.now.codings → length result.now ≡ 2 ^ self.now.form.residual.halvings }
+        ensures same { take (2 ^ self.now.form.residual.partition_order) result.now ≡ take (2 ^ self.now.form.residual.partition_order) self.now.codings.items }
+        ensures exact { self.now.form.residual.partition_order ≤ 15 → 2 ^ self.now.form.residual.partition_order ≤ vec_len self.now.codings → length result.now ≡ 2 ^ self.now.form.residual.partition_order }
     {
         let places = self.codings.len();
-        if self.form.residual.halvings > 15 {
+        if self.form.residual.partition_order > 15 {
             return &self.codings;
         }
-        &self.codings[..power(self.form.residual.halvings).min(places)]
+        &self.codings[..power(self.form.residual.partition_order).min(places)]
     }
 
     /// A copy of the choice with places for just its own codings, one byte for each partition. A copy of which the rest is not needed
@@ -88,7 +88,7 @@ impl WideChoice {
         ensures same { IfOk result (λ c. (predictors : List LinearPredictor) (samples : List ℤ) → form_in predictors c samples ≡ form_in predictors self.now samples) }
         ensures made { IfOk result (λ c. (predictors : List LinearPredictor) (samples : List ℤ) → IsMadeIn predictors self.now samples → IsMadeIn predictors c samples) }
         ensures bits { IfOk result (λ c. c.bits ≡ self.now.bits) }
-        ensures exact { IfOk result (λ c. self.now.form.residual.halvings ≤ 15 → 2 ^ self.now.form.residual.halvings ≤ vec_len self.now.codings → vec_len c.codings ≡ 2 ^ self.now.form.residual.halvings) }
+        ensures exact { IfOk result (λ c. self.now.form.residual.partition_order ≤ 15 → 2 ^ self.now.form.residual.partition_order ≤ vec_len self.now.codings → vec_len c.codings ≡ 2 ^ self.now.form.residual.partition_order) }
         ensures memory { IfErr result (λ e. e ≡ Why.Memory) }
     {
         let used = self.codings_used();
@@ -103,14 +103,14 @@ impl WideChoice {
 
     /// The same with its codings lent.
     fn lent(&self) -> ChoiceView<'_>
-        requires few { self.now.form.residual.halvings ≤ 15 }
-        requires places { 2 ^ self.now.form.residual.halvings ≤ vec_len self.now.codings }
+        requires few { self.now.form.residual.partition_order ≤ 15 }
+        requires places { 2 ^ self.now.form.residual.partition_order ≤ vec_len self.now.codings }
         ensures form { result.form ≡ self.now.form }
         ensures codings { result.codings.now ≡ bytes_kept self.now }
     {
         ChoiceView {
             form: self.form,
-            codings: &self.codings[..power(self.form.residual.halvings)],
+            codings: &self.codings[..power(self.form.residual.partition_order)],
         }
     }
 }
@@ -171,7 +171,7 @@ pub fn choose_in(
         &mut workspace.tables,
         &mut workspace.bytes,
     );
-    let count = power(form.residual.halvings);
+    let count = power(form.residual.partition_order);
     copy_first(&workspace.bytes, count, &mut choice.codings);
     choice.form = form;
     choice.bits = bits;

@@ -129,9 +129,9 @@ fn write_residual<W: Target>(
     ensures { Writes (residual_spelling (residual_of order values.now (codings_lent choice.now))) writer.old writer.new result }
 {
     let form = choice.form.residual;
-    let size = (values.len() + order) / power(form.halvings);
+    let size = (values.len() + order) / power(form.partition_order);
     let parameter_bits = form.method.parameter_bits();
-    let field = (parameter_bits as u64 - 4) * 16 + form.halvings as u64;
+    let field = (parameter_bits as u64 - 4) * 16 + form.partition_order as u64;
     writer.put(6, field)?;
     write_partitions(
         writer,

@@ -9,7 +9,7 @@ use Rattle.flac_subframe.proofs.choice.search.Given as goal
 abbrev pub invariant-loop-order : goal.invariant-loop-order
 invariant-loop-order l = record {
   best : IsBest l.subject.predictors.now l.subject.most l.subject.bits l.subject.samples.now (fixed l.first ∷ fixed_below l.order) (way_of l.best l.tables.codings.now);
-  within : l.best.residual.halvings ≤ l.subject.most;
+  within : l.best.residual.partition_order ≤ l.subject.most;
   arrays : HasRoom (length l.subject.samples.now) l.arrays;
   tables : HasPlaces l.subject.most l.tables;
   same : l.tables.codings.ghost_name ≡ l.fn.tables.codings.ghost_name;
@@ -18,7 +18,7 @@ invariant-loop-order l = record {
 abbrev pub invariant-loop-index : goal.invariant-loop-index
 invariant-loop-index l = record {
   best : IsBest l.subject.predictors.now l.subject.most l.subject.bits l.subject.samples.now (fixed_below 5 ++ map predictor_of (take l.index l.subject.predictors.now)) (way_of l.best l.tables.codings.now);
-  within : l.best.residual.halvings ≤ l.subject.most;
+  within : l.best.residual.partition_order ≤ l.subject.most;
   arrays : HasRoom (length l.subject.samples.now) l.arrays;
   tables : HasPlaces l.subject.most l.tables;
   same : l.tables.codings.ghost_name ≡ l.fn.tables.codings.ghost_name;

@@ -22,7 +22,7 @@ choose_in_places-bits-requires-clause-bytes c = omega (arith, power_le c.args.li
 pub gathered-requires-clause-places : goal.gathered-requires-clause-places
 gathered-requires-clause-places c =
     let found = c.choose_in_places-bits in
-    omega (arith, power_le found.result.0.residual.halvings c.args.limits.now.partition found.ensures.within, power_le c.args.limits.now.partition 8 c.requires.partition, found.auto.bytes)
+    omega (arith, power_le found.result.0.residual.partition_order c.args.limits.now.partition found.ensures.within, power_le c.args.limits.now.partition 8 c.requires.partition, found.auto.bytes)
 
 pub returns-clause-least : goal.returns-clause-least
 returns-clause-least c = let new = c.gathered.ensures in rw (new.form, new.codings) c.choose_in_places-bits.ensures.least
@@ -34,17 +34,17 @@ pub returns-clause-made : goal.returns-clause-made
 returns-clause-made c =
     let found = c.choose_in_places-bits in
     let new = c.gathered.ensures in
-    rw (new.form, new.codings) (made_of_fewer c.args.limits.now.partition 8 c.args.predictors.now found.result.0 (take (2 ^ found.result.0.residual.halvings) found.new.bytes) c.args.samples.now c.requires.partition found.ensures.made)
+    rw (new.form, new.codings) (made_of_fewer c.args.limits.now.partition 8 c.args.predictors.now found.result.0 (take (2 ^ found.result.0.residual.partition_order) found.new.bytes) c.args.samples.now c.requires.partition found.ensures.made)
 
 pub returns-clause-valid : goal.returns-clause-valid
 returns-clause-valid c =
     let found = c.choose_in_places-bits in
     let new = c.gathered.ensures in
     let few : c.args.limits.now.partition ≤ 15 = omega (arith, c.requires.partition) in
-    rw (new.form, new.codings) (made_valid c.args.limits.now.partition c.args.depth c.args.predictors.now found.result.0 (take (2 ^ found.result.0.residual.halvings) found.new.bytes) c.args.samples.now found.ensures.made found.ensures.some c.requires.fits few c.requires.some)
+    rw (new.form, new.codings) (made_valid c.args.limits.now.partition c.args.depth c.args.predictors.now found.result.0 (take (2 ^ found.result.0.residual.partition_order) found.new.bytes) c.args.samples.now found.ensures.made found.ensures.some c.requires.fits few c.requires.some)
 
 pub returns-clause-restored : goal.returns-clause-restored
 returns-clause-restored c =
     let found = c.choose_in_places-bits in
     let new = c.gathered.ensures in
-    rw (new.form, new.codings) (made_restored c.args.limits.now.partition c.args.depth c.args.predictors.now found.result.0 (take (2 ^ found.result.0.residual.halvings) found.new.bytes) c.args.samples.now found.ensures.made found.ensures.some c.requires.fits)
+    rw (new.form, new.codings) (made_restored c.args.limits.now.partition c.args.depth c.args.predictors.now found.result.0 (take (2 ^ found.result.0.residual.partition_order) found.new.bytes) c.args.samples.now found.ensures.made found.ensures.some c.requires.fits)

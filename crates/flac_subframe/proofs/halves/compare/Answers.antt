@@ -19,7 +19,7 @@ returns-clause-entries c = λ p j h b. let e : c.loop-parameter.parameter ≡ c.
 pub returns-then-not-pass-clause-entries : goal.returns-then-not-pass-clause-entries
 returns-then-not-pass-clause-entries c = λ p j le b.
     let k : ℕ = c.loop-parameter.parameter in
-    let rs = c.args.residual.now.values.now in let order = c.args.residual.now.order in let h = c.args.residual.now.halvings in
+    let rs = c.args.residual.now.values.now in let order = c.args.residual.now.order in let h = c.args.residual.now.partition_order in
     let so = c.loop-parameter.invariant in
     rw (c.if-not-pass.ensures.same refl) (settled order h k rs c.args.residual.now.halves (omega arith) (omega arith) c.args.residual.now.range c.loop-parameter.table (c.if-not-pass.ensures.none refl) (λ i d. so.entries h i (omega arith) d) p j _ c.args.parameters le b (omega arith)
     (kept_by order h k rs c.args.residual.now.halves (omega arith) (omega arith) c.args.residual.now.range c.loop-parameter.table (c.if-not-pass.ensures.none refl) (λ i d. so.entries h i (omega arith) d) p j le b (so.entries p j le b)))
@@ -27,7 +27,7 @@ returns-then-not-pass-clause-entries c = λ p j le b.
 pub returns-then-not-pass-clause-settled : goal.returns-then-not-pass-clause-settled
 returns-then-not-pass-clause-settled c = λ _ p j le b.
     let k : ℕ = c.loop-parameter.parameter in
-    let rs = c.args.residual.now.values.now in let order = c.args.residual.now.order in let h = c.args.residual.now.halvings in
+    let rs = c.args.residual.now.values.now in let order = c.args.residual.now.order in let h = c.args.residual.now.partition_order in
     let so = c.loop-parameter.invariant in
     rw (c.if-not-pass.ensures.same refl) (settled order h k rs c.args.residual.now.halves (omega arith) (omega arith) c.args.residual.now.range c.loop-parameter.table (c.if-not-pass.ensures.none refl) (λ i d. so.entries h i (omega arith) d) p j _ 31 le b (omega arith)
     (kept_by order h k rs c.args.residual.now.halves (omega arith) (omega arith) c.args.residual.now.range c.loop-parameter.table (c.if-not-pass.ensures.none refl) (λ i d. so.entries h i (omega arith) d) p j le b (so.entries p j le b)))

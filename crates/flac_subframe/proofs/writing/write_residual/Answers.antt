@@ -13,8 +13,8 @@ pub returns : goal.returns
 returns g c =
     let f = codings_lent c.args.choice.now in
     let rs = c.args.values.now in
-    let size : ℕ = (length rs + c.args.order) / 2 ^ f.halvings in
-    let field : ℕ = (f.parameter_bits - 4) * 16 + f.halvings in
+    let size : ℕ = (length rs + c.args.order) / 2 ^ f.partition_order in
+    let field : ℕ = (f.parameter_bits - 4) * 16 + f.partition_order in
     rw (residual_text c.args.order rs f field (omega (arith, c.requires.may.few)) refl (method_bits f.parameter_bits c.requires.may.method))
     (writes_then (flat_map (partition_spelling f.parameter_bits) (cut (size - c.args.order) size rs f.codings)) c.write_partitions.new.writer c.write_partitions.result (rw c.parameter_bits-parameter_bits.ensures.bits at c.in_ok-put.ensures)
     (rw (c.power.ensures, c.parameter_bits-parameter_bits.ensures.bits) at c.write_partitions.ensures))
@@ -23,8 +23,8 @@ pub returns-in_err-put : goal.returns-in_err-put
 returns-in_err-put g c =
     let f = codings_lent c.args.choice.now in
     let rs = c.args.values.now in
-    let size : ℕ = (length rs + c.args.order) / 2 ^ f.halvings in
-    let field : ℕ = (f.parameter_bits - 4) * 16 + f.halvings in
+    let size : ℕ = (length rs + c.args.order) / 2 ^ f.partition_order in
+    let field : ℕ = (f.parameter_bits - 4) * 16 + f.partition_order in
     let p = err_from_is_err_and c.from_residual.result c.from_residual.ensures.1 in
     rw (p.1, p.2, residual_text c.args.order rs f field (omega (arith, c.requires.may.few)) refl (method_bits f.parameter_bits c.requires.may.method))
     (fails_first (unsigned 6 field) (flat_map (partition_spelling f.parameter_bits) (cut (size - c.args.order) size rs f.codings)) (rw c.parameter_bits-parameter_bits.ensures.bits at c.in_err-put.ensures))

@@ -2,8 +2,8 @@ use Rattle.std.proofs.Common.{arith, inl, inr}
 use Rattle.std.proofs.lemmas.Bool.{cases_lt}
 use Rattle.flac_subframe.specs.inner.Halves.{Halves}
 use Rattle.flac_subframe.proofs.Splits.{halves_at}
-use Rattle.flac_subframe.proofs.survey.greatest_halvings.Goals as goal
-use Rattle.flac_subframe.proofs.survey.greatest_halvings.Goals.{then-block-power-ne0-via-then-block-power-ne0, then-block-power-ne0-via-else-block-power-ne0+then-block-next}
+use Rattle.flac_subframe.proofs.survey.greatest_partition_order.Goals as goal
+use Rattle.flac_subframe.proofs.survey.greatest_partition_order.Goals.{then-block-power-ne0-via-then-block-power-ne0, then-block-power-ne0-via-else-block-power-ne0+then-block-next}
 
 pub returns-then-block-power-ne0-clause-greatest : goal.returns-then-block-power-ne0-clause-greatest
 returns-then-block-power-ne0-clause-greatest c = λ p le h.
