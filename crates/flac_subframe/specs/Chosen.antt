@@ -2,8 +2,8 @@
 use Rattle.std.specs.Prelude.{ℕ, ℤ, List, ◌++◌, take, length, map, ◌<◌, ◌≤◌}
 use Rattle.std.specs.List.{range_with_len}
 use Rattle.flac_subframe.specs.Cost.{Codings}
-use Rattle.flac_subframe.specs.declared.content.Content.{Content}
-use Rattle.flac_subframe.specs.declared.content.Content.TheVariants.{Constant, Verbatim, Predicted}
+use Rattle.flac_subframe.specs.declared.content.ContentKind.{ContentKind}
+use Rattle.flac_subframe.specs.declared.content.ContentKind.TheVariants.{Constant, Verbatim, Predicted}
 use Rattle.flac_subframe.specs.declared.content.PredictorKind.{PredictorKind}
 use Rattle.flac_subframe.specs.declared.content.PredictorKind.TheVariants.{Fixed, Linear}
 use Rattle.flac_subframe.specs.declared.linear.LinearPredictor.{LinearPredictor}
@@ -34,13 +34,13 @@ IsNamed ps (Fixed order) = order ≤ 4
 IsNamed ps (Linear index) = index < length ps
 
 -- the body of a content, whose linear predictor is one of a list, and of the codings of its residual
-abbrev pub body_as : List LinearPredictor → Content → Codings → List ℤ → Body
+abbrev pub body_as : List LinearPredictor → ContentKind → Codings → List ℤ → Body
 body_as ps Constant f s = constant (sample_at s 0)
 body_as ps Verbatim f s = verbatim s
 body_as ps (Predicted kind) f s = body_under (predictor_named ps kind) f s
 
 -- there is the predictor of a content, if it has one
-abbrev pub HasPredictor : List LinearPredictor → Content → Type 0
+abbrev pub HasPredictor : List LinearPredictor → ContentKind → Type 0
 HasPredictor ps Constant = Unit {0}
 HasPredictor ps Verbatim = Unit {0}
 HasPredictor ps (Predicted kind) = IsNamed ps kind

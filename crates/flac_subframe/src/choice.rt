@@ -15,7 +15,7 @@ ghost use Rattle.flac_subframe.specs.inner.Cost.{residual_cost};
 ghost use Rattle.flac_subframe.specs.inner.Halves.{HasPlaces, HasResidual, HasRoom};
 ghost use Rattle.flac_subframe.specs.declared.linear.LinearPredictor.{LinearPredictor};
 
-use crate::content::{Content, PredictorKind, SubframeForm};
+use crate::content::{ContentKind, PredictorKind, SubframeForm};
 use crate::folding::fold_each;
 use crate::leaving::{take_differences, take_weighed};
 use crate::linear::LinearPredictor;
@@ -33,7 +33,7 @@ use crate::wide_products::take_wide_products;
 /// ones.
 #[derive(Clone, Copy)]
 pub(crate) struct Best {
-    pub(crate) content: Content,
+    pub(crate) content: ContentKind,
     pub(crate) residual: ResidualForm,
     pub(crate) bits: u64,
 }
@@ -57,7 +57,7 @@ fn limit(best: &Best, kind: PredictorKind) -> u64
     ensures { (best.now.bits ≤ result) × (result ≤ best.now.bits + 1) }
 {
     match (best.content, kind) {
-        (Content::Predicted(PredictorKind::Fixed(higher)), PredictorKind::Fixed(order))
+        (ContentKind::Predicted(PredictorKind::Fixed(higher)), PredictorKind::Fixed(order))
             if order < higher => best.bits + 1,
         _ => best.bits,
     }
@@ -278,7 +278,7 @@ fn improve(
     }
     if let Some(residual) = least_form(subject, order, values, folds, tables, limit - before) {
         *best = Best {
-            content: Content::Predicted(kind),
+            content: ContentKind::Predicted(kind),
             residual,
             bits: before + residual.bits,
         };
@@ -297,13 +297,13 @@ fn begin(samples: &[i64], bits: u32) -> Best
     let width = u64::from(bits);
     if all_equal(samples) {
         Best {
-            content: Content::Constant,
+            content: ContentKind::Constant,
             residual,
             bits: width,
         }
     } else {
         Best {
-            content: Content::Verbatim,
+            content: ContentKind::Verbatim,
             residual,
             bits: width * samples.len() as u64,
         }

@@ -4,7 +4,7 @@ use crate::residual_form::ResidualForm;
 
 /// How the samples of a subframe are written, but for the codings of a residual.
 #[derive(Clone, Copy, Debug, PartialEq, Eq)]
-pub enum Content {
+pub enum ContentKind {
     /// The first sample, which stands for all (RFC 9639, section 9.2.3).
     Constant,
     /// Each sample (section 9.2.4).
@@ -25,6 +25,6 @@ pub enum PredictorKind {
 #[derive(Clone, Copy, Debug, PartialEq, Eq)]
 pub struct SubframeForm {
     pub wasted: u32,
-    pub content: Content,
+    pub content: ContentKind,
     pub residual: ResidualForm,
 }

@@ -14,7 +14,7 @@ ghost use Rattle.flac_subframe.specs.declared.limits.Limits.{Limits};
 ghost use Rattle.flac_subframe.specs.declared.linear.LinearPredictor.{LinearPredictor};
 
 use crate::choice::choose_in_places;
-use crate::content::{Content, SubframeForm};
+use crate::content::{ContentKind, SubframeForm};
 use crate::limits::Limits;
 use crate::linear::LinearPredictor;
 use crate::numbers::power;
@@ -52,7 +52,7 @@ impl WideChoice {
         Ok(WideChoice {
             form: SubframeForm {
                 wasted: 0,
-                content: Content::Constant,
+                content: ContentKind::Constant,
                 residual: ResidualForm::none(),
             },
             codings,

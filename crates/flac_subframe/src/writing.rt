@@ -15,7 +15,7 @@ ghost use Rattle.flac_subframe.specs.Spelling.{value_spelling, coding_spelling, 
 
 use crate::chosen::{Choice, MOST_SAMPLES};
 use crate::coding::Coding;
-use crate::content::{Content, PredictorKind};
+use crate::content::{ContentKind, PredictorKind};
 use crate::folding::fold;
 use crate::leaving::{take_fixed, take_linear};
 use crate::linear::LinearPredictor;
@@ -256,9 +256,9 @@ fn write_content<W: Target>(
     ensures { Writes (content_spelling depth (content_of (body_as predictors.now choice.now.form.content (codings_lent choice.now) samples.now))) writer.old writer.new result }
 {
     match choice.form.content {
-        Content::Constant => writer.put_signed(depth, samples[0]),
-        Content::Verbatim => write_signed(writer, depth, samples),
-        Content::Predicted(kind) => match kind {
+        ContentKind::Constant => writer.put_signed(depth, samples[0]),
+        ContentKind::Verbatim => write_signed(writer, depth, samples),
+        ContentKind::Predicted(kind) => match kind {
             PredictorKind::Fixed(order) => {
                 write_fixed(writer, order, choice, depth, samples, values)
             }
@@ -284,14 +284,14 @@ fn write_header<W: Target>(writer: &mut BitWriter<W>, kind: u64, wasted: u32) ->
 }
 
 /// The type of a subframe (RFC 9639, section 9.2.1).
-fn type_of_content(content: Content, predictors: &[LinearPredictor]) -> u64
+fn type_of_content(content: ContentKind, predictors: &[LinearPredictor]) -> u64
     requires handed { HasPredictor predictors.now content }
     ensures { result ≡ type_number predictors.now content }
 {
     match content {
-        Content::Constant => 0,
-        Content::Verbatim => 1,
-        Content::Predicted(kind) => match kind {
+        ContentKind::Constant => 0,
+        ContentKind::Verbatim => 1,
+        ContentKind::Predicted(kind) => match kind {
             PredictorKind::Fixed(order) => 8 + order as u64,
             PredictorKind::Linear(index) => {
                 let predictor = &predictors[index];

@@ -5,7 +5,7 @@ use Rattle.flac_bits.specs.Rice.{IsResidual}
 use Rattle.flac_subframe.specs.Cost.{MayWrite}
 use Rattle.flac_subframe.specs.inner.Cost.{residual_cost}
 use Rattle.flac_subframe.specs.Cost.{Codings, codings_in}
-use Rattle.flac_subframe.specs.declared.content.Content.{Content}
+use Rattle.flac_subframe.specs.declared.content.ContentKind.{ContentKind}
 use Rattle.flac_subframe.specs.declared.choice.Best.{Best}
 use Rattle.flac_subframe.specs.declared.linear.LinearPredictor.{LinearPredictor}
 use Rattle.flac_subframe.specs.Bodies.{Chooses, coefficients_of, shift_of, differences, StandsFor, spelled}
@@ -17,7 +17,7 @@ residual_by p s = differences (coefficients_of p) (shift_of p) s
 
 -- a way to write samples, and how many bits it takes; of the codings only a content with a residual makes use
 pub record Way : Type 0 where
-  pub content : Content
+  pub content : ContentKind
   pub codings : Codings
   pub bits : ℕ
 
