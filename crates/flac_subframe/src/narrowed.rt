@@ -9,14 +9,7 @@ ghost use Rattle.flac_subframe.specs.Prediction.{prediction, fixed_coefficients}
 ghost use Rattle.flac_subframe.specs.Bodies.{differences};
 
 use crate::folding::fold_narrow;
-
-/// A sample moved up by half the range of 27 bits, below 2^27 just if it has no more bits.
-#[inline(always)]
-fn moved(sample: i64) -> u64
-    ensures { (result < 2 ^ 27) ↔ FitsBits 27 sample }
-{
-    sample.wrapping_add(0x400_0000).cast_unsigned()
-}
+use crate::numbers::offset_binary;
 
 /// Whether each sample has so few bits that what a fixed predictor leaves is in the range of a residual.
 fn are_narrow(samples: &[i64]) -> bool
@@ -24,7 +17,7 @@ fn are_narrow(samples: &[i64]) -> bool
 {
     let mut all: u64 = 0;
     for sample in samples {
-        all |= moved(*sample);
+        all |= offset_binary(*sample, 27);
     }
     all < 0x800_0000
 }
