@@ -60,12 +60,6 @@ one_type : (hs : List LinearPredictor) (i : ℕ) (f : Codings) (t : List ℤ) �
 one_type [] i f t within room = absurd (omega (arith, within))
 one_type (q ∷ qs) i f t within room = linear_type (handed_at (q ∷ qs) i) (get_or (q ∷ qs) i q) f t (at_place (q ∷ qs) i (get_or (q ∷ qs) i q) within (get_or_default (q ∷ qs) i q (get_or (q ∷ qs) i q) within)) room
 
-one_few : (hs : List LinearPredictor) (i : ℕ) → i < length hs → order_of (handed_at hs i) ≤ 32
-one_few [] i within = absurd (omega (arith, within))
-one_few (q ∷ qs) i within =
-    let p : LinearPredictor = get_or (q ∷ qs) i q in
-    subst (λ (x : Chooses). order_of x ≤ 32) (sym (at_place (q ∷ qs) i p within (get_or_default (q ∷ qs) i q p within))) p.few
-
 module _ (hs : List LinearPredictor) where
   pub type_is : (most : ℕ) (c : ContentKind) (f : Codings) (t : List ℤ) → HasPredictor hs c → StandsFor most (offered hs) (body_as hs c f t) t → type_number hs c ≡ type_of (content_of (body_as hs c f t))
   type_is most Constant f t has h = refl
@@ -78,12 +72,6 @@ module _ (hs : List LinearPredictor) where
   type_is most (Predicted (Linear index)) f t has h =
       let room = h.1.room in
       one_type hs index f t has (omega (arith, room))
-
-  pub type_few : (c : ContentKind) → HasPredictor hs c → type_number hs c < 64
-  type_few Constant has = omega arith
-  type_few Verbatim has = omega arith
-  type_few (Predicted (Fixed order)) has = omega (arith, has)
-  type_few (Predicted (Linear index)) has = omega (arith, one_few hs index has)
 
 -- what stands with few partition orders stands with more
 pub fewer_orders : (most more : ℕ) (ps : List Chooses) (b : Body) (t : List ℤ) → most ≤ more → StandsFor most ps b t → StandsFor more ps b t
