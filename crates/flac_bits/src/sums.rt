@@ -185,8 +185,8 @@ fn crc32_byte_by_byte(check: u32, bytes: &[u8]) -> u32
     check
 }
 
-/// The CRC-32 after more bytes, as [`crc32`] has it, from the CRC-32 `check` of the bytes before. It is for a page whose
-/// parts are in several places.
+/// The CRC-32 after more bytes, as [`crc32`] has it, from the CRC-32 `check` of the bytes before. It is for a page
+/// whose parts are in several places.
 #[tactic(auto, unfolding(crate::specs::Check::fed))]
 pub fn crc32_after(check: u32, bytes: &[u8]) -> u32
     ensures { result ≡ fed 32 79764919 check (bits_of bytes.now) }
