@@ -14,7 +14,7 @@ folded_cost k n = n / 2 ^ k + 1 + k
 abbrev pub value_cost : ℕ → ℤ → ℕ
 value_cost k r = folded_cost k (folded r)
 
--- a partition beside its parameter
+-- a partition without its parameter
 abbrev pub coding_cost : Coding → List ℤ → ℕ
 coding_cost (Rice k) rs = sum_by (value_cost k) rs
 coding_cost (Escape n) rs = 5 + n * length rs
@@ -36,7 +36,7 @@ abbrev pub HasByte : Coding → Type 0
 HasByte (Rice k) = k < 32
 HasByte (Escape n) = n < 32
 
--- the codings of a choice that is lent
+-- the codings of a choice that is borrowed
 abbrev pub codings_lent : ChoiceView → Codings
 codings_lent c = codings_of c.form.residual c.codings.now
 

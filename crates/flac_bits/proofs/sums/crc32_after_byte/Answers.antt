@@ -1,6 +1,6 @@
 use Rattle.std.proofs.Common.{◌<◌, ◌^◌, rules}
 use Rattle.flac_bits.proofs.Eights.{byte32}
-use Rattle.flac_bits.proofs.sums.byte_checked32.Goals as goal
+use Rattle.flac_bits.proofs.sums.crc32_after_byte.Goals as goal
 
 pub returns : goal.returns
 returns c =

@@ -1,7 +1,7 @@
 use Rattle.std.proofs.Common.{◌<◌, ◌^◌, get_or, Fits, w8, rules}
 use Rattle.std.proofs.Math.Facts.{Fits-lt-pow}
 use Rattle.flac_bits.proofs.Eights.{eight32}
-use Rattle.flac_bits.proofs.sums.eight_checked32.Goals as goal
+use Rattle.flac_bits.proofs.sums.crc32_after_eight.Goals as goal
 
 pub returns : goal.returns
 returns c =
