@@ -1,4 +1,4 @@
--- How many calls have failed, if one of them fails.
+-- The failures of calls of which one fails.
 use Rattle.std.specs.Prelude.{ℕ, cond, nat_lt}
 
 -- how many failed of the first `calls` calls, of which the one at index `at` fails

@@ -44,8 +44,8 @@ pub record Cursor : Type 0 where
 abbrev pub Consumes : List Bool → Cursor → Cursor → Type 0
 Consumes text old new = (old.left ≡ text ++ new.left) × (new.mark ≡ past text old.mark)
 
--- What follows the bytes to come. A source may be one part of several, as a packet of an Ogg stream is; then `pieces`
--- has the length of each part after it, and `bytes` the bytes of all of them.
+-- What follows the bytes to come. A source may be one part of several, as a packet of an Ogg stream is; then the parts
+-- after it come in pieces: `pieces` has the length of each, and `bytes` the bytes of all of them.
 pub record Behind : Type 0 where
   -- the error that comes in place of the end: a place and a reason of the source's own
   pub fails : Option (ℕ × Why)
@@ -53,7 +53,7 @@ pub record Behind : Type 0 where
   pub cut : Bool
   pub pieces : List ℕ
   pub bytes : List ℕ
-  -- the error that ends a part early, which goes on after these
+  -- the error that ends early a part which goes on after these
   pub fault : Option (ℕ × Why)
   -- the error if no part is left, in place of the end of all parts
   pub stop : Option (ℕ × Why)

@@ -25,7 +25,8 @@ AreMade ps [] (s ∷ ss) = ⊥
 AreMade ps (c ∷ cs) (s ∷ ss) = IsMadeIn ps c s × AreMade ps cs ss
 
 -- What was chosen for a block makes its shortest frame, under the header of its number: the subframes are chosen for
--- the channels that the channel code stores. The frame is short, and `bits` are those of its subframes.
+-- the channels that the channel code stores. The frame has at most 16777215 bytes, and `bits` are those of its
+-- subframes.
 pub record IsChoiceWith (ps : List LinearPredictor) (sound : Sound) (size number : ℕ) (block : List (List ℤ)) (c : FrameChoice) : Type 0 where
   pub form : FrameForm
   pub header : chosen_header sound.profile size sound.rate c.code sound.bits number ≡ Some form.header

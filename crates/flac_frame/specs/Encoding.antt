@@ -75,8 +75,8 @@ pub record IsOfWidened (ps : List LinearPredictor) (sound : Sound) (size number 
 abbrev pub IsOfFamily : Sound → (size number : ℕ) → List (List ℤ) → FrameForm → Type 0
 IsOfFamily sound size number block f = IsOfWidened [] sound size number block f
 
--- the subframes are of the family, each for its samples: constant, verbatim or by a fixed predictor, and without all
--- wasted bits
+-- the subframes are of the family, each for its samples: constant, verbatim or by a fixed predictor, with all wasted
+-- bits left out
 abbrev pub EachInFamily : List Form → List (List ℤ) → Type 0
 EachInFamily [] [] = ⊤
 EachInFamily [] (s ∷ ss) = ⊥
@@ -111,8 +111,8 @@ pub record IsLeastWith (ps : List LinearPredictor) (sound : Sound) (size number 
   pub fewest : (g : FrameForm) → IsOfWidened ps sound size number block g → subframes_cost sound.bits f ≤ subframes_cost sound.bits g
   pub first : (g : FrameForm) → IsOfWidened ps sound size number block g → g.header.channel_code < f.header.channel_code → subframes_cost sound.bits f < subframes_cost sound.bits g
 
--- at a whole byte, at which the checks begin, the spelling of such a frame was written, the shortest of the family, and
--- short
+-- at a whole byte, at which the checks begin, the spelling of such a frame was written, the shortest of the family, of
+-- at most 16777215 bytes
 abbrev pub WritesFrameWith : {X : Type 0} → List LinearPredictor → Sound → (size number : ℕ) → List (List ℤ) → Written → Written → Result X Why → Type 0
 WritesFrameWith ps sound size number block old new result = (f : FrameForm) × IsEncoding sound size number block f × (IsLeastWith ps sound size number block f × IsShort sound.bits f) × Writes (frame_spelling sound.bits f) (restarted old) new result
 

@@ -133,8 +133,8 @@ frames_in (framed f ∷ xs) = suc (frames_in xs)
 abbrev pub due : (block_size number : ℕ) → Option Before
 due block_size number = cond (nat_eq number 0) None (Some (record { first_size = block_size; variable = false; next = number; size = block_size }))
 
--- The encoder is in the state of this stream, which may end here: its STREAMINFO is that of the format, it has the
--- frames and the samples that were pushed, and as long as no block was short the next frame is still due.
+-- The stream of the encoder, which may end here: its STREAMINFO is that of the format, it has the frames and the
+-- samples that were pushed, and as long as no block was short the next frame is still due.
 pub record StandsFor {S : Type 0} (e : Pushed S) (items : List Piece) (text : List Bool) : Type 0 where
   pub stream : Stream grammar (opening e.shape.profile) (beginning Truncated) items text
   pub info : (after grammar (opening e.shape.profile) items).stand.info ≡ Some (open_info e.shape)
@@ -153,8 +153,7 @@ abbrev pub frame_with : (number : ℕ) → List (List ℤ) → Frame
 frame_with number block = record { variable = false; number = number; size = samples_each block; channels = block }
 
 -- The bits are the next frame: it has exactly the samples of the block, no frame of its family, with the predictors of
--- the encoder, is shorter, and whatever stream the encoder was in the state of, it is now in the state of that stream
--- with the frame as one more item.
+-- the encoder, is shorter, and the stream of the encoder is then the one before with the frame as one more item.
 pub record IsNext {S : Type 0} (old new : Pushed S) (block : List (List ℤ)) (text : List Bool) : Type 0 where
   pub spells : SpellsFrame (sound_of old.shape block) (frame_with old.number block) text
   pub least : SpellsLeast old.predictors (sound_of old.shape block) (frame_with old.number block) text

@@ -68,9 +68,9 @@ abbrev pub listed_fault : EncodeFault → (listed : Bool) → EncodeFault
 listed_fault (Setup fault) listed = Setup fault
 listed_fault other listed = cond listed other BadMapping
 
--- The encoder is in the state of this Ogg stream: of what was written and of the packet that is held back, marked last.
--- Its packets are these, the first with the 51 bytes of FLAC's first one, and each is one of these items. The items are
--- those of the native stream that the encoder is in the state of.
+-- The Ogg stream of the encoder: what was written and the packet that is held back, marked last. Its packets are these,
+-- the first with the 51 bytes of FLAC's first one, and each is one of these items. The items are those of the native
+-- stream of the encoder's state.
 pub record StandsForOgg {S : Type 0} (e : PushedOgg S) (items : List Piece) (packets : List Placed) (written : List Bool) : Type 0 where
   pub pages : ArePages e.serial packets written (bits_of e.middle) (bits_of e.last) e.sequence
   pub stream : OggStream e.pushed.shape.profile (beginning Truncated) items (written ++ bits_of e.last)
@@ -82,8 +82,8 @@ pub record StandsForOgg {S : Type 0} (e : PushedOgg S) (items : List Piece) (pac
 
 -- ---- the calls
 
--- The encoder was made: it is in the state of the stream of STREAMINFO and the list, each in a header packet, and the
--- target was sent all of it but what is held back.
+-- The encoder was made: its stream is that of STREAMINFO and the list, each in a header packet, and the target was sent
+-- all of it but what is held back.
 pub record Opens {S : Type 0} (g : target.Ghosts S) (list : List Block) (old : S) (e : PushedOgg S) : Type 0 where
   pub packets : List Placed
   pub text : List Bool
@@ -93,9 +93,8 @@ pub record Opens {S : Type 0} (g : target.Ghosts S) (list : List Block) (old : S
   pub sent : g.known old ≡ true → bits_of (g.sent e.pushed.target) ≡ bits_of (g.sent old) ++ text
 
 -- The packet is the next frame: it has exactly the samples of the block, no frame of its family, with the predictors of
--- the encoder, is shorter, its last page has the number of samples so far, and whatever stream the encoder was in the
--- state of, it is now in the state of that stream with the frame as one more item in one more packet. The packet that
--- was held is then written.
+-- the encoder, is shorter, its last page has the number of samples so far, and the stream of the encoder is then the
+-- one before with the frame as one more item in one more packet. The packet that was held is then written.
 pub record IsNextPacket {S : Type 0} (old new : PushedOgg S) (block : List (List ℤ)) (q : Placed) : Type 0 where
   pub kind : q.kind ≡ kind_of.Frame (old.pushed.samples + samples_each block)
   pub spells : SpellsFrame (sound_of old.pushed.shape block) (frame_with old.pushed.number block) (bits_of q.packet)
@@ -110,7 +109,7 @@ pub record PushesOgg {S : Type 0} (g : target.Ghosts S) (block : List (List ℤ)
   pub sent : bits_of (g.sent new.pushed.target) ≡ bits_of (g.sent old.pushed.target) ++ bits_of old.middle
 
 -- The target was sent a prefix of the packet that was held. So what was sent is a prefix of the stream that the encoder
--- would now be in the state of.
+-- would have after it.
 pub record BeginsPushOgg {S : Type 0} (g : target.Ghosts S) (block : List (List ℤ)) (old new : PushedOgg S) : Type 0 where
   pub packet : Placed
   pub to : PushedOgg S
@@ -120,8 +119,7 @@ pub record BeginsPushOgg {S : Type 0} (g : target.Ghosts S) (block : List (List 
   pub held : bits_of old.middle ≡ front ++ rest
   pub sent : bits_of (g.sent new.pushed.target) ≡ bits_of (g.sent old.pushed.target) ++ front
 
--- The target was sent the packet that was held, marked last. So what was sent is the stream that the encoder was in the
--- state of.
+-- The target was sent the packet that was held, marked last. So what was sent is the stream of the encoder.
 pub record EndsOgg {S : Type 0} (g : target.Ghosts S) (e : PushedOgg S) (new : S) : Type 0 where
   pub sent : bits_of (g.sent new) ≡ bits_of (g.sent e.pushed.target) ++ bits_of e.last
   pub whole : (items : List Piece) (packets : List Placed) (written : List Bool) → StandsForOgg e items packets written

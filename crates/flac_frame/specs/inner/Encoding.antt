@@ -14,8 +14,8 @@ use Rattle.flac_subframe.specs.Subframe.{Form, samples_of}
 -- ---- a frame
 
 -- no form in the family takes fewer bits for the samples: constant, verbatim, or a fixed predictor of order 0 to 4 with
--- either coding method, partition orders up to `most` and any parameter or escape, and without all wasted bits; and the
--- same with the linear predictors of the list
+-- either coding method, partition orders up to `most` and any parameter or escape, with all wasted bits left out; and
+-- the same with the linear predictors of the list
 abbrev pub IsLeastFor : (most : ℕ) → List LinearPredictor → ℕ → List ℤ → Form → Type 0
 IsLeastFor most ps depth s f = IsLeast (λ g. Stands most (offered ps) g s) (λ g. length (subframe_spelling depth g)) f
 

@@ -15,7 +15,7 @@ known (c ∷ cs) s (suc i) = (c *ℤ sample_at s i) +ℤ known cs s i
 abbrev pub AreSums : List ℤ → List ℤ → List ℤ → ℕ → Type 0
 AreSums cs s sums i = (k : ℕ) → k ≤ length cs → sample_at sums k ≡ known (drop k cs) s i
 
--- each is at most as large as the products of the coefficients from its index on
+-- each is at most 2^46 for each coefficient from its index on
 abbrev pub AreBelow : ℕ → List ℤ → Type 0
 AreBelow order sums = (k : ℕ) → k ≤ order → unsigned_abs (sample_at sums k) ≤ 2 ^ 46 * (order - k)
 
