@@ -52,6 +52,7 @@ HasWidths order rs low high widths = (p j : ℕ) → low ≤ p → p ≤ high �
 
 -- the arrays of a search are long enough for partition orders up to `most`
 pub record HasPlaces (most : ℕ) (t : Tables) : Type 0 where
+  pub leaves : 2 ^ most ≤ length t.leaves.now
   pub sums : 2 ^ most ≤ length t.sums.now
   pub four : 2 * 2 ^ most ≤ length t.four.now
   pub five : 2 * 2 ^ most ≤ length t.five.now
