@@ -47,7 +47,7 @@ impl StreamFormat {
         if let Some(fault) = format {
             return Some(fault);
         }
-        if self.block_size < 16 || self.block_size > self.profile.greatest_block(self.rate) {
+        if !self.profile.allows_block(self.block_size, self.rate) {
             return Some(SetupFault::BadBlockSize);
         }
         None
