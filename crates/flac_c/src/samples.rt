@@ -88,7 +88,7 @@ pub extern "C" fn flac_proved_samples(
 {
     let mut sink = Numbers {
         list: Vec::new(alloc),
-        failures: Failures { count: 0 },
+        failures: Failures::new(),
     };
     if let Err(told) = collect(alloc, bytes, &mut sink) {
         *fault = in_c(Err(told));

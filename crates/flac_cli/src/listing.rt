@@ -26,7 +26,7 @@ impl<W: Target> Listing<W> {
         Listing {
             lines: Lines::new(target),
             index: 0,
-            failures: Failures { count: 0 },
+            failures: Failures::new(),
         }
     }
 }

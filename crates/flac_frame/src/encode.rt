@@ -217,17 +217,7 @@ fn write_first<W: Target>(
     ensures wrote { WritesFrameWith subject.now.predictors.now subject.now.audio.now subject.now.size subject.now.number (block_of subject.now.start subject.now.size subject.now.audio.now.channels) writer.old writer.new result }
     ensures room { workspace.new ≡ workspace.old }
 {
-    let audio = subject.audio;
-    let Some(header) = FrameHeader::chosen_in(
-        audio.profile(),
-        subject.size as u32,
-        audio.rate(),
-        choice.code,
-        audio.bits(),
-        subject.number,
-    ) else {
-        return Err(Why::Write);
-    };
+    let header = choice.header(subject.audio, subject.size, subject.number);
     write_header(&header, writer)?;
     write_subframes(subject, choice, places, workspace, writer)?;
     write_end(writer)

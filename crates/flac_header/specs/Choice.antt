@@ -1,5 +1,5 @@
 -- The codes that a writer chooses for a block size, a rate and a depth.
-use Rattle.std.specs.Prelude.{ℕ, ◌*◌, ◌%◌, ◌^◌, ◌&&◌, ◌||◌, false, cond, nat_eq, nat_lt, nat_le, Option, Some, None}
+use Rattle.std.specs.Prelude.{ℕ, ◌%◌, ◌^◌, ◌&&◌, ◌||◌, false, cond, nat_eq, nat_lt, nat_le, Option, Some, None}
 use Rattle.std.specs.Option.{option_or}
 use Rattle.flac_header.specs.Header.{Header}
 use Rattle.flac_header.specs.declared.subset.Profile.{Profile}

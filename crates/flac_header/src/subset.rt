@@ -1,6 +1,6 @@
 //! The rules of the streamable subset (RFC 9639, section 7).
 
-ghost use Rattle.std.specs.Prelude.{◌≡◌, ◌≤◌};
+ghost use Rattle.std.specs.Prelude.{◌≡◌, ◌≤◌, ◌&&◌, nat_le};
 ghost use Rattle.flac_header.specs.Header.{allowed, greatest_in};
 
 use crate::frame_header::FrameHeader;
@@ -29,6 +29,14 @@ impl Profile {
             Profile::Subset => subset,
             Profile::Lax => 65535,
         }
+    }
+
+    /// Whether a stream of the profile may have blocks of `size` samples at a sample rate in Hz: 16 or more, and at most
+    /// [`Profile::greatest_block`] (RFC 9639, sections 7, 8.2 and 9.1.6). The last block of a stream may be smaller.
+    pub fn allows_block(self, size: u32, rate: u32) -> bool
+        ensures { result ≡ (nat_le 16 size && nat_le size (greatest_in self rate)) }
+    {
+        size >= 16 && size <= self.greatest_block(rate)
     }
 }
 
