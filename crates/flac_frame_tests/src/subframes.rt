@@ -5,9 +5,9 @@ ghost use Rattle.flac_bits.specs.Signed.{FitsBits};
 
 use flac_bits::{BitReader, BitWriter, Collected, Memory, Target, Why};
 use flac_subframe::{
-    Limits, WideChoice, Workspace, choose, choose_in, predict_fixed, predict_linear, read_subframe,
-    samples_are_restored, subframes_are_read_again, subframes_are_spelled, write_subframe,
-    write_subframe_in,
+    Limits, WideChoice, Workspace, choose, choose_in, offset_binary, predict_fixed, predict_linear,
+    read_subframe, samples_are_restored, subframes_are_read_again, subframes_are_spelled,
+    write_subframe, write_subframe_in,
 };
 use flac_vectors::{fields_of, pair_of, samples_of};
 use std::alloc::Global;
@@ -120,6 +120,16 @@ fn predicts(rt: HostRuntime) {
     samples_are_restored();
     assert!(rt; predict_linear(&[1], 1, &[-3]) == -2);
     assert!(rt; predict_fixed(2, &[0, 1]) == 2);
+}
+
+/// Offset binary by hand: the range of 8 bits begins at 0 and ends at 255, and what it does not hold is outside these.
+#[test]
+fn offsets(rt: HostRuntime) {
+    assert!(rt; offset_binary(-128, 8) == 0);
+    assert!(rt; offset_binary(127, 8) == 255);
+    assert!(rt; offset_binary(128, 8) == 256);
+    assert!(rt; offset_binary(-129, 8) == u64::MAX);
+    assert!(rt; offset_binary(-1, 33) == 0xFFFF_FFFF);
 }
 
 #[test]
