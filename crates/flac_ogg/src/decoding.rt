@@ -120,7 +120,7 @@ pub fn decode_ogg<R: Source, S: Sink>(
     let mut packets = OggPackets::over(Pages::over(room, source));
     let outcome = hand_out(&mut packets, &mut track, sink);
     let pages = packets.into_pages();
-    let _source = pages.into_source();
+    let _source = pages.into_source(); // for its clauses alone
     outcome
 }
 
@@ -277,6 +277,6 @@ pub fn decode_any<R: Source, S: Sink>(
     let front = pull_front(source)?;
     let mut fronted = Fronted { front, source };
     let outcome = decode_as(alloc, begins_page(front), &mut fronted, profile, sink);
-    let _source = fronted.into_source();
+    let _source = fronted.into_source(); // for its clauses alone
     outcome
 }

@@ -16,7 +16,9 @@ pub enum ContentKind {
 /// A predictor: a fixed one by its order, or a linear one by its place in the list that was handed in.
 #[derive(Clone, Copy, Debug, PartialEq, Eq)]
 pub enum PredictorKind {
+    /// The fixed predictor of this order, 0 to 4 (RFC 9639, section 9.2.5).
     Fixed(usize),
+    /// The linear predictor at this index of the list (section 9.2.6).
     Linear(usize),
 }
 

@@ -170,7 +170,7 @@ pub fn choose_in(
     ensures places { vec_len choice.new.codings ≡ vec_len choice.old.codings }
     ensures room { workspace.new ≡ workspace.old }
 {
-    let _most = workspace.most;
+    let _most = workspace.most; // for the proof alone: what holds of every workspace
     let task = Task {
         samples,
         depth,
