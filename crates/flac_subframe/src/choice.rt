@@ -228,6 +228,8 @@ fn least_form(
     ensures none { let rs = take (length subject.now.samples.now - order) values.now in IfNone result ((f : Codings) → MayWrite subject.now.most order rs f → below ≤ residual_cost order rs f) }
     ensures places { HasPlaces subject.now.most tables.new }
     ensures same { tables.new.codings.ghost_name ≡ tables.old.codings.ghost_name }
+    ensures coarse { subject.now.most ≤ 8 → tables.new.priced ≤ tables.old.priced + 32 * length subject.now.samples.now }
+    ensures priced { tables.new.priced ≤ tables.old.priced + 93 * length subject.now.samples.now }
 {
     let count = subject.samples.len() - order;
     let values = &values[..count];
@@ -260,6 +262,8 @@ fn improve(
     ensures arrays { HasRoom (length subject.now.samples.now) arrays.new }
     ensures tables { HasPlaces subject.now.most tables.new }
     ensures same { tables.new.codings.ghost_name ≡ tables.old.codings.ghost_name }
+    ensures coarse { subject.now.most ≤ 8 → tables.new.priced ≤ tables.old.priced + 32 * length subject.now.samples.now }
+    ensures priced { tables.new.priced ≤ tables.old.priced + 93 * length subject.now.samples.now }
 {
     let order = subject.order(kind);
     if order >= subject.samples.len() {
@@ -319,6 +323,8 @@ fn search(subject: &SampleView<'_>, arrays: &mut SearchArrays<'_>, tables: &mut 
     ensures best { IsBest subject.now.predictors.now subject.now.most subject.now.bits subject.now.samples.now (offered subject.now.predictors.now) (way_of result tables.new.codings.now) }
     ensures within { result.residual.partition_order ≤ subject.now.most }
     ensures same { tables.new.codings.ghost_name ≡ tables.old.codings.ghost_name }
+    ensures coarse { subject.now.most ≤ 8 → tables.new.priced ≤ tables.old.priced + (5 + length subject.now.predictors.now) * (32 * length subject.now.samples.now) }
+    ensures priced { tables.new.priced ≤ tables.old.priced + (5 + length subject.now.predictors.now) * (93 * length subject.now.samples.now) }
 {
     let mut best = begin(subject.samples, subject.bits);
     let first = likely_order(subject.samples);
@@ -352,33 +358,47 @@ fn search(subject: &SampleView<'_>, arrays: &mut SearchArrays<'_>, tables: &mut 
     best
 }
 
-/// The same by tables that are one after another in an array.
+/// The same by tables that are one after another in an array, and how often a value was priced.
 fn search_within(
     subject: &SampleView<'_>,
     arrays: &mut SearchArrays<'_>,
     tables: &mut [u64],
     widths: &mut [u8],
     codings: &mut [u8],
-) -> Best
+) -> (Best, u64)
     requires some { 0 < length subject.now.samples.now }
     requires arrays { HasRoom (length subject.now.samples.now) arrays.old }
-    requires tables { 5 * 2 ^ subject.now.most ≤ length tables.old }
+    requires tables { 6 * 2 ^ subject.now.most ≤ length tables.old }
     requires widths { 2 * 2 ^ subject.now.most ≤ length widths.old }
     requires codings { 2 ^ subject.now.most ≤ length codings.old }
-    ensures best { IsBest subject.now.predictors.now subject.now.most subject.now.bits subject.now.samples.now (offered subject.now.predictors.now) (way_of result codings.new) }
-    ensures within { result.residual.partition_order ≤ subject.now.most }
+    ensures best { IsBest subject.now.predictors.now subject.now.most subject.now.bits subject.now.samples.now (offered subject.now.predictors.now) (way_of result.0 codings.new) }
+    ensures within { result.0.residual.partition_order ≤ subject.now.most }
+    ensures coarse { subject.now.most ≤ 8 → result.1 ≤ (5 + length subject.now.predictors.now) * (32 * length subject.now.samples.now) }
+    ensures priced { result.1 ≤ (5 + length subject.now.predictors.now) * (93 * length subject.now.samples.now) }
 {
     let count = power(subject.most);
-    let (sums, rest) = tables.split_at_mut(count);
+    let (leaves, others) = tables.split_at_mut(count);
+    let (sums, rest) = others.split_at_mut(count);
     let (four, five) = rest.split_at_mut(2 * count);
     let mut tables = Tables {
+        leaves,
         sums,
         four,
         five,
         widths,
         codings,
+        priced: 0,
     };
-    search(subject, arrays, &mut tables)
+    let best = search(subject, arrays, &mut tables);
+    (best, tables.priced)
+}
+
+/// What a search finds: the subframe of the fewest bits, how many it takes, and how often a value was priced to find it.
+#[derive(Clone, Copy)]
+pub(crate) struct Found {
+    pub(crate) form: SubframeForm,
+    pub(crate) bits: u64,
+    pub(crate) priced: u64,
 }
 
 /// The subframe of the fewest bits and how many it takes. The codings of its residual are the first of the bytes; the places behind those for
@@ -390,18 +410,20 @@ pub(crate) fn choose_in_places(
     folds: &mut [u32],
     tables: &mut [u64],
     bytes: &mut [u8],
-) -> (SubframeForm, u64)
+) -> Found
     requires longs { 2 * length task.now.samples.now ≤ length longs.old }
     requires shorts { 2 * length task.now.samples.now ≤ length shorts.old }
     requires folds { length task.now.samples.now ≤ length folds.old }
-    requires tables { 5 * 2 ^ task.now.most ≤ length tables.old }
+    requires tables { 6 * 2 ^ task.now.most ≤ length tables.old }
     requires bytes { 3 * 2 ^ task.now.most ≤ length bytes.old }
-    ensures least { IsLeast (λ f. Stands task.now.most (offered task.now.predictors.now) f task.now.samples.now) (λ f. length (subframe_spelling task.now.depth f)) (form_as task.now.predictors.now result.0 (take (2 ^ result.0.residual.partition_order) bytes.new) task.now.samples.now) }
-    ensures bits { result.1 ≡ length (subframe_spelling task.now.depth (form_as task.now.predictors.now result.0 (take (2 ^ result.0.residual.partition_order) bytes.new) task.now.samples.now)) }
-    ensures made { IsMadeAs task.now.most task.now.predictors.now result.0 (take (2 ^ result.0.residual.partition_order) bytes.new) task.now.samples.now }
-    ensures some { result.0.wasted < task.now.depth }
-    ensures within { result.0.residual.partition_order ≤ task.now.most }
-    ensures small { result.1 ≤ 2 ^ 61 }
+    ensures least { IsLeast (λ f. Stands task.now.most (offered task.now.predictors.now) f task.now.samples.now) (λ f. length (subframe_spelling task.now.depth f)) (form_as task.now.predictors.now result.form (take (2 ^ result.form.residual.partition_order) bytes.new) task.now.samples.now) }
+    ensures bits { result.bits ≡ length (subframe_spelling task.now.depth (form_as task.now.predictors.now result.form (take (2 ^ result.form.residual.partition_order) bytes.new) task.now.samples.now)) }
+    ensures made { IsMadeAs task.now.most task.now.predictors.now result.form (take (2 ^ result.form.residual.partition_order) bytes.new) task.now.samples.now }
+    ensures some { result.form.wasted < task.now.depth }
+    ensures within { result.form.residual.partition_order ≤ task.now.most }
+    ensures small { result.bits ≤ 2 ^ 61 }
+    ensures coarse { task.now.most ≤ 8 → result.priced ≤ (5 + length task.now.predictors.now) * (32 * length task.now.samples.now) }
+    ensures priced { result.priced ≤ (5 + length task.now.predictors.now) * (93 * length task.now.samples.now) }
 {
     let samples = task.samples;
     let (shortened, wide) = longs.split_at_mut(samples.len());
@@ -424,11 +446,15 @@ pub(crate) fn choose_in_places(
         folds,
     };
     let (codings, widths) = bytes.split_at_mut(power(task.most));
-    let best = search_within(&subject, &mut arrays, tables, widths, codings);
+    let (best, priced) = search_within(&subject, &mut arrays, tables, widths, codings);
     let form = SubframeForm {
         wasted,
         content: best.content,
         residual: best.residual,
     };
-    (form, 8 + u64::from(wasted) + best.bits)
+    Found {
+        form,
+        bits: 8 + u64::from(wasted) + best.bits,
+        priced,
+    }
 }

@@ -81,23 +81,17 @@ fn gains(sums: &[u64], best: &[u64], parameter: u8) -> bool
 }
 
 /// Compares, at each partition order, each partition's cost under a parameter with the best so far, if it lowers that of one of the finest.
-fn pass(
-    residual: &ResidualView<'_>,
-    width: u8,
-    parameter: u8,
-    sums: &mut [u64],
-    table: &mut [u64],
-) -> bool
-    requires bounded { All (λ n. n < 2 ^ width) residual.now.folds.now }
+/// `sums` has the costs of these.
+fn pass(residual: &ResidualView<'_>, parameter: u8, sums: &mut [u64], table: &mut [u64]) -> bool
     requires parameter { parameter < 31 }
     requires sums { length sums.old ≡ 2 ^ residual.now.partition_order }
+    requires costs { (j : ℕ) → j < 2 ^ residual.now.partition_order → slice_index sums.old j ≡ sum_by (value_cost parameter) (part residual.now.order residual.now.values.now residual.now.partition_order j) }
     requires table { 2 * 2 ^ residual.now.partition_order ≤ length table.old }
     ensures kept { length table.new ≡ length table.old }
     ensures entries { IsTrue result → (p j : ℕ) → p ≤ residual.now.partition_order → j < 2 ^ p → entry table.new p j ≡ min (entry table.old p j) (priced parameter (sum_by (value_cost parameter) (part residual.now.order residual.now.values.now p j))) }
     ensures same { result ≡ false → table.new ≡ table.old }
     ensures none { result ≡ false → (j : ℕ) → j < 2 ^ residual.now.partition_order → entry table.old residual.now.partition_order j ≤ priced parameter (sum_by (value_cost parameter) (part residual.now.order residual.now.values.now residual.now.partition_order j)) }
 {
-    price(residual, width, parameter, sums);
     let first = power(residual.partition_order);
     if !gains(sums, &table[first..2 * first], parameter) {
         return false;
@@ -112,32 +106,64 @@ fn pass(
     true
 }
 
+/// The same, but that it copies the costs under parameter 0, which are known.
+fn take_row(residual: &ResidualView<'_>, width: u8, parameter: u8, leaves: &[u64], sums: &mut [u64])
+    requires bounded { All (λ n. n < 2 ^ width) residual.now.folds.now }
+    requires parameter { parameter < 31 }
+    requires places { length sums.old ≡ 2 ^ residual.now.partition_order }
+    requires leaves { length leaves.now ≡ 2 ^ residual.now.partition_order }
+    requires known { (j : ℕ) → j < 2 ^ residual.now.partition_order → slice_index leaves.now j ≡ sum_by (value_cost 0) (part residual.now.order residual.now.values.now residual.now.partition_order j) }
+    ensures costs { (j : ℕ) → j < 2 ^ residual.now.partition_order → slice_index sums.new j ≡ sum_by (value_cost parameter) (part residual.now.order residual.now.values.now residual.now.partition_order j) }
+{
+    if parameter == 0 {
+        copy(leaves, sums, leaves.len());
+    } else {
+        price(residual, width, parameter, sums);
+    }
+}
+
 /// Fills an empty table with the least of the parameters below one: tries them downwards, as long as one of the finest partitions gains by it.
+/// It returns how many were priced; the costs under parameter 0 are in `leaves`.
 pub(crate) fn compare_down(
     residual: &ResidualView<'_>,
     width: u8,
     from: u8,
+    leaves: &[u64],
     sums: &mut [u64],
     table: &mut [u64],
-)
+) -> u8
     requires bounded { All (λ n. n < 2 ^ width) residual.now.folds.now }
+    requires some { 1 ≤ from }
     requires from { from ≤ 31 }
+    requires leaves { length leaves.now ≡ 2 ^ residual.now.partition_order }
+    requires known { (j : ℕ) → j < 2 ^ residual.now.partition_order → slice_index leaves.now j ≡ sum_by (value_cost 0) (part residual.now.order residual.now.values.now residual.now.partition_order j) }
     requires sums { length sums.old ≡ 2 ^ residual.now.partition_order }
     requires table { 2 * 2 ^ residual.now.partition_order ≤ length table.old }
     requires start { (p j : ℕ) → p ≤ residual.now.partition_order → j < 2 ^ p → entry table.old p j ≡ 2 ^ 64 - 1 }
     ensures entries { HasEntries from residual.now.order residual.now.values.now residual.now.partition_order table.new }
     ensures long { length table.new ≡ length table.old }
+    ensures few { result ≤ from - 1 }
 {
     let mut low = from;
     while low > 0 {
         low -= 1;
-        if !pass(residual, width, low, sums, table) {
-            return;
+        take_row(residual, width, low, leaves, sums);
+        if !pass(residual, low, sums, table) {
+            return from - low.max(1);
         }
     }
+    from - 1
+}
+
+/// How many parameters were priced, and whether no partition gains by one that was not.
+#[derive(Clone, Copy)]
+pub(crate) struct Tried {
+    pub(crate) count: u8,
+    pub(crate) settled: bool,
 }
 
 /// Goes on with a table of the parameters below one, upwards, as long as one of the finest partitions gains by it: whether none gains by any above.
+/// None gains by one above the width of the residual, so these are not tried.
 pub(crate) fn compare(
     residual: &ResidualView<'_>,
     width: u8,
@@ -145,23 +171,36 @@ pub(crate) fn compare(
     parameters: u8,
     sums: &mut [u64],
     table: &mut [u64],
-) -> bool
+) -> Tried
     requires bounded { All (λ n. n < 2 ^ width) residual.now.folds.now }
+    requires small_width { width ≤ 32 }
     requires from { from ≤ parameters }
     requires parameters { parameters ≤ 31 }
+    requires within { from ≤ width + 1 }
     requires sums { length sums.old ≡ 2 ^ residual.now.partition_order }
     requires table { 2 * 2 ^ residual.now.partition_order ≤ length table.old }
     requires start { HasEntries from residual.now.order residual.now.values.now residual.now.partition_order table.old }
     ensures entries { HasEntries parameters residual.now.order residual.now.values.now residual.now.partition_order table.new }
-    ensures settled { result ≡ true → HasEntries 31 residual.now.order residual.now.values.now residual.now.partition_order table.new }
+    ensures settled { IsTrue result.settled → HasEntries 31 residual.now.order residual.now.values.now residual.now.partition_order table.new }
     ensures long { length table.new ≡ length table.old }
+    ensures wide { (IsTrue result.settled → ⊥) → parameters ≤ width + 1 }
+    ensures few { result.count ≤ parameters - from }
+    ensures narrow { result.count ≤ width + 1 - from }
 {
-    for parameter in from..parameters {
-        if !pass(residual, width, parameter, sums, table) {
-            return true;
+    let end = parameters.min(width + 1);
+    for parameter in from..end {
+        price(residual, width, parameter, sums);
+        if !pass(residual, parameter, sums, table) {
+            let count = parameter - from + 1;
+            return Tried {
+                count,
+                settled: true,
+            };
         }
     }
-    false
+    let count = end - from;
+    let settled = end < parameters;
+    Tried { count, settled }
 }
 
 /// Makes the first entries of a table ready, before any parameter is compared.

@@ -1,19 +1,20 @@
 //! The search for the form of a residual with the fewest bits: tables have the cost of each partition, and only the
 //! codings of the best form are listed.
 
-ghost use Rattle.std.specs.Prelude.{◌≡◌, ◌<◌, ◌≤◌, ◌^◌, ◌+◌, ◌-◌, ◌*◌, ◌/◌, ℕ, length, map, take, All, IsTrue, IfSome, IfNone};
+ghost use Rattle.std.specs.Prelude.{◌≡◌, ◌<◌, ◌≤◌, ◌^◌, ◌+◌, ◌-◌, ◌*◌, ◌/◌, ℕ, length, map, take, slice_index, All, IsTrue, IfSome, IfNone};
+ghost use Rattle.std.specs.List.{sum_by};
 ghost use Rattle.flac_bits.specs.Rice.{IsResidual};
 ghost use Rattle.flac_subframe.specs.declared.coding_method.CodingMethod.{CodingMethod};
 ghost use Rattle.flac_subframe.specs.Least.{IsLeast};
 ghost use Rattle.flac_subframe.specs.inner.Least.{IsLeastCost};
 ghost use Rattle.flac_subframe.specs.Cost.{MayCode, MayWrite, Codings, coding_of, codings_in, parameter_bits_of};
-ghost use Rattle.flac_subframe.specs.inner.Cost.{HalvedTo, ByMethod, coding_cost, partitions_cost, residual_cost, Partitioned};
-ghost use Rattle.flac_subframe.specs.inner.Halves.{Halves, HasEntries, HasPlaces, LeastBelow, IsWidth, HasWidths};
+ghost use Rattle.flac_subframe.specs.inner.Cost.{HalvedTo, ByMethod, coding_cost, partitions_cost, residual_cost, value_cost, Partitioned};
+ghost use Rattle.flac_subframe.specs.inner.Halves.{Halves, HasEntries, HasPlaces, LeastBelow, IsWidth, HasWidths, part};
 
 use crate::coding::Coding;
 use crate::coding_method::CodingMethod;
 use crate::cost::Priced;
-use crate::halves::{clear, compare, compare_down, copy};
+use crate::halves::{Tried, clear, compare, compare_down, copy};
 use crate::numbers::power;
 use crate::pruning::{COARSE, finest_in_doubt, is_too_dear};
 use crate::residual_form::ResidualForm;
@@ -168,77 +169,102 @@ fn best_order(
     best
 }
 
-/// A parameter near the best one of most partitions, from the bits of the finest under parameter 0.
-fn middle(sums: &[u64], count: usize) -> u8
-    ensures { result ≤ 15 }
+/// A parameter near the best one of most partitions, from the bits of the finest under parameter 0; it is not above the width of the
+/// residual, but at least 1.
+fn middle(sums: &[u64], count: usize, width: u8) -> u8
+    ensures some { 1 ≤ result }
+    ensures few { result ≤ 15 }
+    ensures within { 1 < result → result ≤ width }
 {
     let mut bits: u64 = 0;
     for sum in sums {
         bits = bits.wrapping_add(*sum);
     }
     let mean = bits / (count as u64).max(1);
-    (64 - mean.leading_zeros()).saturating_sub(1).min(15) as u8
+    let middle = (64 - mean.leading_zeros()).saturating_sub(1).min(15) as u8;
+    middle.min(width).max(1)
 }
 
-/// Fills the table of the first method, and that of the second where it is another: whether it is the same.
+/// Fills the table of the first method, and that of the second where it is another: whether it is the same, and how many parameters were
+/// priced.
 fn tabulate(
     residual: &ResidualView<'_>,
     width: u8,
+    leaves: &[u64],
     sums: &mut [u64],
     four: &mut [u64],
     five: &mut [u64],
-) -> bool
+) -> Tried
     requires bounded { All (λ n. n < 2 ^ width) residual.now.folds.now }
+    requires small_width { width ≤ 32 }
+    requires leaves { 2 ^ residual.now.partition_order ≤ length leaves.now }
+    requires known { (j : ℕ) → j < 2 ^ residual.now.partition_order → slice_index leaves.now j ≡ sum_by (value_cost 0) (part residual.now.order residual.now.values.now residual.now.partition_order j) }
     requires sums { 2 ^ residual.now.partition_order ≤ length sums.old }
     requires four { 2 * 2 ^ residual.now.partition_order ≤ length four.old }
     requires five { 2 * 2 ^ residual.now.partition_order ≤ length five.old }
     ensures entries { HasEntries 15 residual.now.order residual.now.values.now residual.now.partition_order four.new }
-    ensures same { IsTrue result → HasEntries 31 residual.now.order residual.now.values.now residual.now.partition_order four.new }
-    ensures more { (IsTrue result → ⊥) → HasEntries 31 residual.now.order residual.now.values.now residual.now.partition_order five.new }
+    ensures same { IsTrue result.settled → HasEntries 31 residual.now.order residual.now.values.now residual.now.partition_order four.new }
+    ensures more { (IsTrue result.settled → ⊥) → HasEntries 31 residual.now.order residual.now.values.now residual.now.partition_order five.new }
+    ensures few { result.count ≤ 30 }
+    ensures narrow { result.count ≤ width }
 {
     let count = power(residual.partition_order);
+    let leaves = &leaves[..count];
     let row = &mut sums[..count];
-    let middle = middle(row, residual.values.len());
+    let middle = middle(leaves, residual.values.len(), width);
     clear(four, 2 * count);
-    compare_down(residual, width, middle, row, four);
-    if compare(residual, width, middle, 15, row, four) {
-        return true;
+    let down = compare_down(residual, width, middle, leaves, row, four);
+    let up = compare(residual, width, middle, 15, row, four);
+    let first = down + up.count;
+    if up.settled {
+        return Tried {
+            count: first,
+            settled: true,
+        };
     }
     copy(four, five, 2 * count);
-    compare(residual, width, 15, 31, row, five);
-    false
+    let more = compare(residual, width, 15, 31, row, five);
+    Tried {
+        count: first + more.count,
+        settled: false,
+    }
 }
 
-/// The best method and partition order, with the table of that method filled.
+/// The best method and partition order, with the table of that method filled, and how many parameters were priced for it.
 fn survey(
     residual: &ResidualView<'_>,
+    leaves: &[u64],
     sums: &mut [u64],
     four: &mut [u64],
     five: &mut [u64],
     widths: &[u8],
-) -> ResidualForm
+) -> (ResidualForm, u8)
+    requires leaves { 2 ^ residual.now.partition_order ≤ length leaves.now }
+    requires known { (j : ℕ) → j < 2 ^ residual.now.partition_order → slice_index leaves.now j ≡ sum_by (value_cost 0) (part residual.now.order residual.now.values.now residual.now.partition_order j) }
     requires sums { 2 ^ residual.now.partition_order ≤ length sums.old }
     requires four { 2 * 2 ^ residual.now.partition_order ≤ length four.old }
     requires five { 2 * 2 ^ residual.now.partition_order ≤ length five.old }
     requires widths { HasWidths residual.now.order residual.now.values.now 0 residual.now.partition_order widths.now }
     requires places { 2 * 2 ^ residual.now.partition_order ≤ length widths.now }
-    ensures within { result.partition_order ≤ residual.now.partition_order }
-    ensures least { IsLeastCost (MayWrite residual.now.partition_order residual.now.order residual.now.values.now) (residual_cost residual.now.order residual.now.values.now) result.bits }
-    ensures here { IsLeastCost (HalvedTo (parameter_bits_of result.method) result.partition_order residual.now.partition_order residual.now.order residual.now.values.now) (residual_cost residual.now.order residual.now.values.now) result.bits }
-    ensures small { result.bits ≤ 2 ^ 33 * 2 ^ 16 }
+    ensures within { result.0.partition_order ≤ residual.now.partition_order }
+    ensures least { IsLeastCost (MayWrite residual.now.partition_order residual.now.order residual.now.values.now) (residual_cost residual.now.order residual.now.values.now) result.0.bits }
+    ensures here { IsLeastCost (HalvedTo (parameter_bits_of result.0.method) result.0.partition_order residual.now.partition_order residual.now.order residual.now.values.now) (residual_cost residual.now.order residual.now.values.now) result.0.bits }
+    ensures small { result.0.bits ≤ 2 ^ 33 * 2 ^ 16 }
     ensures entries { HasEntries 15 residual.now.order residual.now.values.now residual.now.partition_order four.new }
-    ensures more { result.method ≡ CodingMethod.FiveBits → HasEntries 31 residual.now.order residual.now.values.now residual.now.partition_order five.new }
+    ensures more { result.0.method ≡ CodingMethod.FiveBits → HasEntries 31 residual.now.order residual.now.values.now residual.now.partition_order five.new }
+    ensures few { result.1 ≤ 30 }
+    ensures narrow { result.1 ≤ slice_index widths.now 1 }
 {
-    let same = tabulate(residual, widths[1], sums, four, five);
+    let tried = tabulate(residual, widths[1], leaves, sums, four, five);
     let first = best_order(residual, CodingMethod::FourBits, four, widths);
-    if same {
-        return first;
+    if tried.settled {
+        return (first, tried.count);
     }
     let second = best_order(residual, CodingMethod::FiveBits, five, widths);
     if second.bits < first.bits {
-        second
+        (second, tried.count)
     } else {
-        first
+        (first, tried.count)
     }
 }
 
@@ -313,17 +339,23 @@ fn least_at_once(
     ensures none { IfNone result ((f : Codings) → MayWrite residual.now.partition_order residual.now.order residual.now.values.now f → below ≤ residual_cost residual.now.order residual.now.values.now f) }
     ensures places { (most : ℕ) → HasPlaces most tables.old → HasPlaces most tables.new }
     ensures same { tables.new.codings.ghost_name ≡ tables.old.codings.ghost_name }
+    ensures priced { tables.new.priced ≤ tables.old.priced + 32 * length residual.now.values.now }
 {
+    let leaves = &mut *tables.leaves;
     let sums = &mut *tables.sums;
     let four = &mut *tables.four;
     let five = &mut *tables.five;
     let widths = &mut *tables.widths;
     let codings = &mut *tables.codings;
-    measure(residual, widths, sums);
-    if is_too_dear(residual, sums, widths, below) {
+    let count = residual.values.len() as u64;
+    measure(residual, widths, leaves);
+    let verdict = is_too_dear(residual, leaves, widths, below);
+    tables.priced = tables.priced.saturating_add(2 * count + verdict.priced);
+    if verdict.dear {
         return None;
     }
-    let form = survey(residual, sums, four, five, widths);
+    let (form, tried) = survey(residual, leaves, sums, four, five, widths);
+    tables.priced = tables.priced.saturating_add(u64::from(tried) * count);
     if form.bits >= below {
         return None;
     }
@@ -349,6 +381,7 @@ fn least_up_to(
     ensures none { IfNone result ((f : Codings) → MayWrite partition_order residual.now.order residual.now.values.now f → below ≤ residual_cost residual.now.order residual.now.values.now f) }
     ensures places { (most : ℕ) → HasPlaces most tables.old → HasPlaces most tables.new }
     ensures same { tables.new.codings.ghost_name ≡ tables.old.codings.ghost_name }
+    ensures priced { tables.new.priced ≤ tables.old.priced + 32 * length residual.now.values.now }
 {
     least_at_once(&residual.at(partition_order), tables, below)
 }
@@ -371,10 +404,12 @@ fn least_of_finer(
     ensures none { IfNone result ((f : Codings) → MayWrite residual.now.partition_order residual.now.order residual.now.values.now f → 8 < f.partition_order → below ≤ residual_cost residual.now.order residual.now.values.now f) }
     ensures places { (most : ℕ) → HasPlaces most tables.old → HasPlaces most tables.new }
     ensures same { tables.new.codings.ghost_name ≡ tables.old.codings.ghost_name }
+    ensures priced { tables.new.priced ≤ tables.old.priced + 61 * length residual.now.values.now }
 {
-    let sums = &mut *tables.sums;
+    let leaves = &mut *tables.leaves;
     let widths = &mut *tables.widths;
-    let finest = finest_in_doubt(residual, sums, widths, below);
+    let (finest, priced) = finest_in_doubt(residual, leaves, widths, below);
+    tables.priced = tables.priced.saturating_add(priced);
     if finest <= COARSE {
         return None;
     }
@@ -415,6 +450,8 @@ pub(crate) fn least_residual(
     ensures none { IfNone result ((f : Codings) → MayWrite residual.now.partition_order residual.now.order residual.now.values.now f → below ≤ residual_cost residual.now.order residual.now.values.now f) }
     ensures places { (most : ℕ) → HasPlaces most tables.old → HasPlaces most tables.new }
     ensures same { tables.new.codings.ghost_name ≡ tables.old.codings.ghost_name }
+    ensures coarse { residual.now.partition_order ≤ 8 → tables.new.priced ≤ tables.old.priced + 32 * length residual.now.values.now }
+    ensures priced { tables.new.priced ≤ tables.old.priced + 93 * length residual.now.values.now }
 {
     if residual.partition_order <= COARSE {
         return least_at_once(residual, tables, below);

@@ -1,6 +1,6 @@
 //! The shortest subframe of some samples, with partition orders up to 15, worked out in arrays that are made once.
 
-ghost use Rattle.std.specs.Prelude.{◌≡◌, ◌<◌, ◌≤◌, ◌*◌, ◌^◌, ℤ, List, length, take, All, IfOk, IfErr, vec_len};
+ghost use Rattle.std.specs.Prelude.{◌≡◌, ◌<◌, ◌≤◌, ◌+◌, ◌*◌, ◌^◌, ℤ, List, length, take, All, IfOk, IfErr, vec_len};
 ghost use Rattle.flac_bits.specs.Signed.{FitsBits};
 ghost use Rattle.flac_bits.specs.Written.{Writes};
 ghost use Rattle.flac_bits.specs.declared.why.Why.{Why};
@@ -34,6 +34,7 @@ pub struct WideChoice {
     pub(crate) form: SubframeForm,
     pub(crate) codings: Vec<u8>,
     bits: u64,
+    priced: u64,
 }
 
 impl WideChoice {
@@ -46,6 +47,7 @@ impl WideChoice {
         requires { limits.now.partition ≤ 15 }
         ensures ok { IfOk result (λ c. vec_len c.codings ≡ 2 ^ limits.now.partition) }
         ensures bits { IfOk result (λ c. c.bits ≡ 9) }
+        ensures priced { IfOk result (λ c. c.priced ≡ 0) }
         ensures err { IfErr result (λ e. e ≡ Why.Memory) }
     {
         let codings = vec![in alloc; 0u8; power(limits.partition as u8)]?;
@@ -57,6 +59,7 @@ impl WideChoice {
             },
             codings,
             bits: 9,
+            priced: 0,
         })
     }
 
@@ -65,6 +68,13 @@ impl WideChoice {
         ensures { result ≡ self.now.bits }
     {
         self.bits
+    }
+
+    /// How often the search computed one value's cost under one parameter, or its width; 0 until a choice is made.
+    pub fn priced(&self) -> u64
+        ensures { result ≡ self.now.priced }
+    {
+        self.priced
     }
 
     /// The codings that the choice has, the first of its places.
@@ -88,6 +98,7 @@ impl WideChoice {
         ensures same { IfOk result (λ c. (predictors : List LinearPredictor) (samples : List ℤ) → form_in predictors c samples ≡ form_in predictors self.now samples) }
         ensures made { IfOk result (λ c. (predictors : List LinearPredictor) (samples : List ℤ) → IsMadeIn predictors self.now samples → IsMadeIn predictors c samples) }
         ensures bits { IfOk result (λ c. c.bits ≡ self.now.bits) }
+        ensures priced { IfOk result (λ c. c.priced ≡ self.now.priced) }
         ensures exact { IfOk result (λ c. self.now.form.residual.partition_order ≤ 15 → 2 ^ self.now.form.residual.partition_order ≤ vec_len self.now.codings → vec_len c.codings ≡ 2 ^ self.now.form.residual.partition_order) }
         ensures memory { IfErr result (λ e. e ≡ Why.Memory) }
     {
@@ -98,6 +109,7 @@ impl WideChoice {
             form: self.form,
             codings,
             bits: self.bits,
+            priced: self.priced,
         })
     }
 
@@ -153,6 +165,8 @@ pub fn choose_in(
     ensures valid { (most : Limits) → limits.now.partition ≤ most.partition → AreWithin most.linear predictors.now → IsSubframe depth (length samples.now) most (form_in predictors.now choice.new samples.now) }
     ensures restored { samples_of depth (length samples.now) (form_in predictors.now choice.new samples.now) ≡ Some samples.now }
     ensures small { choice.new.bits ≤ 2 ^ 61 }
+    ensures priced { limits.now.partition ≤ 8 → choice.new.priced ≤ (5 + length predictors.now) * (32 * length samples.now) }
+    ensures priced_wide { choice.new.priced ≤ (5 + length predictors.now) * (93 * length samples.now) }
     ensures places { vec_len choice.new.codings ≡ vec_len choice.old.codings }
     ensures room { workspace.new ≡ workspace.old }
 {
@@ -163,7 +177,7 @@ pub fn choose_in(
         most: limits.partition as u8,
         predictors,
     };
-    let (form, bits) = choose_in_places(
+    let found = choose_in_places(
         &task,
         &mut workspace.longs,
         &mut workspace.shorts,
@@ -171,10 +185,11 @@ pub fn choose_in(
         &mut workspace.tables,
         &mut workspace.bytes,
     );
-    let count = power(form.residual.partition_order);
+    let count = power(found.form.residual.partition_order);
     copy_first(&workspace.bytes, count, &mut choice.codings);
-    choice.form = form;
-    choice.bits = bits;
+    choice.form = found.form;
+    choice.bits = found.bits;
+    choice.priced = found.priced;
 }
 
 /// Writes the subframe that [`choose_in`] chose for samples of a depth (RFC 9639, section 9.2).

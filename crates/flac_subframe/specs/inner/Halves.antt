@@ -51,6 +51,7 @@ HasWidths order rs low high widths = (p j : ℕ) → low ≤ p → p ≤ high �
 
 -- the arrays of a search have places for partition orders up to the greatest
 pub record HasPlaces (most : ℕ) (t : Tables) : Type 0 where
+  pub leaves : 2 ^ most ≤ length t.leaves.now
   pub sums : 2 ^ most ≤ length t.sums.now
   pub four : 2 * 2 ^ most ≤ length t.four.now
   pub five : 2 * 2 ^ most ≤ length t.five.now

@@ -26,11 +26,11 @@ pub gains-requires-clause-small : goal.gains-requires-clause-small
 gains-requires-clause-small c = λ j h.
     let n : ℕ = c.power-first.result in
     let b : j < 2 ^ c.args.residual.now.partition_order = omega (arith, h, length-take (2 * n - n) (drop n c.args.table.now), c.power-first.ensures) in
-    rw (c.price.ensures.costs j b) (part_small c.args.residual.now.order c.args.parameter c.args.residual.now.values.now c.args.residual.now.partition_order j c.requires.parameter (omega arith) c.args.residual.now.range)
+    rw (c.requires.costs j b) (part_small c.args.residual.now.order c.args.parameter c.args.residual.now.values.now c.args.residual.now.partition_order j c.requires.parameter (omega arith) c.args.residual.now.range)
 
 pub note_level-requires-clause-small : goal.note_level-requires-clause-small
 note_level-requires-clause-small c = λ j h.
-    rw (c.price.ensures.costs j h) (part_small c.args.residual.now.order c.args.parameter c.args.residual.now.values.now c.args.residual.now.partition_order j c.requires.parameter (omega arith) c.args.residual.now.range)
+    rw (c.requires.costs j h) (part_small c.args.residual.now.order c.args.parameter c.args.residual.now.values.now c.args.residual.now.partition_order j c.requires.parameter (omega arith) c.args.residual.now.range)
 
 pub note_level-requires-in-loop-level-clause-small : goal.note_level-requires-in-loop-level-clause-small
 note_level-requires-in-loop-level-clause-small c = λ j h.
