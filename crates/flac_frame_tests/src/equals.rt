@@ -7,7 +7,7 @@ use std::test::Fail;
 /// The bit depth and the number of bits; the samples; and the bytes, with zeros up to a whole byte. Before each row stand the bits of the form that is written and of
 /// the only other that takes as few, each summed up: the header with its wasted bits, the first samples, 6 for the method and the partition order, and each partition
 /// with its parameter.
-const EQUALS: &str = "# Constant before a fixed predictor, an escape of no bits.
+pub(crate) const EQUALS: &str = "# Constant before a fixed predictor, an escape of no bits.
 # 8 + 15 = 8 + 6 + 9
 15 23 | 0 0 0 0 0 0 0 0 0 0 0 0 0 0 0 0 | 000000
 # Verbatim before a fixed predictor of order 0, 1 and 2.

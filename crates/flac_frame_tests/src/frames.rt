@@ -57,7 +57,12 @@ fn told(alloc: Global, read: Result<FrameView<'_>, Why>) -> Result<String, Fail>
 }
 
 /// What reading a frame of two channels returns, in text.
-fn read_frame(alloc: Global, block: u16, depth: u8, bytes: &[u8]) -> Result<String, Fail> {
+pub(crate) fn read_frame(
+    alloc: Global,
+    block: u16,
+    depth: u8,
+    bytes: &[u8],
+) -> Result<String, Fail> {
     let info = stereo_info(block, depth)?;
     let mut buffers = FrameBuffers::new(alloc, 2, block as u32)?;
     let mut bits = BitReader::new(Memory::new(bytes));
@@ -276,15 +281,19 @@ fn audio_outside_the_subset(rt: HostRuntime) -> Result<(), Fail> {
     Ok(())
 }
 
-/// Writes all samples, 16 at most, as frame 0, and returns how many bytes it has.
-fn write_all<W: Target>(alloc: Global, audio: &Audio, writer: &mut BitWriter<W>) -> Result<u64, Why>
+/// Writes all samples, 33 at most, as frame 0, and returns how many bytes it has.
+pub(crate) fn write_all<W: Target>(
+    alloc: Global,
+    audio: &Audio,
+    writer: &mut BitWriter<W>,
+) -> Result<u64, Why>
     requires { writer.old.mark.unread ≡ 0 }
 {
     let len = audio.len();
-    if len == 0 || len > 16 {
+    if len == 0 || len > 33 {
         return Err(Why::BlockSize);
     }
-    let mut buffers = EncodeBuffers::new_in(alloc, audio.profile(), 16)?;
+    let mut buffers = EncodeBuffers::new_in(alloc, audio.profile(), 33)?;
     let bytes = encode_frame(audio, 0..len, 0, &mut buffers, writer);
     drop(buffers);
     let bytes = bytes?;

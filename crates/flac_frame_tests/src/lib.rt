@@ -3,9 +3,13 @@
 #![tactic(auto)]
 
 #[cfg(test)]
+mod enumeration;
+#[cfg(test)]
 mod equals;
 #[cfg(test)]
 mod frames;
+#[cfg(test)]
+mod joining;
 #[cfg(test)]
 mod predictors;
 #[cfg(test)]

@@ -178,7 +178,7 @@ fn write_least<W: Target>(
 }
 
 /// The shortest subframes: the bit depth and the number of bits; the samples; and the bytes, with zeros up to a whole byte.
-const WRITTEN: &str = "# Predicted, equal, and a single sample: constant before verbatim.
+pub(crate) const WRITTEN: &str = "# Predicted, equal, and a single sample: constant before verbatim.
 16 55 | 0 1 2 3 4 5 6 7 8 9 10 11 12 13 14 15 | 140000000103c0
 16 23 | 0 0 0 0 0 0 0 0 0 0 0 0 0 0 0 0 | 1003c0
 8 16 | 0 0 0 0 0 0 0 0 0 0 0 0 0 0 0 0 | 0000
@@ -227,7 +227,7 @@ pub(crate) fn is_written(alloc: Global, row: &str) -> Result<bool, Fail> {
 }
 
 /// The samples of some words, of 64 bits.
-fn wide_of(alloc: Global, words: &str) -> Result<Vec<i64>, Fail> {
+pub(crate) fn wide_of(alloc: Global, words: &str) -> Result<Vec<i64>, Fail> {
     let mut samples = Vec::new(alloc);
     for sample in samples_of(alloc, words)?.as_slice() {
         samples.push(*sample as i64)?;
@@ -313,4 +313,12 @@ fn compares_choices(rt: HostRuntime) {
     let choice = choose(&[0, 1, 2, 3, 4, 5, 6, 7], 16);
     assert!(rt; choice == choose(&[1, 2, 3, 4, 5, 6, 7, 8], 16));
     assert!(rt; !(choice == choose(&[0; 8], 16)));
+}
+
+/// Twenty equal samples are written as a single one is, though more of them are priced.
+#[test]
+fn equal_choices_of_more_work(rt: HostRuntime) {
+    let one = choose(&[25587], 16);
+    let twenty = choose(&[7; 20], 16);
+    assert!(rt; one == twenty && one.priced() < twenty.priced());
 }

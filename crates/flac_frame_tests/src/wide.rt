@@ -164,7 +164,7 @@ fn folded(value: i64) -> u64 {
 }
 
 /// What values take under a Rice parameter.
-fn rice_bits(values: &[i64], parameter: u32) -> u64 {
+pub(crate) fn rice_bits(values: &[i64], parameter: u32) -> u64 {
     let mut bits = 0u64;
     for value in values {
         let length = (folded(*value) >> (parameter % 32)).wrapping_add(u64::from(parameter) + 1);
