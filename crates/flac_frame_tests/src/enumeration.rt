@@ -1,6 +1,6 @@
-//! The subframe of the fewest bits, found by trying every form: each predictor, method, partition order, parameter and escape, with the cost of each value worked
-//! out anew. Of forms that take as many bits the first is kept: constant, verbatim, fixed predictors by their order, then by method, by partition order and by
-//! parameter, and an escape last.
+//! The subframe of the fewest bits, found by trying every form: each predictor, method, partition order, parameter and
+//! escape, with the cost of each value worked out anew. Of forms that take as many bits the first is kept: constant,
+//! verbatim, fixed predictors by their order, then by method, by partition order and by parameter, and an escape last.
 
 use crate::equals::EQUALS;
 use crate::subframes::{WRITTEN, all_fit, wide_of, written};
@@ -20,7 +20,8 @@ const WEIGHTS: [&[i64]; 5] = [
     &[1, -4, 6, -4, 1],
 ];
 
-/// A form of a subframe: the code of its type, the bits of each parameter, the partition order, and how many bits it takes.
+/// A form of a subframe: the code of its type, the bits of each parameter, the partition order, and how many bits it
+/// takes.
 #[derive(Clone, Copy)]
 pub(crate) struct Form {
     code: u32,
@@ -29,7 +30,8 @@ pub(crate) struct Form {
     bits: u64,
 }
 
-/// The coding of a partition: its parameter, or the width of its values for an escape, and how many bits it takes beside the parameter.
+/// The coding of a partition: its parameter, or the width of its values for an escape, and how many bits it takes
+/// beside the parameter.
 #[derive(Clone, Copy)]
 struct Coded {
     escape: bool,
@@ -226,7 +228,8 @@ fn unary(compared: &mut Compared<'_>, zeros: u64) {
     number(compared, 1, 1);
 }
 
-/// A value under a Rice parameter: 0, -1, 1, -2 and so on are 0, 1, 2, 3, whose quotient is in unary and whose remainder comes after it.
+/// A value under a Rice parameter: 0, -1, 1, -2 and so on are 0, 1, 2, 3, whose quotient is in unary and whose
+/// remainder comes after it.
 fn rice(compared: &mut Compared<'_>, value: i64, parameter: u32) {
     let twice = value.unsigned_abs().wrapping_mul(2);
     let folded = if value < 0 {
@@ -314,7 +317,8 @@ fn shortened(alloc: Global, samples: &[i64], wasted: u32) -> Result<Vec<i64>, Fa
     Ok(short)
 }
 
-/// The next bits should be the subframe of the first of the shortest forms of samples. It returns that form, and how often trying every form prices a value.
+/// The next bits should be the subframe of the first of the shortest forms of samples. It returns that form, and how
+/// often trying every form prices a value.
 pub(crate) fn subframe(
     alloc: Global,
     compared: &mut Compared<'_>,
@@ -331,8 +335,8 @@ pub(crate) fn subframe(
     Ok((form, priced))
 }
 
-/// What is known of a block: whether what is chosen is the first of the forms of the fewest bits, byte for byte; its partition order; and how often a value was priced
-/// to find it, by the search and by trying every form.
+/// What is known of a block: whether what is chosen is the first of the forms of the fewest bits, byte for byte; its
+/// partition order; and how often a value was priced to find it, by the search and by trying every form.
 #[derive(Drop)]
 struct Outcome {
     same: bool,
@@ -412,8 +416,8 @@ fn wave(source: &mut Source, depth: u32) -> i64 {
     source.wave >> (33 - depth.min(33))
 }
 
-/// One sample of a kind of signal: noise of all bits, noise of half of them, a wave, a wave with noise, silence with clicks, wasted bits, the smallest and the
-/// largest sample, steps, and noise that comes and goes.
+/// One sample of a kind of signal: noise of all bits, noise of half of them, a wave, a wave with noise, silence with
+/// clicks, wasted bits, the smallest and the largest sample, steps, and noise that comes and goes.
 fn sample(source: &mut Source, kind: usize, place: usize, depth: u32) -> i64 {
     let noise = random(source);
     let all = noise >> (33 - depth.min(33));
@@ -498,7 +502,8 @@ fn outcome_of_bursts(alloc: Global, length: usize) -> Result<Outcome, Fail> {
     tried_all(alloc, &samples, 18)
 }
 
-/// A block of 4608 samples can be in 256 parts, one of 4607 in no two equal ones. The plain enumeration prices a value more often than the search may.
+/// A block of 4608 samples can be in 256 parts, one of 4607 in no two equal ones. The plain enumeration prices a value
+/// more often than the search may.
 #[test]
 fn many_partitions(rt: HostRuntime) -> Result<(), Fail> {
     let even = outcome_of_bursts(rt.alloc(), 4608)?;
@@ -509,7 +514,8 @@ fn many_partitions(rt: HostRuntime) -> Result<(), Fail> {
     Ok(())
 }
 
-/// A single sample is priced under parameter 0 and by its width. These show that it takes no fewer bits than as a constant, so no other parameter is tried.
+/// A single sample is priced under parameter 0 and by its width. These show that it takes no fewer bits than as a
+/// constant, so no other parameter is tried.
 #[test]
 fn counts_what_it_prices(rt: HostRuntime) {
     assert!(rt; priced_of(&[25588], 16) == 2);

@@ -16,8 +16,9 @@ use std::mem::drop;
 use std::process::Abort;
 use std::test::Fail;
 
-/// Frames: the bit depth and the largest block; their bytes; and the number, whether block sizes vary, the blocking strategy, the number of the first sample in
-/// blocks of 4096, the samples a channel and these, or why they are refused.
+/// Frames: the bit depth and the largest block; their bytes; and the number, whether block sizes vary, the blocking
+/// strategy, the number of the first sample in blocks of 4096, the samples a channel and these, or why they are
+/// refused.
 const FRAMES: &str = "# Of the standard.
 16 4096 | fff869180000bf0358fd03128baa9a | 0 false Fixed 0 1 [25588] [10416]
 # Left and side.
@@ -301,8 +302,8 @@ pub(crate) fn write_all<W: Target>(
     Ok(bytes)
 }
 
-/// The same in two steps, with buffers that are made for frames of either profile: chooses the frame, keeps that choice,
-/// counts its bytes, and then writes it.
+/// The same in two steps, with buffers that are made for frames of either profile: chooses the frame, keeps that
+/// choice, counts its bytes, and then writes it.
 fn write_chosen<W: Target>(
     alloc: Global,
     audio: &Audio,

@@ -1,5 +1,5 @@
-//! Two channels that are joined. Each length up to 33 has its own rest after whole lanes. What is written is compared with planes by their plain definitions, and what
-//! is read with the channels.
+//! Two channels that are joined. Each length up to 33 has its own rest after whole lanes. What is written is compared
+//! with planes by their plain definitions, and what is read with the channels.
 
 use crate::enumeration::{Compared, random, seeded, subframe};
 use crate::frames::{read_frame, write_all};
@@ -13,8 +13,8 @@ use std::test::Fail;
 /// The bits of the header of a frame whose number is 0 and whose block size has no code of its own.
 const HEADER_BITS: u64 = 56;
 
-/// Two channels made of two numbers for each place: these themselves; the first, and what it is without the second; the sum of both, and the first; or two of which
-/// the first number is the middle and the second the difference.
+/// Two channels made of two numbers for each place: these themselves; the first, and what it is without the second; the
+/// sum of both, and the first; or two of which the first number is the middle and the second the difference.
 fn sample_pair(kind: u32, first: i32, second: i32) -> (i32, i32) {
     let half = (second.wrapping_add(1)) >> 1;
     match kind {
@@ -43,8 +43,8 @@ fn channels(alloc: Global, kind: u32, length: usize) -> Result<(Vec<i32>, Vec<i3
     Ok((left, right))
 }
 
-/// One plane of two channels in a channel assignment, and its bit depth: channels of 16 bits as they are, their difference, or their middle, rounded down (RFC 9639,
-/// section 4.2).
+/// One plane of two channels in a channel assignment, and its bit depth: channels of 16 bits as they are, their
+/// difference, or their middle, rounded down (RFC 9639, section 4.2).
 fn plane(alloc: Global, name: char, left: &[i32], right: &[i32]) -> Result<(Vec<i64>, u32), Fail> {
     let mut samples = Vec::new(alloc);
     for (left, right) in left.iter().zip(right.iter()) {
@@ -81,7 +81,8 @@ fn written(alloc: Global, left: &[i32], right: &[i32]) -> Result<Vec<u8>, Fail> 
     Ok(writer.into_target().into_bytes())
 }
 
-/// Whether a frame has the shortest subframes of the planes of two channels, and no more after these than zeros up to a whole byte and its check.
+/// Whether a frame has the shortest subframes of the planes of two channels, and no more after these than zeros up to a
+/// whole byte and its check.
 fn has_planes(alloc: Global, bytes: &[u8], left: &[i32], right: &[i32]) -> Result<bool, Fail> {
     let code = bytes.get(3).copied().unwrap_or(0) >> 4;
     let (first, second) = planes(code);
@@ -106,7 +107,8 @@ fn gives(alloc: Global, bytes: &[u8], left: &[i32], right: &[i32]) -> Result<boo
     Ok(text.as_str() == wanted.as_str())
 }
 
-/// The channel assignment of the frame of two channels of a kind, if it has their planes and gives them again, and else 255.
+/// The channel assignment of the frame of two channels of a kind, if it has their planes and gives them again, and else
+/// 255.
 fn assignment(alloc: Global, kind: u32, length: usize) -> Result<u8, Fail> {
     let (left, right) = channels(alloc, kind, length)?;
     let bytes = written(alloc, &left, &right)?;

@@ -1,5 +1,5 @@
-//! Tests of subframes and frames, through the public calls of the libraries and by vectors from outside. They need no crate above frames, so that they are proved
-//! beside the libraries of streams.
+//! Tests of subframes and frames, through the public calls of the libraries and by vectors from outside. They need no
+//! crate above frames, so that they are proved beside the libraries of streams.
 #![tactic(auto)]
 
 #[cfg(test)]

@@ -14,8 +14,8 @@ use std::alloc::Global;
 use std::process::Abort;
 use std::test::Fail;
 
-/// Subframes: their bytes; the bit depth, the largest order of a linear predictor and the number of samples; and what reading returns, with some samples by
-/// their places.
+/// Subframes: their bytes; the bit depth, the largest order of a linear predictor and the number of samples; and what
+/// reading returns, with some samples by their places.
 const SUBFRAMES: &str = "# Plain samples.
 0358fd | 16 12 1 | true 0:25588
 010003 | 16 12 1 | true 0:-32768
@@ -57,7 +57,8 @@ fn read(bytes: &[u8], depth: u32, linear: u32, samples: &mut [i64]) -> Result<bo
     read_subframe(&mut bits, depth, samples.len() as u32, &limits, samples)
 }
 
-/// Reads a subframe of at most 16 samples, whose bit depth, largest order of a linear predictor and number of samples are given in words.
+/// Reads a subframe of at most 16 samples, whose bit depth, largest order of a linear predictor and number of samples
+/// are given in words.
 fn read_shaped(
     shape: &str,
     bytes: &[u8],
@@ -177,7 +178,8 @@ fn write_least<W: Target>(
     Ok(choice.bits())
 }
 
-/// The shortest subframes: the bit depth and the number of bits; the samples; and the bytes, with zeros up to a whole byte.
+/// The shortest subframes: the bit depth and the number of bits; the samples; and the bytes, with zeros up to a whole
+/// byte.
 pub(crate) const WRITTEN: &str = "# Predicted, equal, and a single sample: constant before verbatim.
 16 55 | 0 1 2 3 4 5 6 7 8 9 10 11 12 13 14 15 | 140000000103c0
 16 23 | 0 0 0 0 0 0 0 0 0 0 0 0 0 0 0 0 | 1003c0

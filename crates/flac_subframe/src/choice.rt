@@ -29,8 +29,8 @@ use crate::view::{ResidualView, SampleView, Task};
 use crate::wasted::drop_wasted;
 use crate::wide_products::take_wide_products;
 
-/// The best content so far, and how many bits it takes. The codings of its residual stay in their array and are overwritten only by better
-/// ones.
+/// The best content so far, and how many bits it takes. The codings of its residual stay in their array and are
+/// overwritten only by better ones.
 #[derive(Clone, Copy)]
 pub(crate) struct Best {
     pub(crate) content: ContentKind,
@@ -50,8 +50,8 @@ pub(crate) fn all_equal(samples: &[i64]) -> bool
     true
 }
 
-/// The number of bits that a predictor must stay below to replace the best so far: of two fixed ones that take as many, the one of the
-/// lower order is kept.
+/// The number of bits that a predictor must stay below to replace the best so far: of two fixed ones that take as many,
+/// the one of the lower order is kept.
 fn limit(best: &Best, kind: PredictorKind) -> u64
     requires { best.now.bits ≤ 2 ^ 60 }
     ensures { (best.now.bits ≤ result) × (result ≤ best.now.bits + 1) }
@@ -83,8 +83,8 @@ fn add_left(run: &[i64], sums: &mut [u64; 5]) {
     }
 }
 
-/// The order of the fixed predictor whose residual has the smallest sum of absolute values over eight short runs of the samples. It is a
-/// guess of the best order, which is priced first, so that bounds can rule out the others.
+/// The order of the fixed predictor whose residual has the smallest sum of absolute values over eight short runs of the
+/// samples. It is a guess of the best order, which is priced first, so that bounds can rule out the others.
 fn likely_order(samples: &[i64]) -> usize
     ensures { result ≤ 4 }
 {
@@ -101,7 +101,8 @@ fn likely_order(samples: &[i64]) -> usize
     likely
 }
 
-/// What the fixed predictor of an order leaves of the samples, and the same as unsigned numbers, if a residual may have it all.
+/// What the fixed predictor of an order leaves of the samples, and the same as unsigned numbers, if a residual may have
+/// it all.
 fn take_fixed_residual(
     subject: &SampleView<'_>,
     order: usize,
@@ -177,7 +178,8 @@ fn take_linear_residual(
     true
 }
 
-/// Puts what a predictor leaves of the samples into the first places, and the same as unsigned numbers, if a residual may have it all.
+/// Puts what a predictor leaves of the samples into the first places, and the same as unsigned numbers, if a residual
+/// may have it all.
 fn take_residual(
     subject: &SampleView<'_>,
     kind: PredictorKind,
@@ -314,8 +316,8 @@ fn begin(samples: &[i64], bits: u32) -> Best
     }
 }
 
-/// The content of the fewest bits: constant, verbatim, a fixed predictor or one of the linear ones, with a partition order up to the
-/// greatest. The codings of its residual are in their array.
+/// The content of the fewest bits: constant, verbatim, a fixed predictor or one of the linear ones, with a partition
+/// order up to the greatest. The codings of its residual are in their array.
 fn search(subject: &SampleView<'_>, arrays: &mut SearchArrays<'_>, tables: &mut Tables<'_>) -> Best
     requires some { 0 < length subject.now.samples.now }
     requires arrays { HasRoom (length subject.now.samples.now) arrays.old }
@@ -393,7 +395,8 @@ fn search_within(
     (best, tables.priced)
 }
 
-/// What a search finds: the subframe of the fewest bits, how many it takes, and how often a value was priced to find it.
+/// What a search finds: the subframe of the fewest bits, how many it takes, and how often a value was priced to find
+/// it.
 #[derive(Clone, Copy)]
 pub(crate) struct Found {
     pub(crate) form: SubframeForm,
@@ -401,8 +404,8 @@ pub(crate) struct Found {
     pub(crate) priced: u64,
 }
 
-/// The subframe of the fewest bits and how many it takes. The codings of its residual are the first of the bytes; the places behind those for
-/// the codings are for the widths of partitions.
+/// The subframe of the fewest bits and how many it takes. The codings of its residual are the first of the bytes; the
+/// places behind those for the codings are for the widths of partitions.
 pub(crate) fn choose_in_places(
     task: &Task<'_>,
     longs: &mut [i64],

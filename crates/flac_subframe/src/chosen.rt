@@ -25,8 +25,9 @@ use arrayvec::ArrayVec;
 
 /// How a subframe is written, with the codings that are in use, each as a byte, and how many bits it takes.
 ///
-/// A linear predictor is named by its place in the list that was handed in, so a choice takes no more memory where there are such lists.
-/// Two choices are equal if they are written in the same way with the same list, however much work it took to find them.
+/// A linear predictor is named by its place in the list that was handed in, so a choice takes no more memory where
+/// there are such lists. Two choices are equal if they are written in the same way with the same list, however much
+/// work it took to find them.
 #[derive(Drop, Clone, Debug)]
 pub struct Choice {
     pub(crate) form: SubframeForm,
@@ -62,8 +63,8 @@ impl Choice {
         self.bits
     }
 
-    /// How often the search computed one value's cost under one parameter, or its width. [`choose`] does so at most 32 times for each
-    /// sample and each of its five predictors.
+    /// How often the search computed one value's cost under one parameter, or its width. [`choose`] does so at most 32
+    /// times for each sample and each of its five predictors.
     pub fn priced(&self) -> u64
         ensures { result ≡ self.now.priced }
     {
@@ -109,10 +110,12 @@ pub(crate) const MOST_SAMPLES: usize = 65535;
 
 /// The subframe of the fewest bits for 1 to 65535 samples of a depth of 1 to 33 bits (RFC 9639, section 9.2).
 ///
-/// The family is constant, verbatim, and the fixed predictors of order 0 to 4 with either coding method, partition orders up to 8 and every
-/// parameter and escape; the wasted bits are as many as all samples lack. Among equals the first of this order is chosen.
+/// The family is constant, verbatim, and the fixed predictors of order 0 to 4 with either coding method, partition
+/// orders up to 8 and every parameter and escape; the wasted bits are as many as all samples lack. Among equals the
+/// first of this order is chosen.
 ///
-/// The work is done in arrays of 1.9 MB on the stack. For many blocks [`crate::choose_in`] takes arrays that are used again.
+/// The work is done in arrays of 1.9 MB on the stack. For many blocks [`crate::choose_in`] takes arrays that are used
+/// again.
 pub fn choose(samples: &[i64], depth: u32) -> Choice
     requires some { 0 < length samples.now }
     requires few { length samples.now ≤ 65535 }
@@ -133,15 +136,17 @@ pub fn choose(samples: &[i64], depth: u32) -> Choice
     choose_with(samples, depth, &limits, &[])
 }
 
-/// The subframe of the fewest bits for 1 to 65535 samples of a depth of 1 to 33 bits, with linear predictors beside the fixed ones (RFC
-/// 9639, section 9.2).
+/// The subframe of the fewest bits for 1 to 65535 samples of a depth of 1 to 33 bits, with linear predictors beside the
+/// fixed ones (RFC 9639, section 9.2).
 ///
-/// The family of [`choose`], with partition orders up to the limit, at most 8, gains the linear form of each predictor, with either coding
-/// method, every partition order up to the limit, and every parameter and escape, if the predictor's order is below the number of samples
-/// and each residual value is above -2^31 and below 2^31. The orders are within the limit. Among equals a linear form comes after the
-/// others, and the first of the list before the next. With no predictor and a limit of 8 it chooses what [`choose`] does.
+/// The family of [`choose`], with partition orders up to the limit, at most 8, gains the linear form of each predictor,
+/// with either coding method, every partition order up to the limit, and every parameter and escape, if the predictor's
+/// order is below the number of samples and each residual value is above -2^31 and below 2^31. The orders are within
+/// the limit. Among equals a linear form comes after the others, and the first of the list before the next. With no
+/// predictor and a limit of 8 it chooses what [`choose`] does.
 ///
-/// The work is done in arrays of 1.9 MB on the stack. For many blocks [`crate::choose_in`] takes arrays that are used again.
+/// The work is done in arrays of 1.9 MB on the stack. For many blocks [`crate::choose_in`] takes arrays that are used
+/// again.
 pub fn choose_with(
     samples: &[i64],
     depth: u32,

@@ -22,8 +22,8 @@ pub enum PredictorKind {
     Linear(usize),
 }
 
-/// How a subframe is written, but for the codings of its residual: how many of the lowest bits are left out of each sample, how the rest is
-/// written, and the form of its residual, which a content without one does not use.
+/// How a subframe is written, but for the codings of its residual: how many of the lowest bits are left out of each
+/// sample, how the rest is written, and the form of its residual, which a content without one does not use.
 #[derive(Clone, Copy, Debug, PartialEq, Eq)]
 pub struct SubframeForm {
     pub wasted: u32,

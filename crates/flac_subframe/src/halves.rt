@@ -80,8 +80,8 @@ fn gains(sums: &[u64], best: &[u64], parameter: u8) -> bool
     false
 }
 
-/// Compares, at each partition order, each partition's cost under a parameter with the best so far, if it lowers that of one of the finest.
-/// `sums` has the costs of these.
+/// Compares, at each partition order, each partition's cost under a parameter with the best so far, if it lowers that
+/// of one of the finest. `sums` has the costs of these.
 fn pass(residual: &ResidualView<'_>, parameter: u8, sums: &mut [u64], table: &mut [u64]) -> bool
     requires parameter { parameter < 31 }
     requires sums { length sums.old ≡ 2 ^ residual.now.partition_order }
@@ -122,8 +122,8 @@ fn take_row(residual: &ResidualView<'_>, width: u8, parameter: u8, leaves: &[u64
     }
 }
 
-/// Fills an empty table with the least of the parameters below one: tries them downwards, as long as one of the finest partitions gains by it.
-/// It returns how many were priced; the costs under parameter 0 are in `leaves`.
+/// Fills an empty table with the least of the parameters below one: tries them downwards, as long as one of the finest
+/// partitions gains by it. It returns how many were priced; the costs under parameter 0 are in `leaves`.
 pub(crate) fn compare_down(
     residual: &ResidualView<'_>,
     width: u8,
@@ -162,8 +162,8 @@ pub(crate) struct Tried {
     pub(crate) settled: bool,
 }
 
-/// Goes on with a table of the parameters below one, upwards, as long as one of the finest partitions gains by it: whether none gains by any above.
-/// None gains by one above the width of the residual, so these are not tried.
+/// Goes on with a table of the parameters below one, upwards, as long as one of the finest partitions gains by it:
+/// whether none gains by any above. None gains by one above the width of the residual, so these are not tried.
 pub(crate) fn compare(
     residual: &ResidualView<'_>,
     width: u8,

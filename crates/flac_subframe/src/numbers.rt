@@ -3,8 +3,9 @@
 ghost use Rattle.std.specs.Prelude.{◌≡◌, ◌<◌, ◌≤◌, ◌^◌, ◌↔◌, pos, length, replicate, IsTrue};
 ghost use Rattle.flac_bits.specs.Signed.{FitsBits};
 
-/// A number in offset binary of `bits` bits, 1 to 63: moved up by half the range, 2^(bits - 1). It is below 2^bits exactly if the number
-/// has a two's complement form of that many bits. Several numbers are below it exactly if their bitwise or is.
+/// A number in offset binary of `bits` bits, 1 to 63: moved up by half the range, 2^(bits - 1). It is below 2^bits
+/// exactly if the number has a two's complement form of that many bits. Several numbers are below it exactly if their
+/// bitwise or is.
 ///
 /// ```
 /// let small = offset_binary(-128, 8); // 0
@@ -20,7 +21,8 @@ pub fn offset_binary(number: i64, bits: u32) -> u64
     number.wrapping_add(half).cast_unsigned()
 }
 
-/// Whether a number has a two's complement form of `bits` bits, by a single comparison, whose limit is the same for each number of a loop.
+/// Whether a number has a two's complement form of `bits` bits, by a single comparison, whose limit is the same for
+/// each number of a loop.
 #[inline(always)]
 pub(crate) fn fits_bits(number: i64, bits: u32) -> bool
     requires positive { 1 ≤ bits }

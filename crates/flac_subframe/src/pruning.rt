@@ -13,8 +13,8 @@ use crate::numbers::power;
 use crate::view::ResidualView;
 use crate::widths::lowest;
 
-/// The greatest partition order whose tables are made at once. Above it a partition is often so short that its parameter
-/// takes more than it saves, so finer partitions are tried only if no bound rules them out.
+/// The greatest partition order whose tables are made at once. Above it a partition is often so short that its
+/// parameter takes more than it saves, so finer partitions are tried only if no bound rules them out.
 pub(crate) const COARSE: u8 = 8;
 
 /// A shift that brings the number of bits near the number of values.
@@ -128,8 +128,8 @@ struct Bound {
     seen: usize,
 }
 
-/// Whether lower bounds show that a residual takes as many bits as it may not, and how often a value's bits under one parameter or its
-/// width were computed for them.
+/// Whether lower bounds show that a residual takes as many bits as it may not, and how often a value's bits under one
+/// parameter or its width were computed for them.
 #[derive(Clone, Copy)]
 pub(crate) struct Verdict {
     pub(crate) dear: bool,
@@ -175,8 +175,8 @@ fn bound_parts(
 }
 
 /// Whether the closer bound shows that the residual takes `below` bits or more. It is computed only if the rougher
-/// bound is at least half of that, and only if the residual's width leaves out so many parameters that, with these two, a value is priced at
-/// most 32 times.
+/// bound is at least half of that, and only if the residual's width leaves out so many parameters that, with these two,
+/// a value is priced at most 32 times.
 fn reaches(
     residual: &ResidualView<'_>,
     sums: &[u64],
@@ -246,8 +246,8 @@ fn digits(folds: &[u32]) -> u64
     sum
 }
 
-/// A lower bound on the bits of the residual at one partition order, from the digits of its values: each partition has a
-/// parameter of four bits, and then one bit more for each value, or five for an escape.
+/// A lower bound on the bits of the residual at one partition order, from the digits of its values: each partition has
+/// a parameter of four bits, and then one bit more for each value, or five for an escape.
 fn bound_by_digits(residual: &ResidualView<'_>, partition_order: u8, digits: u64) -> u64
     requires within { partition_order ≤ residual.now.partition_order }
     requires sum { digits ≡ sum_by (λ n. 63 - count_leading_zeros 64 (2 * n + 1)) residual.now.folds.now }
@@ -260,8 +260,8 @@ fn bound_by_digits(residual: &ResidualView<'_>, partition_order: u8, digits: u64
 }
 
 /// Whether lower bounds show that the residual takes `below` bits or more at one partition order: by the digits of its
-/// values, or else by the bits of each partition, for which each value is priced four times. The arrays are then those of that partition
-/// order.
+/// values, or else by the bits of each partition, for which each value is priced four times. The arrays are then those
+/// of that partition order.
 fn is_order_too_dear(
     residual: &ResidualView<'_>,
     partition_order: u8,

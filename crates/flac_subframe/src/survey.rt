@@ -169,8 +169,8 @@ fn best_order(
     best
 }
 
-/// A parameter near the best one of most partitions, from the bits of the finest under parameter 0; it is not above the width of the
-/// residual, but at least 1.
+/// A parameter near the best one of most partitions, from the bits of the finest under parameter 0; it is not above the
+/// width of the residual, but at least 1.
 fn middle(sums: &[u64], count: usize, width: u8) -> u8
     ensures some { 1 ≤ result }
     ensures few { result ≤ 15 }
@@ -185,8 +185,8 @@ fn middle(sums: &[u64], count: usize, width: u8) -> u8
     middle.min(width).max(1)
 }
 
-/// Fills the table of the first method, and that of the second where it is another: whether it is the same, and how many parameters were
-/// priced.
+/// Fills the table of the first method, and that of the second where it is another: whether it is the same, and how
+/// many parameters were priced.
 fn tabulate(
     residual: &ResidualView<'_>,
     width: u8,
@@ -230,7 +230,8 @@ fn tabulate(
     }
 }
 
-/// The best method and partition order, with the table of that method filled, and how many parameters were priced for it.
+/// The best method and partition order, with the table of that method filled, and how many parameters were priced for
+/// it.
 fn survey(
     residual: &ResidualView<'_>,
     leaves: &[u64],
@@ -322,8 +323,8 @@ fn take_found(
     }
 }
 
-/// The residual form of the fewest bits, if it takes fewer bits than `below`, with its codings in their array. Cheap lower bounds come
-/// first, so that most predictors are refused before their parameters are tried.
+/// The residual form of the fewest bits, if it takes fewer bits than `below`, with its codings in their array. Cheap
+/// lower bounds come first, so that most predictors are refused before their parameters are tried.
 fn least_at_once(
     residual: &ResidualView<'_>,
     tables: &mut Tables<'_>,
@@ -386,8 +387,8 @@ fn least_up_to(
     least_at_once(&residual.at(partition_order), tables, below)
 }
 
-/// The same for the finer partition orders: none if each form of these takes `below` bits or more, which bounds mostly show before
-/// their tables are made.
+/// The same for the finer partition orders: none if each form of these takes `below` bits or more, which bounds mostly
+/// show before their tables are made.
 fn least_of_finer(
     residual: &ResidualView<'_>,
     tables: &mut Tables<'_>,
@@ -416,8 +417,8 @@ fn least_of_finer(
     least_up_to(residual, finest, tables, below)
 }
 
-/// The number of bits that a finer form must stay below. Of two forms that take as many, that of the first method comes first, and
-/// then that of the lower partition order.
+/// The number of bits that a finer form must stay below. Of two forms that take as many, that of the first method comes
+/// first, and then that of the lower partition order.
 fn bits_to_beat(found: Option<ResidualForm>, below: u64) -> u64
     requires less { IfSome found (λ f. f.bits < below) }
     ensures none { IfNone found (result ≡ below) }
@@ -433,8 +434,8 @@ fn bits_to_beat(found: Option<ResidualForm>, below: u64) -> u64
     }
 }
 
-/// The residual form of the fewest bits, if it takes fewer bits than `below`, with its codings in their array. The finer partition
-/// orders come after the others, whose best form is a bound for them.
+/// The residual form of the fewest bits, if it takes fewer bits than `below`, with its codings in their array. The
+/// finer partition orders come after the others, whose best form is a bound for them.
 pub(crate) fn least_residual(
     residual: &ResidualView<'_>,
     tables: &mut Tables<'_>,

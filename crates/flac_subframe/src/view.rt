@@ -11,8 +11,8 @@ ghost use Rattle.flac_subframe.specs.inner.Halves.{Halves};
 use crate::content::{PredictorKind, SubframeForm};
 use crate::linear::LinearPredictor;
 
-/// What is searched for: the subframe of the fewest bits for samples of a depth, with partition orders up to the greatest and with linear
-/// predictors beside the fixed ones.
+/// What is searched for: the subframe of the fewest bits for samples of a depth, with partition orders up to the
+/// greatest and with linear predictors beside the fixed ones.
 #[derive(Drop)]
 pub(crate) struct Task<'a> {
     pub(crate) samples: &'a [i64],
@@ -27,8 +27,8 @@ pub(crate) struct Task<'a> {
     ghost halved: { most ≤ 15 },
 }
 
-/// A residual whose codings are searched: its values, the same as unsigned numbers, the order of its predictor, and how often its block
-/// can be halved.
+/// A residual whose codings are searched: its values, the same as unsigned numbers, the order of its predictor, and how
+/// often its block can be halved.
 #[derive(Drop)]
 pub(crate) struct ResidualView<'a> {
     pub(crate) values: &'a [i32],
@@ -62,9 +62,9 @@ impl ResidualView<'_> {
     }
 }
 
-/// The samples of a subframe without its wasted bits: how many bits each has, the greatest partition order and the linear predictors
-/// that are tried, and whether each sample has so few bits that what a fixed predictor leaves is in the range of a residual; if so, also
-/// the samples in 32 bits each, and how far from 0 they are at most.
+/// The samples of a subframe without its wasted bits: how many bits each has, the greatest partition order and the
+/// linear predictors that are tried, and whether each sample has so few bits that what a fixed predictor leaves is in
+/// the range of a residual; if so, also the samples in 32 bits each, and how far from 0 they are at most.
 #[derive(Drop)]
 pub(crate) struct SampleView<'a> {
     pub(crate) samples: &'a [i64],
@@ -100,7 +100,8 @@ impl SampleView<'_> {
         }
     }
 
-    /// The bits of a predictor's own fields in a subframe: those of its precision, shift and coefficients; a fixed one has none.
+    /// The bits of a predictor's own fields in a subframe: those of its precision, shift and coefficients; a fixed one
+    /// has none.
     pub(crate) fn field_bits(&self, kind: PredictorKind) -> u64
         requires { IsNamed self.now.predictors.now kind }
         ensures value { result ≡ fields_cost (predictor_named self.now.predictors.now kind) }

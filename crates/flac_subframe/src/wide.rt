@@ -25,8 +25,8 @@ use crate::writing::write_chosen;
 use flac_bits::{BitWriter, Target, Why};
 use std::alloc::Global;
 
-/// How a subframe is written, in a place that is made once for partition orders up to some greatest, and then takes one choice after
-/// another. It keeps one byte for each partition.
+/// How a subframe is written, in a place that is made once for partition orders up to some greatest, and then takes one
+/// choice after another. It keeps one byte for each partition.
 ///
 /// A linear predictor is named by its place in the list that was handed in.
 #[derive(Drop)]
@@ -38,8 +38,8 @@ pub struct WideChoice {
 }
 
 impl WideChoice {
-    /// A place for choices with partition orders up to that of the limits, at most 15. Until one is made in it, it has the constant
-    /// subframe of samples that are all 0 and have one bit.
+    /// A place for choices with partition orders up to that of the limits, at most 15. Until one is made in it, it has
+    /// the constant subframe of samples that are all 0 and have one bit.
     ///
     /// # Errors
     /// [`Why::Memory`] if an allocation fails.
@@ -89,8 +89,8 @@ impl WideChoice {
         &self.codings[..power(self.form.residual.partition_order).min(places)]
     }
 
-    /// A copy of the choice with places for just its own codings, one byte for each partition. A copy of which the rest is not needed
-    /// takes so much less memory than a place for any choice; it can be written as this one is.
+    /// A copy of the choice with places for just its own codings, one byte for each partition. A copy of which the rest
+    /// is not needed takes so much less memory than a place for any choice; it can be written as this one is.
     ///
     /// # Errors
     /// [`Why::Memory`] if an allocation fails.
@@ -136,14 +136,14 @@ fn copy_first(bytes: &[u8], count: usize, places: &mut [u8])
     places[..count].copy_from_slice(&bytes[..count]);
 }
 
-/// Chooses the subframe of the fewest bits for samples of a depth of 1 to 33 bits, with partition orders up to that of the limits, at
-/// most 15, and puts it into the place of a choice (RFC 9639, section 9.2.7).
+/// Chooses the subframe of the fewest bits for samples of a depth of 1 to 33 bits, with partition orders up to that of
+/// the limits, at most 15, and puts it into the place of a choice (RFC 9639, section 9.2.7).
 ///
-/// The family is that of [`crate::choose_with`], with the partition orders that the limits allow: constant, verbatim, the fixed
-/// predictors of order 0 to 4 and the linear ones that are handed in, with either coding method and every parameter and escape; the
-/// wasted bits are as many as all samples lack. Among equals the first of this order is chosen. The samples are 1 or more and at most
-/// as many as the workspace was made for; the workspace and the place were made for partition orders up to that of the limits or
-/// above. It takes no memory.
+/// The family is that of [`crate::choose_with`], with the partition orders that the limits allow: constant, verbatim,
+/// the fixed predictors of order 0 to 4 and the linear ones that are handed in, with either coding method and every
+/// parameter and escape; the wasted bits are as many as all samples lack. Among equals the first of this order is
+/// chosen. The samples are 1 or more and at most as many as the workspace was made for; the workspace and the place
+/// were made for partition orders up to that of the limits or above. It takes no memory.
 pub fn choose_in(
     samples: &[i64],
     depth: u32,
@@ -194,8 +194,8 @@ pub fn choose_in(
 
 /// Writes the subframe that [`choose_in`] chose for samples of a depth (RFC 9639, section 9.2).
 ///
-/// The choice is one that was made of these samples at this depth with just these predictors, and the workspace was made for blocks of
-/// as many samples or more. It takes no memory.
+/// The choice is one that was made of these samples at this depth with just these predictors, and the workspace was
+/// made for blocks of as many samples or more. It takes no memory.
 ///
 /// # Errors
 /// [`Why::Write`] if the target fails.

@@ -9,9 +9,9 @@ use flac_bits::Why;
 use std::alloc::Global;
 use std::marker::Model;
 
-/// The working arrays for choosing and writing one subframe after another, made for blocks of at most some number of samples and for
-/// partition orders up to some greatest (RFC 9639, section 9.2.7). With an order of 15 there are 2^15 and 2^16 places for what is known
-/// of each partition, 1.7 MB in all; with one of 8 some 13 kB.
+/// The working arrays for choosing and writing one subframe after another, made for blocks of at most some number of
+/// samples and for partition orders up to some greatest (RFC 9639, section 9.2.7). With an order of 15 there are 2^15
+/// and 2^16 places for what is known of each partition, 1.7 MB in all; with one of 8 some 13 kB.
 #[derive(Drop)]
 pub struct Workspace {
     pub(crate) longs: Vec<i64>,
@@ -43,7 +43,8 @@ impl Model for Workspace {
 }
 
 impl Workspace {
-    /// Allocates the arrays for blocks of at most `max_block` samples, 1 to 65535, and for partition orders up to that of the limits.
+    /// Allocates the arrays for blocks of at most `max_block` samples, 1 to 65535, and for partition orders up to that
+    /// of the limits.
     ///
     /// # Errors
     /// [`Why::Memory`] if an allocation fails.

@@ -336,8 +336,8 @@ pub(crate) fn write_chosen<W: Target>(
 
 /// Writes the subframe that was chosen for samples of a depth (RFC 9639, section 9.2).
 ///
-/// The choice is one that was made of these samples at this depth. The work is done in arrays of 1 MB on the stack; for many blocks
-/// [`crate::write_subframe_in`] takes arrays that are used again.
+/// The choice is one that was made of these samples at this depth. The work is done in arrays of 1 MB on the stack; for
+/// many blocks [`crate::write_subframe_in`] takes arrays that are used again.
 ///
 /// # Errors
 /// [`Why::Write`] if the target fails.
@@ -357,10 +357,11 @@ pub fn write_subframe<W: Target>(
     write_subframe_with(choice, &[], samples, depth, bits)
 }
 
-/// Writes the subframe that was chosen for samples of a depth with linear predictors beside the fixed ones (RFC 9639, section 9.2).
+/// Writes the subframe that was chosen for samples of a depth with linear predictors beside the fixed ones (RFC 9639,
+/// section 9.2).
 ///
-/// The choice is one that was made of these samples at this depth with just these predictors. The work is done in arrays of 1 MB on the
-/// stack; for many blocks [`crate::write_subframe_in`] takes arrays that are used again.
+/// The choice is one that was made of these samples at this depth with just these predictors. The work is done in
+/// arrays of 1 MB on the stack; for many blocks [`crate::write_subframe_in`] takes arrays that are used again.
 ///
 /// # Errors
 /// [`Why::Write`] if the target fails.
