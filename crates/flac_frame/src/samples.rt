@@ -7,6 +7,7 @@ ghost use Rattle.flac_subframe.specs.Numbers.{fits, all_fit};
 ghost use Rattle.flac_frame.specs.Audio.{samples_each, samples_fault};
 
 use crate::setup::SetupFault;
+use flac_subframe::offset_binary;
 
 /// A number that is 0 exactly if a sample fits the depth.
 #[inline(always)]
@@ -15,7 +16,7 @@ pub(crate) fn excess(sample: i64, depth: u32) -> u64
     ensures none { result ≡ 0 → fits depth sample ≡ true }
     ensures some { fits depth sample ≡ true → result ≡ 0 }
 {
-    sample.cast_unsigned().wrapping_add(1 << (depth - 1)) >> depth
+    offset_binary(sample, depth) >> depth
 }
 
 /// The lowest 32 bits of a sample, which are the sample if it fits them.
