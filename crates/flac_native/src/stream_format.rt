@@ -37,6 +37,25 @@ pub struct StreamFormat {
 }
 
 impl StreamFormat {
+    /// The format of the stream that has this STREAMINFO, in a profile. Its block size is the largest that STREAMINFO
+    /// states.
+    ///
+    /// ```
+    /// let format = StreamFormat::of(info, Profile::Subset);
+    /// let mut encoder = StreamEncoder::new_in(alloc, &format, &blocks, file)?;
+    /// ```
+    pub fn of(info: &StreamInfo, profile: Profile) -> StreamFormat
+        ensures { shape_of result ≡ record { profile = profile; rate = info.now.rate; bits = info.now.depth; channels = info.now.channels; block_size = info.now.greatest_block } }
+    {
+        StreamFormat {
+            profile,
+            rate: info.rate(),
+            bits: u32::from(info.depth()),
+            channels: u32::from(info.channels()),
+            block_size: u32::from(info.greatest_block()),
+        }
+    }
+
     /// Why nothing of the format can be encoded, or `None` if it can: `BadRate`, `BadDepth`, `BadChannels` or
     /// `BadBlockSize`, the first that applies.
     #[tactic(auto, unfolding(crate::specs::Pushing::shape_fault, flac_frame::specs::Setup::format_fault))]
