@@ -65,9 +65,9 @@ IsOutOfMemory outcome = (at : Place) × (outcome ≡ Some (Some at, why.Memory))
 abbrev pub IsRetagOutOfMemory : Outcome → Type 0
 IsRetagOutOfMemory outcome = (at : Option Place) × (outcome ≡ Some (at, why.Memory))
 
--- memory ran out, or a block could not be listed
-abbrev pub IsUnlisted : Outcome → Type 0
-IsUnlisted outcome = IsOutOfMemory outcome ⊎ ((at : Place) × (outcome ≡ Some (Some at, why.Sink)))
+-- memory ran out, or a block could not be listed, since standard output failed, of which `printed` says that it did not
+abbrev pub IsUnlisted : (printed : Type 0) → Outcome → Type 0
+IsUnlisted printed outcome = IsOutOfMemory outcome ⊎ ((printed → ⊥) × ((at : Place) × (outcome ≡ Some (Some at, why.Sink))))
 
 -- ---- both ways
 
@@ -89,7 +89,7 @@ pub record Reports (outside is : Outcome → Type 0) (path : List ℕ) (status :
 abbrev pub ReportsInput : Job → (bytes : List ℕ) → Behind → (served printed : Type 0) → (status : ℕ) → (before after : List ℕ) → Type 0
 ReportsInput (job.Test input lax) bytes behind served printed status before after = printed → Reports IsOutOfMemory (Reads (profile_of lax) bytes behind) input.now status before after
 ReportsInput (job.Decode input output lax) bytes behind served printed status before after = served → Reports IsOutOfMemory (Reads (profile_of lax) bytes behind) input.now status before after
-ReportsInput (job.List input lax) bytes behind served printed status before after = Reports IsUnlisted (Reads (profile_of lax) bytes behind) input.now status before after
+ReportsInput (job.List input lax) bytes behind served printed status before after = Reports (IsUnlisted printed) (Reads (profile_of lax) bytes behind) input.now status before after
 ReportsInput (job.Encode input output format c comments lax predictors) bytes behind served printed status before after = Unit {0}
 ReportsInput (job.Retag input output comments) bytes behind served printed status before after =
     served → Reports IsRetagOutOfMemory (IsRetagged (map (λ c. c.now) comments.items) bytes behind) input.now status before after

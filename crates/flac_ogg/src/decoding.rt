@@ -22,7 +22,7 @@ ghost use Rattle.flac_ogg.specs.Either.{begins_page, read_either};
 use crate::packets::OggPackets;
 use flac_bits::{Source, Why};
 use flac_native::{Decoder, Fault, Place, Profile, Sink, Track, decode, hand_out};
-use flac_pages::{PageRoom, Pages};
+use flac_pages::{CAPTURE_PATTERN, PageRoom, Pages};
 use std::alloc::Global;
 use std::io;
 
@@ -177,7 +177,7 @@ pub fn begins_page(front: Option<u8>) -> bool
     ensures { result ≡ begins_page (front_bytes front) }
 {
     match front {
-        Some(byte) => byte == 0x4F,
+        Some(byte) => byte == CAPTURE_PATTERN[0],
         None => false,
     }
 }

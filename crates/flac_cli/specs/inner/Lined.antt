@@ -17,3 +17,10 @@ pub record Adds {T X E : Type 0} (g : target.Ghosts T) (text : List ℕ) (old ne
   pub known : OnOk result (g.known old ≡ true → g.known new ≡ true)
   pub added : OnOk result (g.known old ≡ true → g.sent new ++ has ≡ (g.sent old ++ had) ++ text)
   pub rises : OnErr result (g.known old ≡ true → g.errors old < g.errors new)
+
+-- A call that was to add some text, of which nothing is said: where it returned an error, the target answered one.
+pub record Prints {T X E : Type 0} (g : target.Ghosts T) (old new : T) (result : Result X E) : Type 0 where
+  pub names : g.names new ≡ g.names old
+  pub kept : g.errors old ≤ g.errors new
+  pub known : OnOk result (g.known old ≡ true → g.known new ≡ true)
+  pub rises : OnErr result (g.known old ≡ true → g.errors old < g.errors new)
