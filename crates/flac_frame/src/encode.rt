@@ -235,8 +235,8 @@ fn write_first<W: Target>(
 /// The range is within the samples, not empty, and no longer than the buffers' blocks; the number is below 2^31. The
 /// order of each predictor is at most [`crate::greatest_order`]: [`LinearPredictor::are_within`] tests it.
 ///
-/// The buffers are made for the profile of the samples, or for [`flac_header::Profile::Lax`]; the choice is made for the
-/// profile of the buffers, and has a place for each channel. Nothing is allocated.
+/// The buffers are made for the profile of the samples, or for [`flac_header::Profile::Lax`]; the choice is made for
+/// the profile of the buffers, and has a place for each channel. Nothing is allocated.
 pub fn choose_frame(
     audio: &Audio,
     range: Range<usize>,

@@ -52,8 +52,8 @@ impl FrameChoice {
         })
     }
 
-    /// Copies the choice into as little memory as it needs: one byte for each partition of its residuals. The copy can be
-    /// written, and is no place for another choice.
+    /// Copies the choice into as little memory as it needs: one byte for each partition of its residuals. The copy can
+    /// be written, and is no place for another choice.
     ///
     /// # Errors
     /// [`Why::Memory`] if an allocation fails.

@@ -70,8 +70,8 @@ fn each_small(channels: &[&[i32]], bits: u32) -> bool
 }
 
 /// Why the samples of channels cannot be encoded in `bits` bits, 1 to 32: [`SetupFault::LengthsDiffer`] if the channels
-/// differ in length, or [`SetupFault::SampleTooLarge`] if a sample does not fit its bits, the first that applies; `None`
-/// if they can. How many channels there are, and how many samples these have, is not judged.
+/// differ in length, or [`SetupFault::SampleTooLarge`] if a sample does not fit its bits, the first that applies;
+/// `None` if they can. How many channels there are, and how many samples these have, is not judged.
 ///
 /// ```
 /// let fault = samples_fault(&[left.as_slice(), right.as_slice()], 16);

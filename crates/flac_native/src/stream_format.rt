@@ -150,8 +150,8 @@ impl StreamFormat {
     }
 }
 
-/// How many samples each channel of a block has, by its first channel; 0 if there is none. It is for encoders that stand
-/// on [`StreamFormat::encode_block`], as `OggEncoder` of `flac_ogg`.
+/// How many samples each channel of a block has, by its first channel; 0 if there is none. It is for encoders that
+/// stand on [`StreamFormat::encode_block`], as `OggEncoder` of `flac_ogg`.
 pub fn block_len(block: &[&[i32]]) -> usize
     ensures { result ≡ samples_each (map (λ c. c.now) block.now) }
 {
