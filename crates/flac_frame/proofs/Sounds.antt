@@ -1,5 +1,5 @@
 -- Samples that can be encoded.
-use Rattle.std.proofs.Common.{◌≡◌, ℕ, ◌<◌, ◌≤◌, ◌^◌, Bool, true, false, cond, ◌||◌, nat_eq, nat_lt, nat_le, ℤ, List, [], ◌∷◌, map, length, take, set, ◌+◌, ◌++◌, get_or, Option, Some, None, is_some, is_none, ◌-◌, pos, negsuc, not, All, ◌&&◌, refl, sym, ap, ◌∙◌, arith}
+use Rattle.std.proofs.Common.{◌≡◌, ℕ, ◌<◌, ◌≤◌, ◌^◌, Bool, true, false, cond, ◌||◌, nat_eq, nat_lt, nat_le, ℤ, List, [], ◌∷◌, map, length, take, set, ◌+◌, ◌++◌, get_or, Option, Some, None, is_some, is_none, ◌-◌, not, All, ◌&&◌, refl, sym, ap, ◌∙◌, arith}
 use Rattle.std.specs.List.{list_all}
 use Rattle.std.proofs.lemmas.List.{take_more, take_more_set, map-append}
 use Rattle.std.proofs.lemmas.List.Folds.{list_all-map}
@@ -9,8 +9,6 @@ use Rattle.flac_frame.specs.Setup.{format_fault}
 use Rattle.flac_frame.specs.Audio.{samples_each, as_long, each_small, samples_fault, channels_fault, audio_fault, IsSound}
 use Rattle.flac_frame.specs.declared.setup.SetupFault.{SetupFault}
 use Rattle.flac_frame.specs.declared.setup.SetupFault.TheVariants.{BadRate, BadDepth, BadChannels, LengthsDiffer, SampleTooLarge, TooLong}
-use Rattle.std.proofs.lemmas.Int.{ints}
-use Rattle.std.proofs.lemmas.Bool.{ltb-true}
 use Rattle.std.proofs.lemmas.List.Elements.{All-nil, All-cons}
 use Rattle.flac_bits.specs.Signed.{FitsBits}
 use Rattle.std.proofs.lemmas.Bool.Decides.{nat_tests}
