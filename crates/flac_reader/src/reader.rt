@@ -41,19 +41,12 @@ use std::time::Duration;
 /// ```
 #[derive(Drop)]
 pub struct Reader<C: Container> {
-    /// It has read all metadata.
     pub(crate) decoder: Decoder<C>,
-    /// STREAMINFO.
     pub(crate) info: StreamInfo,
-    /// The blocks that were kept, in their order.
     pub(crate) blocks: Vec<Block>,
-    /// Whether the decoder has read a frame, or the end, that was not lent yet.
     pub(crate) ahead: bool,
-    /// How many bytes a native stream has before its first frame.
     pub(crate) start: u64,
-    /// The number of the first sample of the frame that was lent last, or at the end that of all samples.
     pub(crate) first: u64,
-    /// The number of the first sample after that frame.
     pub(crate) behind: u64,
 }
 
